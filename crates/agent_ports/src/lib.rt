@@ -1,0 +1,20 @@
+//! What the agent asks of the outside: bytes in and out, the time of day, and the machine that it runs on.
+//!
+//! Each trait has its contents, which an implementation tells or doesn't, and counts that never fall. An answer that
+//! something failed comes only where its count rose in that call. The forms in memory tell their contents, and fail at
+//! the calls that a test names.
+#![tactic(auto)]
+
+mod clock;
+mod host;
+mod link;
+mod mem_clock;
+mod mem_link;
+mod session;
+
+pub use clock::Clock;
+pub use host::Host;
+pub use link::{Got, Link, Sent, Sink, Source};
+pub use mem_clock::{ListClock, MemHost, StepClock};
+pub use mem_link::{MemLink, MemSink, MemSource};
+pub use session::SessionId;

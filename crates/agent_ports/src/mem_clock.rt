@@ -1,0 +1,111 @@
+ghost use Rattle.std.specs.Prelude.{◌≡◌, ◌+◌, ◌*◌, ◌-◌, ◌^◌, ◌≤◌, min, ℕ, Some, slice_index};
+ghost use Rattle.agent_ports.specs.Readings.{reading_at};
+
+use crate::{Clock, Host};
+
+/// A clock that gives the readings of a list, the last of them again and again, and 0 where there is none.
+#[derive(Debug, Drop)]
+pub struct ListClock {
+    readings: Vec<u64>,
+    given: u64,
+    last: u64,
+}
+
+impl ListClock {
+    pub fn new(readings: Vec<u64>) -> Self
+        ensures { (k : ℕ) → ⟦<ListClock as Clock>⟧.later result k ≡ Some (reading_at readings.items k) }
+    {
+        ListClock {
+            readings,
+            given: 0,
+            last: 0,
+        }
+    }
+}
+
+impl Clock for ListClock {
+    ghost readings = { λ c. c.given };
+
+    ghost last = { λ c. c.last };
+
+    ghost later = { λ c k. Some (reading_at c.readings.items (c.given + k)) };
+
+    fn now(&mut self) -> u64 {
+        let place = usize::try_from(self.given).unwrap_or(usize::MAX);
+        let reading = self
+            .readings
+            .get(place)
+            .or(self.readings.last())
+            .copied()
+            .unwrap_or(0);
+        self.given = self.given.saturating_add(1);
+        self.last = reading;
+        reading
+    }
+}
+
+/// A clock whose readings rise by one step each, up to the greatest number.
+#[derive(Clone, Copy, Debug, PartialEq, Eq)]
+pub struct StepClock {
+    next: u64,
+    step: u64,
+    given: u64,
+    last: u64,
+}
+
+impl StepClock {
+    pub fn new(first: u64, step: u64) -> Self
+        ensures { (k : ℕ) → ⟦<StepClock as Clock>⟧.later result k ≡ Some (min (first + k * step) (2 ^ 64 - 1)) }
+    {
+        StepClock {
+            next: first,
+            step,
+            given: 0,
+            last: 0,
+        }
+    }
+}
+
+impl Clock for StepClock {
+    ghost readings = { λ c. c.given };
+
+    ghost last = { λ c. c.last };
+
+    ghost later = { λ c k. Some (min (c.next + k * c.step) (2 ^ 64 - 1)) };
+
+    fn now(&mut self) -> u64 {
+        let reading = self.next;
+        self.next = reading.saturating_add(self.step);
+        self.given = self.given.saturating_add(1);
+        self.last = reading;
+        reading
+    }
+}
+
+/// A machine in memory, whose clock gives the readings of a list.
+#[derive(Debug, Drop)]
+pub struct MemHost {
+    clock: ListClock,
+}
+
+impl MemHost {
+    pub fn new(clock: ListClock) -> Self
+        ensures { (k : ℕ) → ⟦<MemHost as Clock>⟧.later result k ≡ ⟦<ListClock as Clock>⟧.later clock k }
+    {
+        MemHost { clock }
+    }
+}
+
+impl Clock for MemHost {
+    ghost readings = { λ h. ⟦<ListClock as Clock>⟧.readings h.clock };
+
+    ghost last = { λ h. ⟦<ListClock as Clock>⟧.last h.clock };
+
+    ghost later = { λ h. ⟦<ListClock as Clock>⟧.later h.clock };
+
+    fn now(&mut self) -> u64 {
+        self.clock.now()
+    }
+}
+
+impl Host for MemHost {}

@@ -1,0 +1,6 @@
+/// Which session took a step: the seat that it ran on, and its number there, from 0.
+#[derive(Clone, Copy, Debug, PartialEq, Eq)]
+pub struct SessionId {
+    pub pass: u32,
+    pub count: u64,
+}

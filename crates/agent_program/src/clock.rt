@@ -1,0 +1,44 @@
+ghost use Rattle.std.specs.Prelude.{ℕ, None};
+
+use agent_ports::{Clock, Host};
+use std::rt;
+use std::time::{SystemTime, UNIX_EPOCH};
+
+/// The system's clock in seconds since 1970. It tells none of its later readings. Where the system gives no time, the last
+/// reading stands.
+#[derive(Drop)]
+pub struct SystemClock<'a, R> {
+    rt: &'a R,
+    readings: u64,
+    last: u64,
+}
+
+impl<'a, R: rt::Clock> SystemClock<'a, R> {
+    pub fn new(rt: &'a R) -> Self {
+        SystemClock {
+            rt,
+            readings: 0,
+            last: 0,
+        }
+    }
+}
+
+impl<R: rt::Clock> Clock for SystemClock<'_, R> {
+    ghost readings = { λ c. c.readings };
+
+    ghost last = { λ c. c.last };
+
+    ghost later = { λ _ _. None };
+
+    fn now(&mut self) -> u64 {
+        self.readings = self.readings.saturating_add(1);
+        if let Ok(now) = SystemTime::now(self.rt) {
+            if let Ok(since) = now.duration_since(UNIX_EPOCH) {
+                self.last = since.as_secs();
+            }
+        }
+        self.last
+    }
+}
+
+impl<R: rt::Clock> Host for SystemClock<'_, R> {}

@@ -1,0 +1,23 @@
+-- What a run of the agent leaves, and its status. The statuses are this project's own.
+use Rattle.std.specs.Prelude.{◌≡◌, ℕ}
+use Rattle.agent_ports.specs.Counts.{Rose}
+use Rattle.agent_ports.specs.Sides.{Side}
+use Rattle.agent_top.specs.declared.session.SessionEnd.{SessionEnd}
+use Rattle.agent_top.specs.declared.session.SessionEnd.TheVariants.{Bye, Ended, TooLong, Spent, ReadFault, WriteFault}
+use Rattle.agent_top.specs.Session.{HasServed}
+
+abbrev pub status_of : SessionEnd → ℕ
+status_of Bye = 0
+status_of Ended = 0
+status_of ReadFault = 3
+status_of WriteFault = 4
+status_of Spent = 6
+status_of TooLong = 7
+
+-- a session was served, and the status is that of its end; a fault is told only where its count has risen
+pub record HasRun (input output : Side) (status : ℕ) (input_after output_after : Side) : Type 0 where
+  pub end : SessionEnd
+  pub status_is : status ≡ status_of end
+  pub served : HasServed input output end input_after output_after
+  pub read_fault : end ≡ ReadFault → Rose input.faults input_after.faults
+  pub write_fault : end ≡ WriteFault → Rose output.faults output_after.faults

@@ -1,0 +1,10 @@
+//! The agent from bytes to bytes: it reads its words and serves a session on standard input and output.
+#![tactic(auto)]
+
+mod answer;
+mod session;
+mod top;
+mod words;
+
+pub use top::{run_agent, run_server};
+pub use words::{Rules, WordsFault, read_words};

@@ -1,0 +1,39 @@
+ghost use Rattle.std.specs.Prelude.{◌≡◌, map, string_bytes, IfSome, IfNone};
+ghost use Rattle.agent_top.specs.Words.{rules_of};
+ghost use Rattle.agent_top.specs.Top.{HasRun};
+
+use crate::session::{SessionEnd, serve};
+use crate::words::{Rules, WordsFault, read_words};
+use agent_ports::{Host, Link};
+use std::alloc::Global;
+use std::rt::Clock;
+use std::sync::Wait;
+use std::thread::Threads;
+
+/// The agent. It reads its words, which leave out the program's name, and serves a session on standard input and output.
+/// Its answer is the status of the process.
+pub fn run_agent<W: Threads + Wait + Clock + Sync, S: Link, H: Host>(
+    _rt: &W,
+    alloc: Global,
+    words: &[String],
+    stdio: &mut S,
+    host: &mut H,
+) -> u8
+    // Words that it doesn't know: nothing is read or written.
+    ensures refused { IfNone (rules_of (map string_bytes words.now))
+        ((result ≡ 2) × (S.input stdio.new ≡ S.input stdio.old) × (S.output stdio.new ≡ S.output stdio.old)) }
+    ensures served { IfSome (rules_of (map string_bytes words.now)) (λ rules.
+        HasRun (S.input stdio.old) (S.output stdio.old) result (S.input stdio.new) (S.output stdio.new)) }
+{
+    match read_words(words) {
+        Ok(rules) => run_server(alloc, &rules, stdio, host),
+        Err(WordsFault::Bad) => 2,
+    }
+}
+
+/// Serves one session on standard input and output, and gives its status.
+pub fn run_server<S: Link, H: Host>(alloc: Global, _rules: &Rules, stdio: &mut S, _host: &mut H) -> u8
+    ensures { HasRun (S.input stdio.old) (S.output stdio.old) result (S.input stdio.new) (S.output stdio.new) }
+{
+    serve(alloc, stdio).status()
+}

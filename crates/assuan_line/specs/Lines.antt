@@ -1,0 +1,28 @@
+-- Lines of bytes, as the Assuan manual has them ("client requests"): each is at most 1,000 bytes and ends with a line
+-- feed (LF, 10), which a carriage return (CR, 13) may precede. Neither counts as the line's.
+use Rattle.std.specs.Prelude.{◌≡◌, ◌==◌, ◌-◌, ◌≤◌, ℕ, Bool, false, List, length, take, slice_index, if◌then◌else◌}
+use Rattle.std.specs.List.{list_any, before_first, after_first}
+
+abbrev pub is_lf : ℕ → Bool
+is_lf byte = byte == 10
+
+-- a line feed is among the bytes
+abbrev pub has_lf : List ℕ → Bool
+has_lf bytes = list_any is_lf bytes
+
+-- what can be a line: at most 1,000 bytes, none of them a line feed
+pub record IsLine (bytes : List ℕ) : Type 0 where
+  pub short : length bytes ≤ 1000
+  pub whole : has_lf bytes ≡ false
+
+-- without the carriage return at the end, where there is one
+abbrev pub without_cr : List ℕ → List ℕ
+without_cr bytes = if slice_index bytes (length bytes - 1) == 13 then take (length bytes - 1) bytes else bytes
+
+-- the line that the first line feed ends
+abbrev pub first_line : List ℕ → List ℕ
+first_line bytes = without_cr (before_first is_lf bytes)
+
+-- what comes after the first line feed
+abbrev pub after_line : List ℕ → List ℕ
+after_line bytes = after_first is_lf bytes

@@ -1,0 +1,10 @@
+//! Lines of the Assuan protocol: read from bytes in whatever pieces they come, and written whole.
+#![tactic(auto)]
+
+mod line;
+mod reader;
+mod writer;
+
+pub use line::Line;
+pub use reader::{LineReader, Took};
+pub use writer::write_line;

@@ -1,0 +1,50 @@
+ghost use Rattle.std.specs.Prelude.{◌≡◌, ◌↔◌, IsSome, IfSome};
+ghost use Rattle.assuan_line.specs.Lines.{IsLine};
+
+use arrayvec::ArrayVec;
+use std::marker::Model;
+
+pub(crate) type Text = ArrayVec<u8, 1000>;
+
+pub(crate) const LF: u8 = b'\n';
+
+pub(crate) const CR: u8 = b'\r';
+
+/// A line without its end: at most 1,000 bytes, none of them a line feed. It may hold a passphrase, so it isn't printed.
+#[derive(Drop)]
+pub struct Line {
+    bytes: Text,
+}
+
+impl Model for Line {
+    ghost use Rattle.std.specs.Prelude.{List, ℕ};
+    ghost use Rattle.assuan_line.specs.Lines.{IsLine};
+
+    ghost Value = { List ℕ };
+
+    ghost view = { λ l. l.bytes.items };
+
+    ghost invariant = { λ l. IsLine l.bytes.items };
+}
+
+impl Line {
+    /// The line of these bytes, if they can be one.
+    pub fn of(bytes: &[u8]) -> Option<Line>
+        ensures some { IsSome result ↔ IsLine bytes.now }
+        ensures line { IfSome result (λ line. line ≡ bytes.now) }
+    {
+        if bytes.contains(&LF) {
+            return None;
+        }
+        let mut text = Text::new();
+        text.try_extend_from_slice(bytes).ok()?;
+        Some(Line { bytes: text })
+    }
+
+    pub fn bytes(&self) -> &[u8]
+        ensures bytes { result.now ≡ self.now }
+        ensures is_line { IsLine self.now }
+    {
+        &self.bytes
+    }
+}

@@ -1,0 +1,22 @@
+ghost use Rattle.std.specs.Prelude.{◌≡◌, ◌≤◌, ◌+◌, ◌∷◌, [], ◌++◌, length};
+ghost use Rattle.agent_ports.specs.Counts.{Rose};
+ghost use Rattle.agent_ports.specs.Sides.{with_bytes, sent_part, IfCut, IsCut};
+
+use crate::Line;
+use crate::line::LF;
+use agent_ports::{Sent, Sink};
+use arrayvec::ArrayVec;
+
+/// Writes the line and a line feed. Where the write fails, some first bytes of these went.
+pub fn write_line<K: Sink>(sink: &mut K, line: &Line) -> Sent
+    ensures cut { IfCut result (λ sent. sent ≤ length line.now + 1) }
+    ensures written { (K.output sink.new).bytes ≡ with_bytes (K.output sink.old).bytes (sent_part (line.now ++ 10 ∷ []) result) }
+    ensures failed { IsCut result → Rose (K.output sink.old).faults (K.output sink.new).faults }
+    ensures faults { (K.output sink.old).faults ≤ (K.output sink.new).faults }
+    ensures beside { K.beside_output sink.new ≡ K.beside_output sink.old }
+{
+    let mut text: ArrayVec<u8, 1001> = ArrayVec::new();
+    text.try_extend_from_slice(line.bytes()).unwrap();
+    text.push(LF);
+    sink.put(&text)
+}
