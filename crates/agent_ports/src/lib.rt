@@ -18,3 +18,6 @@ pub use link::{Got, Link, Sent, Sink, Source};
 pub use mem_clock::{ListClock, MemHost, StepClock};
 pub use mem_link::{MemLink, MemSink, MemSource};
 pub use session::SessionId;
+
+#[cfg(test)]
+mod tests;

@@ -8,3 +8,6 @@ mod writer;
 pub use line::Line;
 pub use reader::{LineReader, Took};
 pub use writer::write_line;
+
+#[cfg(test)]
+mod tests;

@@ -1,0 +1,88 @@
+use super::*;
+use std::alloc::{AllocError, Global};
+use std::test::Fail;
+
+/// What so many reads of a buffer of four bytes give, read by read.
+fn reads<S: Source>(
+    alloc: Global,
+    source: &mut S,
+    count: usize,
+) -> Result<Vec<String>, AllocError> {
+    let mut all = Vec::new(alloc);
+    for _ in 0..count {
+        let mut buf = [0u8; 4];
+        let text = match source.read(&mut buf) {
+            Got::Bytes(n) if n <= 4 => format!(in alloc; "{:?}", &buf[..n])?,
+            Got::Bytes(_) => format!(in alloc; "too many")?,
+            Got::End => format!(in alloc; "end")?,
+            Got::Failed => format!(in alloc; "failed")?,
+        };
+        all.push(text)?;
+    }
+    Ok(all)
+}
+
+#[test]
+fn a_source_gives_its_bytes_in_pieces_and_fails_when_it_is_to(rt: HostRuntime) -> Result<(), Fail> {
+    let alloc = rt.alloc();
+    let failing = vec![in alloc; 1u64]?;
+    let mut source = MemSource::new(Vec::from_slice(alloc, b"abcdefg")?, 3, failing);
+    let got = reads(alloc, &mut source, 6)?;
+    let want = [
+        "[97, 98, 99]",
+        "failed",
+        "[100, 101, 102]",
+        "[103]",
+        "end",
+        "end",
+    ];
+    assert_eq!(rt; got.len(), want.len());
+    for (one, other) in got.iter().zip(&want) {
+        assert_eq!(rt; one.as_str(), *other);
+    }
+    Ok(())
+}
+
+#[test]
+fn a_sink_keeps_the_front_of_a_write_that_fails(rt: HostRuntime) -> Result<(), Fail> {
+    let alloc = rt.alloc();
+    let mut sink = MemSink::new(alloc, 2, vec![in alloc; 1u64]?);
+    assert_eq!(rt; sink.put(b"abc"), Sent::All);
+    assert_eq!(rt; sink.put(b"def"), Sent::Failed { sent: 2 });
+    assert_eq!(rt; sink.put(b"gh"), Sent::All);
+    assert_eq!(rt; sink.written(), b"abcdegh".as_slice());
+    Ok(())
+}
+
+#[test]
+fn a_link_reads_and_writes(rt: HostRuntime) -> Result<(), Fail> {
+    let alloc = rt.alloc();
+    let source = MemSource::new(Vec::from_slice(alloc, b"abcde")?, 7, Vec::new(alloc));
+    let mut link = MemLink::new(source, MemSink::new(alloc, 0, Vec::new(alloc)));
+    let got = reads(alloc, &mut link, 2)?;
+    assert_eq!(rt; got.len(), 2);
+    assert_eq!(rt; link.put(b"xy"), Sent::All);
+    assert_eq!(rt; link.written(), b"xy".as_slice());
+    Ok(())
+}
+
+fn three_readings<C: Clock>(clock: &mut C) -> [u64; 3] {
+    [clock.now(), clock.now(), clock.now()]
+}
+
+#[test]
+fn clocks_give_their_readings(rt: HostRuntime) -> Result<(), Fail> {
+    let alloc = rt.alloc();
+    let mut list = ListClock::new(vec![in alloc; 5u64, 3]?);
+    assert_eq!(rt; three_readings(&mut list), [5, 3, 3]);
+    let mut none = ListClock::new(Vec::new(alloc));
+    assert_eq!(rt; three_readings(&mut none), [0, 0, 0]);
+    let mut steps = StepClock::new(u64::MAX - 8, 7);
+    assert_eq!(rt;
+        three_readings(&mut steps),
+        [u64::MAX - 8, u64::MAX - 1, u64::MAX]
+    );
+    let mut host = MemHost::new(ListClock::new(vec![in alloc; 9u64]?));
+    assert_eq!(rt; three_readings(&mut host), [9, 9, 9]);
+    Ok(())
+}
