@@ -1,0 +1,6 @@
+//! The outside of the agent, as traits.
+#![tactic(auto)]
+
+mod session;
+
+pub use session::SessionId;

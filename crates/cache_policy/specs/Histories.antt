@@ -1,0 +1,25 @@
+-- Histories: the marks that an agent made since it last began with an empty cache, with the number of the first, and with
+-- what was held and whether it had stopped by then. All of this is the project's own.
+use Rattle.std.specs.Prelude.{ℕ, ◌+◌, ◌-◌, List, [], ◌∷◌, ◌++◌, length, drop, map}
+use Rattle.cache_policy.specs.declared.mark.Mark.{Mark}
+use Rattle.cache_policy.specs.declared.history.History.{History}
+
+-- the number of a mark is the base plus its place: the number of the next one
+abbrev pub next_number : History → ℕ
+next_number history = history.base + length history.marks
+
+-- the history as it began
+abbrev pub start_of : History → History
+start_of history = record history { marks = [] }
+
+-- the history with one mark more
+abbrev pub with_mark : History → Mark → History
+with_mark history mark = record history { marks = history.marks ++ mark ∷ [] }
+
+-- the marks after the one with this number
+abbrev pub marks_after : History → ℕ → List Mark
+marks_after history number = drop (number + 1 - history.base) history.marks
+
+-- the moments of the marks
+abbrev pub moments : List Mark → List ℕ
+moments marks = map (λ mark. mark.moment) marks
