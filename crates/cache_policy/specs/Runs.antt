@@ -1,5 +1,5 @@
 -- Runs: one history after another, each beginning with an empty cache. All of this is the project's own.
-use Rattle.std.specs.Prelude.{◌≡◌, ℕ, ◌+◌, ◌^◌, min, max, List, [], ◌∷◌, ◌++◌, length, map, fold, Option, Some, None}
+use Rattle.std.specs.Prelude.{◌≡◌, ℕ, ◌+◌, ◌^◌, ◌==◌, if◌then◌else◌, min, max, List, [], ◌∷◌, ◌++◌, length, map, fold, Option, Some, None}
 use Rattle.std.specs.List.{flat_map}
 use Rattle.cache_policy.specs.declared.mark.Mark.{Mark}
 use Rattle.cache_policy.specs.declared.history.History.{History}
@@ -13,6 +13,14 @@ room = 131072
 -- the history that a full one is followed by: the base raised, the same ticket out, stopped likewise, and no marks
 abbrev pub turn_over : History → History
 turn_over history = record { base = history.base + room; held = seat history; stopped = stopped history; marks = [] }
+
+-- the history on which the next step is taken: the same, or where that is full the one that follows it
+abbrev pub next_history : History → History
+next_history history = if length history.marks == room then turn_over history else history
+
+-- the base at which an agent is spent: each step is answered Stopping from there on, and makes no mark
+abbrev pub last_base : ℕ
+last_base = 2 ^ 62
 
 -- the first history is full, and the second begins as the first one leaves it
 pub record IsFollowedBy (history next : History) : Type 0 where

@@ -1,6 +1,7 @@
 ghost use Rattle.std.specs.Prelude.{◌≡◌};
+ghost use Rattle.std.specs.Option.{option_to_list};
 
-use crate::{CacheId, Mode, Secret};
+use crate::{CacheId, Life, Limits, Mode, Secret};
 
 /// A passphrase in the cache.
 #[derive(Drop)]
@@ -20,6 +21,34 @@ pub struct Entry {
 
 impl Entry {
     ghost use Rattle.cache_policy.specs.Entry.{serves, within};
+    ghost use Rattle.cache_policy.specs.Entries.{entry_of};
+
+    /// The entry that a mark with this number stores, or `None` where the effective ttl is 0.
+    pub fn of(
+        limits: &Limits,
+        number: u64,
+        moment: u64,
+        id: CacheId,
+        mode: Mode,
+        life: Life,
+        secret: Secret,
+    ) -> Option<Entry>
+        ensures { option_to_list result ≡ entry_of limits.now number moment id mode life secret }
+    {
+        let ttl = limits.ttl_of(mode, life);
+        if ttl == Some(0) {
+            return None;
+        }
+        Some(Entry {
+            number,
+            id,
+            mode,
+            secret,
+            entered: moment,
+            ttl,
+            max: limits.max_of(mode),
+        })
+    }
 
     /// Whether a request for `id` in `mode` can be given it.
     pub fn serves(&self, id: &CacheId, mode: Mode) -> bool

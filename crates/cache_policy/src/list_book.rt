@@ -1,5 +1,5 @@
-ghost use Rattle.std.specs.Prelude.{◌≡◌, ◌≤◌, [], OnOk, OnErr, IfSome};
-ghost use Rattle.std.specs.Option.{option_map};
+ghost use Rattle.std.specs.Prelude.{◌≡◌, ◌≤◌, [], ◌++◌, OnOk, OnErr, IfSome};
+ghost use Rattle.std.specs.Option.{option_map, option_copied, option_to_list};
 ghost use Rattle.agent_ports.specs.declared.session.SessionId.{SessionId};
 ghost use Rattle.cache_policy.specs.declared.life.Limits.{Limits as Lifetimes};
 ghost use Rattle.cache_policy.specs.declared.mark.Way.{Way};
@@ -7,7 +7,7 @@ ghost use Rattle.cache_policy.specs.declared.mark.MarkReply.{MarkReply};
 ghost use Rattle.cache_policy.specs.declared.history.History.{History};
 ghost use Rattle.cache_policy.specs.Histories.{with_mark};
 ghost use Rattle.cache_policy.specs.Runs.{greatest_moment};
-ghost use Rattle.cache_policy.specs.Live.{live};
+ghost use Rattle.cache_policy.specs.Live.{newest_of, live};
 ghost use Rattle.cache_policy.specs.Book.{empty_book, after_put, found, put_mark, ask_mark, IsBookOf, IsEndlessBookOf};
 
 use crate::{CacheId, Entry, Grant, Life, Limits, Mode, Secret};
@@ -75,20 +75,9 @@ impl ListBook {
             → IsEndlessBookOf limits.now history self.old
             → IsEndlessBookOf limits.now (with_mark history (put_mark session moment id mode life secret)) self.new) }
     {
-        let number = self.puts;
-        let puts = number.checked_add(1).ok_or(AllocError)?;
-        let ttl = limits.ttl_of(mode, life);
-        if ttl != Some(0) {
-            self.stored.push(Entry {
-                number,
-                id,
-                mode,
-                secret,
-                entered: moment,
-                ttl,
-                max: limits.max_of(mode),
-            })?;
-        }
+        let puts = self.puts.checked_add(1).ok_or(AllocError)?;
+        let entry = Entry::of(limits, self.puts, moment, id, mode, life, secret);
+        store(&mut self.stored, entry)?;
         self.puts = puts;
         self.latest = moment;
         Ok(())
@@ -117,11 +106,34 @@ impl ListBook {
             → IsEndlessBookOf limits history self.now
             → IsEndlessBookOf limits (with_mark history (ask_mark session moment id.now mode way reply)) self.now }
     {
-        let entry = self
-            .stored
-            .iter()
-            .rev()
-            .find(|entry| entry.serves(id, mode))?;
-        Grant::of(id.copy(), mode, entry.copy(), entry.entered, moment)
+        grant_of(&self.stored, moment, id, mode)
     }
+}
+
+fn store(stored: &mut Vec<Entry>, entry: Option<Entry>) -> Result<(), NoMemory>
+    ensures ok { OnOk result (stored.new.items ≡ stored.old.items ++ option_to_list entry) }
+    ensures err { OnErr result (stored.new.items ≡ stored.old.items) }
+{
+    if let Some(entry) = entry {
+        stored.push(entry)?;
+    }
+    Ok(())
+}
+
+/// What is stored last hides what was stored before, also where it is past a lifetime.
+fn newest<'a>(stored: &'a [Entry], id: &CacheId, mode: Mode) -> Option<&'a Entry>
+    ensures { option_copied result ≡ newest_of id.now mode stored.now }
+{
+    stored.iter().rev().find(|entry| entry.serves(id, mode))
+}
+
+fn grant_of(stored: &[Entry], moment: u64, id: &CacheId, mode: Mode) -> Option<Grant>
+    ensures found { option_map (λ grant. grant.entry) result ≡ found stored.now id.now mode moment }
+    ensures id { IfSome result (λ grant. grant.id ≡ id.now) }
+    ensures mode { IfSome result (λ grant. grant.mode ≡ mode) }
+    ensures last { IfSome result (λ grant. grant.last ≡ grant.entry.entered) }
+    ensures moment { IfSome result (λ grant. grant.moment ≡ moment) }
+{
+    let entry = newest(stored, id, mode)?;
+    Grant::of(id.copy(), mode, entry.copy(), entry.entered, moment)
 }
