@@ -1,3 +1,4 @@
 pub mod Lists
 pub mod EntriesLemmas
 pub mod BookLemmas
+pub mod WorkedRows

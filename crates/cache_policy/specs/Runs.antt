@@ -1,5 +1,5 @@
 -- Runs: one history after another, each beginning with an empty cache. All of this is the project's own.
-use Rattle.std.specs.Prelude.{◌≡◌, ℕ, ◌+◌, ◌^◌, ◌==◌, if◌then◌else◌, min, max, List, [], ◌∷◌, ◌++◌, length, map, fold, Option, Some, None}
+use Rattle.std.specs.Prelude.{◌≡◌, ℕ, ◌+◌, ◌^◌, ◌==◌, if◌then◌else◌, min, max, List, [], ◌∷◌, ◌++◌, length, fold, Bool, Option, Some, None}
 use Rattle.std.specs.List.{flat_map}
 use Rattle.cache_policy.specs.declared.mark.Mark.{Mark}
 use Rattle.cache_policy.specs.declared.history.History.{History}
@@ -18,9 +18,13 @@ turn_over history = record { base = history.base + room; held = seat history; st
 abbrev pub next_history : History → History
 next_history history = if length history.marks == room then turn_over history else history
 
--- the base at which an agent is spent: each step is answered Stopping from there on, and makes no mark
+-- the base at which an agent is spent
 abbrev pub last_base : ℕ
 last_base = 2 ^ 62
+
+-- the agent is spent: it answers Stopping to each step, and makes no mark any more
+abbrev pub is_spent : History → Bool
+is_spent history = history.base == last_base
 
 -- the first history is full, and the second begins as the first one leaves it
 pub record IsFollowedBy (history next : History) : Type 0 where
@@ -48,14 +52,14 @@ pub record Extends (earlier later : List History) : Type 0 where
   pub more : List Mark
   pub marks : joined later ≡ joined earlier ++ more
 
--- the moment to which readings are cut
+-- readings are cut to this moment
 abbrev pub greatest_moment : ℕ
 greatest_moment = 2 ^ 62
 
--- the moment of the last mark, and 0 where there is none
+-- the moment of the last mark of a run, and 0 where it has none
 abbrev pub moment_before : List Mark → ℕ
 moment_before marks = fold (λ _ mark. mark.moment) 0 marks
 
--- the moment of a step after these marks of a run: its reading, cut, or the moment of the last mark where that is greater
-abbrev pub moment_of : List Mark → ℕ → ℕ
-moment_of marks reading = max (moment_before marks) (min reading greatest_moment)
+-- the moment of a step: its reading, cut, or the moment of the last mark where that is greater
+abbrev pub moment_of : ℕ → ℕ → ℕ
+moment_of before reading = max before (min reading greatest_moment)

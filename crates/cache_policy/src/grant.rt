@@ -14,8 +14,10 @@ pub struct Grant {
     pub last: u64,
     /// When it is used now.
     pub moment: u64,
-    ghost serves: { serves id mode entry ≡ true },
-    ghost within: { within entry last moment ≡ true },
+    // The entry has the id, in a mode that covers the asked one.
+    pub ghost fits: { serves id mode entry ≡ true },
+    // Its ttl, counted from the last use, and its greatest age have not passed.
+    pub ghost in_time: { within entry last moment ≡ true },
 }
 
 impl Grant {
