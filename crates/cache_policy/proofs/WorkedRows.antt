@@ -1,5 +1,6 @@
 -- The definitions on worked rows, each by computation. One id and one session; the limits are the manual's.
-use Rattle.std.specs.Prelude.{◌≡◌, ℕ, List, [], ◌∷◌, ◌++◌, true, false, Option, Some, None, refl}
+use Rattle.std.specs.Prelude.{◌≡◌, ℕ, ◌%◌, ◌^◌, List, [], ◌∷◌, ◌++◌, true, false, Option, Some, None, refl}
+use Rattle.std.proofs.Common.{inl, lit<, lit≤}
 use Rattle.agent_ports.specs.declared.session.SessionId.{SessionId}
 use Rattle.cache_policy.specs.declared.mode.Mode.{Mode}
 use Rattle.cache_policy.specs.declared.mode.Mode.TheVariants.{Normal, User, Ssh, Any}
@@ -16,8 +17,8 @@ use Rattle.cache_policy.specs.Lifetimes.{default_limits}
 use Rattle.cache_policy.specs.Entries.{entries}
 use Rattle.cache_policy.specs.Seat.{seat, stopped}
 use Rattle.cache_policy.specs.Policy.{Ruling, Reply, Stand, policy}
-use Rattle.cache_policy.specs.Runs.{turn_over}
-use Rattle.cache_policy.specs.Legal.{FollowsPolicy}
+use Rattle.cache_policy.specs.Runs.{turn_over, joined, room, last_base, moment_before, moment_of}
+use Rattle.cache_policy.specs.Legal.{FollowsPolicy, IsLegal, IsLegalRun}
 
 abbrev name : List ℕ
 name = 105 ∷ 100 ∷ 49 ∷ []
@@ -120,6 +121,77 @@ stopping = refl
 still_given : answer (put User Endless 0 ∷ mark Stop Done 1 ∷ []) (Ask name User Prompt) 2 ≡ Reply (Given 0)
 still_given = refl
 
+stopping_comes_first : answer (opened ++ mark Stop Done 1 ∷ []) (Ask name User Prompt) 2 ≡ Reply Stopping
+stopping_comes_first = refl
+
+-- a ticket has the number of its Open, and what is kept by it has the default life
+abbrev opened_later : List Mark
+opened_later = put Ssh Endless 0 ∷ mark (Seat (Some (record { id = name; mode = User }))) Open 1 ∷ []
+
+its_number : seat (of opened_later) ≡ Some (record { ticket = 1; under = Some (record { id = name; mode = User }) })
+its_number = refl
+
+default_life : answer (opened_later ++ mark (Close 1 (Some word)) Done 5 ∷ []) (Ask name User Quiet) 605 ≡ Reply (Given 2)
+default_life = refl
+
+default_life_over : answer (opened_later ++ mark (Close 1 (Some word)) Done 5 ∷ []) (Ask name User Quiet) 606 ≡ Reply Empty
+default_life_over = refl
+
+foreign_keep : answer (opened_later ++ mark (Close 0 (Some word)) Done 5 ∷ []) (Ask name User Quiet) 6 ≡ Reply Empty
+foreign_keep = refl
+
+closed_twice : answer (opened_later ++ mark (Close 1 None) Done 5 ∷ mark (Close 1 (Some word)) Done 6 ∷ []) (Ask name User Quiet) 7 ≡ Reply Empty
+closed_twice = refl
+
+-- a ticket that was out at the start is closed in a later history, and the numbers go on from the base
+abbrev later_history : List Mark → History
+later_history marks = record {
+  base = 131072;
+  held = Some (record { ticket = 0; under = Some (record { id = name; mode = User }) });
+  stopped = false;
+  marks = marks;
+}
+
+still_out : policy default_limits (later_history []) (Seat None) 9 ≡ Stand
+still_out = refl
+
+closed_later : policy default_limits (later_history (mark (Close 0 (Some word)) Done 9 ∷ [])) (Ask name User Quiet) 9 ≡ Reply (Given 131072)
+closed_later = refl
+
+-- such a history is legal, and so is the run of it alone
+abbrev one_close : History
+one_close = later_history (mark (Close 0 (Some word)) Done 9 ∷ ask (Given 131072) 10 ∷ [])
+
+legal : IsLegal default_limits one_close
+legal = record {
+  replies = (refl, (refl, tt));
+  moments = (lit≤ tt, lit≤ tt, (lit≤ tt, lit≤ tt, tt));
+  base = refl;
+  not_spent = inl (lit< tt);
+  few = lit≤ tt;
+  held = lit< tt;
+}
+
+legal_run : IsLegalRun default_limits (one_close ∷ [])
+legal_run = record { turns_over = tt; each = (legal, tt); moments = legal.moments }
+
+-- an agent is spent after a whole number of histories
+spent_after_whole_histories : last_base % room ≡ 0
+spent_after_whole_histories = refl
+
+-- readings that fall back, and readings past the greatest moment
+reading_falls_back : moment_of 5 3 ≡ 5
+reading_falls_back = refl
+
+reading_is_cut : moment_of 5 (2 ^ 63) ≡ 2 ^ 62
+reading_is_cut = refl
+
+moment_of_the_last : moment_before (joined (one_close ∷ [])) ≡ 10
+moment_of_the_last = refl
+
 -- the next history goes on with the same ticket out, and stopped likewise
 seat-turn_over : (history : History) → seat (turn_over history) ≡ seat history
 seat-turn_over history = elim (seat history) as (λ held. seat (record { base = 0; held = held; stopped = false; marks = [] }) ≡ held) [ None ↦ refl | Some held ↦ refl ]
+
+stopped-turn_over : (history : History) → stopped (turn_over history) ≡ stopped history
+stopped-turn_over history = elim (stopped history) as (λ b. stopped (record { base = 0; held = None; stopped = b; marks = [] }) ≡ b) [ true ↦ refl | false ↦ refl ]
