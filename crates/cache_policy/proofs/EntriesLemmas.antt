@@ -6,12 +6,8 @@ use Rattle.cache_policy.specs.declared.life.Limits.{Limits}
 use Rattle.cache_policy.specs.declared.mark.Mark.{Mark}
 use Rattle.cache_policy.specs.declared.entry.Entry.{Entry}
 use Rattle.cache_policy.specs.declared.history.History.{History}
-use Rattle.cache_policy.specs.Histories.{start_of, with_mark}
+use Rattle.cache_policy.specs.Histories.{start_of, with_marks, with_mark}
 use Rattle.cache_policy.specs.Entries.{stored, entries, entries_after}
-
--- the history with more marks
-abbrev with_marks : History → List Mark → History
-with_marks history more = record history { marks = history.marks ++ more }
 
 -- what one mark more stores comes last
 entries_after-push : (limits : Limits) (before : History) (marks : List Mark) (mark : Mark) →

@@ -2,3 +2,4 @@ pub mod Lists
 pub mod EntriesLemmas
 pub mod BookLemmas
 pub mod WorkedRows
+pub mod ReturnLemmas

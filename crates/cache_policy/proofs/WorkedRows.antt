@@ -87,7 +87,10 @@ cleared = (refl, (refl, (refl, (refl, (refl, tt)))))
 cleared_elsewhere : answer (put User Endless 0 ∷ mark (Clear name Ssh) Done 6 ∷ []) (Ask name User Quiet) 7 ≡ Reply (Given 0)
 cleared_elsewhere = refl
 
--- and after a flush a new put serves again
+-- a flush takes everything, and a put after it serves again
+flushed_away : answer (put User Endless 0 ∷ mark Flush Done 6 ∷ []) (Ask name User Quiet) 7 ≡ Reply Empty
+flushed_away = refl
+
 flushed : answer (put User Endless 0 ∷ mark Flush Done 6 ∷ put User Endless 7 ∷ []) (Ask name User Quiet) 8 ≡ Reply (Given 2)
 flushed = refl
 

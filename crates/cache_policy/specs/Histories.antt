@@ -12,9 +12,12 @@ next_number history = history.base + length history.marks
 abbrev pub start_of : History → History
 start_of history = record history { marks = [] }
 
--- the history with one mark more
+-- the history with more marks, and with one more
+abbrev pub with_marks : History → List Mark → History
+with_marks history more = record history { marks = history.marks ++ more }
+
 abbrev pub with_mark : History → Mark → History
-with_mark history mark = record history { marks = history.marks ++ mark ∷ [] }
+with_mark history mark = with_marks history (mark ∷ [])
 
 -- the marks after the one with this number
 abbrev pub marks_after : History → ℕ → List Mark

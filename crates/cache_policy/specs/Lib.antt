@@ -9,3 +9,4 @@ pub mod Policy
 pub mod Runs
 pub mod Legal
 pub mod Book
+pub mod Return

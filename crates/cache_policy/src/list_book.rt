@@ -21,7 +21,9 @@ pub type NoMemory = AllocError;
 #[derive(Drop)]
 pub struct ListBook {
     stored: Vec<Entry>,
+    // The number of the next put.
     puts: u64,
+    // The moment of the last put, below which the caller's moments may not fall.
     latest: u64,
 }
 
@@ -52,6 +54,8 @@ impl ListBook {
     }
 
     /// Stores a passphrase at a moment in seconds, unless its effective ttl is 0.
+    ///
+    /// It fails where there is no memory for it, and after 2^64 - 1 puts, since there is no number for the next one.
     pub fn put(
         &mut self,
         moment: u64,
