@@ -1,0 +1,200 @@
+-- The definitions on worked rows, each by computation. One id and one session; the limits are the manual's.
+use Rattle.std.specs.Prelude.{◌≡◌, ℕ, ◌%◌, ◌^◌, List, [], ◌∷◌, ◌++◌, true, false, Option, Some, None, refl}
+use Rattle.std.proofs.Common.{inl, lit<, lit≤}
+use Rattle.agent_ports.specs.declared.session.SessionId.{SessionId}
+use Rattle.cache_policy.specs.declared.mode.Mode.{Mode}
+use Rattle.cache_policy.specs.declared.mode.Mode.TheVariants.{Normal, User, Ssh, Any}
+use Rattle.cache_policy.specs.declared.life.Life.{Life}
+use Rattle.cache_policy.specs.declared.life.Life.TheVariants.{Default, Endless, Seconds}
+use Rattle.cache_policy.specs.declared.mark.Way.TheVariants.{Quiet, Prompt}
+use Rattle.cache_policy.specs.declared.mark.Mark.{Mark}
+use Rattle.cache_policy.specs.declared.mark.MarkStep.{MarkStep}
+use Rattle.cache_policy.specs.declared.mark.MarkStep.TheVariants.{Ask, Seat, Close, Put, Clear, Flush, Peek, Stop}
+use Rattle.cache_policy.specs.declared.mark.MarkReply.{MarkReply}
+use Rattle.cache_policy.specs.declared.mark.MarkReply.TheVariants.{Given, Empty, Open, Done, Held as WhetherHeld, Stopping}
+use Rattle.cache_policy.specs.declared.history.History.{History}
+use Rattle.cache_policy.specs.Lifetimes.{default_limits}
+use Rattle.cache_policy.specs.Entries.{entries}
+use Rattle.cache_policy.specs.Seat.{seat, stopped}
+use Rattle.cache_policy.specs.Policy.{Ruling, Reply, Stand, policy}
+use Rattle.cache_policy.specs.Runs.{turn_over, joined, room, last_base, moment_before, moment_of}
+use Rattle.cache_policy.specs.Legal.{FollowsPolicy, IsLegal, IsLegalRun}
+
+abbrev name : List ℕ
+name = 105 ∷ 100 ∷ 49 ∷ []
+
+abbrev word : List ℕ
+word = 112 ∷ 119 ∷ []
+
+abbrev mark : MarkStep → MarkReply → ℕ → Mark
+mark step reply moment = record { session = record { pass = 0; count = 0 }; step = step; reply = reply; moment = moment }
+
+-- a history of base 0 with these marks, nothing held and not stopped
+abbrev of : List Mark → History
+of marks = record { base = 0; held = None; stopped = false; marks = marks }
+
+-- after these marks, the policy's answer to a step at a moment
+abbrev answer : List Mark → MarkStep → ℕ → Ruling
+answer marks step moment = policy default_limits (of marks) step moment
+
+abbrev put : Mode → Life → ℕ → Mark
+put mode life moment = mark (Put name mode life word) Done moment
+
+abbrev ask : MarkReply → ℕ → Mark
+ask reply moment = mark (Ask name User Quiet) reply moment
+
+-- an entry at its last second, and one past it
+last_second : answer (put User (Seconds 10) 5 ∷ []) (Ask name User Quiet) 15 ≡ Reply (Given 0)
+last_second = refl
+
+one_second_late : answer (put User (Seconds 10) 5 ∷ []) (Ask name User Quiet) 16 ≡ Reply Empty
+one_second_late = refl
+
+-- each use starts the ttl again
+used_again : answer (put Any Default 0 ∷ ask (Given 0) 600 ∷ ask (Given 0) 1200 ∷ []) (Ask name User Quiet) 1800 ≡ Reply (Given 0)
+used_again = refl
+
+used_late : answer (put Any Default 0 ∷ ask (Given 0) 600 ∷ ask (Given 0) 1200 ∷ []) (Ask name User Quiet) 1801 ≡ Reply Empty
+used_late = refl
+
+-- a look starts nothing again
+looked_at : answer (put Any Default 0 ∷ mark (Peek name User) (WhetherHeld true) 600 ∷ []) (Ask name User Quiet) 601 ≡ Reply Empty
+looked_at = refl
+
+-- the greatest age, and one second past it, also for an entry that is used all the time
+greatest_age : answer (put Any Endless 0 ∷ ask (Given 0) 7000 ∷ []) (Ask name User Quiet) 7200 ≡ Reply (Given 0)
+greatest_age = refl
+
+too_old : answer (put Any Endless 0 ∷ ask (Given 0) 7000 ∷ []) (Ask name User Quiet) 7201 ≡ Reply Empty
+too_old = refl
+
+-- ssh has a default ttl of its own
+ssh_ttl : answer (put Ssh Default 0 ∷ []) (Peek name Ssh) 1800 ≡ Reply (WhetherHeld true)
+ssh_ttl = refl
+
+-- a longer life under Any is hidden by a shorter one under User, for User alone and for good
+hidden : FollowsPolicy default_limits (of [])
+    (put Any Endless 0 ∷ put User (Seconds 10) 5 ∷ ask Empty 20 ∷ mark (Peek name Normal) (WhetherHeld true) 21 ∷ [])
+hidden = (refl, (refl, (refl, (refl, tt))))
+
+-- a Clear in User takes the one under Any too
+cleared : FollowsPolicy default_limits (of [])
+    (put Any Endless 0 ∷ put User (Seconds 10) 5 ∷ mark (Clear name User) Done 6 ∷ ask Empty 7
+    ∷ mark (Peek name Normal) (WhetherHeld false) 8 ∷ [])
+cleared = (refl, (refl, (refl, (refl, (refl, tt)))))
+
+-- but one in Ssh leaves what is under User
+cleared_elsewhere : answer (put User Endless 0 ∷ mark (Clear name Ssh) Done 6 ∷ []) (Ask name User Quiet) 7 ≡ Reply (Given 0)
+cleared_elsewhere = refl
+
+-- a flush takes everything, and a put after it serves again
+flushed_away : answer (put User Endless 0 ∷ mark Flush Done 6 ∷ []) (Ask name User Quiet) 7 ≡ Reply Empty
+flushed_away = refl
+
+flushed : answer (put User Endless 0 ∷ mark Flush Done 6 ∷ put User Endless 7 ∷ []) (Ask name User Quiet) 8 ≡ Reply (Given 2)
+flushed = refl
+
+-- a put with a ttl of 0 stores nothing, and hides nothing
+stores_nothing : answer (put User Endless 0 ∷ put User (Seconds 0) 1 ∷ []) (Ask name User Quiet) 2 ≡ Reply (Given 0)
+stores_nothing = refl
+
+-- one prompt at a time; what it ends with is kept by the Close of its ticket, and by no other
+abbrev opened : List Mark
+opened = mark (Ask name User Prompt) Open 0 ∷ []
+
+second_waits : answer opened (Ask name User Prompt) 0 ≡ Stand
+second_waits = refl
+
+kept : answer (opened ++ mark (Close 0 (Some word)) Done 1 ∷ []) (Ask name User Prompt) 2 ≡ Reply (Given 1)
+kept = refl
+
+not_kept : answer (opened ++ mark (Close 0 None) Done 1 ∷ []) (Ask name User Prompt) 2 ≡ Reply Open
+not_kept = refl
+
+foreign_ticket : answer (opened ++ mark (Close 5 (Some word)) Done 1 ∷ []) (Seat None) 2 ≡ Stand
+foreign_ticket = refl
+
+kept_without_name : entries default_limits (of (mark (Seat None) Open 0 ∷ mark (Close 0 (Some word)) Done 1 ∷ [])) ≡ []
+kept_without_name = refl
+
+-- after a Stop no prompt is opened, and the cache goes on
+stopping : answer (put User Endless 0 ∷ mark Stop Done 1 ∷ []) (Seat None) 2 ≡ Reply Stopping
+stopping = refl
+
+still_given : answer (put User Endless 0 ∷ mark Stop Done 1 ∷ []) (Ask name User Prompt) 2 ≡ Reply (Given 0)
+still_given = refl
+
+stopping_comes_first : answer (opened ++ mark Stop Done 1 ∷ []) (Ask name User Prompt) 2 ≡ Reply Stopping
+stopping_comes_first = refl
+
+-- a ticket has the number of its Open, and what is kept by it has the default life
+abbrev opened_later : List Mark
+opened_later = put Ssh Endless 0 ∷ mark (Seat (Some (record { id = name; mode = User }))) Open 1 ∷ []
+
+its_number : seat (of opened_later) ≡ Some (record { ticket = 1; under = Some (record { id = name; mode = User }) })
+its_number = refl
+
+default_life : answer (opened_later ++ mark (Close 1 (Some word)) Done 5 ∷ []) (Ask name User Quiet) 605 ≡ Reply (Given 2)
+default_life = refl
+
+default_life_over : answer (opened_later ++ mark (Close 1 (Some word)) Done 5 ∷ []) (Ask name User Quiet) 606 ≡ Reply Empty
+default_life_over = refl
+
+foreign_keep : answer (opened_later ++ mark (Close 0 (Some word)) Done 5 ∷ []) (Ask name User Quiet) 6 ≡ Reply Empty
+foreign_keep = refl
+
+closed_twice : answer (opened_later ++ mark (Close 1 None) Done 5 ∷ mark (Close 1 (Some word)) Done 6 ∷ []) (Ask name User Quiet) 7 ≡ Reply Empty
+closed_twice = refl
+
+-- a ticket that was out at the start is closed in a later history, and the numbers go on from the base
+abbrev later_history : List Mark → History
+later_history marks = record {
+  base = 131072;
+  held = Some (record { ticket = 0; under = Some (record { id = name; mode = User }) });
+  stopped = false;
+  marks = marks;
+}
+
+still_out : policy default_limits (later_history []) (Seat None) 9 ≡ Stand
+still_out = refl
+
+closed_later : policy default_limits (later_history (mark (Close 0 (Some word)) Done 9 ∷ [])) (Ask name User Quiet) 9 ≡ Reply (Given 131072)
+closed_later = refl
+
+-- such a history is legal, and so is the run of it alone
+abbrev one_close : History
+one_close = later_history (mark (Close 0 (Some word)) Done 9 ∷ ask (Given 131072) 10 ∷ [])
+
+legal : IsLegal default_limits one_close
+legal = record {
+  replies = (refl, (refl, tt));
+  moments = (lit≤ tt, lit≤ tt, (lit≤ tt, lit≤ tt, tt));
+  base = refl;
+  not_spent = inl (lit< tt);
+  few = lit≤ tt;
+  held = lit< tt;
+}
+
+legal_run : IsLegalRun default_limits (one_close ∷ [])
+legal_run = record { turns_over = tt; each = (legal, tt); moments = legal.moments }
+
+-- an agent is spent after a whole number of histories
+spent_after_whole_histories : last_base % room ≡ 0
+spent_after_whole_histories = refl
+
+-- readings that fall back, and readings past the greatest moment
+reading_falls_back : moment_of 5 3 ≡ 5
+reading_falls_back = refl
+
+reading_is_cut : moment_of 5 (2 ^ 63) ≡ 2 ^ 62
+reading_is_cut = refl
+
+moment_of_the_last : moment_before (joined (one_close ∷ [])) ≡ 10
+moment_of_the_last = refl
+
+-- the next history goes on with the same ticket out, and stopped likewise
+seat-turn_over : (history : History) → seat (turn_over history) ≡ seat history
+seat-turn_over history = elim (seat history) as (λ held. seat (record { base = 0; held = held; stopped = false; marks = [] }) ≡ held) [ None ↦ refl | Some held ↦ refl ]
+
+stopped-turn_over : (history : History) → stopped (turn_over history) ≡ stopped history
+stopped-turn_over history = elim (stopped history) as (λ b. stopped (record { base = 0; held = None; stopped = b; marks = [] }) ≡ b) [ true ↦ refl | false ↦ refl ]

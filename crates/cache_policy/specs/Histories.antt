@@ -1,0 +1,28 @@
+-- Histories: the marks that an agent made since it last began with an empty cache, with the number of the first, and with
+-- what was held and whether it had stopped by then. All of this is the project's own.
+use Rattle.std.specs.Prelude.{ℕ, ◌+◌, ◌-◌, List, [], ◌∷◌, ◌++◌, length, drop, map}
+use Rattle.cache_policy.specs.declared.mark.Mark.{Mark}
+use Rattle.cache_policy.specs.declared.history.History.{History}
+
+-- the number of a mark is the base plus its place: the number of the next one
+abbrev pub next_number : History → ℕ
+next_number history = history.base + length history.marks
+
+-- the history as it began
+abbrev pub start_of : History → History
+start_of history = record history { marks = [] }
+
+-- the history with more marks, and with one more
+abbrev pub with_marks : History → List Mark → History
+with_marks history more = record history { marks = history.marks ++ more }
+
+abbrev pub with_mark : History → Mark → History
+with_mark history mark = with_marks history (mark ∷ [])
+
+-- the marks after the one with this number
+abbrev pub marks_after : History → ℕ → List Mark
+marks_after history number = drop (number + 1 - history.base) history.marks
+
+-- the moments of the marks
+abbrev pub moments : List Mark → List ℕ
+moments marks = map (λ mark. mark.moment) marks

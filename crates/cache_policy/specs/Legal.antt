@@ -1,0 +1,36 @@
+-- Legal histories and runs: each reply is the policy's. All of this is the project's own.
+use Rattle.std.specs.Prelude.{◌≡◌, ℕ, ◌+◌, ◌%◌, ◌<◌, ◌≤◌, ◌⊎◌, List, [], ◌∷◌, length, IfSome}
+use Rattle.std.specs.List.{AllByRecursion}
+use Rattle.cache_policy.specs.declared.life.Limits.{Limits}
+use Rattle.cache_policy.specs.declared.mark.Mark.{Mark}
+use Rattle.cache_policy.specs.declared.history.History.{History}
+use Rattle.cache_policy.specs.Histories.{start_of, with_mark}
+use Rattle.cache_policy.specs.Policy.{Ruling, Reply, policy}
+use Rattle.cache_policy.specs.Runs.{room, last_base, greatest_moment, IsRun, joined}
+
+-- each of the marks has the policy's reply after the marks before it, at its moment; none of them is Stand
+abbrev pub FollowsPolicy : Limits → History → List Mark → Type 0
+FollowsPolicy limits before [] = Unit {0}
+FollowsPolicy limits before (mark ∷ later) =
+    (policy limits before mark.step mark.moment ≡ Reply mark.reply) × FollowsPolicy limits (with_mark before mark) later
+
+-- from this moment on the moments of the marks never fall, and none is past the greatest
+abbrev pub NeverFall : ℕ → List Mark → Type 0
+NeverFall since [] = Unit {0}
+NeverFall since (mark ∷ later) =
+    (since ≤ mark.moment) × (mark.moment ≤ greatest_moment) × NeverFall mark.moment later
+
+-- the base is a multiple of the room of a history, and where it is the last there are no marks
+pub record IsLegal (limits : Limits) (history : History) : Type 0 where
+  pub replies : FollowsPolicy limits (start_of history) history.marks
+  pub moments : NeverFall 0 history.marks
+  pub base : history.base % room ≡ 0
+  pub not_spent : (history.base < last_base) ⊎ (history.marks ≡ [])
+  pub few : length history.marks ≤ room
+  pub held : IfSome history.held (λ held. held.ticket < history.base)
+
+-- a run of legal histories, over which the moments never fall
+pub record IsLegalRun (limits : Limits) (run : List History) : Type 0 where
+  pub turns_over : IsRun run
+  pub each : AllByRecursion (IsLegal limits) run
+  pub moments : NeverFall 0 (joined run)

@@ -1,0 +1,12 @@
+pub mod Mode
+pub mod Lifetimes
+pub mod Entry
+pub mod Histories
+pub mod Seat
+pub mod Entries
+pub mod Live
+pub mod Policy
+pub mod Runs
+pub mod Legal
+pub mod Book
+pub mod Return

@@ -1,0 +1,44 @@
+ghost use Rattle.std.specs.Prelude.{◌≡◌};
+
+use crate::{Mark, Under};
+use std::marker::Model;
+
+/// A ticket that is out, by its number, and what its passphrase is kept under.
+#[derive(Debug, PartialEq, Eq, Drop)]
+pub struct Held {
+    pub ticket: u64,
+    pub under: Option<Under>,
+}
+
+/// Marks in the order in which they were made.
+#[derive(Drop)]
+pub struct Marks(pub Vec<Mark>);
+
+impl Model for Marks {
+    ghost use Rattle.std.specs.Prelude.{List};
+    ghost use Rattle.cache_policy.specs.declared.mark.Mark.{Mark as OneMark};
+
+    ghost Value = { List OneMark };
+
+    ghost view = { λ marks. marks.0.items };
+}
+
+impl Marks {
+    pub fn as_slice(&self) -> &[Mark]
+        ensures { result.now ≡ self.now }
+    {
+        self.0.as_slice()
+    }
+}
+
+/// What an agent did since it last began with an empty cache.
+#[derive(Drop)]
+pub struct History {
+    /// The number of the first mark.
+    pub base: u64,
+    /// The ticket that was out at the start.
+    pub held: Option<Held>,
+    /// Whether the agent had stopped opening prompts at the start.
+    pub stopped: bool,
+    pub marks: Marks,
+}

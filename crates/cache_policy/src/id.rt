@@ -1,0 +1,53 @@
+ghost use Rattle.std.specs.Prelude.{◌≡◌, ◌<◌, ◌≤◌, ◌↔◌, length, IsSome, IfSome};
+
+use arrayvec::ArrayVec;
+use std::marker::Model;
+
+/// The name of a passphrase in the cache: 1 to 50 bytes.
+#[derive(Debug, PartialEq, Eq, Drop)]
+pub struct CacheId {
+    bytes: ArrayVec<u8, 50>,
+}
+
+impl Model for CacheId {
+    ghost use Rattle.std.specs.Prelude.{ℕ, ◌≤◌, ◌<◌, List, length};
+
+    ghost Value = { List ℕ };
+
+    ghost view = { λ id. id.bytes.items };
+
+    ghost invariant = { λ id. (0 < length id.bytes.items) × (length id.bytes.items ≤ 50) };
+
+    ghost inverse = { λ bytes. record { bytes = record { items = bytes } } };
+}
+
+impl CacheId {
+    /// `None` for no bytes, and for more than 50.
+    pub fn of(bytes: &[u8]) -> Option<CacheId>
+        ensures within { IsSome result ↔ ((0 < length bytes.now) × (length bytes.now ≤ 50)) }
+        ensures bytes { IfSome result (λ id. id ≡ bytes.now) }
+    {
+        if bytes.is_empty() {
+            return None;
+        }
+        let bytes = ArrayVec::try_from(bytes).ok()?;
+        Some(CacheId { bytes })
+    }
+
+    pub fn bytes(&self) -> &[u8]
+        ensures value { result.now ≡ self.now }
+        ensures some { 0 < length self.now }
+        ensures within { length self.now ≤ 50 }
+    {
+        self.bytes.as_slice()
+    }
+
+    /// The same id once more, without taking memory.
+    pub fn copy(&self) -> CacheId
+        ensures { result ≡ self.now }
+    {
+        let mut bytes = ArrayVec::new();
+        let _ = bytes.try_extend_from_slice(self.bytes());
+        CacheId { bytes }
+    }
+}

@@ -1,0 +1,86 @@
+use crate::{CacheId, Life, Mode, Secret};
+use agent_ports::SessionId;
+
+/// What the passphrase of a prompt is kept under.
+#[derive(Debug, PartialEq, Eq, Drop)]
+pub struct Under {
+    pub id: CacheId,
+    pub mode: Mode,
+}
+
+/// Whether a request may open a prompt.
+#[derive(Clone, Copy, Debug, PartialEq, Eq, Hash)]
+pub enum Way {
+    /// It is answered from the cache alone.
+    Quiet,
+    /// Where the cache has nothing, it opens a prompt.
+    Prompt,
+}
+
+/// One step of a session, with the number of its ticket in place of a ticket.
+#[derive(Drop)]
+pub enum MarkStep {
+    /// Asks for a passphrase.
+    Ask {
+        id: CacheId,
+        mode: Mode,
+        way: Way,
+    },
+    /// Asks for the seat at the prompt, whatever the cache has.
+    Seat {
+        under: Option<Under>,
+    },
+    /// Gives a ticket back, and may keep what was typed.
+    Close {
+        ticket: u64,
+        keep: Option<Secret>,
+    },
+    /// Stores a passphrase.
+    Put {
+        id: CacheId,
+        mode: Mode,
+        life: Life,
+        secret: Secret,
+    },
+    /// Forgets what is stored under an id, in the modes that cover the named one.
+    Clear {
+        id: CacheId,
+        mode: Mode,
+    },
+    /// Forgets everything.
+    Flush,
+    /// Looks whether a passphrase is there, without using it.
+    Peek {
+        id: CacheId,
+        mode: Mode,
+    },
+    /// Opens no prompt from now on.
+    Stop,
+}
+
+/// What a step was answered.
+#[derive(Clone, Copy, Debug, PartialEq, Eq, Hash)]
+pub enum MarkReply {
+    /// The passphrase of the entry with this number.
+    Given(u64),
+    /// Nothing is cached.
+    Empty,
+    /// A ticket for the prompt, whose number is the mark's.
+    Open,
+    /// Done.
+    Done,
+    /// Whether a passphrase is there.
+    Held(bool),
+    /// The agent opens no prompt any more.
+    Stopping,
+}
+
+/// One step that was made: by whom, which, with which answer and at which moment.
+#[derive(Drop)]
+pub struct Mark {
+    pub session: SessionId,
+    pub step: MarkStep,
+    pub reply: MarkReply,
+    /// In seconds. It never falls from one mark to the next.
+    pub moment: u64,
+}
