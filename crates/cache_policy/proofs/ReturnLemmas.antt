@@ -20,19 +20,22 @@ use Rattle.cache_policy.specs.Entry.{serves, within}
 use Rattle.cache_policy.specs.Histories.{start_of, with_marks, with_mark}
 use Rattle.cache_policy.specs.Entries.{entries}
 use Rattle.cache_policy.specs.Seat.{seat, stopped}
-use Rattle.cache_policy.specs.Live.{newest, gone, last_use, is_live, live}
-use Rattle.cache_policy.specs.Policy.{Ruling, Reply, policy, prompt_ruling, ask_ruling}
+use Rattle.cache_policy.specs.Live.{newest, gone, last_use, is_live}
+use Rattle.cache_policy.specs.Policy.{Reply, policy, prompt_ruling, ask_ruling}
 use Rattle.cache_policy.specs.Legal.{FollowsPolicy, IsLegal}
 use Rattle.cache_policy.specs.Return.{IsGivenRightly}
 use Rattle.cache_policy.proofs.Lists.{all_reverse}
 
 -- a mark that stands among those that follow the policy has the policy's reply after the marks before it
 follows_at : (limits : Limits) (start : History) (before later : List Mark) (mark : Mark) →
-    FollowsPolicy limits start (before ++ mark ∷ later) → policy limits (with_marks start before) mark.step mark.moment ≡ Reply mark.reply
+    FollowsPolicy limits start (before ++ mark ∷ later) →
+    policy limits (with_marks start before) mark.step mark.moment ≡ Reply mark.reply
 follows_at limits start [] later mark h =
-    ap (λ (marks : List Mark). policy limits (record start { marks = marks }) mark.step mark.moment) (append-nil start.marks) ∙ h.0
+    ap (λ (marks : List Mark). policy limits (record start { marks = marks }) mark.step mark.moment)
+    (append-nil start.marks) ∙ h.0
 follows_at limits start (first ∷ before) later mark h =
-    ap (λ (marks : List Mark). policy limits (record start { marks = marks }) mark.step mark.moment) (sym (append_assoc start.marks (first ∷ []) before))
+    ap (λ (marks : List Mark). policy limits (record start { marks = marks }) mark.step mark.moment) (sym
+    (append_assoc start.marks (first ∷ []) before))
     ∙ follows_at limits (with_mark start first) before later mark h.1
 
 -- what is found first: the list is what fails the test, itself, and a rest
@@ -58,7 +61,14 @@ module _ {A : Type 0} (test : A → Bool) where
       (b : Bool) → test y ≡ b → (if b then Some y else find test list) ≡ Some x → IsFirst test (y ∷ list) x
   found_step y list x rest true e h =
       let same : y ≡ x = cc in
-      record { front = []; back = list; place = ap (λ (z : A). z ∷ list) same; passes = ap test (sym same) ∙ e; others = tt }
+      record {
+        front = [];
+        back = list;
+        place = ap (λ (z : A). z ∷ list) same;
+        passes = ap test (sym same)
+            ∙ e;
+        others = tt;
+      }
   found_step y list x rest false e h = one_more y list x e (rest h)
 
   found_first : (list : List A) (x : A) → find test list ≡ Some x → IsFirst test list x
@@ -66,19 +76,23 @@ module _ {A : Type 0} (test : A → Bool) where
   found_first (y ∷ list) x h = found_step y list x (found_first list x) (test y) refl h
 
 -- a list that is read from its end
-turned : {A : Type 0} (list front back : List A) (x : A) → reverse list ≡ front ++ x ∷ back → list ≡ reverse back ++ x ∷ reverse front
+turned : {A : Type 0} (list front back : List A) (x : A) → reverse list ≡ front ++ x ∷ back →
+    list ≡ reverse back ++ x ∷ reverse front
 turned list front back x h =
     sym (reverse-reverse list) ∙ (ap reverse h ∙ (reverse-append front (x ∷ back)
-    ∙ (ap (λ (l : List _). l ++ reverse front) (reverse-cons x back) ∙ append_assoc (reverse back) (x ∷ []) (reverse front))))
+    ∙ (ap (λ (l : List _). l ++ reverse front) (reverse-cons x back)
+    ∙ append_assoc (reverse back) (x ∷ []) (reverse front))))
 
 -- no step that wants the prompt is given an entry
-prompt_gives_nothing : (stops : Bool) (held : Option Held) (number : ℕ) → prompt_ruling stops held ≡ Reply (Given number) → ⊥
+prompt_gives_nothing : (stops : Bool) (held : Option Held) (number : ℕ) →
+    prompt_ruling stops held ≡ Reply (Given number) → ⊥
 prompt_gives_nothing true held number h = cc
 prompt_gives_nothing false (Some ticket) number h = cc
 prompt_gives_nothing false None number h = cc
 
 -- nor is an ask for which nothing is live
-ask_gives_nothing : (way : Way) (stops : Bool) (held : Option Held) (number : ℕ) → ask_ruling None way stops held ≡ Reply (Given number) → ⊥
+ask_gives_nothing : (way : Way) (stops : Bool) (held : Option Held) (number : ℕ) →
+    ask_ruling None way stops held ≡ Reply (Given number) → ⊥
 ask_gives_nothing Quiet stops held number h = cc
 ask_gives_nothing Prompt stops held number h = prompt_gives_nothing stops held number h
 
@@ -89,11 +103,14 @@ both false b h = (refl, h)
 
 module _ (limits : Limits) (before : History) (mark : Mark) (number : ℕ) where
   -- the newest entry, where it is live
-  given : (id : List ℕ) (mode : Mode) (way : Way) (entry : Entry) → mark.step ≡ Ask id mode way → newest limits before id mode ≡ Some entry →
+  given : (id : List ℕ) (mode : Mode) (way : Way) (entry : Entry) → mark.step ≡ Ask id mode way →
+      newest limits before id mode ≡ Some entry →
       entry.number ≡ number → is_live before mark.moment entry ≡ true → IsGivenRightly limits before mark number
   given id mode way entry asked e numbered lives =
-      let first : IsFirst (serves id mode) (reverse (entries limits before)) entry = found_first (serves id mode) (reverse (entries limits before)) entry e in
-      let parts : (gone before entry ≡ false) × (within entry (last_use before entry) mark.moment ≡ true) = both (gone before entry) (within entry (last_use before entry) mark.moment) lives in
+      let first : IsFirst (serves id mode) (reverse (entries limits before)) entry = found_first (serves id mode)
+      (reverse (entries limits before)) entry e in
+      let parts : (gone before entry ≡ false) × (within entry (last_use before entry) mark.moment
+      ≡ true) = both (gone before entry) (within entry (last_use before entry) mark.moment) lives in
       record {
         id = id;
         mode = mode;
@@ -110,20 +127,27 @@ module _ (limits : Limits) (before : History) (mark : Mark) (number : ℕ) where
         in_time = parts.1;
       }
 
-  by_live : (id : List ℕ) (mode : Mode) (way : Way) (entry : Entry) → mark.step ≡ Ask id mode way → newest limits before id mode ≡ Some entry →
+  by_live : (id : List ℕ) (mode : Mode) (way : Way) (entry : Entry) → mark.step ≡ Ask id mode way →
+      newest limits before id mode ≡ Some entry →
       (b : Bool) → is_live before mark.moment entry ≡ b →
-      ask_ruling (if b then Some entry else None) way (stopped before) (seat before) ≡ Reply (Given number) → IsGivenRightly limits before mark number
-  by_live id mode way entry asked e true lives h = let numbered : entry.number ≡ number = cc in given id mode way entry asked e numbered lives
-  by_live id mode way entry asked e false lives h = absurd (ask_gives_nothing way (stopped before) (seat before) number h)
+      ask_ruling (if b then Some entry else None) way (stopped before) (seat before) ≡ Reply (Given number) →
+      IsGivenRightly limits before mark number
+  by_live id mode way entry asked e true lives h = let numbered : entry.number
+      ≡ number = cc in given id mode way entry asked e numbered lives
+  by_live id mode way entry asked e false lives h = absurd (ask_gives_nothing way (stopped before)
+      (seat before) number h)
 
   by_newest : (id : List ℕ) (mode : Mode) (way : Way) → mark.step ≡ Ask id mode way →
       (o : Option Entry) → newest limits before id mode ≡ o →
-      ask_ruling (option_and_then (λ entry. if is_live before mark.moment entry then Some entry else None) o) way (stopped before) (seat before) ≡ Reply (Given number) →
+      ask_ruling (option_and_then (λ entry. if is_live before mark.moment entry then Some entry else None) o) way
+      (stopped before) (seat before) ≡ Reply (Given number) →
       IsGivenRightly limits before mark number
   by_newest id mode way asked None e h = absurd (ask_gives_nothing way (stopped before) (seat before) number h)
-  by_newest id mode way asked (Some entry) e h = by_live id mode way entry asked e (is_live before mark.moment entry) refl h
+  by_newest id mode way asked (Some entry) e h = by_live id mode way entry asked e
+      (is_live before mark.moment entry) refl h
 
-  by_step : (step : MarkStep) → mark.step ≡ step → policy limits before step mark.moment ≡ Reply (Given number) → IsGivenRightly limits before mark number
+  by_step : (step : MarkStep) → mark.step ≡ step → policy limits before step mark.moment ≡ Reply (Given number) →
+      IsGivenRightly limits before mark number
   by_step (Ask id mode way) e h = by_newest id mode way e (newest limits before id mode) refl h
   by_step (Seat under) e h = absurd (prompt_gives_nothing (stopped before) (seat before) number h)
   by_step (Close ticket keep) e h = cc
@@ -139,4 +163,5 @@ pub given_rightly : (limits : Limits) (history : History) (before later : List M
     IsGivenRightly limits (record history { marks = before }) mark number
 given_rightly limits history before later mark number legal place reply =
     by_step limits (record history { marks = before }) mark number mark.step refl
-    (follows_at limits (start_of history) before later mark (subst (FollowsPolicy limits (start_of history)) place legal.replies) ∙ ap Reply reply)
+    (follows_at limits (start_of history) before later mark (subst (FollowsPolicy limits
+    (start_of history)) place legal.replies) ∙ ap Reply reply)

@@ -1,7 +1,6 @@
 -- The definitions on worked rows, each by computation. One id and one session; the limits are the manual's.
-use Rattle.std.specs.Prelude.{◌≡◌, ℕ, ◌%◌, ◌^◌, List, [], ◌∷◌, ◌++◌, true, false, Option, Some, None, refl}
+use Rattle.std.specs.Prelude.{◌≡◌, ℕ, ◌%◌, ◌^◌, List, [], ◌∷◌, ◌++◌, true, false, Some, None, refl}
 use Rattle.std.proofs.Common.{inl, lit<, lit≤}
-use Rattle.agent_ports.specs.declared.session.SessionId.{SessionId}
 use Rattle.cache_policy.specs.declared.mode.Mode.{Mode}
 use Rattle.cache_policy.specs.declared.mode.Mode.TheVariants.{Normal, User, Ssh, Any}
 use Rattle.cache_policy.specs.declared.life.Life.{Life}
@@ -51,14 +50,17 @@ one_second_late : answer (put User (Seconds 10) 5 ∷ []) (Ask name User Quiet) 
 one_second_late = refl
 
 -- each use starts the ttl again
-used_again : answer (put Any Default 0 ∷ ask (Given 0) 600 ∷ ask (Given 0) 1200 ∷ []) (Ask name User Quiet) 1800 ≡ Reply (Given 0)
+used_again : answer (put Any Default 0 ∷ ask (Given 0) 600 ∷ ask (Given 0) 1200 ∷ []) (Ask name User Quiet) 1800
+    ≡ Reply (Given 0)
 used_again = refl
 
-used_late : answer (put Any Default 0 ∷ ask (Given 0) 600 ∷ ask (Given 0) 1200 ∷ []) (Ask name User Quiet) 1801 ≡ Reply Empty
+used_late : answer (put Any Default 0 ∷ ask (Given 0) 600 ∷ ask (Given 0) 1200 ∷ []) (Ask name User Quiet) 1801
+    ≡ Reply Empty
 used_late = refl
 
 -- a look starts nothing again
-looked_at : answer (put Any Default 0 ∷ mark (Peek name User) (WhetherHeld true) 600 ∷ []) (Ask name User Quiet) 601 ≡ Reply Empty
+looked_at : answer (put Any Default 0 ∷ mark (Peek name User) (WhetherHeld true) 600 ∷ [])
+    (Ask name User Quiet) 601 ≡ Reply Empty
 looked_at = refl
 
 -- the greatest age, and one second past it, also for an entry that is used all the time
@@ -84,14 +86,16 @@ cleared : FollowsPolicy default_limits (of [])
 cleared = (refl, (refl, (refl, (refl, (refl, tt)))))
 
 -- but one in Ssh leaves what is under User
-cleared_elsewhere : answer (put User Endless 0 ∷ mark (Clear name Ssh) Done 6 ∷ []) (Ask name User Quiet) 7 ≡ Reply (Given 0)
+cleared_elsewhere : answer (put User Endless 0 ∷ mark (Clear name Ssh) Done 6 ∷ []) (Ask name User Quiet) 7
+    ≡ Reply (Given 0)
 cleared_elsewhere = refl
 
 -- a flush takes everything, and a put after it serves again
 flushed_away : answer (put User Endless 0 ∷ mark Flush Done 6 ∷ []) (Ask name User Quiet) 7 ≡ Reply Empty
 flushed_away = refl
 
-flushed : answer (put User Endless 0 ∷ mark Flush Done 6 ∷ put User Endless 7 ∷ []) (Ask name User Quiet) 8 ≡ Reply (Given 2)
+flushed : answer (put User Endless 0 ∷ mark Flush Done 6 ∷ put User Endless 7 ∷ []) (Ask name User Quiet) 8
+    ≡ Reply (Given 2)
 flushed = refl
 
 -- a put with a ttl of 0 stores nothing, and hides nothing
@@ -114,7 +118,8 @@ not_kept = refl
 foreign_ticket : answer (opened ++ mark (Close 5 (Some word)) Done 1 ∷ []) (Seat None) 2 ≡ Stand
 foreign_ticket = refl
 
-kept_without_name : entries default_limits (of (mark (Seat None) Open 0 ∷ mark (Close 0 (Some word)) Done 1 ∷ [])) ≡ []
+kept_without_name : entries default_limits (of (mark (Seat None) Open 0 ∷ mark (Close 0 (Some word)) Done 1 ∷ []))
+    ≡ []
 kept_without_name = refl
 
 -- after a Stop no prompt is opened, and the cache goes on
@@ -134,16 +139,19 @@ opened_later = put Ssh Endless 0 ∷ mark (Seat (Some (record { id = name; mode 
 its_number : seat (of opened_later) ≡ Some (record { ticket = 1; under = Some (record { id = name; mode = User }) })
 its_number = refl
 
-default_life : answer (opened_later ++ mark (Close 1 (Some word)) Done 5 ∷ []) (Ask name User Quiet) 605 ≡ Reply (Given 2)
+default_life : answer (opened_later ++ mark (Close 1 (Some word)) Done 5 ∷ []) (Ask name User Quiet) 605
+    ≡ Reply (Given 2)
 default_life = refl
 
-default_life_over : answer (opened_later ++ mark (Close 1 (Some word)) Done 5 ∷ []) (Ask name User Quiet) 606 ≡ Reply Empty
+default_life_over : answer (opened_later ++ mark (Close 1 (Some word)) Done 5 ∷ []) (Ask name User Quiet) 606
+    ≡ Reply Empty
 default_life_over = refl
 
 foreign_keep : answer (opened_later ++ mark (Close 0 (Some word)) Done 5 ∷ []) (Ask name User Quiet) 6 ≡ Reply Empty
 foreign_keep = refl
 
-closed_twice : answer (opened_later ++ mark (Close 1 None) Done 5 ∷ mark (Close 1 (Some word)) Done 6 ∷ []) (Ask name User Quiet) 7 ≡ Reply Empty
+closed_twice : answer (opened_later ++ mark (Close 1 None) Done 5 ∷ mark (Close 1 (Some word)) Done 6 ∷ [])
+    (Ask name User Quiet) 7 ≡ Reply Empty
 closed_twice = refl
 
 -- a ticket that was out at the start is closed in a later history, and the numbers go on from the base
@@ -158,7 +166,8 @@ later_history marks = record {
 still_out : policy default_limits (later_history []) (Seat None) 9 ≡ Stand
 still_out = refl
 
-closed_later : policy default_limits (later_history (mark (Close 0 (Some word)) Done 9 ∷ [])) (Ask name User Quiet) 9 ≡ Reply (Given 131072)
+closed_later : policy default_limits (later_history (mark (Close 0 (Some word)) Done 9 ∷ []))
+    (Ask name User Quiet) 9 ≡ Reply (Given 131072)
 closed_later = refl
 
 -- such a history is legal, and so is the run of it alone
@@ -194,7 +203,10 @@ moment_of_the_last = refl
 
 -- the next history goes on with the same ticket out, and stopped likewise
 seat-turn_over : (history : History) → seat (turn_over history) ≡ seat history
-seat-turn_over history = elim (seat history) as (λ held. seat (record { base = 0; held = held; stopped = false; marks = [] }) ≡ held) [ None ↦ refl | Some held ↦ refl ]
+seat-turn_over history = elim (seat history) as
+    (λ held. seat (record { base = 0; held = held; stopped = false; marks = [] })
+    ≡ held) [ None ↦ refl | Some held ↦ refl ]
 
 stopped-turn_over : (history : History) → stopped (turn_over history) ≡ stopped history
-stopped-turn_over history = elim (stopped history) as (λ b. stopped (record { base = 0; held = None; stopped = b; marks = [] }) ≡ b) [ true ↦ refl | false ↦ refl ]
+stopped-turn_over history = elim (stopped history) as
+    (λ b. stopped (record { base = 0; held = None; stopped = b; marks = [] }) ≡ b) [ true ↦ refl | false ↦ refl ]

@@ -1,5 +1,5 @@
 -- The plain book: a cache that is given puts alone, and what it has to do with histories.
-use Rattle.std.specs.Prelude.{◌≡◌, ℕ, ◌+◌, List, [], ◌∷◌, ◌++◌, map, Bool, true, false, Option, Some, None, if◌then◌else◌}
+use Rattle.std.specs.Prelude.{◌≡◌, ℕ, ◌+◌, List, [], ◌++◌, map, Bool, true, false, Option, Some, None, if◌then◌else◌}
 use Rattle.std.specs.Option.{option_and_then}
 use Rattle.std.specs.List.{AllByRecursion}
 use Rattle.agent_ports.specs.declared.session.SessionId.{SessionId}
@@ -73,13 +73,21 @@ pub record IsBookOf (limits : Limits) (history : History) (book : Book) : Type 0
   pub numbers : next_number history ≡ book.puts
   pub same : entries limits history ≡ book.entries
 
+-- the mark is of a put or an ask
+abbrev pub IsPutOrAsk : Mark → Type 0
+IsPutOrAsk mark = is_put_or_ask mark.step ≡ true
+
+-- the entry has no ttl
+abbrev pub IsEndless : Entry → Type 0
+IsEndless entry = entry.ttl ≡ None
+
 -- an entry, numbers aside
 abbrev pub unnumbered : Entry → Entry
 unnumbered entry = record entry { number = 0 }
 
--- the book was given the puts of this history, which are endless; the other marks are asks, which leave the book alone. So
--- its entries are the history's, numbers aside
+-- the book was given the puts of this history, which are endless; the other marks are asks, which leave the book alone.
+-- So its entries are the history's, numbers aside
 pub record IsEndlessBookOf (limits : Limits) (history : History) (book : Book) : Type 0 where
-  pub steps : AllByRecursion (λ mark. is_put_or_ask mark.step ≡ true) history.marks
-  pub endless : AllByRecursion (λ entry. entry.ttl ≡ None) book.entries
+  pub steps : AllByRecursion IsPutOrAsk history.marks
+  pub endless : AllByRecursion IsEndless book.entries
   pub same : map unnumbered (entries limits history) ≡ map unnumbered book.entries

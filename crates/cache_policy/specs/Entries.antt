@@ -1,5 +1,5 @@
--- Entries: what the marks of a history stored. A passphrase is cached by a preset, or when a prompt ends (the GnuPG manual's
--- agent protocol, PRESET_PASSPHRASE and GET_PASSPHRASE). That a lifetime of 0 stores nothing is this project's own.
+-- Entries: what the marks of a history stored. A passphrase is cached by a preset, or when a prompt ends (the GnuPG
+-- manual's agent protocol, PRESET_PASSPHRASE and GET_PASSPHRASE). That a ttl of 0 stores nothing is this project's own.
 use Rattle.std.specs.Prelude.{ℕ, ◌==◌, List, [], ◌∷◌, ◌++◌, Option, Some, None, if◌then◌else◌}
 use Rattle.std.specs.Option.{option_and_then}
 use Rattle.cache_policy.specs.declared.mode.Mode.{Mode}
@@ -43,7 +43,8 @@ kept limits number moment _ _ = []
 -- what a step stores, at a moment after this history
 abbrev pub stored : Limits → History → MarkStep → ℕ → List Entry
 stored limits before (Put id mode life secret) moment = entry_of limits (next_number before) moment id mode life secret
-stored limits before (Close ticket keep) moment = kept limits (next_number before) moment (kept_under (seat before) ticket) keep
+stored limits before (Close ticket keep) moment =
+    kept limits (next_number before) moment (kept_under (seat before) ticket) keep
 stored limits before _ moment = []
 
 -- what marks store, each after the marks before it

@@ -1,5 +1,5 @@
--- Histories: the marks that an agent made since it last began with an empty cache, with the number of the first, and with
--- what was held and whether it had stopped by then. All of this is the project's own.
+-- Histories: the marks that an agent made since it last began with an empty cache, with the number of the first, which
+-- ticket was out by then and whether it had stopped. All of this is the project's own.
 use Rattle.std.specs.Prelude.{ℕ, ◌+◌, ◌-◌, List, [], ◌∷◌, ◌++◌, length, drop, map}
 use Rattle.cache_policy.specs.declared.mark.Mark.{Mark}
 use Rattle.cache_policy.specs.declared.history.History.{History}

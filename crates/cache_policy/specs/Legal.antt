@@ -1,11 +1,11 @@
 -- Legal histories and runs: each reply is the policy's. All of this is the project's own.
-use Rattle.std.specs.Prelude.{◌≡◌, ℕ, ◌+◌, ◌%◌, ◌<◌, ◌≤◌, ◌⊎◌, List, [], ◌∷◌, length, IfSome}
+use Rattle.std.specs.Prelude.{◌≡◌, ℕ, ◌%◌, ◌<◌, ◌≤◌, ◌⊎◌, List, [], ◌∷◌, length, IfSome}
 use Rattle.std.specs.List.{AllByRecursion}
 use Rattle.cache_policy.specs.declared.life.Limits.{Limits}
 use Rattle.cache_policy.specs.declared.mark.Mark.{Mark}
 use Rattle.cache_policy.specs.declared.history.History.{History}
 use Rattle.cache_policy.specs.Histories.{start_of, with_mark}
-use Rattle.cache_policy.specs.Policy.{Ruling, Reply, policy}
+use Rattle.cache_policy.specs.Policy.{Reply, policy}
 use Rattle.cache_policy.specs.Runs.{room, last_base, greatest_moment, IsRun, joined}
 
 -- each of the marks has the policy's reply after the marks before it, at its moment; none of them is Stand
@@ -20,7 +20,8 @@ NeverFall since [] = Unit {0}
 NeverFall since (mark ∷ later) =
     (since ≤ mark.moment) × (mark.moment ≤ greatest_moment) × NeverFall mark.moment later
 
--- the base is a multiple of the room of a history, and where it is the last there are no marks
+-- a legal history: each reply is the policy's, moments never fall, the base is some number of full histories and below the
+-- last base unless there is no mark, the marks have room, and a ticket that was out at the start is older than the base
 pub record IsLegal (limits : Limits) (history : History) : Type 0 where
   pub replies : FollowsPolicy limits (start_of history) history.marks
   pub moments : NeverFall 0 history.marks

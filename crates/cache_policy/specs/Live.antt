@@ -1,12 +1,11 @@
 -- Newest, gone, last use and live: which passphrase a request is given. A use starts the ttl again, and the greatest age
--- never starts again (the GnuPG manual, `default-cache-ttl` and `max-cache-ttl`). That a newer entry hides an older one for
--- good, and what clears what, is this project's own.
+-- never starts again (the GnuPG manual, `default-cache-ttl` and `max-cache-ttl`). That a newer entry hides an older one
+-- for good, and what clears what, is this project's own.
 use Rattle.std.specs.Prelude.{ℕ, ◌==◌, List, Bool, true, false, ◌&&◌, not, max, Option, Some, None, if◌then◌else◌, find, filter, fold, reverse}
 use Rattle.std.specs.Option.{option_and_then}
 use Rattle.std.specs.List.{list_any}
 use Rattle.cache_policy.specs.declared.mode.Mode.{Mode}
 use Rattle.cache_policy.specs.declared.life.Limits.{Limits}
-use Rattle.cache_policy.specs.declared.mark.Mark.{Mark}
 use Rattle.cache_policy.specs.declared.mark.MarkStep.{MarkStep}
 use Rattle.cache_policy.specs.declared.mark.MarkStep.TheVariants.{Clear, Flush}
 use Rattle.cache_policy.specs.declared.mark.MarkReply.{MarkReply}

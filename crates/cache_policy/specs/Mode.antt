@@ -1,5 +1,5 @@
--- Cache modes. The GnuPG manual speaks of keys, of ssh keys and of passphrases under a cache id; the modes as a list, and
--- what each covers, are this project's own.
+-- Cache modes. The GnuPG manual speaks of keys, of ssh keys and of passphrases under a cache id; the modes as a list,
+-- and what each covers, are this project's own.
 use Rattle.std.specs.Prelude.{Bool, true, false}
 use Rattle.cache_policy.specs.declared.mode.Mode.{Mode}
 use Rattle.cache_policy.specs.declared.mode.Mode.TheVariants.{Normal, User, Ssh, Nonce, Any}

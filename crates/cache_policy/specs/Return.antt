@@ -12,8 +12,8 @@ use Rattle.cache_policy.specs.Entry.{serves, within}
 use Rattle.cache_policy.specs.Entries.{entries}
 use Rattle.cache_policy.specs.Live.{gone, last_use}
 
--- the mark after this history is an ask, and the number that it was given is that of an entry which serves it, is the newest
--- that does, was not taken away and is within both lifetimes at the mark
+-- the mark after this history is an ask, and the number that it was given is that of an entry which serves it, is the
+-- newest that does, was not taken away, and is within both lifetimes at the mark
 pub record IsGivenRightly (limits : Limits) (before : History) (mark : Mark) (number : ℕ) : Type 0 where
   pub id : List ℕ
   pub mode : Mode

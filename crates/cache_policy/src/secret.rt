@@ -2,6 +2,7 @@ ghost use Rattle.std.specs.Prelude.{◌≡◌, ◌≤◌, ◌↔◌, length, rep
 ghost use Rattle.arrayvec.specs.ArrayVec.{array_vec_len};
 
 use arrayvec::ArrayVec;
+use std::hint;
 use std::marker::Model;
 
 /// A passphrase: at most 255 bytes, maybe none.
@@ -57,11 +58,12 @@ impl Drop for Secret {
 }
 
 /// Overwrites the bytes with zeros.
-// The toolchain has no volatile write, and its `black_box` is the identity. That the call is not inlined stands in for
-// them: what it writes can be seen from outside it, so the writes are made.
+// The toolchain has no volatile write, and its `black_box` is the identity. A call that is not inlined, and that has an
+// effect which the optimiser may not drop, stands in for them: so the call stays, and its writes with it.
 #[inline(never)]
 fn wipe(bytes: &mut ArrayVec<u8, 255>)
     ensures { bytes.new.items ≡ replicate (array_vec_len bytes.old) 0 }
 {
     bytes.as_mut_slice().fill(0);
+    hint::spin_loop();
 }

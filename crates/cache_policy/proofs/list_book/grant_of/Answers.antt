@@ -1,5 +1,5 @@
 -- A grant is made of the newest entry exactly where that is within both lifetimes.
-use Rattle.std.specs.Prelude.{◌≡◌, ℕ, List, Bool, true, false, ◌&&◌, ◌↔◌, Option, Some, None, IsSome, IfSome, refl, find, reverse, if◌then◌else◌}
+use Rattle.std.specs.Prelude.{◌≡◌, ℕ, List, Bool, true, false, ◌&&◌, ◌↔◌, Option, Some, None, IsSome, IfSome, refl, reverse, if◌then◌else◌}
 use Rattle.std.proofs.Common.{ap, sym, ◌∙◌, subst, rules}
 use Rattle.std.specs.Option.{option_map, option_and_then}
 use Rattle.cache_policy.specs.declared.mode.Mode.{Mode}
@@ -12,7 +12,8 @@ use Rattle.cache_policy.proofs.Lists.{find_passes}
 use Rattle.cache_policy.proofs.list_book.grant_of.Goals as goal
 
 -- what is granted on a condition is there where the condition holds
-granted : (r : Option Grant) (entry : Entry) (b : Bool) → (IsSome r ↔ (b ≡ true)) → IfSome r (λ (grant : Grant). grant.entry ≡ entry) →
+granted : (r : Option Grant) (entry : Entry) (b : Bool) → (IsSome r ↔ (b ≡ true)) →
+    IfSome r (λ (grant : Grant). grant.entry ≡ entry) →
     option_map (λ (grant : Grant). grant.entry) r ≡ (if b then Some entry else None)
 granted None entry true e h = let f : false ≡ true = e.1 refl in cc
 granted None entry false e h = refl
@@ -20,11 +21,14 @@ granted (Some grant) entry true e h = ap Some h
 granted (Some grant) entry false e h = let f : false ≡ true = e.0 refl in cc
 
 -- the newest entry serves the request
-newest_serves : (id : List ℕ) (mode : Mode) (list : List Entry) (entry : Entry) → newest_of id mode list ≡ Some entry → serves id mode entry ≡ true
+newest_serves : (id : List ℕ) (mode : Mode) (list : List Entry) (entry : Entry) →
+    newest_of id mode list ≡ Some entry → serves id mode entry ≡ true
 newest_serves id mode list entry e =
-    subst (λ (o : Option Entry). IfSome o (λ x. serves id mode x ≡ true)) e (find_passes (serves id mode) (reverse list))
+    subst (λ (o : Option Entry). IfSome o (λ x. serves id mode x
+    ≡ true)) e (find_passes (serves id mode) (reverse list))
 
-granted_is_found : (list : List Entry) (id id_copy : List ℕ) (mode : Mode) (moment : ℕ) (entry copy : Entry) (r : Option Grant) →
+granted_is_found : (list : List Entry) (id id_copy : List ℕ) (mode : Mode) (moment : ℕ) (entry copy : Entry)
+    (r : Option Grant) →
     newest_of id mode list ≡ Some entry → id_copy ≡ id → copy ≡ entry →
     (IsSome r ↔ ((serves id_copy mode copy && within copy entry.entered moment) ≡ true)) →
     IfSome r (λ (grant : Grant). grant.entry ≡ copy) →
@@ -32,10 +36,13 @@ granted_is_found : (list : List Entry) (id id_copy : List ℕ) (mode : Mode) (mo
 granted_is_found list id id_copy mode moment entry copy r e same_id same cause kept =
     granted r entry (serves id mode entry && within entry entry.entered moment)
     (subst (λ (x : Entry). IsSome r ↔ ((serves id mode x && within x entry.entered moment) ≡ true)) same
-    (subst (λ (i : List ℕ). IsSome r ↔ ((serves i mode copy && within copy entry.entered moment) ≡ true)) same_id cause))
+    (subst (λ (i : List ℕ). IsSome r ↔ ((serves i mode copy && within copy entry.entered moment)
+    ≡ true)) same_id cause))
     (subst (λ (x : Entry). IfSome r (λ (grant : Grant). grant.entry ≡ x)) same kept)
-    ∙ (ap (λ (b : Bool). if (b && within entry entry.entered moment) then Some entry else None) (newest_serves id mode list entry e)
-    ∙ ap (option_and_then (λ (entry : Entry). if within entry entry.entered moment then Some entry else None)) (sym e))
+    ∙ (ap (λ (b : Bool). if (b && within entry entry.entered moment) then Some entry else None)
+    (newest_serves id mode list entry e)
+    ∙ ap (option_and_then (λ (entry : Entry). if within entry entry.entered moment then Some entry else None))
+    (sym e))
 
 pub returns-clause-found : goal.returns-clause-found
 returns-clause-found c =

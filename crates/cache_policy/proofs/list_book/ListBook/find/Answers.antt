@@ -10,12 +10,14 @@ use Rattle.cache_policy.proofs.list_book.ListBook.find.Goals as goal
 
 pub returns-clause-puts_alone : goal.returns-clause-puts_alone
 returns-clause-puts_alone c = λ limits history h.
-    let e : option_map (λ (grant : Grant). grant.entry) c.grant_of.result ≡ found c.args.self.now.entries c.args.id.now c.args.mode c.args.moment = search rules in
+    let e : option_map (λ (grant : Grant). grant.entry) c.grant_of.result
+    ≡ found c.args.self.now.entries c.args.id.now c.args.mode c.args.moment = search rules in
     e ∙ found-puts_alone limits history c.args.self.now c.args.id.now c.args.mode c.args.moment h
 
 pub returns-clause-endless : goal.returns-clause-endless
 returns-clause-endless c = λ limits history h.
-    let e : option_map (λ (grant : Grant). grant.entry) c.grant_of.result ≡ found c.args.self.now.entries c.args.id.now c.args.mode c.args.moment = search rules in
+    let e : option_map (λ (grant : Grant). grant.entry) c.grant_of.result
+    ≡ found c.args.self.now.entries c.args.id.now c.args.mode c.args.moment = search rules in
     sym (option_map-map (λ (grant : Grant). grant.entry) (λ (entry : Entry). entry.secret) c.grant_of.result)
     ∙ (ap (option_map (λ (entry : Entry). entry.secret)) e
     ∙ found-endless limits history c.args.self.now c.args.id.now c.args.mode c.args.moment h)
