@@ -1,4 +1,5 @@
 pub mod Counts
+pub mod Given
 pub mod Readings
 pub mod Sides
 pub mod Told

@@ -1,1 +1,5 @@
+mod Cuts
+mod Plain
+mod Presets
 mod Serving
+mod Stepping

@@ -2,7 +2,10 @@
 #![tactic(auto)]
 
 mod answer;
+mod cache;
+mod request;
 mod session;
+mod step;
 mod top;
 mod words;
 

@@ -2,17 +2,24 @@ ghost use Rattle.std.specs.Prelude.{◌≡◌, ◌≢◌, ◌<◌, ◌≤◌, On
 ghost use Rattle.agent_ports.specs.Counts.{Rose};
 ghost use Rattle.agent_ports.specs.Sides.{WhereTold};
 ghost use Rattle.assuan_line.specs.Next.{OnLine, held, ended_by};
-ghost use Rattle.agent_top.specs.Session.{Takes, HasServed, HasAnswered, end_of};
+ghost use Rattle.cache_policy.specs.Lifetimes.{default_limits};
+ghost use Rattle.agent_top.specs.Cache.{Standing, IsKeptAs};
+ghost use Rattle.agent_top.specs.Requests.{IsRequest};
+ghost use Rattle.agent_top.specs.declared.request.Request.{Request as Asked};
+ghost use Rattle.agent_top.specs.Session.{Takes, HasServed, end_of};
+ghost use Rattle.agent_top.specs.Steps.{HasAnswered};
 
-use crate::answer::{Answer, WriteFault, write_answer};
-use agent_ports::Link;
+use crate::answer::{Answer, WriteFault, write_answer, write_given};
+use crate::cache::Cache;
+use crate::request::{Request, read_request};
+use crate::step;
+use crate::words::Rules;
+use agent_ports::{Clock, Link};
 use assuan_line::{Line, LineReader, Took};
 use std::alloc::Global;
 
 /// How many bytes a session may take.
 const BUDGET: u64 = 1 << 40;
-
-const BYE: &[u8] = b"BYE";
 
 /// How a session ended.
 #[derive(Clone, Copy, Debug, PartialEq, Eq)]
@@ -45,34 +52,49 @@ impl SessionEnd {
 
 /// Whether a session goes on after a line.
 #[derive(Clone, Copy, Debug, PartialEq, Eq)]
-enum Went {
+pub(crate) enum Went {
     On,
     Over,
 }
 
 /// Greets, and answers line after line until the session ends.
-pub(crate) fn serve<L: Link>(alloc: Global, link: &mut L) -> SessionEnd
-    ensures served { HasServed (L.input link.old) (L.output link.old) result (L.input link.new) (L.output link.new) }
+pub(crate) fn serve<L: Link, C: Clock>(
+    alloc: Global,
+    rules: &Rules,
+    link: &mut L,
+    clock: &mut C,
+) -> SessionEnd
+    ensures served { HasServed rules.now default_limits
+        (L.input link.old) (L.output link.old) (C.later clock.old) (C.readings clock.old) result
+        (L.input link.new) (L.output link.new) (C.later clock.new) (C.readings clock.new) }
     ensures read_fault { result ≡ SessionEnd.ReadFault → Rose (L.input link.old).faults (L.input link.new).faults }
     ensures write_fault { result ≡ SessionEnd.WriteFault → Rose (L.output link.old).faults (L.output link.new).faults }
 {
-    match serve_lines(alloc, link) {
+    match serve_lines(alloc, rules, link, clock) {
         Ok(end) => end,
         Err(WriteFault) => SessionEnd::WriteFault,
     }
 }
 
-fn serve_lines<L: Link>(alloc: Global, link: &mut L) -> Result<SessionEnd, WriteFault>
-    ensures served { HasServed (L.input link.old) (L.output link.old) (end_of result) (L.input link.new) (L.output link.new) }
+fn serve_lines<L: Link, C: Clock>(
+    alloc: Global,
+    rules: &Rules,
+    link: &mut L,
+    clock: &mut C,
+) -> Result<SessionEnd, WriteFault>
+    ensures served { HasServed rules.now default_limits
+        (L.input link.old) (L.output link.old) (C.later clock.old) (C.readings clock.old) (end_of result)
+        (L.input link.new) (L.output link.new) (C.later clock.new) (C.readings clock.new) }
     ensures read_fault { result ≡ Ok SessionEnd.ReadFault → Rose (L.input link.old).faults (L.input link.new).faults }
     ensures write_fault { OnErr result (Rose (L.output link.old).faults (L.output link.new).faults) }
     ensures others { result ≢ Ok SessionEnd.WriteFault }
 {
     write_answer(link, Answer::Greeting)?;
     let mut reader = LineReader::new(alloc, BUDGET);
+    let mut cache = Cache::new(alloc);
     loop {
         match next_line(&mut reader, link) {
-            Took::Line(line) => match answer_line(link, &line)? {
+            Took::Line(line) => match answer_line(rules, &mut cache, link, clock, &line)? {
                 Went::On => {}
                 Went::Over => return Ok(SessionEnd::Bye),
             },
@@ -101,15 +123,44 @@ fn next_line<L: Link>(reader: &mut LineReader, link: &mut L) -> Took
 }
 
 /// Answers one line.
-fn answer_line<L: Link>(link: &mut L, line: &Line) -> Result<Went, WriteFault>
-    ensures answered { HasAnswered line.now (L.output link.old) result (L.output link.new) }
+fn answer_line<L: Link, C: Clock>(
+    rules: &Rules,
+    cache: &mut Cache,
+    link: &mut L,
+    clock: &mut C,
+    line: &Line,
+) -> Result<Went, WriteFault>
+    ensures answered { (standing : Standing)
+        → IsKeptAs cache.old.limits standing cache.old.book cache.old.marks cache.old.latest
+        → (request : Asked) × IsRequest request line.now × HasAnswered rules.now cache.old.limits standing request
+        (C.later clock.old) (C.readings clock.old) (L.output link.old) result
+        (C.later clock.new) (C.readings clock.new) (L.output link.new)
+        cache.new.book cache.new.marks cache.new.latest }
+    ensures limits { cache.new.limits ≡ cache.old.limits }
+    ensures rose { OnErr result (Rose (L.output link.old).faults (L.output link.new).faults) }
     ensures faults { (L.output link.old).faults ≤ (L.output link.new).faults }
     ensures beside { L.input link.new ≡ L.input link.old }
 {
-    if line.bytes() == BYE {
-        write_answer(link, Answer::Closing)?;
-        return Ok(Went::Over);
+    match read_request(line) {
+        Request::Preset { id, secret } => {
+            let answer = step::preset(rules, cache, clock, id, secret);
+            write_answer(link, answer)?;
+            Ok(Went::On)
+        }
+        Request::Get { id } => {
+            match step::get(rules, cache, clock, id) {
+                Some(grant) => write_given(link, grant.secret())?,
+                None => write_answer(link, Answer::NoData)?,
+            }
+            Ok(Went::On)
+        }
+        Request::Bye => {
+            write_answer(link, Answer::Closing)?;
+            Ok(Went::Over)
+        }
+        Request::Unknown => {
+            write_answer(link, Answer::UnknownCommand)?;
+            Ok(Went::On)
+        }
     }
-    write_answer(link, Answer::UnknownCommand)?;
-    Ok(Went::On)
 }

@@ -1,2 +1,3 @@
 mod Answered
 mod Pieces
+pub mod Places

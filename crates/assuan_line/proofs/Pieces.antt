@@ -8,6 +8,7 @@ use Rattle.std.proofs.lemmas.List.{take_all, take-append-le, length-append}
 use Rattle.std.proofs.lemmas.List.Folds.{list_any-append}
 use Rattle.std.proofs.Math.Seq.{take-append_seam, take-append-add, drop-append-add}
 use Rattle.std.proofs.lemmas.Grind.{common_steps}
+use Rattle.assuan_line.proofs.Places.{place_after}
 use Rattle.assuan_line.specs.Lines.{is_lf, has_lf, without_cr, first_line, after_line}
 use Rattle.assuan_line.specs.Next.{next_of}
 use Rattle.assuan_line.specs.declared.reader.Took.{Took}
@@ -15,11 +16,7 @@ use Rattle.assuan_line.specs.declared.reader.Took.TheVariants.{Line, TooLong, En
 
 -- the first line feed comes right after the piece
 lf_place : (piece rest : List ℕ) → has_lf piece ≡ false → position_or_len is_lf (piece ++ 10 ∷ rest) ≡ length piece
-lf_place [] rest h = refl
-lf_place (c ∷ piece) rest h =
-    let parts = or_parts (is_lf c) (has_lf piece) h in
-    let place = lf_place piece rest parts.1 in
-    ap (λ b. cond (not b) (1 + prefix_len (λ x. not (is_lf x)) (piece ++ 10 ∷ rest)) 0) parts.0 ∙ omega (arith, place)
+lf_place piece rest whole = place_after is_lf piece 10 rest whole refl
 
 or_true : (b : Bool) → (b || true) ≡ true
 or_true true = refl

@@ -1,0 +1,128 @@
+ghost use Rattle.std.specs.Prelude.{◌≡◌, ◌≤◌, ◌+◌, ◌<◌, ◌^◌, true, IfSome, OnOk, OnErr};
+ghost use Rattle.std.specs.List.{list_all};
+ghost use Rattle.agent_top.specs.Requests.{is_passphrase};
+
+use cache_policy::{CacheId, Grant, Life, Limits, ListBook, Mode, NoMemory, Secret};
+use std::alloc::Global;
+
+/// How many marks one history has room for.
+const ROOM: u64 = 131_072;
+
+/// The moment to which readings are cut.
+const GREATEST: u64 = 1 << 62;
+
+/// The passphrases of a session, since its cache was last empty.
+#[derive(Drop)]
+pub(crate) struct Cache {
+    pub(crate) alloc: Global,
+    pub(crate) limits: Limits,
+    pub(crate) book: ListBook,
+    /// How many marks its history has.
+    pub(crate) marks: u64,
+    /// The moment of the last mark of all.
+    pub(crate) latest: u64,
+    ghost few: { marks ≤ 131072 },
+    ghost in_order: { book.latest ≤ latest },
+    ghost in_range: { latest ≤ 2 ^ 62 },
+    // Each passphrase can be written as it stands.
+    ghost plain: { list_all (λ entry. is_passphrase entry.secret) book.entries ≡ true },
+}
+
+impl Cache {
+    ghost use Rattle.std.specs.Option.{option_map};
+    ghost use Rattle.cache_policy.specs.declared.mode.Mode.TheVariants.{User};
+    ghost use Rattle.cache_policy.specs.declared.mark.MarkReply.{MarkReply};
+    ghost use Rattle.cache_policy.specs.Lifetimes.{default_limits};
+    ghost use Rattle.cache_policy.specs.Live.{live};
+    ghost use Rattle.cache_policy.specs.Runs.{next_history};
+    ghost use Rattle.agent_top.specs.Cache.{Standing, at_start, moment_at, preset, asked, IsKeptAs};
+
+    /// An empty cache.
+    pub(crate) fn new(alloc: Global) -> Cache
+        ensures limits { result.limits ≡ default_limits }
+        ensures start { IsKeptAs default_limits at_start result.book result.marks result.latest }
+    {
+        Cache {
+            alloc,
+            limits: Limits::default(),
+            book: ListBook::new(alloc),
+            marks: 0,
+            latest: 0,
+        }
+    }
+
+    /// Stores a passphrase without a ttl. Where there is no memory for it, the book stays as it is.
+    pub(crate) fn preset(
+        &mut self,
+        reading: u64,
+        id: CacheId,
+        secret: Secret,
+    ) -> Result<(), NoMemory>
+        requires { is_passphrase secret ≡ true }
+        ensures ok { OnOk result ((standing : Standing)
+            → IsKeptAs self.old.limits standing self.old.book self.old.marks self.old.latest
+            → IsKeptAs self.old.limits (preset standing id secret reading) self.new.book self.new.marks self.new.latest) }
+        ensures err { OnErr result ((self.new.book ≡ self.old.book) × (self.new.marks ≡ self.old.marks)
+            × (self.new.latest ≡ self.old.latest)) }
+        ensures limits { self.new.limits ≡ self.old.limits }
+    {
+        let moment = self.moment(reading);
+        if self.marks < ROOM {
+            self.book
+                .put(moment, id, Mode::Any, Life::Endless, secret, &self.limits)?;
+            self.marks += 1;
+        } else {
+            let mut book = ListBook::new(self.alloc);
+            book.put(moment, id, Mode::Any, Life::Endless, secret, &self.limits)?;
+            self.book = book;
+            self.marks = 1;
+        }
+        self.latest = moment;
+        Ok(())
+    }
+
+    /// The passphrase that is live for the id, if one is. The question is a mark.
+    pub(crate) fn get(&mut self, reading: u64, id: &CacheId) -> Option<Grant>
+        ensures live { (standing : Standing)
+            → IsKeptAs self.old.limits standing self.old.book self.old.marks self.old.latest
+            → option_map (λ grant. grant.entry.secret) result ≡ option_map (λ entry. entry.secret)
+            (live self.old.limits (next_history standing.history) id.now User (moment_at standing.latest reading)) }
+        ensures stands { (standing : Standing) (reply : MarkReply)
+            → IsKeptAs self.old.limits standing self.old.book self.old.marks self.old.latest
+            → IsKeptAs self.old.limits (asked standing id.now reply reading) self.new.book self.new.marks self.new.latest }
+        ensures plain { IfSome result (λ grant. is_passphrase grant.entry.secret ≡ true) }
+        ensures limits { self.new.limits ≡ self.old.limits }
+    {
+        let moment = self.moment(reading);
+        self.turn_over();
+        self.marks += 1;
+        self.latest = moment;
+        self.book.find(moment, id, Mode::User)
+    }
+
+    /// Where the history is full, begins the next one with an empty book.
+    fn turn_over(&mut self)
+        ensures stands { (standing : Standing)
+            → IsKeptAs self.old.limits standing self.old.book self.old.marks self.old.latest
+            → IsKeptAs self.old.limits (record standing { history = next_history standing.history })
+            self.new.book self.new.marks self.new.latest }
+        ensures room { self.new.marks < 131072 }
+        ensures in_order { self.new.book.latest ≤ self.old.latest }
+        ensures latest { self.new.latest ≡ self.old.latest }
+        ensures limits { self.new.limits ≡ self.old.limits }
+    {
+        if self.marks == ROOM {
+            self.book = ListBook::new(self.alloc);
+            self.marks = 0;
+        }
+    }
+
+    /// The moment of the next mark.
+    fn moment(&self, reading: u64) -> u64
+        ensures moment { result ≡ moment_at self.now.latest reading }
+        ensures in_order { self.now.book.latest ≤ result }
+        ensures in_range { result ≤ 2 ^ 62 }
+    {
+        reading.min(GREATEST).max(self.latest)
+    }
+}
