@@ -1,0 +1,221 @@
+-- Where reading stands: the open lists, and the text up to there.
+use Rattle.std.proofs.Common.{◌≡◌, ℕ, ◌+◌, ◌<◌, ◌≤◌, max, true, false, eqb, List, [], ◌∷◌, ◌++◌, length, get_or, take, drop, Some, refl, sym, ap, subst, ◌∙◌, inl, inr, append_assoc, arith, length-append, length-drop}
+use Rattle.std.specs.Global.{Vec}
+use Rattle.std.specs.Vec.{vec_len}
+use Rattle.std.specs.List.{flat_map}
+use Rattle.std.proofs.lemmas.List.{map-append, append-nil, drop_all, length-map, nil_from_length}
+use Rattle.std.proofs.lemmas.List.Concat.{flat_map-cons}
+use Rattle.std.proofs.lemmas.Grind.{flat_map-append}
+use Rattle.std.proofs.lemmas.Bool.{eq-eqb, ne_eqb}
+use Rattle.std.proofs.Math.Seq.{take-append_seam}
+use Rattle.std.specs.Char.{is_ascii_digit}
+use Rattle.sexp_canonical.specs.Tree.{Tree, row, list_of}
+use Rattle.sexp_canonical.specs.View.{tree_of, trees}
+use Rattle.sexp_canonical.specs.Spelling.{most_depth, spelling, spelling_of, depth, depths}
+use Rattle.sexp_canonical.specs.Reading.{OpenLists, opening, open_depth, item_fault, IsLengthFault, IsFirstFault}
+use Rattle.sexp_canonical.specs.Steps.{HasAtom, HasExpression, lists_of, AddsItem}
+use Rattle.sexp_canonical.specs.declared.tree.Sexp.{Sexp}
+use Rattle.sexp_canonical.specs.declared.tree.Sexp.TheVariants.{List as Listed}
+use Rattle.sexp_canonical.specs.declared.fault.SexpFault.{SexpFault}
+use Rattle.sexp_canonical.specs.declared.fault.SexpFault.TheVariants.{BadByte, Deep, Short}
+use Rattle.sexp_canonical.proofs.Trees.{spellings-row}
+use Rattle.sexp_canonical.proofs.Steps.{drop_at_place}
+
+-- ---- what lists are open
+
+pub adds_item : (old new outer : List (Vec Sexp)) (items more : Vec Sexp) (tree : Sexp) → old ≡ outer ++ items ∷ [] → new ≡ outer ++ more ∷ [] → more.items ≡ items.items ++ tree ∷ [] → AddsItem old new tree
+adds_item old new outer items more tree old-is new-is more-is = record {
+  outer = lists_of outer;
+  items = trees items.items;
+  before = ap lists_of old-is ∙ map-append (λ (v : Vec Sexp). trees v.items) outer (items ∷ []);
+  after = ap lists_of new-is ∙ map-append (λ (v : Vec Sexp). trees v.items) outer (more ∷ [])
+      ∙ ap (λ (ts : List Tree). lists_of outer ++ ts ∷ []) (ap trees more-is ∙ map-append tree_of items.items (tree ∷ []));
+}
+
+opening-append : (xs ys : OpenLists) → opening (xs ++ ys) ≡ opening xs ++ opening ys
+opening-append [] ys = refl
+opening-append (items ∷ xs) ys =
+    ap (λ (s : List ℕ). 40 ∷ (flat_map spelling items ++ s)) (opening-append xs ys) ∙ ap (λ (s : List ℕ). 40 ∷ s) (sym (append_assoc (flat_map spelling items) (opening xs) (opening ys)))
+
+opening-last : (outer : OpenLists) (items : List Tree) → opening (outer ++ items ∷ []) ≡ opening outer ++ 40 ∷ flat_map spelling items
+opening-last outer items = opening-append outer (items ∷ []) ∙ ap (λ (s : List ℕ). opening outer ++ 40 ∷ s) (append-nil (flat_map spelling items))
+
+flat_map-last : (items : List Tree) (t : Tree) → flat_map spelling (items ++ t ∷ []) ≡ flat_map spelling items ++ spelling t
+flat_map-last items t = flat_map-append spelling items (t ∷ []) ∙ ap (λ (s : List ℕ). flat_map spelling items ++ s) (flat_map-cons spelling t [] ∙ append-nil (spelling t))
+
+opening-more : (outer : OpenLists) (items : List Tree) (t : Tree) → opening (outer ++ (items ++ t ∷ []) ∷ []) ≡ opening (outer ++ items ∷ []) ++ spelling t
+opening-more outer items t =
+    opening-last outer (items ++ t ∷ []) ∙ ap (λ (s : List ℕ). opening outer ++ 40 ∷ s) (flat_map-last items t)
+    ∙ sym (append_assoc (opening outer) (40 ∷ flat_map spelling items) (spelling t)) ∙ ap (λ (s : List ℕ). s ++ spelling t) (sym (opening-last outer items))
+
+-- ---- how deep they are
+
+depths-last : (items : List Tree) (t : Tree) → depths (row (items ++ t ∷ [])) ≡ max (depths (row items)) (depth t)
+depths-last [] t = omega arith
+depths-last (i ∷ items) t = omega (arith, depths-last items t)
+
+deeper-more : (outer : OpenLists) (items : List Tree) (t : Tree) → open_depth (outer ++ (items ++ t ∷ []) ∷ []) ≤ max (open_depth (outer ++ items ∷ [])) (length outer + 1 + depth t)
+deeper-more [] items t = omega (arith, depths-last items t)
+deeper-more (o ∷ outer) items t = omega (arith, deeper-more outer items t)
+
+deeper-new : (lists : OpenLists) → open_depth (lists ++ [] ∷ []) ≤ max (open_depth lists) (length lists + 1)
+deeper-new [] = omega arith
+deeper-new (o ∷ lists) = omega (arith, deeper-new lists)
+
+deeper-outer : (outer : OpenLists) (items : List Tree) → open_depth outer ≤ open_depth (outer ++ items ∷ [])
+deeper-outer [] items = omega arith
+deeper-outer (o ∷ outer) items = omega (arith, deeper-outer outer items)
+
+deeper-last : (outer : OpenLists) (items : List Tree) → length outer + 1 + depths (row items) ≤ open_depth (outer ++ items ∷ [])
+deeper-last [] items = omega arith
+deeper-last (o ∷ outer) items = omega (arith, deeper-last outer items)
+
+length-le-open_depth : (lists : OpenLists) → length lists ≤ open_depth lists
+length-le-open_depth [] = omega arith
+length-le-open_depth (o ∷ lists) = omega (arith, length-le-open_depth lists)
+
+-- ---- places
+
+-- up to the place stand the open lists with their items
+pub record IsOpenAt (text : List ℕ) (place : ℕ) (lists : OpenLists) : Type 0 where
+  pub within : place ≤ length text
+  pub shallow : open_depth lists ≤ most_depth
+  pub parts : text ≡ opening lists ++ drop place text
+
+-- up to the end stand the open lists, and this tree behind them
+pub record IsFinished (text : List ℕ) (end : ℕ) (lists : OpenLists) (tree : Tree) : Type 0 where
+  pub within : end ≤ length text
+  pub shallow : open_depth lists ≤ most_depth
+  pub fits : length lists + depth tree ≤ most_depth
+  pub parts : text ≡ opening lists ++ (spelling tree ++ drop end text)
+
+pub at_front : (text : List ℕ) → IsOpenAt text 0 []
+at_front text = record { within = omega arith; shallow = omega arith; parts = refl }
+
+place_is : (text : List ℕ) (place : ℕ) (lists : OpenLists) → IsOpenAt text place lists → length (opening lists) ≡ place
+place_is text place lists at = let w = at.within in omega (arith, ap length at.parts, length-append (opening lists) (drop place text), length-drop place text)
+
+pub list_opened : (text : List ℕ) (place : ℕ) (lists : OpenLists) → IsOpenAt text place lists → place < length text → get_or text place 0 ≡ 40 → length lists < most_depth → IsOpenAt text (place + 1) (lists ++ [] ∷ [])
+list_opened text place lists at within byte room = record {
+  within = omega arith;
+  shallow = let s = at.shallow in omega (arith, deeper-new lists);
+  parts = at.parts ∙ ap (λ (s : List ℕ). opening lists ++ s) (drop_at_place text place within ∙ ap (λ (b : ℕ). b ∷ drop (place + 1) text) byte)
+      ∙ sym (append_assoc (opening lists) (40 ∷ []) (drop (place + 1) text)) ∙ ap (λ (s : List ℕ). s ++ drop (place + 1) text) (sym (opening-last lists []));
+}
+
+pub room_left : (text : List ℕ) (place : ℕ) (lists : OpenLists) → IsOpenAt text place lists → (length lists ≡ most_depth → ⊥) → length lists < most_depth
+room_left text place lists at other = let s = at.shallow in omega (arith, length-le-open_depth lists)
+
+pub atom_finished : (text : List ℕ) (place end : ℕ) (lists : OpenLists) (tree : Sexp) → IsOpenAt text place lists → HasAtom text place (tree, end) → IsFinished text end lists (tree_of tree)
+atom_finished text place end lists tree at read = record {
+  within = read.within;
+  shallow = at.shallow;
+  fits = let s = at.shallow in omega (arith, length-le-open_depth lists, read.flat);
+  parts = at.parts ∙ ap (λ (s : List ℕ). opening lists ++ s) read.parts;
+}
+
+spelled_list : (items : List Tree) → spelling (list_of items) ≡ 40 ∷ (flat_map spelling items ++ 41 ∷ [])
+spelled_list items = ap (λ (s : List ℕ). 40 ∷ (s ++ 41 ∷ [])) (spellings-row items)
+
+pub list_finished : (text : List ℕ) (place : ℕ) (outer : OpenLists) (items : List Tree) → IsOpenAt text place (outer ++ items ∷ []) → place < length text → get_or text place 0 ≡ 41 → IsFinished text (place + 1) outer (list_of items)
+list_finished text place outer items at within byte =
+    let rest = drop (place + 1) text in
+    let inside : 40 ∷ flat_map spelling items ++ 41 ∷ rest ≡ spelling (list_of items) ++ rest =
+    sym (append_assoc (40 ∷ flat_map spelling items) (41 ∷ []) rest) ∙ ap (λ (s : List ℕ). s ++ rest) (sym (spelled_list items)) in
+    record {
+      within = omega arith;
+      shallow = let s = at.shallow in omega (arith, deeper-outer outer items);
+      fits = let s = at.shallow in omega (arith, deeper-last outer items);
+      parts = at.parts ∙ ap (λ (s : List ℕ). opening (outer ++ items ∷ []) ++ s) (drop_at_place text place within ∙ ap (λ (b : ℕ). b ∷ rest) byte)
+          ∙ ap (λ (s : List ℕ). s ++ 41 ∷ rest) (opening-last outer items) ∙ append_assoc (opening outer) (40 ∷ flat_map spelling items) (41 ∷ rest)
+          ∙ ap (λ (s : List ℕ). opening outer ++ s) inside;
+    }
+
+pub item_added : (text : List ℕ) (end : ℕ) (old new : List (Vec Sexp)) (tree : Sexp) → IsFinished text end (lists_of old) (tree_of tree) → AddsItem old new tree → IsOpenAt text end (lists_of new)
+item_added text end old new tree done adds =
+    let outer-len : length (lists_of old) ≡ length adds.outer + 1 = ap length adds.before ∙ length-append adds.outer (adds.items ∷ []) in
+    let old-depth : open_depth (lists_of old) ≡ open_depth (adds.outer ++ adds.items ∷ []) = ap open_depth adds.before in
+    let new-depth : open_depth (lists_of new) ≡ open_depth (adds.outer ++ (adds.items ++ tree_of tree ∷ []) ∷ []) = ap open_depth adds.after in
+    let f = done.fits in
+    let s = done.shallow in
+    let written : opening (lists_of new) ≡ opening (lists_of old) ++ spelling_of tree =
+    ap opening adds.after ∙ opening-more adds.outer adds.items (tree_of tree) ∙ ap (λ (ls : OpenLists). opening ls ++ spelling_of tree) (sym adds.before) in
+    record {
+      within = done.within;
+      shallow = omega (arith, deeper-more adds.outer adds.items (tree_of tree));
+      parts = done.parts ∙ sym (append_assoc (opening (lists_of old)) (spelling_of tree) (drop end text)) ∙ ap (λ (s : List ℕ). s ++ drop end text) (sym written);
+    }
+
+pub whole_read : (text : List ℕ) (end : ℕ) (old : List (Vec Sexp)) (tree whole : Sexp) → IsFinished text end (lists_of old) (tree_of tree) → (old ≡ []) × (whole ≡ tree) → HasExpression text (whole, end)
+whole_read text end old tree whole done alone =
+    let none : lists_of old ≡ [] = ap lists_of alone.0 in
+    let parts : text ≡ spelling_of tree ++ drop end text = done.parts ∙ ap (λ (ls : OpenLists). opening ls ++ (spelling_of tree ++ drop end text)) none in
+    let w = done.within in
+    let len : length (spelling_of tree) ≡ end = omega (arith, ap length parts, length-append (spelling_of tree) (drop end text), length-drop end text) in
+    let f = done.fits in
+    record {
+      within = done.within;
+      shallow = omega (arith, ap (λ t. depth (tree_of t)) alone.1);
+      spelled = ap (take end) parts ∙ ap (λ (n : ℕ). take n (spelling_of tree ++ drop end text)) (sym len) ∙ take-append_seam (spelling_of tree) (drop end text) ∙ ap spelling_of (sym alone.1);
+    }
+
+-- ---- faults
+
+fault_at : (text : List ℕ) (place : ℕ) (lists : OpenLists) (fault : SexpFault) → IsOpenAt text place lists → item_fault place (length lists) (drop place text) ≡ Some fault → IsFirstFault text fault
+fault_at text place lists fault at e = record {
+  lists = lists;
+  shallow = at.shallow;
+  bytes = drop place text;
+  parts = at.parts;
+  at = inl (ap (λ (n : ℕ). item_fault n (length lists) (drop place text)) (place_is text place lists at) ∙ e);
+}
+
+pub length_fault_at : (text : List ℕ) (place : ℕ) (lists : OpenLists) (fault : SexpFault) → IsOpenAt text place lists → IsLengthFault place (drop place text) fault → IsFirstFault text fault
+length_fault_at text place lists fault at length-fault = record {
+  lists = lists;
+  shallow = at.shallow;
+  bytes = drop place text;
+  parts = at.parts;
+  at = inr (subst (λ (n : ℕ). IsLengthFault n (drop place text) fault) (sym (place_is text place lists at)) length-fault);
+}
+
+pub short_at : (text : List ℕ) (place : ℕ) (lists : OpenLists) → IsOpenAt text place lists → length text ≤ place → IsFirstFault text Short
+unfolding item_fault
+short_at text place lists at past = fault_at text place lists Short at (rw (drop_all place text past) refl)
+
+pub deep_at : (text : List ℕ) (place : ℕ) (lists : OpenLists) → IsOpenAt text place lists → place < length text → get_or text place 0 ≡ 40 → length lists ≡ most_depth → IsFirstFault text (Deep place)
+unfolding item_fault
+deep_at text place lists at within byte full =
+    let test : eqb (length lists) most_depth ≡ true = eq-eqb (length lists) most_depth full in
+    fault_at text place lists (Deep place) at (rw (drop_at_place text place within, byte, test) refl)
+
+pub bad_end_at : (text : List ℕ) (place : ℕ) (lists : OpenLists) → IsOpenAt text place lists → place < length text → get_or text place 0 ≡ 41 → lists ≡ [] → IsFirstFault text (BadByte place)
+unfolding item_fault
+bad_end_at text place lists at within byte none =
+    let count : length lists ≡ 0 = ap length none in
+    fault_at text place lists (BadByte place) at (rw (drop_at_place text place within, byte, count) refl)
+
+pub bad_byte_at : (text : List ℕ) (place : ℕ) (lists : OpenLists) → IsOpenAt text place lists → place < length text → is_ascii_digit (get_or text place 0) ≡ false → (get_or text place 0 ≡ 40 → ⊥) → (get_or text place 0 ≡ 41 → ⊥) → IsFirstFault text (BadByte place)
+unfolding item_fault
+bad_byte_at text place lists at within other no_open no_close =
+    let first : eqb (get_or text place 0) 40 ≡ false = ne_eqb (get_or text place 0) 40 no_open in
+    let second : eqb (get_or text place 0) 41 ≡ false = ne_eqb (get_or text place 0) 41 no_close in
+    fault_at text place lists (BadByte place) at (rw (drop_at_place text place within, other, first, second) refl)
+
+-- ---- the steps of the loop
+
+pub new_list : (old new : List (Vec Sexp)) (empty : Vec Sexp) → new ≡ old ++ empty ∷ [] → empty.items ≡ [] → lists_of new ≡ lists_of old ++ [] ∷ []
+new_list old new empty new-is empty-is = ap lists_of new-is ∙ map-append (λ (v : Vec Sexp). trees v.items) old (empty ∷ []) ∙ ap (λ (items : List Sexp). lists_of old ++ trees items ∷ []) empty-is
+
+pub list_closed : (text : List ℕ) (place : ℕ) (old outer : List (Vec Sexp)) (items : Vec Sexp) (tree : Sexp) → IsOpenAt text place (lists_of old) → place < length text → get_or text place 0 ≡ 41
+    → old ≡ outer ++ items ∷ [] → tree ≡ Listed (trees items.items) → IsFinished text (place + 1) (lists_of outer) (tree_of tree)
+list_closed text place old outer items tree at within byte old-is tree-is =
+    let lists : lists_of old ≡ lists_of outer ++ trees items.items ∷ [] = ap lists_of old-is ∙ map-append (λ (v : Vec Sexp). trees v.items) outer (items ∷ []) in
+    subst (IsFinished text (place + 1) (lists_of outer)) (sym (ap tree_of tree-is))
+    (list_finished text place (lists_of outer) (trees items.items) (subst (IsOpenAt text place) lists at) within byte)
+
+pub lists_len : (v : Vec (Vec Sexp)) → length (lists_of v.items) ≡ vec_len v
+lists_len v = let h = v.ok in omega (arith, length-map v.items (λ (w : Vec Sexp). trees w.items))
+
+pub none_open : (v : Vec (Vec Sexp)) → vec_len v ≡ 0 → lists_of v.items ≡ []
+none_open v h = let o = v.ok in ap lists_of (nil_from_length v.items (omega arith))

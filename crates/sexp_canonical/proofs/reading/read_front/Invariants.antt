@@ -1,0 +1,10 @@
+use Rattle.std.proofs.Common.{length, ◌-◌}
+use Rattle.sexp_canonical.specs.Steps.{lists_of}
+use Rattle.sexp_canonical.proofs.Open.{IsOpenAt}
+use Rattle.sexp_canonical.proofs.reading.read_front.Given as goal
+
+abbrev pub invariant-loop-place : goal.invariant-loop-place
+invariant-loop-place l = IsOpenAt l.text l.place (lists_of l.lists.items)
+
+abbrev pub decreases-loop-place : goal.decreases-loop-place
+decreases-loop-place l = length l.text - l.place

@@ -1,0 +1,9 @@
+pub mod Tree
+pub mod TreeCode
+pub mod Dropping
+pub mod View
+pub mod ViewFalls
+pub mod Spelling
+pub mod Reading
+pub mod Steps
+pub mod Writing

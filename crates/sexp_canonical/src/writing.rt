@@ -1,0 +1,78 @@
+ghost use Rattle.std.specs.Prelude.{◌≡◌, ◌+◌, ◌*◌, ◌<◌, ◌≤◌, [], ◌∷◌, ◌++◌, IfOk, OnOk};
+ghost use Rattle.std.specs.List.{flat_map};
+ghost use Rattle.sexp_canonical.specs.Tree.{leaf, node_count};
+ghost use Rattle.sexp_canonical.specs.View.{tree_of, trees};
+ghost use Rattle.sexp_canonical.specs.Spelling.{right_paren, spelling, spelling_of};
+ghost use Rattle.sexp_canonical.specs.Writing.{rest_of, steps_of, begun_lists};
+
+use crate::tree::Sexp;
+use itoa::Buffer;
+use std::alloc::{AllocError, Global};
+
+/// The canonical form of an expression of any depth and size. The depth takes memory, and no stack.
+pub fn write(alloc: Global, tree: &Sexp) -> Result<Vec<u8>, AllocError>
+    ensures { IfOk result (λ text. text.items ≡ spelling_of tree.now) }
+{
+    let mut text = Vec::new(alloc);
+    // What is left of each list that is begun, the innermost last.
+    let mut begun: Vec<&[Sexp]> = Vec::new(alloc);
+    begin(&mut text, &mut begun, tree)?;
+    while let Some(items) = begun.pop() {
+        go_on(&mut text, &mut begun, items)?;
+    }
+    Ok(text)
+}
+
+// Writes the next item of a list, or the end of the list where none is left.
+fn go_on<'a>(
+    text: &mut Vec<u8>,
+    begun: &mut Vec<&'a [Sexp]>,
+    items: &'a [Sexp],
+) -> Result<(), AllocError>
+    ensures written { OnOk result (text.new.items ++ rest_of (begun_lists begun.new.items)
+        ≡ text.old.items ++ (flat_map spelling (trees items.now) ++ right_paren ∷ rest_of (begun_lists begun.old.items))) }
+    ensures steps { OnOk result (steps_of (begun_lists begun.new.items)
+        ≤ steps_of (begun_lists begun.old.items) + 2 * node_count (trees items.now)) }
+{
+    let Some((item, others)) = items.split_first() else {
+        text.push(b')')?;
+        return Ok(());
+    };
+    begun.push(others)?;
+    begin(text, begun, item)?;
+    Ok(())
+}
+
+// Writes an atom, or the beginning of a list, whose items are then left to be written.
+fn begin<'a>(
+    text: &mut Vec<u8>,
+    begun: &mut Vec<&'a [Sexp]>,
+    tree: &'a Sexp,
+) -> Result<(), AllocError>
+    ensures written { OnOk result (text.new.items ++ rest_of (begun_lists begun.new.items)
+        ≡ text.old.items ++ (spelling_of tree.now ++ rest_of (begun_lists begun.old.items))) }
+    ensures steps { OnOk result (steps_of (begun_lists begun.new.items)
+        < steps_of (begun_lists begun.old.items) + 2 * node_count (tree_of tree.now ∷ [])) }
+{
+    match tree {
+        Sexp::Atom(bytes) => {
+            put_atom(text, bytes.as_slice())?;
+            Ok(())
+        }
+        Sexp::List(items) => {
+            text.push(b'(')?;
+            begun.push(items.as_slice())?;
+            Ok(())
+        }
+    }
+}
+
+fn put_atom(text: &mut Vec<u8>, bytes: &[u8]) -> Result<(), AllocError>
+    ensures { OnOk result (text.new.items ≡ text.old.items ++ spelling (leaf bytes.now)) }
+{
+    let mut buffer = Buffer::new();
+    text.extend_from_slice(buffer.format(bytes.len()).as_bytes())?;
+    text.push(b':')?;
+    text.extend_from_slice(bytes)?;
+    Ok(())
+}
