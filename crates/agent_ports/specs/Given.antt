@@ -1,5 +1,5 @@
 -- Readings of a clock, from one call to many.
-use Rattle.std.specs.Prelude.{◌≡◌, ℕ, ◌+◌, ◌-◌, ◌<◌, ◌≤◌, List, [], ◌∷◌, ◌++◌, length, slice_index, Option, IfSome}
+use Rattle.std.specs.Prelude.{◌≡◌, ℕ, ◌+◌, ◌-◌, List, [], ◌∷◌, ◌++◌, length, slice_index, Option, IfSome}
 use Rattle.std.proofs.Common.{ap, sym, ◌∙◌, subst, arith, length-append, inl, inr}
 use Rattle.std.proofs.Math.Seq.{get_or-append_right}
 use Rattle.std.proofs.lemmas.List.{get_or_append_left}
@@ -19,8 +19,8 @@ given_none later count = record {
 pub given_one : (later later_now : ℕ → Option ℕ) (count count_now reading : ℕ) → Rose count count_now → IfSome (later 0) (λ told. reading ≡ told) → ((k : ℕ) → later_now k ≡ later (k + 1)) → HasGiven later count (reading ∷ []) later_now count_now
 given_one later later_now count count_now reading rose told rest = record {
   told = λ k h.
-    let first : 0 ≡ k = omega arith in
-    subst (λ (j : ℕ). IfSome (later j) (λ told. slice_index (reading ∷ []) j ≡ told)) first told;
+      let first : 0 ≡ k = omega arith in
+      subst (λ (j : ℕ). IfSome (later j) (λ told. slice_index (reading ∷ []) j ≡ told)) first told;
   rest = λ k. rest k ∙ ap later (omega arith);
   counted = rose;
 }
@@ -36,7 +36,7 @@ given_then later mid now count count_mid count_now first second before after = r
         subst (λ (o : Option ℕ). IfSome o (λ reading. slice_index (first ++ second) k ≡ reading))
         (before.rest (k - length first) ∙ ap later place)
         (subst (λ (x : ℕ). IfSome (mid (k - length first)) (λ reading. x ≡ reading)) (sym same)
-          (after.told (k - length first) (omega (arith, length-append first second))))
+        (after.told (k - length first) (omega (arith, length-append first second))))
   ];
   rest = λ k. after.rest k ∙ before.rest (length second + k) ∙ ap later (omega (arith, length-append first second));
   counted = omega (arith, before.counted, after.counted, length-append first second);

@@ -1,5 +1,5 @@
 -- One side of a link, and what the calls on it do to its bytes.
-use Rattle.std.specs.Prelude.{ℕ, List, [], ◌++◌, take, Option, Some, None, ⊤}
+use Rattle.std.specs.Prelude.{ℕ, List, ◌++◌, take, Option, Some, None, ⊤}
 use Rattle.std.specs.Option.{option_map}
 use Rattle.agent_ports.specs.declared.link.Got.{Got}
 use Rattle.agent_ports.specs.declared.link.Got.TheVariants.{Bytes, End, Failed}

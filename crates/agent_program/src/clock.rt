@@ -42,3 +42,18 @@ impl<R: rt::Clock> Clock for SystemClock<'_, R> {
 }
 
 impl<R: rt::Clock> Host for SystemClock<'_, R> {}
+
+#[cfg(test)]
+mod tests {
+    use super::*;
+
+    #[test]
+    fn the_clock_gives_seconds_since_1970(rt: HostRuntime) {
+        let mut clock = SystemClock::new(&rt);
+        let first = clock.now();
+        // From September 2001 to the year 2286, as the number of digits says.
+        assert!(rt; first >= 1_000_000_000 && first < 10_000_000_000);
+        let second = clock.now();
+        assert!(rt; second >= first && second - first < 60);
+    }
+}

@@ -1,5 +1,5 @@
 -- A line that presets a passphrase, taken apart.
-use Rattle.std.proofs.Common.{◌≡◌, ◌≢◌, ◌+◌, ◌<◌, ◌≤◌, ℕ, Bool, true, false, ◌&&◌, ◌||◌, List, [], ◌∷◌, ◌++◌, length, take, drop, get_or, slice_index, Result, Ok, codes, refl, ap, sym, ◌∙◌, subst, arith, append_assoc}
+use Rattle.std.proofs.Common.{◌≡◌, ◌+◌, ◌<◌, ◌≤◌, ℕ, true, false, List, [], ◌∷◌, ◌++◌, length, take, drop, get_or, slice_index, Ok, codes, refl, ap, sym, ◌∙◌, subst, arith, append_assoc}
 use Rattle.std.specs.List.{list_all, list_any, position_or_len, before_first, after_first}
 use Rattle.std.proofs.lemmas.Bool.{and_parts, or_from, ne_eqb, leb-true, eqb-true}
 use Rattle.std.proofs.lemmas.List.{append_cancel_left, length-append}
@@ -7,7 +7,7 @@ use Rattle.std.proofs.lemmas.List.Sums.{split_at_first, passes_at_first}
 use Rattle.std.proofs.Math.Seq.{take-append_seam, drop-append-add}
 use Rattle.hex.specs.Hex.{decode_of}
 use Rattle.assuan_line.proofs.Places.{place_after}
-use Rattle.agent_top.specs.Requests.{is_blank, is_visible, is_id, is_passphrase, IsGet, IsPreset, NoForm}
+use Rattle.agent_top.specs.Requests.{is_blank, is_visible, is_id, is_passphrase, IsPreset, NoForm}
 
 -- the word of a preset
 abbrev pub word : List ℕ

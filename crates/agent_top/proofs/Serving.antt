@@ -1,10 +1,9 @@
 -- A session that is under way, and what each way out of the loop makes of it.
-use Rattle.std.proofs.Common.{◌≡◌, ℕ, ◌+◌, ◌<◌, List, [], ◌∷◌, ◌++◌, length, Option, Some, None, Result, Ok, Err, refl, ap, sym, ◌∙◌, subst, arith, append_assoc, append-nil}
+use Rattle.std.proofs.Common.{◌≡◌, ℕ, ◌+◌, List, [], ◌++◌, length, Option, Some, None, Ok, Err, refl, ap, sym, ◌∙◌, subst, arith, append_assoc, append-nil}
 use Rattle.agent_ports.specs.Given.{given_none, given_then}
 use Rattle.agent_ports.specs.Readings.{HasGiven}
 use Rattle.agent_ports.specs.Sides.{Side, with_bytes, WhereTold}
-use Rattle.agent_ports.specs.Told.{told_same, told_then, told_both, with_bytes-append}
-use Rattle.assuan_line.specs.Lines.{after_line}
+use Rattle.agent_ports.specs.Told.{told_same, told_then, with_bytes-append}
 use Rattle.assuan_line.specs.Next.{Reader, Tells, IsCutShort}
 use Rattle.assuan_line.specs.declared.reader.Took.{Took}
 use Rattle.assuan_line.specs.declared.reader.Took.TheVariants as took
@@ -14,7 +13,6 @@ use Rattle.agent_top.specs.declared.answer.Answer.TheVariants.{Greeting, TooLong
 use Rattle.agent_top.specs.declared.answer.WriteFault.{WriteFault}
 use Rattle.agent_top.specs.declared.request.Request.{Request}
 use Rattle.agent_top.specs.declared.words.Rules.{Rules}
-use Rattle.agent_top.specs.declared.session.Went.{Went}
 use Rattle.agent_top.specs.declared.session.Went.TheVariants.{On, Over}
 use Rattle.agent_top.specs.declared.session.SessionEnd.{SessionEnd}
 use Rattle.agent_top.specs.declared.session.SessionEnd.TheVariants.{Bye, Ended, TooLong, Spent, ReadFault}
@@ -23,7 +21,7 @@ use Rattle.agent_top.specs.Answers.{line_of, HasCut}
 use Rattle.agent_top.specs.Cache.{Standing, at_start, IsKeptAs}
 use Rattle.agent_top.specs.Requests.{IsRequest}
 use Rattle.agent_top.specs.Session.{budget, Exchange, Talk, goes_on, over as talk_over, ended, too_long, spent, read_fault, cut, cut_too_long, Session, greeted, cut_greeting, HasServed, Takes}
-use Rattle.agent_top.specs.Steps.{HasStepped, HasAnswered}
+use Rattle.agent_top.specs.Steps.{HasAnswered}
 
 -- the bytes ahead count among those that were taken
 of_all : {ahead rest left : List ℕ} → IsCutShort ahead rest left → IsCutShort [] (ahead ++ rest) left

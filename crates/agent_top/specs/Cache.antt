@@ -1,5 +1,5 @@
 -- The cache of the one session that is served so far: where it stands between two lines, and how a line moves it on.
-use Rattle.std.specs.Prelude.{◌≡◌, ℕ, ◌-◌, List, [], length, min, max, false, None}
+use Rattle.std.specs.Prelude.{◌≡◌, ℕ, List, [], length, min, max, false, None}
 use Rattle.agent_ports.specs.declared.session.SessionId.{SessionId}
 use Rattle.cache_policy.specs.declared.mode.Mode.TheVariants.{Any, User}
 use Rattle.cache_policy.specs.declared.life.Life.TheVariants.{Endless}

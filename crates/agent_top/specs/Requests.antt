@@ -1,6 +1,6 @@
 -- The lines that are requests so far, after the GnuPG manual's agent protocol (GET_PASSPHRASE, PRESET_PASSPHRASE, BYE). For
 -- the time being each has one form, with single blanks and commands in capitals.
-use Rattle.std.specs.Prelude.{◌≡◌, ◌≢◌, ◌==◌, ◌&&◌, nat_le, not, ℕ, List, ◌++◌, length, slice_index, codes, Bool, true, Result, Ok}
+use Rattle.std.specs.Prelude.{◌≡◌, ◌≢◌, ◌==◌, ◌&&◌, nat_le, not, ℕ, List, ◌++◌, length, slice_index, codes, Bool, true, Ok}
 use Rattle.std.specs.List.{list_all}
 use Rattle.hex.specs.Hex.{decode_of}
 use Rattle.agent_top.specs.declared.request.Request.{Request}

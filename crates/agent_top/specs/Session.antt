@@ -1,7 +1,6 @@
 -- A session from bytes to bytes: what it writes for the bytes that it reads, and how it ends. The rules on a line that is
 -- too long, on the budget and on faults are this project's own.
 use Rattle.std.specs.Prelude.{◌≡◌, ◌+◌, ◌^◌, true, false, ℕ, List, [], ◌∷◌, ◌++◌, length, Result, Ok as Answered, Err as Cut, Option, Some, None}
-use Rattle.agent_ports.specs.Counts.{Rose}
 use Rattle.agent_ports.specs.Readings.{HasGiven}
 use Rattle.agent_ports.specs.Sides.{Side, with_bytes, WhereTold}
 use Rattle.assuan_line.specs.Lines.{after_line}
@@ -23,8 +22,8 @@ use Rattle.agent_top.specs.declared.session.SessionEnd.{SessionEnd}
 use Rattle.agent_top.specs.declared.session.SessionEnd.TheVariants.{Bye, Ended, TooLong, Spent, ReadFault, WriteFault}
 use Rattle.agent_top.specs.declared.session.Went.{Went}
 use Rattle.agent_top.specs.declared.session.Went.TheVariants.{On, Over}
-use Rattle.agent_top.specs.Answers.{line_of, given_text, HasCut}
-use Rattle.agent_top.specs.Cache.{Standing, at_start, moment_at, preset, asked, IsKeptAs}
+use Rattle.agent_top.specs.Answers.{line_of, given_text}
+use Rattle.agent_top.specs.Cache.{Standing, at_start, moment_at, preset, asked}
 use Rattle.agent_top.specs.Requests.{IsRequest}
 
 -- how many bytes a session may take

@@ -1,5 +1,5 @@
 -- The parts of an exchange as the code takes them: a step of the cache, and then the writing.
-use Rattle.std.specs.Prelude.{◌≡◌, ℕ, List, [], ◌++◌, Result, Ok, Err, Option}
+use Rattle.std.specs.Prelude.{◌≡◌, ℕ, List, Result, Ok, Err, Option}
 use Rattle.agent_ports.specs.Readings.{HasGiven}
 use Rattle.agent_ports.specs.Sides.{Side, with_bytes}
 use Rattle.cache_policy.specs.declared.life.Limits.{Limits}

@@ -11,3 +11,6 @@ mod words;
 
 pub use top::{run_agent, run_server};
 pub use words::{Rules, WordsFault, read_words};
+
+#[cfg(test)]
+mod tests;

@@ -1,5 +1,5 @@
 -- What an answer says of the bytes, from the piece that was taken.
-use Rattle.std.proofs.Common.{◌≡◌, ◌≢◌, ◌↔◌, ℕ, ◌+◌, ◌<◌, ◌≤◌, Bool, true, false, cond, leb, List, [], ◌∷◌, ◌++◌, length, Option, Some, None, IsSome, IfSome, Result, Ok, Err, inl, inr, refl, ap, sym, ◌∙◌, subst, arith, append_assoc, append-nil, le-leb}
+use Rattle.std.proofs.Common.{◌≡◌, ◌≢◌, ◌↔◌, ℕ, ◌<◌, ◌≤◌, Bool, false, cond, List, [], ◌∷◌, ◌++◌, length, Option, Some, None, IsSome, IfSome, inl, inr, refl, ap, sym, ◌∙◌, subst, arith, append_assoc, append-nil, le-leb}
 use Rattle.std.proofs.lemmas.Bool.{lt-leb, ne_eqb, or_from, false≢true}
 use Rattle.std.proofs.lemmas.Bool.Decides.{leb_tells}
 use Rattle.std.proofs.lemmas.List.{length_push}
@@ -10,7 +10,6 @@ use Rattle.agent_ports.specs.Told.{told_by}
 use Rattle.assuan_line.specs.Lines.{is_lf, has_lf, without_cr}
 use Rattle.assuan_line.specs.Next.{next_of, Tells, IsCutShort}
 use Rattle.assuan_line.specs.Stops.{took_of, took_from, reader_with}
-use Rattle.assuan_line.specs.declared.reader.Took.{Took}
 use Rattle.assuan_line.specs.declared.reader.Took.TheVariants as took
 use Rattle.assuan_line.specs.declared.reader.Stop.{Stop}
 use Rattle.assuan_line.specs.declared.reader.Stop.TheVariants.{TooLong, End, Spent, ReadFault}

@@ -1,4 +1,4 @@
-use Rattle.std.proofs.Common.{◌≡◌, ◌∷◌, [], ◌++◌, List, ℕ, take, drop, sym}
+use Rattle.std.proofs.Common.{◌∷◌, [], ◌++◌, take, drop, sym}
 use Rattle.std.proofs.lemmas.List.{take-append-drop}
 use Rattle.agent_top.proofs.answer.say.Goals as goal
 
