@@ -141,6 +141,12 @@ record IsState (s : List ℕ) : Type 0 where
   len : length s ≡ 16
   small : Small s
 
+is_bytes : (s : List ℕ) → IsState s → IsBytes 16 s
+is_bytes s h = record { len = h.len; small = small_at s h.small }
+
+is_state : (s : List ℕ) → IsBytes 16 s → IsState s
+is_state s h = record { len = h.len; small = small_from s h.small }
+
 xor_of-state : (a b : List ℕ) → IsState a → IsState b → IsState (xor_of a b)
 xor_of-state a b h k = record { len = length-xor_of a b (h.len ∙ sym k.len) ∙ k.len; small = small-xor_of a b h.small k.small }
 
@@ -186,10 +192,29 @@ inv_rounds-rounds key block h k (suc n) =
 pub decrypted-encrypted : (key block : List ℕ) → IsBytes 16 key → IsBytes 16 block → decrypted key (encrypted key block) ≡ block
 unfolding decrypted encrypted
 decrypted-encrypted key block h k =
-    let hs : IsState key = record { len = h.len; small = small_from key h.small } in
-    let ks : IsState block = record { len = k.len; small = small_from block k.small } in
+    let hs = is_state key h in
+    let ks = is_state block k in
     ap (λ x. inv_rounds key (inv_sub_bytes (inv_shift_rows x)) 9)
     (xor_of_twice (shift_rows (sub_bytes (rounds key block 9))) (round_key key 10)
     (length-shift_rows _ ∙ sym (length-round_key key h.len 10)))
     ∙ ap (λ x. inv_rounds key x 9) (restored (rounds key block 9) (rounds-state key block hs ks 9))
     ∙ inv_rounds-rounds key block hs ks 9
+
+-- ---- what the layers above use
+
+pub encrypted-bytes : (key block : List ℕ) → IsBytes 16 key → IsBytes 16 block → IsBytes 16 (encrypted key block)
+unfolding encrypted
+encrypted-bytes key block h k =
+    let s = rounds-state key block (is_state key h) (is_state block k) 9 in
+    is_bytes _ (xor_of-state _ _
+    (record {
+      len = length-shift_rows (sub_bytes (rounds key block 9));
+      small = small-shift_rows _ (small-sub_bytes _ s.small);
+    })
+    (round_key-state key (is_state key h) 10))
+
+pub xor_of-bytes : (n : ℕ) (a b : List ℕ) → IsBytes n a → IsBytes n b → IsBytes n (xor_of a b)
+xor_of-bytes n a b h k = record {
+  len = length-xor_of a b (h.len ∙ sym k.len) ∙ k.len;
+  small = small_at _ (small-xor_of a b (small_from a h.small) (small_from b k.small));
+}
