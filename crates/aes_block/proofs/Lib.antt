@@ -6,3 +6,4 @@ pub mod Words
 pub mod Rounds
 pub mod Columns
 pub mod Undone
+pub mod Blocks

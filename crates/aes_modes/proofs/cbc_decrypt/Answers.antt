@@ -1,4 +1,4 @@
-use Rattle.std.proofs.Common.{◌∙◌, ◌%◌, ap, arith}
+use Rattle.std.proofs.Common.{refl, ◌∙◌, ◌%◌, ap, arith}
 use Rattle.aes_modes.specs.Cbc.{cbc_decrypted}
 use Rattle.aes_modes.proofs.Chains.{decrypt_more, decrypt_all}
 use Rattle.aes_modes.proofs.Undone.{cbc_decrypted-cbc_encrypted}
@@ -16,7 +16,9 @@ pub returns-clause-value : goal.returns-clause-value
 returns-clause-value c = decrypt_all c.args.key.now c.loop-i.previous c.loop-i.bytes _ c.loop-i.i (omega arith) c.loop-i.invariant
 
 pub returns-clause-undoes : goal.returns-clause-undoes
-returns-clause-undoes c plain h e = returns-clause-value c ∙ ap (cbc_decrypted c.args.key.now c.args.iv.now) e
+returns-clause-undoes c plain h e =
+    returns-clause-value c
+    ∙ ap (cbc_decrypted c.args.key.now c.args.iv.now) e
     ∙ cbc_decrypted-cbc_encrypted c.args.key.now c.args.iv.now plain
     (record { len = c.told-key; small = c.fits-key }) (record { len = c.told-iv; small = c.fits-iv })
-    (ap (λ n. n % 16) h.len ∙ c.requires) h.small
+    (record { len = refl; small = h.small }) (ap (λ n. n % 16) h.len ∙ c.requires)
