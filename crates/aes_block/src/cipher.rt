@@ -1,10 +1,11 @@
-ghost use Rattle.std.specs.Prelude.{◌≡◌, ℕ, List, map, slice_index_or, []};
+ghost use Rattle.std.specs.Prelude.{◌≡◌, ℕ, List, map, slice_index_or, [], IsTrue};
 ghost use Rattle.std.specs.List.{range_with_len};
 ghost use Rattle.aes_block.specs.Aes.{IsBytes, round_key, encrypted, decrypted};
 
 use crate::schedule::round_keys;
 use crate::state::{mix_columns, shift_and_restore, substitute_and_shift, unmix_columns};
 use crate::xor;
+use std::fmt;
 use std::marker::Model;
 
 /// A key of 128 bits, expanded once for any number of blocks. A contract sees its 16 bytes.
@@ -61,17 +62,27 @@ impl Aes128 {
     }
 }
 
+impl fmt::Debug for Aes128 {
+    fn fmt<W: fmt::Write>(&self, f: &mut fmt::Formatter<W>) -> fmt::Result {
+        f.write_str("Aes128 { .. }")
+    }
+}
+
 impl Drop for Aes128 {
     fn drop(mut self) {
-        wipe(&mut self.round_keys);
+        let mut is_wiped = false;
+        wipe(&mut self.round_keys, &mut is_wiped);
         let Aes128 { round_keys: _ } = self;
     }
 }
 
-// Not inlined, so that the writes are not seen to be the last ones to these bytes.
+// Not inlined, and writes to a second place, since LLVM leaves out writes, and calls that write to one
+// place alone, where nothing reads that place again.
 #[inline(never)]
-fn wipe(round_keys: &mut [[u8; 16]; 11])
-    ensures { round_keys.new ≡ map (λ _. map (λ _. 0) (range_with_len 0 16)) (range_with_len 0 11) }
+fn wipe(round_keys: &mut [[u8; 16]; 11], is_wiped: &mut bool)
+    ensures zeros { round_keys.new ≡ map (λ _. map (λ _. 0) (range_with_len 0 16)) (range_with_len 0 11) }
+    ensures wiped { IsTrue is_wiped.new }
 {
     *round_keys = [[0; 16]; 11];
+    *is_wiped = true;
 }
