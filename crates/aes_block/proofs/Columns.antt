@@ -1,0 +1,51 @@
+-- The inverse of MixColumns undoes MixColumns: both are linear, so it is enough to look at one byte.
+use Rattle.std.proofs.Common.{◌≡◌, ℕ, ◌<◌, List, [], ◌∷◌, length, slice_index, refl, ap₂, ◌∙◌, sym}
+use Rattle.std.specs.Prelude.{bit_xor}
+use Rattle.aes_block.specs.Field.{product}
+use Rattle.aes_block.specs.Aes.{xor_of, dot, mix_column, inv_mix_column, mix_columns, inv_mix_columns}
+use Rattle.aes_block.proofs.Lists.{literal}
+use Rattle.aes_block.proofs.XorLemmas.{xor_swap, xor-zero}
+use Rattle.aes_block.proofs.Products.{product-xor}
+use Rattle.aes_block.proofs.Computed.{unmixed_first, unmixed_second, unmixed_third, unmixed_fourth}
+
+dot-xor : (p q r s a b c d e f g h : ℕ)
+    → dot p q r s (bit_xor a e) (bit_xor b f) (bit_xor c g) (bit_xor d h) ≡ bit_xor (dot p q r s a b c d) (dot p q r s e f g h)
+dot-xor p q r s a b c d e f g h =
+    ap₂ bit_xor
+    (ap₂ bit_xor
+    (ap₂ bit_xor (product-xor p a e) (product-xor q b f) ∙ xor_swap (product p a) (product p e) (product q b) (product q f))
+    (product-xor r c g)
+    ∙ xor_swap (bit_xor (product p a) (product q b)) (bit_xor (product p e) (product q f)) (product r c) (product r g))
+    (product-xor s d h)
+    ∙ xor_swap (bit_xor (bit_xor (product p a) (product q b)) (product r c)) (bit_xor (bit_xor (product p e) (product q f)) (product r g)) (product s d) (product s h)
+
+inv_mix_column-xor : (a b c d e f g h : ℕ)
+    → inv_mix_column (bit_xor a e) (bit_xor b f) (bit_xor c g) (bit_xor d h) ≡ xor_of (inv_mix_column a b c d) (inv_mix_column e f g h)
+unfolding inv_mix_column
+inv_mix_column-xor a b c d e f g h =
+    rw (dot-xor 14 11 13 9 a b c d e f g h, dot-xor 9 14 11 13 a b c d e f g h, dot-xor 13 9 14 11 a b c d e f g h, dot-xor 11 13 9 14 a b c d e f g h) refl
+
+-- a sum of four columns
+pub inv_mix_column-mix_column : (a b c d : ℕ) → a < 256 → b < 256 → c < 256 → d < 256
+    → inv_mix_column (dot 2 3 1 1 a b c d) (dot 1 2 3 1 a b c d) (dot 1 1 2 3 a b c d) (dot 3 1 1 2 a b c d) ≡ a ∷ b ∷ c ∷ d ∷ []
+inv_mix_column-mix_column a b c d ha hb hc hd =
+    inv_mix_column-xor _ _ _ _ (product 1 d) (product 1 d) (product 3 d) (product 2 d)
+    ∙ ap₂ xor_of
+    (inv_mix_column-xor _ _ _ _ (product 1 c) (product 3 c) (product 2 c) (product 1 c)
+    ∙ ap₂ xor_of
+    (inv_mix_column-xor _ _ _ _ (product 3 b) (product 2 b) (product 1 b) (product 1 b)
+    ∙ ap₂ xor_of (unmixed_first a ha) (unmixed_second b hb))
+    (unmixed_third c hc))
+    (unmixed_fourth d hd)
+    ∙ simp xor-zero refl
+
+pub inv_mix_columns-mix_columns : (s : List ℕ) → length s ≡ 16 → ((k : ℕ) → slice_index s k < 256) → inv_mix_columns (mix_columns s) ≡ s
+unfolding mix_columns inv_mix_columns mix_column
+inv_mix_columns-mix_columns s h small =
+    rw (
+      inv_mix_column-mix_column (slice_index s 0) (slice_index s 1) (slice_index s 2) (slice_index s 3) (small 0) (small 1) (small 2) (small 3),
+      inv_mix_column-mix_column (slice_index s 4) (slice_index s 5) (slice_index s 6) (slice_index s 7) (small 4) (small 5) (small 6) (small 7),
+      inv_mix_column-mix_column (slice_index s 8) (slice_index s 9) (slice_index s 10) (slice_index s 11) (small 8) (small 9) (small 10) (small 11),
+      inv_mix_column-mix_column (slice_index s 12) (slice_index s 13) (slice_index s 14) (slice_index s 15) (small 12) (small 13) (small 14) (small 15),
+    )
+    (sym (literal 16 s h))

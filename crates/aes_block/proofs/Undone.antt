@@ -1,0 +1,220 @@
+-- Decryption undoes encryption.
+use Rattle.std.proofs.Common.{◌≡◌, ℕ, zero, suc, ◌+◌, ◌-◌, ◌*◌, ◌/◌, ◌%◌, ◌<◌, List, [], ◌∷◌, ◌++◌, length, slice_index, map, take, drop, refl, ap, ap₂, ◌∙◌, sym, arith, Bool, true, false, length-append}
+use Rattle.std.specs.Prelude.{bit_xor, ◌==◌, if◌then◌else◌}
+use Rattle.std.proofs.lemmas.List.{length-map}
+use Rattle.std.proofs.lemmas.Nat.{xor_of_8}
+use Rattle.std.specs.List.{range_with_len}
+use Rattle.aes_block.specs.Field.{product, power, sub_byte}
+use Rattle.aes_block.specs.Aes.{IsBytes, xor_of, sub_bytes, inv_sub_bytes, shift_rows, inv_shift_rows, mix_column, mix_columns, inv_mix_columns, turned_word, added_word, word, round_key, rounds, encrypted, inv_rounds, decrypted}
+use Rattle.aes_block.proofs.Lists.{inv_shift_rows-shift_rows}
+use Rattle.aes_block.proofs.XorLemmas.{length-xor_of, xor_of_twice}
+use Rattle.aes_block.proofs.Computed.{product_1, product_3, product_2-lt, sub_byte-lt, inv_sub_byte-sub_byte}
+use Rattle.aes_block.proofs.Words.{length-word}
+use Rattle.aes_block.proofs.Columns.{inv_mix_columns-mix_columns}
+
+-- each element is a byte
+abbrev Small : List ℕ → Type 0
+Small [] = Unit {0}
+Small (x ∷ xs) = (x < 256) × Small xs
+
+small_from : (s : List ℕ) → ((k : ℕ) → slice_index s k < 256) → Small s
+small_from [] h = tt
+small_from (x ∷ xs) h = (h 0, small_from xs (λ k. h (suc k)))
+
+small_at : (s : List ℕ) → Small s → (k : ℕ) → slice_index s k < 256
+small_at [] h k = omega arith
+small_at (x ∷ xs) h zero = h.0
+small_at (x ∷ xs) h (suc k) = small_at xs h.1 k
+
+small-map : (f : ℕ → ℕ) → ((x : ℕ) → f x < 256) → (xs : List ℕ) → Small (map f xs)
+small-map f h [] = tt
+small-map f h (x ∷ xs) = (h x, small-map f h xs)
+
+small-append : (a b : List ℕ) → Small a → Small b → Small (a ++ b)
+small-append [] b h k = k
+small-append (x ∷ xs) b h k = (h.0, small-append xs b h.1 k)
+
+small-xor_of : (a b : List ℕ) → Small a → Small b → Small (xor_of a b)
+small-xor_of [] b h k = tt
+small-xor_of (x ∷ xs) [] h k = tt
+small-xor_of (x ∷ xs) (y ∷ ys) h k = (xor_of_8 x y h.0 k.0, small-xor_of xs ys h.1 k.1)
+
+small-sub_bytes : (s : List ℕ) → Small s → Small (sub_bytes s)
+small-sub_bytes [] h = tt
+small-sub_bytes (x ∷ xs) h = (sub_byte-lt x h.0, small-sub_bytes xs h.1)
+
+small-shift_rows : (s : List ℕ) → Small s → Small (shift_rows s)
+unfolding shift_rows
+small-shift_rows s h = small-map (λ i. slice_index s ((i + 4 * (i % 4)) % 16)) (λ i. small_at s h ((i + 4 * (i % 4)) % 16)) (range_with_len 0 16)
+
+one-lt : (x : ℕ) → x < 256 → product 1 x < 256
+one-lt x h = rw (product_1 x h) h
+
+three-lt : (x : ℕ) → x < 256 → product 3 x < 256
+three-lt x h = rw (product_3 x h) (xor_of_8 (product 2 x) x (product_2-lt x h) h)
+
+xor_of_four : (a b c d : ℕ) → a < 256 → b < 256 → c < 256 → d < 256 → bit_xor (bit_xor (bit_xor a b) c) d < 256
+xor_of_four a b c d ha hb hc hd = xor_of_8 _ d (xor_of_8 _ c (xor_of_8 a b ha hb) hc) hd
+
+small-mix_column : (a b c d : ℕ) → a < 256 → b < 256 → c < 256 → d < 256 → Small (mix_column a b c d)
+unfolding mix_column
+small-mix_column a b c d ha hb hc hd = (
+  xor_of_four _ _ _ _ (product_2-lt a ha) (three-lt b hb) (one-lt c hc) (one-lt d hd),
+  (
+    xor_of_four _ _ _ _ (one-lt a ha) (product_2-lt b hb) (three-lt c hc) (one-lt d hd),
+    (
+      xor_of_four _ _ _ _ (one-lt a ha) (one-lt b hb) (product_2-lt c hc) (three-lt d hd),
+      (xor_of_four _ _ _ _ (three-lt a ha) (one-lt b hb) (one-lt c hc) (product_2-lt d hd), tt),
+    ),
+  ),
+)
+
+small-mix_columns : (s : List ℕ) → Small s → Small (mix_columns s)
+unfolding mix_columns
+small-mix_columns s h =
+    let b = small_at s h in
+    small-append _ _
+    (small-append _ _
+    (small-append _ _ (small-mix_column _ _ _ _ (b 0) (b 1) (b 2) (b 3)) (small-mix_column _ _ _ _ (b 4) (b 5) (b 6) (b 7)))
+    (small-mix_column _ _ _ _ (b 8) (b 9) (b 10) (b 11)))
+    (small-mix_column _ _ _ _ (b 12) (b 13) (b 14) (b 15))
+
+length-mix_columns : (s : List ℕ) → length (mix_columns s) ≡ 16
+unfolding mix_columns mix_column
+length-mix_columns s = refl
+
+length-shift_rows : (s : List ℕ) → length (shift_rows s) ≡ 16
+unfolding shift_rows
+length-shift_rows s = refl
+
+-- ---- the keys
+
+small-power : (n : ℕ) → power 2 n < 256
+unfolding power
+small-power zero = omega arith
+small-power (suc n) = product_2-lt (power 2 n) (small-power n)
+
+small-added_word : (w : List ℕ) (i : ℕ) → Small w → Small (added_word w i)
+small-added_word w i h = by_test (i % 4 == 0) where
+  b : (k : ℕ) → sub_byte (slice_index w k) < 256
+  b k = sub_byte-lt (slice_index w k) (small_at w h k)
+
+  by_test : (t : Bool) → Small (if t then turned_word w (i / 4) else w)
+  by_test true = (xor_of_8 _ _ (b 1) (small-power (i / 4 - 1)), (b 2, (b 3, (b 0, tt))))
+  by_test false = h
+
+small-take : (n : ℕ) (s : List ℕ) → Small s → Small (take n s)
+small-take zero s h = tt
+small-take (suc n) [] h = tt
+small-take (suc n) (x ∷ xs) h = (h.0, small-take n xs h.1)
+
+small-drop : (n : ℕ) (s : List ℕ) → Small s → Small (drop n s)
+small-drop zero s h = h
+small-drop (suc n) [] h = tt
+small-drop (suc n) (x ∷ xs) h = small-drop n xs h.1
+
+small-word : (key : List ℕ) → Small key → (n : ℕ) → Small (word key n)
+unfolding word
+small-word key h zero = small-take 4 key h
+small-word key h (suc zero) = small-take 4 (drop 4 key) (small-drop 4 key h)
+small-word key h (suc (suc zero)) = small-take 4 (drop 8 key) (small-drop 8 key h)
+small-word key h (suc (suc (suc zero))) = small-take 4 (drop 12 key) (small-drop 12 key h)
+small-word key h (suc (suc (suc (suc n)))) =
+    small-xor_of _ _ (small-word key h n)
+    (small-added_word (word key (suc (suc (suc n)))) (n + 4) (small-word key h (suc (suc (suc n)))))
+
+small-round_key : (key : List ℕ) → Small key → (r : ℕ) → Small (round_key key r)
+unfolding round_key
+small-round_key key h r =
+    let w = small-word key h in
+    small-append _ _ (small-append _ _ (small-append _ _ (w (4 * r)) (w (4 * r + 1))) (w (4 * r + 2))) (w (4 * r + 3))
+
+length-round_key : (key : List ℕ) → length key ≡ 16 → (r : ℕ) → length (round_key key r) ≡ 16
+unfolding round_key
+length-round_key key h r =
+    simp length-append
+    (omega (arith, length-word key h (4 * r), length-word key h (4 * r + 1), length-word key h (4 * r + 2), length-word key h (4 * r + 3)))
+
+-- ---- the rounds
+
+record IsState (s : List ℕ) : Type 0 where
+  len : length s ≡ 16
+  small : Small s
+
+is_bytes : (s : List ℕ) → IsState s → IsBytes 16 s
+is_bytes s h = record { len = h.len; small = small_at s h.small }
+
+is_state : (s : List ℕ) → IsBytes 16 s → IsState s
+is_state s h = record { len = h.len; small = small_from s h.small }
+
+xor_of-state : (a b : List ℕ) → IsState a → IsState b → IsState (xor_of a b)
+xor_of-state a b h k = record { len = length-xor_of a b (h.len ∙ sym k.len) ∙ k.len; small = small-xor_of a b h.small k.small }
+
+round_key-state : (key : List ℕ) → IsState key → (r : ℕ) → IsState (round_key key r)
+round_key-state key h r = record { len = length-round_key key h.len r; small = small-round_key key h.small r }
+
+rounds-state : (key block : List ℕ) → IsState key → IsState block → (n : ℕ) → IsState (rounds key block n)
+unfolding rounds
+rounds-state key block h k zero = xor_of-state _ _ k (round_key-state key h 0)
+rounds-state key block h k (suc n) =
+    let s = rounds-state key block h k n in
+    xor_of-state _ _
+    (record {
+      len = length-mix_columns (shift_rows (sub_bytes (rounds key block n)));
+      small = small-mix_columns _ (small-shift_rows _ (small-sub_bytes _ s.small));
+    })
+    (round_key-state key h (suc n))
+
+inv_sub_bytes-sub_bytes : (s : List ℕ) → Small s → inv_sub_bytes (sub_bytes s) ≡ s
+inv_sub_bytes-sub_bytes [] h = refl
+inv_sub_bytes-sub_bytes (x ∷ xs) h = ap₂ ◌∷◌ (inv_sub_byte-sub_byte x h.0) (inv_sub_bytes-sub_bytes xs h.1)
+
+-- SubBytes and ShiftRows, undone
+restored : (s : List ℕ) → IsState s → inv_sub_bytes (inv_shift_rows (shift_rows (sub_bytes s))) ≡ s
+restored s h =
+    ap inv_sub_bytes (inv_shift_rows-shift_rows (sub_bytes s) (length-map s sub_byte ∙ h.len)) ∙ inv_sub_bytes-sub_bytes s h.small
+
+inv_rounds-rounds : (key block : List ℕ) → IsState key → IsState block → (n : ℕ) → inv_rounds key (rounds key block n) n ≡ block
+unfolding rounds inv_rounds
+inv_rounds-rounds key block h k zero = xor_of_twice block (round_key key 0) (k.len ∙ sym (length-round_key key h.len 0))
+inv_rounds-rounds key block h k (suc n) =
+    let s = rounds-state key block h k n in
+    let shifted = small-shift_rows _ (small-sub_bytes _ s.small) in
+    ap (λ x. inv_rounds key x n)
+    (ap (λ x. inv_sub_bytes (inv_shift_rows (inv_mix_columns x)))
+    (xor_of_twice (mix_columns (shift_rows (sub_bytes (rounds key block n)))) (round_key key (suc n))
+    (length-mix_columns _ ∙ sym (length-round_key key h.len (suc n))))
+    ∙ ap (λ x. inv_sub_bytes (inv_shift_rows x))
+    (inv_mix_columns-mix_columns (shift_rows (sub_bytes (rounds key block n))) (length-shift_rows _) (small_at _ shifted))
+    ∙ restored (rounds key block n) s)
+    ∙ inv_rounds-rounds key block h k n
+
+pub decrypted-encrypted : (key block : List ℕ) → IsBytes 16 key → IsBytes 16 block → decrypted key (encrypted key block) ≡ block
+unfolding decrypted encrypted
+decrypted-encrypted key block h k =
+    let hs = is_state key h in
+    let ks = is_state block k in
+    ap (λ x. inv_rounds key (inv_sub_bytes (inv_shift_rows x)) 9)
+    (xor_of_twice (shift_rows (sub_bytes (rounds key block 9))) (round_key key 10)
+    (length-shift_rows _ ∙ sym (length-round_key key h.len 10)))
+    ∙ ap (λ x. inv_rounds key x 9) (restored (rounds key block 9) (rounds-state key block hs ks 9))
+    ∙ inv_rounds-rounds key block hs ks 9
+
+-- ---- what the layers above use
+
+pub encrypted-bytes : (key block : List ℕ) → IsBytes 16 key → IsBytes 16 block → IsBytes 16 (encrypted key block)
+unfolding encrypted
+encrypted-bytes key block h k =
+    let s = rounds-state key block (is_state key h) (is_state block k) 9 in
+    is_bytes _ (xor_of-state _ _
+    (record {
+      len = length-shift_rows (sub_bytes (rounds key block 9));
+      small = small-shift_rows _ (small-sub_bytes _ s.small);
+    })
+    (round_key-state key (is_state key h) 10))
+
+pub xor_of-bytes : (n : ℕ) (a b : List ℕ) → IsBytes n a → IsBytes n b → IsBytes n (xor_of a b)
+xor_of-bytes n a b h k = record {
+  len = length-xor_of a b (h.len ∙ sym k.len) ∙ k.len;
+  small = small_at _ (small-xor_of a b (small_from a h.small) (small_from b k.small));
+}

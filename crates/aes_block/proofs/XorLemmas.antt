@@ -1,0 +1,106 @@
+-- The laws of the exclusive or, of numbers and of lists of bytes.
+use Rattle.std.proofs.Common.{◌≡◌, ℕ, zero, suc, ◌+◌, ◌*◌, ◌%◌, ◌^◌, ◌<◌, List, [], ◌∷◌, length, get_or, refl, ap, ap₂, ◌∙◌, sym, arith, ◌⊎◌, inl, inr, add-zero, ◌≤◌, set, below_more}
+use Rattle.std.proofs.lemmas.List.{get_or-set_same, get_or-set_other, length-set}
+use native.Mathlib.Nat.{zero-mul, one-mul}
+use Rattle.std.specs.Prelude.{bit_xor}
+use Rattle.std.specs.Int.{bit_at}
+use Rattle.std.proofs.lemmas.Nat.{xor_comm, xor_block, pow_pos}
+use Rattle.std.proofs.lemmas.Nat.Bits.{same_from_bits, bit_at_xor, bit_at-zero}
+use Rattle.aes_block.specs.Aes.{xor_of}
+
+assoc_mod : (a b c : ℕ) → ((a + b) % 2 + c) % 2 ≡ (a + (b + c) % 2) % 2
+assoc_mod a b c = omega arith
+
+pub xor_assoc : (a b c : ℕ) → bit_xor (bit_xor a b) c ≡ bit_xor a (bit_xor b c)
+xor_assoc a b c = same_from_bits (bit_xor (bit_xor a b) c) (bit_xor a (bit_xor b c)) (λ i.
+    bit_at_xor (bit_xor a b) c i
+    ∙ ap (λ x. (x + bit_at c i) % 2) (bit_at_xor a b i)
+    ∙ assoc_mod (bit_at a i) (bit_at b i) (bit_at c i)
+    ∙ sym (ap (λ x. (bit_at a i + x) % 2) (bit_at_xor b c i))
+    ∙ sym (bit_at_xor a (bit_xor b c) i))
+
+double_mod : (a : ℕ) → (a + a) % 2 ≡ 0
+double_mod a = omega arith
+
+pub xor_self : (a : ℕ) → bit_xor a a ≡ 0
+xor_self a = same_from_bits (bit_xor a a) 0 (λ i. bit_at_xor a a i ∙ double_mod (bit_at a i) ∙ sym (bit_at-zero i))
+
+pub xor-zero : (a : ℕ) → bit_xor a 0 ≡ a
+xor-zero a = xor_comm a 0 ∙ refl
+
+-- adding one number twice
+pub xor_twice : (a b : ℕ) → bit_xor (bit_xor a b) b ≡ a
+xor_twice a b = xor_assoc a b b ∙ ap (bit_xor a) (xor_self b) ∙ xor-zero a
+
+-- two sums of two, added place by place
+pub xor_swap : (a b c d : ℕ) → bit_xor (bit_xor a b) (bit_xor c d) ≡ bit_xor (bit_xor a c) (bit_xor b d)
+xor_swap a b c d =
+    xor_assoc a b (bit_xor c d)
+    ∙ ap (bit_xor a) (sym (xor_assoc b c d) ∙ ap (λ x. bit_xor x d) (xor_comm b c) ∙ xor_assoc c b d)
+    ∙ sym (xor_assoc a c (bit_xor b d))
+
+pub mul_pow-xor : (a b n : ℕ) → bit_xor a b * 2 ^ n ≡ bit_xor (a * 2 ^ n) (b * 2 ^ n)
+mul_pow-xor a b n = sym (simp add-zero at (xor_block n a b 0 0 (pow_pos n) (pow_pos n)))
+
+bit_cases : (m : ℕ) → m < 2 → (m ≡ 0) ⊎ (m ≡ 1)
+bit_cases zero h = inl refl
+bit_cases (suc zero) h = inr refl
+bit_cases (suc (suc m)) h = absurd (omega arith)
+
+pub bit_mul-xor : (m a b : ℕ) → m < 2 → m * bit_xor a b ≡ bit_xor (m * a) (m * b)
+bit_mul-xor m a b h = elim (bit_cases m h) [
+  | inl e ↦ rw e (simp zero-mul refl)
+  | inr e ↦ rw e (simp one-mul refl)
+]
+
+pub xor-bit_mul : (m n a : ℕ) → m < 2 → n < 2 → ((m + n) % 2) * a ≡ bit_xor (m * a) (n * a)
+xor-bit_mul m n a h k = elim (bit_cases m h) [
+  | inl e ↦ rw e (elim (bit_cases n k) [
+    | inl f ↦ rw f (simp zero-mul refl)
+    | inr f ↦ rw f (simp (zero-mul, one-mul) refl)
+  ])
+  | inr e ↦ rw e (elim (bit_cases n k) [
+    | inl f ↦ rw f (simp (zero-mul, one-mul) (sym (xor-zero a)))
+    | inr f ↦ rw f (simp (zero-mul, one-mul) (sym (xor_self a)))
+  ])
+]
+
+-- ---- lists
+
+pub length-xor_of : (a b : List ℕ) → length a ≡ length b → length (xor_of a b) ≡ length b
+length-xor_of [] [] h = refl
+length-xor_of [] (y ∷ ys) h = h
+length-xor_of (x ∷ xs) [] h = refl
+length-xor_of (x ∷ xs) (y ∷ ys) h = ap suc (length-xor_of xs ys (cc))
+
+-- the sum, from its bytes
+pub xor_of_from : (s a b : List ℕ) → length s ≡ length a → length a ≡ length b
+    → ((k : ℕ) → k < length a → get_or s k 0 ≡ bit_xor (get_or a k 0) (get_or b k 0)) → s ≡ xor_of a b
+xor_of_from [] [] b h k each = refl
+xor_of_from (z ∷ zs) [] b h k each = absurd (omega arith)
+xor_of_from [] (x ∷ xs) b h k each = absurd (omega arith)
+xor_of_from (z ∷ zs) (x ∷ xs) [] h k each = absurd (omega arith)
+xor_of_from (z ∷ zs) (x ∷ xs) (y ∷ ys) h k each =
+    ap₂ ◌∷◌ (each 0 (omega arith)) (xor_of_from zs xs ys (cc) (cc) (λ i lt. each (suc i) (omega arith)))
+
+-- adding one list twice
+pub xor_of_twice : (a b : List ℕ) → length a ≡ length b → xor_of (xor_of a b) b ≡ a
+xor_of_twice [] b h = refl
+xor_of_twice (x ∷ xs) [] h = absurd (omega arith)
+xor_of_twice (x ∷ xs) (y ∷ ys) h = ap₂ ◌∷◌ (xor_twice x y) (xor_of_twice xs ys (cc))
+
+-- the first i bytes of right are added to left
+pub record Added (left right sum : List ℕ) (i : ℕ) : Type 0 where
+  pub len : length sum ≡ length left
+  pub done : (k : ℕ) → k < i → get_or sum k 0 ≡ bit_xor (get_or left k 0) (get_or right k 0)
+  pub rest : (k : ℕ) → i ≤ k → get_or sum k 0 ≡ get_or left k 0
+
+pub added_more : (l r s : List ℕ) (i : ℕ) → i < length s → Added l r s i
+    → Added l r (set s i (bit_xor (get_or s i 0) (get_or r i 0))) (i + 1)
+added_more l r s i lt h = record {
+  len = length-set s i _ ∙ h.len;
+  done = below_more _ _
+      (λ k below. get_or-set_other s i k _ 0 (omega arith) ∙ h.done k below)
+      (get_or-set_same s i _ 0 lt ∙ ap (λ x. bit_xor x (get_or r i 0)) (h.rest i (omega arith)));
+  rest = λ k above. get_or-set_other s i k _ 0 (omega arith) ∙ h.rest k (omega arith);
+}

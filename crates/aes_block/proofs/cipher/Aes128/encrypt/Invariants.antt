@@ -1,0 +1,6 @@
+use Rattle.std.proofs.Common.{◌≡◌, ◌-◌}
+use Rattle.aes_block.specs.Aes.{rounds}
+use Rattle.aes_block.proofs.cipher.Aes128.encrypt.Given as goal
+
+abbrev pub invariant-loop-round : goal.invariant-loop-round
+invariant-loop-round l = l.state ≡ rounds l.self l.block (l.round - 1)

@@ -1,0 +1,27 @@
+//! AES with keys of 128 bits (FIPS 197), by tables and without memory of its own.
+//!
+//! The time of a call depends on the key and the block, as it does for every cipher by tables.
+#![tactic(auto)]
+
+ghost use Rattle.std.specs.Prelude.{◌≡◌};
+ghost use Rattle.aes_block.specs.Aes.{xor_of};
+
+mod cipher;
+mod schedule;
+mod state;
+mod tables;
+#[cfg(test)]
+mod tests;
+
+pub use cipher::Aes128;
+
+/// The exclusive or of two arrays, byte by byte: the addition of FIPS 197, SP 800-38A and RFC 3394.
+pub fn xor<const N: usize>(left: &[u8; N], right: &[u8; N]) -> [u8; N]
+    ensures { result ≡ xor_of left.now right.now }
+{
+    let mut sum = *left;
+    for (i, byte) in right.iter().enumerate() {
+        sum[i] ^= *byte;
+    }
+    sum
+}

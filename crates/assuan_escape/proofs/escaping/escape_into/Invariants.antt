@@ -1,0 +1,6 @@
+use Rattle.std.proofs.Common.{◌≡◌, ◌++◌, take}
+use Rattle.assuan_escape.specs.Escapes.{escapes}
+use Rattle.assuan_escape.proofs.escaping.escape_into.Given as goal
+
+abbrev pub invariant-loop-count : goal.invariant-loop-count
+invariant-loop-count l = l.out.items ≡ l.fn.out.items ++ escapes (take l.count l.bytes)

@@ -1,0 +1,56 @@
+ghost use Rattle.std.specs.Prelude.{◌≡◌, ◌+◌, ◌<◌, ◌≤◌, ◌++◌, ◌↔◌, ℕ, List, false, length, take, slice_index, IsTrue, All};
+ghost use Rattle.std.specs.Bool.{OnTrue, OnFalse};
+ghost use Rattle.assuan_escape.specs.Escapes.{is_escaped, escape_of, escapes, unescaped, has_lf};
+
+use crate::Text;
+use percent_encoding::percent_encode_byte;
+
+/// Appends the escapes of as many first bytes as fit whole, and says how many bytes that are. Escaped are `%`, CR, LF and
+/// the bytes from 128 on, as `%` and two uppercase digits.
+pub fn escape_into(bytes: &[u8], out: &mut Text) -> usize
+    ensures within { result ≤ length bytes.now }
+    ensures written { out.new.items ≡ out.old.items ++ escapes (take result bytes.now) }
+
+    // It stops only where the next escape doesn't fit, so no more bytes would have fitted.
+    ensures stops { result < length bytes.now
+        → 1000 < length out.new.items + length (escape_of (slice_index bytes.now result)) }
+    ensures greatest { (count : ℕ) → count ≤ length bytes.now
+        → length out.old.items + length (escapes (take count bytes.now)) ≤ 1000 → count ≤ result }
+
+    // What is appended holds no line feed.
+    ensures one_line { has_lf out.old.items ≡ false → has_lf out.new.items ≡ false }
+{
+    for (count, &byte) in bytes.iter().enumerate() {
+        if !push_escape(byte, out) {
+            return count;
+        }
+    }
+    bytes.len()
+}
+
+/// Appends the escape of one byte, if it fits whole.
+#[tactic(auto, unfolding(percent_encoding::specs::Percent::percent_encode_byte))]
+fn push_escape(byte: u8, out: &mut Text) -> bool
+    ensures fits { IsTrue result ↔ (length out.old.items + length (escape_of byte) ≤ 1000) }
+    ensures written { OnTrue result (out.new.items ≡ out.old.items ++ escape_of byte) }
+    ensures refused { OnFalse result (out.new.items ≡ out.old.items) }
+{
+    if is_escaped(byte) {
+        let escape = percent_encode_byte(byte);
+        out.try_extend_from_slice(escape.as_bytes()).is_ok()
+    } else {
+        out.try_push(byte).is_ok()
+    }
+}
+
+/// Whether the byte is sent as an escape.
+fn is_escaped(byte: u8) -> bool
+    ensures { result ≡ is_escaped byte }
+{
+    matches!(byte, b'%' | b'\r' | b'\n' | 128..)
+}
+
+/// A law: the escapes of any bytes are read as these bytes.
+pub fn escapes_are_undone()
+    ensures { (bytes : List ℕ) → All (λ byte. byte < 256) bytes → unescaped false (escapes bytes) ≡ bytes }
+{}

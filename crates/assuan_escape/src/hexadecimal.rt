@@ -1,0 +1,22 @@
+ghost use Rattle.std.specs.Prelude.{◌≡◌, ◌≤◌, ◌*◌, false, length};
+ghost use Rattle.assuan_escape.specs.Escapes.{hex_text, has_lf};
+
+use crate::Text;
+use percent_encoding::percent_encode_byte;
+
+/// Each byte as two uppercase hexadecimal digits.
+#[tactic(auto, unfolding(percent_encoding::specs::Percent::percent_encode_byte))]
+pub fn upper_hex(bytes: &[u8]) -> Text
+    requires { length bytes.now ≤ 500 }
+    ensures digits { result.items ≡ hex_text bytes.now }
+    ensures length { length result.items ≡ 2 * length bytes.now }
+    ensures one_line { has_lf result.items ≡ false }
+{
+    let mut text = Text::new();
+    for &byte in bytes {
+        // An escape is `%` and the two digits.
+        let escape = percent_encode_byte(byte).as_bytes();
+        text.try_extend_from_slice(&escape[1..]).unwrap();
+    }
+    text
+}

@@ -1,0 +1,17 @@
+//! Bytes as one line of the Assuan protocol can hold them: escaped, and as hexadecimal digits. No call takes memory.
+#![tactic(auto)]
+
+mod escaping;
+mod hexadecimal;
+#[cfg(test)]
+mod tests;
+mod unescaping;
+
+use arrayvec::ArrayVec;
+
+/// What a line can hold: at most 1,000 bytes.
+type Text = ArrayVec<u8, 1000>;
+
+pub use escaping::{escape_into, escapes_are_undone};
+pub use hexadecimal::upper_hex;
+pub use unescaping::unescape;

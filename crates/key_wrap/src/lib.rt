@@ -1,0 +1,118 @@
+//! The key wrap of RFC 3394 with AES-128 and the default initial value.
+#![tactic(auto)]
+
+ghost use Rattle.std.specs.Prelude.{◌≡◌, ◌≢◌, ℕ, ◌%◌, ◌≤◌, ◌↔◌, List, true, false, length, IfOk, MatchResult, IsTrue};
+ghost use Rattle.std.specs.List.{concat};
+ghost use Rattle.aes_block.specs.Aes.{IsBytes};
+ghost use Rattle.key_wrap.specs.KeyWrap.{Registers, initial_value, wrapped_of, unwrapped_of, is_wrapped_length};
+ghost use Rattle.key_wrap.specs.declared.WrapFault.TheVariants.{NoMemory};
+
+use aes_block::Aes128;
+use std::alloc::{AllocError, Global};
+use std::error::Error;
+use std::fmt;
+
+mod passes;
+
+use passes::{INITIAL_VALUE, joined_registers, unwrap_passes, wrap_passes};
+
+/// Why bytes were not unwrapped.
+#[derive(Clone, Copy, Debug, PartialEq, Eq, Hash)]
+pub enum WrapFault {
+    /// The length is not a multiple of 8 from 24 to 65,544.
+    Length,
+    /// The bytes were not wrapped under this key, or were changed since.
+    Check,
+    NoMemory,
+}
+
+impl fmt::Display for WrapFault {
+    fn fmt<W: fmt::Write>(&self, f: &mut fmt::Formatter<W>) -> fmt::Result {
+        f.write_str(match self {
+            WrapFault::Length => "not a length of wrapped bytes",
+            WrapFault::Check => "the integrity check of the wrapped bytes failed",
+            WrapFault::NoMemory => "out of memory",
+        })
+    }
+}
+
+impl Error for WrapFault {}
+
+impl From<AllocError> for WrapFault {
+    ghost from_gives = { λ _ fault. fault ≡ NoMemory };
+
+    fn from(_: AllocError) -> WrapFault {
+        WrapFault::NoMemory
+    }
+}
+
+/// Wraps the bytes of a key under another key (RFC 3394, 2.2.1), which makes them 8 bytes longer.
+pub fn wrap(alloc: Global, key: &[u8; 16], bytes: &[u8]) -> Result<Vec<u8>, AllocError>
+    requires whole { length bytes.now % 8 ≡ 0 }
+    requires least { 16 ≤ length bytes.now }
+    requires most { length bytes.now ≤ 65536 }
+    ensures { IfOk result (λ wrapped. wrapped.items ≡ wrapped_of key.now bytes.now) }
+{
+    let cipher = Aes128::new(key);
+    let (blocks, _) = bytes.as_chunks::<8>();
+    let mut blocks = Vec::from_slice(alloc, blocks)?;
+    let check = wrap_passes(&cipher, &mut blocks);
+    joined_registers(alloc, &check, &blocks)
+}
+
+/// Unwraps what `wrap` made under the same key (RFC 3394, 2.2.2).
+pub fn unwrap(alloc: Global, key: &[u8; 16], bytes: &[u8]) -> Result<Vec<u8>, WrapFault>
+    ensures unwrapped { IfOk result (λ plain. plain.items ≡ concat (unwrapped_of key.now bytes.now).blocks) }
+
+    // Each answer but `NoMemory`, which may come in place of `Ok` and `Check`, has its cause.
+    ensures ok { IfOk result (λ _. IsTrue (is_wrapped_length (length bytes.now))
+        × ((unwrapped_of key.now bytes.now).check ≡ initial_value)) }
+    ensures length { (result ≡ Err WrapFault.Length) ↔ (is_wrapped_length (length bytes.now) ≡ false) }
+    ensures check { result ≡ Err WrapFault.Check → IsTrue (is_wrapped_length (length bytes.now))
+        × ((unwrapped_of key.now bytes.now).check ≢ initial_value) }
+
+    // It undoes the wrapping of all bytes under this key.
+    ensures undoes { (plain : List ℕ) → IsBytes (length plain) plain → length plain % 8 ≡ 0
+        → 16 ≤ length plain → length plain ≤ 65536 → bytes.now ≡ wrapped_of key.now plain
+        → MatchResult result (λ unwrapped. unwrapped.items ≡ plain) (λ fault. fault ≡ WrapFault.NoMemory) }
+{
+    if !is_wrapped_len(bytes.len()) {
+        return Err(WrapFault::Length);
+    }
+    let unwrapped = unwrapped_registers(alloc, key, bytes)?;
+    if unwrapped.check != INITIAL_VALUE {
+        return Err(WrapFault::Check);
+    }
+    let plain = joined_registers(alloc, &[], &unwrapped.blocks)?;
+    Ok(plain)
+}
+
+// What the registers hold at the end of an unwrapping.
+#[derive(Drop)]
+struct Unwrapped {
+    check: [u8; 8],
+    blocks: Vec<[u8; 8]>,
+}
+
+fn unwrapped_registers(alloc: Global, key: &[u8; 16], bytes: &[u8]) -> Result<Unwrapped, AllocError>
+    requires least { 8 ≤ length bytes.now }
+    requires most { length bytes.now ≤ 65544 }
+    ensures { IfOk result (λ registers.
+        unwrapped_of key.now bytes.now ≡ record { check = registers.check; blocks = registers.blocks.items }) }
+{
+    let cipher = Aes128::new(key);
+    let (blocks, _) = bytes.as_chunks::<8>();
+    let first = blocks[0];
+    let mut blocks = Vec::from_slice(alloc, &blocks[1..])?;
+    let check = unwrap_passes(&cipher, first, &mut blocks);
+    Ok(Unwrapped { check, blocks })
+}
+
+fn is_wrapped_len(len: usize) -> bool
+    ensures { result ≡ is_wrapped_length len }
+{
+    len % 8 == 0 && (24..=65_544).contains(&len)
+}
+
+#[cfg(test)]
+mod tests;

@@ -1,0 +1,29 @@
+use Rattle.std.proofs.Common.{◌≡◌, ℕ, List, ◌+◌, ◌-◌, ◌%◌, ◌<◌, ◌++◌, max, length, take, ap, subst, sym, ◌∙◌, arith}
+use native.Mathlib.Nat.{mul-zero}
+use Rattle.std.proofs.lemmas.List.{length-append, length-take}
+use Rattle.sha1.specs.Sha1.{Holds, sha1}
+use Rattle.s2k_derive.specs.S2k.{repeated}
+use Rattle.s2k_derive.proofs.Repeats.{repeated-zero, length-repeated, piece_cut, piece_more, piece_last}
+use Rattle.s2k_derive.proofs.derive.Goals as goal
+
+pub pieces-init : goal.pieces-init
+pieces-init c =
+    let text = c.args.salt.now ++ c.args.pass.now in
+    subst (λ (m : List ℕ). Holds c.new-hasher.result m) (sym (ap (repeated text) (mul-zero _) ∙ repeated-zero text)) c.new-hasher.ensures
+
+pub pieces-preserved : goal.pieces-preserved
+pieces-preserved c =
+    let cut = piece_cut c.args.pass.now c.args.salt.now c.copies_of-copies.result c.told-salt c.copies_of-copies.ensures in
+    subst (λ (m : List ℕ). Holds c.update.new.self m) (piece_more _ _ c.pieces.counter cut) (c.update.ensures _ c.pieces.invariant)
+
+pub returns : goal.returns
+returns c =
+    let text = c.args.salt.now ++ c.args.pass.now in
+    let cut = piece_cut c.args.pass.now c.args.salt.now c.copies_of-copies.result c.told-salt c.copies_of-copies.ensures in
+    let n = 2048 - 2048 % (8 + length c.args.pass.now) in
+    let size : length c.copies_of-copies.result ≡ 2048 = ap length c.copies_of-copies.ensures ∙ length-repeated text 2048 in
+    let pos : 0 < length (take n c.copies_of-copies.result) = omega (arith, length-take n c.copies_of-copies.result) in
+    let all = piece_last _ _ c.max-total.result c.pieces.counter cut pos (omega arith) in
+    let long : length text ≡ 8 + length c.args.pass.now = length-append _ _ ∙ ap (λ n. n + length c.args.pass.now) c.told-salt in
+    let digest = c.finalize-digest.ensures _ (c.update-2.ensures _ c.pieces.invariant) in
+    c.copy_from_slice.ensures.after ∙ ap (take 16) (digest ∙ ap sha1 (all ∙ ap (repeated text) (c.max-total.ensures ∙ ap (max c.args.count) (sym long))))

@@ -1,0 +1,87 @@
+//! The key that a passphrase gives: iterated and salted S2K (RFC 4880, 3.7.1.3) with SHA-1.
+#![tactic(auto)]
+
+ghost use Rattle.std.specs.Prelude.{◌≡◌, ◌+◌, ◌^◌, ◌<◌, ◌≤◌, ◌++◌, length, slice_index, SomeIff};
+ghost use Rattle.sha1.specs.Sha1.{sha1};
+ghost use Rattle.s2k_derive.specs.S2k.{repeated, derived_key, octets};
+ghost use Rattle.s2k_derive.specs.declared.TheConstants.{PIECE_LEN};
+
+use sha1::Sha1;
+
+const SALT_LEN: usize = 8;
+
+const KEY_LEN: usize = 16;
+
+// The bounds of an accepted count, in bytes.
+const LEAST_COUNT: u64 = 65_536;
+
+const GREATEST_COUNT: u64 = 4_294_967_296;
+
+// Copies of salt and passphrase are hashed in pieces of about this many bytes, so that what a piece
+// costs beside its hash does not count.
+const PIECE_LEN: usize = 2048;
+
+/// The key of a passphrase and a salt, for a count of bytes to be hashed. Salt and passphrase are
+/// hashed once where they are longer than the count.
+pub fn derive(pass: &[u8], salt: &[u8; 8], count: u64) -> [u8; 16]
+    requires short { length pass.now ≤ 255 }
+    requires bounded { count ≤ 2 ^ 32 }
+    ensures { result ≡ derived_key pass.now salt.now count }
+{
+    let copy_len = SALT_LEN + pass.len();
+    let copies = copies_of(pass, salt);
+    let piece = &copies[..PIECE_LEN - PIECE_LEN % copy_len];
+    let total = (count as usize).max(copy_len);
+    let mut hasher = Sha1::new();
+    'pieces: for _ in 0..total / piece.len() {
+        hasher.update(piece);
+    }
+    hasher.update(&piece[..total % piece.len()]);
+    let digest = hasher.finalize();
+    let mut key = [0; KEY_LEN];
+    key.copy_from_slice(&digest[..KEY_LEN]);
+    key
+}
+
+// Salt and passphrase over and over, as far as there is room.
+fn copies_of(pass: &[u8], salt: &[u8; 8]) -> [u8; PIECE_LEN]
+    requires { length pass.now ≤ 255 }
+    ensures { result ≡ repeated (salt.now ++ pass.now) PIECE_LEN }
+{
+    let copy_len = SALT_LEN + pass.len();
+    let mut copies = [0; PIECE_LEN];
+    for (i, byte) in copies.iter_mut().enumerate() {
+        *byte = byte_at(pass, salt, i % copy_len);
+    }
+    copies
+}
+
+// One byte of salt and passphrase.
+fn byte_at(pass: &[u8], salt: &[u8; 8], place: usize) -> u8
+    requires { place < 8 + length pass.now }
+    ensures { result ≡ slice_index (salt.now ++ pass.now) place }
+{
+    if place < SALT_LEN {
+        salt[place]
+    } else {
+        pass[place - SALT_LEN]
+    }
+}
+
+/// The count of bytes that a written number means: one octet is coded as in RFC 4880, and any other
+/// number is the count itself. `None` where the count is too small or too great.
+pub fn count_of(n: u64) -> Option<u64>
+    ensures { SomeIff result ((65536 ≤ octets n) × (octets n ≤ 2 ^ 32)) (octets n) }
+{
+    let count = if n < 256 {
+        (16 + n % 16) << (n / 16 + 6)
+    } else {
+        n
+    };
+    (LEAST_COUNT..=GREATEST_COUNT)
+        .contains(&count)
+        .then_some(count)
+}
+
+#[cfg(test)]
+mod tests;

@@ -1,0 +1,95 @@
+-- What a session's client has chosen, and what an option makes of it.
+use Rattle.std.specs.Prelude.{ℕ, Bool, true, false, List, [], Option, Some, None, if◌then◌else◌}
+use Rattle.session_options.specs.Text.{name_of, value_of, can_be_kept}
+use Rattle.session_options.specs.Table.{named, mode_of, count_of}
+use Rattle.session_options.specs.declared.env.Env.{Env}
+use Rattle.session_options.specs.declared.names.OptionName.{OptionName}
+use Rattle.session_options.specs.declared.names.OptionName.TheVariants.{TtyName, TtyType, LcCtype, LcMessages, NoEffect, AllowPinentryNotify, PinentryMode, S2kCount}
+use Rattle.session_options.specs.declared.options.PinMode.{PinMode}
+use Rattle.session_options.specs.declared.options.PinMode.TheVariants.{Ask, Loopback}
+use Rattle.session_options.specs.declared.options.OptionAnswer.{OptionAnswer}
+use Rattle.session_options.specs.declared.options.OptionAnswer.TheVariants.{Set, Unknown, Parameter, NotSupported}
+
+-- the words of an `Env`; an empty one means none
+pub record EnvWords : Type 0 where
+  pub ttyname : List ℕ
+  pub ttytype : List ℕ
+  pub lc_ctype : List ℕ
+  pub lc_messages : List ℕ
+
+abbrev pub words_of : Env → EnvWords
+words_of env = record {
+  ttyname = env.ttyname.items;
+  ttytype = env.ttytype.items;
+  lc_ctype = env.lc_ctype.items;
+  lc_messages = env.lc_messages.items;
+}
+
+-- what is chosen, and what the rules said of it
+pub record Choices : Type 0 where
+  pub env : EnvWords
+  pub notify : Bool
+  pub mode : PinMode
+  pub s2k_count : ℕ
+  pub rules_count : ℕ
+  pub allow_loopback : Bool
+
+-- nothing is chosen yet, under these rules
+abbrev pub at_start : ℕ → Bool → Choices
+at_start rules_count allow_loopback = record {
+  env = record { ttyname = []; ttytype = []; lc_ctype = []; lc_messages = [] };
+  notify = false;
+  mode = Ask;
+  s2k_count = rules_count;
+  rules_count = rules_count;
+  allow_loopback = allow_loopback;
+}
+
+-- what an option is answered, and what is chosen after it
+pub record Judged : Type 0 where
+  pub answer : OptionAnswer
+  pub after : Choices
+
+-- the option is set, and this is chosen now
+abbrev pub set_to : Choices → Judged
+set_to after = record { answer = Set; after = after }
+
+-- a refusal leaves what was chosen
+abbrev pub refused : OptionAnswer → Choices → Judged
+refused answer old = record { answer = answer; after = old }
+
+abbrev pub with_mode : Choices → Option PinMode → Judged
+with_mode old None = refused Parameter old
+with_mode old (Some Loopback) =
+    if old.allow_loopback then set_to (record old { mode = Loopback }) else refused NotSupported old
+with_mode old (Some mode) = set_to (record old { mode = mode })
+
+abbrev pub with_count : Choices → Option ℕ → Judged
+with_count old None = refused Parameter old
+with_count old (Some count) = set_to (record old { s2k_count = count })
+
+-- what a known option makes of a value that can be kept
+abbrev pub chosen : Choices → List ℕ → OptionName → Judged
+chosen old value TtyName = set_to (record old { env = record old.env { ttyname = value } })
+chosen old value TtyType = set_to (record old { env = record old.env { ttytype = value } })
+chosen old value LcCtype = set_to (record old { env = record old.env { lc_ctype = value } })
+chosen old value LcMessages = set_to (record old { env = record old.env { lc_messages = value } })
+chosen old value NoEffect = set_to old
+chosen old value AllowPinentryNotify = set_to (record old { notify = true })
+chosen old value PinentryMode = with_mode old (mode_of value)
+chosen old value S2kCount = with_count old (count_of old.rules_count value)
+
+-- a known option, whose value can be kept or not
+abbrev pub valued : Choices → List ℕ → Option OptionName → Judged
+valued old value None = refused Unknown old
+valued old value (Some name) =
+    if can_be_kept value then chosen old value name else refused Parameter old
+
+-- an option with this name and value: an empty name comes before all, an unknown one before the value
+abbrev pub judged_as : Choices → List ℕ → List ℕ → Judged
+judged_as old [] value = refused Parameter old
+judged_as old name value = valued old value (named name)
+
+-- the text of an option
+unfoldable pub judged : Choices → List ℕ → Judged
+judged old text = judged_as old (name_of text) (value_of text)

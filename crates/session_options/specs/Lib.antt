@@ -1,0 +1,5 @@
+pub mod Counts
+pub mod Rows
+pub mod Text
+pub mod Table
+pub mod Choices

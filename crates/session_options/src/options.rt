@@ -1,0 +1,199 @@
+ghost use Rattle.std.specs.Prelude.{◌≡◌, ◌≢◌, ℕ, List, ◌∷◌, ◌++◌, false, slice_index};
+ghost use Rattle.std.specs.List.{list_any};
+ghost use Rattle.session_options.specs.Counts.{IsS2kCount};
+ghost use Rattle.session_options.specs.Text.{is_blank, ends_name};
+ghost use Rattle.session_options.specs.Choices.{Choices, judged, judged_as};
+
+use crate::names::OptionName;
+use crate::text::{name_and_value, word_of};
+use crate::values::{count_for, mode_of, number_of};
+use crate::{Env, Rules};
+use std::marker::Model;
+
+/// How a passphrase is come by (GnuPG manual, `--pinentry-mode`).
+#[derive(Clone, Copy, Debug, PartialEq, Eq)]
+pub enum PinMode {
+    /// A pinentry asks the user.
+    Ask,
+    /// As if the user had cancelled.
+    Cancel,
+    /// As if there were no pinentry.
+    Error,
+    /// The client is asked.
+    Loopback,
+}
+
+/// What an option is answered.
+#[derive(Clone, Copy, Debug, PartialEq, Eq)]
+pub enum OptionAnswer {
+    Set,
+    /// There is no option of this name.
+    Unknown,
+    /// The name is empty, the value can't be kept, or it is none of the option's values.
+    Parameter,
+    /// The rules don't allow this value.
+    NotSupported,
+}
+
+/// What the client of a session has chosen.
+#[derive(Debug, Drop)]
+pub struct Options {
+    env: Env,
+    notify: bool,
+    mode: PinMode,
+    s2k_count: u64,
+    // What the rules said.
+    rules_count: u64,
+    allow_loopback: bool,
+}
+
+impl Model for Options {
+    ghost use Rattle.session_options.specs.Choices.{Choices, words_of};
+    ghost use Rattle.session_options.specs.Counts.{IsS2kCount};
+
+    ghost Value = { Choices };
+
+    ghost view = { λ o. record {
+      env = words_of o.env;
+      notify = o.notify;
+      mode = o.mode;
+      s2k_count = o.s2k_count;
+      rules_count = o.rules_count;
+      allow_loopback = o.allow_loopback;
+    } };
+
+    ghost invariant = { λ o. IsS2kCount o.s2k_count × IsS2kCount o.rules_count };
+}
+
+impl Options {
+    ghost use Rattle.session_options.specs.Choices.{at_start, words_of, with_mode, with_count};
+    ghost use Rattle.session_options.specs.Table.{mode_of, count_of};
+
+    /// Nothing is chosen yet.
+    pub fn new(rules: &Rules) -> Self
+        ensures { result ≡ at_start rules.now.s2k_count rules.now.allow_loopback }
+    {
+        Options {
+            env: Env::none(),
+            notify: false,
+            mode: PinMode::Ask,
+            s2k_count: rules.s2k_count,
+            rules_count: rules.s2k_count,
+            allow_loopback: rules.allow_loopback,
+        }
+    }
+
+    /// Sets the option that the text names, the rest of an OPTION line. A refusal changes nothing.
+    #[tactic(auto, unfolding(crate::specs::Choices::judged))]
+    pub fn set(&mut self, text: &[u8]) -> OptionAnswer
+        ensures answer { result ≡ (judged self.old text.now).answer }
+        ensures after { self.new ≡ (judged self.old text.now).after }
+        ensures refused { result ≢ OptionAnswer.Set → self.new ≡ self.old }
+
+        // What the rules said stays.
+        ensures rules_count { self.new.rules_count ≡ self.old.rules_count }
+        ensures allow_loopback { self.new.allow_loopback ≡ self.old.allow_loopback }
+    {
+        let (name, value) = name_and_value(text);
+        if name.is_empty() {
+            return OptionAnswer::Parameter;
+        }
+        let Some(name) = OptionName::named(name) else {
+            return OptionAnswer::Unknown;
+        };
+        let Some(word) = word_of(value) else {
+            return OptionAnswer::Parameter;
+        };
+        match name {
+            OptionName::TtyName => self.env.ttyname = word,
+            OptionName::TtyType => self.env.ttytype = word,
+            OptionName::LcCtype => self.env.lc_ctype = word,
+            OptionName::LcMessages => self.env.lc_messages = word,
+            OptionName::NoEffect => {}
+            OptionName::AllowPinentryNotify => self.notify = true,
+            OptionName::PinentryMode => return self.set_mode(value),
+            OptionName::S2kCount => return self.set_count(value),
+        }
+        OptionAnswer::Set
+    }
+
+    fn set_mode(&mut self, value: &[u8]) -> OptionAnswer
+        ensures answer { result ≡ (with_mode self.old (mode_of value.now)).answer }
+        ensures after { self.new ≡ (with_mode self.old (mode_of value.now)).after }
+        ensures refused { result ≢ OptionAnswer.Set → self.new ≡ self.old }
+        ensures rules_count { self.new.rules_count ≡ self.old.rules_count }
+        ensures allow_loopback { self.new.allow_loopback ≡ self.old.allow_loopback }
+    {
+        let Some(mode) = mode_of(value) else {
+            return OptionAnswer::Parameter;
+        };
+        if mode == PinMode::Loopback && !self.allow_loopback {
+            return OptionAnswer::NotSupported;
+        }
+        self.mode = mode;
+        OptionAnswer::Set
+    }
+
+    fn set_count(&mut self, value: &[u8]) -> OptionAnswer
+        ensures answer { result ≡ (with_count self.old (count_of self.old.rules_count value.now)).answer }
+        ensures after { self.new ≡ (with_count self.old (count_of self.old.rules_count value.now)).after }
+        ensures refused { result ≢ OptionAnswer.Set → self.new ≡ self.old }
+        ensures rules_count { self.new.rules_count ≡ self.old.rules_count }
+        ensures allow_loopback { self.new.allow_loopback ≡ self.old.allow_loopback }
+    {
+        let Some(number) = number_of(value) else {
+            return OptionAnswer::Parameter;
+        };
+        let Some(count) = count_for(self.rules_count, number) else {
+            return OptionAnswer::Parameter;
+        };
+        self.s2k_count = count;
+        OptionAnswer::Set
+    }
+
+    /// Nothing is chosen any more.
+    pub fn reset(&mut self)
+        ensures { self.new ≡ at_start self.old.rules_count self.old.allow_loopback }
+    {
+        self.env = Env::none();
+        self.notify = false;
+        self.mode = PinMode::Ask;
+        self.s2k_count = self.rules_count;
+    }
+
+    pub fn env(&self) -> Env
+        ensures { words_of result ≡ self.now.env }
+    {
+        self.env.copied()
+    }
+
+    /// Whether the client wants to be told of a pinentry that is launched.
+    pub fn notify(&self) -> bool
+        ensures { result ≡ self.now.notify }
+    {
+        self.notify
+    }
+
+    pub fn mode(&self) -> PinMode
+        ensures { result ≡ self.now.mode }
+    {
+        self.mode
+    }
+
+    /// How many bytes a passphrase is hashed to.
+    pub fn s2k_count(&self) -> u64
+        ensures count { result ≡ self.now.s2k_count }
+        ensures in_range { IsS2kCount result }
+    {
+        self.s2k_count
+    }
+}
+
+/// A law: `name=value` is the option of this name with this value, after two dashes or none.
+pub fn spelling_is_plain()
+    ensures bare { (old : Choices) (name value : List ℕ) → list_any ends_name name ≡ false → slice_index name 0 ≢ 45
+        → is_blank (slice_index value 0) ≡ false → judged old (name ++ 61 ∷ value) ≡ judged_as old name value }
+    ensures dashed { (old : Choices) (name value : List ℕ) → list_any ends_name name ≡ false
+        → is_blank (slice_index value 0) ≡ false
+        → judged old (45 ∷ 45 ∷ name ++ 61 ∷ value) ≡ judged_as old name value }
+{}

@@ -1,0 +1,75 @@
+ghost use Rattle.std.specs.Prelude.{◌≡◌, ◌≤◌, ◌↔◌, true, false, length, IsSome, IfSome};
+ghost use Rattle.std.specs.List.{position_or_len};
+ghost use Rattle.session_options.specs.Text.{ends_name, without, without_blanks, name_of, value_of, ends_line, has_line_end, can_be_kept};
+
+use crate::Word;
+
+/// An option's name, and its value.
+pub(crate) fn name_and_value(text: &[u8]) -> (&[u8], &[u8])
+    ensures name { result.0.now ≡ name_of text.now }
+    ensures value { result.1.now ≡ value_of text.now }
+{
+    let text = without(b"--", text);
+    let (name, rest) = text.split_at(name_len(text));
+    let value = without(b"=", without_blanks(rest));
+    (name, without_blanks(value))
+}
+
+/// How many bytes stand before the first blank, tab or `=`.
+fn name_len(text: &[u8]) -> usize
+    ensures place { result ≡ position_or_len ends_name text.now }
+    ensures within { result ≤ length text.now }
+{
+    text.iter()
+        .position(|byte| ends_name(*byte))
+        .unwrap_or(text.len())
+}
+
+fn ends_name(byte: u8) -> bool
+    ensures { result ≡ ends_name byte }
+{
+    matches!(byte, b' ' | b'\t' | b'=')
+}
+
+/// The bytes after the mark, where they begin with it.
+fn without<'a>(mark: &[u8], bytes: &'a [u8]) -> &'a [u8]
+    ensures { result.now ≡ without mark.now bytes.now }
+{
+    bytes.strip_prefix(mark).unwrap_or(bytes)
+}
+
+/// The bytes after the blanks at the front.
+fn without_blanks(bytes: &[u8]) -> &[u8]
+    ensures { result.now ≡ without_blanks bytes.now }
+{
+    let mut rest = bytes;
+    while let [b' ' | b'\t', others @ ..] = rest {
+        rest = others;
+    }
+    rest
+}
+
+/// The value as a word, if it can be kept: at most 255 bytes, and no end of a line among them.
+pub(crate) fn word_of(value: &[u8]) -> Option<Word>
+    ensures some { IsSome result ↔ (can_be_kept value.now ≡ true) }
+    ensures word { IfSome result (λ word. (word.items ≡ value.now) × (has_line_end word.items ≡ false)) }
+{
+    if has_line_end(value) {
+        return None;
+    }
+    let mut word = Word::new();
+    word.try_extend_from_slice(value).ok()?;
+    Some(word)
+}
+
+fn has_line_end(bytes: &[u8]) -> bool
+    ensures { result ≡ has_line_end bytes.now }
+{
+    bytes.iter().any(|byte| ends_line(*byte))
+}
+
+fn ends_line(byte: u8) -> bool
+    ensures { result ≡ ends_line byte }
+{
+    matches!(byte, b'\r' | b'\n')
+}
