@@ -13,7 +13,8 @@ pub struct ListClock {
 
 impl ListClock {
     pub fn new(readings: Vec<u64>) -> Self
-        ensures { (k : ℕ) → ⟦<ListClock as Clock>⟧.later result k ≡ Some (reading_at readings.items k) }
+        ensures later { (k : ℕ) → ⟦<ListClock as Clock>⟧.later result k ≡ Some (reading_at readings.items k) }
+        ensures none { ⟦<ListClock as Clock>⟧.readings result ≡ 0 }
     {
         ListClock {
             readings,
@@ -55,7 +56,8 @@ pub struct StepClock {
 
 impl StepClock {
     pub fn new(first: u64, step: u64) -> Self
-        ensures { (k : ℕ) → ⟦<StepClock as Clock>⟧.later result k ≡ Some (min (first + k * step) (2 ^ 64 - 1)) }
+        ensures later { (k : ℕ) → ⟦<StepClock as Clock>⟧.later result k ≡ Some (min (first + k * step) (2 ^ 64 - 1)) }
+        ensures none { ⟦<StepClock as Clock>⟧.readings result ≡ 0 }
     {
         StepClock {
             next: first,
@@ -90,7 +92,9 @@ pub struct MemHost {
 
 impl MemHost {
     pub fn new(clock: ListClock) -> Self
-        ensures { (k : ℕ) → ⟦<MemHost as Clock>⟧.later result k ≡ ⟦<ListClock as Clock>⟧.later clock k }
+        ensures later { (k : ℕ) → ⟦<MemHost as Clock>⟧.later result k ≡ ⟦<ListClock as Clock>⟧.later clock k }
+        ensures readings { ⟦<MemHost as Clock>⟧.readings result ≡ ⟦<ListClock as Clock>⟧.readings clock }
+        ensures last { ⟦<MemHost as Clock>⟧.last result ≡ ⟦<ListClock as Clock>⟧.last clock }
     {
         MemHost { clock }
     }

@@ -61,15 +61,15 @@ pub struct MemSource {
 }
 
 impl MemSource {
-    /// A source of these bytes. No read gives more of them than `piece`, and the reads of these numbers, from 0, fail.
+    /// A source of these bytes. No read gives more of them than `piece`, or than one where that is 0, and the reads of these
+    /// numbers, from 0, fail.
     pub fn new(bytes: Vec<u8>, piece: usize, failing: Vec<u64>) -> Self
-        requires { 1 ≤ piece }
         ensures { ⟦<MemSource as Source>⟧.input result ≡ record { bytes = Some bytes.items; faults = 0 } }
     {
         MemSource {
             bytes,
             taken: 0,
-            piece,
+            piece: piece.max(1),
             plan: FaultPlan::new(failing),
         }
     }

@@ -1,4 +1,4 @@
-/// Which session took a step: the seat that it ran on, and its number there, from 0.
+/// Which session took a step: the pass that served it, and its number there, from 0.
 #[derive(Clone, Copy, Debug, PartialEq, Eq)]
 pub struct SessionId {
     pub pass: u32,

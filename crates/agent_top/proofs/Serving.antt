@@ -1,10 +1,10 @@
 -- A session that is under way, and what each way out of the loop makes of it.
-use Rattle.std.proofs.Common.{◌≡◌, ℕ, ◌+◌, List, [], ◌++◌, length, Option, Some, None, Ok, Err, refl, ap, sym, ◌∙◌, subst, arith, append_assoc, append-nil}
+use Rattle.std.proofs.Common.{◌≡◌, ◌≤◌, ℕ, ◌+◌, List, [], ◌++◌, length, Option, Some, None, Ok, Err, refl, ap, sym, ◌∙◌, subst, arith, append_assoc, append-nil}
 use Rattle.agent_ports.specs.Given.{given_none, given_then}
 use Rattle.agent_ports.specs.Readings.{HasGiven}
 use Rattle.agent_ports.specs.Sides.{Side, with_bytes, WhereTold}
 use Rattle.agent_ports.specs.Told.{told_same, told_then, with_bytes-append}
-use Rattle.assuan_line.specs.Next.{Reader, Tells, IsCutShort}
+use Rattle.assuan_line.specs.Next.{Reader, Tells, IsCutShort, IsTooLong}
 use Rattle.assuan_line.specs.declared.reader.Took.{Took}
 use Rattle.assuan_line.specs.declared.reader.Took.TheVariants as took
 use Rattle.cache_policy.specs.declared.life.Limits.{Limits}
@@ -29,6 +29,13 @@ of_all {ahead} {rest} {left} short = record {
   taken = ahead ++ short.taken;
   split = ap (λ (x : List ℕ). ahead ++ x) short.split ∙ sym (append_assoc ahead short.taken left);
   none = short.none;
+}
+
+long_of_all : {ahead rest left : List ℕ} → IsTooLong ahead rest left → IsTooLong [] (ahead ++ rest) left
+long_of_all {ahead} {rest} {left} long = record {
+  taken = ahead ++ long.taken;
+  split = ap (λ (x : List ℕ). ahead ++ x) long.split ∙ sym (append_assoc ahead long.taken left);
+  long = long.long;
 }
 
 -- nothing was written
@@ -64,8 +71,8 @@ module _ (rules : Rules) (limits : Limits) where
     readings = [];
     appended = failed.written;
     given = given_none later count;
-    session = subst (λ (s : Side). WhereTold input.bytes s.bytes (λ rest left. Session rules limits rest [] failed.sent end.WriteFault left)) (sym same)
-        (told_same input.bytes _ (λ rest. cut_greeting failed.unsent failed.split));
+    session = subst (λ (s : Side). WhereTold input.bytes s.bytes (λ rest left. Session rules limits rest [] failed.sent end.WriteFault left × (length rest ≤ budget + length left))) (sym same)
+        (told_same input.bytes _ (λ rest. (cut_greeting failed.unsent failed.split, omega arith)));
   }
 
   -- after the greeting
@@ -101,7 +108,10 @@ module _ (rules : Rules) (limits : Limits) where
       readings = serving.readings ++ readings;
       appended = adds text output_now appended;
       given = given_then later later_mid later_now count count_mid count_now serving.readings readings serving.given given;
-      session = follows _ (λ total rest left stands taken. stands.0 readings text end left (talk total rest left stands.1 taken));
+      session = follows _ (λ total rest left stands taken. (
+        stands.0 readings text end left (talk total rest left stands.1 taken),
+        omega (arith, stands.1, taken.1),
+      ));
     }
 
     module _ (line : List ℕ) (is : answer ≡ took.Line line) (request : Request) (asks : IsRequest request line) (later_now : ℕ → Option ℕ) (count_now : ℕ) (book_now : Book) (marks_now latest_now : ℕ) where
@@ -138,30 +148,32 @@ module _ (rules : Rules) (limits : Limits) where
           let exchange : Exchange rules limits serving.standing request step.readings answered.text step.after Over =
           subst (λ w. Exchange rules limits serving.standing request step.readings answered.text step.after w) (sym answered.went_is) step.exchange in
           ends step.readings answered.text Bye output_now later_now count_now answered.written step.given
-          (λ total rest left counted taken. talk_over line request (tells rest left taken).0 asks exchange)
+          (λ total rest left counted taken.
+          talk_over line reader_now.ahead request (tells rest left taken).0 asks exchange (tells rest left taken).1)
 
       pub cut_answer : (fault : WriteFault) (output_now : Side) → HasAnswered rules limits serving.standing request later_mid count_mid output_read (Err fault) later_now count_now output_now book_now marks_now latest_now → HasServed rules limits input output later count end.WriteFault input_now output_now later_now count_now
       cut_answer fault output_now answered =
           let step = answered.stepped in
           let failed : HasCut answered.text output_read output_now = answered.written in
           ends step.readings failed.sent end.WriteFault output_now later_now count_now failed.written step.given (λ total rest left counted taken.
-          cut line failed.unsent request answered.went (tells rest left taken).0 asks
-          (subst (λ (t : List ℕ). Exchange rules limits serving.standing request step.readings t step.after answered.went) failed.split step.exchange))
+          cut line reader_now.ahead failed.unsent request answered.went (tells rest left taken).0 asks
+          (subst (λ (t : List ℕ). Exchange rules limits serving.standing request step.readings t step.after answered.went) failed.split step.exchange)
+          (tells rest left taken).1)
 
     pub at_too_long : answer ≡ took.TooLong → (output_now : Side) → output_now.bytes ≡ with_bytes output_read.bytes (line_of LineTooLong) → HasServed rules limits input output later count TooLong input_now output_now later_mid count_mid
     at_too_long is output_now appended =
         ends [] (line_of LineTooLong) TooLong output_now later_mid count_mid appended (given_none later_mid count_mid)
-        (λ total rest left counted taken. too_long (subst (λ t. Tells reader rest t reader_now left) is taken.0))
+        (λ total rest left counted taken. too_long (long_of_all (subst (λ t. Tells reader rest t reader_now left) is taken.0)))
 
     pub cut_at_too_long : answer ≡ took.TooLong → (output_now : Side) → HasCut (line_of LineTooLong) output_read output_now → HasServed rules limits input output later count end.WriteFault input_now output_now later_mid count_mid
     cut_at_too_long is output_now failed =
         ends [] failed.sent end.WriteFault output_now later_mid count_mid failed.written (given_none later_mid count_mid)
-        (λ total rest left counted taken. cut_too_long failed.unsent (subst (λ t. Tells reader rest t reader_now left) is taken.0) failed.split)
+        (λ total rest left counted taken. cut_too_long failed.unsent (long_of_all (subst (λ t. Tells reader rest t reader_now left) is taken.0)) failed.split)
 
     pub at_end : answer ≡ took.End → HasServed rules limits input output later count Ended input_now output_read later_mid count_mid
     at_end is = ends [] [] Ended output_read later_mid count_mid (nothing output_read.bytes) (given_none later_mid count_mid) (λ total rest left counted taken.
         let told : Tells reader rest took.End reader_now left = subst (λ t. Tells reader rest t reader_now left) is taken.0 in
-        subst (λ (l : List ℕ). Talk rules limits (length total) serving.standing (reader.ahead ++ rest) [] [] Ended l) (sym told.1) (ended told.0))
+        subst (λ (l : List ℕ). Talk rules limits (length total) serving.standing (reader.ahead ++ rest) [] [] Ended l) (sym told.1) (ended told.0 (omega (arith, counted, taken.1, told.2, ap (λ (l : List ℕ). length l) told.1))))
 
     pub at_spent : answer ≡ took.Spent → HasServed rules limits input output later count Spent input_now output_read later_mid count_mid
     at_spent is = ends [] [] Spent output_read later_mid count_mid (nothing output_read.bytes) (given_none later_mid count_mid) (λ total rest left counted taken.
@@ -171,4 +183,4 @@ module _ (rules : Rules) (limits : Limits) where
     pub at_read_fault : answer ≡ took.ReadFault → HasServed rules limits input output later count ReadFault input_now output_read later_mid count_mid
     at_read_fault is = ends [] [] ReadFault output_read later_mid count_mid (nothing output_read.bytes) (given_none later_mid count_mid) (λ total rest left counted taken.
         let told : Tells reader rest took.ReadFault reader_now left = subst (λ t. Tells reader rest t reader_now left) is taken.0 in
-        read_fault (of_all told.0))
+        read_fault (of_all told.0) (omega (arith, counted, taken.1, told.1)))

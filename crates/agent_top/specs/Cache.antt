@@ -1,5 +1,6 @@
--- The cache of the one session that is served so far: where it stands between two lines, and how a line moves it on.
-use Rattle.std.specs.Prelude.{◌≡◌, ℕ, List, [], length, min, max, false, None}
+-- The cache of the one session that is served so far: where it stands between two lines, and how a line moves it on. This is
+-- this project's own.
+use Rattle.std.specs.Prelude.{◌≡◌, ℕ, List, [], length, false, None}
 use Rattle.agent_ports.specs.declared.session.SessionId.{SessionId}
 use Rattle.cache_policy.specs.declared.mode.Mode.TheVariants.{Any, User}
 use Rattle.cache_policy.specs.declared.life.Life.TheVariants.{Endless}
@@ -9,14 +10,14 @@ use Rattle.cache_policy.specs.declared.mark.Mark.{Mark}
 use Rattle.cache_policy.specs.declared.mark.MarkReply.{MarkReply}
 use Rattle.cache_policy.specs.declared.history.History.{History}
 use Rattle.cache_policy.specs.Histories.{with_mark}
-use Rattle.cache_policy.specs.Runs.{next_history, greatest_moment}
+use Rattle.cache_policy.specs.Runs.{next_history, moment_of}
 use Rattle.cache_policy.specs.Book.{Book, put_mark, ask_mark, IsEndlessBookOf}
 
 -- the session that is served on standard input and output
 abbrev pub session : SessionId
 session = record { pass = 0; count = 0 }
 
--- the marks since the cache was last empty, and the moment of the last mark of all
+-- the marks since the cache last began empty, and the moment of the last mark of all
 pub record Standing : Type 0 where
   pub history : History
   pub latest : ℕ
@@ -24,10 +25,6 @@ pub record Standing : Type 0 where
 -- no marks yet
 abbrev pub at_start : Standing
 at_start = record { history = record { base = 0; held = None; stopped = false; marks = [] }; latest = 0 }
-
--- the moment of the next step: its reading, cut, or the moment of the last mark where that is greater
-abbrev pub moment_at : ℕ → ℕ → ℕ
-moment_at latest reading = max latest (min reading greatest_moment)
 
 -- after a mark, on the history that is next
 abbrev pub marked : Standing → Mark → Standing
@@ -37,12 +34,12 @@ marked standing mark =
 -- after a preset of a passphrase
 abbrev pub preset : Standing → List ℕ → List ℕ → ℕ → Standing
 preset standing id secret reading =
-    marked standing (put_mark session (moment_at standing.latest reading) id Any Endless secret)
+    marked standing (put_mark session (moment_of standing.latest reading) id Any Endless secret)
 
 -- after a question for a passphrase, with this reply
 abbrev pub asked : Standing → List ℕ → MarkReply → ℕ → Standing
 asked standing id reply reading =
-    marked standing (ask_mark session (moment_at standing.latest reading) id User Quiet reply)
+    marked standing (ask_mark session (moment_of standing.latest reading) id User Quiet reply)
 
 -- a book of so many marks, the last of them at that moment, is what such a standing is kept as
 pub record IsKeptAs (limits : Limits) (standing : Standing) (book : Book) (marks latest : ℕ) : Type 0 where

@@ -27,7 +27,7 @@ is_passphrase bytes = nat_le 1 (length bytes) && nat_le (length bytes) 255 && li
 
 pub record IsGet (id line : List ℕ) : Type 0 where
   pub id_is : is_id id ≡ true
-  pub no_default : id ≢ codes "X"
+  pub names_an_id : id ≢ codes "X"
   pub form : line ≡ codes "GET_PASSPHRASE --no-ask --data " ++ id
 
 pub record IsPreset (id secret line : List ℕ) : Type 0 where

@@ -1,5 +1,5 @@
 -- What a run of the agent leaves, and its status. The statuses are this project's own.
-use Rattle.std.specs.Prelude.{◌≡◌, ℕ, Option}
+use Rattle.std.specs.Prelude.{◌≡◌, ◌≤◌, ℕ, Option}
 use Rattle.agent_ports.specs.Counts.{Rose}
 use Rattle.agent_ports.specs.Sides.{Side}
 use Rattle.cache_policy.specs.declared.life.Limits.{Limits}
@@ -23,3 +23,6 @@ pub record HasRun (rules : Rules) (limits : Limits) (input output : Side) (later
   pub served : HasServed rules limits input output later count end input_after output_after later_after count_after
   pub read_fault : end ≡ ReadFault → Rose input.faults input_after.faults
   pub write_fault : end ≡ WriteFault → Rose output.faults output_after.faults
+  -- the counts never fall
+  pub input_faults : input.faults ≤ input_after.faults
+  pub output_faults : output.faults ≤ output_after.faults

@@ -11,7 +11,7 @@ const ROOM: u64 = 131_072;
 /// The moment to which readings are cut.
 const GREATEST: u64 = 1 << 62;
 
-/// The passphrases of a session, since its cache was last empty.
+/// The passphrases of a session, since its cache last began empty.
 #[derive(Drop)]
 pub(crate) struct Cache {
     pub(crate) alloc: Global,
@@ -34,8 +34,8 @@ impl Cache {
     ghost use Rattle.cache_policy.specs.declared.mark.MarkReply.{MarkReply};
     ghost use Rattle.cache_policy.specs.Lifetimes.{default_limits};
     ghost use Rattle.cache_policy.specs.Live.{live};
-    ghost use Rattle.cache_policy.specs.Runs.{next_history};
-    ghost use Rattle.agent_top.specs.Cache.{Standing, at_start, moment_at, preset, asked, IsKeptAs};
+    ghost use Rattle.cache_policy.specs.Runs.{next_history, moment_of};
+    ghost use Rattle.agent_top.specs.Cache.{Standing, at_start, preset, asked, IsKeptAs};
 
     /// An empty cache.
     pub(crate) fn new(alloc: Global) -> Cache
@@ -86,7 +86,7 @@ impl Cache {
         ensures live { (standing : Standing)
             → IsKeptAs self.old.limits standing self.old.book self.old.marks self.old.latest
             → option_map (λ grant. grant.entry.secret) result ≡ option_map (λ entry. entry.secret)
-            (live self.old.limits (next_history standing.history) id.now User (moment_at standing.latest reading)) }
+            (live self.old.limits (next_history standing.history) id.now User (moment_of standing.latest reading)) }
         ensures stands { (standing : Standing) (reply : MarkReply)
             → IsKeptAs self.old.limits standing self.old.book self.old.marks self.old.latest
             → IsKeptAs self.old.limits (asked standing id.now reply reading) self.new.book self.new.marks self.new.latest }
@@ -119,7 +119,7 @@ impl Cache {
 
     /// The moment of the next mark.
     fn moment(&self, reading: u64) -> u64
-        ensures moment { result ≡ moment_at self.now.latest reading }
+        ensures moment { result ≡ moment_of self.now.latest reading }
         ensures in_order { self.now.book.latest ≤ result }
         ensures in_range { result ≤ 2 ^ 62 }
     {

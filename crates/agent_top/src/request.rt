@@ -15,7 +15,7 @@ const PRESET: &[u8] = b"PRESET_PASSPHRASE ";
 const ENDLESS: &[u8] = b"-1 ";
 
 /// The id that stands for none.
-const DEFAULT: &[u8] = b"X";
+const NO_ID: &[u8] = b"X";
 
 const BLANK: u8 = b' ';
 
@@ -57,7 +57,7 @@ fn read_get(id: &[u8]) -> Request
     ensures { (line : List ℕ) → line ≡ codes "GET_PASSPHRASE --no-ask --data " ++ id.now → IsRequest result line }
 {
     match id_of(id) {
-        Some(id) if id.bytes() != DEFAULT => Request::Get { id },
+        Some(id) if id.bytes() != NO_ID => Request::Get { id },
         _ => Request::Unknown,
     }
 }

@@ -69,6 +69,8 @@ pub(crate) fn serve<L: Link, C: Clock>(
         (L.input link.new) (L.output link.new) (C.later clock.new) (C.readings clock.new) }
     ensures read_fault { result ≡ SessionEnd.ReadFault → Rose (L.input link.old).faults (L.input link.new).faults }
     ensures write_fault { result ≡ SessionEnd.WriteFault → Rose (L.output link.old).faults (L.output link.new).faults }
+    ensures input_faults { (L.input link.old).faults ≤ (L.input link.new).faults }
+    ensures output_faults { (L.output link.old).faults ≤ (L.output link.new).faults }
 {
     match serve_lines(alloc, rules, link, clock) {
         Ok(end) => end,
@@ -88,6 +90,8 @@ fn serve_lines<L: Link, C: Clock>(
     ensures read_fault { result ≡ Ok SessionEnd.ReadFault → Rose (L.input link.old).faults (L.input link.new).faults }
     ensures write_fault { OnErr result (Rose (L.output link.old).faults (L.output link.new).faults) }
     ensures others { result ≢ Ok SessionEnd.WriteFault }
+    ensures input_faults { (L.input link.old).faults ≤ (L.input link.new).faults }
+    ensures output_faults { (L.output link.old).faults ≤ (L.output link.new).faults }
 {
     write_answer(link, Answer::Greeting)?;
     let mut reader = LineReader::new(alloc, BUDGET);

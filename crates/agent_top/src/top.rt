@@ -7,13 +7,13 @@ use crate::session::{SessionEnd, serve};
 use crate::words::{Rules, WordsFault, read_words};
 use agent_ports::{Host, Link};
 use std::alloc::Global;
-use std::rt::Clock;
+use std::rt;
 use std::sync::Wait;
 use std::thread::Threads;
 
 /// The agent. It reads its words, which leave out the program's name, and serves a session on standard input and output.
 /// Its answer is the status of the process.
-pub fn run_agent<W: Threads + Wait + Clock + Sync, S: Link, H: Host>(
+pub fn run_agent<W: Threads + Wait + rt::Clock + Sync, S: Link, H: Host>(
     _rt: &W,
     alloc: Global,
     words: &[String],

@@ -54,7 +54,11 @@ joined piece byte was mid is split next = split ∙ ap (followed_by piece) next 
 tells_line : (o : Option (List ℕ)) (before left : ℕ) (piece rest : List ℕ) → has_lf piece ≡ false → length piece < 1002 → IsSome o ↔ (length (without_cr piece) ≤ 1000) → IfSome o (λ line. line ≡ without_cr piece) → Tells (reader_with before) (piece ++ 10 ∷ rest) (took_from (ok_or o TooLong)) (reader_with left) rest
 tells_line None before left piece rest whole short some line =
     let long : 1000 < length (without_cr piece) = elim (leb_tells (length (without_cr piece)) 1000) [ inl t ↦ absurd (false≢true (some.1 t.1)) | inr f ↦ f.1 ] in
-    next_at_lf piece rest whole (omega arith) ∙ ap (λ (b : Bool). cond b (took.Line (without_cr piece)) took.TooLong) (lt-leb (length (without_cr piece)) 1000 long)
+    record {
+      taken = piece ++ 10 ∷ [];
+      split = sym (append_assoc piece (10 ∷ []) rest);
+      long = next_at_lf piece [] whole (omega arith) ∙ ap (λ (b : Bool). cond b (took.Line (without_cr piece)) took.TooLong) (lt-leb (length (without_cr piece)) 1000 long);
+    }
 tells_line (Some l) before left piece rest whole short some line = (
   next_at_lf piece rest whole (omega arith)
       ∙ ap (λ (b : Bool). cond b (took.Line (without_cr piece)) took.TooLong) (le-leb (length (without_cr piece)) 1000 (some.0 refl))
@@ -70,4 +74,8 @@ told_at_lf o before left piece was mid is whole short some line split next =
 pub told_at_full : (byte before left : ℕ) (piece : List ℕ) (was mid is : Option (List ℕ)) → has_lf piece ≡ false → byte ≢ 10 → length piece ≡ 1001 → was ≡ followed_by piece mid → mid ≡ followed_by (byte ∷ []) is → WhereTold was is (λ rest after. Tells (reader_with before) rest took.TooLong (reader_with left) after)
 told_at_full byte before left piece was mid is whole other full split next =
     told_by (piece ++ byte ∷ []) was is _ (joined piece byte was mid is split next)
-    (λ rest e. next_too_long (piece ++ byte ∷ []) rest (without_lf piece byte whole other) (omega (arith, length_push piece byte)))
+    (λ rest e. record {
+      taken = piece ++ byte ∷ [];
+      split = refl;
+      long = next_too_long (piece ++ byte ∷ []) (without_lf piece byte whole other) (omega (arith, length_push piece byte));
+    })

@@ -1,3 +1,4 @@
 mod Answered
+mod Parts
 mod Pieces
 pub mod Places

@@ -2,7 +2,7 @@
 use Rattle.std.proofs.Common.{◌≡◌, ℕ, ◌+◌, ◌-◌, suc, ◌<◌, ◌≤◌, ◌||◌, Bool, true, false, cond, leb, List, ◌∷◌, ◌++◌, length, take, drop, refl, ap, sym, ◌∙◌, arith}
 use Rattle.std.specs.List.{position_or_len}
 use Rattle.std.proofs.lemmas.Bool.{le-leb, lt-leb}
-use Rattle.std.proofs.lemmas.List.{take_all, length-append}
+use Rattle.std.proofs.lemmas.List.{take_all}
 use Rattle.std.proofs.lemmas.List.Folds.{list_any-append}
 use Rattle.std.proofs.Math.Seq.{take-append_seam, take-append-add, drop-append-add}
 use Rattle.assuan_line.proofs.Places.{place_after}
@@ -39,18 +39,13 @@ pub after_lf : (piece rest : List ℕ) → has_lf piece ≡ false → after_line
 after_lf piece rest whole =
     ap (λ (k : ℕ). drop (k + 1) (piece ++ 10 ∷ rest)) (lf_place piece rest whole) ∙ drop-append-add piece (10 ∷ rest) 1
 
--- no line feed is among the first bytes of a list without one, nor where they are all of it
-none_among : (piece rest : List ℕ) → has_lf piece ≡ false → length piece ≡ 1002 → has_lf (take 1002 (piece ++ rest)) ≡ false
-none_among piece rest whole long =
-    ap (λ (k : ℕ). has_lf (take k (piece ++ rest))) (sym long) ∙ ap has_lf (take-append_seam piece rest) ∙ whole
-
 -- so many bytes without a line feed are too many
-pub next_too_long : (piece rest : List ℕ) → has_lf piece ≡ false → length piece ≡ 1002 → next_of (piece ++ rest) ≡ TooLong
+pub next_too_long : (piece : List ℕ) → has_lf piece ≡ false → length piece ≡ 1002 → next_of piece ≡ TooLong
 unfolding next_of
-next_too_long piece rest whole long =
-    let bytes : List ℕ = piece ++ rest in
-    let many : leb 1002 (length bytes) ≡ true = le-leb 1002 (length bytes) (omega (arith, length-append piece rest)) in
-    ap (λ (b : Bool). cond b (cond (leb (length (first_line bytes)) 1000) (Line (first_line bytes)) TooLong) (cond (leb 1002 (length bytes)) TooLong End)) (none_among piece rest whole long)
+next_too_long piece whole long =
+    let none : has_lf (take 1002 piece) ≡ false = ap has_lf (take_all 1002 piece (omega arith)) ∙ whole in
+    let many : leb 1002 (length piece) ≡ true = le-leb 1002 (length piece) (omega arith) in
+    ap (λ (b : Bool). cond b (cond (leb (length (first_line piece)) 1000) (Line (first_line piece)) TooLong) (cond (leb 1002 (length piece)) TooLong End)) none
     ∙ ap (λ (b : Bool). cond b TooLong End) many
 
 -- fewer are no line yet

@@ -1,7 +1,7 @@
 -- Lines of bytes, as the Assuan manual has them ("client requests"): each is at most 1,000 bytes and ends with a line
 -- feed (LF, 10), which a carriage return (CR, 13) may precede. Neither counts as the line's.
-use Rattle.std.specs.Prelude.{◌≡◌, ◌==◌, ◌-◌, ◌≤◌, ℕ, Bool, false, List, length, take, slice_index, if◌then◌else◌}
-use Rattle.std.specs.List.{list_any, before_first, after_first}
+use Rattle.std.specs.Prelude.{◌≡◌, ◌==◌, ◌-◌, ◌≤◌, ℕ, Bool, false, List, [], length, map, take, get_or, slice_index, if◌then◌else◌}
+use Rattle.std.specs.List.{list_any, before_first, after_first, slice_split}
 
 abbrev pub is_lf : ℕ → Bool
 is_lf byte = byte == 10
@@ -26,3 +26,11 @@ first_line bytes = without_cr (before_first is_lf bytes)
 -- what comes after the first line feed
 abbrev pub after_line : List ℕ → List ℕ
 after_line bytes = after_first is_lf bytes
+
+-- all lines of the bytes, in order: the pieces that end before a line feed
+abbrev pub lines_of : List ℕ → List (List ℕ)
+lines_of bytes = map without_cr (take (length (slice_split is_lf bytes) - 1) (slice_split is_lf bytes))
+
+-- the bytes after the last line feed, which are no line
+abbrev pub rest_of : List ℕ → List ℕ
+rest_of bytes = get_or (slice_split is_lf bytes) (length (slice_split is_lf bytes) - 1) []

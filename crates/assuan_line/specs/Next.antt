@@ -45,11 +45,17 @@ pub record IsCutShort (ahead rest left : List ℕ) : Type 0 where
   pub split : rest ≡ taken ++ left
   pub none : next_of (ahead ++ taken) ≡ End
 
+-- the bytes that were taken tell that the line is too long
+pub record IsTooLong (ahead rest left : List ℕ) : Type 0 where
+  pub taken : List ℕ
+  pub split : rest ≡ taken ++ left
+  pub long : next_of (ahead ++ taken) ≡ TooLong
+
 -- What an answer says: the source held `rest` before it, and holds `left` after it.
 abbrev pub Tells : Reader → List ℕ → Took → Reader → List ℕ → Type 0
 Tells before rest (Line line) after left =
     (next_of (before.ahead ++ rest) ≡ Line line) × (after.ahead ++ left ≡ after_line (before.ahead ++ rest))
-Tells before rest TooLong after left = next_of (before.ahead ++ rest) ≡ TooLong
+Tells before rest TooLong after left = IsTooLong before.ahead rest left
 Tells before rest End after left = (next_of (before.ahead ++ rest) ≡ End) × (left ≡ []) × (0 < after.left)
 Tells before rest Spent after left = IsCutShort before.ahead rest left × (after.left ≡ 0)
 Tells before rest ReadFault after left = IsCutShort before.ahead rest left × (0 < after.left)

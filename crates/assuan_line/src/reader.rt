@@ -1,8 +1,8 @@
-ghost use Rattle.std.specs.Prelude.{◌≡◌, ◌≢◌, ◌↔◌, ◌≤◌, ◌+◌, ◌<◌, ◌∷◌, [], false, length, IsSome, IfSome, IfOk, OnOk, OnErr, Err, None};
+ghost use Rattle.std.specs.Prelude.{◌≡◌, ◌≢◌, ◌↔◌, ◌≤◌, ◌+◌, ◌<◌, ◌∷◌, [], ℕ, List, false, length, IsSome, IfSome, IfOk, OnOk, OnErr, Err, None};
 ghost use Rattle.agent_ports.specs.Counts.{Rose};
 ghost use Rattle.agent_ports.specs.Sides.{followed_by, WhereTold};
-ghost use Rattle.assuan_line.specs.Lines.{has_lf, without_cr};
-ghost use Rattle.assuan_line.specs.Next.{Tells, ended_by, OnLine, held};
+ghost use Rattle.assuan_line.specs.Lines.{has_lf, without_cr, after_line, lines_of, rest_of};
+ghost use Rattle.assuan_line.specs.Next.{next_of, Tells, ended_by, OnLine, held};
 ghost use Rattle.assuan_line.specs.Stops.{took_of, took_from, reader_with};
 
 use crate::Line;
@@ -99,7 +99,7 @@ impl LineReader {
 
         ensures ended { self.new.ended ≡ ended_by result }
         ensures again { IfSome self.old.ended (λ took. (result ≡ took) × (self.new ≡ self.old)
-            × (S.input source.new ≡ S.input source.old)) }
+            × (source.new ≡ source.old)) }
     {
         if let Some(stop) = self.stop {
             return stop.into();
@@ -113,6 +113,14 @@ impl LineReader {
         }
     }
 }
+
+/// A law: line by line, a reader gives all lines of the bytes in order, as long as none is too long; at the end the bytes
+/// after the last line feed are left.
+pub fn lines_come_in_order()
+    ensures line { (bytes line : List ℕ) → next_of bytes ≡ Took.Line line
+        → (lines_of bytes ≡ line ∷ lines_of (after_line bytes)) × (rest_of bytes ≡ rest_of (after_line bytes)) }
+    ensures end { (bytes : List ℕ) → next_of bytes ≡ Took.End → (lines_of bytes ≡ []) × (rest_of bytes ≡ bytes) }
+{}
 
 /// Takes the next bytes up to a line feed, and gives the line that they are.
 fn take_line<S: Source>(left: &mut u64, source: &mut S) -> Result<Line, Stop>

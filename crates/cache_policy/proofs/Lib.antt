@@ -1,5 +1,5 @@
 pub mod Lists
 pub mod EntriesLemmas
 pub mod BookLemmas
-pub mod WorkedRows
+pub mod WorkedExamples
 pub mod ReturnLemmas

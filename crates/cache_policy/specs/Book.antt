@@ -1,4 +1,4 @@
--- The plain book: a cache that is given puts alone, and what it has to do with histories.
+-- The plain book: a cache that is given puts alone, and what it has to do with histories. It is this project's own.
 use Rattle.std.specs.Prelude.{◌≡◌, ℕ, ◌+◌, List, [], ◌++◌, map, Bool, true, false, Option, Some, None, if◌then◌else◌}
 use Rattle.std.specs.Option.{option_and_then}
 use Rattle.std.specs.List.{AllByRecursion}

@@ -1,4 +1,4 @@
--- The definitions on worked rows, each by computation. One id and one session; the limits are the manual's.
+-- The definitions on worked examples, each by computation. One id and one session; the limits are the manual's.
 use Rattle.std.specs.Prelude.{◌≡◌, ℕ, ◌%◌, ◌^◌, List, [], ◌∷◌, ◌++◌, true, false, Some, None, refl}
 use Rattle.std.proofs.Common.{inl, lit<, lit≤}
 use Rattle.cache_policy.specs.declared.mode.Mode.{Mode}
@@ -57,6 +57,14 @@ used_again = refl
 used_late : answer (put Any Default 0 ∷ ask (Given 0) 600 ∷ ask (Given 0) 1200 ∷ []) (Ask name User Quiet) 1801
     ≡ Reply Empty
 used_late = refl
+
+-- uses keep an entry up to its greatest age, and no longer
+used_throughout : FollowsPolicy default_limits (of [])
+    (put Any Default 0 ∷ ask (Given 0) 500 ∷ ask (Given 0) 1000 ∷ ask (Given 0) 1500 ∷ ask (Given 0) 2000 ∷ ask (Given 0) 2500
+    ∷ ask (Given 0) 3000 ∷ ask (Given 0) 3500 ∷ ask (Given 0) 4000 ∷ ask (Given 0) 4500 ∷ ask (Given 0) 5000 ∷ ask (Given 0) 5500
+    ∷ ask (Given 0) 6000 ∷ ask (Given 0) 6500 ∷ ask (Given 0) 7000 ∷ ask (Given 0) 7200 ∷ ask Empty 7201 ∷ [])
+used_throughout =
+    (refl, (refl, (refl, (refl, (refl, (refl, (refl, (refl, (refl, (refl, (refl, (refl, (refl, (refl, (refl, (refl, (refl, tt)))))))))))))))))
 
 -- a look starts nothing again
 looked_at : answer (put Any Default 0 ∷ mark (Peek name User) (WhetherHeld true) 600 ∷ [])
