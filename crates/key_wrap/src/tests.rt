@@ -43,3 +43,20 @@ fn faults(rt: HostRuntime) -> Result<(), Fail> {
     }
     Ok(())
 }
+
+#[test]
+fn printed_faults(rt: HostRuntime) -> Result<(), Fail> {
+    let cases = [
+        (WrapFault::Length, "not a length of wrapped bytes"),
+        (
+            WrapFault::Check,
+            "the integrity check of the wrapped bytes failed",
+        ),
+        (WrapFault::NoMemory, "out of memory"),
+    ];
+    for (fault, want) in cases {
+        let text = format!(in rt.alloc(); "{fault}")?;
+        assert_eq!(rt; text.as_str(), want);
+    }
+    Ok(())
+}
