@@ -20,7 +20,7 @@ use Rattle.agent_top.specs.declared.session.SessionEnd.TheVariants as end
 use Rattle.agent_top.specs.Answers.{line_of, HasCut}
 use Rattle.agent_top.specs.Cache.{Standing, at_start, IsKeptAs}
 use Rattle.agent_top.specs.Requests.{IsRequest}
-use Rattle.agent_top.specs.Session.{budget, Exchange, Talk, goes_on, over as talk_over, ended, too_long, spent, read_fault, cut, cut_too_long, Session, greeted, cut_greeting, HasServed, Takes}
+use Rattle.agent_top.specs.Session.{budget, Exchange, Talk, goes_on, over as talk_over, ended, too_long, spent, read_fault, cut, cut_too_long, Session, greeted, cut_greeting, outside, HasServed, Takes}
 use Rattle.agent_top.specs.Steps.{HasAnswered}
 
 -- the bytes ahead count among those that were taken
@@ -65,7 +65,7 @@ module _ (rules : Rules) (limits : Limits) where
     pub session : WhereTold input.bytes input_now.bytes (StandsAt standing readings written reader)
 
   -- the greeting was cut
-  pub cut_at_greeting : (input output input_now output_now : Side) (later : ℕ → Option ℕ) (count : ℕ) → input_now ≡ input → HasCut (line_of Greeting) output output_now → HasServed rules limits input output later count end.WriteFault input_now output_now later count
+  pub cut_at_greeting : (input output input_now output_now : Side) (later : ℕ → Option ℕ) (count : ℕ) → input_now ≡ input → HasCut (line_of Greeting) output output_now → HasServed rules limits (outside input output later count) end.WriteFault (outside input_now output_now later count)
   cut_at_greeting input output input_now output_now later count same failed = record {
     written = failed.sent;
     readings = [];
@@ -102,7 +102,7 @@ module _ (rules : Rules) (limits : Limits) where
         serving.session takes each
 
     -- the session's end, where the bytes read tell how it ends and what it writes
-    ends : (readings text : List ℕ) (end : SessionEnd) (output_now : Side) (later_now : ℕ → Option ℕ) (count_now : ℕ) → output_now.bytes ≡ with_bytes output_read.bytes text → HasGiven later_mid count_mid readings later_now count_now → ((total rest left : List ℕ) → length total + reader.left ≡ length rest + budget → Takes reader answer reader_now rest left → Talk rules limits (length total) serving.standing (reader.ahead ++ rest) readings text end left) → HasServed rules limits input output later count end input_now output_now later_now count_now
+    ends : (readings text : List ℕ) (end : SessionEnd) (output_now : Side) (later_now : ℕ → Option ℕ) (count_now : ℕ) → output_now.bytes ≡ with_bytes output_read.bytes text → HasGiven later_mid count_mid readings later_now count_now → ((total rest left : List ℕ) → length total + reader.left ≡ length rest + budget → Takes reader answer reader_now rest left → Talk rules limits (length total) serving.standing (reader.ahead ++ rest) readings text end left) → HasServed rules limits (outside input output later count) end (outside input_now output_now later_now count_now)
     ends readings text end output_now later_now count_now appended given talk = record {
       written = serving.written ++ text;
       readings = serving.readings ++ readings;
@@ -142,7 +142,7 @@ module _ (rules : Rules) (limits : Limits) where
             ));
           }
 
-      pub over : (output_now : Side) → HasAnswered rules limits serving.standing request later_mid count_mid output_read (Ok Over) later_now count_now output_now book_now marks_now latest_now → HasServed rules limits input output later count Bye input_now output_now later_now count_now
+      pub over : (output_now : Side) → HasAnswered rules limits serving.standing request later_mid count_mid output_read (Ok Over) later_now count_now output_now book_now marks_now latest_now → HasServed rules limits (outside input output later count) Bye (outside input_now output_now later_now count_now)
       over output_now answered =
           let step = answered.stepped in
           let exchange : Exchange rules limits serving.standing request step.readings answered.text step.after Over =
@@ -151,7 +151,7 @@ module _ (rules : Rules) (limits : Limits) where
           (λ total rest left counted taken.
           talk_over line reader_now.ahead request (tells rest left taken).0 asks exchange (tells rest left taken).1)
 
-      pub cut_answer : (fault : WriteFault) (output_now : Side) → HasAnswered rules limits serving.standing request later_mid count_mid output_read (Err fault) later_now count_now output_now book_now marks_now latest_now → HasServed rules limits input output later count end.WriteFault input_now output_now later_now count_now
+      pub cut_answer : (fault : WriteFault) (output_now : Side) → HasAnswered rules limits serving.standing request later_mid count_mid output_read (Err fault) later_now count_now output_now book_now marks_now latest_now → HasServed rules limits (outside input output later count) end.WriteFault (outside input_now output_now later_now count_now)
       cut_answer fault output_now answered =
           let step = answered.stepped in
           let failed : HasCut answered.text output_read output_now = answered.written in
@@ -160,27 +160,27 @@ module _ (rules : Rules) (limits : Limits) where
           (subst (λ (t : List ℕ). Exchange rules limits serving.standing request step.readings t step.after answered.went) failed.split step.exchange)
           (tells rest left taken).1)
 
-    pub at_too_long : answer ≡ took.TooLong → (output_now : Side) → output_now.bytes ≡ with_bytes output_read.bytes (line_of LineTooLong) → HasServed rules limits input output later count TooLong input_now output_now later_mid count_mid
+    pub at_too_long : answer ≡ took.TooLong → (output_now : Side) → output_now.bytes ≡ with_bytes output_read.bytes (line_of LineTooLong) → HasServed rules limits (outside input output later count) TooLong (outside input_now output_now later_mid count_mid)
     at_too_long is output_now appended =
         ends [] (line_of LineTooLong) TooLong output_now later_mid count_mid appended (given_none later_mid count_mid)
         (λ total rest left counted taken. too_long (long_of_all (subst (λ t. Tells reader rest t reader_now left) is taken.0)))
 
-    pub cut_at_too_long : answer ≡ took.TooLong → (output_now : Side) → HasCut (line_of LineTooLong) output_read output_now → HasServed rules limits input output later count end.WriteFault input_now output_now later_mid count_mid
+    pub cut_at_too_long : answer ≡ took.TooLong → (output_now : Side) → HasCut (line_of LineTooLong) output_read output_now → HasServed rules limits (outside input output later count) end.WriteFault (outside input_now output_now later_mid count_mid)
     cut_at_too_long is output_now failed =
         ends [] failed.sent end.WriteFault output_now later_mid count_mid failed.written (given_none later_mid count_mid)
         (λ total rest left counted taken. cut_too_long failed.unsent (long_of_all (subst (λ t. Tells reader rest t reader_now left) is taken.0)) failed.split)
 
-    pub at_end : answer ≡ took.End → HasServed rules limits input output later count Ended input_now output_read later_mid count_mid
+    pub at_end : answer ≡ took.End → HasServed rules limits (outside input output later count) Ended (outside input_now output_read later_mid count_mid)
     at_end is = ends [] [] Ended output_read later_mid count_mid (nothing output_read.bytes) (given_none later_mid count_mid) (λ total rest left counted taken.
         let told : Tells reader rest took.End reader_now left = subst (λ t. Tells reader rest t reader_now left) is taken.0 in
         subst (λ (l : List ℕ). Talk rules limits (length total) serving.standing (reader.ahead ++ rest) [] [] Ended l) (sym told.1) (ended told.0 (omega (arith, counted, taken.1, told.2, ap (λ (l : List ℕ). length l) told.1))))
 
-    pub at_spent : answer ≡ took.Spent → HasServed rules limits input output later count Spent input_now output_read later_mid count_mid
+    pub at_spent : answer ≡ took.Spent → HasServed rules limits (outside input output later count) Spent (outside input_now output_read later_mid count_mid)
     at_spent is = ends [] [] Spent output_read later_mid count_mid (nothing output_read.bytes) (given_none later_mid count_mid) (λ total rest left counted taken.
         let told : Tells reader rest took.Spent reader_now left = subst (λ t. Tells reader rest t reader_now left) is taken.0 in
         spent (of_all told.0) (omega (arith, counted, taken.1, told.1)))
 
-    pub at_read_fault : answer ≡ took.ReadFault → HasServed rules limits input output later count ReadFault input_now output_read later_mid count_mid
+    pub at_read_fault : answer ≡ took.ReadFault → HasServed rules limits (outside input output later count) ReadFault (outside input_now output_read later_mid count_mid)
     at_read_fault is = ends [] [] ReadFault output_read later_mid count_mid (nothing output_read.bytes) (given_none later_mid count_mid) (λ total rest left counted taken.
         let told : Tells reader rest took.ReadFault reader_now left = subst (λ t. Tells reader rest t reader_now left) is taken.0 in
         read_fault (of_all told.0) (omega (arith, counted, taken.1, told.1)))

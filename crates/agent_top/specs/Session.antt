@@ -99,14 +99,24 @@ pub data Session (rules : Rules) (limits : Limits) : List ℕ → List ℕ → L
   cut_greeting : {bytes sent : List ℕ} (unsent : List ℕ) → line_of Greeting ≡ sent ++ unsent
       → Session rules limits bytes [] sent WriteFault bytes
 
--- what a session did to both sides of its link and to the clock: for the bytes that the source held, and these readings of the
--- clock, the bytes that were written are a session's, and no more bytes were taken than the budget allows
-pub record HasServed (rules : Rules) (limits : Limits) (input output : Side) (later : ℕ → Option ℕ) (count : ℕ) (end : SessionEnd) (input_after output_after : Side) (later_after : ℕ → Option ℕ) (count_after : ℕ) : Type 0 where
+-- what a session has to do with the outside: both sides of its link, and the clock's readings to come and their number so far
+pub record Outside : Type 0 where
+  pub input : Side
+  pub output : Side
+  pub later : ℕ → Option ℕ
+  pub count : ℕ
+
+abbrev pub outside : Side → Side → (ℕ → Option ℕ) → ℕ → Outside
+outside input output later count = record { input = input; output = output; later = later; count = count }
+
+-- what a session did to the outside: for the bytes that the source held, and these readings of the clock, the bytes that were
+-- written are a session's, and no more bytes were taken than the budget allows
+pub record HasServed (rules : Rules) (limits : Limits) (before : Outside) (end : SessionEnd) (after : Outside) : Type 0 where
   pub written : List ℕ
   pub readings : List ℕ
-  pub appended : output_after.bytes ≡ with_bytes output.bytes written
-  pub given : HasGiven later count readings later_after count_after
-  pub session : WhereTold input.bytes input_after.bytes (λ rest left.
+  pub appended : after.output.bytes ≡ with_bytes before.output.bytes written
+  pub given : HasGiven before.later before.count readings after.later after.count
+  pub session : WhereTold before.input.bytes after.input.bytes (λ rest left.
       Session rules limits rest readings written end left × (length rest ≤ budget + length left))
 
 -- how a session ends that a failed write may cut

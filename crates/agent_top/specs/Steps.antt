@@ -13,7 +13,9 @@ use Rattle.agent_top.specs.Cache.{Standing, IsKeptAs}
 use Rattle.agent_top.specs.Session.{Exchange}
 
 -- the cache took the step of a request, which is to be answered by this text
-pub record HasStepped (rules : Rules) (limits : Limits) (standing : Standing) (request : Request) (went : Went) (text : List ℕ) (later : ℕ → Option ℕ) (count : ℕ) (later_now : ℕ → Option ℕ) (count_now : ℕ) (book : Book) (marks latest : ℕ) : Type 0 where
+pub record HasStepped (rules : Rules) (limits : Limits) (standing : Standing) (request : Request) (went : Went) (text : List ℕ)
+    (later : ℕ → Option ℕ) (count : ℕ) (later_now : ℕ → Option ℕ) (count_now : ℕ)
+    (book : Book) (marks latest : ℕ) : Type 0 where
   pub readings : List ℕ
   pub after : Standing
   pub exchange : Exchange rules limits standing request readings text after went
@@ -31,7 +33,10 @@ IsWent (Ok other) went = other ≡ went
 IsWent (Err fault) went = Unit {0}
 
 -- a request was answered, or its answer was cut
-pub record HasAnswered (rules : Rules) (limits : Limits) (standing : Standing) (request : Request) (later : ℕ → Option ℕ) (count : ℕ) (output : Side) (result : Result Went Fault) (later_now : ℕ → Option ℕ) (count_now : ℕ) (output_now : Side) (book : Book) (marks latest : ℕ) : Type 0 where
+pub record HasAnswered (rules : Rules) (limits : Limits) (standing : Standing) (request : Request)
+    (later : ℕ → Option ℕ) (count : ℕ) (output : Side) (result : Result Went Fault)
+    (later_now : ℕ → Option ℕ) (count_now : ℕ) (output_now : Side)
+    (book : Book) (marks latest : ℕ) : Type 0 where
   pub went : Went
   pub text : List ℕ
   pub stepped : HasStepped rules limits standing request went text later count later_now count_now book marks latest

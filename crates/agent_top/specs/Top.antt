@@ -1,12 +1,11 @@
 -- What a run of the agent leaves, and its status. The statuses are this project's own.
-use Rattle.std.specs.Prelude.{◌≡◌, ◌≤◌, ℕ, Option}
+use Rattle.std.specs.Prelude.{◌≡◌, ◌≤◌, ℕ}
 use Rattle.agent_ports.specs.Counts.{Rose}
-use Rattle.agent_ports.specs.Sides.{Side}
 use Rattle.cache_policy.specs.declared.life.Limits.{Limits}
 use Rattle.agent_top.specs.declared.words.Rules.{Rules}
 use Rattle.agent_top.specs.declared.session.SessionEnd.{SessionEnd}
 use Rattle.agent_top.specs.declared.session.SessionEnd.TheVariants.{Bye, Ended, TooLong, Spent, ReadFault, WriteFault}
-use Rattle.agent_top.specs.Session.{HasServed}
+use Rattle.agent_top.specs.Session.{Outside, HasServed}
 
 abbrev pub status_of : SessionEnd → ℕ
 status_of Bye = 0
@@ -17,12 +16,12 @@ status_of Spent = 6
 status_of TooLong = 7
 
 -- a session was served, and the status is that of its end; a fault is told only where its count has risen
-pub record HasRun (rules : Rules) (limits : Limits) (input output : Side) (later : ℕ → Option ℕ) (count status : ℕ) (input_after output_after : Side) (later_after : ℕ → Option ℕ) (count_after : ℕ) : Type 0 where
+pub record HasRun (rules : Rules) (limits : Limits) (before : Outside) (status : ℕ) (after : Outside) : Type 0 where
   pub end : SessionEnd
   pub status_is : status ≡ status_of end
-  pub served : HasServed rules limits input output later count end input_after output_after later_after count_after
-  pub read_fault : end ≡ ReadFault → Rose input.faults input_after.faults
-  pub write_fault : end ≡ WriteFault → Rose output.faults output_after.faults
+  pub served : HasServed rules limits before end after
+  pub read_fault : end ≡ ReadFault → Rose before.input.faults after.input.faults
+  pub write_fault : end ≡ WriteFault → Rose before.output.faults after.output.faults
   -- the counts never fall
-  pub input_faults : input.faults ≤ input_after.faults
-  pub output_faults : output.faults ≤ output_after.faults
+  pub input_faults : before.input.faults ≤ after.input.faults
+  pub output_faults : before.output.faults ≤ after.output.faults

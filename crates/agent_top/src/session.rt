@@ -6,7 +6,7 @@ ghost use Rattle.cache_policy.specs.Lifetimes.{default_limits};
 ghost use Rattle.agent_top.specs.Cache.{Standing, IsKeptAs};
 ghost use Rattle.agent_top.specs.Requests.{IsRequest};
 ghost use Rattle.agent_top.specs.declared.request.Request.{Request as Asked};
-ghost use Rattle.agent_top.specs.Session.{Takes, HasServed, end_of};
+ghost use Rattle.agent_top.specs.Session.{Takes, HasServed, outside, end_of};
 ghost use Rattle.agent_top.specs.Steps.{HasAnswered};
 
 use crate::answer::{Answer, WriteFault, write_answer, write_given};
@@ -65,8 +65,8 @@ pub(crate) fn serve<L: Link, C: Clock>(
     clock: &mut C,
 ) -> SessionEnd
     ensures served { HasServed rules.now default_limits
-        (L.input link.old) (L.output link.old) (C.later clock.old) (C.readings clock.old) result
-        (L.input link.new) (L.output link.new) (C.later clock.new) (C.readings clock.new) }
+        (outside (L.input link.old) (L.output link.old) (C.later clock.old) (C.readings clock.old)) result
+        (outside (L.input link.new) (L.output link.new) (C.later clock.new) (C.readings clock.new)) }
     ensures read_fault { result ≡ SessionEnd.ReadFault → Rose (L.input link.old).faults (L.input link.new).faults }
     ensures write_fault { result ≡ SessionEnd.WriteFault → Rose (L.output link.old).faults (L.output link.new).faults }
     ensures input_faults { (L.input link.old).faults ≤ (L.input link.new).faults }
@@ -85,8 +85,8 @@ fn serve_lines<L: Link, C: Clock>(
     clock: &mut C,
 ) -> Result<SessionEnd, WriteFault>
     ensures served { HasServed rules.now default_limits
-        (L.input link.old) (L.output link.old) (C.later clock.old) (C.readings clock.old) (end_of result)
-        (L.input link.new) (L.output link.new) (C.later clock.new) (C.readings clock.new) }
+        (outside (L.input link.old) (L.output link.old) (C.later clock.old) (C.readings clock.old)) (end_of result)
+        (outside (L.input link.new) (L.output link.new) (C.later clock.new) (C.readings clock.new)) }
     ensures read_fault { result ≡ Ok SessionEnd.ReadFault → Rose (L.input link.old).faults (L.input link.new).faults }
     ensures write_fault { OnErr result (Rose (L.output link.old).faults (L.output link.new).faults) }
     ensures others { result ≢ Ok SessionEnd.WriteFault }

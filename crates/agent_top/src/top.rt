@@ -1,6 +1,7 @@
 ghost use Rattle.std.specs.Prelude.{◌≡◌, map, string_bytes, IfSome, IfNone};
 ghost use Rattle.agent_top.specs.Words.{rules_of};
 ghost use Rattle.cache_policy.specs.Lifetimes.{default_limits};
+ghost use Rattle.agent_top.specs.Session.{outside};
 ghost use Rattle.agent_top.specs.Top.{HasRun};
 
 use crate::session::{SessionEnd, serve};
@@ -25,8 +26,8 @@ pub fn run_agent<W: Threads + Wait + rt::Clock + Sync, S: Link, H: Host>(
         ((result ≡ 2) × (S.input stdio.new ≡ S.input stdio.old) × (S.output stdio.new ≡ S.output stdio.old)
         × (host.new ≡ host.old)) }
     ensures served { IfSome (rules_of (map string_bytes words.now)) (λ rules. HasRun rules default_limits
-        (S.input stdio.old) (S.output stdio.old) (H.later host.old) (H.readings host.old) result
-        (S.input stdio.new) (S.output stdio.new) (H.later host.new) (H.readings host.new)) }
+        (outside (S.input stdio.old) (S.output stdio.old) (H.later host.old) (H.readings host.old)) result
+        (outside (S.input stdio.new) (S.output stdio.new) (H.later host.new) (H.readings host.new))) }
 {
     match read_words(words) {
         Ok(rules) => run_server(alloc, &rules, stdio, host),
@@ -37,8 +38,8 @@ pub fn run_agent<W: Threads + Wait + rt::Clock + Sync, S: Link, H: Host>(
 /// Serves one session on standard input and output, and gives its status. It always returns.
 pub fn run_server<S: Link, H: Host>(alloc: Global, rules: &Rules, stdio: &mut S, host: &mut H) -> u8
     ensures { HasRun rules.now default_limits
-        (S.input stdio.old) (S.output stdio.old) (H.later host.old) (H.readings host.old) result
-        (S.input stdio.new) (S.output stdio.new) (H.later host.new) (H.readings host.new) }
+        (outside (S.input stdio.old) (S.output stdio.old) (H.later host.old) (H.readings host.old)) result
+        (outside (S.input stdio.new) (S.output stdio.new) (H.later host.new) (H.readings host.new)) }
 {
     serve(alloc, rules, stdio, host).status()
 }
