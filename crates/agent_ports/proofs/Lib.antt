@@ -1,1 +1,3 @@
+pub mod Given
 mod Pieces
+pub mod Told

@@ -3,7 +3,7 @@ use Rattle.std.proofs.Common.{◌≡◌, ◌≤◌, ℕ, true, false, List, [], 
 use Rattle.std.specs.List.{list_all}
 use Rattle.std.proofs.lemmas.Bool.{and_parts, or_from, ne_eqb, leb-true}
 use Rattle.agent_ports.specs.Sides.{Side, with_bytes}
-use Rattle.agent_ports.specs.Told.{with_bytes-append}
+use Rattle.agent_ports.proofs.Told.{with_bytes-append}
 use Rattle.assuan_line.specs.Lines.{is_lf, has_lf, IsLine}
 use Rattle.agent_top.specs.Answers.{HasCut}
 use Rattle.agent_top.specs.Requests.{is_plain, is_passphrase}

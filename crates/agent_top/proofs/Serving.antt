@@ -1,9 +1,9 @@
 -- A session that is under way, and what each way out of the loop makes of it.
 use Rattle.std.proofs.Common.{◌≡◌, ◌≤◌, ℕ, ◌+◌, List, [], ◌++◌, length, Option, Some, None, Ok, Err, refl, ap, sym, ◌∙◌, subst, arith, append_assoc, append-nil}
-use Rattle.agent_ports.specs.Given.{given_none, given_then}
+use Rattle.agent_ports.proofs.Given.{given_none, given_then}
 use Rattle.agent_ports.specs.Readings.{HasGiven}
 use Rattle.agent_ports.specs.Sides.{Side, with_bytes, WhereTold}
-use Rattle.agent_ports.specs.Told.{told_same, told_then, with_bytes-append}
+use Rattle.agent_ports.proofs.Told.{told_same, told_then, with_bytes-append}
 use Rattle.assuan_line.specs.Next.{Reader, Tells, IsCutShort, IsTooLong}
 use Rattle.assuan_line.specs.declared.reader.Took.{Took}
 use Rattle.assuan_line.specs.declared.reader.Took.TheVariants as took

@@ -5,7 +5,7 @@ use Rattle.agent_top.specs.declared.request.Request.TheVariants.{Bye, Unknown}
 use Rattle.agent_top.specs.declared.session.Went.TheVariants.{On, Over}
 use Rattle.agent_top.specs.Answers.{line_of}
 use Rattle.agent_top.specs.Session.{bye, unknown}
-use Rattle.agent_ports.specs.Given.{given_none}
+use Rattle.agent_ports.proofs.Given.{given_none}
 use Rattle.agent_top.proofs.session.answer_line.Goals as goal
 
 pub returns-in_err-write_answer-in-Bye-clause-answered : goal.returns-in_err-write_answer-in-Bye-clause-answered

@@ -1,4 +1,4 @@
-use Rattle.agent_ports.specs.Given.{given_one}
+use Rattle.agent_ports.proofs.Given.{given_one}
 use Rattle.agent_top.proofs.Stepping.{answered_live}
 use Rattle.agent_top.proofs.step.get.Goals as goal
 

@@ -1,7 +1,7 @@
 use Rattle.std.proofs.Common.{[], ◌∷◌}
 use Rattle.agent_top.specs.Cache.{preset}
 use Rattle.agent_top.specs.Session.{not_allowed, stored, no_memory}
-use Rattle.agent_ports.specs.Given.{given_none, given_one}
+use Rattle.agent_ports.proofs.Given.{given_none, given_one}
 use Rattle.agent_top.proofs.step.preset.Goals as goal
 
 pub returns-then-not-rules-clause-stepped : goal.returns-then-not-rules-clause-stepped
