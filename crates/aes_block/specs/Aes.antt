@@ -69,7 +69,7 @@ turned_word w r =
     bit_xor (sub_byte (slice_index w 1)) (power 2 (r - 1)) ∷ sub_byte (slice_index w 2)
     ∷ sub_byte (slice_index w 3) ∷ sub_byte (slice_index w 0) ∷ []
 
--- what is added to the word before last but two to give word i, from the last word
+-- what is added to word i - 4 to give word i, from word i - 1
 abbrev pub added_word : List ℕ → ℕ → List ℕ
 added_word w i = if i % 4 == 0 then turned_word w (i / 4) else w
 

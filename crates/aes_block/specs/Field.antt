@@ -1,4 +1,4 @@
--- The field of FIPS 197, 4. A byte is a polynomial over the two elements 0 and 1: its bit i is the
+-- The field of FIPS 197 (2023), 4. A byte is a polynomial over the two elements 0 and 1: its bit i is the
 -- coefficient of x ^ i. The sum of two polynomials is the exclusive or of their bits, `bit_xor`.
 use Rattle.std.specs.Prelude.{ℕ, zero, suc, ◌+◌, ◌*◌, ◌%◌, ◌^◌, List, ◌==◌, bit_xor, map, unwrap_or, position}
 use Rattle.std.specs.Int.{bit_at}

@@ -7,6 +7,7 @@ ghost use Rattle.std.specs.Prelude.{◌≡◌};
 ghost use Rattle.aes_block.specs.Aes.{xor_of};
 
 mod cipher;
+mod laws;
 mod schedule;
 mod state;
 mod tables;
@@ -14,6 +15,7 @@ mod tables;
 mod tests;
 
 pub use cipher::Aes128;
+pub use laws::decryption_undoes_encryption;
 
 /// The exclusive or of two arrays, byte by byte: the addition of FIPS 197, SP 800-38A and RFC 3394.
 pub fn xor<const N: usize>(left: &[u8; N], right: &[u8; N]) -> [u8; N]

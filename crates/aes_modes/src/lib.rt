@@ -7,6 +7,10 @@ ghost use Rattle.aes_modes.specs.Cbc.{cbc_encrypted, cbc_decrypted};
 
 use aes_block::{Aes128, xor};
 
+mod laws;
+
+pub use laws::decryption_undoes_encryption;
+
 const BLOCK_LEN: usize = 16;
 
 /// Encrypts whole blocks under a key and an initialization vector.

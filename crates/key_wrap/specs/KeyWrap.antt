@@ -54,6 +54,6 @@ unwrapped_of key bytes =
     let n = length bytes / 8 - 1 in
     unwrap_passes key n 6 (record { check = take 8 bytes; blocks = first_chunks 8 n (drop 8 bytes) })
 
--- a length of wrapped bytes
+-- a length of wrapped bytes; that no more than 65,536 bytes are wrapped is this project's own limit
 abbrev pub is_wrapped_length : ℕ → Bool
 is_wrapped_length n = (n % 8 == 0) && nat_le 24 n && nat_le n 65544

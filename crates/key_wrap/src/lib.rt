@@ -12,8 +12,10 @@ use std::alloc::{AllocError, Global};
 use std::error::Error;
 use std::fmt;
 
+mod laws;
 mod passes;
 
+pub use laws::unwrapping_undoes_wrapping;
 use passes::{INITIAL_VALUE, joined_registers, unwrap_passes, wrap_passes};
 
 /// Why bytes were not unwrapped.

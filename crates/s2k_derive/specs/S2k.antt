@@ -1,5 +1,5 @@
 -- Iterated and salted S2K (RFC 4880, 3.7.1.3) with SHA-1, for a key of 16 bytes.
-use Rattle.std.specs.Prelude.{ℕ, ◌+◌, ◌*◌, ◌/◌, ◌%◌, ◌^◌, List, ◌++◌, length, take, map, max, nat_lt, slice_index, if◌then◌else◌}
+use Rattle.std.specs.Prelude.{ℕ, ◌+◌, ◌*◌, ◌/◌, ◌%◌, ◌^◌, List, ◌++◌, length, take, map, max, nat_lt, slice_index, ◌≤◌, if◌then◌else◌}
 use Rattle.std.specs.List.{range_with_len}
 use Rattle.sha1.specs.Sha1.{sha1}
 
@@ -17,3 +17,8 @@ derived_key pass salt count =
 -- how many bytes a count stands for: one octet is coded, and any other number is itself
 abbrev pub octets : ℕ → ℕ
 octets n = if nat_lt n 256 then (16 + n % 16) * 2 ^ (n / 16 + 6) else n
+
+-- a count of bytes that is accepted; the bounds are this project's own
+pub record IsAccepted (count : ℕ) : Type 0 where
+  pub least : 65536 ≤ count
+  pub greatest : count ≤ 2 ^ 32

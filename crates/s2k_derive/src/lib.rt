@@ -3,7 +3,7 @@
 
 ghost use Rattle.std.specs.Prelude.{◌≡◌, ◌+◌, ◌^◌, ◌<◌, ◌≤◌, ◌++◌, length, slice_index, SomeIff};
 ghost use Rattle.sha1.specs.Sha1.{sha1};
-ghost use Rattle.s2k_derive.specs.S2k.{repeated, derived_key, octets};
+ghost use Rattle.s2k_derive.specs.S2k.{repeated, derived_key, octets, IsAccepted};
 ghost use Rattle.s2k_derive.specs.declared.TheConstants.{PIECE_LEN};
 
 use sha1::Sha1;
@@ -71,7 +71,7 @@ fn byte_at(pass: &[u8], salt: &[u8; 8], place: usize) -> u8
 /// The count of bytes that a written number means: one octet is coded as in RFC 4880, and any other
 /// number is the count itself. `None` where the count is too small or too great.
 pub fn count_of(n: u64) -> Option<u64>
-    ensures { SomeIff result ((65536 ≤ octets n) × (octets n ≤ 2 ^ 32)) (octets n) }
+    ensures { SomeIff result (IsAccepted (octets n)) (octets n) }
 {
     let count = if n < 256 {
         (16 + n % 16) << (n / 16 + 6)

@@ -1,6 +1,6 @@
 use crate::{count_of, derive};
 
-// The message of FIPS 180-4's second example for SHA-1, as one copy of salt and passphrase.
+// The message of the second test of RFC 3174, 7.3, as one copy of salt and passphrase.
 #[test]
 fn hashes_one_copy(rt: HostRuntime) {
     let key: [u8; 16] = [

@@ -85,7 +85,8 @@ valued old value None = refused Unknown old
 valued old value (Some name) =
     if can_be_kept value then chosen old value name else refused Parameter old
 
--- an option with this name and value: an empty name comes before all, an unknown one before the value
+-- an option with this name and value: an empty name comes before all, an unknown one before the value. The order is this
+-- project's own
 abbrev pub judged_as : Choices → List ℕ → List ℕ → Judged
 judged_as old [] value = refused Parameter old
 judged_as old name value = valued old value (named name)

@@ -1,4 +1,4 @@
--- How often a passphrase is hashed, and how many sessions are served at a time.
+-- How often a passphrase is hashed, and how many sessions are served at a time. The bounds are this project's own.
 use Rattle.std.specs.Prelude.{ℕ, ◌≤◌, ◌&&◌, nat_le, Bool}
 
 -- A count of string-to-key hashing (RFC 4880, 3.7.1.3). The greatest is the one that its coded octet 255 stands for.

@@ -1,4 +1,5 @@
--- The options of a session, by their names (GnuPG manual, "agent options"; gpg-agent's OPTION command).
+-- The options of a session, by their names (GnuPG manual, "agent options"; gpg-agent's OPTION command). Which of them have no
+-- effect is this project's own.
 use Rattle.std.specs.Prelude.{ℕ, ◌+◌, ◌-◌, ◌*◌, ◌==◌, ◌&&◌, nat_le, List, [], ◌∷◌, length, fold, codes, Option, Some, None, if◌then◌else◌}
 use Rattle.std.specs.Option.{option_and_then}
 use Rattle.std.specs.Str.{all_ascii_digits}

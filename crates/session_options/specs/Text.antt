@@ -39,6 +39,7 @@ ends_line byte = byte == 13 || byte == 10
 abbrev pub has_line_end : List ℕ → Bool
 has_line_end bytes = list_any ends_line bytes
 
--- a value can be kept: at most 255 bytes, and no end of a line among them
+-- a value can be kept: at most 255 bytes, and no end of a line among them, since it is written as a line to the pinentry. This
+-- is this project's own
 abbrev pub can_be_kept : List ℕ → Bool
 can_be_kept value = nat_le (length value) 255 && not (has_line_end value)

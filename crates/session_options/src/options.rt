@@ -1,5 +1,5 @@
-ghost use Rattle.std.specs.Prelude.{◌≡◌, ◌≢◌, ℕ, List, ◌∷◌, ◌++◌, false, slice_index};
-ghost use Rattle.std.specs.List.{list_any};
+ghost use Rattle.std.specs.Prelude.{◌≡◌, ◌≢◌, ℕ, List, [], ◌∷◌, ◌++◌, true, false, slice_index};
+ghost use Rattle.std.specs.List.{list_any, list_all};
 ghost use Rattle.session_options.specs.Counts.{IsS2kCount};
 ghost use Rattle.session_options.specs.Text.{is_blank, ends_name};
 ghost use Rattle.session_options.specs.Choices.{Choices, judged, judged_as};
@@ -189,11 +189,19 @@ impl Options {
     }
 }
 
-/// A law: `name=value` is the option of this name with this value, after two dashes or none.
+/// A law: two dashes before the name, blanks around `=`, and leaving `=` out between name and value change nothing, and a name
+/// alone has an empty value.
 pub fn spelling_is_plain()
-    ensures bare { (old : Choices) (name value : List ℕ) → list_any ends_name name ≡ false → slice_index name 0 ≢ 45
-        → is_blank (slice_index value 0) ≡ false → judged old (name ++ 61 ∷ value) ≡ judged_as old name value }
-    ensures dashed { (old : Choices) (name value : List ℕ) → list_any ends_name name ≡ false
+    ensures bare { (old : Choices) (name before after value : List ℕ) → list_any ends_name name ≡ false
+        → slice_index name 0 ≢ 45 → list_all is_blank before ≡ true → list_all is_blank after ≡ true
         → is_blank (slice_index value 0) ≡ false
-        → judged old (45 ∷ 45 ∷ name ++ 61 ∷ value) ≡ judged_as old name value }
+        → judged old (name ++ (before ++ (61 ∷ (after ++ value)))) ≡ judged_as old name value }
+    ensures dashed { (old : Choices) (name before after value : List ℕ) → list_any ends_name name ≡ false
+        → list_all is_blank before ≡ true → list_all is_blank after ≡ true → is_blank (slice_index value 0) ≡ false
+        → judged old (45 ∷ 45 ∷ (name ++ (before ++ (61 ∷ (after ++ value))))) ≡ judged_as old name value }
+    ensures unmarked { (old : Choices) (name value : List ℕ) (blank : ℕ) (before : List ℕ) → list_any ends_name name ≡ false
+        → is_blank blank ≡ true → list_all is_blank before ≡ true → ends_name (slice_index value 0) ≡ false
+        → judged old (45 ∷ 45 ∷ (name ++ (blank ∷ (before ++ value)))) ≡ judged_as old name value }
+    ensures alone { (old : Choices) (name : List ℕ) → list_any ends_name name ≡ false
+        → judged old (45 ∷ 45 ∷ name) ≡ judged_as old name [] }
 {}

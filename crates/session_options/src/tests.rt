@@ -106,6 +106,8 @@ fn words_are_kept(rt: HostRuntime) -> Result<(), Fail> {
         options.set(&long_option(b"foo=", 256)?),
         OptionAnswer::Unknown
     );
+    assert_eq!(rt; options.set(b"lc-ctype=a\nb"), OptionAnswer::Parameter);
+    assert_eq!(rt; options.env().lc_ctype.len(), 0);
     Ok(())
 }
 

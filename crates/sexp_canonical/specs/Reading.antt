@@ -1,4 +1,5 @@
--- What reading a text answers: the expression at its front, or else the first fault from the left.
+-- What reading a text answers: the expression at its front, or else the first fault from the left. Which fault it is, and its
+-- place, is this project's own.
 use Rattle.std.specs.Prelude.{◌≡◌, ℕ, ◌+◌, ◌*◌, ◌-◌, ◌≤◌, max, List, [], ◌∷◌, ◌++◌, length, take, ◌==◌, ◌||◌, nat_lt, ◌&&◌, if◌then◌else◌, Option, Some, None, Result, Ok, Err, ◌⊎◌}
 use Rattle.std.specs.Char.{is_ascii_digit}
 use Rattle.std.specs.List.{flat_map}

@@ -1,0 +1,12 @@
+use Rattle.aes_block.proofs.Undone.{decrypted-encrypted, encrypted-bytes}
+use Rattle.aes_block.proofs.XorLemmas.{xor_of_twice}
+use Rattle.aes_block.proofs.laws.decryption_undoes_encryption.Goals as goal
+
+pub returns-clause-block : goal.returns-clause-block
+returns-clause-block c = encrypted-bytes
+
+pub returns-clause-undone : goal.returns-clause-undone
+returns-clause-undone c = decrypted-encrypted
+
+pub returns-clause-xor : goal.returns-clause-xor
+returns-clause-xor c = xor_of_twice
