@@ -1,9 +1,9 @@
 -- How an option may be spelled.
-use Rattle.std.proofs.Common.{◌≡◌, ◌≢◌, ℕ, suc, ◌+◌, ◌&&◌, ◌||◌, Bool, true, false, cond, List, [], ◌∷◌, ◌++◌, length, take, drop, get_or, refl, ap, sym, ◌∙◌, arith, append-nil}
+use Rattle.std.proofs.Common.{◌≡◌, ◌≢◌, ℕ, suc, ◌+◌, ◌&&◌, ◌||◌, Bool, true, false, cond, List, [], ◌∷◌, ◌++◌, length, take, drop, get_or, refl, ap, sym, ◌∙◌, arith}
 use Rattle.std.specs.Prelude.{◌==◌, not, codes}
 use Rattle.std.specs.Str.{bytes_eq}
 use Rattle.std.specs.List.{prefix_len, position_or_len, list_any, list_all}
-use Rattle.std.proofs.lemmas.Bool.{or_parts, and_parts, ne_eqb, eqb-true}
+use Rattle.std.proofs.lemmas.Bool.{or_parts, and_parts, ne_eqb}
 use Rattle.std.proofs.Math.Seq.{take-append_seam, drop-append_seam}
 use Rattle.session_options.specs.Text.{is_blank, ends_name, without, without_blanks, name_of, after_name, value_of}
 use Rattle.session_options.specs.Choices.{Choices, judged_as, judged}
