@@ -1,0 +1,131 @@
+ghost use Rattle.std.specs.Prelude.{◌≡◌, ◌≤◌, ◌<◌, [], length, false, None};
+ghost use Rattle.agent_ports.specs.Counts.{Rose};
+ghost use Rattle.agent_ports.specs.Sides.{WhereTold};
+ghost use Rattle.assuan_line.specs.Lines.{IsLine, has_lf};
+ghost use Rattle.assuan_line.specs.Next.{OnLine, held, ended_by};
+ghost use Rattle.assuan_server.specs.Errors.{error_text};
+ghost use Rattle.assuan_server.specs.Written.{greeting, ok_text, status_text, comment_text, line_of, HasSent, HasWritten};
+
+use crate::Text;
+use crate::errors::{Code, Origin, error_text};
+use agent_ports::{Link, Sent};
+use assuan_line::{Line, LineReader, write_line};
+use std::alloc::Global;
+use std::marker::Model;
+
+/// A server's connection to its client, over a link that it borrows. It may have read passphrases, so it isn't printed.
+#[derive(Drop)]
+pub struct Conn<'a, L: Link> {
+    link: &'a mut L,
+    reader: LineReader,
+}
+
+impl<'a, L: Link> Model for Conn<'a, L> {
+    ghost use Rattle.assuan_server.specs.Connections.{Connection};
+
+    ghost Value = { Connection };
+
+    ghost view = { λ c. record {
+      link = c.link.ghost_name;
+      input = L.input c.link.now;
+      output = L.output c.link.now;
+      reader = c.reader;
+    } };
+}
+
+impl<'a, L: Link> Conn<'a, L> {
+    /// A connection over this link, which takes at most `budget` bytes from it.
+    pub fn new(alloc: Global, link: &'a mut L, budget: u64) -> Self
+        ensures link { result.link ≡ link.entry.ghost_name }
+        ensures input { result.input ≡ L.input link.old }
+        ensures output { result.output ≡ L.output link.old }
+        ensures reader { result.reader ≡ record { ahead = []; left = budget; ended = None } }
+    {
+        Conn {
+            link,
+            reader: LineReader::new(alloc, budget),
+        }
+    }
+
+    /// Gives the link back. End a connection so: what its calls did is then known of the link.
+    pub fn into_link(self) -> &'a mut L
+        ensures link { result.ghost_name ≡ self.entry.link }
+        ensures input { L.input result.now ≡ self.entry.input }
+        ensures output { L.output result.now ≡ self.entry.output }
+    {
+        let Conn { link, reader: _ } = self;
+        link
+    }
+
+    /// Greets the client.
+    pub fn greet(&mut self) -> Sent
+        ensures { HasWritten (line_of greeting) self.old result self.new }
+    {
+        self.say(b"OK Pleased to meet you")
+    }
+
+    /// Says that a command was carried out. The text is a remark, and is left out where it is empty.
+    pub fn ok(&mut self, text: &[u8]) -> Sent
+        requires short { length text.now ≤ 997 }
+        requires one_line { has_lf text.now ≡ false }
+        ensures { HasWritten (line_of (ok_text text.now)) self.old result self.new }
+    {
+        if text.is_empty() {
+            return self.say(b"OK");
+        }
+        let mut line = Text::new();
+        line.try_extend_from_slice(b"OK ").unwrap();
+        line.try_extend_from_slice(text).unwrap();
+        self.say(&line)
+    }
+
+    /// Says that a command failed: the error's number, its description, and where it comes from.
+    pub fn err(&mut self, code: Code, origin: Origin) -> Sent
+        ensures { HasWritten (line_of (error_text code origin)) self.old result self.new }
+    {
+        self.say(&error_text(code, origin))
+    }
+
+    /// Tells the client of something while a command runs.
+    pub fn status(&mut self, word: &[u8], text: &[u8]) -> Sent
+        requires { IsLine (status_text word.now text.now) }
+        ensures { HasWritten (line_of (status_text word.now text.now)) self.old result self.new }
+    {
+        let mut line = Text::new();
+        line.try_extend_from_slice(b"S ").unwrap();
+        line.try_extend_from_slice(word).unwrap();
+        line.push(b' ');
+        line.try_extend_from_slice(text).unwrap();
+        self.say(&line)
+    }
+
+    /// Writes a comment, which the client passes over.
+    pub fn comment(&mut self, text: &[u8]) -> Sent
+        requires { IsLine (comment_text text.now) }
+        ensures { HasWritten (line_of (comment_text text.now)) self.old result self.new }
+    {
+        let mut line = Text::new();
+        line.try_extend_from_slice(b"# ").unwrap();
+        line.try_extend_from_slice(text).unwrap();
+        self.say(&line)
+    }
+
+    /// Writes one line.
+    pub(crate) fn say(&mut self, text: &[u8]) -> Sent
+        requires { IsLine text.now }
+        ensures { HasWritten (line_of text.now) self.old result self.new }
+    {
+        put_line(self.link, text)
+    }
+}
+
+/// Writes one line to a link.
+fn put_line<L: Link>(link: &mut L, text: &[u8]) -> Sent
+    requires { IsLine text.now }
+    ensures sent { HasSent (line_of text.now) (L.output link.old) result (L.output link.new) }
+    ensures faults { (L.output link.old).faults ≤ (L.output link.new).faults }
+    ensures beside { L.input link.new ≡ L.input link.old }
+{
+    let line = Line::of(text).unwrap();
+    write_line(link, &line)
+}

@@ -1,0 +1,13 @@
+//! One connection of a server to its client: the lines that it writes, the requests that it reads, and inquiries.
+#![tactic(auto)]
+
+mod conn;
+mod errors;
+
+use arrayvec::ArrayVec;
+
+/// What a line can hold: at most 1,000 bytes.
+type Text = ArrayVec<u8, 1000>;
+
+pub use conn::Conn;
+pub use errors::{Code, Origin};
