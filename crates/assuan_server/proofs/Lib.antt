@@ -1,2 +1,3 @@
-mod Sending
 mod ErrorLines
+mod Beyond
+mod Sending

@@ -1,3 +1,5 @@
 pub mod Connections
 pub mod Errors
+pub mod Passing
+pub mod Requests
 pub mod Written

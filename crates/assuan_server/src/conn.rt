@@ -1,15 +1,18 @@
-ghost use Rattle.std.specs.Prelude.{◌≡◌, ◌≤◌, ◌<◌, [], length, false, None};
+ghost use Rattle.std.specs.Prelude.{◌≡◌, ◌≤◌, ◌<◌, ◌+◌, ◌++◌, [], length, false, None};
 ghost use Rattle.agent_ports.specs.Counts.{Rose};
 ghost use Rattle.agent_ports.specs.Sides.{WhereTold};
 ghost use Rattle.assuan_line.specs.Lines.{IsLine, has_lf};
-ghost use Rattle.assuan_line.specs.Next.{OnLine, held, ended_by};
+ghost use Rattle.assuan_line.specs.Next.{Tells, OnLine, held, ended_by};
+ghost use Rattle.assuan_server.specs.Requests.{IsNextRequest};
 ghost use Rattle.assuan_server.specs.Errors.{error_text};
 ghost use Rattle.assuan_server.specs.Written.{greeting, ok_text, status_text, comment_text, line_of, HasSent, HasWritten};
 
 use crate::Text;
 use crate::errors::{Code, Origin, error_text};
+use crate::passing::next_beyond;
+use crate::request::Ignored;
 use agent_ports::{Link, Sent};
-use assuan_line::{Line, LineReader, write_line};
+use assuan_line::{Line, LineReader, Took, write_line};
 use std::alloc::Global;
 use std::marker::Model;
 
@@ -108,6 +111,48 @@ impl<'a, L: Link> Conn<'a, L> {
         line.try_extend_from_slice(b"# ").unwrap();
         line.try_extend_from_slice(text).unwrap();
         self.say(&line)
+    }
+
+    /// Reads the next request: the next line that isn't empty, nor nothing but blanks and tabs, nor a comment. It isn't
+    /// split into words. After any answer but a line no more is read.
+    pub fn next_request(&mut self) -> Took
+        requires { self.old.reader.ended ≡ None }
+        // What it says of the bytes, where the link tells them.
+        ensures request { WhereTold self.old.input.bytes self.new.input.bytes
+            (λ rest left. IsNextRequest (self.old.reader.ahead ++ rest) result self.new.reader left) }
+        // It takes no byte beyond its budget.
+        ensures budget { WhereTold self.old.input.bytes self.new.input.bytes
+            (λ rest left. length rest + self.new.reader.left ≡ length left + self.old.reader.left) }
+
+        // A line uses up a byte at least.
+        ensures progress { OnLine result (held self.new.reader < held self.old.reader) }
+
+        ensures spent { result ≡ Took.Spent → self.new.reader.left ≡ 0 }
+        ensures fault { result ≡ Took.ReadFault → Rose self.old.input.faults self.new.input.faults }
+        ensures faults { self.old.input.faults ≤ self.new.input.faults }
+        ensures ended { self.new.reader.ended ≡ ended_by result }
+        ensures output { self.new.output ≡ self.old.output }
+        ensures link { self.new.link ≡ self.old.link }
+    {
+        next_beyond(self, &mut Ignored)
+    }
+
+    /// Reads the next line.
+    pub(crate) fn next_line(&mut self) -> Took
+        requires { self.old.reader.ended ≡ None }
+        ensures tells { WhereTold self.old.input.bytes self.new.input.bytes
+            (λ rest left. Tells self.old.reader rest result self.new.reader left) }
+        ensures budget { WhereTold self.old.input.bytes self.new.input.bytes
+            (λ rest left. length rest + self.new.reader.left ≡ length left + self.old.reader.left) }
+        ensures progress { OnLine result (held self.new.reader < held self.old.reader) }
+        ensures spent { result ≡ Took.Spent → self.new.reader.left ≡ 0 }
+        ensures fault { result ≡ Took.ReadFault → Rose self.old.input.faults self.new.input.faults }
+        ensures faults { self.old.input.faults ≤ self.new.input.faults }
+        ensures ended { self.new.reader.ended ≡ ended_by result }
+        ensures output { self.new.output ≡ self.old.output }
+        ensures link { self.new.link ≡ self.old.link }
+    {
+        self.reader.next(self.link)
     }
 
     /// Writes one line.

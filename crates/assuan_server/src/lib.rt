@@ -3,6 +3,8 @@
 
 mod conn;
 mod errors;
+mod passing;
+mod request;
 
 use arrayvec::ArrayVec;
 
