@@ -1,3 +1,5 @@
-mod ErrorLines
 mod Beyond
+mod ErrorLines
+mod OnlyData
 mod Sending
+mod Writing

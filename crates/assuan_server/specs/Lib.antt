@@ -1,4 +1,5 @@
 pub mod Connections
+pub mod DataLines
 pub mod Errors
 pub mod Passing
 pub mod Requests

@@ -2,6 +2,7 @@
 #![tactic(auto)]
 
 mod conn;
+mod data;
 mod errors;
 mod passing;
 mod request;
@@ -12,4 +13,5 @@ use arrayvec::ArrayVec;
 type Text = ArrayVec<u8, 1000>;
 
 pub use conn::Conn;
+pub use data::data_lines_are_the_only_ones;
 pub use errors::{Code, Origin};
