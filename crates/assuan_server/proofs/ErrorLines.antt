@@ -1,7 +1,7 @@
 -- Error lines are lines.
-use Rattle.std.proofs.Common.{◌≡◌, ◌≤◌, ℕ, false, length, refl, arith, lit≤}
+use Rattle.std.proofs.Common.{refl, lit≤}
 use Rattle.std.specs.Fmt.{digits}
-use Rattle.assuan_line.specs.Lines.{has_lf, IsLine}
+use Rattle.assuan_line.specs.Lines.{IsLine}
 use Rattle.assuan_server.specs.Errors.{error_text}
 use Rattle.assuan_server.specs.declared.errors.Code.{Code}
 use Rattle.assuan_server.specs.declared.errors.Code.TheVariants.{General, BadSecKey, Checksum, BadPass, NoSecKey, NoData, NotSupported, Timeout, InvSexp, NoPinentry, NotTrusted, Cancelled, NotConfirmed, UnknownOption, Forbidden, LineTooLong, TooMuch, Unexpected, UnknownCommand, Parameter, FileExists, NoMemory}

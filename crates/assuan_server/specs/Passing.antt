@@ -3,7 +3,7 @@ use Rattle.std.specs.Prelude.{◌≡◌, Bool, true, false, ℕ, List, [], ◌�
 use Rattle.assuan_line.specs.Lines.{after_line}
 use Rattle.assuan_line.specs.Next.{next_of, Reader, Tells}
 use Rattle.assuan_line.specs.declared.reader.Took.{Took}
-use Rattle.assuan_line.specs.declared.reader.Took.TheVariants.{Line, TooLong, End, Spent, ReadFault}
+use Rattle.assuan_line.specs.declared.reader.Took.TheVariants.{Line}
 
 -- the lines at the front of the bytes that pass, and the bytes from there on
 pub data Passed (passes : List ℕ → Bool) : List ℕ → List (List ℕ) → List ℕ → Type 0 where

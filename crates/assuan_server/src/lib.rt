@@ -1,9 +1,12 @@
 //! One connection of a server to its client: the lines that it writes, the requests that it reads, and inquiries.
 #![tactic(auto)]
 
+mod closing;
 mod conn;
 mod data;
 mod errors;
+mod inquiry;
+mod kept;
 mod passing;
 mod request;
 
@@ -15,3 +18,4 @@ type Text = ArrayVec<u8, 1000>;
 pub use conn::Conn;
 pub use data::data_lines_are_the_only_ones;
 pub use errors::{Code, Origin};
+pub use inquiry::{Inquired, InquiredSecret};

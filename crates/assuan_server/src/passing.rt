@@ -15,11 +15,15 @@ pub(crate) trait Sieve {
     /// What is kept of these lines, in order.
     ghost keeps: { Self → List (List ℕ) → Type 0 };
 
+    /// How many bytes may be kept.
+    ghost limit: { Self → ℕ };
+
     /// Whether the line is passed over. Something of it may be kept then.
     fn pass(&mut self, line: &Line) -> bool
         ensures tells { result ≡ passes line.now }
         ensures kept { (lines : List (List ℕ)) → keeps self.old lines → passes line.now ≡ true
             → keeps self.new (lines ++ line.now ∷ []) }
+        ensures limit { limit self.new ≡ limit self.old }
         ensures stays { passes line.now ≡ false → self.new ≡ self.old };
 }
 
@@ -29,6 +33,7 @@ pub(crate) fn next_beyond<L: Link, S: Sieve>(conn: &mut Conn<'_, L>, sieve: &mut
     ensures comes { WhereTold conn.old.input.bytes conn.new.input.bytes (λ rest left. (lines : List (List ℕ))
         × Comes S.passes (conn.old.reader.ahead ++ rest) lines result conn.new.reader left
         × (S.keeps sieve.old [] → S.keeps sieve.new lines)) }
+    ensures limit { S.limit sieve.new ≡ S.limit sieve.old }
     ensures budget { WhereTold conn.old.input.bytes conn.new.input.bytes
         (λ rest left. length rest + conn.new.reader.left ≡ length left + conn.old.reader.left) }
     ensures progress { OnLine result (held conn.new.reader < held conn.old.reader) }

@@ -14,6 +14,8 @@ impl Sieve for Ignored {
 
     ghost keeps = { λ _ _. Unit {0} };
 
+    ghost limit = { λ _. 0 };
+
     fn pass(&mut self, line: &Line) -> bool {
         is_ignored(line.bytes())
     }

@@ -1,8 +1,8 @@
-use Rattle.std.proofs.Common.{◌≡◌, ◌∙◌, ◌≤◌, ◌<◌, ◌+◌, length, take, refl, arith, ap, sym, List, ℕ}
+use Rattle.std.proofs.Common.{◌≡◌, ◌∙◌, ◌≤◌, length, take, arith, ap, sym, List, ℕ}
 use Rattle.std.proofs.lemmas.Bool.{eqb-true}
 use Rattle.std.proofs.lemmas.List.{nil_from_length}
 use Rattle.assuan_server.specs.DataLines.{data_line}
-use Rattle.assuan_server.proofs.Writing.{writing_none, writing_more, written_all, written_cut}
+use Rattle.assuan_server.proofs.Writing.{writing_more, written_all, written_cut}
 use Rattle.assuan_server.proofs.conn.Conn.data.Goals as goal
 
 pub returns-in-Failed : goal.returns-in-Failed
