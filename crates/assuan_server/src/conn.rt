@@ -16,7 +16,11 @@ use assuan_line::{Line, LineReader, Took, write_line};
 use std::alloc::Global;
 use std::marker::Model;
 
-/// A server's connection to its client, over a link that it borrows. It may have read passphrases, so it isn't printed.
+/// A server's connection to its client, over a link that it borrows: the server's side of the Assuan protocol (Assuan manual,
+/// "server responses" and "client requests"). Each line has at most 1,000 bytes before its line feed.
+///
+/// A call that writes answers how much of its lines went, and leaves the input alone. Contracts see the link's two sides and
+/// the reader of its lines.
 #[derive(Drop)]
 pub struct Conn<'a, L: Link> {
     link: &'a mut L,
@@ -50,7 +54,8 @@ impl<'a, L: Link> Conn<'a, L> {
         }
     }
 
-    /// Gives the link back. End a connection so: what its calls did is then known of the link.
+    /// Gives the link back. A caller whose own contract speaks of the link ends a connection so: what the connection did is
+    /// then known of the link.
     pub fn into_link(self) -> &'a mut L
         ensures link { result.ghost_name ≡ self.entry.link }
         ensures input { L.input result.now ≡ self.entry.input }
@@ -60,14 +65,14 @@ impl<'a, L: Link> Conn<'a, L> {
         link
     }
 
-    /// Greets the client.
+    /// Greets the client, as a server does before it reads.
     pub fn greet(&mut self) -> Sent
         ensures { HasWritten (line_of greeting) self.old result self.new }
     {
         self.say(b"OK Pleased to meet you")
     }
 
-    /// Says that a command was carried out. The text is a remark, and is left out where it is empty.
+    /// Says that a command was carried out: `OK`, and the text behind a blank where it isn't empty.
     pub fn ok(&mut self, text: &[u8]) -> Sent
         requires short { length text.now ≤ 997 }
         requires one_line { has_lf text.now ≡ false }
@@ -82,14 +87,14 @@ impl<'a, L: Link> Conn<'a, L> {
         self.say(&line)
     }
 
-    /// Says that a command failed: the error's number, its description, and where it comes from.
+    /// Says that a command failed: `ERR`, the error's number, its description, and in angle brackets where it comes from.
     pub fn err(&mut self, code: Code, origin: Origin) -> Sent
         ensures { HasWritten (line_of (error_text code origin)) self.old result self.new }
     {
         self.say(&error_text(code, origin))
     }
 
-    /// Tells the client of something while a command runs.
+    /// Writes a status line, `S`, the word and the text, each behind a blank.
     pub fn status(&mut self, word: &[u8], text: &[u8]) -> Sent
         requires { IsLine (status_text word.now text.now) }
         ensures { HasWritten (line_of (status_text word.now text.now)) self.old result self.new }
@@ -102,7 +107,7 @@ impl<'a, L: Link> Conn<'a, L> {
         self.say(&line)
     }
 
-    /// Writes a comment, which the client passes over.
+    /// Writes a comment, `#` and the text behind a blank, which the client passes over.
     pub fn comment(&mut self, text: &[u8]) -> Sent
         requires { IsLine (comment_text text.now) }
         ensures { HasWritten (line_of (comment_text text.now)) self.old result self.new }

@@ -10,7 +10,8 @@ use agent_ports::{Link, Sent};
 use assuan_escape::escape_into;
 
 impl<'a, L: Link> Conn<'a, L> {
-    /// Writes the bytes as data lines, each as full as no cut escape allows, and no line for no bytes.
+    /// Writes the bytes as data lines, `D`, a blank and escaped bytes: each of at most 1,000 bytes and as full as no cut escape
+    /// allows, and no line for no bytes. Where a write fails, the bytes of all these lines that went are counted.
     pub fn data(&mut self, bytes: &[u8]) -> Sent
         ensures { (pieces : List (List ℕ)) × AreData bytes.now pieces
             × HasWritten (data_text pieces) self.old result self.new }

@@ -58,7 +58,10 @@ pub enum InquiredSecret {
 }
 
 impl<'a, L: Link> Conn<'a, L> {
-    /// Asks the client for bytes, and reads them up to the end of the inquiry. At most `limit` bytes are kept.
+    /// Asks the client for bytes (Assuan manual, INQUIRE), by `INQUIRE`, the word, and the parameters where there are some.
+    /// Then it reads data lines up to `END` or `CAN`, or to a line that is neither, nor empty, nor blank, nor a comment.
+    ///
+    /// At most `limit` bytes are kept. Bytes past it, and those for which there is no memory, are read and dropped.
     pub fn inquire(&mut self, alloc: Global, word: &[u8], params: &[u8], limit: usize) -> Inquired
         requires going { self.old.reader.ended ≡ None }
         requires one_line { IsLine (inquire_text word.now params.now) }
@@ -89,7 +92,7 @@ impl<'a, L: Link> Conn<'a, L> {
         }
     }
 
-    /// Asks the client for a passphrase, as `inquire` does for bytes. It takes no memory.
+    /// Asks the client for a passphrase of at most 255 bytes, as `inquire` does for bytes. It takes no memory.
     pub fn inquire_secret(&mut self, word: &[u8], params: &[u8]) -> InquiredSecret
         requires going { self.old.reader.ended ≡ None }
         requires one_line { IsLine (inquire_text word.now params.now) }

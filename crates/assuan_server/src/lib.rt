@@ -19,3 +19,6 @@ pub use conn::Conn;
 pub use data::data_lines_are_the_only_ones;
 pub use errors::{Code, Origin};
 pub use inquiry::{Inquired, InquiredSecret};
+
+#[cfg(test)]
+mod tests;
