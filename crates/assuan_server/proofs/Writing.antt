@@ -1,0 +1,115 @@
+-- A write of data lines that is under way.
+use Rattle.std.proofs.Common.{◌≡◌, ℕ, ◌+◌, ◌-◌, ◌^◌, ◌<◌, ◌≤◌, min, List, [], ◌∷◌, ◌++◌, length, take, drop, get_or, Option, Some, None, refl, ap, sym, ◌∙◌, subst, arith, append_assoc, append-nil, length-append, length-drop}
+use Rattle.std.proofs.lemmas.List.{take-append-drop, length-take-le, length_push, drop_more}
+use Rattle.std.proofs.lemmas.List.Concat.{flat_map-append}
+use Rattle.std.proofs.lemmas.List.Elements.{All-cons, All-head}
+use Rattle.agent_ports.specs.Sides.{with_bytes}
+use Rattle.agent_ports.specs.Told.{with_bytes-append}
+use Rattle.agent_ports.specs.declared.link.Sent.TheVariants.{All as Whole, Failed}
+use Rattle.assuan_escape.specs.Escapes.{escape_of}
+use Rattle.assuan_server.specs.Connections.{Connection}
+use Rattle.assuan_server.specs.DataLines.{data_line, IsFullBefore, IsPiece, AreData, data_text}
+use Rattle.assuan_server.specs.Written.{line_of, HasCut, HasWritten}
+use Rattle.assuan_server.proofs.OnlyData.{pieces_of}
+
+-- the lines so far: whatever pieces the rest is sent in, they complete these
+pub record IsWriting (bytes : List ℕ) (before now : Connection) (rest : List ℕ) (sent : ℕ) : Type 0 where
+  pub done : List (List ℕ)
+  pub completes : (later : List (List ℕ)) → AreData rest later → AreData bytes (done ++ later)
+  pub output : now.output.bytes ≡ with_bytes before.output.bytes (data_text done)
+  pub counted : sent ≡ min (length (data_text done)) (2 ^ 64 - 1)
+  pub faults : before.output.faults ≤ now.output.faults
+  pub input : now.input ≡ before.input
+  pub reader : now.reader ≡ before.reader
+  pub link : now.link ≡ before.link
+
+nothing_written : (o : Option (List ℕ)) → o ≡ with_bytes o []
+nothing_written None = refl
+nothing_written (Some before) = ap (λ (x : List ℕ). Some x) (sym (append-nil before))
+
+pub writing_none : (bytes : List ℕ) (before : Connection) → IsWriting bytes before before bytes 0
+writing_none bytes before = record {
+  done = [];
+  completes = λ later data_. data_;
+  output = nothing_written before.output.bytes;
+  counted = omega arith;
+  faults = omega arith;
+  input = refl;
+  reader = refl;
+  link = refl;
+}
+
+-- a first piece, and pieces of what follows it
+with_piece : (rest : List ℕ) (count : ℕ) → 0 < count → count ≤ length rest → length (data_line (take count rest)) ≤ 1000 → (count < length rest → 1000 < length (data_line (take count rest)) + length (escape_of (get_or rest count 0))) → (later : List (List ℕ)) → AreData (drop count rest) later → AreData rest (take count rest ∷ later)
+with_piece rest count some within short full later are = record {
+  joined = ap (λ (x : List ℕ). take count rest ++ x) are.joined ∙ take-append-drop count rest;
+  each = All-cons IsPiece (take count rest) later (omega (arith, length-take-le count rest within), short) are.each;
+  full = (full_here later are, are.full);
+} where
+  full_here : (later : List (List ℕ)) → AreData (drop count rest) later → IsFullBefore (take count rest) later
+  full_here [] are = tt
+  full_here ([] ∷ more) are = absurd (omega (arith, (All-head IsPiece [] more are.each).0))
+  full_here ((byte ∷ next) ∷ more) are =
+      let inside : count < length rest = omega (arith, ap length are.joined, length-drop count rest) in
+      let next = drop_more rest count 0 inside in
+      let first : get_or rest count 0 ≡ byte = cc in
+      subst (λ (b : ℕ). 1000 < length (data_line (take count rest)) + length (escape_of b)) first (full inside)
+
+module _ (bytes : List ℕ) (before now : Connection) (rest : List ℕ) (sent : ℕ) (writing : IsWriting bytes before now rest sent) where
+  -- nothing is left
+  pub written_all : rest ≡ [] → (pieces : List (List ℕ)) × AreData bytes pieces × HasWritten (data_text pieces) before Whole now
+  written_all nothing = (
+    writing.done,
+    subst (λ (x : List (List ℕ)). AreData bytes x) (append-nil writing.done)
+        (writing.completes [] (subst (λ (x : List ℕ). AreData x []) (sym nothing) (record { joined = refl; each = λ k d h. absurd (omega arith); full = tt }))),
+    record { output = writing.output; faults = writing.faults; input = writing.input; reader = writing.reader; link = writing.link },
+  )
+
+  module _ (count : ℕ) (some : 0 < count) (within : count ≤ length rest) (short : length (data_line (take count rest)) ≤ 1000) (full : count < length rest → 1000 < length (data_line (take count rest)) + length (escape_of (get_or rest count 0))) (after : Connection) where
+    text_more : data_text (writing.done ++ take count rest ∷ []) ≡ data_text writing.done ++ line_of (data_line (take count rest))
+    text_more = flat_map-append (λ (piece : List ℕ). line_of (data_line piece)) writing.done (take count rest ∷ []) ∙ ap (λ (x : List ℕ). data_text writing.done ++ x) (append-nil (line_of (data_line (take count rest))))
+
+    -- one line more
+    pub writing_more : HasWritten (line_of (data_line (take count rest))) now Whole after → IsWriting bytes before after (drop count rest) (min (sent + (length (data_line (take count rest)) + 1)) (2 ^ 64 - 1))
+    writing_more wrote = record {
+      done = writing.done ++ take count rest ∷ [];
+      completes = λ later are.
+          subst (λ (x : List (List ℕ)). AreData bytes x) (sym (append_assoc writing.done (take count rest ∷ []) later))
+          (writing.completes (take count rest ∷ later) (with_piece rest count some within short full later are));
+      output = wrote.output ∙ ap (λ (o : Option (List ℕ)). with_bytes o (line_of (data_line (take count rest)))) writing.output
+          ∙ with_bytes-append before.output.bytes (data_text writing.done) (line_of (data_line (take count rest)))
+          ∙ ap (λ (x : List ℕ). with_bytes before.output.bytes x) (sym text_more);
+      counted = omega (arith, writing.counted, ap length text_more, length-append (data_text writing.done) (line_of (data_line (take count rest))), length_push (data_line (take count rest)) 10);
+      faults = omega (arith, writing.faults, wrote.faults);
+      input = wrote.input ∙ writing.input;
+      reader = wrote.reader ∙ writing.reader;
+      link = wrote.link ∙ writing.link;
+    }
+
+    -- the line was cut
+    pub written_cut : (part : ℕ) → HasWritten (line_of (data_line (take count rest))) now (Failed part) after → (pieces : List (List ℕ)) × AreData bytes pieces × HasWritten (data_text pieces) before (Failed (min (sent + part) (2 ^ 64 - 1))) after
+    written_cut part wrote =
+        let cut : HasCut (line_of (data_line (take count rest))) now.output part after.output = wrote.output in
+        let later = pieces_of (drop count rest) in
+        let whole : data_text (writing.done ++ take count rest ∷ later.0) ≡ (data_text writing.done ++ cut.sent) ++ (cut.unsent ++ data_text later.0) =
+        flat_map-append (λ (piece : List ℕ). line_of (data_line piece)) writing.done (take count rest ∷ later.0)
+        ∙ ap (λ (x : List ℕ). data_text writing.done ++ (x ++ data_text later.0)) cut.split
+        ∙ ap (λ (x : List ℕ). data_text writing.done ++ x) (append_assoc cut.sent cut.unsent (data_text later.0))
+        ∙ sym (append_assoc (data_text writing.done) cut.sent (cut.unsent ++ data_text later.0)) in (
+          writing.done ++ take count rest ∷ later.0,
+          writing.completes (take count rest ∷ later.0) (with_piece rest count some within short full later.0 later.1),
+          record {
+            output = record {
+              sent = data_text writing.done ++ cut.sent;
+              unsent = cut.unsent ++ data_text later.0;
+              split = whole;
+              written = cut.written ∙ ap (λ (o : Option (List ℕ)). with_bytes o cut.sent) writing.output ∙ with_bytes-append before.output.bytes (data_text writing.done) cut.sent;
+              counted = omega (arith, writing.counted, cut.counted, length-append (data_text writing.done) cut.sent);
+              rose = omega (arith, cut.rose, writing.faults);
+            };
+            faults = omega (arith, writing.faults, wrote.faults);
+            input = wrote.input ∙ writing.input;
+            reader = wrote.reader ∙ writing.reader;
+            link = wrote.link ∙ writing.link;
+          },
+        )

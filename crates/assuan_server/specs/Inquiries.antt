@@ -1,0 +1,128 @@
+-- Inquiries, as the Assuan manual has them ("server responses", INQUIRE): the client answers with data lines and END, or with
+-- CAN. What passes between these, and what becomes of any other line, is this project's own rule.
+use Rattle.std.specs.Prelude.{◌≡◌, ◌<◌, ◌≤◌, ◌==◌, ◌||◌, ◌&&◌, Bool, false, ℕ, List, [], ◌++◌, length, drop, map, codes, slice_index, if◌then◌else◌, Option, Some, None}
+use Rattle.std.specs.List.{flat_map, list_all, before_first}
+use Rattle.std.specs.Char.{to_ascii_lowercase}
+use Rattle.assuan_escape.specs.Escapes.{unescaped}
+use Rattle.assuan_line.specs.Next.{Reader}
+use Rattle.assuan_line.specs.declared.reader.Took.{Took}
+use Rattle.assuan_line.specs.declared.reader.Took.TheVariants as took
+use Rattle.assuan_server.specs.Passing.{Comes}
+use Rattle.assuan_server.specs.Requests.{is_blank}
+use Rattle.assuan_server.specs.declared.inquiry.Inquired.{Inquired}
+use Rattle.assuan_server.specs.declared.inquiry.Inquired.TheVariants as inquired
+use Rattle.assuan_server.specs.declared.inquiry.InquiredSecret.{InquiredSecret}
+use Rattle.assuan_server.specs.declared.inquiry.InquiredSecret.TheVariants as inquired_secret
+use Rattle.assuan_server.specs.declared.closing.Closing.{Closing}
+use Rattle.assuan_server.specs.declared.closing.Closing.TheVariants as closing
+
+-- the line that asks the client
+abbrev pub inquire_text : List ℕ → List ℕ → List ℕ
+inquire_text word params =
+    if length params == 0 then codes "INQUIRE " ++ word else codes "INQUIRE " ++ word ++ codes " " ++ params
+
+-- a data line: `D` or `d` alone, or followed by one blank and escaped bytes
+abbrev pub is_data : List ℕ → Bool
+is_data line =
+    (slice_index line 0 == 68 || slice_index line 0 == 100) && (length line == 1 || slice_index line 1 == 32)
+
+-- the bytes that a line carries
+abbrev pub carried : List ℕ → List ℕ
+carried line = if is_data line then unescaped false (drop 2 line) else []
+
+-- a comment, or nothing but blanks and tabs
+abbrev pub is_idle : List ℕ → Bool
+is_idle line = slice_index line 0 == 35 || list_all is_blank line
+
+-- a line that an inquiry reads past
+abbrev pub is_passing : List ℕ → Bool
+is_passing line = is_data line || is_idle line
+
+-- The line begins with this word, in either case of its letters, which is given in lowercase. Further words are ignored.
+abbrev pub IsWord : List ℕ → List ℕ → Type 0
+IsWord word line = map to_ascii_lowercase (before_first is_blank line) ≡ word
+
+-- what an inquiry comes to
+pub data Outcome : Type 0 where
+  Data : List ℕ → Outcome
+  Cancelled : Outcome
+  TooMuch : Outcome
+  Unexpected : Outcome
+  Ended : Outcome
+  TooLong : Outcome
+  Spent : Outcome
+  ReadFault : Outcome
+
+-- what it comes to where its data lines carried these bytes and this answer came after them
+pub data ComesTo (limit : ℕ) (bytes : List ℕ) : Took → Outcome → Type 0 where
+  can : {line : List ℕ} → IsWord (codes "can") line → ComesTo limit bytes (took.Line line) Cancelled
+  end : {line : List ℕ} → IsWord (codes "end") line → length bytes ≤ limit → ComesTo limit bytes (took.Line line) (Data bytes)
+  past : {line : List ℕ} → IsWord (codes "end") line → limit < length bytes → ComesTo limit bytes (took.Line line) TooMuch
+  foreign : {line : List ℕ} → (IsWord (codes "can") line → ⊥) → (IsWord (codes "end") line → ⊥) → ComesTo limit bytes (took.Line line) Unexpected
+  ended : ComesTo limit bytes took.End Ended
+  too_long : ComesTo limit bytes took.TooLong TooLong
+  spent : ComesTo limit bytes took.Spent Spent
+  read_fault : ComesTo limit bytes took.ReadFault ReadFault
+
+-- an inquiry over these bytes: what its lines came to, how the reader stands then, and what the source holds
+pub record Inquiry (limit : ℕ) (bytes : List ℕ) (outcome : Outcome) (after : Reader) (left : List ℕ) : Type 0 where
+  pub lines : List (List ℕ)
+  pub took : Took
+  pub comes : Comes is_passing bytes lines took after left
+  pub comes_to : ComesTo limit (flat_map carried lines) took outcome
+
+-- END was read, within the limit or past it
+abbrev pub IsAtEnd : Outcome → Type 0
+IsAtEnd (Data bytes) = Unit {0}
+IsAtEnd TooMuch = Unit {0}
+IsAtEnd _ = ⊥
+
+-- the answer says so. Where there was no memory for the bytes, END has another answer.
+abbrev pub Answers : Inquired → Outcome → Type 0
+Answers (inquired.Data bytes) outcome = outcome ≡ Data bytes.items
+Answers inquired.Cancelled outcome = outcome ≡ Cancelled
+Answers inquired.TooMuch outcome = outcome ≡ TooMuch
+Answers inquired.Unexpected outcome = outcome ≡ Unexpected
+Answers inquired.Ended outcome = outcome ≡ Ended
+Answers inquired.TooLong outcome = outcome ≡ TooLong
+Answers inquired.Spent outcome = outcome ≡ Spent
+Answers inquired.ReadFault outcome = outcome ≡ ReadFault
+Answers inquired.NoMemory outcome = IsAtEnd outcome
+Answers inquired.WriteFault outcome = ⊥
+
+abbrev pub AnswersSecret : InquiredSecret → Outcome → Type 0
+AnswersSecret (inquired_secret.Secret secret) outcome = outcome ≡ Data secret
+AnswersSecret inquired_secret.Cancelled outcome = outcome ≡ Cancelled
+AnswersSecret inquired_secret.TooMuch outcome = outcome ≡ TooMuch
+AnswersSecret inquired_secret.Unexpected outcome = outcome ≡ Unexpected
+AnswersSecret inquired_secret.Ended outcome = outcome ≡ Ended
+AnswersSecret inquired_secret.TooLong outcome = outcome ≡ TooLong
+AnswersSecret inquired_secret.Spent outcome = outcome ≡ Spent
+AnswersSecret inquired_secret.ReadFault outcome = outcome ≡ ReadFault
+AnswersSecret inquired_secret.WriteFault outcome = ⊥
+
+-- how the reader has ended by an answer
+abbrev pub ended_of : Inquired → Option Took
+ended_of inquired.Ended = Some took.End
+ended_of inquired.TooLong = Some took.TooLong
+ended_of inquired.Spent = Some took.Spent
+ended_of inquired.ReadFault = Some took.ReadFault
+ended_of _ = None
+
+abbrev pub ended_of_secret : InquiredSecret → Option Took
+ended_of_secret inquired_secret.Ended = Some took.End
+ended_of_secret inquired_secret.TooLong = Some took.TooLong
+ended_of_secret inquired_secret.Spent = Some took.Spent
+ended_of_secret inquired_secret.ReadFault = Some took.ReadFault
+ended_of_secret _ = None
+
+-- a fact of the bytes, where an answer has them
+abbrev pub IfData : Inquired → (List ℕ → Type 0) → Type 0
+IfData (inquired.Data bytes) P = P bytes.items
+IfData _ P = Unit {0}
+
+-- what a line that doesn't pass is
+abbrev pub IsClosing : List ℕ → Closing → Type 0
+IsClosing line closing.End = IsWord (codes "end") line
+IsClosing line closing.Cancel = IsWord (codes "can") line
+IsClosing line closing.Foreign = (IsWord (codes "can") line → ⊥) × (IsWord (codes "end") line → ⊥)

@@ -1,0 +1,8 @@
+pub mod Connections
+pub mod DataLines
+pub mod Errors
+pub mod Inquiries
+pub mod Kept
+pub mod Passing
+pub mod Requests
+pub mod Written

@@ -1,0 +1,24 @@
+//! One connection of a server to its client: the lines that it writes, the requests that it reads, and inquiries.
+#![tactic(auto)]
+
+mod closing;
+mod conn;
+mod data;
+mod errors;
+mod inquiry;
+mod kept;
+mod passing;
+mod request;
+
+use arrayvec::ArrayVec;
+
+/// What a line can hold: at most 1,000 bytes.
+type Text = ArrayVec<u8, 1000>;
+
+pub use conn::Conn;
+pub use data::data_lines_are_the_only_ones;
+pub use errors::{Code, Origin};
+pub use inquiry::{Inquired, InquiredSecret};
+
+#[cfg(test)]
+mod tests;
