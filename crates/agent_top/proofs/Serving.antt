@@ -4,9 +4,10 @@ use Rattle.agent_ports.proofs.Given.{given_none, given_then}
 use Rattle.agent_ports.specs.Readings.{HasGiven}
 use Rattle.agent_ports.specs.Sides.{Side, with_bytes, WhereTold}
 use Rattle.agent_ports.proofs.Told.{told_same, told_then, with_bytes-append}
-use Rattle.assuan_line.specs.Next.{Reader, Tells, IsCutShort, IsTooLong}
+use Rattle.assuan_line.specs.Next.{Reader, Tells}
 use Rattle.assuan_line.specs.declared.reader.Took.{Took}
 use Rattle.assuan_line.specs.declared.reader.Took.TheVariants as took
+use Rattle.assuan_line.proofs.Ahead.{cut_short_of_all, too_long_of_all}
 use Rattle.cache_policy.specs.declared.life.Limits.{Limits}
 use Rattle.cache_policy.specs.Book.{Book}
 use Rattle.agent_top.specs.declared.answer.Answer.TheVariants.{Greeting, TooLong as LineTooLong}
@@ -22,21 +23,6 @@ use Rattle.agent_top.specs.Cache.{Standing, at_start, IsKeptAs}
 use Rattle.agent_top.specs.Requests.{IsRequest}
 use Rattle.agent_top.specs.Session.{budget, Exchange, Talk, goes_on, over as talk_over, ended, too_long, spent, read_fault, cut, cut_too_long, Session, greeted, cut_greeting, outside, HasServed, Takes}
 use Rattle.agent_top.specs.Steps.{HasAnswered}
-
--- the bytes ahead count among those that were taken
-of_all : {ahead rest left : List ℕ} → IsCutShort ahead rest left → IsCutShort [] (ahead ++ rest) left
-of_all {ahead} {rest} {left} short = record {
-  taken = ahead ++ short.taken;
-  split = ap (λ (x : List ℕ). ahead ++ x) short.split ∙ sym (append_assoc ahead short.taken left);
-  none = short.none;
-}
-
-long_of_all : {ahead rest left : List ℕ} → IsTooLong ahead rest left → IsTooLong [] (ahead ++ rest) left
-long_of_all {ahead} {rest} {left} long = record {
-  taken = ahead ++ long.taken;
-  split = ap (λ (x : List ℕ). ahead ++ x) long.split ∙ sym (append_assoc ahead long.taken left);
-  long = long.long;
-}
 
 -- nothing was written
 nothing : (o : Option (List ℕ)) → o ≡ with_bytes o []
@@ -163,12 +149,12 @@ module _ (rules : Rules) (limits : Limits) where
     pub at_too_long : answer ≡ took.TooLong → (output_now : Side) → output_now.bytes ≡ with_bytes output_read.bytes (line_of LineTooLong) → HasServed rules limits (outside input output later count) TooLong (outside input_now output_now later_mid count_mid)
     at_too_long is output_now appended =
         ends [] (line_of LineTooLong) TooLong output_now later_mid count_mid appended (given_none later_mid count_mid)
-        (λ total rest left counted taken. too_long (long_of_all (subst (λ t. Tells reader rest t reader_now left) is taken.0)))
+        (λ total rest left counted taken. too_long (too_long_of_all (subst (λ t. Tells reader rest t reader_now left) is taken.0)))
 
     pub cut_at_too_long : answer ≡ took.TooLong → (output_now : Side) → HasCut (line_of LineTooLong) output_read output_now → HasServed rules limits (outside input output later count) end.WriteFault (outside input_now output_now later_mid count_mid)
     cut_at_too_long is output_now failed =
         ends [] failed.sent end.WriteFault output_now later_mid count_mid failed.written (given_none later_mid count_mid)
-        (λ total rest left counted taken. cut_too_long failed.unsent (long_of_all (subst (λ t. Tells reader rest t reader_now left) is taken.0)) failed.split)
+        (λ total rest left counted taken. cut_too_long failed.unsent (too_long_of_all (subst (λ t. Tells reader rest t reader_now left) is taken.0)) failed.split)
 
     pub at_end : answer ≡ took.End → HasServed rules limits (outside input output later count) Ended (outside input_now output_read later_mid count_mid)
     at_end is = ends [] [] Ended output_read later_mid count_mid (nothing output_read.bytes) (given_none later_mid count_mid) (λ total rest left counted taken.
@@ -178,9 +164,9 @@ module _ (rules : Rules) (limits : Limits) where
     pub at_spent : answer ≡ took.Spent → HasServed rules limits (outside input output later count) Spent (outside input_now output_read later_mid count_mid)
     at_spent is = ends [] [] Spent output_read later_mid count_mid (nothing output_read.bytes) (given_none later_mid count_mid) (λ total rest left counted taken.
         let told : Tells reader rest took.Spent reader_now left = subst (λ t. Tells reader rest t reader_now left) is taken.0 in
-        spent (of_all told.0) (omega (arith, counted, taken.1, told.1)))
+        spent (cut_short_of_all told.0) (omega (arith, counted, taken.1, told.1)))
 
     pub at_read_fault : answer ≡ took.ReadFault → HasServed rules limits (outside input output later count) ReadFault (outside input_now output_read later_mid count_mid)
     at_read_fault is = ends [] [] ReadFault output_read later_mid count_mid (nothing output_read.bytes) (given_none later_mid count_mid) (λ total rest left counted taken.
         let told : Tells reader rest took.ReadFault reader_now left = subst (λ t. Tells reader rest t reader_now left) is taken.0 in
-        read_fault (of_all told.0) (omega (arith, counted, taken.1, told.1)))
+        read_fault (cut_short_of_all told.0) (omega (arith, counted, taken.1, told.1)))

@@ -1,3 +1,4 @@
+pub mod Ahead
 mod Answered
 mod Parts
 mod Pieces

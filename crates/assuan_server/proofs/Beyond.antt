@@ -1,11 +1,12 @@
 -- A read past lines that is under way, and what each way out of the loop makes of it.
 use Rattle.std.proofs.Common.{◌≡◌, ℕ, ◌+◌, Bool, true, List, [], ◌∷◌, ◌++◌, length, Option, refl, ap, sym, ◌∙◌, subst, arith, append_assoc}
 use Rattle.agent_ports.specs.Sides.{WhereTold}
-use Rattle.agent_ports.specs.Told.{told_same, told_then}
+use Rattle.agent_ports.proofs.Told.{told_same, told_then}
 use Rattle.assuan_line.specs.Lines.{after_line}
-use Rattle.assuan_line.specs.Next.{next_of, Reader, Tells, IsCutShort}
+use Rattle.assuan_line.specs.Next.{next_of, Reader, Tells}
 use Rattle.assuan_line.specs.declared.reader.Took.{Took}
 use Rattle.assuan_line.specs.declared.reader.Took.TheVariants.{Line, TooLong, End, Spent, ReadFault}
+use Rattle.assuan_line.proofs.Ahead.{cut_short_of_all, too_long_of_all}
 use Rattle.assuan_server.specs.Passing.{Passed, none, one, Stops, Says, Comes}
 
 -- one line more passes
@@ -13,21 +14,13 @@ passed_more : {passes : List ℕ → Bool} {bytes later : List ℕ} {lines : Lis
 passed_more line none next pass = one line next pass none
 passed_more line (one first is first_passes more) next pass = one first is first_passes (passed_more line more next pass)
 
--- the bytes ahead count among those that were taken
-of_all : {ahead rest left : List ℕ} → IsCutShort ahead rest left → IsCutShort [] (ahead ++ rest) left
-of_all {ahead} {rest} {left} short = record {
-  taken = ahead ++ short.taken;
-  split = ap (λ (x : List ℕ). ahead ++ x) short.split ∙ sym (append_assoc ahead short.taken left);
-  none = short.none;
-}
-
 -- what a reader tells is said of all the bytes that are there
 says : (before : Reader) (rest : List ℕ) (took : Took) (after : Reader) (left : List ℕ) → Tells before rest took after left → Says (before.ahead ++ rest) took after left
 says before rest (Line line) after left told = told
-says before rest TooLong after left told = told
+says before rest TooLong after left told = too_long_of_all told
 says before rest End after left told = told
-says before rest Spent after left told = (of_all told.0, told.1)
-says before rest ReadFault after left told = (of_all told.0, told.1)
+says before rest Spent after left told = (cut_short_of_all told.0, told.1)
+says before rest ReadFault after left told = (cut_short_of_all told.0, told.1)
 
 -- the budget of the reader went into the bytes that the source gave
 abbrev pub Counted : Reader → Reader → List ℕ → List ℕ → Type 0

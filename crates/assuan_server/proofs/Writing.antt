@@ -4,7 +4,7 @@ use Rattle.std.proofs.lemmas.List.{take-append-drop, length-take-le, length_push
 use Rattle.std.proofs.lemmas.List.Concat.{flat_map-append}
 use Rattle.std.proofs.lemmas.List.Elements.{All-cons, All-head}
 use Rattle.agent_ports.specs.Sides.{with_bytes}
-use Rattle.agent_ports.specs.Told.{with_bytes-append}
+use Rattle.agent_ports.proofs.Told.{with_bytes-append}
 use Rattle.agent_ports.specs.declared.link.Sent.TheVariants.{All as Whole, Failed}
 use Rattle.assuan_escape.specs.Escapes.{escape_of}
 use Rattle.assuan_server.specs.Connections.{Connection}
