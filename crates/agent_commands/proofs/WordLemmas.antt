@@ -37,10 +37,12 @@ unfolding pieces_after
 first_piece [] = refl
 first_piece (byte ∷ text) =
     elim (is_blank byte) as (λ b. cond b ([] ∷ slice_split is_blank text) (onto_first byte (slice_split is_blank text))
-    ≡ take (cond (not b) (1 + place text) 0) (byte ∷ text) ∷ pieces_after (drop (cond (not b) (1 + place text) 0) (byte ∷ text)))
-    [ true ↦ refl | false ↦ ap (onto_first byte) (first_piece text)
-    ∙ sym (ap (λ (w : List ℕ). w ∷ pieces_after (drop (1 + place text) (byte ∷ text))) (take_next (place text) byte text)
-    ∙ ap (λ (r : List ℕ). (byte ∷ take (place text) text) ∷ pieces_after r) (drop_next (place text) byte text)) ]
+    ≡ take (cond (not b) (1 + place text) 0) (byte ∷ text) ∷ pieces_after (drop (cond (not b) (1 + place text) 0) (byte ∷ text))) [
+      | true ↦ refl
+      | false ↦ ap (onto_first byte) (first_piece text)
+          ∙ sym (ap (λ (w : List ℕ). w ∷ pieces_after (drop (1 + place text) (byte ∷ text))) (take_next (place text) byte text)
+          ∙ ap (λ (r : List ℕ). (byte ∷ take (place text) text) ∷ pieces_after r) (drop_next (place text) byte text))
+    ]
 
 not_false : (b : Bool) → not b ≡ false → b ≡ true
 not_false true e = refl

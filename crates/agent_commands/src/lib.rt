@@ -9,6 +9,8 @@ mod options;
 mod read;
 mod request;
 mod table;
+#[cfg(test)]
+mod tests;
 mod words;
 
 use arrayvec::ArrayVec;

@@ -25,7 +25,9 @@ pub fn read_request(line: &Line) -> Request
         CommandName::Reset => CacheCommand::Reset,
         CommandName::Bye => CacheCommand::Bye,
         CommandName::Help => CacheCommand::Help,
-        CommandName::SetOption => CacheCommand::SetOption { text: text_of(rest) },
+        CommandName::SetOption => CacheCommand::SetOption {
+            text: text_of(rest),
+        },
         CommandName::GetInfo => return read_info(arguments(rest)),
         CommandName::GetPassphrase => return read_get(rest),
         CommandName::PresetPassphrase => return read_preset(rest),

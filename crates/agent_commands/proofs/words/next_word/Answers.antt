@@ -41,8 +41,7 @@ pub returns-clause-shorter : goal.returns-clause-shorter
 returns-clause-shorter c =
     let place = ap (λ (t : List ℕ). position_or_len is_blank t) c.without_blanks-text.ensures.bytes in
     let parts = c.split_at.ensures in
-    let first = (next_is c.args.text.now (some c)).some in
-    (
+    let first = (next_is c.args.text.now (some c)).some in (
       omega (arith, parts.front_len, c.word_len.ensures.within, c.without_blanks-text.ensures.shorter),
       omega (arith, parts.back_len, c.word_len.ensures.place, c.word_len.ensures.within, c.without_blanks-text.ensures.shorter, place, first),
     )
