@@ -1,0 +1,78 @@
+-- The arguments of requests.
+use Rattle.std.specs.Prelude.{ℕ, ◌==◌, ◌&&◌, nat_le, Bool, true, List, [], ◌∷◌, length, drop, codes, Option, Some, None, Result, Ok, Err, if◌then◌else◌}
+use Rattle.std.specs.Option.{option_and_then}
+use Rattle.std.specs.Str.{bytes_eq}
+use Rattle.arrayvec.specs.ArrayVec.{ArrayVec}
+use Rattle.hex.specs.Hex.{decode_of}
+use Rattle.hex.specs.declared.error.FromHexError.{FromHexError}
+use Rattle.assuan_escape.specs.Escapes.{unescaped}
+use Rattle.cache_policy.specs.declared.life.Life.{Life}
+use Rattle.cache_policy.specs.declared.life.Life.TheVariants.{Default, Endless, Seconds}
+use Rattle.agent_commands.specs.Numbers.{number_of}
+use Rattle.agent_commands.specs.declared.request.Texts.{Texts}
+
+-- the word stands for none
+abbrev pub is_none : List ℕ → Bool
+is_none word = bytes_eq word (codes "X")
+
+-- a cache id has 1 to 50 bytes
+abbrev pub cache_id : List ℕ → Option (List ℕ)
+cache_id word = if nat_le 1 (length word) && nat_le (length word) 50 then Some word else None
+
+-- the id, where it isn't the one that stands for none
+abbrev pub unless_none : List ℕ → Option (List ℕ)
+unless_none id = if is_none id then None else Some id
+
+-- the bytes as a text
+abbrev pub text : List ℕ → ArrayVec ℕ
+text bytes = record { items = bytes }
+
+-- the text that a word means, where a `+` is a blank, or the one that stands for none
+abbrev pub text_or : List ℕ → List ℕ → ArrayVec ℕ
+text_or usual word = if is_none word then text usual else text (unescaped true word)
+
+-- what a prompt says: no word for none of it, or one each for the error, the prompt and the description. `None` where
+-- there are one or two.
+abbrev pub texts : List (List ℕ) → Option (Option Texts)
+texts [] = Some None
+texts (error ∷ prompt ∷ description ∷ more) = Some (Some (record {
+  error = text_or [] error;
+  prompt = text_or (codes "Passphrase:") prompt;
+  description = text_or (codes "Please enter the passphrase") description;
+}))
+texts _ = None
+
+-- how often a new passphrase is asked for again: up to 16 times
+abbrev pub up_to_16 : ℕ → Option ℕ
+up_to_16 number = if nat_le number 16 then Some number else None
+
+-- what the last option for this says: `--repeat` is once, and without one it is never
+abbrev pub repeats : Option (List ℕ) → Option ℕ
+repeats None = Some 0
+repeats (Some option) =
+    if bytes_eq option (codes "--repeat") then Some 1
+    else option_and_then up_to_16 (number_of 2 (drop 9 option))
+
+-- a number of seconds, where 0 is the usual lifetime
+abbrev pub life_of_seconds : ℕ → Option Life
+life_of_seconds seconds =
+    if seconds == 0 then Some Default
+    else if nat_le seconds 2147483647 then Some (Seconds seconds)
+    else None
+
+-- the lifetime that a word says
+abbrev pub life : List ℕ → Option Life
+life word =
+    if bytes_eq word (codes "-1") then Some Endless
+    else option_and_then life_of_seconds (number_of 10 word)
+
+-- a passphrase has at most 255 bytes
+abbrev pub passphrase : Result (List ℕ) FromHexError → Option (List ℕ)
+passphrase (Ok bytes) = if nat_le (length bytes) 255 then Some bytes else None
+passphrase (Err _) = None
+
+-- the passphrase is in the hexadecimal digits of the word, or comes by an inquiry, and not both. `None` where it is neither.
+abbrev pub given_passphrase : Bool → List (List ℕ) → Option (Option (List ℕ))
+given_passphrase inquire [] = if inquire then Some None else None
+given_passphrase inquire (digits ∷ more) =
+    if inquire then None else option_and_then (λ secret. Some (Some secret)) (passphrase (decode_of digits))

@@ -1,0 +1,53 @@
+-- The names that requests have (GnuPG manual, "Agent's Assuan protocol"; the commands of any Assuan server are those of the
+-- Assuan manual, "client requests").
+use Rattle.std.specs.Prelude.{ℕ, ◌&&◌, Bool, List, [], ◌∷◌, codes, Option, Some, None}
+use Rattle.std.specs.List.{list_any}
+use Rattle.std.specs.Str.{bytes_eq}
+use Rattle.agent_commands.specs.Rows.{found, found_in_any_case}
+use Rattle.agent_commands.specs.declared.names.CommandName.{CommandName}
+use Rattle.agent_commands.specs.declared.names.CommandName.TheVariants.{Nop, Reset, Bye, Help, SetOption, GetInfo, GetPassphrase, PresetPassphrase}
+use Rattle.agent_commands.specs.declared.names.What.{What}
+use Rattle.agent_commands.specs.declared.names.What.TheVariants.{Version, Pid, S2kCount, HasOption}
+
+abbrev pub commands : List (List ℕ × CommandName)
+commands =
+    (codes "NOP", Nop)
+    ∷ (codes "RESET", Reset)
+    ∷ (codes "BYE", Bye)
+    ∷ (codes "HELP", Help)
+    ∷ (codes "OPTION", SetOption)
+    ∷ (codes "GETINFO", GetInfo)
+    ∷ (codes "GET_PASSPHRASE", GetPassphrase)
+    ∷ (codes "PRESET_PASSPHRASE", PresetPassphrase)
+    ∷ []
+
+-- the command of this name, whatever the case of its letters
+unfoldable pub command_named : List ℕ → Option CommandName
+command_named word = found_in_any_case word commands
+
+-- what GETINFO can be asked for
+abbrev pub whats : List (List ℕ × What)
+whats =
+    (codes "version", Version)
+    ∷ (codes "pid", Pid)
+    ∷ (codes "s2k_count", S2kCount)
+    ∷ (codes "cmd_has_option", HasOption)
+    ∷ []
+
+unfoldable pub what_named : List ℕ → Option What
+what_named word = found word whats
+
+-- the options that GETINFO knows of each command
+abbrev pub listed : List (List ℕ × List ℕ)
+listed =
+    (codes "GET_PASSPHRASE", codes "data")
+    ∷ (codes "GET_PASSPHRASE", codes "check")
+    ∷ (codes "GET_PASSPHRASE", codes "no-ask")
+    ∷ (codes "GET_PASSPHRASE", codes "repeat")
+    ∷ (codes "GET_PASSPHRASE", codes "qualitybar")
+    ∷ (codes "PRESET_PASSPHRASE", codes "inquire")
+    ∷ []
+
+-- both are listed so, byte for byte
+unfoldable pub is_listed : List ℕ → List ℕ → Bool
+is_listed command option = list_any (λ row. bytes_eq row.0 command && bytes_eq row.1 option) listed

@@ -1,0 +1,14 @@
+-- Numbers in words.
+use Rattle.std.specs.Prelude.{ℕ, ◌+◌, ◌-◌, ◌*◌, ◌&&◌, nat_le, List, length, fold, Option, Some, None, if◌then◌else◌}
+use Rattle.std.specs.Str.{all_ascii_digits}
+
+-- the number that decimal digits are
+abbrev pub decimal : List ℕ → ℕ
+decimal digits = fold (λ number digit. 10 * number + (digit - 48)) 0 digits
+
+-- the number that a word of decimal digits is, of at least one and no more than so many
+abbrev pub number_of : ℕ → List ℕ → Option ℕ
+number_of most word =
+    if nat_le 1 (length word) && nat_le (length word) most && all_ascii_digits word
+    then Some (decimal word)
+    else None

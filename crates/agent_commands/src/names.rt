@@ -1,0 +1,76 @@
+ghost use Rattle.std.specs.Prelude.{◌≡◌};
+ghost use Rattle.agent_commands.specs.Names.{command_named, what_named, is_listed};
+
+use crate::table::{found, found_in_any_case, has_pair};
+
+/// The commands that are served.
+#[derive(Clone, Copy, Debug, PartialEq, Eq)]
+pub(crate) enum CommandName {
+    Nop,
+    Reset,
+    Bye,
+    Help,
+    SetOption,
+    GetInfo,
+    GetPassphrase,
+    PresetPassphrase,
+}
+
+const COMMANDS: [(&[u8], CommandName); 8] = [
+    (b"NOP", CommandName::Nop),
+    (b"RESET", CommandName::Reset),
+    (b"BYE", CommandName::Bye),
+    (b"HELP", CommandName::Help),
+    (b"OPTION", CommandName::SetOption),
+    (b"GETINFO", CommandName::GetInfo),
+    (b"GET_PASSPHRASE", CommandName::GetPassphrase),
+    (b"PRESET_PASSPHRASE", CommandName::PresetPassphrase),
+];
+
+/// What GETINFO can be asked for.
+#[derive(Clone, Copy, Debug, PartialEq, Eq)]
+pub(crate) enum What {
+    Version,
+    Pid,
+    S2kCount,
+    HasOption,
+}
+
+const WHATS: [(&[u8], What); 4] = [
+    (b"version", What::Version),
+    (b"pid", What::Pid),
+    (b"s2k_count", What::S2kCount),
+    (b"cmd_has_option", What::HasOption),
+];
+
+const LISTED: [(&[u8], &[u8]); 6] = [
+    (b"GET_PASSPHRASE", b"data"),
+    (b"GET_PASSPHRASE", b"check"),
+    (b"GET_PASSPHRASE", b"no-ask"),
+    (b"GET_PASSPHRASE", b"repeat"),
+    (b"GET_PASSPHRASE", b"qualitybar"),
+    (b"PRESET_PASSPHRASE", b"inquire"),
+];
+
+/// The command of this name, whatever the case of its letters.
+#[tactic(auto, unfolding(crate::specs::Names::command_named))]
+pub(crate) fn command_named(word: &[u8]) -> Option<CommandName>
+    ensures { result ≡ command_named word.now }
+{
+    found_in_any_case(word, &COMMANDS)
+}
+
+#[tactic(auto, unfolding(crate::specs::Names::what_named))]
+pub(crate) fn what_named(word: &[u8]) -> Option<What>
+    ensures { result ≡ what_named word.now }
+{
+    found(word, &WHATS)
+}
+
+/// Whether the command is known to have the option.
+#[tactic(auto, unfolding(crate::specs::Names::is_listed))]
+pub(crate) fn is_listed(command: &[u8], option: &[u8]) -> bool
+    ensures { result ≡ is_listed command.now option.now }
+{
+    has_pair(command, option, &LISTED)
+}

@@ -1,0 +1,65 @@
+use crate::{Code, Text};
+use cache_policy::{CacheId, Life, Secret};
+
+/// What a line asks for.
+#[derive(Drop)]
+pub enum Request {
+    Cache(CacheCommand),
+    /// The line is refused.
+    Bad(Code),
+}
+
+/// The commands on the cache and on the session (GnuPG manual, "Agent's Assuan protocol").
+#[derive(Drop)]
+pub enum CacheCommand {
+    Nop,
+    Reset,
+    Bye,
+    Help,
+    /// What comes after OPTION. The session's options judge it.
+    SetOption {
+        text: Text,
+    },
+    GetInfo(Info),
+    GetPassphrase {
+        /// The passphrase is answered by data lines, and else in hexadecimal digits.
+        plain: bool,
+        /// A new passphrase is checked.
+        check: bool,
+        /// The cache alone is asked.
+        no_ask: bool,
+        /// How often a new passphrase is asked for again, 0 to 16 times.
+        repeat: u8,
+        /// The pinentry shows how good a passphrase is.
+        quality: bool,
+        /// `None` leaves the cache out.
+        id: Option<CacheId>,
+        /// `None` where the line names an id alone.
+        texts: Option<Texts>,
+    },
+    PresetPassphrase {
+        id: CacheId,
+        life: Life,
+        /// `None` where the client is asked for it.
+        secret: Option<Secret>,
+    },
+}
+
+/// What GETINFO is asked for.
+#[derive(Clone, Copy, Debug, PartialEq, Eq)]
+pub enum Info {
+    Version,
+    Pid,
+    S2kCount,
+    /// A command and an option of it that are listed.
+    Listed,
+}
+
+/// What a prompt says.
+#[derive(Debug, Drop)]
+pub struct Texts {
+    /// Empty where there was no error.
+    pub error: Text,
+    pub prompt: Text,
+    pub description: Text,
+}

@@ -1,0 +1,55 @@
+ghost use Rattle.std.specs.Prelude.{◌≡◌, ◌≤◌, ◌<◌, ◌+◌, [], ◌∷◌, length, MatchOption};
+ghost use Rattle.std.specs.List.{position_or_len};
+ghost use Rattle.agent_commands.specs.Words.{is_blank, without_blanks, command_of, rest_of, words};
+
+/// The line's first word, and what comes after it and the blanks behind it.
+pub(crate) fn command_and_rest(line: &[u8]) -> (&[u8], &[u8])
+    ensures command { result.0.now ≡ command_of line.now }
+    ensures rest { result.1.now ≡ rest_of line.now }
+    ensures shorter { length result.1.now ≤ length line.now }
+{
+    let line = without_blanks(line);
+    let (command, rest) = line.split_at(word_len(line));
+    (command, without_blanks(rest))
+}
+
+/// The first word of a text, and what comes after it.
+pub(crate) fn next_word(text: &[u8]) -> Option<(&[u8], &[u8])>
+    ensures words { MatchOption result (words text.now ≡ []) (λ parts. words text.now ≡ parts.0.now ∷ words parts.1.now) }
+    ensures shorter { MatchOption result (words text.now ≡ [])
+        (λ parts. (length parts.0.now ≤ length text.now) × (length parts.1.now < length text.now)) }
+{
+    let text = without_blanks(text);
+    if text.is_empty() {
+        return None;
+    }
+    Some(text.split_at(word_len(text)))
+}
+
+/// How many bytes stand before the first blank or tab.
+fn word_len(text: &[u8]) -> usize
+    ensures place { result ≡ position_or_len is_blank text.now }
+    ensures within { result ≤ length text.now }
+{
+    text.iter()
+        .position(|byte| is_blank(*byte))
+        .unwrap_or(text.len())
+}
+
+fn is_blank(byte: u8) -> bool
+    ensures { result ≡ is_blank byte }
+{
+    matches!(byte, b' ' | b'\t')
+}
+
+/// The bytes after the blanks at the front.
+fn without_blanks(bytes: &[u8]) -> &[u8]
+    ensures bytes { result.now ≡ without_blanks bytes.now }
+    ensures shorter { length result.now ≤ length bytes.now }
+{
+    let mut rest = bytes;
+    while let [b' ' | b'\t', others @ ..] = rest {
+        rest = others;
+    }
+    rest
+}
