@@ -1,9 +1,10 @@
 -- The names that requests have (GnuPG manual, "Agent's Assuan protocol"; the commands of any Assuan server are those of the
 -- Assuan manual, "client requests").
-use Rattle.std.specs.Prelude.{ℕ, ◌&&◌, Bool, List, [], ◌∷◌, codes, Option, Some, None}
+use Rattle.std.specs.Prelude.{ℕ, ◌&&◌, Bool, List, [], ◌∷◌, codes, Option}
 use Rattle.std.specs.List.{list_any}
 use Rattle.std.specs.Str.{bytes_eq}
-use Rattle.agent_commands.specs.Rows.{found, found_in_any_case}
+use Rattle.session_options.specs.Rows.{found}
+use Rattle.agent_commands.specs.Rows.{found_in_any_case}
 use Rattle.agent_commands.specs.declared.names.CommandName.{CommandName}
 use Rattle.agent_commands.specs.declared.names.CommandName.TheVariants.{Nop, Reset, Bye, Help, SetOption, GetInfo, GetPassphrase, PresetPassphrase}
 use Rattle.agent_commands.specs.declared.names.What.{What}
@@ -46,6 +47,16 @@ listed =
     ∷ (codes "GET_PASSPHRASE", codes "repeat")
     ∷ (codes "GET_PASSPHRASE", codes "qualitybar")
     ∷ (codes "PRESET_PASSPHRASE", codes "inquire")
+    ∷ (codes "CLEAR_PASSPHRASE", codes "mode")
+    ∷ (codes "KEYINFO", codes "list")
+    ∷ (codes "KEYWRAP_KEY", codes "import")
+    ∷ (codes "KEYWRAP_KEY", codes "export")
+    ∷ (codes "IMPORT_KEY", codes "force")
+    ∷ (codes "EXPORT_KEY", codes "cache-nonce")
+    ∷ (codes "PASSWD", codes "cache-nonce")
+    ∷ (codes "PASSWD", codes "passwd-nonce")
+    ∷ (codes "PASSWD", codes "verify")
+    ∷ (codes "DELETE_KEY", codes "force")
     ∷ []
 
 -- both are listed so, byte for byte

@@ -1,10 +1,7 @@
 -- Numbers in words.
-use Rattle.std.specs.Prelude.{ℕ, ◌+◌, ◌-◌, ◌*◌, ◌&&◌, nat_le, List, length, fold, Option, Some, None, if◌then◌else◌}
+use Rattle.std.specs.Prelude.{ℕ, ◌&&◌, nat_le, List, length, Option, Some, None, if◌then◌else◌}
 use Rattle.std.specs.Str.{all_ascii_digits}
-
--- the number that decimal digits are
-abbrev pub decimal : List ℕ → ℕ
-decimal digits = fold (λ number digit. 10 * number + (digit - 48)) 0 digits
+use Rattle.session_options.specs.Table.{decimal}
 
 -- the number that a word of decimal digits is, of at least one and no more than so many
 abbrev pub number_of : ℕ → List ℕ → Option ℕ

@@ -1,16 +1,9 @@
 -- The words of a line, as the commands of an Assuan server read them: the command, and after blanks and tabs its options
 -- and arguments. Which of two options counts, and that others are passed over, is this project's own rule.
-use Rattle.std.specs.Prelude.{ℕ, ◌==◌, ◌||◌, ◌&&◌, nat_le, not, Bool, List, [], ◌∷◌, length, take, drop, fold, codes, Option, Some, None, if◌then◌else◌}
+use Rattle.std.specs.Prelude.{ℕ, ◌||◌, ◌&&◌, nat_le, not, Bool, List, [], ◌∷◌, length, take, drop, fold, codes, Option, Some, None, if◌then◌else◌}
 use Rattle.std.specs.List.{prefix_len, position_or_len, before_first, slice_split, filter, list_any}
 use Rattle.std.specs.Str.{bytes_eq}
-
--- a blank, or a tab
-abbrev pub is_blank : ℕ → Bool
-is_blank byte = byte == 32 || byte == 9
-
--- without the blanks at the front
-abbrev pub without_blanks : List ℕ → List ℕ
-without_blanks bytes = drop (prefix_len is_blank bytes) bytes
+use Rattle.session_options.specs.Text.{is_blank, without_blanks}
 
 -- the word that the line begins with
 abbrev pub command_of : List ℕ → List ℕ

@@ -1,7 +1,6 @@
 //! The commands on the agent's cache: a line of the client read as a request, or refused by a code.
 #![tactic(auto)]
 
-mod code;
 mod fields;
 mod names;
 mod numbers;
@@ -18,6 +17,5 @@ use arrayvec::ArrayVec;
 /// What a line can hold: at most 1,000 bytes.
 type Text = ArrayVec<u8, 1000>;
 
-pub use code::Code;
 pub use read::read_request;
 pub use request::{CacheCommand, Info, Request, Texts};

@@ -1,7 +1,8 @@
 ghost use Rattle.std.specs.Prelude.{◌≡◌};
 ghost use Rattle.agent_commands.specs.Names.{command_named, what_named, is_listed};
 
-use crate::table::{found, found_in_any_case, has_pair};
+use crate::table::{found_in_any_case, has_pair};
+use session_options::found;
 
 /// The commands that are served.
 #[derive(Clone, Copy, Debug, PartialEq, Eq)]
@@ -43,13 +44,23 @@ const WHATS: [(&[u8], What); 4] = [
     (b"cmd_has_option", What::HasOption),
 ];
 
-const LISTED: [(&[u8], &[u8]); 6] = [
+const LISTED: [(&[u8], &[u8]); 16] = [
     (b"GET_PASSPHRASE", b"data"),
     (b"GET_PASSPHRASE", b"check"),
     (b"GET_PASSPHRASE", b"no-ask"),
     (b"GET_PASSPHRASE", b"repeat"),
     (b"GET_PASSPHRASE", b"qualitybar"),
     (b"PRESET_PASSPHRASE", b"inquire"),
+    (b"CLEAR_PASSPHRASE", b"mode"),
+    (b"KEYINFO", b"list"),
+    (b"KEYWRAP_KEY", b"import"),
+    (b"KEYWRAP_KEY", b"export"),
+    (b"IMPORT_KEY", b"force"),
+    (b"EXPORT_KEY", b"cache-nonce"),
+    (b"PASSWD", b"cache-nonce"),
+    (b"PASSWD", b"passwd-nonce"),
+    (b"PASSWD", b"verify"),
+    (b"DELETE_KEY", b"force"),
 ];
 
 /// The command of this name, whatever the case of its letters.

@@ -6,8 +6,9 @@ use crate::fields::{cache_id, given_passphrase, life, repeats, texts, unless_non
 use crate::names::{CommandName, What, command_named, is_listed, what_named};
 use crate::options::{arguments, has_option};
 use crate::words::{command_and_rest, next_word};
-use crate::{CacheCommand, Code, Info, Request, Text};
+use crate::{CacheCommand, Info, Request, Text};
 use assuan_line::Line;
+use assuan_server::Code;
 
 /// Reads a line as what it asks for.
 ///

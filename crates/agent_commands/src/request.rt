@@ -1,4 +1,5 @@
-use crate::{Code, Text};
+use crate::Text;
+use assuan_server::Code;
 use cache_policy::{CacheId, Life, Secret};
 
 /// What a line asks for.

@@ -1,21 +1,10 @@
 ghost use Rattle.std.specs.Prelude.{◌≡◌, ◌&&◌};
 ghost use Rattle.std.specs.List.{list_any};
 ghost use Rattle.std.specs.Str.{bytes_eq, str_eq_ignore_ascii_case};
-ghost use Rattle.agent_commands.specs.Rows.{found, found_in_any_case, rows_of};
+ghost use Rattle.session_options.specs.Rows.{rows_of};
+ghost use Rattle.agent_commands.specs.Rows.{found_in_any_case};
 
-/// What the first row of this name has.
-pub(crate) fn found<X: Copy>(name: &[u8], rows: &[(&[u8], X)]) -> Option<X>
-    ensures { result ≡ found name.now (rows_of rows.now) }
-{
-    for (known, value) in rows {
-        if *known == name {
-            return Some(*value);
-        }
-    }
-    None
-}
-
-/// The same, without regard to the case of letters.
+/// What the first row of this name has, without regard to the case of letters.
 pub(crate) fn found_in_any_case<X: Copy>(name: &[u8], rows: &[(&[u8], X)]) -> Option<X>
     ensures { result ≡ found_in_any_case name.now (rows_of rows.now) }
 {

@@ -1,5 +1,6 @@
 use super::*;
 use assuan_line::Line;
+use assuan_server::Code;
 use cache_policy::Life;
 use std::test::Fail;
 

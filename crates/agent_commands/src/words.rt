@@ -1,6 +1,9 @@
 ghost use Rattle.std.specs.Prelude.{◌≡◌, ◌≤◌, ◌<◌, ◌+◌, [], ◌∷◌, length, MatchOption};
 ghost use Rattle.std.specs.List.{position_or_len};
-ghost use Rattle.agent_commands.specs.Words.{is_blank, without_blanks, command_of, rest_of, words};
+ghost use Rattle.session_options.specs.Text.{is_blank};
+ghost use Rattle.agent_commands.specs.Words.{command_of, rest_of, words};
+
+use session_options::without_blanks;
 
 /// The line's first word, and what comes after it and the blanks behind it.
 pub(crate) fn command_and_rest(line: &[u8]) -> (&[u8], &[u8])
@@ -40,16 +43,4 @@ fn is_blank(byte: u8) -> bool
     ensures { result ≡ is_blank byte }
 {
     matches!(byte, b' ' | b'\t')
-}
-
-/// The bytes after the blanks at the front.
-fn without_blanks(bytes: &[u8]) -> &[u8]
-    ensures bytes { result.now ≡ without_blanks bytes.now }
-    ensures shorter { length result.now ≤ length bytes.now }
-{
-    let mut rest = bytes;
-    while let [b' ' | b'\t', others @ ..] = rest {
-        rest = others;
-    }
-    rest
 }

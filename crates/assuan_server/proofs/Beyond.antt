@@ -1,5 +1,5 @@
 -- A read past lines that is under way, and what each way out of the loop makes of it.
-use Rattle.std.proofs.Common.{◌≡◌, ℕ, ◌+◌, Bool, true, List, [], ◌∷◌, ◌++◌, length, Option, refl, ap, sym, ◌∙◌, subst, arith, append_assoc}
+use Rattle.std.proofs.Common.{◌≡◌, ℕ, ◌+◌, Bool, true, List, [], ◌∷◌, ◌++◌, length, Option, refl, sym, subst, arith}
 use Rattle.agent_ports.specs.Sides.{WhereTold}
 use Rattle.agent_ports.proofs.Told.{told_same, told_then}
 use Rattle.assuan_line.specs.Lines.{after_line}

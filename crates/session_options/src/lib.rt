@@ -19,3 +19,5 @@ type Word = ArrayVec<u8, 255>;
 pub use env::Env;
 pub use options::{OptionAnswer, Options, PinMode, spelling_is_plain};
 pub use rules::{Rules, RunMode};
+pub use table::found;
+pub use text::without_blanks;

@@ -38,9 +38,10 @@ fn without<'a>(mark: &[u8], bytes: &'a [u8]) -> &'a [u8]
     bytes.strip_prefix(mark).unwrap_or(bytes)
 }
 
-/// The bytes after the blanks at the front.
-fn without_blanks(bytes: &[u8]) -> &[u8]
-    ensures { result.now ≡ without_blanks bytes.now }
+/// The bytes after the blanks and tabs at the front.
+pub fn without_blanks(bytes: &[u8]) -> &[u8]
+    ensures bytes { result.now ≡ without_blanks bytes.now }
+    ensures shorter { length result.now ≤ length bytes.now }
 {
     let mut rest = bytes;
     while let [b' ' | b'\t', others @ ..] = rest {

@@ -1,6 +1,6 @@
 use Rattle.std.proofs.Common.{◌≡◌, ◌^◌, ◌<◌, drop, fold, ◌+◌, ◌-◌, ◌*◌}
 use Rattle.std.specs.Str.{all_ascii_digits}
-use Rattle.agent_commands.specs.Numbers.{decimal}
+use Rattle.session_options.specs.Table.{decimal}
 use Rattle.agent_commands.proofs.numbers.number_of.Given as goal
 
 -- the digits that are left decide, and go on with the number

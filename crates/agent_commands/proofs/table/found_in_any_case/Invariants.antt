@@ -1,5 +1,6 @@
 use Rattle.std.proofs.Common.{◌≡◌, drop}
-use Rattle.agent_commands.specs.Rows.{found_in_any_case, rows_of}
+use Rattle.session_options.specs.Rows.{rows_of}
+use Rattle.agent_commands.specs.Rows.{found_in_any_case}
 use Rattle.agent_commands.proofs.table.found_in_any_case.Given as goal
 
 -- the rows that are left decide

@@ -1,7 +1,8 @@
-use Rattle.std.proofs.Common.{◌≡◌, ◌<◌, ℕ, List, [], ◌∷◌, eqb, true, length, take, drop, refl, arith, ap, ◌∙◌, sym}
+use Rattle.std.proofs.Common.{◌≡◌, ◌<◌, ℕ, List, [], ◌∷◌, length, take, drop, refl, arith, ap, ◌∙◌, sym}
 use Rattle.std.specs.List.{before_first, position_or_len}
 use Rattle.std.proofs.lemmas.Bool.Decides.{nat_tests}
-use Rattle.agent_commands.specs.Words.{is_blank, without_blanks, words}
+use Rattle.session_options.specs.Text.{is_blank, without_blanks}
+use Rattle.agent_commands.specs.Words.{words}
 use Rattle.agent_commands.proofs.WordLemmas.{no_words, next_is}
 use Rattle.agent_commands.proofs.words.next_word.Goals as goal
 

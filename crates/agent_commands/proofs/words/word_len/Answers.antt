@@ -6,7 +6,7 @@ use Rattle.std.proofs.lemmas.Bool.Decides.{nat_tests}
 use Rattle.std.proofs.lemmas.Iterator.{YieldsList-from_slice}
 use Rattle.std.proofs.lemmas.Iterator.Search.{position_from_yields_List}
 use Rattle.std.proofs.lemmas.List.Sums.{prefix_len-le-length}
-use Rattle.agent_commands.specs.Words.{is_blank}
+use Rattle.session_options.specs.Text.{is_blank}
 use Rattle.agent_commands.proofs.words.word_len.Goals as goal
 
 -- a place, where one is found, and else the end

@@ -1,9 +1,13 @@
-use Rattle.std.proofs.Common.{◌≡◌, length}
+use Rattle.std.proofs.Common.{◌≡◌, ◌≤◌, length}
 use Rattle.session_options.specs.Text.{without_blanks}
 use Rattle.session_options.proofs.text.without_blanks.Given as goal
 
 abbrev pub invariant-loop-rest : goal.invariant-loop-rest
-invariant-loop-rest l = without_blanks l.rest ≡ without_blanks l.fn.bytes
+invariant-loop-rest l =
+    record {
+      same : without_blanks l.rest ≡ without_blanks l.fn.bytes;
+      shorter : length l.rest ≤ length l.fn.bytes;
+    }
 
 abbrev pub decreases-loop-rest : goal.decreases-loop-rest
 decreases-loop-rest l = length l.rest
