@@ -1,5 +1,5 @@
 -- The options among words, one after the other.
-use Rattle.std.proofs.Common.{◌≡◌, suc, ◌+◌, ℕ, true, cond, List, [], ◌∷◌, take, drop, refl, ap, ◌∙◌, arith}
+use Rattle.std.proofs.Common.{◌≡◌, suc, ◌+◌, ℕ, true, cond, List, ◌∷◌, take, drop, ap, ◌∙◌, arith}
 use Rattle.std.specs.List.{prefix_len}
 use Rattle.agent_commands.specs.Words.{is_option, options_of}
 

@@ -3,7 +3,6 @@ use Rattle.std.proofs.Common.{◌≡◌, suc, ◌+◌, ◌<◌, ◌≤◌, ℕ, 
 use Rattle.std.specs.Prelude.{nat_le, not}
 use Rattle.std.specs.List.{filter, slice_split, onto_first, prefix_len, position_or_len, before_first}
 use Rattle.std.proofs.lemmas.Bool.{cond_both, le-leb}
-use Rattle.std.proofs.lemmas.Bool.Decides.{nat_tests}
 use Rattle.std.proofs.lemmas.List.Splits.{slice_split-cons_yes}
 use Rattle.agent_commands.specs.Words.{is_blank, without_blanks, words}
 

@@ -1,5 +1,5 @@
 -- The definition on worked examples, each by computation.
-use Rattle.std.specs.Prelude.{◌≡◌, ℕ, List, [], ◌∷◌, ◌++◌, replicate, codes, true, false, Some, None, refl}
+use Rattle.std.specs.Prelude.{◌≡◌, [], ◌∷◌, ◌++◌, replicate, codes, true, false, Some, None, refl}
 use Rattle.percent_encoding.proofs.OnLiterals.{percent_encoding_on_literals}
 use Rattle.hex.proofs.OnLiterals.{hex_on_literals}
 use Rattle.cache_policy.specs.declared.life.Life.TheVariants.{Default, Endless, Seconds}
@@ -7,8 +7,8 @@ use Rattle.agent_commands.specs.Names.{command_named, what_named, is_listed}
 use Rattle.agent_commands.specs.Fields.{text}
 use Rattle.agent_commands.specs.Requests.{request_of}
 use Rattle.agent_commands.specs.declared.code.Code.TheVariants.{NotSupported, UnknownCommand, Parameter}
-use Rattle.agent_commands.specs.declared.request.Info.TheVariants.{Version, S2kCount, Listed}
-use Rattle.agent_commands.specs.declared.request.CacheCommand.TheVariants.{Nop, Reset, Bye, Help, SetOption, GetInfo, GetPassphrase, PresetPassphrase}
+use Rattle.agent_commands.specs.declared.request.Info.TheVariants.{Version, Listed}
+use Rattle.agent_commands.specs.declared.request.CacheCommand.TheVariants.{Nop, Bye, SetOption, GetInfo, GetPassphrase, PresetPassphrase}
 use Rattle.agent_commands.specs.declared.request.Request.TheVariants.{Cache, Bad}
 
 nop_with_blanks : request_of (codes "NOP" ++ replicate 997 32) ≡ Cache Nop

@@ -1,10 +1,9 @@
 -- What a line asks for, or the fault for which it is refused.
-use Rattle.std.specs.Prelude.{ℕ, Bool, List, [], ◌∷◌, length, codes, Option, Some, None, if◌then◌else◌}
+use Rattle.std.specs.Prelude.{ℕ, List, [], ◌∷◌, codes, Option, Some, None, if◌then◌else◌}
 use Rattle.cache_policy.specs.declared.life.Life.{Life}
 use Rattle.agent_commands.specs.Words.{command_of, rest_of, words, options_of, arguments_of, has_option, last_option}
 use Rattle.agent_commands.specs.Names.{command_named, what_named, is_listed}
 use Rattle.agent_commands.specs.Fields.{cache_id, unless_none, text, texts, repeats, life, given_passphrase}
-use Rattle.agent_commands.specs.declared.code.Code.{Code}
 use Rattle.agent_commands.specs.declared.code.Code.TheVariants.{NotSupported, UnknownCommand, Parameter}
 use Rattle.agent_commands.specs.declared.names.CommandName.{CommandName}
 use Rattle.agent_commands.specs.declared.names.CommandName.TheVariants as name

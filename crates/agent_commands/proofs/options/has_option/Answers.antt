@@ -1,4 +1,4 @@
-use Rattle.std.proofs.Common.{◌||◌, List, ℕ, sym, ap, ◌∙◌}
+use Rattle.std.proofs.Common.{◌||◌, sym, ap, ◌∙◌}
 use Rattle.agent_commands.specs.Words.{has_option, options_of, words}
 use Rattle.agent_commands.proofs.OptionLemmas.{options-step}
 use Rattle.agent_commands.proofs.options.has_option.Goals as goal
