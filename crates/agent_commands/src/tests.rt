@@ -122,10 +122,11 @@ fn the_text_of_an_option_is_kept(rt: HostRuntime) -> Result<(), Fail> {
         (b"OPTION", b""),
     ];
     for (line, kept) in cases {
-        let Request::Cache(CacheCommand::SetOption { text }) = request(line)? else {
-            return Err("no option".into());
-        };
-        assert_eq!(rt; text.as_slice(), kept);
+        let answer = request(line)?;
+        assert!(rt;
+            matches!(&answer, Request::Cache(CacheCommand::SetOption { text }) if text.as_slice() == kept),
+            "at {line:?}"
+        );
     }
     Ok(())
 }
@@ -194,24 +195,24 @@ fn options_are_read_in_order(rt: HostRuntime) -> Result<(), Fail> {
 }
 
 #[test]
-fn ids_and_texts_are_read(rt: HostRuntime) -> Result<(), Fail> {
+fn ids_have_up_to_50_bytes(rt: HostRuntime) -> Result<(), Fail> {
     let line = long_line(b"GET_PASSPHRASE ", b'a', 50)?;
-    let Request::Cache(
-        CacheCommand::GetPassphrase {
-            id: Some(id),
-            texts: None,
-            ..
-        },
-    ) = request(&line)?
-    else {
-        return Err("no id of 50 bytes".into());
-    };
-    assert_eq!(rt; id.bytes().len(), 50);
+    let answer = request(&line)?;
+    assert!(rt;
+        matches!(
+            &answer,
+            Request::Cache(CacheCommand::GetPassphrase { id: Some(id), texts: None, .. }) if id.bytes().len() == 50
+        )
+    );
     let line = long_line(b"GET_PASSPHRASE ", b'a', 51)?;
     assert!(rt; matches!(request(&line)?, Request::Bad(Code::Parameter)));
     let line = long_line(b"PRESET_PASSPHRASE --inquire ", b'a', 51)?;
     assert!(rt; matches!(request(&line)?, Request::Bad(Code::Parameter)));
+    Ok(())
+}
 
+#[test]
+fn texts_are_read(rt: HostRuntime) -> Result<(), Fail> {
     let cases: [(&[u8], &[u8], &[u8], &[u8]); 3] = [
         (
             b"GET_PASSPHRASE X X X X",
@@ -228,19 +229,17 @@ fn ids_and_texts_are_read(rt: HostRuntime) -> Result<(), Fail> {
         (b"GET_PASSPHRASE X x %58 XX", b"x", b"X", b"XX"),
     ];
     for (line, error, prompt, description) in cases {
-        let Request::Cache(
-            CacheCommand::GetPassphrase {
-                id: None,
-                texts: Some(texts),
-                ..
-            },
-        ) = request(line)?
-        else {
-            return Err("no texts".into());
-        };
-        assert_eq!(rt; texts.error.as_slice(), error);
-        assert_eq!(rt; texts.prompt.as_slice(), prompt);
-        assert_eq!(rt; texts.description.as_slice(), description);
+        let answer = request(line)?;
+        assert!(rt;
+            matches!(
+                &answer,
+                Request::Cache(CacheCommand::GetPassphrase { id: None, texts: Some(texts), .. })
+                    if texts.error.as_slice() == error
+                        && texts.prompt.as_slice() == prompt
+                        && texts.description.as_slice() == description
+            ),
+            "at {line:?}"
+        );
     }
     Ok(())
 }
