@@ -1,6 +1,6 @@
 -- The names that requests have (GnuPG manual, "Agent's Assuan protocol"; the commands of any Assuan server are those of the
 -- Assuan manual, "client requests").
-use Rattle.std.specs.Prelude.{ℕ, ◌&&◌, Bool, List, [], ◌∷◌, codes, Option}
+use Rattle.std.specs.Prelude.{ℕ, ◌&&◌, Bool, List, [], ◌∷◌, codes, map, Option}
 use Rattle.std.specs.List.{list_any}
 use Rattle.std.specs.Str.{bytes_eq}
 use Rattle.session_options.specs.Rows.{found}
@@ -22,6 +22,10 @@ commands =
     ∷ (codes "PRESET_PASSPHRASE", PresetPassphrase)
     ∷ []
 
+-- their names, in this order
+abbrev pub command_names : List (List ℕ)
+command_names = map (λ row. row.0) commands
+
 -- the command of this name, whatever the case of its letters
 unfoldable pub command_named : List ℕ → Option CommandName
 command_named word = found_in_any_case word commands
@@ -38,7 +42,7 @@ whats =
 unfoldable pub what_named : List ℕ → Option What
 what_named word = found word whats
 
--- the options that GETINFO knows of each command
+-- the options that GETINFO knows of the commands that are served
 abbrev pub listed : List (List ℕ × List ℕ)
 listed =
     (codes "GET_PASSPHRASE", codes "data")
@@ -47,16 +51,6 @@ listed =
     ∷ (codes "GET_PASSPHRASE", codes "repeat")
     ∷ (codes "GET_PASSPHRASE", codes "qualitybar")
     ∷ (codes "PRESET_PASSPHRASE", codes "inquire")
-    ∷ (codes "CLEAR_PASSPHRASE", codes "mode")
-    ∷ (codes "KEYINFO", codes "list")
-    ∷ (codes "KEYWRAP_KEY", codes "import")
-    ∷ (codes "KEYWRAP_KEY", codes "export")
-    ∷ (codes "IMPORT_KEY", codes "force")
-    ∷ (codes "EXPORT_KEY", codes "cache-nonce")
-    ∷ (codes "PASSWD", codes "cache-nonce")
-    ∷ (codes "PASSWD", codes "passwd-nonce")
-    ∷ (codes "PASSWD", codes "verify")
-    ∷ (codes "DELETE_KEY", codes "force")
     ∷ []
 
 -- both are listed so, byte for byte

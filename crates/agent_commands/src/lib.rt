@@ -17,5 +17,6 @@ use arrayvec::ArrayVec;
 /// What a line can hold: at most 1,000 bytes.
 type Text = ArrayVec<u8, 1000>;
 
+pub use names::{COMMANDS, CommandName};
 pub use read::read_request;
 pub use request::{CacheCommand, Info, Request, Texts};

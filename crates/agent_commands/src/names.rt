@@ -6,7 +6,7 @@ use session_options::found;
 
 /// The commands that are served.
 #[derive(Clone, Copy, Debug, PartialEq, Eq)]
-pub(crate) enum CommandName {
+pub enum CommandName {
     Nop,
     Reset,
     Bye,
@@ -17,7 +17,8 @@ pub(crate) enum CommandName {
     PresetPassphrase,
 }
 
-const COMMANDS: [(&[u8], CommandName); 8] = [
+/// The commands by their names, in the order in which HELP tells them.
+pub const COMMANDS: [(&[u8], CommandName); 8] = [
     (b"NOP", CommandName::Nop),
     (b"RESET", CommandName::Reset),
     (b"BYE", CommandName::Bye),
@@ -44,23 +45,13 @@ const WHATS: [(&[u8], What); 4] = [
     (b"cmd_has_option", What::HasOption),
 ];
 
-const LISTED: [(&[u8], &[u8]); 16] = [
+const LISTED: [(&[u8], &[u8]); 6] = [
     (b"GET_PASSPHRASE", b"data"),
     (b"GET_PASSPHRASE", b"check"),
     (b"GET_PASSPHRASE", b"no-ask"),
     (b"GET_PASSPHRASE", b"repeat"),
     (b"GET_PASSPHRASE", b"qualitybar"),
     (b"PRESET_PASSPHRASE", b"inquire"),
-    (b"CLEAR_PASSPHRASE", b"mode"),
-    (b"KEYINFO", b"list"),
-    (b"KEYWRAP_KEY", b"import"),
-    (b"KEYWRAP_KEY", b"export"),
-    (b"IMPORT_KEY", b"force"),
-    (b"EXPORT_KEY", b"cache-nonce"),
-    (b"PASSWD", b"cache-nonce"),
-    (b"PASSWD", b"passwd-nonce"),
-    (b"PASSWD", b"verify"),
-    (b"DELETE_KEY", b"force"),
 ];
 
 /// The command of this name, whatever the case of its letters.
