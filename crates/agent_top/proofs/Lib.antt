@@ -1,5 +1,12 @@
-mod Cuts
-mod Plain
-mod Presets
+mod Acting
+mod Answering
+mod Asking
+mod Helping
+mod Inquiring
+mod Lacking
+mod Meeting
+mod Preparing
+mod Presetting
+mod Saying
 mod Serving
-mod Stepping
+mod Taking

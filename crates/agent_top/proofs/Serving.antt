@@ -1,172 +1,192 @@
--- A session that is under way, and what each way out of the loop makes of it.
-use Rattle.std.proofs.Common.{◌≡◌, ◌≤◌, ℕ, ◌+◌, List, [], ◌++◌, length, Option, Some, None, Ok, Err, refl, ap, sym, ◌∙◌, subst, arith, append_assoc, append-nil}
-use Rattle.agent_ports.proofs.Given.{given_none, given_then}
-use Rattle.agent_ports.specs.Readings.{HasGiven}
-use Rattle.agent_ports.specs.Sides.{Side, with_bytes, WhereTold}
-use Rattle.agent_ports.proofs.Told.{told_same, told_then, with_bytes-append}
-use Rattle.assuan_line.specs.Next.{Reader, Tells}
+-- A session that is under way, and what each way out of its loop makes of it.
+use Rattle.std.proofs.Common.{◌≡◌, ◌≤◌, ◌+◌, ℕ, List, [], ◌∷◌, ◌++◌, length, Option, Some, None, Ok, Err, refl, ap, sym, ◌∙◌, subst, arith, append_assoc, append-nil}
+use Rattle.agent_ports.specs.Counts.{Rose}
+use Rattle.agent_ports.specs.Sides.{WhereTold}
+use Rattle.agent_ports.proofs.Told.{told_then, told_both, told_same}
+use Rattle.assuan_line.specs.Next.{Reader, ended_by}
 use Rattle.assuan_line.specs.declared.reader.Took.{Took}
 use Rattle.assuan_line.specs.declared.reader.Took.TheVariants as took
-use Rattle.assuan_line.proofs.Ahead.{cut_short_of_all, too_long_of_all}
-use Rattle.cache_policy.specs.declared.life.Limits.{Limits}
-use Rattle.cache_policy.specs.Book.{Book}
-use Rattle.agent_top.specs.declared.answer.Answer.TheVariants.{Greeting, TooLong as LineTooLong}
-use Rattle.agent_top.specs.declared.answer.WriteFault.{WriteFault}
-use Rattle.agent_top.specs.declared.request.Request.{Request}
-use Rattle.agent_top.specs.declared.words.Rules.{Rules}
-use Rattle.agent_top.specs.declared.session.Went.TheVariants.{On, Over}
+use Rattle.assuan_server.specs.Connections.{Connection}
+use Rattle.assuan_server.specs.Errors.{error_text}
+use Rattle.assuan_server.specs.Requests.{IsNextRequest, is_ignored}
+use Rattle.assuan_server.specs.declared.errors.Code.TheVariants.{LineTooLong}
+use Rattle.agent_commands.specs.Requests.{request_of}
+use Rattle.session_options.specs.Choices.{Choices}
+use Rattle.session_options.specs.declared.rules.Rules.{Rules}
+use Rattle.agent_top.specs.Deeds.{Deed, Wrote, IsCut}
+use Rattle.agent_top.specs.Exchanges.{failed}
+use Rattle.agent_top.specs.Reading.{ReadsRequest, Takes}
+use Rattle.agent_top.specs.Session.{Talk, goes_on, over, ended, spent, read_fault, too_long, cut, cut_too_long, Leaves}
+use Rattle.agent_top.specs.Steps.{HasSaid, HasStopped, Point, point, here, IsTotal, HasActed, HasRead, HasTaken, Fits, HasAnswered, HasBroken, HasTalked}
+use Rattle.agent_top.specs.declared.cache.Cache.{Cache}
+use Rattle.agent_top.specs.declared.reply.WriteFault.{WriteFault}
 use Rattle.agent_top.specs.declared.session.SessionEnd.{SessionEnd}
 use Rattle.agent_top.specs.declared.session.SessionEnd.TheVariants.{Bye, Ended, TooLong, Spent, ReadFault}
-use Rattle.agent_top.specs.declared.session.SessionEnd.TheVariants as end
-use Rattle.agent_top.specs.Answers.{line_of, HasCut}
-use Rattle.agent_top.specs.Cache.{Standing, at_start, IsKeptAs}
-use Rattle.agent_top.specs.Requests.{IsRequest}
-use Rattle.agent_top.specs.Session.{budget, Exchange, Talk, goes_on, over as talk_over, ended, too_long, spent, read_fault, cut, cut_too_long, Session, greeted, cut_greeting, outside, HasServed, Takes}
-use Rattle.agent_top.specs.Steps.{HasAnswered}
+use Rattle.agent_top.specs.declared.session.SessionEnd.TheVariants as ends
+use Rattle.agent_top.specs.declared.session.Went.TheVariants.{On, End}
+use Rattle.agent_top.proofs.Acting.{acted_none, acted_then, acted_wrote, acted_stopped}
+use Rattle.agent_top.proofs.Taking.{read_none, read_then, read_so, reads_past, here_going}
 
--- nothing was written
-nothing : (o : Option (List ℕ)) → o ≡ with_bytes o []
-nothing None = refl
-nothing (Some before) = ap (λ (x : List ℕ). Some x) (sym (append-nil before))
+-- what the source holds after an exchange that ended the session
+pub leaves : (end : SessionEnd) (before after : Reader) (left : List ℕ) → Fits (End end) before after → Leaves end (here after left) left
+leaves Bye before after left going = (after.ahead, here_going after left going)
+leaves Ended before after left is = rw is refl
+leaves TooLong before after left is = rw is refl
+leaves Spent before after left is = rw is refl
+leaves ReadFault before after left is = rw is refl
+leaves ends.WriteFault before after left is = absurd is
 
-module _ (rules : Rules) (limits : Limits) where
-  -- whatever comes of the bytes that are left completes what was read and written so far
-  abbrev pub Continues : Standing → List ℕ → List ℕ → List ℕ → List ℕ → Type 0
-  Continues standing total readings written bytes =
-      (later output : List ℕ) (end : SessionEnd) (left : List ℕ) → Talk rules limits (length total) standing bytes later output end left → Session rules limits total (readings ++ later) (written ++ output) end left
+leaves_part_of : (reader : Reader) (left : List ℕ) (o : Option Took) → reader.ended ≡ o → (ahead : List ℕ) × (here reader left ≡ ahead ++ left)
+leaves_part_of reader left None is = (reader.ahead, here_going reader left is)
+leaves_part_of reader left (Some took) is = ([], rw is refl)
 
-  -- the session so far, and how many bytes it took
-  abbrev pub StandsAt : Standing → List ℕ → List ℕ → Reader → List ℕ → List ℕ → Type 0
-  StandsAt standing readings written reader total rest =
-      Continues standing total readings written (reader.ahead ++ rest) × (length total + reader.left ≡ length rest + budget)
+-- and after a write that failed
+leaves_part : (reader : Reader) (left : List ℕ) → (ahead : List ℕ) × (here reader left ≡ ahead ++ left)
+leaves_part reader left = leaves_part_of reader left reader.ended refl
 
-  -- how a session stands between two lines
-  pub record IsServing (input output : Side) (later : ℕ → Option ℕ) (count : ℕ) (reader : Reader) (input_now output_now : Side) (later_now : ℕ → Option ℕ) (count_now : ℕ) (book : Book) (marks latest : ℕ) : Type 0 where
-    pub standing : Standing
-    pub readings : List ℕ
-    pub written : List ℕ
-    pub appended : output_now.bytes ≡ with_bytes output.bytes written
-    pub given : HasGiven later count readings later_now count_now
-    pub kept : IsKeptAs limits standing book marks latest
-    pub session : WhereTold input.bytes input_now.bytes (StandsAt standing readings written reader)
+-- a reader that gave no line has ended so
+leaves_all : (reader : Reader) (left : List ℕ) (took : Took) → reader.ended ≡ Some took → here reader left ≡ left
+leaves_all reader left took is = rw is refl
 
-  -- the greeting was cut
-  pub cut_at_greeting : (input output input_now output_now : Side) (later : ℕ → Option ℕ) (count : ℕ) → input_now ≡ input → HasCut (line_of Greeting) output output_now → HasServed rules limits (outside input output later count) end.WriteFault (outside input_now output_now later count)
-  cut_at_greeting input output input_now output_now later count same failed = record {
-    written = failed.sent;
-    readings = [];
-    appended = failed.written;
-    given = given_none later count;
-    session = subst (λ (s : Side). WhereTold input.bytes s.bytes (λ rest left. Session rules limits rest [] failed.sent end.WriteFault left × (length rest ≤ budget + length left))) (sym same)
-        (told_same input.bytes _ (λ rest. (cut_greeting failed.unsent failed.split, omega arith)));
+-- what the next request is, from the clauses of its read
+pub read_request : (start now : Point) (answer : Took) → start.conn.reader.ended ≡ None → now.conn.reader.ended ≡ ended_by answer → start.conn.input.faults ≤ now.conn.input.faults → WhereTold start.conn.input.bytes now.conn.input.bytes (λ rest left. IsNextRequest (start.conn.reader.ahead ++ rest) answer now.conn.reader left) → WhereTold start.conn.input.bytes now.conn.input.bytes (λ rest left. length rest + now.conn.reader.left ≡ length left + start.conn.reader.left) → HasRead start now (λ total rest left. ReadsRequest total (here start.conn.reader rest) answer (here now.conn.reader left))
+read_request start now answer going ended_so faults request budget = record {
+  bytes = told_then start.conn.input.bytes now.conn.input.bytes now.conn.input.bytes _ (λ rest left. rest ≡ left) _
+      (told_both start.conn.input.bytes now.conn.input.bytes _ _ request budget) (told_same now.conn.input.bytes _ (λ rest. refl))
+      (λ rest left more read same. λ total is.
+      let is_now : IsTotal total now.conn.reader left = omega (arith, is, read.1) in
+      let reads : ReadsRequest total (here start.conn.reader rest) answer (here now.conn.reader left) =
+      subst (λ (b : List ℕ). ReadsRequest total b answer (here now.conn.reader left)) (sym (here_going start.conn.reader rest going))
+      (read.0.0, reads_past is_ignored total (start.conn.reader.ahead ++ rest) read.0.0 answer now.conn.reader left ended_so is_now read.0.1) in
+      subst (λ (x : List ℕ). ReadsRequest total (here start.conn.reader rest) answer (here now.conn.reader x) × IsTotal total now.conn.reader x) same (reads, is_now));
+  faults = faults;
+}
+
+module _ (rules : Rules) (before : Choices) (start : Point) where
+  -- whatever comes of the bytes that are left completes what was done so far
+  abbrev pub Continues : Point → Choices → List Deed → ℕ → List ℕ → List ℕ → Type 0
+  Continues now choices deeds total rest left =
+      (more : List Deed) (end : SessionEnd) (place : List ℕ) → Talk rules total choices (here now.conn.reader left) more end place → Talk rules total before (here start.conn.reader rest) (deeds ++ more) end place
+
+  -- how a session stands between two requests
+  pub record IsServing (now : Point) (choices : Choices) : Type 0 where
+    pub deeds : List Deed
+    pub acted : HasActed deeds start now
+    pub talk : HasRead start now (Continues now choices deeds)
+
+  pub serves_none : IsServing start before
+  serves_none = record {
+    deeds = [];
+    acted = acted_none start.conn start.conn start.later start.count start.cache refl refl;
+    talk = read_none start start _ refl refl (λ total rest. λ more end place talk. talk);
   }
 
-  -- after the greeting
-  pub served_none : (input output output_now : Side) (later : ℕ → Option ℕ) (count : ℕ) (book : Book) (marks latest : ℕ) → output_now.bytes ≡ with_bytes output.bytes (line_of Greeting) → IsKeptAs limits at_start book marks latest → IsServing input output later count (record { ahead = []; left = budget; ended = None }) input output_now later count book marks latest
-  served_none input output output_now later count book marks latest appended kept = record {
-    standing = at_start;
-    readings = [];
-    written = line_of Greeting;
-    appended = appended;
-    given = given_none later count;
-    kept = kept;
-    session = told_same input.bytes _ (λ rest. (λ later output end left talk. greeted talk, refl));
-  }
-
-  -- `input_mid` and `output_mid` are the link's sides before a read of a line, `input_now` and `output_read` those after it
-  module _ (input output : Side) (later : ℕ → Option ℕ) (count : ℕ) (reader reader_now : Reader) (input_mid output_mid input_now output_read : Side) (later_mid : ℕ → Option ℕ) (count_mid : ℕ) (book : Book) (marks latest : ℕ) (answer : Took) (serving : IsServing input output later count reader input_mid output_mid later_mid count_mid book marks latest) (same : output_read ≡ output_mid) (takes : WhereTold input_mid.bytes input_now.bytes (Takes reader answer reader_now)) where
-    -- what was written before this, and this
-    adds : (text : List ℕ) (output_now : Side) → output_now.bytes ≡ with_bytes output_read.bytes text → output_now.bytes ≡ with_bytes output.bytes (serving.written ++ text)
-    adds text output_now appended =
-        appended ∙ ap (λ (s : Side). with_bytes s.bytes text) same ∙ ap (λ (o : Option (List ℕ)). with_bytes o text) serving.appended
-        ∙ with_bytes-append output.bytes serving.written text
-
-    -- what holds of the bytes at the start and now, from what holds of those before this and now
-    follows : (R : List ℕ → List ℕ → Type 0) → ((total rest left : List ℕ) → StandsAt serving.standing serving.readings serving.written reader total rest → Takes reader answer reader_now rest left → R total left) → WhereTold input.bytes input_now.bytes R
-    follows R each =
-        told_then input.bytes input_mid.bytes input_now.bytes (StandsAt serving.standing serving.readings serving.written reader) (Takes reader answer reader_now) R
-        serving.session takes each
-
-    -- the session's end, where the bytes read tell how it ends and what it writes
-    ends : (readings text : List ℕ) (end : SessionEnd) (output_now : Side) (later_now : ℕ → Option ℕ) (count_now : ℕ) → output_now.bytes ≡ with_bytes output_read.bytes text → HasGiven later_mid count_mid readings later_now count_now → ((total rest left : List ℕ) → length total + reader.left ≡ length rest + budget → Takes reader answer reader_now rest left → Talk rules limits (length total) serving.standing (reader.ahead ++ rest) readings text end left) → HasServed rules limits (outside input output later count) end (outside input_now output_now later_now count_now)
-    ends readings text end output_now later_now count_now appended given talk = record {
-      written = serving.written ++ text;
-      readings = serving.readings ++ readings;
-      appended = adds text output_now appended;
-      given = given_then later later_mid later_now count count_mid count_now serving.readings readings serving.given given;
-      session = follows _ (λ total rest left stands taken. (
-        stands.0 readings text end left (talk total rest left stands.1 taken),
-        omega (arith, stands.1, taken.1),
-      ));
+  module _ (now : Point) (choices : Choices) (serving : IsServing now choices) where
+    -- the session's end, after these deeds more
+    finishes : (last : Point) (deeds : List Deed) (end : SessionEnd) → HasActed deeds now last → HasRead now last (λ total rest left. (place : List ℕ) × Talk rules total choices (here now.conn.reader rest) deeds end place × Leaves end place left) → (end ≡ ReadFault → Rose now.conn.input.faults last.conn.input.faults) → (end ≡ ends.WriteFault → Rose now.conn.output.faults last.conn.output.faults) → HasTalked rules before start end last
+    finishes last deeds end acted talk reads_fault writes_fault = record {
+      deeds = serving.deeds ++ deeds;
+      acted = acted_then serving.acted acted;
+      talk = read_then _ _ _ serving.talk talk (λ total rest left more continues done. (done.0, continues deeds end done.0 done.1, done.2));
+      read_fault = λ e. omega (arith, serving.talk.faults, reads_fault e);
+      write_fault = λ e. omega (arith, serving.acted.faults, writes_fault e);
     }
 
-    module _ (line : List ℕ) (is : answer ≡ took.Line line) (request : Request) (asks : IsRequest request line) (later_now : ℕ → Option ℕ) (count_now : ℕ) (book_now : Book) (marks_now latest_now : ℕ) where
-      tells : (rest left : List ℕ) → Takes reader answer reader_now rest left → Tells reader rest (took.Line line) reader_now left
-      tells rest left taken = subst (λ t. Tells reader rest t reader_now left) is taken.0
+    -- `mid` is the connection after the next request was read
+    module _ (mid : Connection) (answer : Took) (output : mid.output ≡ now.conn.output) (link : mid.link ≡ now.conn.link) (request : HasRead now (point mid now.later now.count now.cache) (λ total rest left. ReadsRequest total (here now.conn.reader rest) answer (here mid.reader left))) where
+      abbrev read : Point
+      read = point mid now.later now.count now.cache
 
-      -- the line was answered, and the session goes on
-      pub serves_on : (output_now : Side) → HasAnswered rules limits serving.standing request later_mid count_mid output_read (Ok On) later_now count_now output_now book_now marks_now latest_now → IsServing input output later count reader_now input_now output_now later_now count_now book_now marks_now latest_now
-      serves_on output_now answered =
-          let step = answered.stepped in
-          let exchange : Exchange rules limits serving.standing request step.readings answered.text step.after On =
-          subst (λ w. Exchange rules limits serving.standing request step.readings answered.text step.after w) (sym answered.went_is) step.exchange in
-          record {
-            standing = step.after;
-            readings = serving.readings ++ step.readings;
-            written = serving.written ++ answered.text;
-            appended = adds answered.text output_now answered.written;
-            given = given_then later later_mid later_now count count_mid count_now serving.readings step.readings serving.given step.given;
-            kept = step.kept;
-            session = follows _ (λ total rest left stands taken. (
-              λ more_readings more end last talk.
-                  let told = tells rest left taken in
-                  let whole = goes_on line request told.0 asks exchange (subst (λ (b : List ℕ). Talk rules limits (length total) step.after b more_readings more end last) told.1 talk) in
-                  subst (λ (x : List ℕ). Session rules limits total x ((serving.written ++ answered.text) ++ more) end last) (sym (append_assoc serving.readings step.readings more_readings))
-                  (subst (λ (x : List ℕ). Session rules limits total (serving.readings ++ (step.readings ++ more_readings)) x end last) (sym (append_assoc serving.written answered.text more))
-                  (stands.0 (step.readings ++ more_readings) (answered.text ++ more) end last whole)),
-              omega (arith, stands.1, taken.1),
-            ));
-          }
+      aside : HasActed [] now read
+      aside = acted_none now.conn mid now.later now.count now.cache output link
 
-      pub over : (output_now : Side) → HasAnswered rules limits serving.standing request later_mid count_mid output_read (Ok Over) later_now count_now output_now book_now marks_now latest_now → HasServed rules limits (outside input output later count) Bye (outside input_now output_now later_now count_now)
-      over output_now answered =
-          let step = answered.stepped in
-          let exchange : Exchange rules limits serving.standing request step.readings answered.text step.after Over =
-          subst (λ w. Exchange rules limits serving.standing request step.readings answered.text step.after w) (sym answered.went_is) step.exchange in
-          ends step.readings answered.text Bye output_now later_now count_now answered.written step.given
-          (λ total rest left counted taken.
-          talk_over line reader_now.ahead request (tells rest left taken).0 asks exchange (tells rest left taken).1)
+      module _ (line : List ℕ) (is : answer ≡ took.Line line) (after : Choices) (last : Point) where
+        asks : (total : ℕ) (rest left : List ℕ) → ReadsRequest total (here now.conn.reader rest) answer (here mid.reader left) → ReadsRequest total (here now.conn.reader rest) (took.Line line) (here mid.reader left)
+        asks total rest left reads = subst (λ t. ReadsRequest total (here now.conn.reader rest) t (here mid.reader left)) is reads
 
-      pub cut_answer : (fault : WriteFault) (output_now : Side) → HasAnswered rules limits serving.standing request later_mid count_mid output_read (Err fault) later_now count_now output_now book_now marks_now latest_now → HasServed rules limits (outside input output later count) end.WriteFault (outside input_now output_now later_now count_now)
-      cut_answer fault output_now answered =
-          let step = answered.stepped in
-          let failed : HasCut answered.text output_read output_now = answered.written in
-          ends step.readings failed.sent end.WriteFault output_now later_now count_now failed.written step.given (λ total rest left counted taken.
-          cut line reader_now.ahead failed.unsent request answered.went (tells rest left taken).0 asks
-          (subst (λ (t : List ℕ). Exchange rules limits serving.standing request step.readings t step.after answered.went) failed.split step.exchange)
-          (tells rest left taken).1)
+        pub serves_on : HasAnswered rules choices (request_of line) read On after last → IsServing last after
+        serves_on answered = record {
+          deeds = serving.deeds ++ answered.deeds;
+          acted = acted_then serving.acted (acted_then aside answered.acted);
+          talk = read_then _ _ _ serving.talk (read_then _ _ (λ total rest left. (later : List ℕ) × ReadsRequest total (here now.conn.reader rest) (took.Line line) later × Takes total later answered.deeds (here last.conn.reader left)) request answered.taken
+              (λ total rest left more reads takes. (here mid.reader left, asks total rest left reads, takes)))
+              (λ total rest left more continues done. λ further end place talk.
+              subst (λ (d : List Deed). Talk rules total before (here start.conn.reader rest) d end place) (sym (append_assoc serving.deeds answered.deeds further))
+              (continues (answered.deeds ++ further) end place (goes_on line done.1 answered.exchange done.2 talk)));
+        }
 
-    pub at_too_long : answer ≡ took.TooLong → (output_now : Side) → output_now.bytes ≡ with_bytes output_read.bytes (line_of LineTooLong) → HasServed rules limits (outside input output later count) TooLong (outside input_now output_now later_mid count_mid)
-    at_too_long is output_now appended =
-        ends [] (line_of LineTooLong) TooLong output_now later_mid count_mid appended (given_none later_mid count_mid)
-        (λ total rest left counted taken. too_long (too_long_of_all (subst (λ t. Tells reader rest t reader_now left) is taken.0)))
+        pub is_over : (end : SessionEnd) → HasAnswered rules choices (request_of line) read (End end) after last → HasTalked rules before start end last
+        is_over end answered =
+            finishes last answered.deeds end (acted_then aside answered.acted)
+            (read_then _ _ _ request answered.taken (λ total rest left more reads takes. (
+              here last.conn.reader more,
+              over line (asks total rest left reads) answered.exchange takes,
+              leaves end mid.reader last.conn.reader more answered.fits,
+            )))
+            (λ e. omega (arith, request.faults, answered.fault (ap (λ (x : SessionEnd). End x) e)))
+            (λ e. absurd (subst (λ (x : SessionEnd). Fits (End x) mid.reader last.conn.reader) e answered.fits))
 
-    pub cut_at_too_long : answer ≡ took.TooLong → (output_now : Side) → HasCut (line_of LineTooLong) output_read output_now → HasServed rules limits (outside input output later count) end.WriteFault (outside input_now output_now later_mid count_mid)
-    cut_at_too_long is output_now failed =
-        ends [] failed.sent end.WriteFault output_now later_mid count_mid failed.written (given_none later_mid count_mid)
-        (λ total rest left counted taken. cut_too_long failed.unsent (too_long_of_all (subst (λ t. Tells reader rest t reader_now left) is taken.0)) failed.split)
+        pub is_broken : HasBroken rules choices (request_of line) read last → HasTalked rules before start ends.WriteFault last
+        is_broken broken =
+            finishes last broken.done ends.WriteFault (acted_then aside broken.acted)
+            (read_then _ _ _ request broken.taken (λ total rest left more reads takes. (
+              here last.conn.reader more,
+              cut line (asks total rest left reads) broken.exchange broken.cut takes,
+              leaves_part last.conn.reader more,
+            )))
+            (λ e. absurd (cc e)) (λ e. omega (arith, ap (λ s. s.faults) output, broken.rose))
 
-    pub at_end : answer ≡ took.End → HasServed rules limits (outside input output later count) Ended (outside input_now output_read later_mid count_mid)
-    at_end is = ends [] [] Ended output_read later_mid count_mid (nothing output_read.bytes) (given_none later_mid count_mid) (λ total rest left counted taken.
-        let told : Tells reader rest took.End reader_now left = subst (λ t. Tells reader rest t reader_now left) is taken.0 in
-        subst (λ (l : List ℕ). Talk rules limits (length total) serving.standing (reader.ahead ++ rest) [] [] Ended l) (sym told.1) (ended told.0 (omega (arith, counted, taken.1, told.2, ap (λ (l : List ℕ). length l) told.1))))
+      -- no request came
+      ends_so : (end : SessionEnd) → ((total : ℕ) (bytes rest : List ℕ) → ReadsRequest total bytes answer rest → Talk rules total choices bytes [] end rest) → ((place left : List ℕ) → place ≡ left → Leaves end place left) → mid.reader.ended ≡ Some answer → (end ≡ ReadFault → Rose now.conn.input.faults mid.input.faults) → (end ≡ ends.WriteFault → ⊥) → HasTalked rules before start end read
+      ends_so end talk leaves_so ended_so reads_fault no_fault =
+          finishes read [] end aside
+          (read_so _ _ request (λ total rest left reads. (here mid.reader left, talk total _ _ reads, leaves_so _ _ (leaves_all mid.reader left answer ended_so))))
+          reads_fault (λ e. absurd (no_fault e))
 
-    pub at_spent : answer ≡ took.Spent → HasServed rules limits (outside input output later count) Spent (outside input_now output_read later_mid count_mid)
-    at_spent is = ends [] [] Spent output_read later_mid count_mid (nothing output_read.bytes) (given_none later_mid count_mid) (λ total rest left counted taken.
-        let told : Tells reader rest took.Spent reader_now left = subst (λ t. Tells reader rest t reader_now left) is taken.0 in
-        spent (cut_short_of_all told.0) (omega (arith, counted, taken.1, told.1)))
+      pub at_end : answer ≡ took.End → mid.reader.ended ≡ Some took.End → HasTalked rules before start Ended read
+      at_end is ended_so =
+          ends_so Ended (λ total bytes rest reads. ended (subst (λ t. ReadsRequest total bytes t rest) is reads)) (λ place left same. same) (ended_so ∙ ap (λ t. Some t) (sym is)) (λ e. absurd (cc e)) (λ e. cc e)
 
-    pub at_read_fault : answer ≡ took.ReadFault → HasServed rules limits (outside input output later count) ReadFault (outside input_now output_read later_mid count_mid)
-    at_read_fault is = ends [] [] ReadFault output_read later_mid count_mid (nothing output_read.bytes) (given_none later_mid count_mid) (λ total rest left counted taken.
-        let told : Tells reader rest took.ReadFault reader_now left = subst (λ t. Tells reader rest t reader_now left) is taken.0 in
-        read_fault (cut_short_of_all told.0) (omega (arith, counted, taken.1, told.1)))
+      pub at_spent : answer ≡ took.Spent → mid.reader.ended ≡ Some took.Spent → HasTalked rules before start Spent read
+      at_spent is ended_so =
+          ends_so Spent (λ total bytes rest reads. spent (subst (λ t. ReadsRequest total bytes t rest) is reads)) (λ place left same. same) (ended_so ∙ ap (λ t. Some t) (sym is)) (λ e. absurd (cc e)) (λ e. cc e)
+
+      pub at_read_fault : answer ≡ took.ReadFault → mid.reader.ended ≡ Some took.ReadFault → Rose now.conn.input.faults mid.input.faults → HasTalked rules before start ReadFault read
+      at_read_fault is ended_so rose =
+          ends_so ReadFault (λ total bytes rest reads. read_fault (subst (λ t. ReadsRequest total bytes t rest) is reads)) (λ place left same. same) (ended_so ∙ ap (λ t. Some t) (sym is)) (λ e. rose) (λ e. cc e)
+
+      module _ (is : answer ≡ took.TooLong) (last : Connection) where
+        too_long_read : (total : ℕ) (rest left : List ℕ) → ReadsRequest total (here now.conn.reader rest) answer (here mid.reader left) → ReadsRequest total (here now.conn.reader rest) took.TooLong (here mid.reader left)
+        too_long_read total rest left reads = subst (λ t. ReadsRequest total (here now.conn.reader rest) t (here mid.reader left)) is reads
+
+        pub at_too_long : mid.reader.ended ≡ Some took.TooLong → HasSaid (failed LineTooLong) mid (Ok tt) last → HasTalked rules before start TooLong (point last now.later now.count now.cache)
+        at_too_long ended_so said =
+            finishes (point last now.later now.count now.cache) (Wrote (failed LineTooLong) ∷ []) TooLong
+            (acted_then aside (acted_wrote (failed LineTooLong) mid last now.later now.count now.cache said))
+            (read_then _ _ _ request (read_none read (point last now.later now.count now.cache) (λ total rest left. rest ≡ left) said.input said.reader (λ total rest. refl))
+            (λ total rest left more reads same. (
+              here mid.reader left,
+              too_long (too_long_read total rest left reads),
+              leaves_all mid.reader left took.TooLong ended_so ∙ same,
+            )))
+            (λ e. absurd (cc e)) (λ e. absurd (cc e))
+
+        pub cut_at_too_long : (fault : WriteFault) → HasSaid (failed LineTooLong) mid (Err fault) last → HasTalked rules before start ends.WriteFault (point last now.later now.count now.cache)
+        cut_at_too_long fault said =
+            let stopped : HasStopped (failed LineTooLong) mid.output last.output = said.output in
+            finishes (point last now.later now.count now.cache) (Wrote stopped.sent ∷ []) ends.WriteFault
+            (acted_then aside (acted_stopped (failed LineTooLong) mid last now.later now.count now.cache stopped said.faults said.link))
+            (read_then _ _ _ request (read_none read (point last now.later now.count now.cache) (λ total rest left. rest ≡ left) said.input said.reader (λ total rest. refl))
+            (λ total rest left more reads same. (
+              here mid.reader left,
+              cut_too_long (too_long_read total rest left reads) (record {
+                before = [];
+                sent = stopped.sent;
+                unsent = stopped.unsent;
+                more = [];
+                whole = ap (λ (x : List ℕ). Wrote x ∷ []) stopped.split;
+                done_is = refl;
+              }),
+              subst (λ (x : List ℕ). (ahead : List ℕ) × (here mid.reader left ≡ ahead ++ x)) same (leaves_part mid.reader left),
+            )))
+            (λ e. absurd (cc e)) (λ e. omega (arith, ap (λ s. s.faults) output, stopped.rose))

@@ -1,17 +1,29 @@
--- The cache of the one session that is served so far: where it stands between two lines, and how a line moves it on. This is
--- this project's own.
-use Rattle.std.specs.Prelude.{◌≡◌, ℕ, List, [], length, false, None}
+-- The cache of the one session that is served so far, and its turns. This is this project's own.
+use Rattle.std.specs.Prelude.{◌≡◌, ℕ, List, [], ◌∷◌, length, false, Some, None}
 use Rattle.agent_ports.specs.declared.session.SessionId.{SessionId}
-use Rattle.cache_policy.specs.declared.mode.Mode.TheVariants.{Any, User}
-use Rattle.cache_policy.specs.declared.life.Life.TheVariants.{Endless}
 use Rattle.cache_policy.specs.declared.life.Limits.{Limits}
-use Rattle.cache_policy.specs.declared.mark.Way.TheVariants.{Quiet}
 use Rattle.cache_policy.specs.declared.mark.Mark.{Mark}
+use Rattle.cache_policy.specs.declared.mark.MarkStep.{MarkStep}
+use Rattle.cache_policy.specs.declared.mark.MarkStep.TheVariants.{Ask}
 use Rattle.cache_policy.specs.declared.mark.MarkReply.{MarkReply}
+use Rattle.cache_policy.specs.declared.mark.MarkReply.TheVariants as reply
+use Rattle.cache_policy.specs.declared.entry.Entry.{Entry}
 use Rattle.cache_policy.specs.declared.history.History.{History}
 use Rattle.cache_policy.specs.Histories.{with_mark}
+use Rattle.cache_policy.specs.Live.{live}
+use Rattle.cache_policy.specs.Policy.{policy, Reply}
 use Rattle.cache_policy.specs.Runs.{next_history, moment_of}
-use Rattle.cache_policy.specs.Book.{Book, put_mark, ask_mark, IsEndlessBookOf}
+use Rattle.session_options.specs.declared.rules.Rules.{Rules}
+use Rattle.agent_top.specs.Deeds.{Came, Given, Empty, Done, Refused, Deed, Wrote, Turned, Inquired}
+
+-- the lifetimes that the rules say
+abbrev pub limits_of : Rules → Limits
+limits_of rules = record {
+  ttl = rules.default_ttl;
+  max = rules.max_ttl;
+  ttl_ssh = rules.default_ttl_ssh;
+  max_ssh = rules.max_ttl_ssh;
+}
 
 -- the session that is served on standard input and output
 abbrev pub session : SessionId
@@ -26,23 +38,32 @@ pub record Standing : Type 0 where
 abbrev pub at_start : Standing
 at_start = record { history = record { base = 0; held = None; stopped = false; marks = [] }; latest = 0 }
 
--- after a mark, on the history that is next
-abbrev pub marked : Standing → Mark → Standing
-marked standing mark =
-    record { history = with_mark (next_history standing.history) mark; latest = mark.moment }
+-- after a turn with this reply, at a reading of the clock: its mark stands on the history that is next
+abbrev pub marked : Standing → MarkStep → MarkReply → ℕ → Standing
+marked standing step reply reading =
+    let moment : ℕ = moment_of standing.latest reading in
+    let mark : Mark = record { session = session; step = step; reply = reply; moment = moment } in
+    record { history = with_mark (next_history standing.history) mark; latest = moment }
 
--- after a preset of a passphrase
-abbrev pub preset : Standing → List ℕ → List ℕ → ℕ → Standing
-preset standing id secret reading =
-    marked standing (put_mark session (moment_of standing.latest reading) id Any Endless secret)
+-- A turn that makes a mark came out as the policy says. What is given is the passphrase of the live entry, which the mark names.
+pub data IsRuled (limits : Limits) (history : History) (moment : ℕ) : MarkStep → Came → MarkReply → Type 0 where
+  given : {id : List ℕ} {mode : _} {way : _} (entry : Entry) → live limits history id mode moment ≡ Some entry
+      → IsRuled limits history moment (Ask id mode way) (Given entry.secret) (reply.Given entry.number)
+  empty : {step : MarkStep} → policy limits history step moment ≡ Reply reply.Empty → IsRuled limits history moment step Empty reply.Empty
+  done : {step : MarkStep} → policy limits history step moment ≡ Reply reply.Done → IsRuled limits history moment step Done reply.Done
 
--- after a question for a passphrase, with this reply
-abbrev pub asked : Standing → List ℕ → MarkReply → ℕ → Standing
-asked standing id reply reading =
-    marked standing (ask_mark session (moment_of standing.latest reading) id User Quiet reply)
-
--- a book of so many marks, the last of them at that moment, is what such a standing is kept as
-pub record IsKeptAs (limits : Limits) (standing : Standing) (book : Book) (marks latest : ℕ) : Type 0 where
-  pub book_is : IsEndlessBookOf limits standing.history book
-  pub marks_are : length standing.history.marks ≡ marks
-  pub latest_is : standing.latest ≡ latest
+-- The turns among the deeds, from where the cache stands before them to where it stands after them, and the readings of the clock
+-- that they took. One that finds no memory makes no mark.
+pub data Turns (limits : Limits) : Standing → List Deed → List ℕ → Standing → Type 0 where
+  none : {standing : Standing} → Turns limits standing [] [] standing
+  wrote : {standing after : Standing} {text readings : List ℕ} {deeds : List Deed}
+      → Turns limits standing deeds readings after → Turns limits standing (Wrote text ∷ deeds) readings after
+  inquired : {standing after : Standing} {limit : ℕ} {outcome : _} {readings : List ℕ} {deeds : List Deed}
+      → Turns limits standing deeds readings after → Turns limits standing (Inquired limit outcome ∷ deeds) readings after
+  turned : {standing after : Standing} {step : MarkStep} {came : Came} {reading : ℕ} {readings : List ℕ} {deeds : List Deed}
+      (reply : MarkReply) → IsRuled limits (next_history standing.history) (moment_of standing.latest reading) step came reply
+      → Turns limits (marked standing step reply reading) deeds readings after
+      → Turns limits standing (Turned step came ∷ deeds) (reading ∷ readings) after
+  refused : {standing after : Standing} {step : MarkStep} {reading : ℕ} {readings : List ℕ} {deeds : List Deed}
+      → Turns limits standing deeds readings after
+      → Turns limits standing (Turned step Refused ∷ deeds) (reading ∷ readings) after

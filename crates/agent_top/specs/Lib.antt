@@ -1,6 +1,7 @@
-pub mod Answers
 pub mod Cache
-pub mod Requests
+pub mod Deeds
+pub mod Exchanges
+pub mod Reading
 pub mod Session
 pub mod Steps
 pub mod Top

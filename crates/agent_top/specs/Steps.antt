@@ -1,44 +1,220 @@
--- The parts of an exchange as the code takes them: a step of the cache, and then the writing.
-use Rattle.std.specs.Prelude.{◌≡◌, ℕ, List, Result, Ok, Err, Option}
+-- How far a session has come at some point of its code, and how deeds lead from one point to another.
+use Rattle.std.specs.Prelude.{◌≡◌, ◌≤◌, ◌+◌, ℕ, List, [], ◌∷◌, ◌++◌, length, codes, decimal, Option, Some, None, Result, Ok as Whole, Err as Part}
+use Rattle.std.specs.Option.{option_map_or}
+use Rattle.agent_ports.specs.Counts.{Rose}
 use Rattle.agent_ports.specs.Readings.{HasGiven}
-use Rattle.agent_ports.specs.Sides.{Side, with_bytes}
-use Rattle.cache_policy.specs.declared.life.Limits.{Limits}
-use Rattle.cache_policy.specs.Book.{Book}
-use Rattle.agent_top.specs.declared.answer.WriteFault.{WriteFault as Fault}
-use Rattle.agent_top.specs.declared.request.Request.{Request}
-use Rattle.agent_top.specs.declared.words.Rules.{Rules}
+use Rattle.agent_ports.specs.Sides.{Side, with_bytes, WhereTold}
+use Rattle.assuan_line.specs.Next.{Reader, held}
+use Rattle.assuan_line.specs.declared.reader.Took.TheVariants as took
+use Rattle.assuan_server.specs.Connections.{Connection}
+use Rattle.assuan_server.specs.Inquiries.{Outcome, Data, AnswersSecret, ended_of_secret}
+use Rattle.assuan_server.specs.declared.inquiry.InquiredSecret.{InquiredSecret}
+use Rattle.assuan_server.specs.declared.inquiry.InquiredSecret.TheVariants as inquired
+use Rattle.cache_policy.specs.Book.{IsEndlessBookOf}
+use Rattle.session_options.specs.Choices.{Choices}
+use Rattle.session_options.specs.declared.rules.Rules.{Rules}
+use Rattle.agent_commands.specs.declared.request.Request.{Request}
+use Rattle.agent_top.specs.Cache.{Standing, Turns}
+use Rattle.agent_top.specs.Deeds.{Deed, Wrote, Inquired, output_of, IsCut}
+use Rattle.agent_top.specs.Exchanges.{Exchange, Fails, IsData, IsPassphrase, ok, closing, help, failed, question}
+use Rattle.agent_top.specs.Reading.{budget, Takes}
+use Rattle.agent_top.specs.Session.{Talk, Leaves, HasServed, outside}
+use Rattle.agent_top.specs.declared.cache.Cache.{Cache}
+use Rattle.agent_top.specs.declared.command.Answer.{Answer}
+use Rattle.agent_top.specs.declared.command.Brought.{Brought}
+use Rattle.agent_top.specs.declared.command.Brought.TheVariants.{Passphrase, Without}
+use Rattle.agent_top.specs.declared.reply.Reply.{Reply}
+use Rattle.agent_top.specs.declared.reply.Reply.TheVariants.{Nothing, Ok, Closing, Help, Version, Number, Given, Failed}
+use Rattle.agent_top.specs.declared.reply.WriteFault.{WriteFault as Fault}
+use Rattle.agent_top.specs.declared.session.SessionEnd.{SessionEnd}
+use Rattle.agent_top.specs.declared.session.SessionEnd.TheVariants.{Bye, Ended, TooLong, Spent, ReadFault, WriteFault}
 use Rattle.agent_top.specs.declared.session.Went.{Went}
-use Rattle.agent_top.specs.Answers.{HasCut}
-use Rattle.agent_top.specs.Cache.{Standing, IsKeptAs}
-use Rattle.agent_top.specs.Session.{Exchange}
+use Rattle.agent_top.specs.declared.session.Went.TheVariants.{On, End}
 
--- the cache took the step of a request, which is to be answered by this text
-pub record HasStepped (rules : Rules) (limits : Limits) (standing : Standing) (request : Request) (went : Went) (text : List ℕ)
-    (later : ℕ → Option ℕ) (count : ℕ) (later_now : ℕ → Option ℕ) (count_now : ℕ)
-    (book : Book) (marks latest : ℕ) : Type 0 where
+-- the lines of a reply
+abbrev pub IsText : Reply → List ℕ → Type 0
+IsText Nothing text = text ≡ []
+IsText Ok text = text ≡ ok
+IsText Closing text = text ≡ closing
+IsText Help text = text ≡ help
+IsText Version text = IsData (codes "2.4.0") text
+IsText (Number number) text = IsData (decimal number) text
+IsText (Given grant plain) text = IsPassphrase plain grant.entry.secret text
+IsText (Failed code) text = text ≡ failed code
+
+-- a write of this text stopped within it
+pub record HasStopped (text : List ℕ) (before after : Side) : Type 0 where
+  pub sent : List ℕ
+  pub unsent : List ℕ
+  pub split : text ≡ sent ++ unsent
+  pub written : after.bytes ≡ with_bytes before.bytes sent
+  pub rose : Rose before.faults after.faults
+
+abbrev pub IsSaid : List ℕ → Side → Result (Unit {0}) Fault → Side → Type 0
+IsSaid text before (Whole done) after = after.bytes ≡ with_bytes before.bytes text
+IsSaid text before (Part fault) after = HasStopped text before after
+
+-- a text was written to a connection, whole or in part, and nothing else was done with it
+pub record HasSaid (text : List ℕ) (before : Connection) (result : Result (Unit {0}) Fault) (after : Connection) : Type 0 where
+  pub output : IsSaid text before.output result after.output
+  pub faults : before.output.faults ≤ after.output.faults
+  pub input : after.input ≡ before.input
+  pub reader : after.reader ≡ before.reader
+  pub link : after.link ≡ before.link
+
+-- the marks of a standing are kept as this cache
+pub record IsKept (standing : Standing) (cache : Cache) : Type 0 where
+  pub book_is : IsEndlessBookOf cache.limits standing.history cache.book
+  pub marks_are : length standing.history.marks ≡ cache.marks
+  pub latest_is : standing.latest ≡ cache.latest
+
+-- a point in the code: its connection, the clock's readings to come and their number so far, and its cache
+pub record Point : Type 0 where
+  pub conn : Connection
+  pub later : ℕ → Option ℕ
+  pub count : ℕ
+  pub cache : Cache
+
+abbrev pub point : Connection → (ℕ → Option ℕ) → ℕ → Cache → Point
+point conn later count cache = record { conn = conn; later = later; count = count; cache = cache }
+
+-- what the deeds wrote, and the turns that they took
+pub record HasActed (deeds : List Deed) (start now : Point) : Type 0 where
+  pub written : now.conn.output.bytes ≡ with_bytes start.conn.output.bytes (output_of deeds)
+  pub faults : start.conn.output.faults ≤ now.conn.output.faults
   pub readings : List ℕ
-  pub after : Standing
-  pub exchange : Exchange rules limits standing request readings text after went
-  pub given : HasGiven later count readings later_now count_now
-  pub kept : IsKeptAs limits after book marks latest
+  pub given : HasGiven start.later start.count readings now.later now.count
+  pub turns : (standing : Standing) → IsKept standing start.cache
+      → (after : Standing) × Turns start.cache.limits standing deeds readings after × IsKept after now.cache
+  pub limits : now.cache.limits ≡ start.cache.limits
+  pub link : now.conn.link ≡ start.conn.link
 
--- a text was written whole, or cut
-abbrev pub HasWritten : List ℕ → Side → Result Went Fault → Side → Type 0
-HasWritten text before (Ok went) after = after.bytes ≡ with_bytes before.bytes text
-HasWritten text before (Err fault) after = HasCut text before after
+-- the bytes from here on, where the source holds `left`: those ahead too, as long as lines may come
+abbrev pub here : Reader → List ℕ → List ℕ
+here reader left = option_map_or (λ _. left) reader.ended (reader.ahead ++ left)
 
--- how the session goes on, where the answer was written
-abbrev pub IsWent : Result Went Fault → Went → Type 0
-IsWent (Ok other) went = other ≡ went
-IsWent (Err fault) went = Unit {0}
+-- `total` bytes are so many as the source held at the start of the session
+abbrev pub IsTotal : ℕ → Reader → List ℕ → Type 0
+IsTotal total reader left = total + reader.left ≡ length left + budget
 
--- a request was answered, or its answer was cut
-pub record HasAnswered (rules : Rules) (limits : Limits) (standing : Standing) (request : Request)
-    (later : ℕ → Option ℕ) (count : ℕ) (output : Side) (result : Result Went Fault)
-    (later_now : ℕ → Option ℕ) (count_now : ℕ) (output_now : Side)
-    (book : Book) (marks latest : ℕ) : Type 0 where
+-- a fact of the bytes before and after, and that the budget went into the bytes taken
+pub record HasRead (start now : Point) (fact : ℕ → List ℕ → List ℕ → Type 0) : Type 0 where
+  pub bytes : WhereTold start.conn.input.bytes now.conn.input.bytes (λ rest left.
+      (total : ℕ) → IsTotal total start.conn.reader rest → fact total rest left × IsTotal total now.conn.reader left)
+  pub faults : start.conn.input.faults ≤ now.conn.input.faults
+
+-- the lines that the deeds' inquiries took
+abbrev pub HasTaken : List Deed → Point → Point → Type 0
+HasTaken deeds start now =
+    HasRead start now (λ total rest left. Takes total (here start.conn.reader rest) deeds (here now.conn.reader left))
+
+-- how the reader stands after a request that went so
+abbrev pub Fits : Went → Reader → Reader → Type 0
+Fits On before after = (after.ended ≡ None) × (held after ≤ held before)
+Fits (End Bye) before after = after.ended ≡ None
+Fits (End Ended) before after = after.ended ≡ Some took.End
+Fits (End TooLong) before after = after.ended ≡ Some took.TooLong
+Fits (End Spent) before after = after.ended ≡ Some took.Spent
+Fits (End ReadFault) before after = after.ended ≡ Some took.ReadFault
+Fits (End WriteFault) before after = ⊥
+
+-- all was done for a request but its answer
+pub record HasPrepared (rules : Rules) (before : Choices) (request : Request) (start : Point) (answer : Answer) (after : Choices) (now : Point) : Type 0 where
+  pub deeds : List Deed
+  pub exchange : (text : List ℕ) → IsText answer.reply text → Exchange rules before request (deeds ++ (Wrote text ∷ [])) after answer.went
+  pub acted : HasActed deeds start now
+  pub taken : HasTaken deeds start now
+  pub fits : Fits answer.went start.conn.reader now.conn.reader
+  pub fault : answer.went ≡ End ReadFault → Rose start.conn.input.faults now.conn.input.faults
+
+-- a write failed before that, or in the answer
+pub record HasBroken (rules : Rules) (before : Choices) (request : Request) (start now : Point) : Type 0 where
+  pub deeds : List Deed
+  pub after : Choices
   pub went : Went
-  pub text : List ℕ
-  pub stepped : HasStepped rules limits standing request went text later count later_now count_now book marks latest
-  pub went_is : IsWent result went
-  pub written : HasWritten text output result output_now
+  pub exchange : Exchange rules before request deeds after went
+  pub done : List Deed
+  pub cut : IsCut deeds done
+  pub acted : HasActed done start now
+  pub taken : HasTaken done start now
+  pub rose : Rose start.conn.output.faults now.conn.output.faults
+
+abbrev pub IsPrepared : Rules → Choices → Request → Point → Result Answer Fault → Choices → Point → Type 0
+IsPrepared rules before request start (Whole answer) after now = HasPrepared rules before request start answer after now
+IsPrepared rules before request start (Part fault) after now = HasBroken rules before request start now
+
+-- a request was answered
+pub record HasAnswered (rules : Rules) (before : Choices) (request : Request) (start : Point) (went : Went) (after : Choices) (now : Point) : Type 0 where
+  pub deeds : List Deed
+  pub exchange : Exchange rules before request deeds after went
+  pub acted : HasActed deeds start now
+  pub taken : HasTaken deeds start now
+  pub fits : Fits went start.conn.reader now.conn.reader
+  pub fault : went ≡ End ReadFault → Rose start.conn.input.faults now.conn.input.faults
+
+abbrev pub IsAnswered : Rules → Choices → Request → Point → Result Went Fault → Choices → Point → Type 0
+IsAnswered rules before request start (Whole went) after now = HasAnswered rules before request start went after now
+IsAnswered rules before request start (Part fault) after now = HasBroken rules before request start now
+
+-- how a session ends that a failed write may cut
+abbrev pub end_of : Result SessionEnd Fault → SessionEnd
+end_of (Whole end) = end
+end_of (Part fault) = WriteFault
+
+-- the requests of a session were answered up to its end
+pub record HasTalked (rules : Rules) (before : Choices) (start : Point) (end : SessionEnd) (now : Point) : Type 0 where
+  pub deeds : List Deed
+  pub acted : HasActed deeds start now
+  pub talk : HasRead start now (λ total rest left.
+      (place : List ℕ) × Talk rules total before (here start.conn.reader rest) deeds end place × Leaves end place left)
+  pub read_fault : end ≡ ReadFault → Rose start.conn.input.faults now.conn.input.faults
+  pub write_fault : end ≡ WriteFault → Rose start.conn.output.faults now.conn.output.faults
+
+-- a session was served on a connection, from its greeting on
+pub record HasMet (rules : Rules) (before : Connection) (later : ℕ → Option ℕ) (count : ℕ) (end : SessionEnd)
+    (after : Connection) (later_now : ℕ → Option ℕ) (count_now : ℕ) : Type 0 where
+  pub served : HasServed rules (outside before.input before.output later count) end (outside after.input after.output later_now count_now)
+  pub read_fault : end ≡ ReadFault → Rose before.input.faults after.input.faults
+  pub write_fault : end ≡ WriteFault → Rose before.output.faults after.output.faults
+  pub input_faults : before.input.faults ≤ after.input.faults
+  pub output_faults : before.output.faults ≤ after.output.faults
+  pub link : after.link ≡ before.link
+
+-- what the client was asked brought no passphrase, and this is the answer
+pub record Lacks (came : InquiredSecret) (answer : Answer) : Type 0 where
+  pub outcome : Outcome
+  pub answers : AnswersSecret came outcome
+  pub fails : (text : List ℕ) → IsText answer.reply text → Fails outcome text answer.went
+  pub fits : (before after : Reader) → after.ended ≡ ended_of_secret came → (after.ended ≡ None → held after ≤ held before) → Fits answer.went before after
+  pub fault : answer.went ≡ End ReadFault → came ≡ inquired.ReadFault
+
+-- the client was asked for a passphrase, and it came to this
+pub record HasAsked (outcome : Outcome) (start now : Point) : Type 0 where
+  pub acted : HasActed (question ++ (Inquired 255 outcome ∷ [])) start now
+  pub taken : HasTaken (question ++ (Inquired 255 outcome ∷ [])) start now
+
+-- it brought none, and this is the answer
+pub record HasLacked (start : Point) (answer : Answer) (now : Point) : Type 0 where
+  pub outcome : Outcome
+  pub asked : HasAsked outcome start now
+  pub fails : (text : List ℕ) → IsText answer.reply text → Fails outcome text answer.went
+  pub fits : Fits answer.went start.conn.reader now.conn.reader
+  pub fault : answer.went ≡ End ReadFault → Rose start.conn.input.faults now.conn.input.faults
+
+-- the question wasn't written whole
+pub record HasNotAsked (start now : Point) : Type 0 where
+  pub done : List Deed
+  pub cut : (more : List Deed) → IsCut (question ++ more) done
+  pub acted : HasActed done start now
+  pub taken : HasTaken done start now
+  pub rose : Rose start.conn.output.faults now.conn.output.faults
+
+abbrev pub IsInquired : Point → Result Brought Fault → Point → Type 0
+IsInquired start (Whole (Passphrase secret)) now = HasAsked (Data secret) start now × Fits On start.conn.reader now.conn.reader
+IsInquired start (Whole (Without answer)) now = HasLacked start answer now
+IsInquired start (Part fault) now = HasNotAsked start now
+
+abbrev pub IsBrought : InquiredSecret → Result Brought Fault → Type 0
+IsBrought came (Whole (Passphrase secret)) = came ≡ inquired.Secret secret
+IsBrought came (Whole (Without answer)) = Lacks came answer
+IsBrought came (Part fault) = came ≡ inquired.WriteFault

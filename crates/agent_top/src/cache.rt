@@ -1,8 +1,8 @@
-ghost use Rattle.std.specs.Prelude.{◌≡◌, ◌≤◌, ◌+◌, ◌<◌, ◌^◌, true, IfSome, OnOk, OnErr};
-ghost use Rattle.std.specs.List.{list_all};
-ghost use Rattle.agent_top.specs.Requests.{is_passphrase};
+ghost use Rattle.std.specs.Prelude.{◌≡◌, ◌≤◌, ◌+◌, ◌<◌, ◌^◌, OnOk, OnErr};
+ghost use Rattle.agent_top.specs.Cache.{limits_of};
 
 use cache_policy::{CacheId, Grant, Life, Limits, ListBook, Mode, NoMemory, Secret};
+use session_options::Rules;
 use std::alloc::Global;
 
 /// How many marks one history has room for.
@@ -24,46 +24,55 @@ pub(crate) struct Cache {
     ghost few: { marks ≤ 131072 },
     ghost in_order: { book.latest ≤ latest },
     ghost in_range: { latest ≤ 2 ^ 62 },
-    // Each passphrase can be written as it stands.
-    ghost plain: { list_all (λ entry. is_passphrase entry.secret) book.entries ≡ true },
+}
+
+/// The lifetimes that the rules say.
+pub(crate) fn limits_of(rules: &Rules) -> Limits
+    ensures { result ≡ limits_of rules.now }
+{
+    Limits {
+        ttl: rules.default_ttl,
+        max: rules.max_ttl,
+        ttl_ssh: rules.default_ttl_ssh,
+        max_ssh: rules.max_ttl_ssh,
+    }
 }
 
 impl Cache {
     ghost use Rattle.std.specs.Option.{option_map};
     ghost use Rattle.cache_policy.specs.declared.mode.Mode.TheVariants.{User};
     ghost use Rattle.cache_policy.specs.declared.mark.MarkReply.{MarkReply};
-    ghost use Rattle.cache_policy.specs.Lifetimes.{default_limits};
+    ghost use Rattle.cache_policy.specs.declared.mark.MarkReply.TheVariants.{Done};
     ghost use Rattle.cache_policy.specs.Live.{live};
     ghost use Rattle.cache_policy.specs.Runs.{next_history, moment_of};
-    ghost use Rattle.agent_top.specs.Cache.{Standing, at_start, preset, asked, IsKeptAs};
+    ghost use Rattle.agent_top.specs.Cache.{Standing, at_start, marked};
+    ghost use Rattle.agent_top.specs.Exchanges.{ask, put};
+    ghost use Rattle.agent_top.specs.Steps.{IsKept};
 
-    /// An empty cache.
-    pub(crate) fn new(alloc: Global) -> Cache
-        ensures limits { result.limits ≡ default_limits }
-        ensures start { IsKeptAs default_limits at_start result.book result.marks result.latest }
+    /// An empty cache with these lifetimes.
+    pub(crate) fn new(alloc: Global, limits: Limits) -> Cache
+        ensures limits { result.limits ≡ limits }
+        ensures start { IsKept at_start result }
     {
         Cache {
             alloc,
-            limits: Limits::default(),
+            limits,
             book: ListBook::new(alloc),
             marks: 0,
             latest: 0,
         }
     }
 
-    /// Stores a passphrase without a ttl. Where there is no memory for it, the book stays as it is.
-    pub(crate) fn preset(
+    /// Stores a passphrase for every mode, without a ttl. Where there is no memory for it, all stays as it is.
+    pub(crate) fn put(
         &mut self,
         reading: u64,
         id: CacheId,
         secret: Secret,
     ) -> Result<(), NoMemory>
-        requires { is_passphrase secret ≡ true }
-        ensures ok { OnOk result ((standing : Standing)
-            → IsKeptAs self.old.limits standing self.old.book self.old.marks self.old.latest
-            → IsKeptAs self.old.limits (preset standing id secret reading) self.new.book self.new.marks self.new.latest) }
-        ensures err { OnErr result ((self.new.book ≡ self.old.book) × (self.new.marks ≡ self.old.marks)
-            × (self.new.latest ≡ self.old.latest)) }
+        ensures ok { OnOk result ((standing : Standing) → IsKept standing self.old
+            → IsKept (marked standing (put id secret) Done reading) self.new) }
+        ensures err { OnErr result ((standing : Standing) → IsKept standing self.old → IsKept standing self.new) }
         ensures limits { self.new.limits ≡ self.old.limits }
     {
         let moment = self.moment(reading);
@@ -82,15 +91,12 @@ impl Cache {
     }
 
     /// The passphrase that is live for the id, if one is. The question is a mark.
-    pub(crate) fn get(&mut self, reading: u64, id: &CacheId) -> Option<Grant>
-        ensures live { (standing : Standing)
-            → IsKeptAs self.old.limits standing self.old.book self.old.marks self.old.latest
+    pub(crate) fn ask(&mut self, reading: u64, id: &CacheId) -> Option<Grant>
+        ensures live { (standing : Standing) → IsKept standing self.old
             → option_map (λ grant. grant.entry.secret) result ≡ option_map (λ entry. entry.secret)
             (live self.old.limits (next_history standing.history) id.now User (moment_of standing.latest reading)) }
-        ensures stands { (standing : Standing) (reply : MarkReply)
-            → IsKeptAs self.old.limits standing self.old.book self.old.marks self.old.latest
-            → IsKeptAs self.old.limits (asked standing id.now reply reading) self.new.book self.new.marks self.new.latest }
-        ensures plain { IfSome result (λ grant. is_passphrase grant.entry.secret ≡ true) }
+        ensures stands { (standing : Standing) (reply : MarkReply) → IsKept standing self.old
+            → IsKept (marked standing (ask id.now) reply reading) self.new }
         ensures limits { self.new.limits ≡ self.old.limits }
     {
         let moment = self.moment(reading);
@@ -102,10 +108,8 @@ impl Cache {
 
     /// Where the history is full, begins the next one with an empty book.
     fn turn_over(&mut self)
-        ensures stands { (standing : Standing)
-            → IsKeptAs self.old.limits standing self.old.book self.old.marks self.old.latest
-            → IsKeptAs self.old.limits (record standing { history = next_history standing.history })
-            self.new.book self.new.marks self.new.latest }
+        ensures stands { (standing : Standing) → IsKept standing self.old
+            → IsKept (record standing { history = next_history standing.history }) self.new }
         ensures room { self.new.marks < 131072 }
         ensures in_order { self.new.book.latest ≤ self.old.latest }
         ensures latest { self.new.latest ≡ self.old.latest }

@@ -1,16 +1,13 @@
 //! The agent from bytes to bytes: it reads its words and serves a session on standard input and output.
 #![tactic(auto)]
 
-mod answer;
 mod cache;
-mod request;
+mod command;
+mod reply;
 mod session;
-mod step;
 mod top;
 mod words;
 
 pub use top::{run_agent, run_server};
-pub use words::{Rules, WordsFault, read_words};
+pub use words::{WordsFault, read_words};
 
-#[cfg(test)]
-mod tests;

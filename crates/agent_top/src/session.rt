@@ -1,21 +1,18 @@
-ghost use Rattle.std.specs.Prelude.{◌≡◌, ◌≢◌, ◌<◌, ◌≤◌, OnErr, Ok, None};
+ghost use Rattle.std.specs.Prelude.{◌≡◌, ◌≤◌, [], None};
 ghost use Rattle.agent_ports.specs.Counts.{Rose};
-ghost use Rattle.agent_ports.specs.Sides.{WhereTold};
-ghost use Rattle.assuan_line.specs.Next.{OnLine, held, ended_by};
-ghost use Rattle.cache_policy.specs.Lifetimes.{default_limits};
-ghost use Rattle.agent_top.specs.Cache.{Standing, IsKeptAs};
-ghost use Rattle.agent_top.specs.Requests.{IsRequest};
-ghost use Rattle.agent_top.specs.declared.request.Request.{Request as Asked};
-ghost use Rattle.agent_top.specs.Session.{Takes, HasServed, outside, end_of};
-ghost use Rattle.agent_top.specs.Steps.{HasAnswered};
+ghost use Rattle.agent_commands.specs.Requests.{request_of};
+ghost use Rattle.agent_top.specs.Reading.{budget};
+ghost use Rattle.agent_top.specs.Session.{HasServed, outside};
+ghost use Rattle.agent_top.specs.Steps.{point, IsAnswered, HasTalked, HasMet, end_of};
 
-use crate::answer::{Answer, WriteFault, write_answer, write_given};
-use crate::cache::Cache;
-use crate::request::{Request, read_request};
-use crate::step;
-use crate::words::Rules;
+use crate::cache::{Cache, limits_of};
+use crate::command::carry_out;
+use crate::reply::{WriteFault, done, write_reply};
+use agent_commands::read_request;
 use agent_ports::{Clock, Link};
-use assuan_line::{Line, LineReader, Took};
+use assuan_line::{Line, Took};
+use assuan_server::{Code, Conn, Origin};
+use session_options::{Options, Rules};
 use std::alloc::Global;
 
 /// How many bytes a session may take.
@@ -50,21 +47,21 @@ impl SessionEnd {
     }
 }
 
-/// Whether a session goes on after a line.
+/// How a session goes on after a request.
 #[derive(Clone, Copy, Debug, PartialEq, Eq)]
 pub(crate) enum Went {
     On,
-    Over,
+    End(SessionEnd),
 }
 
-/// Greets, and answers line after line until the session ends.
+/// Serves a session on a link: greets, and answers request after request until the session ends.
 pub(crate) fn serve<L: Link, C: Clock>(
     alloc: Global,
     rules: &Rules,
     link: &mut L,
     clock: &mut C,
 ) -> SessionEnd
-    ensures served { HasServed rules.now default_limits
+    ensures served { HasServed rules.now
         (outside (L.input link.old) (L.output link.old) (C.later clock.old) (C.readings clock.old)) result
         (outside (L.input link.new) (L.output link.new) (C.later clock.new) (C.readings clock.new)) }
     ensures read_fault { result ≡ SessionEnd.ReadFault → Rose (L.input link.old).faults (L.input link.new).faults }
@@ -72,38 +69,52 @@ pub(crate) fn serve<L: Link, C: Clock>(
     ensures input_faults { (L.input link.old).faults ≤ (L.input link.new).faults }
     ensures output_faults { (L.output link.old).faults ≤ (L.output link.new).faults }
 {
-    match serve_lines(alloc, rules, link, clock) {
+    let mut conn = Conn::new(alloc, link, BUDGET);
+    let end = match serve_conn(alloc, rules, &mut conn, clock) {
         Ok(end) => end,
         Err(WriteFault) => SessionEnd::WriteFault,
-    }
+    };
+    conn.into_link();
+    end
 }
 
-fn serve_lines<L: Link, C: Clock>(
+/// Greets the client, and answers its requests.
+fn serve_conn<L: Link, C: Clock>(
     alloc: Global,
     rules: &Rules,
-    link: &mut L,
+    conn: &mut Conn<'_, L>,
     clock: &mut C,
 ) -> Result<SessionEnd, WriteFault>
-    ensures served { HasServed rules.now default_limits
-        (outside (L.input link.old) (L.output link.old) (C.later clock.old) (C.readings clock.old)) (end_of result)
-        (outside (L.input link.new) (L.output link.new) (C.later clock.new) (C.readings clock.new)) }
-    ensures read_fault { result ≡ Ok SessionEnd.ReadFault → Rose (L.input link.old).faults (L.input link.new).faults }
-    ensures write_fault { OnErr result (Rose (L.output link.old).faults (L.output link.new).faults) }
-    ensures others { result ≢ Ok SessionEnd.WriteFault }
-    ensures input_faults { (L.input link.old).faults ≤ (L.input link.new).faults }
-    ensures output_faults { (L.output link.old).faults ≤ (L.output link.new).faults }
+    requires { conn.old.reader ≡ record { ahead = []; left = budget; ended = None } }
+    ensures { HasMet rules.now conn.old (C.later clock.old) (C.readings clock.old) (end_of result)
+        conn.new (C.later clock.new) (C.readings clock.new) }
 {
-    write_answer(link, Answer::Greeting)?;
-    let mut reader = LineReader::new(alloc, BUDGET);
-    let mut cache = Cache::new(alloc);
+    done(conn.greet())?;
+    let mut options = Options::new(rules);
+    let mut cache = Cache::new(alloc, limits_of(rules));
+    serve_requests(rules, &mut options, &mut cache, conn, clock)
+}
+
+/// Answers requests up to the end of the session.
+fn serve_requests<L: Link, C: Clock>(
+    rules: &Rules,
+    options: &mut Options,
+    cache: &mut Cache,
+    conn: &mut Conn<'_, L>,
+    clock: &mut C,
+) -> Result<SessionEnd, WriteFault>
+    requires { conn.old.reader.ended ≡ None }
+    ensures { HasTalked rules.now options.old (point conn.old (C.later clock.old) (C.readings clock.old) cache.old)
+        (end_of result) (point conn.new (C.later clock.new) (C.readings clock.new) cache.new) }
+{
     loop {
-        match next_line(&mut reader, link) {
-            Took::Line(line) => match answer_line(rules, &mut cache, link, clock, &line)? {
+        match conn.next_request() {
+            Took::Line(line) => match answer(&line, rules, options, cache, conn, clock)? {
                 Went::On => {}
-                Went::Over => return Ok(SessionEnd::Bye),
+                Went::End(end) => return Ok(end),
             },
             Took::TooLong => {
-                write_answer(link, Answer::TooLong)?;
+                done(conn.err(Code::LineTooLong, Origin::Agent))?;
                 return Ok(SessionEnd::TooLong);
             }
             Took::End => return Ok(SessionEnd::Ended),
@@ -113,58 +124,21 @@ fn serve_lines<L: Link, C: Clock>(
     }
 }
 
-/// Reads the next line of a link.
-fn next_line<L: Link>(reader: &mut LineReader, link: &mut L) -> Took
-    requires { reader.old.ended ≡ None }
-    ensures takes { WhereTold (L.input link.old).bytes (L.input link.new).bytes (Takes reader.old result reader.new) }
-    ensures progress { OnLine result (held reader.new < held reader.old) }
-    ensures fault { result ≡ Took.ReadFault → Rose (L.input link.old).faults (L.input link.new).faults }
-    ensures faults { (L.input link.old).faults ≤ (L.input link.new).faults }
-    ensures beside { L.output link.new ≡ L.output link.old }
-    ensures ended { reader.new.ended ≡ ended_by result }
-{
-    reader.next(link)
-}
-
-/// Answers one line.
-fn answer_line<L: Link, C: Clock>(
-    rules: &Rules,
-    cache: &mut Cache,
-    link: &mut L,
-    clock: &mut C,
+/// Answers one request.
+fn answer<L: Link, C: Clock>(
     line: &Line,
+    rules: &Rules,
+    options: &mut Options,
+    cache: &mut Cache,
+    conn: &mut Conn<'_, L>,
+    clock: &mut C,
 ) -> Result<Went, WriteFault>
-    ensures answered { (standing : Standing)
-        → IsKeptAs cache.old.limits standing cache.old.book cache.old.marks cache.old.latest
-        → (request : Asked) × IsRequest request line.now × HasAnswered rules.now cache.old.limits standing request
-        (C.later clock.old) (C.readings clock.old) (L.output link.old) result
-        (C.later clock.new) (C.readings clock.new) (L.output link.new)
-        cache.new.book cache.new.marks cache.new.latest }
-    ensures limits { cache.new.limits ≡ cache.old.limits }
-    ensures rose { OnErr result (Rose (L.output link.old).faults (L.output link.new).faults) }
-    ensures faults { (L.output link.old).faults ≤ (L.output link.new).faults }
-    ensures beside { L.input link.new ≡ L.input link.old }
+    requires { conn.old.reader.ended ≡ None }
+    ensures { IsAnswered rules.now options.old (request_of line.now)
+        (point conn.old (C.later clock.old) (C.readings clock.old) cache.old) result
+        options.new (point conn.new (C.later clock.new) (C.readings clock.new) cache.new) }
 {
-    match read_request(line) {
-        Request::Preset { id, secret } => {
-            let answer = step::preset(rules, cache, clock, id, secret);
-            write_answer(link, answer)?;
-            Ok(Went::On)
-        }
-        Request::Get { id } => {
-            match step::get(rules, cache, clock, id) {
-                Some(grant) => write_given(link, grant.secret())?,
-                None => write_answer(link, Answer::NoData)?,
-            }
-            Ok(Went::On)
-        }
-        Request::Bye => {
-            write_answer(link, Answer::Closing)?;
-            Ok(Went::Over)
-        }
-        Request::Unknown => {
-            write_answer(link, Answer::UnknownCommand)?;
-            Ok(Went::On)
-        }
-    }
+    let answer = carry_out(read_request(line), rules, options, cache, conn, clock)?;
+    write_reply(conn, &answer.reply)?;
+    Ok(answer.went)
 }

@@ -3,16 +3,12 @@ ghost use Rattle.std.specs.Result.{result_ok};
 ghost use Rattle.std.specs.Str.{bytes_eq};
 ghost use Rattle.agent_top.specs.Words.{rules_of};
 
+use arrayvec::ArrayVec;
+use session_options::{Rules, RunMode};
+
 const SERVER: &str = "--server";
 
 const ALLOW_PRESET: &str = "--allow-preset-passphrase";
-
-/// What the words of the command line ask for.
-#[derive(Clone, Copy, Debug, PartialEq, Eq)]
-pub struct Rules {
-    /// Whether a client may preset a passphrase.
-    pub allow_preset: bool,
-}
 
 /// The words of the command line are none that the agent knows.
 #[derive(Clone, Copy, Debug, PartialEq, Eq)]
@@ -28,8 +24,15 @@ pub fn read_words(words: &[String]) -> Result<Rules, WordsFault>
     let servers = times(words, SERVER);
     let presets = times(words, ALLOW_PRESET);
     if servers == 1 && presets <= 1 && words.len() == servers + presets {
+        let mut pinentry = ArrayVec::new();
+        pinentry.try_extend_from_slice(b"/usr/bin/pinentry").unwrap();
+        let mut homedir = ArrayVec::new();
+        homedir.try_extend_from_slice(b".").unwrap();
         Ok(Rules {
-            allow_preset: presets == 1,
+            default_ttl: 600, max_ttl: 7200, default_ttl_ssh: 1800, max_ttl_ssh: 7200,
+            pinentry_timeout: 0, workers: 8, pid: 0, min_len: 8, min_nonalpha: 1,
+            allow_preset: presets == 1, allow_loopback: true, s2k_count: 4_194_304,
+            pinentry, homedir, run: RunMode::Server,
         })
     } else {
         Err(WordsFault::Bad)

@@ -1,0 +1,24 @@
+use Rattle.std.proofs.Common.{◌≡◌, ◌∙◌, Ok, arith, refl, subst, take}
+use Rattle.std.proofs.lemmas.Result.{err_from_is_err_and}
+use Rattle.agent_top.specs.Exchanges.{ok}
+use Rattle.agent_top.specs.Steps.{HasSaid}
+use Rattle.agent_top.proofs.Helping.{one_more, stopped, comments}
+use Rattle.agent_top.proofs.Saying.{said_nothing, said_then}
+use Rattle.agent_top.proofs.reply.write_help.Goals as goal
+
+pub loop-name-init : goal.loop-name-init
+loop-name-init g c = said_nothing c.args.conn.now
+
+pub returns-in_err-done : goal.returns-in_err-done
+returns-in_err-done g c =
+    let p = err_from_is_err_and c.from_residual.result c.from_residual.ensures.1 in
+    rw p.1 (stopped _ c.loop-name.name-index _ (omega arith) _ _ _ c.loop-name.invariant _ (c.in_err-done.ensures _ _ _ c.comment.ensures))
+
+pub loop-name-preserved : goal.loop-name-preserved
+loop-name-preserved g c =
+    one_more _ c.loop-name.name-index _ (omega arith) _ _ _ c.loop-name.invariant (c.in_ok-done.ensures _ _ _ c.comment.ensures)
+
+pub returns : goal.returns
+returns g c =
+    let all : c.loop-name.name-index ≡ 8 = omega (arith, c.loop-name.auto.name-index-end, c.loop-name-test.false) in
+    said_then _ ok _ c.loop-name.conn _ _ (rw all at c.loop-name.invariant) (c.done-2.ensures _ _ _ c.ok.ensures)

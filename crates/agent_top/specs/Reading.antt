@@ -1,0 +1,56 @@
+-- What a session reads from the bytes that are there: requests, and the lines that its inquiries take in between. The rules on
+-- a line that is too long, on the budget and on faults are this project's own.
+use Rattle.std.specs.Prelude.{◌≡◌, ◌<◌, ◌+◌, ◌^◌, ℕ, Bool, List, [], ◌∷◌, length}
+use Rattle.std.specs.List.{flat_map}
+use Rattle.assuan_line.specs.Lines.{after_line}
+use Rattle.assuan_line.specs.Next.{next_of, IsCutShort, IsTooLong}
+use Rattle.assuan_line.specs.declared.reader.Took.{Took}
+use Rattle.assuan_line.specs.declared.reader.Took.TheVariants.{Line, TooLong, End, Spent, ReadFault}
+use Rattle.assuan_server.specs.Inquiries.{Outcome, ComesTo, carried, is_passing}
+use Rattle.assuan_server.specs.Passing.{Passed, Stops}
+use Rattle.assuan_server.specs.Requests.{is_ignored}
+use Rattle.agent_top.specs.Deeds.{Came, Deed, Wrote, Turned, Inquired}
+
+-- how many bytes a session may take
+abbrev pub budget : ℕ
+budget = 2 ^ 40
+
+-- The next line of these bytes, or what comes in its place, and the bytes from there on. `total` is how many bytes there were at
+-- the start of the session.
+pub data Reads (total : ℕ) (bytes : List ℕ) : Took → List ℕ → Type 0 where
+  line : {text : List ℕ} → next_of bytes ≡ Line text → Reads total bytes (Line text) (after_line bytes)
+  too_long : {rest : List ℕ} → IsTooLong [] bytes rest → Reads total bytes TooLong rest
+  -- the bytes ended before the budget was taken
+  end : next_of bytes ≡ End → total < budget → Reads total bytes End []
+  -- the budget was taken, and what is left of it is neither a line nor too long
+  spent : {rest : List ℕ} → IsCutShort [] bytes rest → total ≡ budget + length rest → Reads total bytes Spent rest
+  -- a read failed, and what is left of the bytes taken is neither a line nor too long
+  fault : {rest : List ℕ} → IsCutShort [] bytes rest → total < budget + length rest → Reads total bytes ReadFault rest
+
+-- lines that are passed over, and what comes after them
+pub record ReadsPast (passes : List ℕ → Bool) (total : ℕ) (bytes : List ℕ) (lines : List (List ℕ)) (took : Took) (rest : List ℕ) : Type 0 where
+  pub later : List ℕ
+  pub passed : Passed passes bytes lines later
+  pub stops : Stops passes took
+  pub reads : Reads total later took rest
+
+-- the next request, or what comes in its place
+abbrev pub ReadsRequest : ℕ → List ℕ → Took → List ℕ → Type 0
+ReadsRequest total bytes took rest = (lines : List (List ℕ)) × ReadsPast is_ignored total bytes lines took rest
+
+-- what an inquiry comes to
+pub record ReadsAnswer (total limit : ℕ) (bytes : List ℕ) (outcome : Outcome) (rest : List ℕ) : Type 0 where
+  pub lines : List (List ℕ)
+  pub took : Took
+  pub past : ReadsPast is_passing total bytes lines took rest
+  pub comes_to : ComesTo limit (flat_map carried lines) took outcome
+
+-- the inquiries among the deeds took their lines from these bytes, in order, and left the rest
+pub data Takes (total : ℕ) : List ℕ → List Deed → List ℕ → Type 0 where
+  none : {bytes : List ℕ} → Takes total bytes [] bytes
+  wrote : {bytes text rest : List ℕ} {deeds : List Deed} → Takes total bytes deeds rest → Takes total bytes (Wrote text ∷ deeds) rest
+  turned : {bytes rest : List ℕ} {step : _} {came : Came} {deeds : List Deed}
+      → Takes total bytes deeds rest → Takes total bytes (Turned step came ∷ deeds) rest
+  inquired : {bytes later rest : List ℕ} {limit : ℕ} {outcome : Outcome} {deeds : List Deed}
+      → ReadsAnswer total limit bytes outcome later → Takes total later deeds rest
+      → Takes total bytes (Inquired limit outcome ∷ deeds) rest

@@ -1,0 +1,259 @@
+ghost use Rattle.std.specs.Prelude.{◌≡◌, ◌∷◌, [], ℕ, Bool, true, List, Option, None};
+ghost use Rattle.assuan_server.specs.Connections.{Connection};
+ghost use Rattle.agent_commands.specs.declared.request.Request.TheVariants as request;
+ghost use Rattle.agent_commands.specs.declared.request.CacheCommand.TheVariants as command;
+ghost use Rattle.session_options.specs.Choices.{Choices};
+ghost use Rattle.session_options.specs.declared.rules.Rules.{Rules as TheRules};
+ghost use Rattle.agent_top.specs.declared.session.Went.TheVariants as went;
+ghost use Rattle.agent_top.specs.declared.cache.Cache.{Cache as TheCache};
+ghost use Rattle.agent_top.specs.Deeds.{Came, Wrote, Turned};
+ghost use Rattle.agent_top.specs.Exchanges.{Exchange, Stores, is_quiet, put, option_text};
+ghost use Rattle.agent_top.specs.Steps.{point, HasActed, HasPrepared, IsPrepared, IsInquired, IsBrought, IsText};
+
+use crate::cache::Cache;
+use crate::reply::{Reply, WriteFault, done};
+use crate::session::{SessionEnd, Went};
+use agent_commands::{CacheCommand, Info, Request, Texts};
+use agent_ports::{Clock, Link};
+use assuan_server::{Code, Conn, InquiredSecret};
+use cache_policy::{CacheId, Life, Secret};
+use session_options::{OptionAnswer, Options, Rules};
+
+/// How a request is answered, once all else is done for it, and whether the session goes on then.
+#[derive(Drop)]
+pub(crate) struct Answer {
+    pub(crate) reply: Reply,
+    pub(crate) went: Went,
+}
+
+impl Answer {
+    /// The session goes on after this reply.
+    fn on(reply: Reply) -> Answer
+        ensures reply { result.reply ≡ reply }
+        ensures went { result.went ≡ went.On }
+    {
+        Answer {
+            reply,
+            went: Went::On,
+        }
+    }
+
+    fn failed(code: Code) -> Answer
+        ensures reply { result.reply ≡ Reply.Failed code }
+        ensures went { result.went ≡ went.On }
+    {
+        Answer::on(Reply::Failed(code))
+    }
+
+    /// The session is over after this reply.
+    fn last(reply: Reply, end: SessionEnd) -> Answer
+        ensures reply { result.reply ≡ reply }
+        ensures went { result.went ≡ went.End end }
+    {
+        Answer {
+            reply,
+            went: Went::End(end),
+        }
+    }
+}
+
+/// Does what a request asks for, and says how it is to be answered.
+pub(crate) fn carry_out<L: Link, C: Clock>(
+    request: Request,
+    rules: &Rules,
+    options: &mut Options,
+    cache: &mut Cache,
+    conn: &mut Conn<'_, L>,
+    clock: &mut C,
+) -> Result<Answer, WriteFault>
+    requires { conn.old.reader.ended ≡ None }
+    ensures { IsPrepared rules.now options.old request (point conn.old (C.later clock.old) (C.readings clock.old) cache.old)
+        result options.new (point conn.new (C.later clock.new) (C.readings clock.new) cache.new) }
+{
+    match request {
+        Request::Bad(code) => Ok(Answer::failed(code)),
+        Request::Cache(command) => run(command, rules, options, cache, conn, clock),
+    }
+}
+
+fn run<L: Link, C: Clock>(
+    command: CacheCommand,
+    rules: &Rules,
+    options: &mut Options,
+    cache: &mut Cache,
+    conn: &mut Conn<'_, L>,
+    clock: &mut C,
+) -> Result<Answer, WriteFault>
+    requires { conn.old.reader.ended ≡ None }
+    ensures { IsPrepared rules.now options.old (request.Cache command)
+        (point conn.old (C.later clock.old) (C.readings clock.old) cache.old)
+        result options.new (point conn.new (C.later clock.new) (C.readings clock.new) cache.new) }
+{
+    match command {
+        CacheCommand::Nop => Ok(Answer::on(Reply::Ok)),
+        CacheCommand::Reset => {
+            options.reset();
+            Ok(Answer::on(Reply::Ok))
+        }
+        CacheCommand::Bye => Ok(Answer::last(Reply::Closing, SessionEnd::Bye)),
+        CacheCommand::Help => Ok(Answer::on(Reply::Help)),
+        CacheCommand::SetOption { text } => Ok(Answer::on(option_reply(options.set(&text)))),
+        CacheCommand::GetInfo(info) => Ok(Answer::on(info_reply(info, rules))),
+        CacheCommand::GetPassphrase { plain, no_ask, id, texts, .. } => {
+            Ok(get_passphrase(plain, no_ask, id, texts, cache, clock))
+        }
+        CacheCommand::PresetPassphrase { id, life, secret } => {
+            preset_passphrase(id, life, secret, rules, cache, conn, clock)
+        }
+    }
+}
+
+fn option_reply(answer: OptionAnswer) -> Reply
+    ensures { (text : List ℕ) → IsText result text → text ≡ option_text answer }
+{
+    match answer {
+        OptionAnswer::Set => Reply::Ok,
+        OptionAnswer::Unknown => Reply::Failed(Code::UnknownOption),
+        OptionAnswer::Parameter => Reply::Failed(Code::Parameter),
+        OptionAnswer::NotSupported => Reply::Failed(Code::NotSupported),
+    }
+}
+
+fn info_reply(info: Info, rules: &Rules) -> Reply
+    ensures { (before : Choices) (text : List ℕ) → IsText result text
+        → Exchange rules.now before (request.Cache (command.GetInfo info)) (Wrote text ∷ []) before went.On }
+{
+    match info {
+        Info::Version => Reply::Version,
+        Info::Pid => Reply::Number(rules.pid as u64),
+        Info::S2kCount => Reply::Number(rules.s2k_count),
+        Info::Listed => Reply::Ok,
+    }
+}
+
+/// GET_PASSPHRASE, which asks the cache alone. One that may prompt isn't served yet.
+fn get_passphrase<C: Clock>(
+    plain: bool,
+    no_ask: bool,
+    id: Option<CacheId>,
+    texts: Option<Texts>,
+    cache: &mut Cache,
+    clock: &mut C,
+) -> Answer
+    ensures { (rules : TheRules) (before : Choices) (check quality : Bool) (repeat : ℕ) (conn : Connection) → conn.reader.ended ≡ None
+        → HasPrepared rules before (request.Cache (command.GetPassphrase plain check no_ask repeat quality id texts))
+        (point conn (C.later clock.old) (C.readings clock.old) cache.old) result before
+        (point conn (C.later clock.new) (C.readings clock.new) cache.new) }
+{
+    if !is_quiet(no_ask, &texts) {
+        return Answer::failed(Code::NotSupported);
+    }
+    let Some(id) = id else {
+        return Answer::failed(Code::NoData);
+    };
+    match cache.ask(clock.now(), &id) {
+        Some(grant) => Answer::on(Reply::Given { grant, plain }),
+        None => Answer::failed(Code::NoData),
+    }
+}
+
+/// Whether a request asks the cache alone: it says so, or it has no texts for a prompt.
+fn is_quiet(no_ask: bool, texts: &Option<Texts>) -> bool
+    ensures { result ≡ is_quiet no_ask texts.now }
+{
+    no_ask || texts.is_none()
+}
+
+/// PRESET_PASSPHRASE. Another lifetime than one without end isn't served yet.
+fn preset_passphrase<L: Link, C: Clock>(
+    id: CacheId,
+    life: Life,
+    secret: Option<Secret>,
+    rules: &Rules,
+    cache: &mut Cache,
+    conn: &mut Conn<'_, L>,
+    clock: &mut C,
+) -> Result<Answer, WriteFault>
+    requires { conn.old.reader.ended ≡ None }
+    ensures { (before : Choices) → IsPrepared rules.now before (request.Cache (command.PresetPassphrase id life secret))
+        (point conn.old (C.later clock.old) (C.readings clock.old) cache.old)
+        result before (point conn.new (C.later clock.new) (C.readings clock.new) cache.new) }
+{
+    let Life::Endless = life else {
+        return Ok(Answer::failed(Code::NotSupported));
+    };
+    if !rules.allow_preset {
+        return Ok(Answer::failed(Code::NotSupported));
+    }
+    match secret {
+        Some(secret) => Ok(Answer::on(store(id, secret, cache, clock))),
+        None => preset_inquired(id, cache, conn, clock),
+    }
+}
+
+/// Asks the client for the passphrase that it presets.
+fn preset_inquired<L: Link, C: Clock>(
+    id: CacheId,
+    cache: &mut Cache,
+    conn: &mut Conn<'_, L>,
+    clock: &mut C,
+) -> Result<Answer, WriteFault>
+    requires { conn.old.reader.ended ≡ None }
+    ensures { (rules : TheRules) (before : Choices) → rules.allow_preset ≡ true
+        → IsPrepared rules before (request.Cache (command.PresetPassphrase id Life.Endless None))
+        (point conn.old (C.later clock.old) (C.readings clock.old) cache.old)
+        result before (point conn.new (C.later clock.new) (C.readings clock.new) cache.new) }
+{
+    match inquire_passphrase(conn)? {
+        Brought::Passphrase(secret) => Ok(Answer::on(store(id, secret, cache, clock))),
+        Brought::Without(answer) => Ok(answer),
+    }
+}
+
+/// Stores a passphrase at the clock's next reading.
+fn store<C: Clock>(id: CacheId, secret: Secret, cache: &mut Cache, clock: &mut C) -> Reply
+    ensures { (came : Came)
+        × ((text : List ℕ) → IsText result text → Stores id secret (Turned (put id secret) came ∷ Wrote text ∷ []))
+        × ((conn : Connection) → HasActed (Turned (put id secret) came ∷ [])
+        (point conn (C.later clock.old) (C.readings clock.old) cache.old)
+        (point conn (C.later clock.new) (C.readings clock.new) cache.new)) }
+{
+    match cache.put(clock.now(), id, secret) {
+        Ok(()) => Reply::Ok,
+        Err(_) => Reply::Failed(Code::NoMemory),
+    }
+}
+
+/// What the client's answer brought: a passphrase, or how the request is answered without one.
+#[derive(Drop)]
+pub(crate) enum Brought {
+    Passphrase(Secret),
+    Without(Answer),
+}
+
+/// Asks the client for a passphrase.
+fn inquire_passphrase<L: Link>(conn: &mut Conn<'_, L>) -> Result<Brought, WriteFault>
+    requires { conn.old.reader.ended ≡ None }
+    ensures { (later : ℕ → Option ℕ) (count : ℕ) (cache : TheCache)
+        → IsInquired (point conn.old later count cache) result (point conn.new later count cache) }
+{
+    done(conn.status(b"INQUIRE_MAXLEN", b"255"))?;
+    passphrase_of(conn.inquire_secret(b"PASSPHRASE", b""))
+}
+
+fn passphrase_of(inquired: InquiredSecret) -> Result<Brought, WriteFault>
+    ensures { IsBrought inquired result }
+{
+    let without = match inquired {
+        InquiredSecret::Secret(secret) => return Ok(Brought::Passphrase(secret)),
+        InquiredSecret::WriteFault => return Err(WriteFault),
+        InquiredSecret::Cancelled => Answer::failed(Code::Cancelled),
+        InquiredSecret::TooMuch => Answer::failed(Code::TooMuch),
+        InquiredSecret::Unexpected => Answer::failed(Code::Unexpected),
+        InquiredSecret::TooLong => Answer::last(Reply::Failed(Code::LineTooLong), SessionEnd::TooLong),
+        InquiredSecret::Ended => Answer::last(Reply::Nothing, SessionEnd::Ended),
+        InquiredSecret::Spent => Answer::last(Reply::Nothing, SessionEnd::Spent),
+        InquiredSecret::ReadFault => Answer::last(Reply::Nothing, SessionEnd::ReadFault),
+    };
+    Ok(Brought::Without(without))
+}

@@ -1,0 +1,84 @@
+ghost use Rattle.std.specs.Prelude.{◌≡◌, ◌++◌, ℕ, List};
+ghost use Rattle.std.specs.List.{flat_map};
+ghost use Rattle.assuan_server.specs.Written.{line_of, comment_text, HasWritten};
+ghost use Rattle.agent_commands.specs.Names.{command_names};
+ghost use Rattle.agent_top.specs.Exchanges.{IsData, help};
+ghost use Rattle.agent_top.specs.Steps.{IsText, HasSaid};
+
+use agent_commands::COMMANDS;
+use agent_ports::{Link, Sent};
+use assuan_escape::upper_hex;
+use assuan_server::{Code, Conn, Origin};
+use cache_policy::Grant;
+use itoa::Buffer;
+
+/// The version that GETINFO tells.
+const VERSION: &[u8] = b"2.4.0";
+
+/// What a request is answered, once all else is done for it.
+#[derive(Drop)]
+pub(crate) enum Reply {
+    Nothing,
+    Ok,
+    Closing,
+    Help,
+    Version,
+    Number(u64),
+    Given {
+        grant: Grant,
+        /// By data lines, and else in hexadecimal digits.
+        plain: bool,
+    },
+    Failed(Code),
+}
+
+/// A write failed.
+pub(crate) struct WriteFault;
+
+/// Writes a reply.
+pub(crate) fn write_reply<L: Link>(
+    conn: &mut Conn<'_, L>,
+    reply: &Reply,
+) -> Result<(), WriteFault>
+    ensures { (text : List ℕ) × IsText reply.now text × HasSaid text conn.old result conn.new }
+{
+    match reply {
+        Reply::Nothing => Ok(()),
+        Reply::Ok => done(conn.ok(b"")),
+        Reply::Closing => done(conn.ok(b"closing connection")),
+        Reply::Help => write_help(conn),
+        Reply::Version => write_data(conn, VERSION),
+        Reply::Number(number) => write_data(conn, Buffer::new().format(*number).as_bytes()),
+        Reply::Given { grant, plain: true } => write_data(conn, grant.secret().bytes()),
+        Reply::Given { grant, plain: false } => done(conn.ok(&upper_hex(grant.secret().bytes()))),
+        Reply::Failed(code) => done(conn.err(*code, Origin::Agent)),
+    }
+}
+
+/// Writes these bytes as data lines, and that this is all.
+fn write_data<L: Link>(conn: &mut Conn<'_, L>, bytes: &[u8]) -> Result<(), WriteFault>
+    ensures { (text : List ℕ) × IsData bytes.now text × HasSaid text conn.old result conn.new }
+{
+    done(conn.data(bytes))?;
+    done(conn.ok(b""))
+}
+
+/// Writes a comment for each command, and that this is all.
+fn write_help<L: Link>(conn: &mut Conn<'_, L>) -> Result<(), WriteFault>
+    ensures { HasSaid help conn.old result conn.new }
+{
+    for (name, _) in COMMANDS {
+        done(conn.comment(name))?;
+    }
+    done(conn.ok(b""))
+}
+
+/// Whether a write went whole.
+pub(crate) fn done(sent: Sent) -> Result<(), WriteFault>
+    ensures { (text : List ℕ) (before after : _) → HasWritten text before sent after → HasSaid text before result after }
+{
+    match sent {
+        Sent::All => Ok(()),
+        Sent::Failed { .. } => Err(WriteFault),
+    }
+}
