@@ -13,7 +13,7 @@ use Rattle.cache_policy.specs.Book.{Book}
 use Rattle.agent_top.specs.declared.answer.Answer.TheVariants.{Greeting, TooLong as LineTooLong}
 use Rattle.agent_top.specs.declared.answer.WriteFault.{WriteFault}
 use Rattle.agent_top.specs.declared.request.Request.{Request}
-use Rattle.agent_top.specs.declared.words.Rules.{Rules}
+use Rattle.session_options.specs.declared.rules.Rules.{Rules}
 use Rattle.agent_top.specs.declared.session.Went.TheVariants.{On, Over}
 use Rattle.agent_top.specs.declared.session.SessionEnd.{SessionEnd}
 use Rattle.agent_top.specs.declared.session.SessionEnd.TheVariants.{Bye, Ended, TooLong, Spent, ReadFault}

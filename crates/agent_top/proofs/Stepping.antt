@@ -10,7 +10,7 @@ use Rattle.cache_policy.specs.declared.grant.Grant.{Grant}
 use Rattle.cache_policy.specs.Book.{Book}
 use Rattle.agent_top.specs.declared.answer.Answer.TheVariants.{NoData}
 use Rattle.agent_top.specs.declared.request.Request.TheVariants.{Get}
-use Rattle.agent_top.specs.declared.words.Rules.{Rules}
+use Rattle.session_options.specs.declared.rules.Rules.{Rules}
 use Rattle.agent_top.specs.declared.session.Went.TheVariants.{On}
 use Rattle.agent_top.specs.Answers.{line_of, given_text}
 use Rattle.agent_top.specs.Cache.{Standing, asked, IsKeptAs}

@@ -12,6 +12,16 @@ use Rattle.cache_policy.specs.declared.history.History.{History}
 use Rattle.cache_policy.specs.Histories.{with_mark}
 use Rattle.cache_policy.specs.Runs.{next_history, moment_of}
 use Rattle.cache_policy.specs.Book.{Book, put_mark, ask_mark, IsEndlessBookOf}
+use Rattle.session_options.specs.declared.rules.Rules.{Rules}
+
+-- the lifetimes of entries, by the rules
+abbrev pub limits_of : Rules → Limits
+limits_of rules = record {
+  ttl = rules.default_ttl;
+  max = rules.max_ttl;
+  ttl_ssh = rules.default_ttl_ssh;
+  max_ssh = rules.max_ttl_ssh;
+}
 
 -- the session that is served on standard input and output
 abbrev pub session : SessionId

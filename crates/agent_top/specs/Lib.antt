@@ -1,7 +1,10 @@
 pub mod Answers
 pub mod Cache
+pub mod Forms
 pub mod Requests
 pub mod Session
+pub mod Settings
 pub mod Steps
 pub mod Top
+pub mod Within
 pub mod Words

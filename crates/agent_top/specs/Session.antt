@@ -17,7 +17,7 @@ use Rattle.agent_top.specs.declared.answer.Answer.TheVariants.{Greeting, Ok, Clo
 use Rattle.agent_top.specs.declared.answer.WriteFault.{WriteFault as Fault}
 use Rattle.agent_top.specs.declared.request.Request.{Request}
 use Rattle.agent_top.specs.declared.request.Request.TheVariants.{Preset, Get, Bye as ByeRequest, Unknown}
-use Rattle.agent_top.specs.declared.words.Rules.{Rules}
+use Rattle.session_options.specs.declared.rules.Rules.{Rules}
 use Rattle.agent_top.specs.declared.session.SessionEnd.{SessionEnd}
 use Rattle.agent_top.specs.declared.session.SessionEnd.TheVariants.{Bye, Ended, TooLong, Spent, ReadFault, WriteFault}
 use Rattle.agent_top.specs.declared.session.Went.{Went}

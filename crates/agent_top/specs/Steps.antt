@@ -6,7 +6,7 @@ use Rattle.cache_policy.specs.declared.life.Limits.{Limits}
 use Rattle.cache_policy.specs.Book.{Book}
 use Rattle.agent_top.specs.declared.answer.WriteFault.{WriteFault as Fault}
 use Rattle.agent_top.specs.declared.request.Request.{Request}
-use Rattle.agent_top.specs.declared.words.Rules.{Rules}
+use Rattle.session_options.specs.declared.rules.Rules.{Rules}
 use Rattle.agent_top.specs.declared.session.Went.{Went}
 use Rattle.agent_top.specs.Answers.{HasCut}
 use Rattle.agent_top.specs.Cache.{Standing, IsKeptAs}

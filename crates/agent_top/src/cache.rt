@@ -1,8 +1,10 @@
 ghost use Rattle.std.specs.Prelude.{◌≡◌, ◌≤◌, ◌+◌, ◌<◌, ◌^◌, true, IfSome, OnOk, OnErr};
 ghost use Rattle.std.specs.List.{list_all};
+ghost use Rattle.agent_top.specs.Cache.{limits_of};
 ghost use Rattle.agent_top.specs.Requests.{is_passphrase};
 
 use cache_policy::{CacheId, Grant, Life, Limits, ListBook, Mode, NoMemory, Secret};
+use session_options::Rules;
 use std::alloc::Global;
 
 /// How many marks one history has room for.
@@ -32,19 +34,18 @@ impl Cache {
     ghost use Rattle.std.specs.Option.{option_map};
     ghost use Rattle.cache_policy.specs.declared.mode.Mode.TheVariants.{User};
     ghost use Rattle.cache_policy.specs.declared.mark.MarkReply.{MarkReply};
-    ghost use Rattle.cache_policy.specs.Lifetimes.{default_limits};
     ghost use Rattle.cache_policy.specs.Live.{live};
     ghost use Rattle.cache_policy.specs.Runs.{next_history, moment_of};
     ghost use Rattle.agent_top.specs.Cache.{Standing, at_start, preset, asked, IsKeptAs};
 
     /// An empty cache.
-    pub(crate) fn new(alloc: Global) -> Cache
-        ensures limits { result.limits ≡ default_limits }
-        ensures start { IsKeptAs default_limits at_start result.book result.marks result.latest }
+    pub(crate) fn new(alloc: Global, limits: Limits) -> Cache
+        ensures limits { result.limits ≡ limits }
+        ensures start { IsKeptAs limits at_start result.book result.marks result.latest }
     {
         Cache {
             alloc,
-            limits: Limits::default(),
+            limits,
             book: ListBook::new(alloc),
             marks: 0,
             latest: 0,
@@ -124,5 +125,17 @@ impl Cache {
         ensures in_range { result ≤ 2 ^ 62 }
     {
         reading.min(GREATEST).max(self.latest)
+    }
+}
+
+/// The lifetimes that the rules give entries.
+pub(crate) fn limits_of(rules: &Rules) -> Limits
+    ensures { result ≡ limits_of rules.now }
+{
+    Limits {
+        ttl: rules.default_ttl,
+        max: rules.max_ttl,
+        ttl_ssh: rules.default_ttl_ssh,
+        max_ssh: rules.max_ttl_ssh,
     }
 }

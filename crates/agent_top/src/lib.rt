@@ -10,7 +10,7 @@ mod top;
 mod words;
 
 pub use top::{run_agent, run_server};
-pub use words::{Rules, WordsFault, read_words};
+pub use words::{WordsFault, read_words};
 
 #[cfg(test)]
 mod tests;

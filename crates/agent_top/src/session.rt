@@ -2,20 +2,19 @@ ghost use Rattle.std.specs.Prelude.{◌≡◌, ◌≢◌, ◌<◌, ◌≤◌, On
 ghost use Rattle.agent_ports.specs.Counts.{Rose};
 ghost use Rattle.agent_ports.specs.Sides.{WhereTold};
 ghost use Rattle.assuan_line.specs.Next.{OnLine, held, ended_by};
-ghost use Rattle.cache_policy.specs.Lifetimes.{default_limits};
-ghost use Rattle.agent_top.specs.Cache.{Standing, IsKeptAs};
+ghost use Rattle.agent_top.specs.Cache.{Standing, IsKeptAs, limits_of};
 ghost use Rattle.agent_top.specs.Requests.{IsRequest};
 ghost use Rattle.agent_top.specs.declared.request.Request.{Request as Asked};
 ghost use Rattle.agent_top.specs.Session.{Takes, HasServed, outside, end_of};
 ghost use Rattle.agent_top.specs.Steps.{HasAnswered};
 
 use crate::answer::{Answer, WriteFault, write_answer, write_given};
-use crate::cache::Cache;
+use crate::cache::{Cache, limits_of};
 use crate::request::{Request, read_request};
 use crate::step;
-use crate::words::Rules;
 use agent_ports::{Clock, Link};
 use assuan_line::{Line, LineReader, Took};
+use session_options::Rules;
 use std::alloc::Global;
 
 /// How many bytes a session may take.
@@ -64,7 +63,7 @@ pub(crate) fn serve<L: Link, C: Clock>(
     link: &mut L,
     clock: &mut C,
 ) -> SessionEnd
-    ensures served { HasServed rules.now default_limits
+    ensures served { HasServed rules.now (limits_of rules.now)
         (outside (L.input link.old) (L.output link.old) (C.later clock.old) (C.readings clock.old)) result
         (outside (L.input link.new) (L.output link.new) (C.later clock.new) (C.readings clock.new)) }
     ensures read_fault { result ≡ SessionEnd.ReadFault → Rose (L.input link.old).faults (L.input link.new).faults }
@@ -84,7 +83,7 @@ fn serve_lines<L: Link, C: Clock>(
     link: &mut L,
     clock: &mut C,
 ) -> Result<SessionEnd, WriteFault>
-    ensures served { HasServed rules.now default_limits
+    ensures served { HasServed rules.now (limits_of rules.now)
         (outside (L.input link.old) (L.output link.old) (C.later clock.old) (C.readings clock.old)) (end_of result)
         (outside (L.input link.new) (L.output link.new) (C.later clock.new) (C.readings clock.new)) }
     ensures read_fault { result ≡ Ok SessionEnd.ReadFault → Rose (L.input link.old).faults (L.input link.new).faults }
@@ -95,7 +94,7 @@ fn serve_lines<L: Link, C: Clock>(
 {
     write_answer(link, Answer::Greeting)?;
     let mut reader = LineReader::new(alloc, BUDGET);
-    let mut cache = Cache::new(alloc);
+    let mut cache = Cache::new(alloc, limits_of(rules));
     loop {
         match next_line(&mut reader, link) {
             Took::Line(line) => match answer_line(rules, &mut cache, link, clock, &line)? {

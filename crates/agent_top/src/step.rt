@@ -10,9 +10,9 @@ ghost use Rattle.agent_top.specs.Steps.{HasStepped};
 
 use crate::answer::Answer;
 use crate::cache::Cache;
-use crate::words::Rules;
 use agent_ports::Clock;
 use cache_policy::{CacheId, Grant, Secret};
+use session_options::Rules;
 
 /// The step of a preset, and its answer.
 pub(crate) fn preset<C: Clock>(

@@ -2,12 +2,34 @@ ghost use Rattle.std.specs.Prelude.{◌≤◌};
 
 use super::*;
 use agent_ports::{ListClock, MemHost, MemLink, MemSink, MemSource};
+use arrayvec::ArrayVec;
+use session_options::{Rules, RunMode};
 use std::alloc::{AllocError, Global};
 use std::test::Fail;
 
 const GREETING: &str = "OK Pleased to meet you\n";
 
 const UNKNOWN: &str = "ERR 67109139 Unknown IPC command <GPG Agent>\n";
+
+fn rules(allow_preset: bool) -> Rules {
+    Rules {
+        default_ttl: 600,
+        max_ttl: 7200,
+        default_ttl_ssh: 1800,
+        max_ttl_ssh: 7200,
+        pinentry_timeout: 0,
+        workers: 8,
+        pid: 0,
+        min_len: 8,
+        min_nonalpha: 1,
+        allow_preset,
+        allow_loopback: true,
+        s2k_count: 4_194_304,
+        pinentry: ArrayVec::new(),
+        homedir: ArrayVec::new(),
+        run: RunMode::Server,
+    }
+}
 
 /// A session on a link in memory, whose reads give at most `piece` bytes.
 #[derive(Drop)]
@@ -24,9 +46,7 @@ struct Case<'a> {
 fn meets(alloc: Global, case: &Case, piece: usize) -> Result<bool, AllocError>
     requires { 1 ≤ piece }
 {
-    let rules = Rules {
-        allow_preset: case.allow_preset,
-    };
+    let rules = rules(case.allow_preset);
     let source = MemSource::new(Vec::from_slice(alloc, case.input)?, piece, Vec::new(alloc));
     let mut stdio = MemLink::new(source, MemSink::new(alloc, 0, Vec::new(alloc)));
     let mut host = MemHost::new(ListClock::new(Vec::from_slice(alloc, case.readings)?));
@@ -165,7 +185,7 @@ fn a_line_that_is_too_long_ends_the_session(rt: HostRuntime) -> Result<(), Fail>
 #[test]
 fn faults_of_the_link_have_their_statuses(rt: HostRuntime) -> Result<(), Fail> {
     let alloc = rt.alloc();
-    let rules = Rules { allow_preset: true };
+    let rules = rules(true);
     for (reads, writes, written, status) in [
         (
             vec![in alloc; 4u64]?,

@@ -1,12 +1,12 @@
 ghost use Rattle.std.specs.Prelude.{◌≡◌, map, string_bytes, IfSome, IfNone};
 ghost use Rattle.agent_top.specs.Words.{rules_of};
-ghost use Rattle.cache_policy.specs.Lifetimes.{default_limits};
 ghost use Rattle.agent_top.specs.Session.{outside};
 ghost use Rattle.agent_top.specs.Top.{HasRun};
 
 use crate::session::{SessionEnd, serve};
-use crate::words::{Rules, WordsFault, read_words};
+use crate::words::{WordsFault, read_words};
 use agent_ports::{Host, Link};
+use session_options::Rules;
 use std::alloc::Global;
 use std::rt;
 use std::sync::Wait;
@@ -25,7 +25,7 @@ pub fn run_agent<W: Threads + Wait + rt::Clock + Sync, S: Link, H: Host>(
     ensures refused { IfNone (rules_of (map string_bytes words.now))
         ((result ≡ 2) × (S.input stdio.new ≡ S.input stdio.old) × (S.output stdio.new ≡ S.output stdio.old)
         × (host.new ≡ host.old)) }
-    ensures served { IfSome (rules_of (map string_bytes words.now)) (λ rules. HasRun rules default_limits
+    ensures served { IfSome (rules_of (map string_bytes words.now)) (λ rules. HasRun rules
         (outside (S.input stdio.old) (S.output stdio.old) (H.later host.old) (H.readings host.old)) result
         (outside (S.input stdio.new) (S.output stdio.new) (H.later host.new) (H.readings host.new))) }
 {
@@ -37,7 +37,7 @@ pub fn run_agent<W: Threads + Wait + rt::Clock + Sync, S: Link, H: Host>(
 
 /// Serves one session on standard input and output, and gives its status. It always returns.
 pub fn run_server<S: Link, H: Host>(alloc: Global, rules: &Rules, stdio: &mut S, host: &mut H) -> u8
-    ensures { HasRun rules.now default_limits
+    ensures { HasRun rules.now
         (outside (S.input stdio.old) (S.output stdio.old) (H.later host.old) (H.readings host.old)) result
         (outside (S.input stdio.new) (S.output stdio.new) (H.later host.new) (H.readings host.new)) }
 {

@@ -11,8 +11,8 @@ returns-in_err-write_answer-clause-served g c =
 
 pub loop-line-init : goal.loop-line-init
 loop-line-init g c = record {
-  serving = rw (c.write_answer.ensures.beside, c.new-reader.ensures) (served_none _ _ _ _ _ _ _ _ _ _ c.in_ok-write_answer.ensures.ok c.new-cache.ensures.start);
-  limits = c.new-cache.ensures.limits;
+  serving = rw (c.write_answer.ensures.beside, c.new-reader.ensures) (served_none _ _ _ _ _ _ _ _ _ _ c.in_ok-write_answer.ensures.ok (rw c.limits_of.ensures at c.new-cache.ensures.start));
+  limits = c.new-cache.ensures.limits ∙ c.limits_of.ensures;
   going = rw c.new-reader.ensures refl;
   read_faults = omega (arith, ap (λ (s : Side). s.faults) c.write_answer.ensures.beside);
   write_faults = c.write_answer.ensures.faults;
