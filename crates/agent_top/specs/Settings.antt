@@ -1,4 +1,5 @@
--- The words of the command line, read as settings: `--name`, `--name=value` or `--name value`.
+-- The words of the command line, read as settings: `--name`, `--name=value` or `--name value`. That a word which begins with a
+-- dash is a value only after `=` is this project's own.
 use Rattle.std.specs.Prelude.{ℕ, ◌==◌, ◌&&◌, not, Bool, true, List, [], ◌∷◌, Option, Some, None, is_some, slice_index, if◌then◌else◌}
 use Rattle.std.specs.List.{list_any, before_first, after_first}
 use Rattle.std.specs.Option.{option_and_then, option_map}
@@ -27,7 +28,7 @@ alone word =
 abbrev pub is_value_of : List ℕ → List ℕ → Bool
 is_value_of word next = not (holds_equals word) && not (begins_with_dash next)
 
--- a word that is no value names something, whatever it begins with
+-- Each word that is no value names something. One that is out of place so has a name that no option has.
 abbrev pub settings : List (List ℕ) → List Setting
 settings [] = []
 settings (word ∷ []) = alone word ∷ []

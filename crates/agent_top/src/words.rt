@@ -21,14 +21,15 @@ pub enum WordsFault {
     Bad,
 }
 
-/// Reads the words of the command line, without the program's name.
+/// Reads the words of the command line, without the program's name, as the rules that they mean (GnuPG manual, "agent
+/// options"). `--daemon` and `--load` are refused, since they aren't built yet.
 pub fn read_words(words: &[String]) -> Result<Rules, WordsFault>
     ensures { result_ok result ≡ rules_of (map string_bytes words.now) }
 {
     rules_from(words).and_then(if_built).ok_or(WordsFault::Bad)
 }
 
-/// The rules, where what they ask for is built.
+/// The rules, where what they ask for is built. A daemon and a load aren't yet.
 fn if_built(rules: Rules) -> Option<Rules>
     ensures { result ≡ if_built rules }
 {
@@ -49,6 +50,7 @@ fn rules_from(words: &[String]) -> Option<Rules>
     Some(rules_with(words, run))
 }
 
+/// The rules that settings mean, where each has the form of its option.
 #[tactic(auto, unfolding(crate::specs::Forms::form_of))]
 fn rules_with(words: &[String], run: RunMode) -> Rules
     ensures { result ≡ rules_with (settings (map string_bytes words.now)) run }
