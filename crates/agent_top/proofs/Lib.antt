@@ -9,4 +9,6 @@ mod Preparing
 mod Presetting
 mod Saying
 mod Serving
+mod SettingLemmas
 mod Taking
+mod WorkedExamples

@@ -1,8 +1,11 @@
 pub mod Cache
 pub mod Deeds
 pub mod Exchanges
+pub mod Forms
 pub mod Reading
 pub mod Session
+pub mod Settings
 pub mod Steps
 pub mod Top
+pub mod Within
 pub mod Words

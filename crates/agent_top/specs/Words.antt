@@ -1,19 +1,65 @@
--- The words of the command line.
-use Rattle.std.specs.Prelude.{ℕ, ◌+◌, ◌==◌, ◌&&◌, nat_le, true, List, [], length, count_by, codes, Option, Some, None, if◌then◌else◌}
-use Rattle.std.specs.Str.{bytes_eq}
+-- The words of the command line, and the rules that they mean. That an option is given once, that nothing else is given, and
+-- the defaults that the GnuPG manual doesn't name are this project's own.
+use Rattle.std.specs.Prelude.{ℕ, ◌&&◌, not, Bool, true, false, List, codes, Option, Some, None, if◌then◌else◌}
+use Rattle.std.specs.List.{list_all}
+use Rattle.std.specs.Option.{option_map, option_and_then}
+use Rattle.arrayvec.specs.ArrayVec.{ArrayVec}
 use Rattle.session_options.specs.declared.rules.Rules.{Rules}
-use Rattle.session_options.specs.declared.rules.RunMode.TheVariants.{Server}
+use Rattle.session_options.specs.declared.rules.RunMode.{RunMode}
+use Rattle.session_options.specs.declared.rules.RunMode.TheVariants.{Server, Daemon, Load}
+use Rattle.agent_top.specs.Settings.{Setting, settings, is_given, are_distinct}
+use Rattle.agent_top.specs.Forms.{fits, number_or, path_or}
+use Rattle.agent_top.specs.Within.{count-within, workers-within}
 
--- how often a word stands among the words
-abbrev pub times : List ℕ → List (List ℕ) → ℕ
-times name words = count_by (λ word. bytes_eq word name) words
+-- exactly one of them is given, and this is the number of the third
+abbrev pub one_run : Bool → Bool → Bool → ℕ → Option RunMode
+one_run true false false number = Some Server
+one_run false true false number = Some Daemon
+one_run false false true number = Some (Load number)
+one_run _ _ _ number = None
 
--- one `--server`, at most one `--allow-preset-passphrase`, in any order, and no other word
+abbrev pub run_of : List Setting → Option RunMode
+run_of given =
+    one_run (is_given (codes "--server") given) (is_given (codes "--daemon") given) (is_given (codes "--load") given)
+    (number_or 0 (codes "--load") given)
+
+abbrev word : List ℕ → ArrayVec ℕ
+word bytes = record { items = bytes }
+
+-- the number of the process isn't asked for yet
+abbrev pub rules_with : List Setting → RunMode → Rules
+rules_with given run = record {
+  default_ttl = number_or 600 (codes "--default-cache-ttl") given;
+  max_ttl = number_or 7200 (codes "--max-cache-ttl") given;
+  default_ttl_ssh = number_or 1800 (codes "--default-cache-ttl-ssh") given;
+  max_ttl_ssh = number_or 7200 (codes "--max-cache-ttl-ssh") given;
+  pinentry_timeout = number_or 0 (codes "--pinentry-timeout") given;
+  workers = number_or 8 (codes "--workers") given;
+  pid = 0;
+  min_len = number_or 8 (codes "--min-passphrase-len") given;
+  min_nonalpha = number_or 1 (codes "--min-passphrase-nonalpha") given;
+  allow_preset = is_given (codes "--allow-preset-passphrase") given;
+  allow_loopback = not (is_given (codes "--no-allow-loopback-pinentry") given);
+  s2k_count = number_or 4194304 (codes "--s2k-count") given;
+  pinentry = word (path_or (codes "/usr/bin/pinentry") (codes "--pinentry-program") given);
+  homedir = word (path_or (codes ".") (codes "--homedir") given);
+  run = run;
+  count_in_range = count-within given;
+  workers_in_range = workers-within given;
+}
+
+-- each is known and has the form of its option, none is given twice, and one says what to do
+abbrev pub rules_from : List Setting → Option Rules
+rules_from given =
+    if list_all fits given && are_distinct given then option_map (rules_with given) (run_of given) else None
+
+-- a daemon and a load aren't built yet, and are refused so long
+abbrev pub if_built_for : Rules → RunMode → Option Rules
+if_built_for rules Server = Some rules
+if_built_for rules _ = None
+
+abbrev pub if_built : Rules → Option Rules
+if_built rules = if_built_for rules rules.run
+
 abbrev pub rules_of : List (List ℕ) → Option Rules
-rules_of words =
-    let servers : ℕ = times (codes "--server") words in
-    let presets : ℕ = times (codes "--allow-preset-passphrase") words in
-    if servers == 1 && nat_le presets 1 && length words == servers + presets then Some (record {
-      default_ttl = 600; max_ttl = 7200; default_ttl_ssh = 1800; max_ttl_ssh = 7200; pinentry_timeout = 0; workers = 8; pid = 0;
-      min_len = 8; min_nonalpha = 1; allow_preset = presets == 1; allow_loopback = true; s2k_count = 4194304;
-      pinentry = record { items = codes "/usr/bin/pinentry" }; homedir = record { items = codes "." }; run = Server }) else None
+rules_of words = option_and_then if_built (rules_from (settings words))

@@ -1,48 +1,118 @@
-ghost use Rattle.std.specs.Prelude.{◌≡◌, ◌≤◌, length, map, count_by, string_bytes};
+ghost use Rattle.std.specs.Prelude.{◌≡◌, ◌≤◌, length, map, string_bytes};
 ghost use Rattle.std.specs.Result.{result_ok};
-ghost use Rattle.std.specs.Str.{bytes_eq};
-ghost use Rattle.agent_top.specs.Words.{rules_of};
+ghost use Rattle.agent_top.specs.Forms.{form_of, number_or, path_or};
+ghost use Rattle.agent_top.specs.Settings.{settings};
+ghost use Rattle.agent_top.specs.Within.{IsWithin};
+ghost use Rattle.agent_top.specs.Words.{rules_of, rules_from, rules_with, run_of, if_built};
+
+mod forms;
+mod settings;
+#[cfg(test)]
+mod tests;
 
 use arrayvec::ArrayVec;
+use forms::{form_of, number_for, path_of};
 use session_options::{Rules, RunMode};
+use settings::{all_fit, are_distinct, is_given, value_given};
 
-const SERVER: &str = "--server";
-
-const ALLOW_PRESET: &str = "--allow-preset-passphrase";
-
-/// The words of the command line are none that the agent knows.
+/// The words of the command line are none that the agent takes.
 #[derive(Clone, Copy, Debug, PartialEq, Eq)]
 pub enum WordsFault {
     Bad,
 }
 
-/// Reads the words of the command line, without the program's name: `--server` once, and `--allow-preset-passphrase` at
-/// most once.
+/// Reads the words of the command line, without the program's name, as the rules that they mean (GnuPG manual, "agent
+/// options"). `--daemon` and `--load` are refused, since they aren't built yet.
 pub fn read_words(words: &[String]) -> Result<Rules, WordsFault>
     ensures { result_ok result ≡ rules_of (map string_bytes words.now) }
 {
-    let servers = times(words, SERVER);
-    let presets = times(words, ALLOW_PRESET);
-    if servers == 1 && presets <= 1 && words.len() == servers + presets {
-        let mut pinentry = ArrayVec::new();
-        pinentry.try_extend_from_slice(b"/usr/bin/pinentry").unwrap();
-        let mut homedir = ArrayVec::new();
-        homedir.try_extend_from_slice(b".").unwrap();
-        Ok(Rules {
-            default_ttl: 600, max_ttl: 7200, default_ttl_ssh: 1800, max_ttl_ssh: 7200,
-            pinentry_timeout: 0, workers: 8, pid: 0, min_len: 8, min_nonalpha: 1,
-            allow_preset: presets == 1, allow_loopback: true, s2k_count: 4_194_304,
-            pinentry, homedir, run: RunMode::Server,
-        })
-    } else {
-        Err(WordsFault::Bad)
+    rules_from(words).and_then(if_built).ok_or(WordsFault::Bad)
+}
+
+/// The rules, where what they ask for is built. A daemon and a load aren't yet.
+fn if_built(rules: Rules) -> Option<Rules>
+    ensures { result ≡ if_built rules }
+{
+    match rules.run {
+        RunMode::Server => Some(rules),
+        RunMode::Daemon | RunMode::Load(_) => None,
     }
 }
 
-/// How often the word stands among the words.
-fn times(words: &[String], name: &str) -> usize
-    ensures times { result ≡ count_by (λ word. bytes_eq (string_bytes word) name.now) words.now }
-    ensures fits { result ≤ length words.now }
+/// The rules that the words mean.
+fn rules_from(words: &[String]) -> Option<Rules>
+    ensures { result ≡ rules_from (settings (map string_bytes words.now)) }
 {
-    words.iter().filter(|word| word.as_str() == name).count()
+    if !all_fit(words) || !are_distinct(words) {
+        return None;
+    }
+    let run = run_of(words)?;
+    Some(rules_with(words, run))
+}
+
+/// The rules that settings mean, where each has the form of its option.
+#[tactic(auto, unfolding(crate::specs::Forms::form_of))]
+fn rules_with(words: &[String], run: RunMode) -> Rules
+    ensures { result ≡ rules_with (settings (map string_bytes words.now)) run }
+{
+    Rules {
+        default_ttl: number_or(words, "--default-cache-ttl", 600) as u32,
+        max_ttl: number_or(words, "--max-cache-ttl", 7200) as u32,
+        default_ttl_ssh: number_or(words, "--default-cache-ttl-ssh", 1800) as u32,
+        max_ttl_ssh: number_or(words, "--max-cache-ttl-ssh", 7200) as u32,
+        pinentry_timeout: number_or(words, "--pinentry-timeout", 0) as u32,
+        workers: number_or(words, "--workers", 8) as u32,
+        pid: 0,
+        min_len: number_or(words, "--min-passphrase-len", 8) as u8,
+        min_nonalpha: number_or(words, "--min-passphrase-nonalpha", 1) as u8,
+        allow_preset: is_given(words, "--allow-preset-passphrase"),
+        allow_loopback: !is_given(words, "--no-allow-loopback-pinentry"),
+        s2k_count: number_or(words, "--s2k-count", 4_194_304),
+        pinentry: path_or(words, "--pinentry-program", "/usr/bin/pinentry"),
+        homedir: path_or(words, "--homedir", "."),
+        run,
+    }
+}
+
+/// What the words say that the agent is to do, where they say one thing.
+#[tactic(auto, unfolding(crate::specs::Forms::form_of))]
+fn run_of(words: &[String]) -> Option<RunMode>
+    ensures { result ≡ run_of (settings (map string_bytes words.now)) }
+{
+    let server = is_given(words, "--server");
+    let daemon = is_given(words, "--daemon");
+    let load = is_given(words, "--load");
+    let number = number_or(words, "--load", 0) as u32;
+    match (server, daemon, load) {
+        (true, false, false) => Some(RunMode::Server),
+        (false, true, false) => Some(RunMode::Daemon),
+        (false, false, true) => Some(RunMode::Load(number)),
+        _ => None,
+    }
+}
+
+/// The number that an option is given, or else its default.
+fn number_or(words: &[String], name: &str, default: u64) -> u64
+    requires { IsWithin (form_of name.now) default }
+    ensures number { result ≡ number_or default name.now (settings (map string_bytes words.now)) }
+    ensures within { IsWithin (form_of name.now) result }
+{
+    match (form_of(name), value_given(words, name)) {
+        (Some(form), Some(value)) => number_for(form, value).unwrap_or(default),
+        _ => default,
+    }
+}
+
+/// The path that an option is given, or else its default.
+fn path_or(words: &[String], name: &str, default: &str) -> ArrayVec<u8, 255>
+    requires { length default.now ≤ 200 }
+    ensures { result.items ≡ path_or default.now name.now (settings (map string_bytes words.now)) }
+{
+    let mut path = default;
+    if let Some(value) = value_given(words, name) {
+        path = path_of(value).unwrap_or(default);
+    }
+    let mut word = ArrayVec::new();
+    word.try_extend_from_slice(path.as_bytes()).unwrap();
+    word
 }

@@ -21,3 +21,4 @@ pub use options::{OptionAnswer, Options, PinMode, spelling_is_plain};
 pub use rules::{Rules, RunMode};
 pub use table::found;
 pub use text::without_blanks;
+pub use values::number_of;

@@ -32,7 +32,7 @@ pub(crate) fn count_for(rules_count: u64, number: u64) -> Option<u64>
 }
 
 /// The number that a value of 1 to 10 decimal digits is.
-pub(crate) fn number_of(value: &[u8]) -> Option<u64>
+pub fn number_of(value: &[u8]) -> Option<u64>
     ensures { result ≡ number_of value.now }
 {
     if value.is_empty() || value.len() > 10 {

@@ -1,0 +1,51 @@
+-- What an option is given, or else its default, lies within the bounds of its numbers.
+use Rattle.std.specs.Prelude.{◌≤◌, ℕ, ◌&&◌, nat_le, List, codes, unwrap_or, Option, Some, None}
+use Rattle.std.specs.Option.{option_and_then}
+use Rattle.std.proofs.Common.{lit≤}
+use Rattle.std.proofs.lemmas.Bool.{leb-true, and_parts, cond_both}
+use Rattle.session_options.specs.Counts.{IsS2kCount, IsWorkers}
+use Rattle.session_options.specs.Table.{number_of}
+use Rattle.agent_top.specs.Settings.{Setting, value_given}
+use Rattle.agent_top.specs.Forms.{form_of, has_leading_zero, if_between, number_for, number_or}
+use Rattle.agent_top.specs.declared.words.forms.Form.{Form}
+use Rattle.agent_top.specs.declared.words.forms.Form.TheVariants.{Flag, Path, Number}
+
+-- a number that an option of this form may be given
+abbrev pub IsWithin : Option Form → ℕ → Type 0
+IsWithin (Some (Number least greatest)) number = (least ≤ number) × (number ≤ greatest)
+IsWithin _ number = ⊥
+
+-- a number, or else a default, where the default is within the bounds
+between : (least greatest default : ℕ) (number : Option ℕ) → (least ≤ default) × (default ≤ greatest)
+    → (least ≤ unwrap_or (option_and_then (if_between least greatest) number) default)
+    × (unwrap_or (option_and_then (if_between least greatest) number) default ≤ greatest)
+between least greatest default None within = within
+between least greatest default (Some number) within =
+    cond_both (nat_le least number && nat_le number greatest) (Some number) None
+    (λ chosen. (least ≤ unwrap_or chosen default) × (unwrap_or chosen default ≤ greatest))
+    (λ e. let parts = and_parts (nat_le least number) (nat_le number greatest) e in (leb-true least number parts.0, leb-true number greatest parts.1))
+    (λ _. within)
+
+-- a value, or else a default, is within the bounds where the default is
+pub number-within : (form : Option Form) (default : ℕ) (value : Option (List ℕ)) → IsWithin form default
+    → IsWithin form (unwrap_or (option_and_then (number_for form) value) default)
+number-within (Some (Number least greatest)) default None within = within
+number-within (Some (Number least greatest)) default (Some value) within =
+    cond_both (has_leading_zero value) None (option_and_then (if_between least greatest) (number_of value))
+    (λ chosen. (least ≤ unwrap_or chosen default) × (unwrap_or chosen default ≤ greatest))
+    (λ _. within) (λ _. between least greatest default (number_of value) within)
+number-within (Some Flag) default value within = absurd within
+number-within (Some Path) default value within = absurd within
+number-within None default value within = absurd within
+
+pub count-within : (given : List Setting) → IsS2kCount (number_or 4194304 (codes "--s2k-count") given)
+unfolding form_of
+count-within given =
+    let within = number-within (form_of (codes "--s2k-count")) 4194304 (value_given (codes "--s2k-count") given) (lit≤ tt, lit≤ tt) in
+    record { least = within.0; greatest = within.1 }
+
+pub workers-within : (given : List Setting) → IsWorkers (number_or 8 (codes "--workers") given)
+unfolding form_of
+workers-within given =
+    let within = number-within (form_of (codes "--workers")) 8 (value_given (codes "--workers") given) (lit≤ tt, lit≤ tt) in
+    record { least = within.0; greatest = within.1 }
