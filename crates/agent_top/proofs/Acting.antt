@@ -1,5 +1,5 @@
 -- Deeds one after another: what they wrote, and the turns that they took.
-use Rattle.std.proofs.Common.{◌≡◌, ◌≤◌, ℕ, List, [], ◌∷◌, ◌++◌, Option, Ok, Err, refl, ap, sym, ◌∙◌, subst, arith, append-nil}
+use Rattle.std.proofs.Common.{◌≡◌, ◌≤◌, ℕ, List, [], ◌∷◌, ◌++◌, Option, Ok, refl, ap, sym, ◌∙◌, subst, arith, append-nil}
 use Rattle.std.proofs.lemmas.Grind.{flat_map-append}
 use Rattle.agent_ports.specs.Sides.{with_bytes}
 use Rattle.agent_ports.proofs.Given.{given_none, given_then}
@@ -7,10 +7,9 @@ use Rattle.agent_ports.proofs.Told.{with_bytes-append}
 use Rattle.assuan_server.specs.Connections.{Connection}
 use Rattle.cache_policy.specs.declared.life.Limits.{Limits}
 use Rattle.agent_top.specs.Cache.{Standing, Turns, none, wrote, inquired, turned, refused}
-use Rattle.agent_top.specs.Deeds.{Deed, Wrote, Turned, Inquired, written, output_of}
-use Rattle.agent_top.specs.Steps.{HasStopped, HasSaid, IsKept, Point, point, HasActed}
+use Rattle.agent_top.specs.Deeds.{Deed, Wrote, written, output_of}
+use Rattle.agent_top.specs.Steps.{HasStopped, HasSaid, Point, point, HasActed}
 use Rattle.agent_top.specs.declared.cache.Cache.{Cache}
-use Rattle.agent_top.specs.declared.reply.WriteFault.{WriteFault}
 use Rattle.agent_top.proofs.Saying.{with_nothing}
 
 -- one list of turns, and then another

@@ -1,11 +1,11 @@
 -- Answers that are written, whole or in part, after all else was done for their requests.
-use Rattle.std.proofs.Common.{◌≡◌, ◌≤◌, ℕ, List, [], ◌∷◌, ◌++◌, Option, Ok, Err, refl, ap, sym, ◌∙◌, subst, arith}
+use Rattle.std.proofs.Common.{ℕ, List, [], ◌∷◌, ◌++◌, Option, Ok, Err, refl, ap, sym, subst, arith}
 use Rattle.agent_commands.specs.declared.request.Request.{Request}
 use Rattle.assuan_line.specs.Next.{Reader}
 use Rattle.assuan_server.specs.Connections.{Connection}
 use Rattle.session_options.specs.Choices.{Choices}
 use Rattle.session_options.specs.declared.rules.Rules.{Rules}
-use Rattle.agent_top.specs.Deeds.{Deed, Wrote, IsCut}
+use Rattle.agent_top.specs.Deeds.{Wrote}
 use Rattle.agent_top.specs.Steps.{IsText, HasSaid, HasStopped, Point, point, Fits, HasPrepared, HasBroken, HasAnswered}
 use Rattle.agent_top.specs.declared.cache.Cache.{Cache}
 use Rattle.agent_top.specs.declared.command.Answer.{Answer}

@@ -1,5 +1,5 @@
 -- What a question for a passphrase is given is what is live.
-use Rattle.std.proofs.Common.{◌≡◌, ℕ, List, [], ◌∷◌, Option, Some, None, refl, sym, ap, subst}
+use Rattle.std.proofs.Common.{◌≡◌, ℕ, List, [], ◌∷◌, Option, Some, None, refl, ap, subst}
 use Rattle.std.specs.Option.{option_map}
 use Rattle.cache_policy.specs.declared.life.Limits.{Limits}
 use Rattle.cache_policy.specs.declared.mark.MarkReply.{MarkReply}
@@ -30,7 +30,7 @@ module _ (limits : Limits) (id : List ℕ) (reading : ℕ) (cache : Cache) (stan
       let secret_is : entry.secret ≡ secret = cc same in (
         marked standing (ask id) (reply.Given entry.number) reading,
         turned (reply.Given entry.number)
-        (subst (λ s. IsRuled limits (next_history standing.history) (moment_of standing.latest reading) (ask id) (Given s) (reply.Given entry.number)) secret_is (given entry is)) none,
+            (subst (λ s. IsRuled limits (next_history standing.history) (moment_of standing.latest reading) (ask id) (Given s) (reply.Given entry.number)) secret_is (given entry is)) none,
         kept (reply.Given entry.number),
       )
   given_of secret None is same = absurd (cc same)

@@ -6,7 +6,7 @@ use Rattle.agent_ports.specs.Sides.{with_bytes, WhereTold}
 use Rattle.agent_ports.specs.declared.link.Sent.TheVariants.{Failed}
 use Rattle.agent_ports.proofs.Given.{given_none}
 use Rattle.agent_ports.proofs.Told.{told_then, told_both, told_same}
-use Rattle.assuan_line.specs.Next.{Reader, held, ended_by}
+use Rattle.assuan_line.specs.Next.{held, ended_by}
 use Rattle.assuan_line.specs.declared.reader.Took.{Took}
 use Rattle.assuan_line.specs.declared.reader.Took.TheVariants as took
 use Rattle.assuan_server.specs.Connections.{Connection}
@@ -16,10 +16,9 @@ use Rattle.assuan_server.specs.Written.{HasWritten, line_of, status_text}
 use Rattle.assuan_server.specs.declared.inquiry.InquiredSecret.{InquiredSecret}
 use Rattle.assuan_server.specs.declared.inquiry.InquiredSecret.TheVariants as inquired
 use Rattle.agent_top.specs.Cache.{wrote as turns_wrote, inquired as turns_inquired, none as no_turns}
-use Rattle.agent_top.specs.Deeds.{Deed, Wrote, Inquired, IsCut}
-use Rattle.agent_top.specs.Exchanges.{question}
+use Rattle.agent_top.specs.Deeds.{Wrote, Inquired}
 use Rattle.agent_top.specs.Reading.{Takes, none, wrote, inquired as taken_inquired, ReadsAnswer}
-use Rattle.agent_top.specs.Steps.{HasSaid, HasStopped, Point, point, here, IsTotal, HasActed, HasTaken, HasAsked, HasNotAsked, IsInquired, IsBrought}
+use Rattle.agent_top.specs.Steps.{HasSaid, HasStopped, point, here, IsTotal, HasAsked, HasNotAsked, IsInquired, IsBrought}
 use Rattle.agent_top.specs.declared.cache.Cache.{Cache}
 use Rattle.agent_top.specs.declared.command.Brought.{Brought}
 use Rattle.agent_top.specs.declared.command.Brought.TheVariants.{Passphrase, Without}

@@ -1,5 +1,5 @@
 -- Inquiries that brought no passphrase.
-use Rattle.std.proofs.Common.{◌≡◌, ◌≤◌, ℕ, List, None, refl, sym, ap, subst}
+use Rattle.std.proofs.Common.{◌≡◌, ◌≤◌, ℕ, List, None, sym, subst}
 use Rattle.assuan_line.specs.Next.{Reader, held}
 use Rattle.assuan_server.specs.Inquiries.{Outcome, AnswersSecret, ended_of_secret}
 use Rattle.assuan_server.specs.declared.inquiry.InquiredSecret.{InquiredSecret}
@@ -10,7 +10,7 @@ use Rattle.agent_top.specs.declared.command.Answer.{Answer}
 use Rattle.agent_top.specs.declared.reply.Reply.{Reply}
 use Rattle.agent_top.specs.declared.session.SessionEnd.TheVariants.{ReadFault}
 use Rattle.agent_top.specs.declared.session.Went.{Went}
-use Rattle.agent_top.specs.declared.session.Went.TheVariants.{On, End}
+use Rattle.agent_top.specs.declared.session.Went.TheVariants.{End}
 use Rattle.agent_top.proofs.Preparing.{answer_is}
 
 pub lacks : (came : InquiredSecret) (outcome : Outcome) (answer : Answer) (reply : Reply) (went : Went) → answer.reply ≡ reply → answer.went ≡ went → AnswersSecret came outcome → ((text : List ℕ) → IsText reply text → Fails outcome text went) → ((before after : Reader) → after.ended ≡ ended_of_secret came → (after.ended ≡ None → held after ≤ held before) → Fits went before after) → (went ≡ End ReadFault → came ≡ inquired.ReadFault) → Lacks came answer

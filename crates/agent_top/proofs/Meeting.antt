@@ -1,18 +1,18 @@
 -- A session on a connection, from its greeting on.
-use Rattle.std.proofs.Common.{◌≡◌, ◌≤◌, ◌+◌, ℕ, List, [], ◌∷◌, ◌++◌, length, Option, None, Ok, Err, refl, ap, sym, ◌∙◌, subst, arith, append-nil}
+use Rattle.std.proofs.Common.{◌≡◌, ◌≤◌, ◌+◌, ℕ, List, [], ◌∷◌, length, Option, None, Ok, Err, refl, ap, sym, ◌∙◌, subst, arith, append-nil}
 use Rattle.agent_ports.specs.Sides.{Side, with_bytes, WhereTold}
 use Rattle.agent_ports.proofs.Given.{given_none}
 use Rattle.agent_ports.proofs.Told.{told_same, told_then}
 use Rattle.assuan_line.specs.Next.{Reader}
 use Rattle.assuan_server.specs.Connections.{Connection}
 use Rattle.assuan_server.specs.Written.{line_of, greeting}
-use Rattle.session_options.specs.Choices.{Choices, at_start}
+use Rattle.session_options.specs.Choices.{at_start}
 use Rattle.session_options.specs.declared.rules.Rules.{Rules}
 use Rattle.agent_top.specs.Cache.{at_start as empty_cache, limits_of, Turns, none, wrote}
 use Rattle.agent_top.specs.Deeds.{Wrote}
 use Rattle.agent_top.specs.Reading.{budget}
-use Rattle.agent_top.specs.Session.{Session, greeted, cut_greeting, Talk, Leaves, HasServed, outside}
-use Rattle.agent_top.specs.Steps.{HasSaid, HasStopped, IsKept, Point, point, here, IsTotal, HasActed, HasTalked, HasMet}
+use Rattle.agent_top.specs.Session.{Session, greeted, cut_greeting, Talk, Leaves}
+use Rattle.agent_top.specs.Steps.{HasSaid, HasStopped, IsKept, Point, point, here, IsTotal, HasTalked, HasMet}
 use Rattle.agent_top.specs.declared.cache.Cache.{Cache}
 use Rattle.agent_top.specs.declared.reply.WriteFault.{WriteFault}
 use Rattle.agent_top.specs.declared.session.SessionEnd.{SessionEnd}
@@ -37,18 +37,18 @@ met_cut rules start now later count fault said =
         turns = wrote none;
         session = subst (λ (s : Side). WhereTold start.input.bytes s.bytes (λ bytes left. (rest : List ℕ) × Session rules bytes (Wrote stopped.sent ∷ []) CutOff rest × Leaves CutOff rest left × (length bytes ≤ budget + length left))) (sym said.input)
             (told_same start.input.bytes _ (λ bytes. (
-            bytes,
-            cut_greeting (record {
-              before = [];
-              sent = stopped.sent;
-              unsent = stopped.unsent;
-              more = [];
-              whole = ap (λ (x : List ℕ). Wrote x ∷ []) stopped.split;
-              done_is = refl;
-            }),
-            ([], refl),
-            omega arith,
-          )));
+              bytes,
+              cut_greeting (record {
+                before = [];
+                sent = stopped.sent;
+                unsent = stopped.unsent;
+                more = [];
+                whole = ap (λ (x : List ℕ). Wrote x ∷ []) stopped.split;
+                done_is = refl;
+              }),
+              ([], refl),
+              omega arith,
+            )));
       };
       read_fault = λ e. absurd (cc e);
       write_fault = λ e. stopped.rose;

@@ -1,5 +1,5 @@
 -- Requests that are prepared to be answered.
-use Rattle.std.proofs.Common.{◌≡◌, ◌≤◌, ℕ, List, [], ◌∷◌, ◌++◌, Option, None, Ok, Err, refl, sym, ap, ◌∙◌, subst, arith, append_assoc}
+use Rattle.std.proofs.Common.{◌≡◌, ℕ, List, [], ◌∷◌, Option, None, refl, sym, ap, ◌∙◌, subst, arith}
 use Rattle.agent_ports.specs.Readings.{HasGiven}
 use Rattle.agent_commands.specs.declared.request.Request.{Request}
 use Rattle.assuan_line.specs.Next.{held}
@@ -8,17 +8,16 @@ use Rattle.cache_policy.specs.declared.mark.MarkStep.{MarkStep}
 use Rattle.session_options.specs.Choices.{Choices}
 use Rattle.session_options.specs.declared.rules.Rules.{Rules}
 use Rattle.agent_top.specs.Cache.{Standing, Turns}
-use Rattle.agent_top.specs.Deeds.{Came, Deed, Wrote, Turned, IsCut}
+use Rattle.agent_top.specs.Deeds.{Came, Wrote, Turned}
 use Rattle.agent_top.specs.Exchanges.{Exchange}
-use Rattle.agent_top.specs.Steps.{IsText, HasSaid, HasStopped, IsKept, Point, point, HasActed, HasTaken, Fits, HasPrepared, HasBroken}
+use Rattle.agent_top.specs.Steps.{IsText, IsKept, Point, point, HasActed, HasPrepared}
 use Rattle.agent_top.specs.declared.cache.Cache.{Cache}
 use Rattle.agent_top.specs.declared.command.Answer.{Answer}
 use Rattle.agent_top.specs.declared.reply.Reply.{Reply}
-use Rattle.agent_top.specs.declared.reply.WriteFault.{WriteFault}
 use Rattle.agent_top.specs.declared.session.SessionEnd.TheVariants.{Bye}
 use Rattle.agent_top.specs.declared.session.Went.{Went}
 use Rattle.agent_top.specs.declared.session.Went.TheVariants.{On, End}
-use Rattle.agent_top.proofs.Acting.{acted_none, acted_then, acted_wrote}
+use Rattle.agent_top.proofs.Acting.{acted_none}
 use Rattle.agent_top.proofs.Saying.{with_nothing}
 use Rattle.agent_top.proofs.Taking.{taken_none, taken_turned}
 

@@ -1,5 +1,5 @@
 -- Presets, whose passphrase stands in the line or is asked for.
-use Rattle.std.proofs.Common.{◌≡◌, ℕ, true, List, [], ◌∷◌, ◌++◌, None, Some, refl, sym, ap, ◌∙◌, arith, subst}
+use Rattle.std.proofs.Common.{◌≡◌, ℕ, true, List, [], ◌∷◌, ◌++◌, None, sym, ap, subst}
 use Rattle.agent_commands.specs.declared.request.CacheCommand.TheVariants.{PresetPassphrase}
 use Rattle.agent_commands.specs.declared.request.Request.TheVariants.{Cache}
 use Rattle.assuan_server.specs.Inquiries.{Data, Cancelled}
@@ -8,11 +8,11 @@ use Rattle.cache_policy.specs.declared.life.Life.TheVariants.{Endless}
 use Rattle.session_options.specs.Choices.{Choices}
 use Rattle.session_options.specs.declared.rules.Rules.{Rules}
 use Rattle.agent_top.specs.Deeds.{Came, Wrote, Turned, Inquired}
-use Rattle.agent_top.specs.Exchanges.{Exchange, preset, brought, not_brought, cancelled, Stores, put, question, failed}
-use Rattle.agent_top.specs.Steps.{IsText, Point, HasActed, HasTaken, Fits, HasPrepared, HasBroken, HasAsked, HasLacked, HasNotAsked}
+use Rattle.agent_top.specs.Exchanges.{brought, not_brought, cancelled, Stores, put, question, failed}
+use Rattle.agent_top.specs.Steps.{IsText, Point, HasActed, Fits, HasPrepared, HasBroken, HasAsked, HasLacked, HasNotAsked}
 use Rattle.agent_top.specs.declared.command.Answer.{Answer}
 use Rattle.agent_top.specs.declared.reply.Reply.{Reply}
-use Rattle.agent_top.specs.declared.session.Went.TheVariants.{On, End}
+use Rattle.agent_top.specs.declared.session.Went.TheVariants.{On}
 use Rattle.agent_top.proofs.Acting.{acted_then}
 use Rattle.agent_top.proofs.Preparing.{answer_is}
 use Rattle.agent_top.proofs.Taking.{taken_then, taken_turned}

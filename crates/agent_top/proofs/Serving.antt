@@ -1,5 +1,5 @@
 -- A session that is under way, and what each way out of its loop makes of it.
-use Rattle.std.proofs.Common.{◌≡◌, ◌≤◌, ◌+◌, ℕ, List, [], ◌∷◌, ◌++◌, length, Option, Some, None, Ok, Err, refl, ap, sym, ◌∙◌, subst, arith, append_assoc, append-nil}
+use Rattle.std.proofs.Common.{◌≡◌, ◌≤◌, ◌+◌, ℕ, List, [], ◌∷◌, ◌++◌, length, Option, Some, None, Ok, Err, refl, ap, sym, ◌∙◌, subst, arith, append_assoc}
 use Rattle.agent_ports.specs.Counts.{Rose}
 use Rattle.agent_ports.specs.Sides.{WhereTold}
 use Rattle.agent_ports.proofs.Told.{told_then, told_both, told_same}
@@ -7,18 +7,16 @@ use Rattle.assuan_line.specs.Next.{Reader, ended_by}
 use Rattle.assuan_line.specs.declared.reader.Took.{Took}
 use Rattle.assuan_line.specs.declared.reader.Took.TheVariants as took
 use Rattle.assuan_server.specs.Connections.{Connection}
-use Rattle.assuan_server.specs.Errors.{error_text}
 use Rattle.assuan_server.specs.Requests.{IsNextRequest, is_ignored}
 use Rattle.assuan_server.specs.declared.errors.Code.TheVariants.{LineTooLong}
 use Rattle.agent_commands.specs.Requests.{request_of}
 use Rattle.session_options.specs.Choices.{Choices}
 use Rattle.session_options.specs.declared.rules.Rules.{Rules}
-use Rattle.agent_top.specs.Deeds.{Deed, Wrote, IsCut}
+use Rattle.agent_top.specs.Deeds.{Deed, Wrote}
 use Rattle.agent_top.specs.Exchanges.{failed}
 use Rattle.agent_top.specs.Reading.{ReadsRequest, Takes}
 use Rattle.agent_top.specs.Session.{Talk, goes_on, over, ended, spent, read_fault, too_long, cut, cut_too_long, Leaves}
-use Rattle.agent_top.specs.Steps.{HasSaid, HasStopped, Point, point, here, IsTotal, HasActed, HasRead, HasTaken, Fits, HasAnswered, HasBroken, HasTalked}
-use Rattle.agent_top.specs.declared.cache.Cache.{Cache}
+use Rattle.agent_top.specs.Steps.{HasSaid, HasStopped, Point, point, here, IsTotal, HasActed, HasRead, Fits, HasAnswered, HasBroken, HasTalked}
 use Rattle.agent_top.specs.declared.reply.WriteFault.{WriteFault}
 use Rattle.agent_top.specs.declared.session.SessionEnd.{SessionEnd}
 use Rattle.agent_top.specs.declared.session.SessionEnd.TheVariants.{Bye, Ended, TooLong, Spent, ReadFault}

@@ -1,18 +1,14 @@
 -- Bytes that were read: what is said of them one call after another, and the lines that inquiries took.
-use Rattle.std.proofs.Common.{◌≡◌, ◌≤◌, ◌<◌, ◌+◌, ℕ, Bool, List, [], ◌∷◌, ◌++◌, length, Option, None, Some, refl, ap, sym, ◌∙◌, subst, arith}
+use Rattle.std.proofs.Common.{◌≡◌, ℕ, Bool, List, [], ◌∷◌, ◌++◌, length, Option, None, refl, ap, sym, subst, arith}
 use Rattle.agent_ports.specs.Sides.{Side, WhereTold}
-use Rattle.agent_ports.proofs.Told.{told_same, told_then, told_both}
+use Rattle.agent_ports.proofs.Told.{told_same, told_then}
 use Rattle.assuan_line.specs.Next.{Reader, ended_by}
 use Rattle.assuan_line.specs.declared.reader.Took.{Took}
 use Rattle.assuan_line.specs.declared.reader.Took.TheVariants as took
-use Rattle.assuan_server.specs.Connections.{Connection}
-use Rattle.assuan_server.specs.Inquiries.{Outcome, Inquiry, is_passing}
 use Rattle.assuan_server.specs.Passing.{Comes, Says}
-use Rattle.assuan_server.specs.Requests.{IsNextRequest}
-use Rattle.agent_top.specs.Deeds.{Deed, Wrote, Turned, Inquired}
-use Rattle.agent_top.specs.Reading.{budget, Reads, line, too_long, end, spent, fault, ReadsPast, ReadsRequest, ReadsAnswer, Takes, none, wrote, turned, inquired}
-use Rattle.agent_top.specs.Steps.{Point, point, here, IsTotal, HasRead, HasTaken}
-use Rattle.agent_top.specs.declared.cache.Cache.{Cache}
+use Rattle.agent_top.specs.Deeds.{Deed, Wrote, Turned}
+use Rattle.agent_top.specs.Reading.{Reads, line, too_long, end, spent, fault, ReadsPast, Takes, none, wrote, turned, inquired}
+use Rattle.agent_top.specs.Steps.{Point, here, IsTotal, HasRead, HasTaken}
 
 -- nothing was read
 pub read_none : (start now : Point) (fact : ℕ → List ℕ → List ℕ → Type 0) → now.conn.input ≡ start.conn.input → now.conn.reader ≡ start.conn.reader → ((total : ℕ) (rest : List ℕ) → fact total rest rest) → HasRead start now fact

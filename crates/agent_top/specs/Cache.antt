@@ -1,5 +1,5 @@
 -- The cache of the one session that is served so far, and its turns. This is this project's own.
-use Rattle.std.specs.Prelude.{◌≡◌, ℕ, List, [], ◌∷◌, length, false, Some, None}
+use Rattle.std.specs.Prelude.{◌≡◌, ℕ, List, [], ◌∷◌, false, Some, None}
 use Rattle.agent_ports.specs.declared.session.SessionId.{SessionId}
 use Rattle.cache_policy.specs.declared.life.Limits.{Limits}
 use Rattle.cache_policy.specs.declared.mark.Mark.{Mark}

@@ -64,12 +64,7 @@ impl Cache {
     }
 
     /// Stores a passphrase for every mode, without a ttl. Where there is no memory for it, all stays as it is.
-    pub(crate) fn put(
-        &mut self,
-        reading: u64,
-        id: CacheId,
-        secret: Secret,
-    ) -> Result<(), NoMemory>
+    pub(crate) fn put(&mut self, reading: u64, id: CacheId, secret: Secret) -> Result<(), NoMemory>
         ensures ok { OnOk result ((standing : Standing) → IsKept standing self.old
             → IsKept (marked standing (put id secret) Done reading) self.new) }
         ensures err { OnErr result ((standing : Standing) → IsKept standing self.old → IsKept standing self.new) }

@@ -62,8 +62,8 @@ pub(crate) fn carry_out<L: Link, C: Clock>(
     request: Request,
     rules: &Rules,
     options: &mut Options,
-    cache: &mut Cache,
     conn: &mut Conn<'_, L>,
+    cache: &mut Cache,
     clock: &mut C,
 ) -> Result<Answer, WriteFault>
     requires { conn.old.reader.ended ≡ None }
@@ -72,16 +72,16 @@ pub(crate) fn carry_out<L: Link, C: Clock>(
 {
     match request {
         Request::Bad(code) => Ok(Answer::failed(code)),
-        Request::Cache(command) => run(command, rules, options, cache, conn, clock),
+        Request::Cache(command) => run_cache(command, rules, options, conn, cache, clock),
     }
 }
 
-fn run<L: Link, C: Clock>(
+fn run_cache<L: Link, C: Clock>(
     command: CacheCommand,
     rules: &Rules,
     options: &mut Options,
-    cache: &mut Cache,
     conn: &mut Conn<'_, L>,
+    cache: &mut Cache,
     clock: &mut C,
 ) -> Result<Answer, WriteFault>
     requires { conn.old.reader.ended ≡ None }
@@ -99,11 +99,15 @@ fn run<L: Link, C: Clock>(
         CacheCommand::Help => Ok(Answer::on(Reply::Help)),
         CacheCommand::SetOption { text } => Ok(Answer::on(option_reply(options.set(&text)))),
         CacheCommand::GetInfo(info) => Ok(Answer::on(info_reply(info, rules))),
-        CacheCommand::GetPassphrase { plain, no_ask, id, texts, .. } => {
-            Ok(get_passphrase(plain, no_ask, id, texts, cache, clock))
-        }
+        CacheCommand::GetPassphrase {
+            plain,
+            no_ask,
+            id,
+            texts,
+            ..
+        } => Ok(get_passphrase(plain, no_ask, id, texts, cache, clock)),
         CacheCommand::PresetPassphrase { id, life, secret } => {
-            preset_passphrase(id, life, secret, rules, cache, conn, clock)
+            preset_passphrase(id, life, secret, rules, conn, cache, clock)
         }
     }
 }
@@ -170,8 +174,8 @@ fn preset_passphrase<L: Link, C: Clock>(
     life: Life,
     secret: Option<Secret>,
     rules: &Rules,
-    cache: &mut Cache,
     conn: &mut Conn<'_, L>,
+    cache: &mut Cache,
     clock: &mut C,
 ) -> Result<Answer, WriteFault>
     requires { conn.old.reader.ended ≡ None }
@@ -187,15 +191,15 @@ fn preset_passphrase<L: Link, C: Clock>(
     }
     match secret {
         Some(secret) => Ok(Answer::on(store(id, secret, cache, clock))),
-        None => preset_inquired(id, cache, conn, clock),
+        None => preset_inquired(id, conn, cache, clock),
     }
 }
 
 /// Asks the client for the passphrase that it presets.
 fn preset_inquired<L: Link, C: Clock>(
     id: CacheId,
-    cache: &mut Cache,
     conn: &mut Conn<'_, L>,
+    cache: &mut Cache,
     clock: &mut C,
 ) -> Result<Answer, WriteFault>
     requires { conn.old.reader.ended ≡ None }
@@ -250,7 +254,10 @@ fn passphrase_of(inquired: InquiredSecret) -> Result<Brought, WriteFault>
         InquiredSecret::Cancelled => Answer::failed(Code::Cancelled),
         InquiredSecret::TooMuch => Answer::failed(Code::TooMuch),
         InquiredSecret::Unexpected => Answer::failed(Code::Unexpected),
-        InquiredSecret::TooLong => Answer::last(Reply::Failed(Code::LineTooLong), SessionEnd::TooLong),
+        InquiredSecret::TooLong => Answer::last(
+            Reply::Failed(Code::LineTooLong),
+            SessionEnd::TooLong,
+        ),
         InquiredSecret::Ended => Answer::last(Reply::Nothing, SessionEnd::Ended),
         InquiredSecret::Spent => Answer::last(Reply::Nothing, SessionEnd::Spent),
         InquiredSecret::ReadFault => Answer::last(Reply::Nothing, SessionEnd::ReadFault),

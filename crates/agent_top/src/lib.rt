@@ -11,3 +11,5 @@ mod words;
 pub use top::{run_agent, run_server};
 pub use words::{WordsFault, read_words};
 
+#[cfg(test)]
+mod tests;

@@ -36,10 +36,7 @@ pub(crate) enum Reply {
 pub(crate) struct WriteFault;
 
 /// Writes a reply.
-pub(crate) fn write_reply<L: Link>(
-    conn: &mut Conn<'_, L>,
-    reply: &Reply,
-) -> Result<(), WriteFault>
+pub(crate) fn write_reply<L: Link>(conn: &mut Conn<'_, L>, reply: &Reply) -> Result<(), WriteFault>
     ensures { (text : List ℕ) × IsText reply.now text × HasSaid text conn.old result conn.new }
 {
     match reply {
@@ -50,7 +47,10 @@ pub(crate) fn write_reply<L: Link>(
         Reply::Version => write_data(conn, VERSION),
         Reply::Number(number) => write_data(conn, Buffer::new().format(*number).as_bytes()),
         Reply::Given { grant, plain: true } => write_data(conn, grant.secret().bytes()),
-        Reply::Given { grant, plain: false } => done(conn.ok(&upper_hex(grant.secret().bytes()))),
+        Reply::Given {
+            grant,
+            plain: false,
+        } => done(conn.ok(&upper_hex(grant.secret().bytes()))),
         Reply::Failed(code) => done(conn.err(*code, Origin::Agent)),
     }
 }

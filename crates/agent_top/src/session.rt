@@ -92,15 +92,15 @@ fn serve_conn<L: Link, C: Clock>(
     done(conn.greet())?;
     let mut options = Options::new(rules);
     let mut cache = Cache::new(alloc, limits_of(rules));
-    serve_requests(rules, &mut options, &mut cache, conn, clock)
+    serve_requests(rules, &mut options, conn, &mut cache, clock)
 }
 
 /// Answers requests up to the end of the session.
 fn serve_requests<L: Link, C: Clock>(
     rules: &Rules,
     options: &mut Options,
-    cache: &mut Cache,
     conn: &mut Conn<'_, L>,
+    cache: &mut Cache,
     clock: &mut C,
 ) -> Result<SessionEnd, WriteFault>
     requires { conn.old.reader.ended ≡ None }
@@ -109,7 +109,7 @@ fn serve_requests<L: Link, C: Clock>(
 {
     loop {
         match conn.next_request() {
-            Took::Line(line) => match answer(&line, rules, options, cache, conn, clock)? {
+            Took::Line(line) => match answer(&line, rules, options, conn, cache, clock)? {
                 Went::On => {}
                 Went::End(end) => return Ok(end),
             },
@@ -129,8 +129,8 @@ fn answer<L: Link, C: Clock>(
     line: &Line,
     rules: &Rules,
     options: &mut Options,
-    cache: &mut Cache,
     conn: &mut Conn<'_, L>,
+    cache: &mut Cache,
     clock: &mut C,
 ) -> Result<Went, WriteFault>
     requires { conn.old.reader.ended ≡ None }
@@ -138,7 +138,7 @@ fn answer<L: Link, C: Clock>(
         (point conn.old (C.later clock.old) (C.readings clock.old) cache.old) result
         options.new (point conn.new (C.later clock.new) (C.readings clock.new) cache.new) }
 {
-    let answer = carry_out(read_request(line), rules, options, cache, conn, clock)?;
+    let answer = carry_out(read_request(line), rules, options, conn, cache, clock)?;
     write_reply(conn, &answer.reply)?;
     Ok(answer.went)
 }

@@ -1,4 +1,3 @@
-use Rattle.std.proofs.Common.{◌≡◌, refl}
 use Rattle.agent_top.specs.Exchanges.{refused}
 use Rattle.agent_top.specs.declared.reply.Reply.TheVariants.{Failed}
 use Rattle.agent_top.proofs.Preparing.{prepared_on}

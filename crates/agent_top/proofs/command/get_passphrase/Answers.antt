@@ -1,12 +1,9 @@
-use Rattle.std.proofs.Common.{◌≡◌, [], ◌∷◌, ◌∙◌, refl, sym, subst}
-use Rattle.agent_commands.specs.declared.request.CacheCommand.TheVariants.{GetPassphrase}
-use Rattle.agent_commands.specs.declared.request.Request.TheVariants.{Cache}
+use Rattle.std.proofs.Common.{◌∙◌, refl, sym}
 use Rattle.agent_ports.proofs.Given.{given_one}
 use Rattle.assuan_server.specs.declared.errors.Code.TheVariants.{NoData, NotSupported}
-use Rattle.agent_top.specs.Deeds.{Given, Empty, Wrote, Turned}
-use Rattle.agent_top.specs.Exchanges.{Exchange, ask, not_quiet, no_id, given, empty}
+use Rattle.agent_top.specs.Deeds.{Given, Empty}
+use Rattle.agent_top.specs.Exchanges.{ask, not_quiet, no_id, given, empty}
 use Rattle.agent_top.specs.declared.reply.Reply.TheVariants.{Failed}
-use Rattle.agent_top.specs.declared.session.Went.TheVariants.{On}
 use Rattle.agent_top.proofs.Asking.{turn_given, turn_empty}
 use Rattle.agent_top.proofs.Preparing.{prepared_on, prepared_turned, acted_turned}
 use Rattle.agent_top.proofs.command.get_passphrase.Goals as goal

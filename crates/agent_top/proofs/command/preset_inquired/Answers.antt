@@ -1,4 +1,4 @@
-use Rattle.std.proofs.Common.{◌≡◌, refl}
+use Rattle.std.proofs.Common.{refl}
 use Rattle.std.proofs.lemmas.Result.{err_from_is_err_and}
 use Rattle.agent_top.proofs.Presetting.{stored_brought, lacked, not_asked}
 use Rattle.agent_top.proofs.command.preset_inquired.Goals as goal

@@ -1,7 +1,6 @@
-use Rattle.std.proofs.Common.{◌≡◌, refl}
+use Rattle.std.proofs.Common.{refl}
 use Rattle.assuan_server.specs.declared.errors.Code.TheVariants.{NotSupported}
 use Rattle.agent_top.specs.declared.reply.Reply.TheVariants.{Failed}
-use Rattle.agent_top.specs.Deeds.{Turned}
 use Rattle.agent_top.specs.Exchanges.{put, other_life, not_allowed, preset}
 use Rattle.agent_top.proofs.Preparing.{prepared_on, prepared_turned}
 use Rattle.agent_top.proofs.command.preset_passphrase.Goals as goal

@@ -1,10 +1,9 @@
-use Rattle.std.proofs.Common.{◌≡◌, [], ◌∷◌, refl, sym, subst}
+use Rattle.std.proofs.Common.{[], ◌∷◌, refl, sym, subst}
 use Rattle.agent_ports.proofs.Given.{given_one}
-use Rattle.assuan_server.specs.declared.errors.Code.TheVariants.{NoMemory}
 use Rattle.cache_policy.specs.declared.mark.MarkReply.TheVariants as reply
 use Rattle.agent_top.specs.Cache.{marked, done, turned, refused, none}
 use Rattle.agent_top.specs.Deeds.{Done, Refused, Wrote, Turned}
-use Rattle.agent_top.specs.Exchanges.{Stores, stored, no_memory, put, failed}
+use Rattle.agent_top.specs.Exchanges.{Stores, stored, no_memory, put}
 use Rattle.agent_top.proofs.Preparing.{acted_turned}
 use Rattle.agent_top.proofs.command.store.Goals as goal
 
@@ -15,10 +14,10 @@ returns-in-Ok g c = (
   λ conn. acted_turned (put c.args.id c.args.secret) Done conn _ _ _ _ c.now.result _ _
       (given_one _ _ _ _ c.now.result c.now.ensures.rose c.now.ensures.told c.now.ensures.later) c.put.ensures.limits
       (λ standing kept. (
-      marked standing (put c.args.id c.args.secret) reply.Done c.now.result,
-      turned reply.Done (done refl) none,
-      c.in-Ok.ensures.ok standing kept,
-    )),
+        marked standing (put c.args.id c.args.secret) reply.Done c.now.result,
+        turned reply.Done (done refl) none,
+        c.in-Ok.ensures.ok standing kept,
+      )),
 )
 
 pub returns-in-Err : goal.returns-in-Err

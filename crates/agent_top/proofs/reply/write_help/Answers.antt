@@ -1,8 +1,7 @@
-use Rattle.std.proofs.Common.{◌≡◌, ◌∙◌, Ok, arith, refl, subst, take}
+use Rattle.std.proofs.Common.{◌≡◌, arith}
 use Rattle.std.proofs.lemmas.Result.{err_from_is_err_and}
 use Rattle.agent_top.specs.Exchanges.{ok}
-use Rattle.agent_top.specs.Steps.{HasSaid}
-use Rattle.agent_top.proofs.Helping.{one_more, stopped, comments}
+use Rattle.agent_top.proofs.Helping.{one_more, stopped}
 use Rattle.agent_top.proofs.Saying.{said_nothing, said_then}
 use Rattle.agent_top.proofs.reply.write_help.Goals as goal
 

@@ -1,4 +1,3 @@
-use Rattle.std.proofs.Common.{◌≡◌}
 use Rattle.std.proofs.lemmas.Result.{err_from_is_err_and}
 use Rattle.agent_commands.specs.Requests.{request_of}
 use Rattle.agent_top.proofs.Answering.{answered, broken}

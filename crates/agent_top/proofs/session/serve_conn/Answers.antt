@@ -1,6 +1,5 @@
-use Rattle.std.proofs.Common.{◌≡◌, ◌∙◌}
+use Rattle.std.proofs.Common.{◌∙◌}
 use Rattle.std.proofs.lemmas.Result.{err_from_is_err_and}
-use Rattle.agent_top.specs.Steps.{HasTalked}
 use Rattle.agent_top.proofs.Meeting.{met, met_cut}
 use Rattle.agent_top.proofs.session.serve_conn.Goals as goal
 

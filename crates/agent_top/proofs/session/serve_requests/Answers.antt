@@ -1,6 +1,6 @@
-use Rattle.std.proofs.Common.{◌≡◌, ◌≤◌, ◌<◌, arith, refl}
+use Rattle.std.proofs.Common.{◌<◌, arith, refl}
 use Rattle.std.proofs.lemmas.Result.{err_from_is_err_and}
-use Rattle.assuan_line.specs.Next.{held, OnLine}
+use Rattle.assuan_line.specs.Next.{held}
 use Rattle.agent_top.proofs.Serving.{read_request, serves_none, serves_on, is_over, is_broken, at_end, at_spent, at_read_fault, at_too_long, cut_at_too_long}
 use Rattle.agent_top.proofs.session.serve_requests.Goals as goal
 

@@ -1,8 +1,7 @@
-use Rattle.std.proofs.Common.{◌≡◌, refl}
 use Rattle.agent_top.specs.Exchanges.{nop, reset, bye, help_given, option_judged}
 use Rattle.agent_top.specs.declared.reply.Reply.TheVariants.{Ok, Closing, Help}
 use Rattle.agent_top.proofs.Preparing.{prepared_on, prepared_last}
-use Rattle.agent_top.proofs.command.run.Goals as goal
+use Rattle.agent_top.proofs.command.run_cache.Goals as goal
 
 pub returns-in-Nop : goal.returns-in-Nop
 returns-in-Nop g c =

@@ -1,0 +1,394 @@
+ghost use Rattle.std.specs.Prelude.{◌≤◌};
+
+use super::*;
+use agent_ports::{ListClock, MemHost, MemLink, MemSink, MemSource};
+use arrayvec::ArrayVec;
+use session_options::{Rules, RunMode};
+use std::alloc::{AllocError, Global};
+use std::test::Fail;
+
+const GREETING: &str = "OK Pleased to meet you\n";
+
+const NO_DATA: &str = "ERR 67108922 No data <GPG Agent>\n";
+
+const TOO_LONG: &str = "ERR 67109127 Line passed to IPC too long <GPG Agent>\n";
+
+fn rules(allow_preset: bool) -> Rules {
+    Rules {
+        default_ttl: 600,
+        max_ttl: 7200,
+        default_ttl_ssh: 1800,
+        max_ttl_ssh: 7200,
+        pinentry_timeout: 0,
+        workers: 8,
+        pid: 0,
+        min_len: 8,
+        min_nonalpha: 1,
+        allow_preset,
+        allow_loopback: false,
+        s2k_count: 4_194_304,
+        pinentry: ArrayVec::new(),
+        homedir: ArrayVec::new(),
+        run: RunMode::Server,
+    }
+}
+
+/// A session on a link in memory.
+#[derive(Drop)]
+struct Case<'a> {
+    allow_preset: bool,
+    input: &'a str,
+    readings: &'a [u64],
+    /// What is written after the greeting.
+    output: &'a str,
+    status: u8,
+}
+
+/// Whether the session writes what it should, with its status, where reads give at most `piece` bytes.
+fn meets(alloc: Global, case: &Case, piece: usize) -> Result<bool, AllocError>
+    requires { 1 ≤ piece }
+{
+    let input = Vec::from_slice(alloc, case.input.as_bytes())?;
+    let source = MemSource::new(input, piece, Vec::new(alloc));
+    let mut stdio = MemLink::new(source, MemSink::new(alloc, 0, Vec::new(alloc)));
+    let mut host = MemHost::new(ListClock::new(Vec::from_slice(alloc, case.readings)?));
+    let status = run_server(alloc, &rules(case.allow_preset), &mut stdio, &mut host);
+    let want = format!(in alloc; "{GREETING}{}", case.output)?;
+    Ok(status == case.status && stdio.written() == want.as_bytes())
+}
+
+/// Whether it does so however its bytes are cut.
+fn meets_in_any_pieces(alloc: Global, case: &Case) -> Result<bool, AllocError> {
+    Ok(meets(alloc, case, 1)? && meets(alloc, case, 7)? && meets(alloc, case, 4096)?)
+}
+
+/// What is sent, and what is written for it. Presets are allowed.
+const ANSWERS: [(&str, &str); 27] = [
+    (
+        "PRESET_PASSPHRASE id1 -1 736563726574\nGET_PASSPHRASE --no-ask --data id1\nBYE\nNOP\n",
+        "OK\nD secret\nOK\nOK closing connection\n",
+    ),
+    ("GET_PASSPHRASE --no-ask id1\n", NO_DATA),
+    ("get_passphrase --data id1\n", NO_DATA),
+    ("GET_PASSPHRASE X\n", NO_DATA),
+    (
+        "PRESET_PASSPHRASE X -1 61\nGET_PASSPHRASE --no-ask X\n",
+        "OK\nERR 67108922 No data <GPG Agent>\n",
+    ),
+    (
+        "PRESET_PASSPHRASE id1 -1 25\nGET_PASSPHRASE --no-ask --data id1\n",
+        "OK\nD %25\nOK\n",
+    ),
+    (
+        "PRESET_PASSPHRASE id1 -1 c3A9\nGET_PASSPHRASE --no-ask --data id1\nGET_PASSPHRASE id1\n",
+        "OK\nD %C3%A9\nOK\nOK C3A9\n",
+    ),
+    (
+        "OPTION --ttyname = /dev/pts/1\nOPTION s2k-count=65535\ngetinfo version\n",
+        "OK\nERR 67109144 IPC parameter error <GPG Agent>\nD 2.4.0\nOK\n",
+    ),
+    (
+        "OPTION foo=1\nOPTION pinentry-mode=loopback\nRESET\n",
+        "ERR 67109038 Unknown option <GPG Agent>\nERR 67108924 Not supported <GPG Agent>\nOK\n",
+    ),
+    ("FOO\n", "ERR 67109139 Unknown IPC command <GPG Agent>\n"),
+    (
+        "CLEAR_PASSPHRASE id1\n",
+        "ERR 67109139 Unknown IPC command <GPG Agent>\n",
+    ),
+    (
+        "HELP\n",
+        "# NOP\n# RESET\n# BYE\n# HELP\n# OPTION\n# GETINFO\n# GET_PASSPHRASE\n# PRESET_PASSPHRASE\nOK\n",
+    ),
+    (
+        "GETINFO pid\nGETINFO s2k_count\n",
+        "D 0\nOK\nD 4194304\nOK\n",
+    ),
+    (
+        "OPTION s2k-count=65536\nGETINFO s2k_count\n",
+        "OK\nD 4194304\nOK\n",
+    ),
+    ("GETINFO cmd_has_option GET_PASSPHRASE repeat\n", "OK\n"),
+    (
+        "GETINFO cmd_has_option CLEAR_PASSPHRASE mode\n",
+        "ERR 67108924 Not supported <GPG Agent>\n",
+    ),
+    (
+        "GETINFO cmd_has_option GET_PASSPHRASE\n",
+        "ERR 67109144 IPC parameter error <GPG Agent>\n",
+    ),
+    (
+        "GET_PASSPHRASE --data id1 X X X\n",
+        "ERR 67108924 Not supported <GPG Agent>\n",
+    ),
+    (
+        "GET_PASSPHRASE --data id1 X X\n",
+        "ERR 67109144 IPC parameter error <GPG Agent>\n",
+    ),
+    (
+        "PRESET_PASSPHRASE id1 0 61\nPRESET_PASSPHRASE --inquire id1 60\n",
+        "ERR 67108924 Not supported <GPG Agent>\nERR 67108924 Not supported <GPG Agent>\n",
+    ),
+    (
+        "PRESET_PASSPHRASE id1 0 6\n",
+        "ERR 67109144 IPC parameter error <GPG Agent>\n",
+    ),
+    ("", ""),
+    ("NOP", ""),
+    ("NOP\r\n", "OK\n"),
+    ("\n \t\n# x\n  # y\n  nop x\n", "OK\n"),
+    ("BYE x\nFOO\n", "OK closing connection\n"),
+    (
+        "PRESET_PASSPHRASE a -1 31\nPRESET_PASSPHRASE a -1 32\nGET_PASSPHRASE --no-ask --data a\n",
+        "OK\nOK\nD 2\nOK\n",
+    ),
+];
+
+#[test]
+fn requests_are_answered(rt: HostRuntime) -> Result<(), Fail> {
+    for (input, output) in ANSWERS {
+        let case = Case {
+            allow_preset: true,
+            input,
+            readings: &[],
+            output,
+            status: 0,
+        };
+        assert!(rt; meets_in_any_pieces(rt.alloc(), &case)?, "{input}");
+    }
+    Ok(())
+}
+
+#[test]
+fn a_preset_needs_the_word_that_allows_it(rt: HostRuntime) -> Result<(), Fail> {
+    let case = Case {
+        allow_preset: false,
+        input: "PRESET_PASSPHRASE id1 -1 61\nPRESET_PASSPHRASE --inquire id1 -1\nGET_PASSPHRASE --no-ask id1\n",
+        readings: &[],
+        output: "ERR 67108924 Not supported <GPG Agent>\nERR 67108924 Not supported <GPG Agent>\nERR 67108922 No data <GPG Agent>\n",
+        status: 0,
+    };
+    assert!(rt; meets_in_any_pieces(rt.alloc(), &case)?);
+    Ok(())
+}
+
+#[test]
+fn a_passphrase_is_given_up_to_its_greatest_age(rt: HostRuntime) -> Result<(), Fail> {
+    let case = Case {
+        allow_preset: true,
+        input: "PRESET_PASSPHRASE a -1 7E20\nGET_PASSPHRASE --no-ask --data a\nGET_PASSPHRASE --no-ask --data a\n",
+        readings: &[1, 7201, 7202],
+        output: "OK\nD ~ \nOK\nERR 67108922 No data <GPG Agent>\n",
+        status: 0,
+    };
+    assert!(rt; meets_in_any_pieces(rt.alloc(), &case)?);
+    Ok(())
+}
+
+/// What the client answers to the question for a passphrase and sends behind it, what is written then, and the status.
+const INQUIRIES: [(&str, &str, u8); 9] = [
+    (
+        "D se\nD cret\nEND\nGET_PASSPHRASE --no-ask --data id1\n",
+        "OK\nD secret\nOK\n",
+        0,
+    ),
+    (
+        "D a%0ab\n\n# x\nd\nend now\nGET_PASSPHRASE id1\n",
+        "OK\nOK 610A62\n",
+        0,
+    ),
+    ("END\nGET_PASSPHRASE --data id1\n", "OK\nOK\n", 0),
+    (
+        "D se\nCAN\nGET_PASSPHRASE id1\n",
+        "ERR 67108963 Operation cancelled <GPG Agent>\nERR 67108922 No data <GPG Agent>\n",
+        0,
+    ),
+    (
+        "D se\nNOP\nGET_PASSPHRASE id1\n",
+        "ERR 67109138 Unexpected IPC command <GPG Agent>\nERR 67108922 No data <GPG Agent>\n",
+        0,
+    ),
+    (
+        "BYE\nNOP\n",
+        "ERR 67109138 Unexpected IPC command <GPG Agent>\nOK\n",
+        0,
+    ),
+    ("D se\n", "", 0),
+    ("D se\nEND", "", 0),
+    ("", "", 0),
+];
+
+fn inquired(alloc: Global, client: &str, written: &str, status: u8) -> Result<bool, AllocError> {
+    let input = format!(in alloc; "PRESET_PASSPHRASE --inquire id1 -1\n{client}")?;
+    let output = format!(in alloc; "S INQUIRE_MAXLEN 255\nINQUIRE PASSPHRASE\n{written}")?;
+    let case = Case {
+        allow_preset: true,
+        input: &input,
+        readings: &[],
+        output: &output,
+        status,
+    };
+    meets_in_any_pieces(alloc, &case)
+}
+
+#[test]
+fn the_client_is_asked_for_a_preset(rt: HostRuntime) -> Result<(), Fail> {
+    for (client, written, status) in INQUIRIES {
+        assert!(rt; inquired(rt.alloc(), client, written, status)?, "{client}");
+    }
+    Ok(())
+}
+
+/// So many bytes `a`, between two texts.
+fn long_text(alloc: Global, front: &str, count: usize, back: &str) -> Result<String, AllocError> {
+    let mut text = String::from_str(alloc, front)?;
+    for _ in 0..count {
+        text.push('a')?;
+    }
+    text.push_str(back)?;
+    Ok(text)
+}
+
+#[test]
+fn an_inquiry_is_cut_off_past_its_limit(rt: HostRuntime) -> Result<(), Fail> {
+    let alloc = rt.alloc();
+    let most = long_text(alloc, "D ", 255, "\nEND\n")?;
+    assert!(rt; inquired(alloc, &most, "OK\n", 0)?);
+    let more = long_text(alloc, "D ", 256, "\nEND\nNOP\n")?;
+    let too_much = "ERR 67109137 Too much data for IPC layer <GPG Agent>\nOK\n";
+    assert!(rt; inquired(alloc, &more, too_much, 0)?);
+    let line = long_text(alloc, "D ", 999, "\nEND\n")?;
+    assert!(rt; inquired(alloc, &line, TOO_LONG, 7)?);
+    Ok(())
+}
+
+#[test]
+fn a_passphrase_of_255_bytes_is_given(rt: HostRuntime) -> Result<(), Fail> {
+    let alloc = rt.alloc();
+    let mut digits = String::new(alloc);
+    for _ in 0..255 {
+        digits.push_str("61")?;
+    }
+    let input = format!(in alloc;
+        "PRESET_PASSPHRASE id1 -1 {digits}\nGET_PASSPHRASE --no-ask id1\n"
+    )?;
+    let output = format!(in alloc; "OK\nOK {digits}\n")?;
+    let case = Case {
+        allow_preset: true,
+        input: &input,
+        readings: &[],
+        output: &output,
+        status: 0,
+    };
+    assert!(rt; meets_in_any_pieces(alloc, &case)?);
+    Ok(())
+}
+
+#[test]
+fn an_id_has_up_to_50_bytes(rt: HostRuntime) -> Result<(), Fail> {
+    let alloc = rt.alloc();
+    let refused = "ERR 67109144 IPC parameter error <GPG Agent>\n";
+    for (count, output) in [(50usize, NO_DATA), (51, refused)] {
+        let input = long_text(alloc, "GET_PASSPHRASE --no-ask ", count, "\n")?;
+        let case = Case {
+            allow_preset: true,
+            input: &input,
+            readings: &[],
+            output,
+            status: 0,
+        };
+        assert!(rt; meets_in_any_pieces(alloc, &case)?, "{count}");
+    }
+    Ok(())
+}
+
+#[test]
+fn a_line_has_up_to_1000_bytes(rt: HostRuntime) -> Result<(), Fail> {
+    let alloc = rt.alloc();
+    for (count, end, output, status) in [
+        (996usize, "\nNOP\n", "OK\nOK\n", 0u8),
+        (996, "\r\n", "OK\n", 0),
+        (997, "\nNOP\n", TOO_LONG, 7),
+        (998, "", TOO_LONG, 7),
+    ] {
+        let input = long_text(alloc, "NOP ", count, end)?;
+        let case = Case {
+            allow_preset: true,
+            input: &input,
+            readings: &[],
+            output,
+            status,
+        };
+        assert!(rt; meets_in_any_pieces(alloc, &case)?, "{count} bytes");
+    }
+    Ok(())
+}
+
+#[test]
+fn faults_of_the_link_have_their_statuses(rt: HostRuntime) -> Result<(), Fail> {
+    let alloc = rt.alloc();
+    for (reads, writes, written, status) in [
+        (
+            vec![in alloc; 4u64]?,
+            Vec::new(alloc),
+            "OK Pleased to meet you\nERR",
+            3u8,
+        ),
+        (
+            Vec::new(alloc),
+            vec![in alloc; 1u64]?,
+            "OK Pleased to meet you\nER",
+            4,
+        ),
+        (Vec::new(alloc), vec![in alloc; 0u64]?, "OK", 4),
+    ] {
+        let source = MemSource::new(Vec::from_slice(alloc, b"FOO\nBYE\n")?, 9, reads);
+        let mut stdio = MemLink::new(source, MemSink::new(alloc, 2, writes));
+        let mut host = MemHost::new(ListClock::new(Vec::new(alloc)));
+        let got = run_server(alloc, &rules(true), &mut stdio, &mut host);
+        assert_eq!(rt; got, status);
+        assert!(rt;
+            stdio.written().starts_with(written.as_bytes()),
+            "status {status}"
+        );
+    }
+    Ok(())
+}
+
+const WORDS: [(&str, u8, &str); 5] = [
+    ("--server --allow-preset-passphrase", 0, "D secret\n"),
+    ("--allow-preset-passphrase --server", 0, "D secret\n"),
+    ("--server", 0, "Not supported"),
+    ("--server --server", 2, ""),
+    ("--daemon", 2, ""),
+];
+
+#[test]
+fn the_words_decide(rt: HostRuntime) -> Result<(), Fail> {
+    let alloc = rt.alloc();
+    let (input, _) = ANSWERS[0];
+    for (line, status, part) in WORDS {
+        let mut words = Vec::new(alloc);
+        for word in line.split(' ') {
+            words.push(String::from_str(alloc, word)?)?;
+        }
+        let source = MemSource::new(
+            Vec::from_slice(alloc, input.as_bytes())?,
+            64,
+            Vec::new(alloc),
+        );
+        let mut stdio = MemLink::new(source, MemSink::new(alloc, 0, Vec::new(alloc)));
+        let mut host = MemHost::new(ListClock::new(Vec::new(alloc)));
+        assert_eq!(rt;
+            run_agent(&rt, alloc, &words, &mut stdio, &mut host),
+            status
+        );
+        let found = stdio
+            .written()
+            .windows(part.len().max(1))
+            .any(|bytes| bytes == part.as_bytes());
+        assert_eq!(rt; found, status == 0);
+        assert_eq!(rt; stdio.written().is_empty(), status == 2);
+    }
+    Ok(())
+}
