@@ -1,13 +1,29 @@
 -- The readings of a clock.
-use Rattle.std.specs.Prelude.{◌≡◌, ℕ, ◌+◌, ◌-◌, ◌<◌, List, length, min, slice_index, Option, IfSome}
-use Rattle.agent_ports.specs.Counts.{RoseBy}
+use Rattle.std.specs.Prelude.{◌≡◌, ℕ, ◌+◌, ◌-◌, List, [], ◌∷◌, length, min, slice_index, Option, IfSome}
+use Rattle.agent_ports.specs.Counts.{Rose}
 
 -- the k-th reading of a list, whose last one repeats; 0 where the list has none
 abbrev pub reading_at : List ℕ → ℕ → ℕ
 reading_at readings k = slice_index readings (min k (length readings - 1))
 
--- a clock gave these readings: they are the ones that it told, where it tells them, and are counted
-pub record HasGiven (later : ℕ → Option ℕ) (count : ℕ) (readings : List ℕ) (later_now : ℕ → Option ℕ) (count_now : ℕ) : Type 0 where
-  pub told : (k : ℕ) → k < length readings → IfSome (later k) (λ reading. slice_index readings k ≡ reading)
-  pub rest : (k : ℕ) → later_now k ≡ later (length readings + k)
-  pub counted : RoseBy (length readings) count count_now
+-- a clock at some point: the readings to come, where it tells them, how many it gave, and the last one
+pub record Readings : Type 0 where
+  pub later : ℕ → Option ℕ
+  pub count : ℕ
+  pub last : ℕ
+
+abbrev pub readings : (ℕ → Option ℕ) → ℕ → ℕ → Readings
+readings later count last = record { later = later; count = count; last = last }
+
+-- the clock gave one reading: the first of those to come, where it tells them
+pub record IsRead (before : Readings) (reading : ℕ) (after : Readings) : Type 0 where
+  pub rose : Rose before.count after.count
+  pub last : after.last ≡ reading
+  pub told : IfSome (before.later 0) (λ told. reading ≡ told)
+  pub later : (k : ℕ) → after.later k ≡ before.later (k + 1)
+
+-- the clock gave these readings, one after another, and no others
+pub data HasGiven : Readings → List ℕ → Readings → Type 0 where
+  none : {now : Readings} → HasGiven now [] now
+  one : {before mid after : Readings} {reading : ℕ} {more : List ℕ}
+      → IsRead before reading mid → HasGiven mid more after → HasGiven before (reading ∷ more) after

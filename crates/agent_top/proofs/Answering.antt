@@ -1,38 +1,53 @@
 -- Answers that are written, whole or in part, after all else was done for their requests.
-use Rattle.std.proofs.Common.{ℕ, List, [], ◌∷◌, ◌++◌, Option, Ok, Err, refl, ap, sym, subst, arith}
+use Rattle.std.proofs.Common.{◌≡◌, ℕ, List, [], ◌∷◌, ◌++◌, None, Some, Ok, Err, refl, ap, sym, subst, arith}
 use Rattle.agent_commands.specs.declared.request.Request.{Request}
+use Rattle.agent_ports.specs.Readings.{Readings}
+use Rattle.agent_ports.specs.Sides.{Side}
 use Rattle.assuan_line.specs.Next.{Reader}
 use Rattle.assuan_server.specs.Connections.{Connection}
 use Rattle.session_options.specs.Choices.{Choices}
 use Rattle.session_options.specs.declared.rules.Rules.{Rules}
 use Rattle.agent_top.specs.Deeds.{Wrote}
-use Rattle.agent_top.specs.Steps.{IsText, HasSaid, HasStopped, Point, point, Fits, HasPrepared, HasBroken, HasAnswered}
+use Rattle.agent_top.specs.Exchanges.{Exchange}
+use Rattle.agent_top.specs.Steps.{IsText, HasSaid, HasStopped, Point, Fits, HasPrepared, HasBroken, HasAnswered}
 use Rattle.agent_top.specs.declared.cache.Cache.{Cache}
 use Rattle.agent_top.specs.declared.command.Answer.{Answer}
+use Rattle.agent_top.specs.declared.reply.Reply.{Reply}
 use Rattle.agent_top.specs.declared.reply.WriteFault.{WriteFault}
-use Rattle.agent_top.proofs.Acting.{acted_then, acted_wrote, acted_stopped}
-use Rattle.agent_top.proofs.Taking.{taken_then, taken_wrote}
+use Rattle.agent_top.proofs.Doing.{done_none, done_then, done_wrote, done_stopped}
 
-module _ (rules : Rules) (before : Choices) (request : Request) (start : Point) (answer : Answer) (after : Choices) (mid now : Connection) (later : ℕ → Option ℕ) (count : ℕ) (cache : Cache) (prepared : HasPrepared rules before request start answer after (point mid later count cache)) (text : List ℕ) (is : IsText answer.reply text) where
-  pub answered : HasSaid text mid (Ok tt) now → HasAnswered rules before request start answer.went after (point now later count cache)
+-- nothing is written
+pub answered_silently : (rules : Rules) (before : Choices) (request : Request) (start : Point) (answer : Answer) (after : Choices) (now : Point) → HasPrepared rules before request start answer after now → answer.reply ≡ None → HasAnswered rules before request start answer.went after now
+answered_silently rules before request start answer after now prepared none = record {
+  deeds = prepared.deeds ++ [];
+  exchange = prepared.exchange [] (rw none refl);
+  done = done_then prepared.done (done_none now);
+  fits = prepared.fits;
+  fault = prepared.fault;
+}
+
+module _ (rules : Rules) (before : Choices) (request : Request) (start : Point) (answer : Answer) (after : Choices) (mid now : Connection) (clock : Readings) (cache : Cache) (prepared : HasPrepared rules before request start answer after (record { conn = mid; clock = clock; cache = cache })) (reply : Reply) (reply_is : answer.reply ≡ Some reply) (text : List ℕ) (is : IsText reply text) where
+  exchange : Exchange rules before request (prepared.deeds ++ (Wrote text ∷ [])) after answer.went
+  exchange = prepared.exchange (Wrote text ∷ []) (rw reply_is (text, is, refl))
+
+  pub answered : HasSaid text mid (Ok tt) now → HasAnswered rules before request start answer.went after (record { conn = now; clock = clock; cache = cache })
   answered said = record {
     deeds = prepared.deeds ++ (Wrote text ∷ []);
-    exchange = prepared.exchange text is;
-    acted = acted_then prepared.acted (acted_wrote text mid now later count cache said);
-    taken = taken_then prepared.taken (taken_wrote text (point mid later count cache) (point now later count cache) said.input said.reader);
+    exchange = exchange;
+    done = done_then prepared.done (done_wrote text mid now clock cache said);
     fits = subst (λ (r : Reader). Fits answer.went start.conn.reader r) (sym said.reader) prepared.fits;
-    fault = λ e. omega (arith, prepared.fault e, ap (λ s. s.faults) said.input);
+    fault = λ e. omega (arith, prepared.fault e, ap (λ (s : Side). s.faults) said.input);
   }
 
-  pub broken : (fault : WriteFault) → HasSaid text mid (Err fault) now → HasBroken rules before request start (point now later count cache)
-  broken fault said =
+  pub broken : (why : WriteFault) → HasSaid text mid (Err why) now → HasBroken rules before request start (record { conn = now; clock = clock; cache = cache })
+  broken why said =
       let stopped : HasStopped text mid.output now.output = said.output in
       record {
         deeds = prepared.deeds ++ (Wrote text ∷ []);
         after = after;
         went = answer.went;
-        exchange = prepared.exchange text is;
-        done = prepared.deeds ++ (Wrote stopped.sent ∷ []);
+        exchange = exchange;
+        part = prepared.deeds ++ (Wrote stopped.sent ∷ []);
         cut = record {
           before = prepared.deeds;
           sent = stopped.sent;
@@ -41,7 +56,6 @@ module _ (rules : Rules) (before : Choices) (request : Request) (start : Point) 
           whole = ap (λ (x : List ℕ). prepared.deeds ++ (Wrote x ∷ [])) stopped.split;
           done_is = refl;
         };
-        acted = acted_then prepared.acted (acted_stopped text mid now later count cache stopped said.faults said.link);
-        taken = taken_then prepared.taken (taken_wrote stopped.sent (point mid later count cache) (point now later count cache) said.input said.reader);
-        rose = omega (arith, prepared.acted.faults, stopped.rose);
+        done = done_then prepared.done (done_stopped text mid now clock cache why stopped said);
+        rose = omega (arith, prepared.done.output_faults, stopped.rose);
       }

@@ -2,9 +2,9 @@
 use Rattle.std.proofs.Common.{◌≡◌, ◌≢◌, ◌≤◌, ◌+◌, ℕ, List, [], ◌∷◌, ◌++◌, length, codes, Option, None, Some, Result, Ok, Err, refl, ap, sym, ◌∙◌, subst, arith}
 use Rattle.std.specs.List.{flat_map}
 use Rattle.agent_ports.specs.Counts.{Rose}
+use Rattle.agent_ports.specs.Readings.{Readings, none as not_read}
 use Rattle.agent_ports.specs.Sides.{with_bytes, WhereTold}
 use Rattle.agent_ports.specs.declared.link.Sent.TheVariants.{Failed}
-use Rattle.agent_ports.proofs.Given.{given_none}
 use Rattle.agent_ports.proofs.Told.{told_then, told_both, told_same}
 use Rattle.assuan_line.specs.Next.{held, ended_by}
 use Rattle.assuan_line.specs.declared.reader.Took.{Took}
@@ -16,16 +16,16 @@ use Rattle.assuan_server.specs.Written.{HasWritten, line_of, status_text}
 use Rattle.assuan_server.specs.declared.inquiry.InquiredSecret.{InquiredSecret}
 use Rattle.assuan_server.specs.declared.inquiry.InquiredSecret.TheVariants as inquired
 use Rattle.agent_top.specs.Cache.{wrote as turns_wrote, inquired as turns_inquired, none as no_turns}
-use Rattle.agent_top.specs.Deeds.{Wrote, Inquired}
+use Rattle.agent_top.specs.Deeds.{Deed, Wrote, Inquired}
+use Rattle.agent_top.specs.Exchanges.{question}
 use Rattle.agent_top.specs.Reading.{Takes, none, wrote, inquired as taken_inquired, ReadsAnswer}
-use Rattle.agent_top.specs.Steps.{HasSaid, HasStopped, point, here, IsTotal, HasAsked, HasNotAsked, IsInquired, IsBrought}
+use Rattle.agent_top.specs.Steps.{HasSaid, HasStopped, Point, here, IsTotal, HasDone, HasNotAsked, IsInquired, IsBrought}
 use Rattle.agent_top.specs.declared.cache.Cache.{Cache}
 use Rattle.agent_top.specs.declared.command.Brought.{Brought}
 use Rattle.agent_top.specs.declared.command.Brought.TheVariants.{Passphrase, Without}
 use Rattle.agent_top.specs.declared.reply.WriteFault.{WriteFault}
-use Rattle.agent_top.proofs.Acting.{acted_wrote, acted_stopped, acted_then}
+use Rattle.agent_top.proofs.Doing.{done_then, done_wrote, done_stopped, reads_past, here_going}
 use Rattle.agent_top.proofs.Saying.{said_part}
-use Rattle.agent_top.proofs.Taking.{reads_past, taken_then, taken_wrote, here_going}
 
 -- how the reader has ended where an inquiry came to this
 abbrev ended_outcome : Outcome → Option Took
@@ -73,12 +73,16 @@ status_line = line_of (status_text (codes "INQUIRE_MAXLEN") (codes "255"))
 abbrev question_line : List ℕ
 question_line = line_of (inquire_text (codes "PASSPHRASE") [])
 
+-- the connection among the rest of a point
+abbrev at_conn : Connection → Readings → Cache → Point
+at_conn conn clock cache = record { conn = conn; clock = clock; cache = cache }
+
 -- the status line stopped
-pub not_asked_status : (start now : Connection) (later : ℕ → Option ℕ) (count : ℕ) (cache : Cache) (fault : WriteFault) → HasSaid status_line start (Err fault) now → HasNotAsked (point start later count cache) (point now later count cache)
-not_asked_status start now later count cache fault said =
+pub not_asked_status : (start now : Connection) (clock : Readings) (cache : Cache) (why : WriteFault) → HasSaid status_line start (Err why) now → HasNotAsked (at_conn start clock cache) (at_conn now clock cache)
+not_asked_status start now clock cache why said =
     let stopped : HasStopped status_line start.output now.output = said.output in
     record {
-      done = Wrote stopped.sent ∷ [];
+      part = Wrote stopped.sent ∷ [];
       cut = λ more. record {
         before = [];
         sent = stopped.sent;
@@ -87,20 +91,19 @@ not_asked_status start now later count cache fault said =
         whole = ap (λ (x : List ℕ). Wrote x ∷ Wrote question_line ∷ more) stopped.split;
         done_is = refl;
       };
-      acted = acted_stopped status_line start now later count cache stopped said.faults said.link;
-      taken = taken_wrote stopped.sent _ _ said.input said.reader;
+      done = done_stopped status_line start now clock cache why stopped said;
       rose = stopped.rose;
     }
 
 -- `mid` is the connection after the status line
-module _ (start mid now : Connection) (later : ℕ → Option ℕ) (count : ℕ) (cache : Cache) (said : HasSaid status_line start (Ok tt) mid) where
+module _ (start mid now : Connection) (clock : Readings) (cache : Cache) (said : HasSaid status_line start (Ok tt) mid) where
   -- the question stopped
-  pub not_asked_question : (sent : ℕ) (fault : WriteFault) → HasWritten question_line mid (Failed sent) now → HasNotAsked (point start later count cache) (point now later count cache)
-  not_asked_question sent fault part =
-      let failed = said_part question_line mid now sent fault part in
+  pub not_asked_question : (sent : ℕ) (why : WriteFault) → HasWritten question_line mid (Failed sent) now → HasNotAsked (at_conn start clock cache) (at_conn now clock cache)
+  not_asked_question sent why part =
+      let failed = said_part question_line mid now sent why part in
       let stopped : HasStopped question_line mid.output now.output = failed.output in
       record {
-        done = Wrote status_line ∷ Wrote stopped.sent ∷ [];
+        part = Wrote status_line ∷ Wrote stopped.sent ∷ [];
         cut = λ more. record {
           before = Wrote status_line ∷ [];
           sent = stopped.sent;
@@ -109,8 +112,7 @@ module _ (start mid now : Connection) (later : ℕ → Option ℕ) (count : ℕ)
           whole = ap (λ (x : List ℕ). Wrote status_line ∷ Wrote x ∷ more) stopped.split;
           done_is = refl;
         };
-        acted = acted_then (acted_wrote status_line start mid later count cache said) (acted_stopped question_line mid now later count cache stopped failed.faults failed.link);
-        taken = taken_then (taken_wrote status_line (point start later count cache) (point mid later count cache) said.input said.reader) (taken_wrote stopped.sent (point mid later count cache) (point now later count cache) failed.input failed.reader);
+        done = done_then (done_wrote status_line start mid clock cache said) (done_stopped question_line mid now clock cache why stopped failed);
         rose = omega (arith, said.faults, stopped.rose);
       }
 
@@ -128,56 +130,56 @@ module _ (start mid now : Connection) (later : ℕ → Option ℕ) (count : ℕ)
           comes_to = subst (λ o. ComesTo 255 (flat_map carried inquiry.lines) inquiry.took o) same inquiry.comes_to;
         }
 
-    pub asked : HasAsked what (point start later count cache) (point now later count cache)
-    asked = record {
-      acted = acted_then (acted_wrote status_line start mid later count cache said) (record {
-        written = written;
-        faults = faults;
-        readings = [];
-        given = given_none later count;
-        turns = λ standing kept. (standing, turns_wrote (turns_inquired no_turns), kept);
-        limits = refl;
-        link = link;
-      });
-      taken = taken_then (taken_wrote status_line (point start later count cache) (point mid later count cache) said.input said.reader) (record {
-        bytes = told_then mid.input.bytes now.input.bytes now.input.bytes _ (λ rest left. rest ≡ left) _
-            (told_both mid.input.bytes now.input.bytes _ _ inquiry budget) (told_same now.input.bytes _ (λ rest. refl))
-            (λ rest left more read same. λ total is.
-            let is_now : IsTotal total now.reader left = omega (arith, is, read.1) in
-            let answer : ReadsAnswer total 255 (mid.reader.ahead ++ rest) what (here now.reader left) =
-            answer_read total rest left is_now read.0.0 read.0.1 read.0.2 in
-            let takes : Takes total (here mid.reader rest) (Wrote question_line ∷ Inquired 255 what ∷ []) (here now.reader left) =
-            wrote (taken_inquired (subst (λ (b : List ℕ). ReadsAnswer total 255 b what (here now.reader left)) (sym (here_going mid.reader rest going)) answer) none) in
-            subst (λ (x : List ℕ). Takes total (here mid.reader rest) (Wrote question_line ∷ Inquired 255 what ∷ []) (here now.reader x) × IsTotal total now.reader x) same (takes, is_now));
-        faults = input_faults;
-      });
-    }
+    abbrev asks : List Deed
+    asks = Wrote question_line ∷ Inquired 255 what ∷ []
+
+    pub asked : HasDone (question ++ (Inquired 255 what ∷ [])) (at_conn start clock cache) (at_conn now clock cache)
+    asked = done_then (done_wrote status_line start mid clock cache said) (record {
+      written = written;
+      output_faults = faults;
+      readings = [];
+      given = not_read;
+      turns = λ standing kept. (standing, turns_wrote (turns_inquired no_turns), kept);
+      limits = refl;
+      taken =
+          told_then mid.input.bytes now.input.bytes now.input.bytes _ (λ rest left. rest ≡ left) _
+          (told_both mid.input.bytes now.input.bytes _ _ inquiry budget) (told_same now.input.bytes _ (λ rest. refl))
+          (λ rest left more read same. λ total is.
+          let is_now : IsTotal total now.reader left = omega (arith, is, read.1) in
+          let answer : ReadsAnswer total 255 (mid.reader.ahead ++ rest) what (here now.reader left) =
+          answer_read total rest left is_now read.0.0 read.0.1 read.0.2 in
+          let takes : Takes total (here mid.reader rest) asks (here now.reader left) =
+          wrote (taken_inquired (subst (λ (b : List ℕ). ReadsAnswer total 255 b what (here now.reader left)) (sym (here_going mid.reader rest going)) answer) none) in
+          subst (λ (x : List ℕ). Takes total (here mid.reader rest) asks (here now.reader x) × IsTotal total now.reader x) same (takes, is_now));
+      input_faults = input_faults;
+      link = link;
+    })
 
 -- an inquiry that came to something was written
 no_write_fault : (came : InquiredSecret) (what : Outcome) → AnswersSecret came what → came ≢ inquired.WriteFault
 no_write_fault came what answers e = subst (λ k. AnswersSecret k what) e answers
 
 -- what is made of an inquiry
-module _ (start mid now : Connection) (later : ℕ → Option ℕ) (count : ℕ) (cache : Cache) (said : HasSaid status_line start (Ok tt) mid) (going : mid.reader.ended ≡ None) (came : InquiredSecret) (inquiry : came ≢ inquired.WriteFault → WhereTold mid.input.bytes now.input.bytes (λ rest left. (outcome : Outcome) × Inquiry 255 (mid.reader.ahead ++ rest) outcome now.reader left × AnswersSecret came outcome)) (written : came ≢ inquired.WriteFault → now.output.bytes ≡ with_bytes mid.output.bytes question_line) (cut : came ≡ inquired.WriteFault → (sent : ℕ) × HasWritten question_line mid (Failed sent) now) (budget : WhereTold mid.input.bytes now.input.bytes (λ rest left. length rest + now.reader.left ≡ length left + mid.reader.left)) (read_fault : came ≡ inquired.ReadFault → Rose mid.input.faults now.input.faults) (input_faults : mid.input.faults ≤ now.input.faults) (output_faults : mid.output.faults ≤ now.output.faults) (progress : now.reader.ended ≡ None → held now.reader ≤ held mid.reader) (ended_so : now.reader.ended ≡ ended_of_secret came) (link : now.link ≡ mid.link) where
-  asked_so : (what : Outcome) → AnswersSecret came what → HasAsked what (point start later count cache) (point now later count cache)
+module _ (start mid now : Connection) (clock : Readings) (cache : Cache) (said : HasSaid status_line start (Ok tt) mid) (going : mid.reader.ended ≡ None) (came : InquiredSecret) (inquiry : came ≢ inquired.WriteFault → WhereTold mid.input.bytes now.input.bytes (λ rest left. (outcome : Outcome) × Inquiry 255 (mid.reader.ahead ++ rest) outcome now.reader left × AnswersSecret came outcome)) (written : came ≢ inquired.WriteFault → now.output.bytes ≡ with_bytes mid.output.bytes question_line) (cut : came ≡ inquired.WriteFault → (sent : ℕ) × HasWritten question_line mid (Failed sent) now) (budget : WhereTold mid.input.bytes now.input.bytes (λ rest left. length rest + now.reader.left ≡ length left + mid.reader.left)) (read_fault : came ≡ inquired.ReadFault → Rose mid.input.faults now.input.faults) (input_faults : mid.input.faults ≤ now.input.faults) (output_faults : mid.output.faults ≤ now.output.faults) (progress : now.reader.ended ≡ None → held now.reader ≤ held mid.reader) (ended_so : now.reader.ended ≡ ended_of_secret came) (link : now.link ≡ mid.link) where
+  asked_so : (what : Outcome) → AnswersSecret came what → HasDone (question ++ (Inquired 255 what ∷ [])) (at_conn start clock cache) (at_conn now clock cache)
   asked_so what answers =
       let wrote_it = no_write_fault came what answers in
-      asked start mid now later count cache said came what answers going ended_so (written wrote_it) output_faults link input_faults (inquiry wrote_it) budget
+      asked start mid now clock cache said came what answers going ended_so (written wrote_it) output_faults link input_faults (inquiry wrote_it) budget
 
   fewer : now.reader.ended ≡ None → held now.reader ≤ held start.reader
   fewer is = omega (arith, progress is, ap held said.reader)
 
-  pub inquired_so : (result : Result Brought WriteFault) → IsBrought came result → IsInquired (point start later count cache) result (point now later count cache)
+  pub inquired_so : (result : Result Brought WriteFault) → IsBrought came result → IsInquired (at_conn start clock cache) result (at_conn now clock cache)
   inquired_so (Ok (Passphrase secret)) is =
       let none : now.reader.ended ≡ None = ended_so ∙ ap ended_of_secret is in
       (asked_so (outcome.Data secret) (subst (λ k. AnswersSecret k (outcome.Data secret)) (sym is) refl), (none, fewer none))
   inquired_so (Ok (Without answer)) lacks = record {
     outcome = lacks.outcome;
-    asked = asked_so lacks.outcome lacks.answers;
+    done = asked_so lacks.outcome lacks.answers;
     fails = lacks.fails;
     fits = lacks.fits start.reader now.reader ended_so fewer;
     fault = λ e. omega (arith, read_fault (lacks.fault e), ap (λ s. s.faults) said.input);
   }
-  inquired_so (Err fault) is =
+  inquired_so (Err why) is =
       let part = cut is in
-      not_asked_question start mid now later count cache said part.0 fault part.1
+      not_asked_question start mid now clock cache said part.0 why part.1

@@ -1,6 +1,6 @@
-mod Acting
 mod Answering
 mod Asking
+mod Doing
 mod Helping
 mod Inquiring
 mod Lacking
@@ -10,5 +10,4 @@ mod Presetting
 mod Saying
 mod Serving
 mod SettingLemmas
-mod Taking
 mod WorkedExamples

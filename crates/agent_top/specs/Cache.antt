@@ -14,7 +14,7 @@ use Rattle.cache_policy.specs.Live.{live}
 use Rattle.cache_policy.specs.Policy.{policy, Reply}
 use Rattle.cache_policy.specs.Runs.{next_history, moment_of}
 use Rattle.session_options.specs.declared.rules.Rules.{Rules}
-use Rattle.agent_top.specs.Deeds.{Came, Given, Empty, Done, Refused, Deed, Wrote, Turned, Inquired}
+use Rattle.agent_top.specs.Deeds.{Came, Given, Empty, Done, Refused, Deed, Heard, Wrote, Turned, Inquired}
 
 -- the lifetimes that the rules say
 abbrev pub limits_of : Rules → Limits
@@ -56,6 +56,8 @@ pub data IsRuled (limits : Limits) (history : History) (moment : ℕ) : MarkStep
 -- that they took. One that finds no memory makes no mark.
 pub data Turns (limits : Limits) : Standing → List Deed → List ℕ → Standing → Type 0 where
   none : {standing : Standing} → Turns limits standing [] [] standing
+  heard : {standing after : Standing} {took : _} {readings : List ℕ} {deeds : List Deed}
+      → Turns limits standing deeds readings after → Turns limits standing (Heard took ∷ deeds) readings after
   wrote : {standing after : Standing} {text readings : List ℕ} {deeds : List Deed}
       → Turns limits standing deeds readings after → Turns limits standing (Wrote text ∷ deeds) readings after
   inquired : {standing after : Standing} {limit : ℕ} {outcome : _} {readings : List ℕ} {deeds : List Deed}

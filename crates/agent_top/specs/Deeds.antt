@@ -1,6 +1,7 @@
 -- What a session does, one thing after another. This is the project's own.
 use Rattle.std.specs.Prelude.{◌≡◌, ℕ, List, [], ◌∷◌, ◌++◌}
 use Rattle.std.specs.List.{flat_map}
+use Rattle.assuan_line.specs.declared.reader.Took.{Took}
 use Rattle.assuan_server.specs.Inquiries.{Outcome}
 use Rattle.cache_policy.specs.declared.mark.MarkStep.{MarkStep}
 
@@ -12,6 +13,8 @@ pub data Came : Type 0 where
   Refused : Came
 
 pub data Deed : Type 0 where
+  -- the next request was read, or this came in its place
+  Heard : Took → Deed
   -- these bytes were written
   Wrote : List ℕ → Deed
   -- the cache took this turn
@@ -21,6 +24,7 @@ pub data Deed : Type 0 where
 
 -- what a deed writes
 abbrev pub written : Deed → List ℕ
+written (Heard _) = []
 written (Wrote text) = text
 written (Turned _ _) = []
 written (Inquired _ _) = []

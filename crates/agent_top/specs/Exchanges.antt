@@ -73,8 +73,8 @@ is_quiet no_ask (Some texts) = no_ask
 abbrev pub ask : List ℕ → MarkStep
 ask id = Ask id User Quiet
 
-abbrev pub put : List ℕ → List ℕ → MarkStep
-put id secret = Put id Any Endless secret
+abbrev pub put : List ℕ → Life → List ℕ → MarkStep
+put id life secret = Put id Any life secret
 
 -- the client is asked for a passphrase
 abbrev pub question : List Deed
@@ -83,20 +83,20 @@ question =
     ∷ Wrote (line_of (inquire_text (codes "PASSPHRASE") []))
     ∷ []
 
--- what is written after an inquiry that brought no data, and how the session goes on
-pub data Fails : Outcome → List ℕ → Went → Type 0 where
-  cancelled : Fails outcome.Cancelled (failed code.Cancelled) On
-  too_much : Fails outcome.TooMuch (failed code.TooMuch) On
-  unexpected : Fails outcome.Unexpected (failed code.Unexpected) On
-  too_long : Fails outcome.TooLong (failed code.LineTooLong) (End ends.TooLong)
+-- what is done after an inquiry that brought no data, and how the session goes on
+pub data Fails : Outcome → List Deed → Went → Type 0 where
+  cancelled : Fails outcome.Cancelled (Wrote (failed code.Cancelled) ∷ []) On
+  too_much : Fails outcome.TooMuch (Wrote (failed code.TooMuch) ∷ []) On
+  unexpected : Fails outcome.Unexpected (Wrote (failed code.Unexpected) ∷ []) On
+  too_long : Fails outcome.TooLong (Wrote (failed code.LineTooLong) ∷ []) (End ends.TooLong)
   ended : Fails outcome.Ended [] (End ends.Ended)
   spent : Fails outcome.Spent [] (End ends.Spent)
   read_fault : Fails outcome.ReadFault [] (End ends.ReadFault)
 
 -- a passphrase is stored, or there is no memory for it
-pub data Stores (id secret : List ℕ) : List Deed → Type 0 where
-  stored : Stores id secret (Turned (put id secret) Done ∷ Wrote ok ∷ [])
-  no_memory : Stores id secret (Turned (put id secret) Refused ∷ Wrote (failed code.NoMemory) ∷ [])
+pub data Stores (id : List ℕ) (life : Life) (secret : List ℕ) : List Deed → Type 0 where
+  stored : Stores id life secret (Turned (put id life secret) Done ∷ Wrote ok ∷ [])
+  no_memory : Stores id life secret (Turned (put id life secret) Refused ∷ Wrote (failed code.NoMemory) ∷ [])
 
 -- A request: what the client had chosen before it, what the session does for it, what is chosen after it, and how the session
 -- goes on.
@@ -131,9 +131,9 @@ pub data Exchange (rules : Rules) (before : Choices) : Request → List Deed →
       → Exchange rules before (Cache (PresetPassphrase id life secret)) (Wrote (failed code.NotSupported) ∷ []) before On
   not_allowed : {id : List ℕ} {life : Life} {secret : Option (List ℕ)} → rules.allow_preset ≡ false
       → Exchange rules before (Cache (PresetPassphrase id life secret)) (Wrote (failed code.NotSupported) ∷ []) before On
-  preset : {id secret : List ℕ} {deeds : List Deed} → rules.allow_preset ≡ true → Stores id secret deeds
+  preset : {id secret : List ℕ} {deeds : List Deed} → rules.allow_preset ≡ true → Stores id Endless secret deeds
       → Exchange rules before (Cache (PresetPassphrase id Endless (Some secret))) deeds before On
-  brought : {id secret : List ℕ} {deeds : List Deed} → rules.allow_preset ≡ true → Stores id secret deeds
+  brought : {id secret : List ℕ} {deeds : List Deed} → rules.allow_preset ≡ true → Stores id Endless secret deeds
       → Exchange rules before (Cache (PresetPassphrase id Endless None)) (question ++ (Inquired 255 (Data secret) ∷ deeds)) before On
-  not_brought : {id text : List ℕ} {outcome : Outcome} {went : Went} → rules.allow_preset ≡ true → Fails outcome text went
-      → Exchange rules before (Cache (PresetPassphrase id Endless None)) (question ++ (Inquired 255 outcome ∷ Wrote text ∷ [])) before went
+  not_brought : {id : List ℕ} {outcome : Outcome} {deeds : List Deed} {went : Went} → rules.allow_preset ≡ true → Fails outcome deeds went
+      → Exchange rules before (Cache (PresetPassphrase id Endless None)) (question ++ (Inquired 255 outcome ∷ deeds)) before went

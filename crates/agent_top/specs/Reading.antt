@@ -9,7 +9,7 @@ use Rattle.assuan_line.specs.declared.reader.Took.TheVariants.{Line, TooLong, En
 use Rattle.assuan_server.specs.Inquiries.{Outcome, ComesTo, carried, is_passing}
 use Rattle.assuan_server.specs.Passing.{Passed, Stops}
 use Rattle.assuan_server.specs.Requests.{is_ignored}
-use Rattle.agent_top.specs.Deeds.{Came, Deed, Wrote, Turned, Inquired}
+use Rattle.agent_top.specs.Deeds.{Came, Deed, Heard, Wrote, Turned, Inquired}
 
 -- how many bytes a session may take
 abbrev pub budget : ℕ
@@ -45,9 +45,11 @@ pub record ReadsAnswer (total limit : ℕ) (bytes : List ℕ) (outcome : Outcome
   pub past : ReadsPast is_passing total bytes lines took rest
   pub comes_to : ComesTo limit (flat_map carried lines) took outcome
 
--- the inquiries among the deeds took their lines from these bytes, in order, and left the rest
+-- the requests and inquiries among the deeds took their lines from these bytes, in order, and left the rest
 pub data Takes (total : ℕ) : List ℕ → List Deed → List ℕ → Type 0 where
   none : {bytes : List ℕ} → Takes total bytes [] bytes
+  heard : {bytes later rest : List ℕ} {took : Took} {deeds : List Deed} → ReadsRequest total bytes took later → Takes total later deeds rest
+      → Takes total bytes (Heard took ∷ deeds) rest
   wrote : {bytes text rest : List ℕ} {deeds : List Deed} → Takes total bytes deeds rest → Takes total bytes (Wrote text ∷ deeds) rest
   turned : {bytes rest : List ℕ} {step : _} {came : Came} {deeds : List Deed}
       → Takes total bytes deeds rest → Takes total bytes (Turned step came ∷ deeds) rest

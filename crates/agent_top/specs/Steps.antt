@@ -2,7 +2,7 @@
 use Rattle.std.specs.Prelude.{◌≡◌, ◌≤◌, ◌+◌, ℕ, List, [], ◌∷◌, ◌++◌, length, codes, decimal, Option, Some, None, Result, Ok as Whole, Err as Part}
 use Rattle.std.specs.Option.{option_map_or}
 use Rattle.agent_ports.specs.Counts.{Rose}
-use Rattle.agent_ports.specs.Readings.{HasGiven}
+use Rattle.agent_ports.specs.Readings.{Readings, readings, HasGiven}
 use Rattle.agent_ports.specs.Sides.{Side, with_bytes, WhereTold}
 use Rattle.assuan_line.specs.Next.{Reader, held}
 use Rattle.assuan_line.specs.declared.reader.Took.TheVariants as took
@@ -24,7 +24,7 @@ use Rattle.agent_top.specs.declared.command.Answer.{Answer}
 use Rattle.agent_top.specs.declared.command.Brought.{Brought}
 use Rattle.agent_top.specs.declared.command.Brought.TheVariants.{Passphrase, Without}
 use Rattle.agent_top.specs.declared.reply.Reply.{Reply}
-use Rattle.agent_top.specs.declared.reply.Reply.TheVariants.{Nothing, Ok, Closing, Help, Version, Number, Given, Failed}
+use Rattle.agent_top.specs.declared.reply.Reply.TheVariants.{Ok, Closing, Help, Version, Number, Given, Failed}
 use Rattle.agent_top.specs.declared.reply.WriteFault.{WriteFault as Fault}
 use Rattle.agent_top.specs.declared.session.SessionEnd.{SessionEnd}
 use Rattle.agent_top.specs.declared.session.SessionEnd.TheVariants.{Bye, Ended, TooLong, Spent, ReadFault, WriteFault}
@@ -33,7 +33,6 @@ use Rattle.agent_top.specs.declared.session.Went.TheVariants.{On, End}
 
 -- the lines of a reply
 abbrev pub IsText : Reply → List ℕ → Type 0
-IsText Nothing text = text ≡ []
 IsText Ok text = text ≡ ok
 IsText Closing text = text ≡ closing
 IsText Help text = text ≡ help
@@ -68,26 +67,14 @@ pub record IsKept (standing : Standing) (cache : Cache) : Type 0 where
   pub marks_are : length standing.history.marks ≡ cache.marks
   pub latest_is : standing.latest ≡ cache.latest
 
--- a point in the code: its connection, the clock's readings to come and their number so far, and its cache
+-- a point in the code: its connection, its clock and its cache
 pub record Point : Type 0 where
   pub conn : Connection
-  pub later : ℕ → Option ℕ
-  pub count : ℕ
+  pub clock : Readings
   pub cache : Cache
 
-abbrev pub point : Connection → (ℕ → Option ℕ) → ℕ → Cache → Point
-point conn later count cache = record { conn = conn; later = later; count = count; cache = cache }
-
--- what the deeds wrote, and the turns that they took
-pub record HasActed (deeds : List Deed) (start now : Point) : Type 0 where
-  pub written : now.conn.output.bytes ≡ with_bytes start.conn.output.bytes (output_of deeds)
-  pub faults : start.conn.output.faults ≤ now.conn.output.faults
-  pub readings : List ℕ
-  pub given : HasGiven start.later start.count readings now.later now.count
-  pub turns : (standing : Standing) → IsKept standing start.cache
-      → (after : Standing) × Turns start.cache.limits standing deeds readings after × IsKept after now.cache
-  pub limits : now.cache.limits ≡ start.cache.limits
-  pub link : now.conn.link ≡ start.conn.link
+abbrev pub point : Connection → (ℕ → Option ℕ) → ℕ → ℕ → Cache → Point
+point conn later count last cache = record { conn = conn; clock = readings later count last; cache = cache }
 
 -- the bytes from here on, where the source holds `left`: those ahead too, as long as lines may come
 abbrev pub here : Reader → List ℕ → List ℕ
@@ -97,16 +84,23 @@ here reader left = option_map_or (λ _. left) reader.ended (reader.ahead ++ left
 abbrev pub IsTotal : ℕ → Reader → List ℕ → Type 0
 IsTotal total reader left = total + reader.left ≡ length left + budget
 
--- a fact of the bytes before and after, and that the budget went into the bytes taken
-pub record HasRead (start now : Point) (fact : ℕ → List ℕ → List ℕ → Type 0) : Type 0 where
-  pub bytes : WhereTold start.conn.input.bytes now.conn.input.bytes (λ rest left.
-      (total : ℕ) → IsTotal total start.conn.reader rest → fact total rest left × IsTotal total now.conn.reader left)
-  pub faults : start.conn.input.faults ≤ now.conn.input.faults
+-- the deeds took their lines from the bytes that the source held, and the budget went into these
+abbrev pub TakesLines : List Deed → Reader → Reader → List ℕ → List ℕ → Type 0
+TakesLines deeds before after rest left =
+    (total : ℕ) → IsTotal total before rest → Takes total (here before rest) deeds (here after left) × IsTotal total after left
 
--- the lines that the deeds' inquiries took
-abbrev pub HasTaken : List Deed → Point → Point → Type 0
-HasTaken deeds start now =
-    HasRead start now (λ total rest left. Takes total (here start.conn.reader rest) deeds (here now.conn.reader left))
+-- these deeds lead from one point to another
+pub record HasDone (deeds : List Deed) (start now : Point) : Type 0 where
+  pub written : now.conn.output.bytes ≡ with_bytes start.conn.output.bytes (output_of deeds)
+  pub output_faults : start.conn.output.faults ≤ now.conn.output.faults
+  pub readings : List ℕ
+  pub given : HasGiven start.clock readings now.clock
+  pub turns : (standing : Standing) → IsKept standing start.cache
+      → (after : Standing) × Turns start.cache.limits standing deeds readings after × IsKept after now.cache
+  pub limits : now.cache.limits ≡ start.cache.limits
+  pub taken : WhereTold start.conn.input.bytes now.conn.input.bytes (TakesLines deeds start.conn.reader now.conn.reader)
+  pub input_faults : start.conn.input.faults ≤ now.conn.input.faults
+  pub link : now.conn.link ≡ start.conn.link
 
 -- how the reader stands after a request that went so
 abbrev pub Fits : Went → Reader → Reader → Type 0
@@ -118,12 +112,16 @@ Fits (End Spent) before after = after.ended ≡ Some took.Spent
 Fits (End ReadFault) before after = after.ended ≡ Some took.ReadFault
 Fits (End WriteFault) before after = ⊥
 
+-- what the answer of a request does
+abbrev pub IsReply : Option Reply → List Deed → Type 0
+IsReply None more = more ≡ []
+IsReply (Some reply) more = (text : List ℕ) × IsText reply text × (more ≡ Wrote text ∷ [])
+
 -- all was done for a request but its answer
 pub record HasPrepared (rules : Rules) (before : Choices) (request : Request) (start : Point) (answer : Answer) (after : Choices) (now : Point) : Type 0 where
   pub deeds : List Deed
-  pub exchange : (text : List ℕ) → IsText answer.reply text → Exchange rules before request (deeds ++ (Wrote text ∷ [])) after answer.went
-  pub acted : HasActed deeds start now
-  pub taken : HasTaken deeds start now
+  pub exchange : (more : List Deed) → IsReply answer.reply more → Exchange rules before request (deeds ++ more) after answer.went
+  pub done : HasDone deeds start now
   pub fits : Fits answer.went start.conn.reader now.conn.reader
   pub fault : answer.went ≡ End ReadFault → Rose start.conn.input.faults now.conn.input.faults
 
@@ -133,10 +131,9 @@ pub record HasBroken (rules : Rules) (before : Choices) (request : Request) (sta
   pub after : Choices
   pub went : Went
   pub exchange : Exchange rules before request deeds after went
-  pub done : List Deed
-  pub cut : IsCut deeds done
-  pub acted : HasActed done start now
-  pub taken : HasTaken done start now
+  pub part : List Deed
+  pub cut : IsCut deeds part
+  pub done : HasDone part start now
   pub rose : Rose start.conn.output.faults now.conn.output.faults
 
 abbrev pub IsPrepared : Rules → Choices → Request → Point → Result Answer Fault → Choices → Point → Type 0
@@ -147,8 +144,7 @@ IsPrepared rules before request start (Part fault) after now = HasBroken rules b
 pub record HasAnswered (rules : Rules) (before : Choices) (request : Request) (start : Point) (went : Went) (after : Choices) (now : Point) : Type 0 where
   pub deeds : List Deed
   pub exchange : Exchange rules before request deeds after went
-  pub acted : HasActed deeds start now
-  pub taken : HasTaken deeds start now
+  pub done : HasDone deeds start now
   pub fits : Fits went start.conn.reader now.conn.reader
   pub fault : went ≡ End ReadFault → Rose start.conn.input.faults now.conn.input.faults
 
@@ -164,16 +160,15 @@ end_of (Part fault) = WriteFault
 -- the requests of a session were answered up to its end
 pub record HasTalked (rules : Rules) (before : Choices) (start : Point) (end : SessionEnd) (now : Point) : Type 0 where
   pub deeds : List Deed
-  pub acted : HasActed deeds start now
-  pub talk : HasRead start now (λ total rest left.
-      (place : List ℕ) × Talk rules total before (here start.conn.reader rest) deeds end place × Leaves end place left)
+  pub talk : Talk rules before deeds end
+  pub done : HasDone deeds start now
+  pub leaves : (left : List ℕ) → Leaves end (here now.conn.reader left) left
   pub read_fault : end ≡ ReadFault → Rose start.conn.input.faults now.conn.input.faults
   pub write_fault : end ≡ WriteFault → Rose start.conn.output.faults now.conn.output.faults
 
 -- a session was served on a connection, from its greeting on
-pub record HasMet (rules : Rules) (before : Connection) (later : ℕ → Option ℕ) (count : ℕ) (end : SessionEnd)
-    (after : Connection) (later_now : ℕ → Option ℕ) (count_now : ℕ) : Type 0 where
-  pub served : HasServed rules (outside before.input before.output later count) end (outside after.input after.output later_now count_now)
+pub record HasMet (rules : Rules) (before : Connection) (clock : Readings) (end : SessionEnd) (after : Connection) (clock_now : Readings) : Type 0 where
+  pub served : HasServed rules (outside before.input before.output clock) end (outside after.input after.output clock_now)
   pub read_fault : end ≡ ReadFault → Rose before.input.faults after.input.faults
   pub write_fault : end ≡ WriteFault → Rose before.output.faults after.output.faults
   pub input_faults : before.input.faults ≤ after.input.faults
@@ -184,33 +179,28 @@ pub record HasMet (rules : Rules) (before : Connection) (later : ℕ → Option 
 pub record Lacks (came : InquiredSecret) (answer : Answer) : Type 0 where
   pub outcome : Outcome
   pub answers : AnswersSecret came outcome
-  pub fails : (text : List ℕ) → IsText answer.reply text → Fails outcome text answer.went
+  pub fails : (more : List Deed) → IsReply answer.reply more → Fails outcome more answer.went
   pub fits : (before after : Reader) → after.ended ≡ ended_of_secret came → (after.ended ≡ None → held after ≤ held before) → Fits answer.went before after
   pub fault : answer.went ≡ End ReadFault → came ≡ inquired.ReadFault
 
--- the client was asked for a passphrase, and it came to this
-pub record HasAsked (outcome : Outcome) (start now : Point) : Type 0 where
-  pub acted : HasActed (question ++ (Inquired 255 outcome ∷ [])) start now
-  pub taken : HasTaken (question ++ (Inquired 255 outcome ∷ [])) start now
-
--- it brought none, and this is the answer
+-- the client was asked for a passphrase, which brought none, and this is the answer
 pub record HasLacked (start : Point) (answer : Answer) (now : Point) : Type 0 where
   pub outcome : Outcome
-  pub asked : HasAsked outcome start now
-  pub fails : (text : List ℕ) → IsText answer.reply text → Fails outcome text answer.went
+  pub done : HasDone (question ++ (Inquired 255 outcome ∷ [])) start now
+  pub fails : (more : List Deed) → IsReply answer.reply more → Fails outcome more answer.went
   pub fits : Fits answer.went start.conn.reader now.conn.reader
   pub fault : answer.went ≡ End ReadFault → Rose start.conn.input.faults now.conn.input.faults
 
 -- the question wasn't written whole
 pub record HasNotAsked (start now : Point) : Type 0 where
-  pub done : List Deed
-  pub cut : (more : List Deed) → IsCut (question ++ more) done
-  pub acted : HasActed done start now
-  pub taken : HasTaken done start now
+  pub part : List Deed
+  pub cut : (more : List Deed) → IsCut (question ++ more) part
+  pub done : HasDone part start now
   pub rose : Rose start.conn.output.faults now.conn.output.faults
 
 abbrev pub IsInquired : Point → Result Brought Fault → Point → Type 0
-IsInquired start (Whole (Passphrase secret)) now = HasAsked (Data secret) start now × Fits On start.conn.reader now.conn.reader
+IsInquired start (Whole (Passphrase secret)) now =
+    HasDone (question ++ (Inquired 255 (Data secret) ∷ [])) start now × Fits On start.conn.reader now.conn.reader
 IsInquired start (Whole (Without answer)) now = HasLacked start answer now
 IsInquired start (Part fault) now = HasNotAsked start now
 

@@ -40,6 +40,7 @@ pub(crate) fn limits_of(rules: &Rules) -> Limits
 
 impl Cache {
     ghost use Rattle.std.specs.Option.{option_map};
+    ghost use Rattle.cache_policy.specs.declared.life.Life.TheVariants.{Endless};
     ghost use Rattle.cache_policy.specs.declared.mode.Mode.TheVariants.{User};
     ghost use Rattle.cache_policy.specs.declared.mark.MarkReply.{MarkReply};
     ghost use Rattle.cache_policy.specs.declared.mark.MarkReply.TheVariants.{Done};
@@ -66,7 +67,7 @@ impl Cache {
     /// Stores a passphrase for every mode, without a ttl. Where there is no memory for it, all stays as it is.
     pub(crate) fn put(&mut self, reading: u64, id: CacheId, secret: Secret) -> Result<(), NoMemory>
         ensures ok { OnOk result ((standing : Standing) → IsKept standing self.old
-            → IsKept (marked standing (put id secret) Done reading) self.new) }
+            → IsKept (marked standing (put id Endless secret) Done reading) self.new) }
         ensures err { OnErr result ((standing : Standing) → IsKept standing self.old → IsKept standing self.new) }
         ensures limits { self.new.limits ≡ self.old.limits }
     {

@@ -1,4 +1,4 @@
-ghost use Rattle.std.specs.Prelude.{◌≡◌, ◌∷◌, [], ℕ, Bool, true, List, Option, None};
+ghost use Rattle.std.specs.Prelude.{◌≡◌, ◌∷◌, [], ℕ, Bool, true, List, Option, None, Some};
 ghost use Rattle.assuan_server.specs.Connections.{Connection};
 ghost use Rattle.agent_commands.specs.declared.request.Request.TheVariants as request;
 ghost use Rattle.agent_commands.specs.declared.request.CacheCommand.TheVariants as command;
@@ -8,7 +8,7 @@ ghost use Rattle.agent_top.specs.declared.session.Went.TheVariants as went;
 ghost use Rattle.agent_top.specs.declared.cache.Cache.{Cache as TheCache};
 ghost use Rattle.agent_top.specs.Deeds.{Came, Wrote, Turned};
 ghost use Rattle.agent_top.specs.Exchanges.{Exchange, Stores, is_quiet, put, option_text};
-ghost use Rattle.agent_top.specs.Steps.{point, HasActed, HasPrepared, IsPrepared, IsInquired, IsBrought, IsText};
+ghost use Rattle.agent_top.specs.Steps.{point, HasDone, HasPrepared, IsPrepared, IsInquired, IsBrought, IsText};
 
 use crate::cache::Cache;
 use crate::reply::{Reply, WriteFault, done};
@@ -19,27 +19,28 @@ use assuan_server::{Code, Conn, InquiredSecret};
 use cache_policy::{CacheId, Life, Secret};
 use session_options::{OptionAnswer, Options, Rules};
 
-/// How a request is answered, once all else is done for it, and whether the session goes on then.
+/// How a request is answered, once all else is done for it, and how the session goes on then.
 #[derive(Drop)]
 pub(crate) struct Answer {
-    pub(crate) reply: Reply,
+    /// `None` where nothing more is written.
+    pub(crate) reply: Option<Reply>,
     pub(crate) went: Went,
 }
 
 impl Answer {
     /// The session goes on after this reply.
     fn on(reply: Reply) -> Answer
-        ensures reply { result.reply ≡ reply }
+        ensures reply { result.reply ≡ Some reply }
         ensures went { result.went ≡ went.On }
     {
         Answer {
-            reply,
+            reply: Some(reply),
             went: Went::On,
         }
     }
 
     fn failed(code: Code) -> Answer
-        ensures reply { result.reply ≡ Reply.Failed code }
+        ensures reply { result.reply ≡ Some (Reply.Failed code) }
         ensures went { result.went ≡ went.On }
     {
         Answer::on(Reply::Failed(code))
@@ -47,11 +48,22 @@ impl Answer {
 
     /// The session is over after this reply.
     fn last(reply: Reply, end: SessionEnd) -> Answer
-        ensures reply { result.reply ≡ reply }
+        ensures reply { result.reply ≡ Some reply }
         ensures went { result.went ≡ went.End end }
     {
         Answer {
-            reply,
+            reply: Some(reply),
+            went: Went::End(end),
+        }
+    }
+
+    /// The session is over, and nothing more is written.
+    fn none(end: SessionEnd) -> Answer
+        ensures reply { result.reply ≡ None }
+        ensures went { result.went ≡ went.End end }
+    {
+        Answer {
+            reply: None,
             went: Went::End(end),
         }
     }
@@ -67,8 +79,8 @@ pub(crate) fn carry_out<L: Link, C: Clock>(
     clock: &mut C,
 ) -> Result<Answer, WriteFault>
     requires { conn.old.reader.ended ≡ None }
-    ensures { IsPrepared rules.now options.old request (point conn.old (C.later clock.old) (C.readings clock.old) cache.old)
-        result options.new (point conn.new (C.later clock.new) (C.readings clock.new) cache.new) }
+    ensures { IsPrepared rules.now options.old request (point conn.old (C.later clock.old) (C.readings clock.old) (C.last clock.old) cache.old)
+        result options.new (point conn.new (C.later clock.new) (C.readings clock.new) (C.last clock.new) cache.new) }
 {
     match request {
         Request::Bad(code) => Ok(Answer::failed(code)),
@@ -86,8 +98,8 @@ fn run_cache<L: Link, C: Clock>(
 ) -> Result<Answer, WriteFault>
     requires { conn.old.reader.ended ≡ None }
     ensures { IsPrepared rules.now options.old (request.Cache command)
-        (point conn.old (C.later clock.old) (C.readings clock.old) cache.old)
-        result options.new (point conn.new (C.later clock.new) (C.readings clock.new) cache.new) }
+        (point conn.old (C.later clock.old) (C.readings clock.old) (C.last clock.old) cache.old)
+        result options.new (point conn.new (C.later clock.new) (C.readings clock.new) (C.last clock.new) cache.new) }
 {
     match command {
         CacheCommand::Nop => Ok(Answer::on(Reply::Ok)),
@@ -146,8 +158,8 @@ fn get_passphrase<C: Clock>(
 ) -> Answer
     ensures { (rules : TheRules) (before : Choices) (check quality : Bool) (repeat : ℕ) (conn : Connection) → conn.reader.ended ≡ None
         → HasPrepared rules before (request.Cache (command.GetPassphrase plain check no_ask repeat quality id texts))
-        (point conn (C.later clock.old) (C.readings clock.old) cache.old) result before
-        (point conn (C.later clock.new) (C.readings clock.new) cache.new) }
+        (point conn (C.later clock.old) (C.readings clock.old) (C.last clock.old) cache.old) result before
+        (point conn (C.later clock.new) (C.readings clock.new) (C.last clock.new) cache.new) }
 {
     if !is_quiet(no_ask, &texts) {
         return Answer::failed(Code::NotSupported);
@@ -180,8 +192,8 @@ fn preset_passphrase<L: Link, C: Clock>(
 ) -> Result<Answer, WriteFault>
     requires { conn.old.reader.ended ≡ None }
     ensures { (before : Choices) → IsPrepared rules.now before (request.Cache (command.PresetPassphrase id life secret))
-        (point conn.old (C.later clock.old) (C.readings clock.old) cache.old)
-        result before (point conn.new (C.later clock.new) (C.readings clock.new) cache.new) }
+        (point conn.old (C.later clock.old) (C.readings clock.old) (C.last clock.old) cache.old)
+        result before (point conn.new (C.later clock.new) (C.readings clock.new) (C.last clock.new) cache.new) }
 {
     let Life::Endless = life else {
         return Ok(Answer::failed(Code::NotSupported));
@@ -205,8 +217,8 @@ fn preset_inquired<L: Link, C: Clock>(
     requires { conn.old.reader.ended ≡ None }
     ensures { (rules : TheRules) (before : Choices) → rules.allow_preset ≡ true
         → IsPrepared rules before (request.Cache (command.PresetPassphrase id Life.Endless None))
-        (point conn.old (C.later clock.old) (C.readings clock.old) cache.old)
-        result before (point conn.new (C.later clock.new) (C.readings clock.new) cache.new) }
+        (point conn.old (C.later clock.old) (C.readings clock.old) (C.last clock.old) cache.old)
+        result before (point conn.new (C.later clock.new) (C.readings clock.new) (C.last clock.new) cache.new) }
 {
     match inquire_passphrase(conn)? {
         Brought::Passphrase(secret) => Ok(Answer::on(store(id, secret, cache, clock))),
@@ -217,10 +229,10 @@ fn preset_inquired<L: Link, C: Clock>(
 /// Stores a passphrase at the clock's next reading.
 fn store<C: Clock>(id: CacheId, secret: Secret, cache: &mut Cache, clock: &mut C) -> Reply
     ensures { (came : Came)
-        × ((text : List ℕ) → IsText result text → Stores id secret (Turned (put id secret) came ∷ Wrote text ∷ []))
-        × ((conn : Connection) → HasActed (Turned (put id secret) came ∷ [])
-        (point conn (C.later clock.old) (C.readings clock.old) cache.old)
-        (point conn (C.later clock.new) (C.readings clock.new) cache.new)) }
+        × ((text : List ℕ) → IsText result text → Stores id Life.Endless secret (Turned (put id Life.Endless secret) came ∷ Wrote text ∷ []))
+        × ((conn : Connection) → HasDone (Turned (put id Life.Endless secret) came ∷ [])
+        (point conn (C.later clock.old) (C.readings clock.old) (C.last clock.old) cache.old)
+        (point conn (C.later clock.new) (C.readings clock.new) (C.last clock.new) cache.new)) }
 {
     match cache.put(clock.now(), id, secret) {
         Ok(()) => Reply::Ok,
@@ -238,8 +250,8 @@ pub(crate) enum Brought {
 /// Asks the client for a passphrase.
 fn inquire_passphrase<L: Link>(conn: &mut Conn<'_, L>) -> Result<Brought, WriteFault>
     requires { conn.old.reader.ended ≡ None }
-    ensures { (later : ℕ → Option ℕ) (count : ℕ) (cache : TheCache)
-        → IsInquired (point conn.old later count cache) result (point conn.new later count cache) }
+    ensures { (later : ℕ → Option ℕ) (count last : ℕ) (cache : TheCache)
+        → IsInquired (point conn.old later count last cache) result (point conn.new later count last cache) }
 {
     done(conn.status(b"INQUIRE_MAXLEN", b"255"))?;
     passphrase_of(conn.inquire_secret(b"PASSPHRASE", b""))
@@ -258,9 +270,9 @@ fn passphrase_of(inquired: InquiredSecret) -> Result<Brought, WriteFault>
             Reply::Failed(Code::LineTooLong),
             SessionEnd::TooLong,
         ),
-        InquiredSecret::Ended => Answer::last(Reply::Nothing, SessionEnd::Ended),
-        InquiredSecret::Spent => Answer::last(Reply::Nothing, SessionEnd::Spent),
-        InquiredSecret::ReadFault => Answer::last(Reply::Nothing, SessionEnd::ReadFault),
+        InquiredSecret::Ended => Answer::none(SessionEnd::Ended),
+        InquiredSecret::Spent => Answer::none(SessionEnd::Spent),
+        InquiredSecret::ReadFault => Answer::none(SessionEnd::ReadFault),
     };
     Ok(Brought::Without(without))
 }

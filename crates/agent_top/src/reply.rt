@@ -18,7 +18,6 @@ const VERSION: &[u8] = b"2.4.0";
 /// What a request is answered, once all else is done for it.
 #[derive(Drop)]
 pub(crate) enum Reply {
-    Nothing,
     Ok,
     Closing,
     Help,
@@ -40,7 +39,6 @@ pub(crate) fn write_reply<L: Link>(conn: &mut Conn<'_, L>, reply: &Reply) -> Res
     ensures { (text : List ℕ) × IsText reply.now text × HasSaid text conn.old result conn.new }
 {
     match reply {
-        Reply::Nothing => Ok(()),
         Reply::Ok => done(conn.ok(b"")),
         Reply::Closing => done(conn.ok(b"closing connection")),
         Reply::Help => write_help(conn),

@@ -1,20 +1,21 @@
 use Rattle.std.proofs.Common.{[], ◌∷◌, refl, sym, subst}
 use Rattle.agent_ports.proofs.Given.{given_one}
+use Rattle.cache_policy.specs.declared.life.Life.TheVariants.{Endless}
 use Rattle.cache_policy.specs.declared.mark.MarkReply.TheVariants as reply
 use Rattle.agent_top.specs.Cache.{marked, done, turned, refused, none}
 use Rattle.agent_top.specs.Deeds.{Done, Refused, Wrote, Turned}
 use Rattle.agent_top.specs.Exchanges.{Stores, stored, no_memory, put}
-use Rattle.agent_top.proofs.Preparing.{acted_turned}
+use Rattle.agent_top.proofs.Doing.{done_turned}
 use Rattle.agent_top.proofs.command.store.Goals as goal
 
 pub returns-in-Ok : goal.returns-in-Ok
 returns-in-Ok g c = (
   Done,
-  λ text is. subst (λ t. Stores c.args.id c.args.secret (Turned (put c.args.id c.args.secret) Done ∷ Wrote t ∷ [])) (sym is) stored,
-  λ conn. acted_turned (put c.args.id c.args.secret) Done conn _ _ _ _ c.now.result _ _
-      (given_one _ _ _ _ c.now.result c.now.ensures.rose c.now.ensures.told c.now.ensures.later) c.put.ensures.limits
+  λ text is. subst (λ t. Stores c.args.id Endless c.args.secret (Turned (put c.args.id Endless c.args.secret) Done ∷ Wrote t ∷ [])) (sym is) stored,
+  λ conn. done_turned (put c.args.id Endless c.args.secret) Done conn _ _ c.now.result _ _
+      (given_one c.now.result c.now.ensures.rose c.now.ensures.last c.now.ensures.told c.now.ensures.later) c.put.ensures.limits
       (λ standing kept. (
-        marked standing (put c.args.id c.args.secret) reply.Done c.now.result,
+        marked standing (put c.args.id Endless c.args.secret) reply.Done c.now.result,
         turned reply.Done (done refl) none,
         c.in-Ok.ensures.ok standing kept,
       )),
@@ -23,8 +24,8 @@ returns-in-Ok g c = (
 pub returns-in-Err : goal.returns-in-Err
 returns-in-Err g c = (
   Refused,
-  λ text is. subst (λ t. Stores c.args.id c.args.secret (Turned (put c.args.id c.args.secret) Refused ∷ Wrote t ∷ [])) (sym is) no_memory,
-  λ conn. acted_turned (put c.args.id c.args.secret) Refused conn _ _ _ _ c.now.result _ _
-      (given_one _ _ _ _ c.now.result c.now.ensures.rose c.now.ensures.told c.now.ensures.later) c.put.ensures.limits
+  λ text is. subst (λ t. Stores c.args.id Endless c.args.secret (Turned (put c.args.id Endless c.args.secret) Refused ∷ Wrote t ∷ [])) (sym is) no_memory,
+  λ conn. done_turned (put c.args.id Endless c.args.secret) Refused conn _ _ c.now.result _ _
+      (given_one c.now.result c.now.ensures.rose c.now.ensures.last c.now.ensures.told c.now.ensures.later) c.put.ensures.limits
       (λ standing kept. (standing, refused none, c.in-Err.ensures.err standing kept)),
 )

@@ -1,0 +1,176 @@
+-- Deeds one after another: what they wrote, the turns that they took, and the lines.
+use Rattle.std.proofs.Common.{◌≡◌, ◌≤◌, ◌+◌, ℕ, Bool, List, [], ◌∷◌, ◌++◌, length, Option, None, Ok, Err, refl, ap, sym, ◌∙◌, subst, arith, append-nil}
+use Rattle.std.proofs.lemmas.Grind.{flat_map-append}
+use Rattle.agent_ports.specs.Readings.{Readings, HasGiven, none as not_read}
+use Rattle.agent_ports.specs.Sides.{Side, with_bytes, WhereTold}
+use Rattle.agent_ports.proofs.Given.{given_then}
+use Rattle.agent_ports.proofs.Told.{told_same, told_then, told_both, with_bytes-append}
+use Rattle.assuan_line.specs.Next.{Reader, ended_by}
+use Rattle.assuan_line.specs.declared.reader.Took.{Took}
+use Rattle.assuan_line.specs.declared.reader.Took.TheVariants as took
+use Rattle.assuan_server.specs.Connections.{Connection}
+use Rattle.assuan_server.specs.Passing.{Comes, Says}
+use Rattle.assuan_server.specs.Requests.{IsNextRequest, is_ignored}
+use Rattle.cache_policy.specs.declared.life.Limits.{Limits}
+use Rattle.cache_policy.specs.declared.mark.MarkStep.{MarkStep}
+use Rattle.agent_top.specs.Cache.{Standing, Turns, none as no_turns, heard as turns_heard, wrote as turns_wrote, inquired as turns_inquired, turned, refused}
+use Rattle.agent_top.specs.Deeds.{Came, Deed, Heard, Wrote, Turned, written, output_of}
+use Rattle.agent_top.specs.Reading.{Reads, line, too_long, end, spent, fault, ReadsPast, Takes, none as no_lines, heard as takes_heard, wrote as takes_wrote, turned as takes_turned, inquired as takes_inquired}
+use Rattle.agent_top.specs.Steps.{HasStopped, HasSaid, IsKept, Point, here, IsTotal, TakesLines, HasDone}
+use Rattle.agent_top.specs.declared.cache.Cache.{Cache}
+use Rattle.agent_top.specs.declared.reply.WriteFault.{WriteFault}
+use Rattle.agent_top.proofs.Saying.{with_nothing}
+
+-- one list of turns, and then another
+turns_then : {limits : Limits} {standing mid after : Standing} {first second : List Deed} {readings more : List ℕ} → Turns limits standing first readings mid → Turns limits mid second more after → Turns limits standing (first ++ second) (readings ++ more) after
+turns_then no_turns later = later
+turns_then (turns_heard turns) later = turns_heard (turns_then turns later)
+turns_then (turns_wrote turns) later = turns_wrote (turns_then turns later)
+turns_then (turns_inquired turns) later = turns_inquired (turns_then turns later)
+turns_then (turned reply ruled turns) later = turned reply ruled (turns_then turns later)
+turns_then (refused turns) later = refused (turns_then turns later)
+
+-- the lines of some deeds, and then those of others
+takes_then : {total : ℕ} {bytes mid rest : List ℕ} {first second : List Deed} → Takes total bytes first mid → Takes total mid second rest → Takes total bytes (first ++ second) rest
+takes_then no_lines later = later
+takes_then (takes_heard reads takes) later = takes_heard reads (takes_then takes later)
+takes_then (takes_wrote takes) later = takes_wrote (takes_then takes later)
+takes_then (takes_turned takes) later = takes_turned (takes_then takes later)
+takes_then (takes_inquired answer takes) later = takes_inquired answer (takes_then takes later)
+
+-- deeds that read nothing took no line
+pub taken_none : (deeds : List Deed) (input input_now : Side) (reader reader_now : Reader) → input_now ≡ input → reader_now ≡ reader → ((total : ℕ) (bytes : List ℕ) → Takes total bytes deeds bytes) → WhereTold input.bytes input_now.bytes (TakesLines deeds reader reader_now)
+taken_none deeds input input_now reader reader_now same same_reader takes =
+    subst (λ (s : Side). WhereTold input.bytes s.bytes (TakesLines deeds reader reader_now)) (sym same)
+    (subst (λ (r : Reader). WhereTold input.bytes input.bytes (TakesLines deeds reader r)) (sym same_reader)
+    (told_same input.bytes _ (λ rest. λ total is. (takes total (here reader rest), is))))
+
+pub done_none : (now : Point) → HasDone [] now now
+done_none now = record {
+  written = with_nothing now.conn.output.bytes;
+  output_faults = omega arith;
+  readings = [];
+  given = not_read;
+  turns = λ standing kept. (standing, no_turns, kept);
+  limits = refl;
+  taken = taken_none [] now.conn.input now.conn.input now.conn.reader now.conn.reader refl refl (λ total bytes. no_lines);
+  input_faults = omega arith;
+  link = refl;
+}
+
+pub done_then : {first second : List Deed} {start mid now : Point} → HasDone first start mid → HasDone second mid now → HasDone (first ++ second) start now
+done_then {first} {second} {start} {mid} {now} one two = record {
+  written =
+      two.written ∙ ap (λ (o : Option (List ℕ)). with_bytes o (output_of second)) one.written
+      ∙ with_bytes-append start.conn.output.bytes (output_of first) (output_of second)
+      ∙ ap (λ (x : List ℕ). with_bytes start.conn.output.bytes x) (sym (flat_map-append written first second));
+  output_faults = omega (arith, one.output_faults, two.output_faults);
+  readings = one.readings ++ two.readings;
+  given = given_then one.given two.given;
+  turns = λ standing kept.
+      let first_turns = one.turns standing kept in
+      let second_turns = two.turns first_turns.0 first_turns.2 in (
+        second_turns.0,
+        turns_then first_turns.1 (subst (λ l. Turns l first_turns.0 second two.readings second_turns.0) one.limits second_turns.1),
+        second_turns.2,
+      );
+  limits = two.limits ∙ one.limits;
+  taken =
+      told_then start.conn.input.bytes mid.conn.input.bytes now.conn.input.bytes _ _ _ one.taken two.taken (λ rest left more first_takes second_takes. λ total is.
+      let before = first_takes total is in
+      let after = second_takes total before.1 in
+      (takes_then before.0 after.0, after.1));
+  input_faults = omega (arith, one.input_faults, two.input_faults);
+  link = two.link ∙ one.link;
+}
+
+-- a text was written
+pub done_wrote : (text : List ℕ) (start now : Connection) (clock : Readings) (cache : Cache) → HasSaid text start (Ok tt) now → HasDone (Wrote text ∷ []) (record { conn = start; clock = clock; cache = cache }) (record { conn = now; clock = clock; cache = cache })
+done_wrote text start now clock cache said = record {
+  written = said.output ∙ ap (λ (x : List ℕ). with_bytes start.output.bytes x) (sym (append-nil text));
+  output_faults = said.faults;
+  readings = [];
+  given = not_read;
+  turns = λ standing kept. (standing, turns_wrote no_turns, kept);
+  limits = refl;
+  taken = taken_none (Wrote text ∷ []) start.input now.input start.reader now.reader said.input said.reader (λ total bytes. takes_wrote no_lines);
+  input_faults = omega (arith, ap (λ (s : Side). s.faults) said.input);
+  link = said.link;
+}
+
+-- a write stopped
+pub done_stopped : (text : List ℕ) (start now : Connection) (clock : Readings) (cache : Cache) (why : WriteFault) (stopped : HasStopped text start.output now.output) → HasSaid text start (Err why) now → HasDone (Wrote stopped.sent ∷ []) (record { conn = start; clock = clock; cache = cache }) (record { conn = now; clock = clock; cache = cache })
+done_stopped text start now clock cache why stopped said = record {
+  written = stopped.written ∙ ap (λ (x : List ℕ). with_bytes start.output.bytes x) (sym (append-nil stopped.sent));
+  output_faults = said.faults;
+  readings = [];
+  given = not_read;
+  turns = λ standing kept. (standing, turns_wrote no_turns, kept);
+  limits = refl;
+  taken = taken_none (Wrote stopped.sent ∷ []) start.input now.input start.reader now.reader said.input said.reader (λ total bytes. takes_wrote no_lines);
+  input_faults = omega (arith, ap (λ (s : Side). s.faults) said.input);
+  link = said.link;
+}
+
+-- a turn of the cache
+pub done_turned : (asked : MarkStep) (came : Came) (conn : Connection) (clock clock_now : Readings) (reading : ℕ) (cache cache_now : Cache) → HasGiven clock (reading ∷ []) clock_now → cache_now.limits ≡ cache.limits → ((standing : Standing) → IsKept standing cache → (after : Standing) × Turns cache.limits standing (Turned asked came ∷ []) (reading ∷ []) after × IsKept after cache_now) → HasDone (Turned asked came ∷ []) (record { conn = conn; clock = clock; cache = cache }) (record { conn = conn; clock = clock_now; cache = cache_now })
+done_turned asked came conn clock clock_now reading cache cache_now given limits turns = record {
+  written = with_nothing conn.output.bytes;
+  output_faults = omega arith;
+  readings = reading ∷ [];
+  given = given;
+  turns = turns;
+  limits = limits;
+  taken = taken_none (Turned asked came ∷ []) conn.input conn.input conn.reader conn.reader refl refl (λ total bytes. takes_turned no_lines);
+  input_faults = omega arith;
+  link = refl;
+}
+
+-- What an answer says is what is read. The reader stands as the answer makes it.
+reads : (total : ℕ) (later : List ℕ) (answer : Took) (ahead : List ℕ) (count : ℕ) (left : List ℕ) → IsTotal total (record { ahead = ahead; left = count; ended = ended_by answer }) left → Says later answer (record { ahead = ahead; left = count; ended = ended_by answer }) left → Reads total later answer (here (record { ahead = ahead; left = count; ended = ended_by answer }) left)
+reads total later (took.Line text) ahead count left is says = subst (λ (x : List ℕ). Reads total later (took.Line text) x) (sym says.1) (line says.0)
+reads total later took.TooLong ahead count left is says = too_long says
+reads total later took.End ahead count left is says =
+    subst (λ (x : List ℕ). Reads total later took.End x) (sym says.1)
+    (end says.0 (omega (arith, is, says.2, ap (λ (l : List ℕ). length l) says.1)))
+reads total later took.Spent ahead count left is says = spent says.0 (omega (arith, is, says.1))
+reads total later took.ReadFault ahead count left is says = fault says.0 (omega (arith, is, says.1))
+
+pub reads_past : (passes : List ℕ → Bool) (total : ℕ) (bytes : List ℕ) (lines : List (List ℕ)) (answer : Took) (after : Reader) (left : List ℕ) → after.ended ≡ ended_by answer → IsTotal total after left → Comes passes bytes lines answer after left → ReadsPast passes total bytes lines answer (here after left)
+reads_past passes total bytes lines answer after left ended is comes =
+    let as_ended : after ≡ record { ahead = after.ahead; left = after.left; ended = ended_by answer } =
+    ap (λ (o : Option Took). record { ahead = after.ahead; left = after.left; ended = o }) ended in
+    record {
+      later = comes.later;
+      passed = comes.passed;
+      stops = comes.stops;
+      reads =
+          subst (λ (r : Reader). Reads total comes.later answer (here r left)) (sym as_ended)
+          (reads total comes.later answer after.ahead after.left left is (subst (λ (r : Reader). Says comes.later answer r left) as_ended comes.says));
+    }
+
+-- the bytes before a read are those ahead and those that the source holds
+pub here_going : (reader : Reader) (left : List ℕ) → reader.ended ≡ None → here reader left ≡ reader.ahead ++ left
+here_going reader left going = rw going refl
+
+-- the next request was read
+pub done_heard : (start now : Connection) (clock : Readings) (cache : Cache) (answer : Took) → start.reader.ended ≡ None → now.reader.ended ≡ ended_by answer → now.output ≡ start.output → now.link ≡ start.link → start.input.faults ≤ now.input.faults → WhereTold start.input.bytes now.input.bytes (λ rest left. IsNextRequest (start.reader.ahead ++ rest) answer now.reader left) → WhereTold start.input.bytes now.input.bytes (λ rest left. length rest + now.reader.left ≡ length left + start.reader.left) → HasDone (Heard answer ∷ []) (record { conn = start; clock = clock; cache = cache }) (record { conn = now; clock = clock; cache = cache })
+done_heard start now clock cache answer going ended_so output link faults request count = record {
+  written = ap (λ (s : Side). s.bytes) output ∙ with_nothing start.output.bytes;
+  output_faults = omega (arith, ap (λ (s : Side). s.faults) output);
+  readings = [];
+  given = not_read;
+  turns = λ standing kept. (standing, turns_heard no_turns, kept);
+  limits = refl;
+  taken =
+      told_then start.input.bytes now.input.bytes now.input.bytes _ (λ rest left. rest ≡ left) _
+      (told_both start.input.bytes now.input.bytes _ _ request count) (told_same now.input.bytes _ (λ rest. refl))
+      (λ rest left more read same. λ total is.
+      let is_now : IsTotal total now.reader left = omega (arith, is, read.1) in
+      let takes : Takes total (here start.reader rest) (Heard answer ∷ []) (here now.reader left) =
+      subst (λ (b : List ℕ). Takes total b (Heard answer ∷ []) (here now.reader left)) (sym (here_going start.reader rest going))
+      (takes_heard (read.0.0, reads_past is_ignored total (start.reader.ahead ++ rest) read.0.0 answer now.reader left ended_so is_now read.0.1) no_lines) in
+      subst (λ (x : List ℕ). Takes total (here start.reader rest) (Heard answer ∷ []) (here now.reader x) × IsTotal total now.reader x) same (takes, is_now));
+  input_faults = faults;
+  link = link;
+}
