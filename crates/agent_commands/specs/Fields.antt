@@ -51,7 +51,7 @@ abbrev pub repeats : Option (List ℕ) → Option ℕ
 repeats None = Some 0
 repeats (Some option) =
     if bytes_eq option (codes "--repeat") then Some 1
-    else option_and_then up_to_16 (number_of 2 (drop 9 option))
+    else option_and_then up_to_16 (number_of 2 (drop (length (codes "--repeat=")) option))
 
 -- a number of seconds, where 0 is the usual lifetime
 abbrev pub life_of_seconds : ℕ → Option Life

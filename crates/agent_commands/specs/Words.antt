@@ -1,6 +1,6 @@
 -- The words of a line, as the commands of an Assuan server read them: the command, and after blanks and tabs its options
 -- and arguments. Which of two options counts, and that others are passed over, is this project's own rule.
-use Rattle.std.specs.Prelude.{ℕ, ◌||◌, ◌&&◌, nat_le, not, Bool, List, [], ◌∷◌, length, take, drop, fold, codes, Option, Some, None, if◌then◌else◌}
+use Rattle.std.specs.Prelude.{ℕ, ◌||◌, ◌&&◌, nat_le, not, Bool, List, [], ◌∷◌, length, take, drop, find, reverse, codes, Option, if◌then◌else◌}
 use Rattle.std.specs.List.{prefix_len, position_or_len, before_first, slice_split, filter, list_any}
 use Rattle.std.specs.Str.{bytes_eq}
 use Rattle.session_options.specs.Text.{is_blank, without_blanks}
@@ -43,7 +43,6 @@ abbrev pub names_option : List ℕ → List ℕ → Bool
 names_option name option =
     bytes_eq option name || bytes_eq (take (length name) option) name && bytes_eq (take 1 (drop (length name) option)) (codes "=")
 
--- the last option of this name, with a value or without
+-- the last of the options of this name, with a value or without
 abbrev pub last_option : List ℕ → List (List ℕ) → Option (List ℕ)
-last_option name options =
-    fold (λ latest option. if names_option name option then Some option else latest) None options
+last_option name options = find (names_option name) (reverse options)

@@ -72,7 +72,7 @@ pub(crate) fn repeats(text: &[u8]) -> Option<u8>
     if option == REPEAT {
         return Some(1);
     }
-    let value = option.get(9..).unwrap_or(b"");
+    let value = option.get(REPEAT.len() + 1..).unwrap_or(b"");
     match number_of(value, 2)? {
         number @ ..=16 => Some(number as u8),
         _ => None,

@@ -17,6 +17,6 @@ use arrayvec::ArrayVec;
 /// What a line can hold: at most 1,000 bytes.
 type Text = ArrayVec<u8, 1000>;
 
-pub use names::{COMMANDS, CommandName};
+pub use names::{COMMANDS, CommandName, commands_are_as_defined};
 pub use read::read_request;
 pub use request::{CacheCommand, Info, Request, Texts};

@@ -1,5 +1,6 @@
-ghost use Rattle.std.specs.Prelude.{◌≡◌};
-ghost use Rattle.agent_commands.specs.Names.{command_named, what_named, is_listed};
+ghost use Rattle.std.specs.Prelude.{◌≡◌, map};
+ghost use Rattle.agent_commands.specs.declared.names.TheConstants.{COMMANDS};
+ghost use Rattle.agent_commands.specs.Names.{commands, command_named, what_named, is_listed};
 
 use crate::table::{found_in_any_case, has_pair};
 use session_options::found;
@@ -28,6 +29,11 @@ pub const COMMANDS: [(&[u8], CommandName); 8] = [
     (b"GET_PASSPHRASE", CommandName::GetPassphrase),
     (b"PRESET_PASSPHRASE", CommandName::PresetPassphrase),
 ];
+
+/// A law: `COMMANDS` has the names as they are defined, in this order.
+pub fn commands_are_as_defined()
+    ensures { map (λ row. (row.0.now, row.1)) COMMANDS ≡ commands }
+{}
 
 /// What GETINFO can be asked for.
 #[derive(Clone, Copy, Debug, PartialEq, Eq)]

@@ -86,11 +86,21 @@ fn commands_are_known_in_any_case(rt: HostRuntime) -> Result<(), Fail> {
     assert!(rt; matches!(request(b" \tReSeT and more")?, Request::Cache(Reset)));
     assert!(rt; matches!(request(b"BYE")?, Request::Cache(Bye)));
     assert!(rt; matches!(request(b"help GETINFO")?, Request::Cache(Help)));
-    let infos: [(&[u8], Info); 6] = [
+    let infos: [(&[u8], Info); 10] = [
         (b"getinfo version", Info::Version),
         (b"GETINFO\tpid more", Info::Pid),
         (b"GETINFO --frob s2k_count", Info::S2kCount),
         (b"GETINFO -- version", Info::Version),
+        (b"GETINFO cmd_has_option GET_PASSPHRASE data", Info::Listed),
+        (b"GETINFO cmd_has_option GET_PASSPHRASE check", Info::Listed),
+        (
+            b"GETINFO cmd_has_option GET_PASSPHRASE no-ask",
+            Info::Listed,
+        ),
+        (
+            b"GETINFO cmd_has_option GET_PASSPHRASE repeat",
+            Info::Listed,
+        ),
         (
             b"GETINFO cmd_has_option GET_PASSPHRASE qualitybar",
             Info::Listed,

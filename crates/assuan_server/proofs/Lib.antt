@@ -3,3 +3,4 @@ mod ErrorLines
 mod OnlyData
 mod Sending
 mod Writing
+mod OnlyOutcome

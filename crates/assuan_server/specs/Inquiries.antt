@@ -71,6 +71,14 @@ pub record Inquiry (limit : ℕ) (bytes : List ℕ) (outcome : Outcome) (after :
   pub comes : Comes is_passing bytes lines took after left
   pub comes_to : ComesTo limit (flat_map carried lines) took outcome
 
+-- a line of the client closed the inquiry
+abbrev pub IsClosed : Outcome → Type 0
+IsClosed (Data bytes) = Unit {0}
+IsClosed Cancelled = Unit {0}
+IsClosed TooMuch = Unit {0}
+IsClosed Unexpected = Unit {0}
+IsClosed _ = ⊥
+
 -- END was read, within the limit or past it
 abbrev pub IsAtEnd : Outcome → Type 0
 IsAtEnd (Data bytes) = Unit {0}

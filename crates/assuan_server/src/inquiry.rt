@@ -2,11 +2,11 @@ ghost use Rattle.std.specs.Prelude.{◌≡◌, ◌≢◌, ◌≤◌, ◌<◌, �
 ghost use Rattle.agent_ports.specs.Counts.{Rose};
 ghost use Rattle.agent_ports.specs.Sides.{with_bytes, WhereTold};
 ghost use Rattle.assuan_line.specs.Lines.{IsLine};
-ghost use Rattle.assuan_line.specs.Next.{OnLine, held, ended_by};
+ghost use Rattle.assuan_line.specs.Next.{Reader, OnLine, held, ended_by};
 ghost use Rattle.assuan_server.specs.Passing.{Comes};
 ghost use Rattle.assuan_server.specs.Written.{line_of, HasWritten};
 ghost use Rattle.assuan_server.specs.Kept.{Collects, Buffers};
-ghost use Rattle.assuan_server.specs.Inquiries.{inquire_text, Inquiry, Outcome, ComesTo, Answers, AnswersSecret, IsWord, IfData, ended_of, ended_of_secret};
+ghost use Rattle.assuan_server.specs.Inquiries.{inquire_text, Inquiry, Outcome, ComesTo, Answers, AnswersSecret, IsWord, IfData, IsClosed, ended_of, ended_of_secret};
 
 use crate::Text;
 use crate::closing::{Closing, closing_of};
@@ -167,6 +167,14 @@ impl<'a, L: Link> Conn<'a, L> {
         self.say(&line)
     }
 }
+
+/// A law: the bytes decide what an inquiry comes to that a line closes, and which bytes are left behind that line.
+pub fn inquiries_come_to_one_outcome()
+    ensures { (limit : ℕ) (bytes : List ℕ) (outcome other : Outcome) (after later : Reader) (left rest : List ℕ)
+        → IsClosed outcome → IsClosed other
+        → Inquiry limit bytes outcome after left → Inquiry limit bytes other later rest
+        → (outcome ≡ other) × (after.ahead ++ left ≡ later.ahead ++ rest) }
+{}
 
 /// What an inquiry comes to whose bytes are kept so, by the answer after its data lines.
 fn collected(took: Took, kept: Collected) -> Inquired

@@ -18,7 +18,8 @@ type Text = ArrayVec<u8, 1000>;
 pub use conn::Conn;
 pub use data::data_lines_are_the_only_ones;
 pub use errors::{Code, Origin};
-pub use inquiry::{Inquired, InquiredSecret};
+pub use inquiry::{Inquired, InquiredSecret, inquiries_come_to_one_outcome};
+pub use request::requests_are_the_only_ones;
 
 #[cfg(test)]
 mod tests;

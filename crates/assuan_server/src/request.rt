@@ -1,9 +1,10 @@
 ghost use Rattle.std.specs.Prelude.{◌≡◌, ◌+◌, ◌++◌, ◌∷◌, [], ℕ, List, true, false, drop, not, position};
 ghost use Rattle.std.specs.List.{position_or_len};
-ghost use Rattle.assuan_server.specs.Requests.{is_blank, after_blanks, is_ignored};
+ghost use Rattle.assuan_server.specs.Requests.{is_blank, after_blanks, is_ignored, IsNextRequest};
+ghost use Rattle.assuan_line.specs.Next.{Reader};
 
 use crate::passing::Sieve;
-use assuan_line::Line;
+use assuan_line::{Line, Took};
 
 /// The lines that are no requests, of which nothing is kept.
 #[derive(Drop)]
@@ -20,6 +21,13 @@ impl Sieve for Ignored {
         is_ignored(line.bytes())
     }
 }
+
+/// A law: the bytes decide which line is the next request, and which bytes are left behind it.
+pub fn requests_are_the_only_ones()
+    ensures { (bytes line other : List ℕ) (after later : Reader) (left rest : List ℕ)
+        → IsNextRequest bytes (Took.Line line) after left → IsNextRequest bytes (Took.Line other) later rest
+        → (line ≡ other) × (after.ahead ++ left ≡ later.ahead ++ rest) }
+{}
 
 /// Whether the line is empty or a comment, behind its blanks and tabs.
 fn is_ignored(line: &[u8]) -> bool

@@ -1,12 +1,12 @@
-use Rattle.std.proofs.Common.{◌≡◌, length, fold, Some, if◌then◌else◌}
-use Rattle.std.specs.Option.{option_map}
+use Rattle.std.proofs.Common.{◌≡◌, length, find, reverse}
+use Rattle.std.specs.Option.{option_map, option_or}
 use Rattle.agent_commands.specs.Words.{names_option, last_option, options_of, words}
 use Rattle.agent_commands.proofs.options.last_option.Given as goal
 
--- the options that are left go on with the last one so far
+-- the last among the options that are left, or else the one before them
 abbrev pub invariant-loop-option : goal.invariant-loop-option
 invariant-loop-option l =
-    fold (λ latest option. if names_option l.name option then Some option else latest) (option_map (λ option. option.now) l.latest) (options_of (words l.rest))
+    option_or (find (names_option l.name) (reverse (options_of (words l.rest)))) (option_map (λ option. option.now) l.latest)
     ≡ last_option l.name (options_of (words l.text))
 
 abbrev pub decreases-loop-option : goal.decreases-loop-option
