@@ -1,4 +1,5 @@
--- The arguments of requests.
+-- The arguments of requests (GnuPG manual, "Agent GET_PASSPHRASE", "Agent PRESET_PASSPHRASE"). Their bounds, and the texts that
+-- `X` stands for, are this project's own.
 use Rattle.std.specs.Prelude.{ℕ, ◌==◌, ◌&&◌, nat_le, Bool, true, List, [], ◌∷◌, length, drop, codes, Option, Some, None, Result, Ok, Err, if◌then◌else◌}
 use Rattle.std.specs.Option.{option_and_then}
 use Rattle.std.specs.Str.{bytes_eq}

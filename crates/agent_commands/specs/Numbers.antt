@@ -1,4 +1,4 @@
--- Numbers in words.
+-- Numbers in words. How many digits they may have is this project's own.
 use Rattle.std.specs.Prelude.{ℕ, ◌&&◌, nat_le, List, length, Option, Some, None, if◌then◌else◌}
 use Rattle.std.specs.Str.{all_ascii_digits}
 use Rattle.session_options.specs.Table.{decimal}

@@ -1,4 +1,5 @@
--- What a line asks for, or the fault for which it is refused.
+-- What a line asks for, or the fault for which it is refused (GnuPG manual, "Agent's Assuan protocol"). Which fault a refusal has is
+-- this project's own.
 use Rattle.std.specs.Prelude.{ℕ, List, [], ◌∷◌, codes, Option, Some, None, if◌then◌else◌}
 use Rattle.cache_policy.specs.declared.life.Life.{Life}
 use Rattle.agent_commands.specs.Words.{command_of, rest_of, words, options_of, arguments_of, has_option, last_option}

@@ -1,4 +1,4 @@
--- Tables of names, where the case of letters doesn't count.
+-- Tables of names, where the case of letters doesn't count (Assuan manual, "client requests").
 use Rattle.std.specs.Prelude.{ℕ, List, [], ◌∷◌, Option, Some, None, if◌then◌else◌}
 use Rattle.std.specs.Str.{str_eq_ignore_ascii_case}
 

@@ -1,4 +1,5 @@
--- What an option is given, or else its default, lies within the bounds of its numbers.
+-- What an option is given, or else its default, lies within the bounds of its numbers, which are this project's own: so the rules
+-- that are read have the facts that their type keeps.
 use Rattle.std.specs.Prelude.{◌≤◌, ℕ, ◌&&◌, nat_le, List, codes, unwrap_or, Option, Some, None}
 use Rattle.std.specs.Option.{option_and_then}
 use Rattle.std.proofs.Common.{lit≤}

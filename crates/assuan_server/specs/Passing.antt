@@ -1,4 +1,5 @@
--- Reading past lines: from the bytes that are there, over the lines that pass, to the first answer that is none of them.
+-- Reading past lines: from the bytes that are there, over the lines that pass, to the first answer that is none of them. This is the
+-- project's own.
 use Rattle.std.specs.Prelude.{◌≡◌, Bool, true, false, ℕ, List, [], ◌∷◌, None}
 use Rattle.assuan_line.specs.Lines.{after_line}
 use Rattle.assuan_line.specs.Next.{next_of, Reader, Tells}

@@ -1,4 +1,5 @@
--- What a session's client has chosen, and what an option makes of it.
+-- What a session's client has chosen, and what an option makes of it (GnuPG manual, "Agent OPTION"). What is refused is this
+-- project's own.
 use Rattle.std.specs.Prelude.{ℕ, Bool, true, false, List, [], Option, Some, None, if◌then◌else◌}
 use Rattle.session_options.specs.Text.{name_of, value_of, can_be_kept}
 use Rattle.session_options.specs.Table.{named, mode_of, count_of}
