@@ -9,7 +9,7 @@ use Rattle.hex.specs.declared.error.FromHexError.{FromHexError}
 use Rattle.assuan_escape.specs.Escapes.{unescaped}
 use Rattle.cache_policy.specs.declared.life.Life.{Life}
 use Rattle.cache_policy.specs.declared.life.Life.TheVariants.{Default, Endless, Seconds}
-use Rattle.agent_commands.specs.Numbers.{number_of}
+use Rattle.session_options.specs.Table.{number_of}
 use Rattle.agent_commands.specs.declared.request.Texts.{Texts}
 
 -- the word stands for none
@@ -47,12 +47,16 @@ texts _ = None
 abbrev pub up_to_16 : ℕ → Option ℕ
 up_to_16 number = if nat_le number 16 then Some number else None
 
+-- the number that a word of one or two digits is
+abbrev pub short_number : List ℕ → Option ℕ
+short_number word = if nat_le (length word) 2 then number_of word else None
+
 -- what the last option for this says: `--repeat` is once, and without one it is never
 abbrev pub repeats : Option (List ℕ) → Option ℕ
 repeats None = Some 0
 repeats (Some option) =
     if bytes_eq option (codes "--repeat") then Some 1
-    else option_and_then up_to_16 (number_of 2 (drop (length (codes "--repeat=")) option))
+    else option_and_then up_to_16 (short_number (drop (length (codes "--repeat=")) option))
 
 -- a number of seconds, where 0 is the usual lifetime
 abbrev pub life_of_seconds : ℕ → Option Life
@@ -65,7 +69,7 @@ life_of_seconds seconds =
 abbrev pub life : List ℕ → Option Life
 life word =
     if bytes_eq word (codes "-1") then Some Endless
-    else option_and_then life_of_seconds (number_of 10 word)
+    else option_and_then life_of_seconds (number_of word)
 
 -- a passphrase has at most 255 bytes
 abbrev pub passphrase : Result (List ℕ) FromHexError → Option (List ℕ)

@@ -1,6 +1,5 @@
 pub mod Words
 pub mod Rows
-pub mod Numbers
 pub mod Names
 pub mod Fields
 pub mod Requests

@@ -4,12 +4,12 @@ ghost use Rattle.hex.specs.Hex.{decode_of};
 ghost use Rattle.agent_commands.specs.Words.{words, options_of, last_option};
 ghost use Rattle.agent_commands.specs.Fields.{is_none, cache_id, unless_none, text_or, texts, repeats, life, life_of_seconds, passphrase, given_passphrase};
 
-use crate::numbers::number_of;
 use crate::options::last_option;
 use crate::words::next_word;
 use crate::{Text, Texts};
 use assuan_escape::unescape;
 use cache_policy::{CacheId, Life, Secret};
+use session_options::number_of;
 
 /// The word that stands for none.
 const NONE: &[u8] = b"X";
@@ -73,7 +73,10 @@ pub(crate) fn repeats(text: &[u8]) -> Option<u8>
         return Some(1);
     }
     let value = option.get(REPEAT.len() + 1..).unwrap_or(b"");
-    match number_of(value, 2)? {
+    if value.len() > 2 {
+        return None;
+    }
+    match number_of(value)? {
         number @ ..=16 => Some(number as u8),
         _ => None,
     }
@@ -85,7 +88,7 @@ pub(crate) fn life(word: &[u8]) -> Option<Life>
     if word == ENDLESS {
         return Some(Life::Endless);
     }
-    life_of_seconds(number_of(word, 10)?)
+    life_of_seconds(number_of(word)?)
 }
 
 fn life_of_seconds(seconds: u64) -> Option<Life>

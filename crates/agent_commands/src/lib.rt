@@ -3,7 +3,6 @@
 
 mod fields;
 mod names;
-mod numbers;
 mod options;
 mod read;
 mod request;
