@@ -28,7 +28,7 @@ turns_then (turns_heard turns) later = turns_heard (turns_then turns later)
 turns_then (turns_wrote turns) later = turns_wrote (turns_then turns later)
 turns_then (turns_inquired turns) later = turns_inquired (turns_then turns later)
 turns_then (turned reply ruled turns) later = turned reply ruled (turns_then turns later)
-turns_then (refused turns) later = refused (turns_then turns later)
+turns_then (refused put turns) later = refused put (turns_then turns later)
 
 -- the lines of some deeds, and then those of others
 takes_then : {total : ℕ} {bytes mid rest : List ℕ} {first second : List Deed} → Takes total bytes first mid → Takes total mid second rest → Takes total bytes (first ++ second) rest

@@ -1,5 +1,5 @@
 -- The cache of the one session that is served so far, and its turns. This is this project's own.
-use Rattle.std.specs.Prelude.{◌≡◌, ℕ, List, [], ◌∷◌, false, Some, None}
+use Rattle.std.specs.Prelude.{◌≡◌, ℕ, List, [], ◌∷◌, true, false, Some, None}
 use Rattle.agent_ports.specs.declared.session.SessionId.{SessionId}
 use Rattle.cache_policy.specs.declared.life.Limits.{Limits}
 use Rattle.cache_policy.specs.declared.mark.Mark.{Mark}
@@ -9,6 +9,7 @@ use Rattle.cache_policy.specs.declared.mark.MarkReply.{MarkReply}
 use Rattle.cache_policy.specs.declared.mark.MarkReply.TheVariants as reply
 use Rattle.cache_policy.specs.declared.entry.Entry.{Entry}
 use Rattle.cache_policy.specs.declared.history.History.{History}
+use Rattle.cache_policy.specs.Book.{is_put}
 use Rattle.cache_policy.specs.Histories.{with_mark}
 use Rattle.cache_policy.specs.Live.{live}
 use Rattle.cache_policy.specs.Policy.{policy, Reply}
@@ -53,7 +54,7 @@ pub data IsRuled (limits : Limits) (history : History) (moment : ℕ) : MarkStep
   done : {step : MarkStep} → policy limits history step moment ≡ Reply reply.Done → IsRuled limits history moment step Done reply.Done
 
 -- The turns among the deeds, from where the cache stands before them to where it stands after them, and the readings of the clock
--- that they took. One that finds no memory makes no mark.
+-- that they took. A put that finds no memory makes no mark.
 pub data Turns (limits : Limits) : Standing → List Deed → List ℕ → Standing → Type 0 where
   none : {standing : Standing} → Turns limits standing [] [] standing
   heard : {standing after : Standing} {took : _} {readings : List ℕ} {deeds : List Deed}
@@ -66,6 +67,6 @@ pub data Turns (limits : Limits) : Standing → List Deed → List ℕ → Stand
       (reply : MarkReply) → IsRuled limits (next_history standing.history) (moment_of standing.latest reading) step came reply
       → Turns limits (marked standing step reply reading) deeds readings after
       → Turns limits standing (Turned step came ∷ deeds) (reading ∷ readings) after
-  refused : {standing after : Standing} {step : MarkStep} {reading : ℕ} {readings : List ℕ} {deeds : List Deed}
+  refused : {standing after : Standing} {step : MarkStep} {reading : ℕ} {readings : List ℕ} {deeds : List Deed} → is_put step ≡ true
       → Turns limits standing deeds readings after
       → Turns limits standing (Turned step Refused ∷ deeds) (reading ∷ readings) after

@@ -9,7 +9,7 @@ use std::alloc::Global;
 const ROOM: u64 = 131_072;
 
 /// The moment to which readings are cut.
-const GREATEST: u64 = 1 << 62;
+const GREATEST_MOMENT: u64 = 1 << 62;
 
 /// The passphrases of a session, since its cache last began empty.
 #[derive(Drop)]
@@ -77,6 +77,7 @@ impl Cache {
                 .put(moment, id, Mode::Any, Life::Endless, secret, &self.limits)?;
             self.marks += 1;
         } else {
+            // The full book goes only once the new one holds the passphrase.
             let mut book = ListBook::new(self.alloc);
             book.put(moment, id, Mode::Any, Life::Endless, secret, &self.limits)?;
             self.book = book;
@@ -123,6 +124,6 @@ impl Cache {
         ensures in_order { self.now.book.latest ≤ result }
         ensures in_range { result ≤ 2 ^ 62 }
     {
-        reading.min(GREATEST).max(self.latest)
+        reading.min(GREATEST_MOMENT).max(self.latest)
     }
 }

@@ -11,7 +11,7 @@ ghost use Rattle.agent_top.specs.Exchanges.{Exchange, Stores, is_quiet, put, opt
 ghost use Rattle.agent_top.specs.Steps.{point, HasDone, HasPrepared, IsPrepared, IsInquired, IsBrought, IsText};
 
 use crate::cache::Cache;
-use crate::reply::{Reply, WriteFault, done};
+use crate::reply::{Reply, WriteFault, whole};
 use crate::session::{SessionEnd, Went};
 use agent_commands::{CacheCommand, Info, Request, Texts};
 use agent_ports::{Clock, Link};
@@ -58,7 +58,7 @@ impl Answer {
     }
 
     /// The session is over, and nothing more is written.
-    fn none(end: SessionEnd) -> Answer
+    fn silent(end: SessionEnd) -> Answer
         ensures reply { result.reply ≡ None }
         ensures went { result.went ≡ went.End end }
     {
@@ -253,7 +253,7 @@ fn inquire_passphrase<L: Link>(conn: &mut Conn<'_, L>) -> Result<Brought, WriteF
     ensures { (later : ℕ → Option ℕ) (count last : ℕ) (cache : TheCache)
         → IsInquired (point conn.old later count last cache) result (point conn.new later count last cache) }
 {
-    done(conn.status(b"INQUIRE_MAXLEN", b"255"))?;
+    whole(conn.status(b"INQUIRE_MAXLEN", b"255"))?;
     passphrase_of(conn.inquire_secret(b"PASSPHRASE", b""))
 }
 
@@ -270,9 +270,9 @@ fn passphrase_of(inquired: InquiredSecret) -> Result<Brought, WriteFault>
             Reply::Failed(Code::LineTooLong),
             SessionEnd::TooLong,
         ),
-        InquiredSecret::Ended => Answer::none(SessionEnd::Ended),
-        InquiredSecret::Spent => Answer::none(SessionEnd::Spent),
-        InquiredSecret::ReadFault => Answer::none(SessionEnd::ReadFault),
+        InquiredSecret::Ended => Answer::silent(SessionEnd::Ended),
+        InquiredSecret::Spent => Answer::silent(SessionEnd::Spent),
+        InquiredSecret::ReadFault => Answer::silent(SessionEnd::ReadFault),
     };
     Ok(Brought::Without(without))
 }

@@ -39,8 +39,8 @@ pub(crate) fn write_reply<L: Link>(conn: &mut Conn<'_, L>, reply: &Reply) -> Res
     ensures { (text : List ℕ) × IsText reply.now text × HasSaid text conn.old result conn.new }
 {
     match reply {
-        Reply::Ok => done(conn.ok(b"")),
-        Reply::Closing => done(conn.ok(b"closing connection")),
+        Reply::Ok => whole(conn.ok(b"")),
+        Reply::Closing => whole(conn.ok(b"closing connection")),
         Reply::Help => write_help(conn),
         Reply::Version => write_data(conn, VERSION),
         Reply::Number(number) => write_data(conn, Buffer::new().format(*number).as_bytes()),
@@ -48,8 +48,8 @@ pub(crate) fn write_reply<L: Link>(conn: &mut Conn<'_, L>, reply: &Reply) -> Res
         Reply::Given {
             grant,
             plain: false,
-        } => done(conn.ok(&upper_hex(grant.secret().bytes()))),
-        Reply::Failed(code) => done(conn.err(*code, Origin::Agent)),
+        } => whole(conn.ok(&upper_hex(grant.secret().bytes()))),
+        Reply::Failed(code) => whole(conn.err(*code, Origin::Agent)),
     }
 }
 
@@ -57,8 +57,8 @@ pub(crate) fn write_reply<L: Link>(conn: &mut Conn<'_, L>, reply: &Reply) -> Res
 fn write_data<L: Link>(conn: &mut Conn<'_, L>, bytes: &[u8]) -> Result<(), WriteFault>
     ensures { (text : List ℕ) × IsData bytes.now text × HasSaid text conn.old result conn.new }
 {
-    done(conn.data(bytes))?;
-    done(conn.ok(b""))
+    whole(conn.data(bytes))?;
+    whole(conn.ok(b""))
 }
 
 /// Writes a comment for each command, and that this is all.
@@ -66,13 +66,13 @@ fn write_help<L: Link>(conn: &mut Conn<'_, L>) -> Result<(), WriteFault>
     ensures { HasSaid help conn.old result conn.new }
 {
     for (name, _) in COMMANDS {
-        done(conn.comment(name))?;
+        whole(conn.comment(name))?;
     }
-    done(conn.ok(b""))
+    whole(conn.ok(b""))
 }
 
 /// Whether a write went whole.
-pub(crate) fn done(sent: Sent) -> Result<(), WriteFault>
+pub(crate) fn whole(sent: Sent) -> Result<(), WriteFault>
     ensures { (text : List ℕ) (before after : _) → HasWritten text before sent after → HasSaid text before result after }
 {
     match sent {

@@ -8,7 +8,7 @@ ghost use Rattle.agent_top.specs.Steps.{point, IsAnswered, HasTalked, HasMet, en
 
 use crate::cache::{Cache, limits_of};
 use crate::command::carry_out;
-use crate::reply::{WriteFault, done, write_reply};
+use crate::reply::{WriteFault, whole, write_reply};
 use agent_commands::read_request;
 use agent_ports::{Clock, Link};
 use assuan_line::{Line, Took};
@@ -20,7 +20,7 @@ use std::alloc::Global;
 const BUDGET: u64 = 1 << 40;
 
 /// How a session ended.
-#[derive(Clone, Copy, Debug, PartialEq, Eq)]
+#[derive(Clone, Copy)]
 pub(crate) enum SessionEnd {
     Bye,
     /// The source gave its end.
@@ -49,7 +49,7 @@ impl SessionEnd {
 }
 
 /// How a session goes on after a request.
-#[derive(Clone, Copy, Debug, PartialEq, Eq)]
+#[derive(Clone, Copy)]
 pub(crate) enum Went {
     On,
     End(SessionEnd),
@@ -75,6 +75,7 @@ pub(crate) fn serve<L: Link, C: Clock>(
         Ok(end) => end,
         Err(WriteFault) => SessionEnd::WriteFault,
     };
+    // So what the connection did is known of the link.
     conn.into_link();
     end
 }
@@ -90,7 +91,7 @@ fn serve_conn<L: Link, C: Clock>(
     ensures { HasMet rules.now conn.old (readings (C.later clock.old) (C.readings clock.old) (C.last clock.old)) (end_of result)
         conn.new (readings (C.later clock.new) (C.readings clock.new) (C.last clock.new)) }
 {
-    done(conn.greet())?;
+    whole(conn.greet())?;
     let mut options = Options::new(rules);
     let mut cache = Cache::new(alloc, limits_of(rules));
     serve_requests(rules, &mut options, conn, &mut cache, clock)
@@ -115,7 +116,7 @@ fn serve_requests<L: Link, C: Clock>(
                 Went::End(end) => return Ok(end),
             },
             Took::TooLong => {
-                done(conn.err(Code::LineTooLong, Origin::Agent))?;
+                whole(conn.err(Code::LineTooLong, Origin::Agent))?;
                 return Ok(SessionEnd::TooLong);
             }
             Took::End => return Ok(SessionEnd::Ended),

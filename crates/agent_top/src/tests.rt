@@ -186,7 +186,7 @@ fn a_passphrase_is_given_up_to_its_greatest_age(rt: HostRuntime) -> Result<(), F
 }
 
 /// What the client answers to the question for a passphrase and sends behind it, what is written then, and the status.
-const INQUIRIES: [(&str, &str, u8); 9] = [
+const INQUIRIES: [(&str, &str, u8); 7] = [
     (
         "D se\nD cret\nEND\nGET_PASSPHRASE --no-ask --data id1\n",
         "OK\nD secret\nOK\n",
@@ -201,16 +201,6 @@ const INQUIRIES: [(&str, &str, u8); 9] = [
     (
         "D se\nCAN\nGET_PASSPHRASE id1\n",
         "ERR 67108963 Operation cancelled <GPG Agent>\nERR 67108922 No data <GPG Agent>\n",
-        0,
-    ),
-    (
-        "D se\nNOP\nGET_PASSPHRASE id1\n",
-        "ERR 67109138 Unexpected IPC command <GPG Agent>\nERR 67108922 No data <GPG Agent>\n",
-        0,
-    ),
-    (
-        "BYE\nNOP\n",
-        "ERR 67109138 Unexpected IPC command <GPG Agent>\nOK\n",
         0,
     ),
     ("D se\n", "", 0),
@@ -236,6 +226,16 @@ fn the_client_is_asked_for_a_preset(rt: HostRuntime) -> Result<(), Fail> {
     for (client, written, status) in INQUIRIES {
         assert!(rt; inquired(rt.alloc(), client, written, status)?, "{client}");
     }
+    Ok(())
+}
+
+#[test]
+fn no_inquiry_line_is_run(rt: HostRuntime) -> Result<(), Fail> {
+    let alloc = rt.alloc();
+    let unexpected =
+        "ERR 67109138 Unexpected IPC command <GPG Agent>\nERR 67108922 No data <GPG Agent>\n";
+    assert!(rt; inquired(alloc, "D se\nNOP\nGET_PASSPHRASE id1\n", unexpected, 0)?);
+    assert!(rt; inquired(alloc, "BYE\nGET_PASSPHRASE id1\n", unexpected, 0)?);
     Ok(())
 }
 

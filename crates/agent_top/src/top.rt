@@ -13,8 +13,13 @@ use std::rt;
 use std::sync::Wait;
 use std::thread::Threads;
 
+/// The status where the words are none that the agent takes.
+const BAD_WORDS: u8 = 2;
+
 /// The agent. It reads its words, which leave out the program's name, and serves a session on standard input and output.
-/// Its answer is the status of the process.
+///
+/// Its answer is the status of the process: 0 at BYE or the end of the input, 2 for words that it doesn't take, 3 and 4 where
+/// a read or a write failed, 6 after 2^40 bytes, and 7 at a line of more than 1,000 bytes. The runtime isn't used yet.
 pub fn run_agent<W: Threads + Wait + rt::Clock + Sync, S: Link, H: Host>(
     _rt: &W,
     alloc: Global,
@@ -32,11 +37,11 @@ pub fn run_agent<W: Threads + Wait + rt::Clock + Sync, S: Link, H: Host>(
 {
     match read_words(words) {
         Ok(rules) => run_server(alloc, &rules, stdio, host),
-        Err(WordsFault::Bad) => 2,
+        Err(WordsFault::Bad) => BAD_WORDS,
     }
 }
 
-/// Serves one session on standard input and output, and gives its status. It always returns.
+/// Serves one session on standard input and output, and gives its status, as `run_agent` does. It always returns.
 pub fn run_server<S: Link, H: Host>(alloc: Global, rules: &Rules, stdio: &mut S, host: &mut H) -> u8
     ensures { HasRun rules.now
         (outside (S.input stdio.old) (S.output stdio.old) (readings (H.later host.old) (H.readings host.old) (H.last host.old))) result

@@ -18,6 +18,7 @@ use settings::{all_fit, are_distinct, is_given, value_given};
 /// The words of the command line are none that the agent takes.
 #[derive(Clone, Copy, Debug, PartialEq, Eq)]
 pub enum WordsFault {
+    /// An unknown word, one given twice, a value out of form, or no word that says what to do.
     Bad,
 }
 
@@ -108,10 +109,9 @@ fn path_or(words: &[String], name: &str, default: &str) -> ArrayVec<u8, 255>
     requires { length default.now ≤ 200 }
     ensures { result.items ≡ path_or default.now name.now (settings (map string_bytes words.now)) }
 {
-    let mut path = default;
-    if let Some(value) = value_given(words, name) {
-        path = path_of(value).unwrap_or(default);
-    }
+    let path = value_given(words, name)
+        .and_then(path_of)
+        .unwrap_or(default);
     let mut word = ArrayVec::new();
     word.try_extend_from_slice(path.as_bytes()).unwrap();
     word

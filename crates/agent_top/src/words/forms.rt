@@ -22,7 +22,7 @@ const SECONDS: Form = Form::Number {
     greatest: 2_147_483_647,
 };
 
-const BYTES: Form = Form::Number {
+const UP_TO_255: Form = Form::Number {
     least: 0,
     greatest: 255,
 };
@@ -54,8 +54,8 @@ const FORMS: [(&[u8], Form); 16] = [
     (b"--max-cache-ttl-ssh", SECONDS),
     (b"--allow-preset-passphrase", Form::Flag),
     (b"--no-allow-loopback-pinentry", Form::Flag),
-    (b"--min-passphrase-len", BYTES),
-    (b"--min-passphrase-nonalpha", BYTES),
+    (b"--min-passphrase-len", UP_TO_255),
+    (b"--min-passphrase-nonalpha", UP_TO_255),
     (b"--pinentry-timeout", SECONDS),
     (b"--s2k-count", S2K_COUNT),
     (b"--workers", WORKERS),

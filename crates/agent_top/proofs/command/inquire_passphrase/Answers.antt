@@ -4,14 +4,14 @@ use Rattle.assuan_line.specs.Next.{Reader}
 use Rattle.agent_top.proofs.Inquiring.{not_asked_status, inquired_so}
 use Rattle.agent_top.proofs.command.inquire_passphrase.Goals as goal
 
-pub returns-in_err-done : goal.returns-in_err-done
-returns-in_err-done g c = λ later count last cache.
+pub returns-in_err-whole : goal.returns-in_err-whole
+returns-in_err-whole g c = λ later count last cache.
     let p = err_from_is_err_and c.from_residual.result c.from_residual.ensures.1 in
-    rw p.1 (not_asked_status c.args.conn.now c.status.new.self _ cache _ (c.in_err-done.ensures _ _ _ c.status.ensures))
+    rw p.1 (not_asked_status c.args.conn.now c.status.new.self _ cache _ (c.in_err-whole.ensures _ _ _ c.status.ensures))
 
 pub returns : goal.returns
 returns g c = λ later count last cache.
     let e = c.inquire_secret.ensures in
-    inquired_so c.args.conn.now c.status.new.self c.inquire_secret.new.self _ cache (c.in_ok-done.ensures _ _ _ c.status.ensures)
+    inquired_so c.args.conn.now c.status.new.self c.inquire_secret.new.self _ cache (c.in_ok-whole.ensures _ _ _ c.status.ensures)
     (ap (λ (r : Reader). r.ended) c.status.ensures.reader ∙ c.requires)
     c.inquire_secret.result e.inquiry e.written e.cut e.budget e.fault e.input_faults e.output_faults e.progress e.ended e.link c.passphrase_of.result c.passphrase_of.ensures

@@ -27,5 +27,5 @@ returns-in-Err g c = (
   λ text is. subst (λ t. Stores c.args.id Endless c.args.secret (Turned (put c.args.id Endless c.args.secret) Refused ∷ Wrote t ∷ [])) (sym is) no_memory,
   λ conn. done_turned (put c.args.id Endless c.args.secret) Refused conn _ _ c.now.result _ _
       (given_one c.now.result c.now.ensures.rose c.now.ensures.last c.now.ensures.told c.now.ensures.later) c.put.ensures.limits
-      (λ standing kept. (standing, refused none, c.in-Err.ensures.err standing kept)),
+      (λ standing kept. (standing, refused refl none, c.in-Err.ensures.err standing kept)),
 )

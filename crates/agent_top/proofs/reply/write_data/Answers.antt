@@ -5,14 +5,14 @@ use Rattle.agent_top.specs.Exchanges.{ok}
 use Rattle.agent_top.proofs.Saying.{said_then, said_first}
 use Rattle.agent_top.proofs.reply.write_data.Goals as goal
 
-pub returns-in_err-done : goal.returns-in_err-done
-returns-in_err-done g c =
+pub returns-in_err-whole : goal.returns-in_err-whole
+returns-in_err-whole g c =
     let p = err_from_is_err_and c.from_residual.result c.from_residual.ensures.1 in
     let d = c.data.ensures in
     rw p.1 (
       _,
       record { pieces = d.0; are_data = d.1; text_is = refl },
-      said_first (data_text d.0) ok _ _ _ (c.in_err-done.ensures _ _ _ d.2),
+      said_first (data_text d.0) ok _ _ _ (c.in_err-whole.ensures _ _ _ d.2),
     )
 
 pub returns : goal.returns
@@ -20,5 +20,5 @@ returns g c =
     let d = c.data.ensures in (
       _,
       record { pieces = d.0; are_data = d.1; text_is = refl },
-      said_then (data_text d.0) ok _ _ _ _ (c.in_ok-done.ensures _ _ _ d.2) (c.done-2.ensures _ _ _ c.ok.ensures),
+      said_then (data_text d.0) ok _ _ _ _ (c.in_ok-whole.ensures _ _ _ d.2) (c.whole-2.ensures _ _ _ c.ok.ensures),
     )

@@ -40,18 +40,18 @@ returns-in-End-2 g c =
     let answered = rw c.in-End-2.is at c.in_ok-answer-in-Line.ensures in
     is_over c.args.rules.now c.args.options.now _ _ _ i.serving _ c.next_request.result (done_heard c.loop-line.conn c.next_request.new.self _ _ c.next_request.result i.going e.ended e.output e.link e.faults e.request e.budget) c.in-Line.line c.in-Line.is _ _ c.in-End-2.end answered
 
-pub returns-in_err-done-in-TooLong : goal.returns-in_err-done-in-TooLong
-returns-in_err-done-in-TooLong g c =
+pub returns-in_err-whole-in-TooLong : goal.returns-in_err-whole-in-TooLong
+returns-in_err-whole-in-TooLong g c =
     let i = c.loop-line.invariant in
     let e = c.next_request.ensures in
-    let p = err_from_is_err_and c.from_residual-in_err-done-in-TooLong.result c.from_residual-in_err-done-in-TooLong.ensures.1 in
-    rw p.1 (cut_at_too_long c.args.rules.now c.args.options.now _ _ _ i.serving _ c.next_request.result (done_heard c.loop-line.conn c.next_request.new.self _ _ c.next_request.result i.going e.ended e.output e.link e.faults e.request e.budget) c.in-TooLong.is c.err.new.self _ (c.in_err-done-in-TooLong.ensures _ _ _ c.err.ensures))
+    let p = err_from_is_err_and c.from_residual-in_err-whole-in-TooLong.result c.from_residual-in_err-whole-in-TooLong.ensures.1 in
+    rw p.1 (cut_at_too_long c.args.rules.now c.args.options.now _ _ _ i.serving _ c.next_request.result (done_heard c.loop-line.conn c.next_request.new.self _ _ c.next_request.result i.going e.ended e.output e.link e.faults e.request e.budget) c.in-TooLong.is c.err.new.self _ (c.in_err-whole-in-TooLong.ensures _ _ _ c.err.ensures))
 
 pub returns-in-TooLong : goal.returns-in-TooLong
 returns-in-TooLong g c =
     let i = c.loop-line.invariant in
     let e = c.next_request.ensures in
-    at_too_long c.args.rules.now c.args.options.now _ _ _ i.serving _ c.next_request.result (done_heard c.loop-line.conn c.next_request.new.self _ _ c.next_request.result i.going e.ended e.output e.link e.faults e.request e.budget) c.in-TooLong.is c.err.new.self c.in-TooLong.ensures.ended (c.in_ok-done-in-TooLong.ensures _ _ _ c.err.ensures)
+    at_too_long c.args.rules.now c.args.options.now _ _ _ i.serving _ c.next_request.result (done_heard c.loop-line.conn c.next_request.new.self _ _ c.next_request.result i.going e.ended e.output e.link e.faults e.request e.budget) c.in-TooLong.is c.err.new.self c.in-TooLong.ensures.ended (c.in_ok-whole-in-TooLong.ensures _ _ _ c.err.ensures)
 
 pub returns-in-End : goal.returns-in-End
 returns-in-End g c =
