@@ -239,11 +239,17 @@ fn no_inquiry_line_is_run(rt: HostRuntime) -> Result<(), Fail> {
     Ok(())
 }
 
-/// So many bytes `a`, between two texts.
-fn long_text(alloc: Global, front: &str, count: usize, back: &str) -> Result<String, AllocError> {
+/// A part so many times, between two texts.
+fn long_text(
+    alloc: Global,
+    front: &str,
+    part: &str,
+    count: usize,
+    back: &str,
+) -> Result<String, AllocError> {
     let mut text = String::from_str(alloc, front)?;
     for _ in 0..count {
-        text.push('a')?;
+        text.push_str(part)?;
     }
     text.push_str(back)?;
     Ok(text)
@@ -252,12 +258,12 @@ fn long_text(alloc: Global, front: &str, count: usize, back: &str) -> Result<Str
 #[test]
 fn an_inquiry_is_cut_off_past_its_limit(rt: HostRuntime) -> Result<(), Fail> {
     let alloc = rt.alloc();
-    let most = long_text(alloc, "D ", 255, "\nEND\n")?;
+    let most = long_text(alloc, "D ", "a", 255, "\nEND\n")?;
     assert!(rt; inquired(alloc, &most, "OK\n", 0)?);
-    let more = long_text(alloc, "D ", 256, "\nEND\nNOP\n")?;
+    let more = long_text(alloc, "D ", "a", 256, "\nEND\nNOP\n")?;
     let too_much = "ERR 67109137 Too much data for IPC layer <GPG Agent>\nOK\n";
     assert!(rt; inquired(alloc, &more, too_much, 0)?);
-    let line = long_text(alloc, "D ", 999, "\nEND\n")?;
+    let line = long_text(alloc, "D ", "a", 999, "\nEND\n")?;
     assert!(rt; inquired(alloc, &line, TOO_LONG, 7)?);
     Ok(())
 }
@@ -265,10 +271,7 @@ fn an_inquiry_is_cut_off_past_its_limit(rt: HostRuntime) -> Result<(), Fail> {
 #[test]
 fn a_passphrase_of_255_bytes_is_given(rt: HostRuntime) -> Result<(), Fail> {
     let alloc = rt.alloc();
-    let mut digits = String::new(alloc);
-    for _ in 0..255 {
-        digits.push_str("61")?;
-    }
+    let digits = long_text(alloc, "", "61", 255, "")?;
     let input = format!(in alloc;
         "PRESET_PASSPHRASE id1 -1 {digits}\nGET_PASSPHRASE --no-ask id1\n"
     )?;
@@ -289,7 +292,7 @@ fn an_id_has_up_to_50_bytes(rt: HostRuntime) -> Result<(), Fail> {
     let alloc = rt.alloc();
     let refused = "ERR 67109144 IPC parameter error <GPG Agent>\n";
     for (count, output) in [(50usize, NO_DATA), (51, refused)] {
-        let input = long_text(alloc, "GET_PASSPHRASE --no-ask ", count, "\n")?;
+        let input = long_text(alloc, "GET_PASSPHRASE --no-ask ", "a", count, "\n")?;
         let case = Case {
             allow_preset: true,
             input: &input,
@@ -306,12 +309,12 @@ fn an_id_has_up_to_50_bytes(rt: HostRuntime) -> Result<(), Fail> {
 fn a_line_has_up_to_1000_bytes(rt: HostRuntime) -> Result<(), Fail> {
     let alloc = rt.alloc();
     for (count, end, output, status) in [
-        (996usize, "\nNOP\n", "OK\nOK\n", 0u8),
-        (996, "\r\n", "OK\n", 0),
-        (997, "\nNOP\n", TOO_LONG, 7),
-        (998, "", TOO_LONG, 7),
+        (997usize, "\nNOP\n", "OK\nOK\n", 0u8),
+        (997, "\r\n", "OK\n", 0),
+        (998, "\nNOP\n", TOO_LONG, 7),
+        (999, "", TOO_LONG, 7),
     ] {
-        let input = long_text(alloc, "NOP ", count, end)?;
+        let input = long_text(alloc, "NOP", " ", count, end)?;
         let case = Case {
             allow_preset: true,
             input: &input,
@@ -319,7 +322,7 @@ fn a_line_has_up_to_1000_bytes(rt: HostRuntime) -> Result<(), Fail> {
             output,
             status,
         };
-        assert!(rt; meets_in_any_pieces(alloc, &case)?, "{count} bytes");
+        assert!(rt; meets_in_any_pieces(alloc, &case)?, "{count} blanks");
     }
     Ok(())
 }
