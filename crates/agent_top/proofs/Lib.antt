@@ -10,4 +10,5 @@ mod Presetting
 mod Saying
 mod Serving
 mod SettingLemmas
+mod Spelling
 mod WorkedExamples

@@ -9,7 +9,7 @@ holds_later : (b : Bool) (word : List ℕ) → cond (not b) (1 + position_or_len
 holds_later true word e rest = absurd (omega (arith, e))
 holds_later false word e rest = rest (omega (arith, e))
 
-none_holds : (word : List ℕ) → position_or_len is_equals word ≡ length word → holds_equals word ≡ false
+pub none_holds : (word : List ℕ) → position_or_len is_equals word ≡ length word → holds_equals word ≡ false
 none_holds [] e = refl
 none_holds (byte ∷ word) e = holds_later (is_equals byte) word (omega (arith, e)) (none_holds word)
 

@@ -1,6 +1,6 @@
 -- The words of the command line, read as settings: `--name`, `--name=value` or `--name value`. That a word which begins with a
 -- dash is a value only after `=` is this project's own.
-use Rattle.std.specs.Prelude.{ℕ, ◌==◌, ◌&&◌, not, Bool, true, List, [], ◌∷◌, Option, Some, None, is_some, slice_index, if◌then◌else◌}
+use Rattle.std.specs.Prelude.{◌≡◌, ℕ, ◌==◌, ◌&&◌, not, Bool, true, false, List, [], ◌∷◌, ◌++◌, Option, Some, None, is_some, slice_index, if◌then◌else◌}
 use Rattle.std.specs.List.{list_any, before_first, after_first}
 use Rattle.std.specs.Option.{option_and_then, option_map}
 use Rattle.session_options.specs.Rows.{found}
@@ -34,6 +34,16 @@ settings [] = []
 settings (word ∷ []) = alone word ∷ []
 settings (word ∷ next ∷ words) =
     if is_value_of word next then (word, Some next) ∷ settings words else alone word ∷ settings (next ∷ words)
+
+-- the words that settings are spelled by, one after the other
+pub data Spells : List Setting → List (List ℕ) → Type 0 where
+  none : Spells [] []
+  bare : {name : List ℕ} {given : List Setting} {words : List (List ℕ)} → holds_equals name ≡ false → Spells given words
+      → Spells ((name, None) ∷ given) (name ∷ words)
+  joined : {name value : List ℕ} {given : List Setting} {words : List (List ℕ)} → holds_equals name ≡ false → Spells given words
+      → Spells ((name, Some value) ∷ given) ((name ++ 61 ∷ value) ∷ words)
+  apart : {name value : List ℕ} {given : List Setting} {words : List (List ℕ)} → holds_equals name ≡ false
+      → begins_with_dash value ≡ false → Spells given words → Spells ((name, Some value) ∷ given) (name ∷ value ∷ words)
 
 abbrev pub is_given : List ℕ → List Setting → Bool
 is_given name given = is_some (found name given)

@@ -9,7 +9,7 @@ mod top;
 mod words;
 
 pub use top::{run_agent, run_server};
-pub use words::{WordsFault, read_words};
+pub use words::{WordsFault, read_words, words_are_read_as_spelled};
 
 #[cfg(test)]
 mod tests;

@@ -13,6 +13,7 @@ mod tests;
 use arrayvec::ArrayVec;
 use forms::{form_of, number_for, path_of};
 use session_options::{Rules, RunMode};
+pub use settings::words_are_read_as_spelled;
 use settings::{all_fit, are_distinct, is_given, value_given};
 
 /// The words of the command line are none that the agent takes.

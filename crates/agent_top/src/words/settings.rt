@@ -1,9 +1,9 @@
-ghost use Rattle.std.specs.Prelude.{◌≡◌, ◌<◌, [], ◌∷◌, length, map, string_bytes, MatchOption};
+ghost use Rattle.std.specs.Prelude.{◌≡◌, ◌<◌, true, ℕ, List, [], ◌∷◌, length, map, string_bytes, MatchOption};
 ghost use Rattle.std.specs.List.{list_all};
 ghost use Rattle.std.specs.Option.{option_map};
 ghost use Rattle.session_options.specs.Rows.{found};
 ghost use Rattle.agent_top.specs.Forms.{fits};
-ghost use Rattle.agent_top.specs.Settings.{settings, setting_of, value_of, is_given, value_given, are_distinct, begins_with_dash};
+ghost use Rattle.agent_top.specs.Settings.{Setting as Named, Spells, settings, setting_of, value_of, is_given, value_given, are_distinct, begins_with_dash};
 
 use super::forms::fits;
 
@@ -13,6 +13,13 @@ pub(crate) struct Setting<'a> {
     pub(crate) name: &'a str,
     pub(crate) value: Option<&'a str>,
 }
+
+/// A law: the words are spelled by the settings that they are read as, and by no other ones that are known and have their form.
+pub fn words_are_read_as_spelled()
+    ensures spelled { (words : List (List ℕ)) → Spells (settings words) words }
+    ensures only { (given : List Named) (words : List (List ℕ)) → Spells given words → list_all fits given ≡ true
+        → settings words ≡ given }
+{}
 
 /// The first setting of the words, and the words that come after it.
 fn next_setting(words: &[String]) -> Option<(Setting<'_>, &[String])>
