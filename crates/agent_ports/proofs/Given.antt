@@ -1,11 +1,10 @@
 -- Readings of a clock, from one call to many.
-use Rattle.std.specs.Prelude.{◌≡◌, ℕ, ◌+◌, List, [], ◌∷◌, ◌++◌, IfSome}
-use Rattle.agent_ports.specs.Counts.{Rose}
-use Rattle.agent_ports.specs.Readings.{Readings, HasGiven, none, one}
+use Rattle.std.specs.Prelude.{ℕ, List, [], ◌∷◌, ◌++◌}
+use Rattle.agent_ports.specs.Readings.{Readings, IsRead, HasGiven, none, one}
 
 -- the clock was read once
-pub given_one : {before after : Readings} (reading : ℕ) → Rose before.count after.count → after.last ≡ reading → IfSome (before.later 0) (λ told. reading ≡ told) → ((k : ℕ) → after.later k ≡ before.later (k + 1)) → HasGiven before (reading ∷ []) after
-given_one reading rose last told later = one (record { rose = rose; last = last; told = told; later = later }) none
+pub given_one : {before after : Readings} {reading : ℕ} → IsRead before reading after → HasGiven before (reading ∷ []) after
+given_one read = one read none
 
 -- the clock gave some readings, and then others
 pub given_then : {before mid after : Readings} {first second : List ℕ} → HasGiven before first mid → HasGiven mid second after → HasGiven before (first ++ second) after

@@ -13,8 +13,8 @@ pub struct ListClock {
 
 impl ListClock {
     pub fn new(readings: Vec<u64>) -> Self
-        ensures later { (k : ℕ) → ⟦<ListClock as Clock>⟧.later result k ≡ Some (reading_at readings.items k) }
-        ensures none { ⟦<ListClock as Clock>⟧.readings result ≡ 0 }
+        ensures later { (k : ℕ) → (⟦<ListClock as Clock>⟧.readings result).later k ≡ Some (reading_at readings.items k) }
+        ensures none { (⟦<ListClock as Clock>⟧.readings result).count ≡ 0 }
     {
         ListClock {
             readings,
@@ -25,11 +25,11 @@ impl ListClock {
 }
 
 impl Clock for ListClock {
-    ghost readings = { λ c. c.given };
-
-    ghost last = { λ c. c.last };
-
-    ghost later = { λ c k. Some (reading_at c.readings.items (c.given + k)) };
+    ghost readings = { λ c. record {
+      later = λ k. Some (reading_at c.readings.items (c.given + k));
+      count = c.given;
+      last = c.last;
+    } };
 
     fn now(&mut self) -> u64 {
         let place = usize::try_from(self.given).unwrap_or(usize::MAX);
@@ -56,8 +56,8 @@ pub struct StepClock {
 
 impl StepClock {
     pub fn new(first: u64, step: u64) -> Self
-        ensures later { (k : ℕ) → ⟦<StepClock as Clock>⟧.later result k ≡ Some (min (first + k * step) (2 ^ 64 - 1)) }
-        ensures none { ⟦<StepClock as Clock>⟧.readings result ≡ 0 }
+        ensures later { (k : ℕ) → (⟦<StepClock as Clock>⟧.readings result).later k ≡ Some (min (first + k * step) (2 ^ 64 - 1)) }
+        ensures none { (⟦<StepClock as Clock>⟧.readings result).count ≡ 0 }
     {
         StepClock {
             next: first,
@@ -69,11 +69,11 @@ impl StepClock {
 }
 
 impl Clock for StepClock {
-    ghost readings = { λ c. c.given };
-
-    ghost last = { λ c. c.last };
-
-    ghost later = { λ c k. Some (min (c.next + k * c.step) (2 ^ 64 - 1)) };
+    ghost readings = { λ c. record {
+      later = λ k. Some (min (c.next + k * c.step) (2 ^ 64 - 1));
+      count = c.given;
+      last = c.last;
+    } };
 
     fn now(&mut self) -> u64 {
         let reading = self.next;
@@ -92,9 +92,7 @@ pub struct MemHost {
 
 impl MemHost {
     pub fn new(clock: ListClock) -> Self
-        ensures later { (k : ℕ) → ⟦<MemHost as Clock>⟧.later result k ≡ ⟦<ListClock as Clock>⟧.later clock k }
-        ensures readings { ⟦<MemHost as Clock>⟧.readings result ≡ ⟦<ListClock as Clock>⟧.readings clock }
-        ensures last { ⟦<MemHost as Clock>⟧.last result ≡ ⟦<ListClock as Clock>⟧.last clock }
+        ensures { ⟦<MemHost as Clock>⟧.readings result ≡ ⟦<ListClock as Clock>⟧.readings clock }
     {
         MemHost { clock }
     }
@@ -102,10 +100,6 @@ impl MemHost {
 
 impl Clock for MemHost {
     ghost readings = { λ h. ⟦<ListClock as Clock>⟧.readings h.clock };
-
-    ghost last = { λ h. ⟦<ListClock as Clock>⟧.last h.clock };
-
-    ghost later = { λ h. ⟦<ListClock as Clock>⟧.later h.clock };
 
     fn now(&mut self) -> u64 {
         self.clock.now()

@@ -1,10 +1,10 @@
-ghost use Rattle.std.specs.Prelude.{ℕ, None};
+ghost use Rattle.std.specs.Prelude.{None};
 
 use agent_ports::{Clock, Host};
 use std::rt;
 use std::time::{SystemTime, UNIX_EPOCH};
 
-/// The system's clock in seconds since 1970. It tells none of its later readings. Where the system gives no time, the last
+/// The system's clock in seconds since 1970. None of its later readings are known. Where the system gives no time, the last
 /// reading stands.
 #[derive(Drop)]
 pub struct SystemClock<'a, R> {
@@ -24,11 +24,7 @@ impl<'a, R: rt::Clock> SystemClock<'a, R> {
 }
 
 impl<R: rt::Clock> Clock for SystemClock<'_, R> {
-    ghost readings = { λ c. c.readings };
-
-    ghost last = { λ c. c.last };
-
-    ghost later = { λ _ _. None };
+    ghost readings = { λ c. record { later = λ _. None; count = c.readings; last = c.last } };
 
     fn now(&mut self) -> u64 {
         self.readings = self.readings.saturating_add(1);
