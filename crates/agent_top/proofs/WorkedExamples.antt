@@ -114,9 +114,13 @@ path_of_201 : rules_of (codes "--server" ∷ codes "--homedir" ∷ replicate 201
 unfolding form_of
 path_of_201 = refl
 
-leading_zero : rules_of (codes "--server" ∷ codes "--min-passphrase-len=08" ∷ []) ≡ None
+zeros_in_front : field (λ r. r.max_ttl) (codes "--server" ∷ codes "--max-cache-ttl=0000000600" ∷ []) ≡ Some 600
 unfolding form_of
-leading_zero = refl
+zeros_in_front = refl
+
+too_many_zeros_in_front : rules_of (codes "--server" ∷ codes "--max-cache-ttl=00000000600" ∷ []) ≡ None
+unfolding form_of
+too_many_zeros_in_front = refl
 
 zero : field (λ r. r.min_len) (codes "--server" ∷ codes "--min-passphrase-len=0" ∷ []) ≡ Some 0
 unfolding form_of

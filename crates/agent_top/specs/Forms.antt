@@ -1,6 +1,6 @@
 -- The options of the agent and what each takes. `--workers` and `--load` are this project's own, and so are the bounds of the
 -- numbers and the length of a path; the other names are gpg-agent's (GnuPG manual, "agent options").
-use Rattle.std.specs.Prelude.{ℕ, ◌==◌, ◌&&◌, nat_le, slice_index, Bool, true, false, List, [], ◌∷◌, length, codes, is_some, unwrap_or, Option, Some, None, if◌then◌else◌}
+use Rattle.std.specs.Prelude.{ℕ, ◌&&◌, nat_le, Bool, true, false, List, [], ◌∷◌, length, codes, is_some, unwrap_or, Option, Some, None, if◌then◌else◌}
 use Rattle.std.specs.Option.{option_and_then, option_map_or}
 use Rattle.session_options.specs.Rows.{found}
 use Rattle.session_options.specs.Table.{number_of}
@@ -43,14 +43,9 @@ path_of value = if nat_le 1 (length value) && nat_le (length value) 200 then Som
 abbrev pub if_between : ℕ → ℕ → ℕ → Option ℕ
 if_between least greatest number = if nat_le least number && nat_le number greatest then Some number else None
 
--- a 0 in front of further digits
-abbrev pub has_leading_zero : List ℕ → Bool
-has_leading_zero value = nat_le 2 (length value) && slice_index value 0 == 48
-
--- the number that a value of 1 to 10 decimal digits without a leading zero is, within these bounds
+-- the number that a value of 1 to 10 decimal digits is, within these bounds; zeros in front count as digits
 abbrev pub number_between : ℕ → ℕ → List ℕ → Option ℕ
-number_between least greatest value =
-    if has_leading_zero value then None else option_and_then (if_between least greatest) (number_of value)
+number_between least greatest value = option_and_then (if_between least greatest) (number_of value)
 
 -- a flag has no value; a path or a number has one that is such
 abbrev pub is_of_form : Form → Option (List ℕ) → Bool

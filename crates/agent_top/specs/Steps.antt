@@ -2,7 +2,7 @@
 use Rattle.std.specs.Prelude.{◌≡◌, ◌≤◌, ◌+◌, ℕ, List, [], ◌∷◌, ◌++◌, length, codes, decimal, Option, Some, None, Result, Ok as Whole, Err as Part}
 use Rattle.std.specs.Option.{option_map_or}
 use Rattle.agent_ports.specs.Counts.{Rose}
-use Rattle.agent_ports.specs.Readings.{Readings, readings, HasGiven}
+use Rattle.agent_ports.specs.Readings.{Readings, HasGiven}
 use Rattle.agent_ports.specs.Sides.{Side, with_bytes, WhereTold}
 use Rattle.assuan_line.specs.Next.{Reader, held}
 use Rattle.assuan_line.specs.declared.reader.Took.TheVariants as took
@@ -73,8 +73,8 @@ pub record Point : Type 0 where
   pub clock : Readings
   pub cache : Cache
 
-abbrev pub point : Connection → (ℕ → Option ℕ) → ℕ → ℕ → Cache → Point
-point conn later count last cache = record { conn = conn; clock = readings later count last; cache = cache }
+abbrev pub point : Connection → Readings → Cache → Point
+point conn clock cache = record { conn = conn; clock = clock; cache = cache }
 
 -- the bytes from here on, where the source holds `left`: those ahead too, as long as lines may come
 abbrev pub here : Reader → List ℕ → List ℕ

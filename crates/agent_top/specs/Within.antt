@@ -7,7 +7,7 @@ use Rattle.std.proofs.lemmas.Bool.{leb-true, and_parts, cond_both}
 use Rattle.session_options.specs.Counts.{IsS2kCount, IsWorkers}
 use Rattle.session_options.specs.Table.{number_of}
 use Rattle.agent_top.specs.Settings.{Setting, value_given}
-use Rattle.agent_top.specs.Forms.{form_of, has_leading_zero, if_between, number_for, number_or}
+use Rattle.agent_top.specs.Forms.{form_of, if_between, number_for, number_or}
 use Rattle.agent_top.specs.declared.words.forms.Form.{Form}
 use Rattle.agent_top.specs.declared.words.forms.Form.TheVariants.{Flag, Path, Number}
 
@@ -31,10 +31,7 @@ between least greatest default (Some number) within =
 pub number-within : (form : Option Form) (default : ℕ) (value : Option (List ℕ)) → IsWithin form default
     → IsWithin form (unwrap_or (option_and_then (number_for form) value) default)
 number-within (Some (Number least greatest)) default None within = within
-number-within (Some (Number least greatest)) default (Some value) within =
-    cond_both (has_leading_zero value) None (option_and_then (if_between least greatest) (number_of value))
-    (λ chosen. (least ≤ unwrap_or chosen default) × (unwrap_or chosen default ≤ greatest))
-    (λ _. within) (λ _. between least greatest default (number_of value) within)
+number-within (Some (Number least greatest)) default (Some value) within = between least greatest default (number_of value) within
 number-within (Some Flag) default value within = absurd within
 number-within (Some Path) default value within = absurd within
 number-within None default value within = absurd within

@@ -1,4 +1,5 @@
 ghost use Rattle.std.specs.Prelude.{◌≡◌, ◌∷◌, [], ℕ, Bool, true, List, Option, None, Some};
+ghost use Rattle.agent_ports.specs.Readings.{Readings};
 ghost use Rattle.assuan_server.specs.Connections.{Connection};
 ghost use Rattle.agent_commands.specs.declared.request.Request.TheVariants as request;
 ghost use Rattle.agent_commands.specs.declared.request.CacheCommand.TheVariants as command;
@@ -79,8 +80,8 @@ pub(crate) fn carry_out<L: Link, C: Clock>(
     clock: &mut C,
 ) -> Result<Answer, WriteFault>
     requires { conn.old.reader.ended ≡ None }
-    ensures { IsPrepared rules.now options.old request (point conn.old (C.later clock.old) (C.readings clock.old) (C.last clock.old) cache.old)
-        result options.new (point conn.new (C.later clock.new) (C.readings clock.new) (C.last clock.new) cache.new) }
+    ensures { IsPrepared rules.now options.old request (point conn.old (C.readings clock.old) cache.old)
+        result options.new (point conn.new (C.readings clock.new) cache.new) }
 {
     match request {
         Request::Bad(code) => Ok(Answer::failed(code)),
@@ -98,8 +99,8 @@ fn run_cache<L: Link, C: Clock>(
 ) -> Result<Answer, WriteFault>
     requires { conn.old.reader.ended ≡ None }
     ensures { IsPrepared rules.now options.old (request.Cache command)
-        (point conn.old (C.later clock.old) (C.readings clock.old) (C.last clock.old) cache.old)
-        result options.new (point conn.new (C.later clock.new) (C.readings clock.new) (C.last clock.new) cache.new) }
+        (point conn.old (C.readings clock.old) cache.old)
+        result options.new (point conn.new (C.readings clock.new) cache.new) }
 {
     match command {
         CacheCommand::Nop => Ok(Answer::on(Reply::Ok)),
@@ -158,8 +159,8 @@ fn get_passphrase<C: Clock>(
 ) -> Answer
     ensures { (rules : TheRules) (before : Choices) (check quality : Bool) (repeat : ℕ) (conn : Connection) → conn.reader.ended ≡ None
         → HasPrepared rules before (request.Cache (command.GetPassphrase plain check no_ask repeat quality id texts))
-        (point conn (C.later clock.old) (C.readings clock.old) (C.last clock.old) cache.old) result before
-        (point conn (C.later clock.new) (C.readings clock.new) (C.last clock.new) cache.new) }
+        (point conn (C.readings clock.old) cache.old) result before
+        (point conn (C.readings clock.new) cache.new) }
 {
     if !is_quiet(no_ask, &texts) {
         return Answer::failed(Code::NotSupported);
@@ -192,8 +193,8 @@ fn preset_passphrase<L: Link, C: Clock>(
 ) -> Result<Answer, WriteFault>
     requires { conn.old.reader.ended ≡ None }
     ensures { (before : Choices) → IsPrepared rules.now before (request.Cache (command.PresetPassphrase id life secret))
-        (point conn.old (C.later clock.old) (C.readings clock.old) (C.last clock.old) cache.old)
-        result before (point conn.new (C.later clock.new) (C.readings clock.new) (C.last clock.new) cache.new) }
+        (point conn.old (C.readings clock.old) cache.old)
+        result before (point conn.new (C.readings clock.new) cache.new) }
 {
     let Life::Endless = life else {
         return Ok(Answer::failed(Code::NotSupported));
@@ -217,8 +218,8 @@ fn preset_inquired<L: Link, C: Clock>(
     requires { conn.old.reader.ended ≡ None }
     ensures { (rules : TheRules) (before : Choices) → rules.allow_preset ≡ true
         → IsPrepared rules before (request.Cache (command.PresetPassphrase id Life.Endless None))
-        (point conn.old (C.later clock.old) (C.readings clock.old) (C.last clock.old) cache.old)
-        result before (point conn.new (C.later clock.new) (C.readings clock.new) (C.last clock.new) cache.new) }
+        (point conn.old (C.readings clock.old) cache.old)
+        result before (point conn.new (C.readings clock.new) cache.new) }
 {
     match inquire_passphrase(conn)? {
         Brought::Passphrase(secret) => Ok(Answer::on(store(id, secret, cache, clock))),
@@ -231,8 +232,8 @@ fn store<C: Clock>(id: CacheId, secret: Secret, cache: &mut Cache, clock: &mut C
     ensures { (came : Came)
         × ((text : List ℕ) → IsText result text → Stores id Life.Endless secret (Turned (put id Life.Endless secret) came ∷ Wrote text ∷ []))
         × ((conn : Connection) → HasDone (Turned (put id Life.Endless secret) came ∷ [])
-        (point conn (C.later clock.old) (C.readings clock.old) (C.last clock.old) cache.old)
-        (point conn (C.later clock.new) (C.readings clock.new) (C.last clock.new) cache.new)) }
+        (point conn (C.readings clock.old) cache.old)
+        (point conn (C.readings clock.new) cache.new)) }
 {
     match cache.put(clock.now(), id, secret) {
         Ok(()) => Reply::Ok,
@@ -250,8 +251,7 @@ pub(crate) enum Brought {
 /// Asks the client for a passphrase.
 fn inquire_passphrase<L: Link>(conn: &mut Conn<'_, L>) -> Result<Brought, WriteFault>
     requires { conn.old.reader.ended ≡ None }
-    ensures { (later : ℕ → Option ℕ) (count last : ℕ) (cache : TheCache)
-        → IsInquired (point conn.old later count last cache) result (point conn.new later count last cache) }
+    ensures { (clock : Readings) (cache : TheCache) → IsInquired (point conn.old clock cache) result (point conn.new clock cache) }
 {
     whole(conn.status(b"INQUIRE_MAXLEN", b"255"))?;
     passphrase_of(conn.inquire_secret(b"PASSPHRASE", b""))

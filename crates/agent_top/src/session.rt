@@ -1,6 +1,5 @@
 ghost use Rattle.std.specs.Prelude.{◌≡◌, ◌≤◌, [], None};
 ghost use Rattle.agent_ports.specs.Counts.{Rose};
-ghost use Rattle.agent_ports.specs.Readings.{readings};
 ghost use Rattle.agent_commands.specs.Requests.{request_of};
 ghost use Rattle.agent_top.specs.Reading.{budget};
 ghost use Rattle.agent_top.specs.Session.{HasServed, outside};
@@ -63,8 +62,8 @@ pub(crate) fn serve<L: Link, C: Clock>(
     clock: &mut C,
 ) -> SessionEnd
     ensures served { HasServed rules.now
-        (outside (L.input link.old) (L.output link.old) (readings (C.later clock.old) (C.readings clock.old) (C.last clock.old))) result
-        (outside (L.input link.new) (L.output link.new) (readings (C.later clock.new) (C.readings clock.new) (C.last clock.new))) }
+        (outside (L.input link.old) (L.output link.old) (C.readings clock.old)) result
+        (outside (L.input link.new) (L.output link.new) (C.readings clock.new)) }
     ensures read_fault { result ≡ SessionEnd.ReadFault → Rose (L.input link.old).faults (L.input link.new).faults }
     ensures write_fault { result ≡ SessionEnd.WriteFault → Rose (L.output link.old).faults (L.output link.new).faults }
     ensures input_faults { (L.input link.old).faults ≤ (L.input link.new).faults }
@@ -88,8 +87,8 @@ fn serve_conn<L: Link, C: Clock>(
     clock: &mut C,
 ) -> Result<SessionEnd, WriteFault>
     requires { conn.old.reader ≡ record { ahead = []; left = budget; ended = None } }
-    ensures { HasMet rules.now conn.old (readings (C.later clock.old) (C.readings clock.old) (C.last clock.old)) (end_of result)
-        conn.new (readings (C.later clock.new) (C.readings clock.new) (C.last clock.new)) }
+    ensures { HasMet rules.now conn.old (C.readings clock.old) (end_of result)
+        conn.new (C.readings clock.new) }
 {
     whole(conn.greet())?;
     let mut options = Options::new(rules);
@@ -106,8 +105,8 @@ fn serve_requests<L: Link, C: Clock>(
     clock: &mut C,
 ) -> Result<SessionEnd, WriteFault>
     requires { conn.old.reader.ended ≡ None }
-    ensures { HasTalked rules.now options.old (point conn.old (C.later clock.old) (C.readings clock.old) (C.last clock.old) cache.old)
-        (end_of result) (point conn.new (C.later clock.new) (C.readings clock.new) (C.last clock.new) cache.new) }
+    ensures { HasTalked rules.now options.old (point conn.old (C.readings clock.old) cache.old)
+        (end_of result) (point conn.new (C.readings clock.new) cache.new) }
 {
     loop {
         match conn.next_request() {
@@ -137,8 +136,8 @@ fn answer<L: Link, C: Clock>(
 ) -> Result<Went, WriteFault>
     requires { conn.old.reader.ended ≡ None }
     ensures { IsAnswered rules.now options.old (request_of line.now)
-        (point conn.old (C.later clock.old) (C.readings clock.old) (C.last clock.old) cache.old) result
-        options.new (point conn.new (C.later clock.new) (C.readings clock.new) (C.last clock.new) cache.new) }
+        (point conn.old (C.readings clock.old) cache.old) result
+        options.new (point conn.new (C.readings clock.new) cache.new) }
 {
     let answer = carry_out(read_request(line), rules, options, conn, cache, clock)?;
     let Some(reply) = &answer.reply else {

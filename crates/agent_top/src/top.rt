@@ -1,6 +1,5 @@
 ghost use Rattle.std.specs.Prelude.{◌≡◌, map, string_bytes, IfSome, IfNone};
 ghost use Rattle.agent_top.specs.Words.{rules_of};
-ghost use Rattle.agent_ports.specs.Readings.{readings};
 ghost use Rattle.agent_top.specs.Session.{outside};
 ghost use Rattle.agent_top.specs.Top.{HasRun};
 
@@ -32,8 +31,8 @@ pub fn run_agent<W: Threads + Wait + rt::Clock + Sync, S: Link, H: Host>(
         ((result ≡ 2) × (S.input stdio.new ≡ S.input stdio.old) × (S.output stdio.new ≡ S.output stdio.old)
         × (host.new ≡ host.old)) }
     ensures served { IfSome (rules_of (map string_bytes words.now)) (λ rules. HasRun rules
-        (outside (S.input stdio.old) (S.output stdio.old) (readings (H.later host.old) (H.readings host.old) (H.last host.old))) result
-        (outside (S.input stdio.new) (S.output stdio.new) (readings (H.later host.new) (H.readings host.new) (H.last host.new)))) }
+        (outside (S.input stdio.old) (S.output stdio.old) (H.readings host.old)) result
+        (outside (S.input stdio.new) (S.output stdio.new) (H.readings host.new))) }
 {
     match read_words(words) {
         Ok(rules) => run_server(alloc, &rules, stdio, host),
@@ -44,8 +43,8 @@ pub fn run_agent<W: Threads + Wait + rt::Clock + Sync, S: Link, H: Host>(
 /// Serves one session on standard input and output, and gives its status, as `run_agent` does. It always returns.
 pub fn run_server<S: Link, H: Host>(alloc: Global, rules: &Rules, stdio: &mut S, host: &mut H) -> u8
     ensures { HasRun rules.now
-        (outside (S.input stdio.old) (S.output stdio.old) (readings (H.later host.old) (H.readings host.old) (H.last host.old))) result
-        (outside (S.input stdio.new) (S.output stdio.new) (readings (H.later host.new) (H.readings host.new) (H.last host.new))) }
+        (outside (S.input stdio.old) (S.output stdio.old) (H.readings host.old)) result
+        (outside (S.input stdio.new) (S.output stdio.new) (H.readings host.new)) }
 {
     serve(alloc, rules, stdio, host).status()
 }

@@ -1,6 +1,6 @@
 ghost use Rattle.std.specs.Prelude.{◌≡◌, Some};
 ghost use Rattle.std.specs.Option.{option_map};
-ghost use Rattle.agent_top.specs.Forms.{form_of, fits, path_of, has_leading_zero, number_between, number_for};
+ghost use Rattle.agent_top.specs.Forms.{form_of, fits, path_of, number_between, number_for};
 ghost use Rattle.agent_top.specs.Settings.{setting_of};
 
 use super::settings::Setting;
@@ -13,7 +13,7 @@ pub(crate) enum Form {
     Flag,
     /// 1 to 200 bytes.
     Path,
-    /// 1 to 10 decimal digits without a leading zero, whose number lies within these bounds.
+    /// 1 to 10 decimal digits, zeros in front among them, whose number lies within these bounds.
     Number { least: u64, greatest: u64 },
 }
 
@@ -104,20 +104,10 @@ pub(crate) fn number_for(form: Form, value: &str) -> Option<u64>
 fn number_between(least: u64, greatest: u64, value: &str) -> Option<u64>
     ensures { result ≡ number_between least greatest value.now }
 {
-    if has_leading_zero(value) {
-        return None;
-    }
     let number = number_of(value.as_bytes())?;
     if least <= number && number <= greatest {
         Some(number)
     } else {
         None
     }
-}
-
-/// Whether a 0 stands in front of further digits.
-fn has_leading_zero(value: &str) -> bool
-    ensures { result ≡ has_leading_zero value.now }
-{
-    value.len() > 1 && value.starts_with('0')
 }

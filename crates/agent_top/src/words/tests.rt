@@ -34,7 +34,7 @@ fn defaults_stand_for_what_is_not_given(rt: HostRuntime) -> Result<(), Fail> {
 
 const ALL: &str =
     "--homedir /h --pinentry-program=/p=q --default-cache-ttl 2147483647 --max-cache-ttl=1 \
-    --default-cache-ttl-ssh 2 --max-cache-ttl-ssh=3 --allow-preset-passphrase --server \
+    --default-cache-ttl-ssh 2 --max-cache-ttl-ssh=0000000600 --allow-preset-passphrase --server \
     --no-allow-loopback-pinentry --min-passphrase-len 255 --min-passphrase-nonalpha=0 \
     --pinentry-timeout 4 --s2k-count=65011712 --workers 64";
 
@@ -44,7 +44,7 @@ fn each_option_sets_its_field(rt: HostRuntime) -> Result<(), Fail> {
     assert_eq!(rt; rules.default_ttl, 2_147_483_647);
     assert_eq!(rt; rules.max_ttl, 1);
     assert_eq!(rt; rules.default_ttl_ssh, 2);
-    assert_eq!(rt; rules.max_ttl_ssh, 3);
+    assert_eq!(rt; rules.max_ttl_ssh, 600);
     assert_eq!(rt; rules.pinentry_timeout, 4);
     assert_eq!(rt; rules.workers, 64);
     assert_eq!(rt; rules.min_len, 255);
@@ -84,7 +84,7 @@ const REFUSED: [&str; 27] = [
     "--server --workers 0",
     "--server --workers=65",
     "--server --max-cache-ttl=2147483648",
-    "--server --max-cache-ttl=01",
+    "--server --max-cache-ttl=00000000600",
     "--server --max-cache-ttl=+1",
 ];
 

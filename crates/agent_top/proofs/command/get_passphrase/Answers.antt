@@ -23,7 +23,7 @@ pub returns-in-Some-ask : goal.returns-in-Some-ask
 returns-in-Some-ask g c = λ rules before check quality repeat conn going.
     prepared_turned rules before _ (ask c.in-Some.id) (Given c.in-Some-ask.grant.entry.secret) _ _ c.on.result _ going refl c.on.ensures.reply c.on.ensures.went
     (done_turned (ask c.in-Some.id) (Given c.in-Some-ask.grant.entry.secret) conn _ _ c.now.result _ _
-    (given_one c.now.result c.now.ensures.rose c.now.ensures.last c.now.ensures.told c.now.ensures.later) c.ask.ensures.limits
+    (given_one c.now.ensures) c.ask.ensures.limits
     (λ standing kept. turn_given _ c.in-Some.id c.now.result c.ask.new.self standing (λ reply. c.ask.ensures.stands standing reply kept)
     c.in-Some-ask.grant.entry.secret (c.in-Some-ask.ensures.live standing kept)))
     (λ text is. rw c.in-Some.is (given (sym c.is_quiet.ensures ∙ c.if-not-is_quiet.false) is))
@@ -32,7 +32,7 @@ pub returns-in-None : goal.returns-in-None
 returns-in-None g c = λ rules before check quality repeat conn going.
     prepared_turned rules before _ (ask c.in-Some.id) Empty _ _ c.failed-in-None.result (Failed NoData) going refl c.failed-in-None.ensures.reply c.failed-in-None.ensures.went
     (done_turned (ask c.in-Some.id) Empty conn _ _ c.now.result _ _
-    (given_one c.now.result c.now.ensures.rose c.now.ensures.last c.now.ensures.told c.now.ensures.later) c.ask.ensures.limits
+    (given_one c.now.ensures) c.ask.ensures.limits
     (λ standing kept. turn_empty _ c.in-Some.id c.now.result c.ask.new.self standing (λ reply. c.ask.ensures.stands standing reply kept)
     (sym (c.in-None.ensures.live standing kept))))
     (λ text is. rw (c.in-Some.is, is) (empty (sym c.is_quiet.ensures ∙ c.if-not-is_quiet.false)))

@@ -13,7 +13,7 @@ returns-in-Ok g c = (
   Done,
   λ text is. subst (λ t. Stores c.args.id Endless c.args.secret (Turned (put c.args.id Endless c.args.secret) Done ∷ Wrote t ∷ [])) (sym is) stored,
   λ conn. done_turned (put c.args.id Endless c.args.secret) Done conn _ _ c.now.result _ _
-      (given_one c.now.result c.now.ensures.rose c.now.ensures.last c.now.ensures.told c.now.ensures.later) c.put.ensures.limits
+      (given_one c.now.ensures) c.put.ensures.limits
       (λ standing kept. (
         marked standing (put c.args.id Endless c.args.secret) reply.Done c.now.result,
         turned reply.Done (done refl) none,
@@ -26,6 +26,6 @@ returns-in-Err g c = (
   Refused,
   λ text is. subst (λ t. Stores c.args.id Endless c.args.secret (Turned (put c.args.id Endless c.args.secret) Refused ∷ Wrote t ∷ [])) (sym is) no_memory,
   λ conn. done_turned (put c.args.id Endless c.args.secret) Refused conn _ _ c.now.result _ _
-      (given_one c.now.result c.now.ensures.rose c.now.ensures.last c.now.ensures.told c.now.ensures.later) c.put.ensures.limits
+      (given_one c.now.ensures) c.put.ensures.limits
       (λ standing kept. (standing, refused refl none, c.in-Err.ensures.err standing kept)),
 )

@@ -7,7 +7,7 @@ use Rattle.agent_top.proofs.session.serve_requests.Given as goal
 abbrev pub invariant-loop-line : goal.invariant-loop-line
 invariant-loop-line g l =
     record {
-      serving : IsServing l.fn.rules l.fn.options (point l.fn.conn (g.C.Clock.later l.fn.clock) (g.C.Clock.readings l.fn.clock) (g.C.Clock.last l.fn.clock) l.fn.cache) (point l.conn (g.C.Clock.later l.clock) (g.C.Clock.readings l.clock) (g.C.Clock.last l.clock) l.cache) l.options;
+      serving : IsServing l.fn.rules l.fn.options (point l.fn.conn (g.C.Clock.readings l.fn.clock) l.fn.cache) (point l.conn (g.C.Clock.readings l.clock) l.cache) l.options;
       going : l.conn.reader.ended ≡ None;
     }
 
