@@ -4,20 +4,33 @@ use Rattle.agent_ports.specs.Counts.{Rose}
 use Rattle.session_options.specs.declared.rules.Rules.{Rules}
 use Rattle.agent_top.specs.declared.session.SessionEnd.{SessionEnd}
 use Rattle.agent_top.specs.declared.session.SessionEnd.TheVariants.{Bye, Ended, TooLong, Spent, ReadFault, WriteFault}
+use Rattle.agent_top.specs.declared.status.Status.{Status}
+use Rattle.agent_top.specs.declared.status.Status.TheVariants as status
 use Rattle.agent_top.specs.Session.{Outside, HasServed}
 
-abbrev pub status_of : SessionEnd → ℕ
-status_of Bye = 0
-status_of Ended = 0
-status_of ReadFault = 3
-status_of WriteFault = 4
-status_of Spent = 6
-status_of TooLong = 7
+-- the number that the process ends with
+abbrev pub number_of : Status → ℕ
+number_of status.Success = 0
+number_of status.NoMemory = 1
+number_of status.BadWords = 2
+number_of status.ReadFault = 3
+number_of status.WriteFault = 4
+number_of status.Spent = 6
+number_of status.TooLong = 7
 
--- a session was served, and the status is that of its end; a fault is told only where its count has risen
-pub record HasRun (rules : Rules) (before : Outside) (status : ℕ) (after : Outside) : Type 0 where
+-- the status after a session that ended so
+abbrev pub status_of : SessionEnd → Status
+status_of Bye = status.Success
+status_of Ended = status.Success
+status_of ReadFault = status.ReadFault
+status_of WriteFault = status.WriteFault
+status_of Spent = status.Spent
+status_of TooLong = status.TooLong
+
+-- a session was served, and the number is that of its end; a fault is told only where its count has risen
+pub record HasRun (rules : Rules) (before : Outside) (number : ℕ) (after : Outside) : Type 0 where
   pub end : SessionEnd
-  pub status_is : status ≡ status_of end
+  pub number_is : number ≡ number_of (status_of end)
   pub served : HasServed rules before end after
   pub read_fault : end ≡ ReadFault → Rose before.input.faults after.input.faults
   pub write_fault : end ≡ WriteFault → Rose before.output.faults after.output.faults

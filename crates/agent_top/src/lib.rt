@@ -5,9 +5,11 @@ mod cache;
 mod command;
 mod reply;
 mod session;
+mod status;
 mod top;
 mod words;
 
+pub use status::Status;
 pub use top::{run_agent, run_server};
 pub use words::{WordsFault, read_words, words_are_read_as_spelled};
 

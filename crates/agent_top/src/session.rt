@@ -5,6 +5,7 @@ ghost use Rattle.agent_top.specs.Reading.{budget};
 ghost use Rattle.agent_top.specs.Session.{HasServed, outside};
 ghost use Rattle.agent_top.specs.Steps.{point, IsAnswered, HasTalked, HasMet, end_of};
 
+use crate::Status;
 use crate::cache::{Cache, limits_of};
 use crate::command::carry_out;
 use crate::reply::{WriteFault, whole, write_reply};
@@ -34,15 +35,15 @@ impl SessionEnd {
     ghost use Rattle.agent_top.specs.Top.{status_of};
 
     /// The status of a process whose session ended so.
-    pub(crate) fn status(self) -> u8
+    pub(crate) fn status(self) -> Status
         ensures { result ≡ status_of self }
     {
         match self {
-            SessionEnd::Bye | SessionEnd::Ended => 0,
-            SessionEnd::ReadFault => 3,
-            SessionEnd::WriteFault => 4,
-            SessionEnd::Spent => 6,
-            SessionEnd::TooLong => 7,
+            SessionEnd::Bye | SessionEnd::Ended => Status::Success,
+            SessionEnd::ReadFault => Status::ReadFault,
+            SessionEnd::WriteFault => Status::WriteFault,
+            SessionEnd::Spent => Status::Spent,
+            SessionEnd::TooLong => Status::TooLong,
         }
     }
 }

@@ -1,8 +1,9 @@
 ghost use Rattle.std.specs.Prelude.{◌≡◌, map, string_bytes, IfSome, IfNone};
 ghost use Rattle.agent_top.specs.Words.{rules_of};
 ghost use Rattle.agent_top.specs.Session.{outside};
-ghost use Rattle.agent_top.specs.Top.{HasRun};
+ghost use Rattle.agent_top.specs.Top.{number_of, HasRun};
 
+use crate::Status;
 use crate::session::serve;
 use crate::words::{WordsFault, read_words};
 use agent_ports::{Host, Link};
@@ -11,9 +12,6 @@ use std::alloc::Global;
 use std::rt;
 use std::sync::Wait;
 use std::thread::Threads;
-
-/// The status where the words are none that the agent takes.
-const BAD_WORDS: u8 = 2;
 
 /// The agent. It reads its words, which leave out the program's name, and serves a session on standard input and output.
 ///
@@ -28,7 +26,7 @@ pub fn run_agent<W: Threads + Wait + rt::Clock + Sync, S: Link, H: Host>(
 ) -> u8
     // Words that it doesn't know: nothing is read or written.
     ensures refused { IfNone (rules_of (map string_bytes words.now))
-        ((result ≡ 2) × (S.input stdio.new ≡ S.input stdio.old) × (S.output stdio.new ≡ S.output stdio.old)
+        ((result ≡ number_of Status.BadWords) × (S.input stdio.new ≡ S.input stdio.old) × (S.output stdio.new ≡ S.output stdio.old)
         × (host.new ≡ host.old)) }
     ensures served { IfSome (rules_of (map string_bytes words.now)) (λ rules. HasRun rules
         (outside (S.input stdio.old) (S.output stdio.old) (H.readings host.old)) result
@@ -36,7 +34,7 @@ pub fn run_agent<W: Threads + Wait + rt::Clock + Sync, S: Link, H: Host>(
 {
     match read_words(words) {
         Ok(rules) => run_server(alloc, &rules, stdio, host),
-        Err(WordsFault::Bad) => BAD_WORDS,
+        Err(WordsFault::Bad) => Status::BadWords.number(),
     }
 }
 
@@ -46,5 +44,5 @@ pub fn run_server<S: Link, H: Host>(alloc: Global, rules: &Rules, stdio: &mut S,
         (outside (S.input stdio.old) (S.output stdio.old) (H.readings host.old)) result
         (outside (S.input stdio.new) (S.output stdio.new) (H.readings host.new)) }
 {
-    serve(alloc, rules, stdio, host).status()
+    serve(alloc, rules, stdio, host).status().number()
 }

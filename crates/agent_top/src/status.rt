@@ -1,0 +1,39 @@
+ghost use Rattle.std.specs.Prelude.{◌≡◌};
+
+/// With what status the agent's process ends.
+#[derive(Clone, Copy, Debug, PartialEq, Eq)]
+pub enum Status {
+    /// The client said BYE, or its input ended.
+    Success,
+    /// There was no memory for the words of the command line.
+    NoMemory,
+    /// The words of the command line are none that the agent takes.
+    BadWords,
+    /// A read failed.
+    ReadFault,
+    /// A write failed.
+    WriteFault,
+    /// As many bytes were taken as a session may take.
+    Spent,
+    /// A line was too long.
+    TooLong,
+}
+
+impl Status {
+    ghost use Rattle.agent_top.specs.Top.{number_of};
+
+    /// The number that the process ends with.
+    pub fn number(self) -> u8
+        ensures { result ≡ number_of self }
+    {
+        match self {
+            Status::Success => 0,
+            Status::NoMemory => 1,
+            Status::BadWords => 2,
+            Status::ReadFault => 3,
+            Status::WriteFault => 4,
+            Status::Spent => 6,
+            Status::TooLong => 7,
+        }
+    }
+}
