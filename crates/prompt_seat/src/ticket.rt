@@ -1,0 +1,40 @@
+ghost use Rattle.std.specs.Prelude.{◌≡◌};
+
+use std::marker::Model;
+
+/// The right to prompt. Contracts see its number.
+///
+/// A ticket can't be dropped, copied or made outside this crate: whoever was given one gives it back to a seat.
+pub struct Ticket {
+    number: u64,
+}
+
+impl Model for Ticket {
+    ghost use Rattle.std.specs.Prelude.{ℕ};
+
+    ghost Value = { ℕ };
+
+    ghost view = { λ ticket. ticket.number };
+}
+
+impl Ticket {
+    pub(crate) fn new(number: u64) -> Ticket
+        ensures { result ≡ number }
+    {
+        Ticket { number }
+    }
+
+    pub fn number(&self) -> u64
+        ensures { result ≡ self.now }
+    {
+        self.number
+    }
+
+    /// Ends the ticket, and gives its number.
+    pub(crate) fn into_number(self) -> u64
+        ensures { result ≡ self }
+    {
+        let Ticket { number } = self;
+        number
+    }
+}
