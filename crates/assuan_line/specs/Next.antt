@@ -1,7 +1,8 @@
 -- What the next read of a line gives. What becomes of a line that is too long, and of one that the end cuts off, is
 -- this project's own rule.
-use Rattle.std.specs.Prelude.{◌≡◌, ℕ, ◌+◌, ◌<◌, List, [], ◌++◌, length, take, nat_le, Option, Some, None, if◌then◌else◌}
+use Rattle.std.specs.Prelude.{◌≡◌, ℕ, ◌+◌, ◌<◌, ◌≤◌, ◌⊎◌, List, [], ◌++◌, length, take, nat_le, Option, Some, None, if◌then◌else◌}
 use Rattle.assuan_line.specs.Lines.{has_lf, first_line, after_line}
+use Rattle.assuan_line.specs.declared.reader.TheConstants.{MAX_AHEAD}
 use Rattle.assuan_line.specs.declared.reader.Took.{Took}
 use Rattle.assuan_line.specs.declared.reader.Took.TheVariants.{Line, TooLong, End, Spent, ReadFault}
 
@@ -59,3 +60,15 @@ Tells before rest TooLong after left = IsTooLong before.ahead rest left
 Tells before rest End after left = (next_of (before.ahead ++ rest) ≡ End) × (left ≡ []) × (0 < after.left)
 Tells before rest Spent after left = IsCutShort before.ahead rest left × (after.left ≡ 0)
 Tells before rest ReadFault after left = IsCutShort before.ahead rest left × (0 < after.left)
+
+-- Bytes were taken that were needed, and then those of one more read: what was there before that read decided nothing.
+pub record WereNeeded (ahead rest left : List ℕ) : Type 0 where
+  pub early : List ℕ
+  pub late : List ℕ
+  pub split : rest ≡ early ++ (late ++ left)
+  pub undecided : next_of (ahead ++ early) ≡ End
+  pub few : length late ≤ MAX_AHEAD
+
+-- What an answer took from the source: nothing, or at most so many bytes more than it needed.
+abbrev pub TakesWhatItNeeds : List ℕ → List ℕ → List ℕ → Type 0
+TakesWhatItNeeds ahead rest left = (rest ≡ left) ⊎ WereNeeded ahead rest left

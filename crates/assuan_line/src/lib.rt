@@ -6,7 +6,7 @@ mod reader;
 mod writer;
 
 pub use line::Line;
-pub use reader::{LineReader, Took, lines_come_in_order};
+pub use reader::{LineReader, MAX_AHEAD, Took, lines_come_in_order};
 pub use writer::write_line;
 
 #[cfg(test)]

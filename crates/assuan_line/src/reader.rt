@@ -12,6 +12,9 @@ use arrayvec::ArrayVec;
 use std::alloc::Global;
 use std::marker::Model;
 
+/// The most bytes that a reader holds ahead of the lines that it gave.
+pub const MAX_AHEAD: usize = 4096;
+
 /// The most bytes before a line feed: a line's 1,000, and a carriage return.
 const LONGEST: usize = 1001;
 

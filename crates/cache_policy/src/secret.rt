@@ -1,16 +1,15 @@
-ghost use Rattle.std.specs.Prelude.{◌≡◌, ◌≤◌, ◌↔◌, length, replicate, IsSome, IfSome};
-ghost use Rattle.arrayvec.specs.ArrayVec.{array_vec_len};
+ghost use Rattle.std.specs.Prelude.{◌≡◌, ◌≤◌, ◌↔◌, length, IsSome, IfSome};
 
-use arrayvec::ArrayVec;
-use std::hint;
 use std::marker::Model;
+use wiping::Wiped;
 
 /// A passphrase: at most 255 bytes, maybe none.
 ///
 /// It is neither cloned nor printed nor compared, and its bytes are overwritten with zeros when it is dropped.
 /// A move leaves the bytes where they were, as in Rust, and no proof says that wiped bytes are gone from the machine.
+#[derive(Drop)]
 pub struct Secret {
-    bytes: ArrayVec<u8, 255>,
+    bytes: Wiped<255>,
 }
 
 impl Model for Secret {
@@ -18,9 +17,9 @@ impl Model for Secret {
 
     ghost Value = { List ℕ };
 
-    ghost view = { λ secret. secret.bytes.items };
+    ghost view = { λ secret. secret.bytes };
 
-    ghost invariant = { λ secret. length secret.bytes.items ≤ 255 };
+    ghost invariant = { λ secret. length secret.bytes ≤ 255 };
 }
 
 impl Secret {
@@ -29,7 +28,7 @@ impl Secret {
         ensures within { IsSome result ↔ (length bytes.now ≤ 255) }
         ensures bytes { IfSome result (λ secret. secret ≡ bytes.now) }
     {
-        let bytes = ArrayVec::try_from(bytes).ok()?;
+        let bytes = Wiped::of(bytes)?;
         Some(Secret { bytes })
     }
 
@@ -37,33 +36,15 @@ impl Secret {
         ensures value { result.now ≡ self.now }
         ensures within { length self.now ≤ 255 }
     {
-        self.bytes.as_slice()
+        self.bytes.bytes()
     }
 
     /// The same passphrase once more, without taking memory. Each copy is overwritten when it is dropped.
     pub fn copy(&self) -> Secret
         ensures { result ≡ self.now }
     {
-        let mut bytes = ArrayVec::new();
+        let mut bytes = Wiped::new();
         let _ = bytes.try_extend_from_slice(self.bytes());
         Secret { bytes }
     }
-}
-
-impl Drop for Secret {
-    fn drop(self) {
-        let Secret { mut bytes } = self;
-        wipe(&mut bytes);
-    }
-}
-
-/// Overwrites the bytes with zeros.
-// The toolchain has no volatile write, and its `black_box` is the identity. A call that is not inlined, and that has an
-// effect which the optimiser may not drop, stands in for them: so the call stays, and its writes with it.
-#[inline(never)]
-fn wipe(bytes: &mut ArrayVec<u8, 255>)
-    ensures { bytes.new.items ≡ replicate (array_vec_len bytes.old) 0 }
-{
-    bytes.as_mut_slice().fill(0);
-    hint::spin_loop();
 }
