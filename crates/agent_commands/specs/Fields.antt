@@ -9,7 +9,7 @@ use Rattle.hex.specs.declared.error.FromHexError.{FromHexError}
 use Rattle.assuan_escape.specs.Escapes.{unescaped}
 use Rattle.cache_policy.specs.declared.life.Life.{Life}
 use Rattle.cache_policy.specs.declared.life.Life.TheVariants.{Default, Endless, Seconds}
-use Rattle.session_options.specs.Table.{number_of}
+use Rattle.assuan_text.specs.Numbers.{number_of}
 use Rattle.agent_commands.specs.declared.request.Texts.{Texts}
 
 -- the word stands for none

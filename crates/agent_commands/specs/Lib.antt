@@ -1,5 +1,4 @@
 pub mod Words
-pub mod Rows
 pub mod Names
 pub mod Fields
 pub mod Requests

@@ -1,10 +1,7 @@
 -- The names that requests have (GnuPG manual, "Agent's Assuan protocol"; the commands of any Assuan server are those of the
 -- Assuan manual, "client requests").
-use Rattle.std.specs.Prelude.{ℕ, ◌&&◌, Bool, List, [], ◌∷◌, codes, map, Option}
-use Rattle.std.specs.List.{list_any}
-use Rattle.std.specs.Str.{bytes_eq}
-use Rattle.session_options.specs.Rows.{found}
-use Rattle.agent_commands.specs.Rows.{found_in_any_case}
+use Rattle.std.specs.Prelude.{ℕ, Bool, List, [], ◌∷◌, codes, map, Option}
+use Rattle.assuan_text.specs.Rows.{found, found_in_any_case, has_pair}
 use Rattle.agent_commands.specs.declared.names.CommandName.{CommandName}
 use Rattle.agent_commands.specs.declared.names.CommandName.TheVariants.{Nop, Reset, Bye, Help, SetOption, GetInfo, GetPassphrase, PresetPassphrase}
 use Rattle.agent_commands.specs.declared.names.What.{What}
@@ -55,4 +52,4 @@ listed =
 
 -- both are listed so, byte for byte
 unfoldable pub is_listed : List ℕ → List ℕ → Bool
-is_listed command option = list_any (λ row. bytes_eq row.0 command && bytes_eq row.1 option) listed
+is_listed command option = has_pair command option listed

@@ -2,7 +2,8 @@
 -- this project's own.
 use Rattle.std.specs.Prelude.{ℕ, List, [], ◌∷◌, codes, Option, Some, None, if◌then◌else◌}
 use Rattle.cache_policy.specs.declared.life.Life.{Life}
-use Rattle.agent_commands.specs.Words.{command_of, rest_of, words, options_of, arguments_of, has_option, last_option}
+use Rattle.assuan_text.specs.Words.{command_of, rest_of, words}
+use Rattle.agent_commands.specs.Words.{options_of, arguments_of, has_option, last_option}
 use Rattle.agent_commands.specs.Names.{command_named, what_named, is_listed}
 use Rattle.agent_commands.specs.Fields.{cache_id, unless_none, text, texts, repeats, life, given_passphrase}
 use Rattle.assuan_server.specs.declared.errors.Code.TheVariants.{NotSupported, UnknownCommand, Parameter}

@@ -1,21 +1,8 @@
 -- The words of a line, as the commands of an Assuan server read them: the command, and after blanks and tabs its options
 -- and arguments. Which of two options counts, and that others are passed over, is this project's own rule.
-use Rattle.std.specs.Prelude.{ℕ, ◌||◌, ◌&&◌, nat_le, not, Bool, List, [], ◌∷◌, length, take, drop, find, reverse, codes, Option, if◌then◌else◌}
-use Rattle.std.specs.List.{prefix_len, position_or_len, before_first, slice_split, filter, list_any}
+use Rattle.std.specs.Prelude.{ℕ, ◌||◌, ◌&&◌, not, Bool, List, [], ◌∷◌, length, take, drop, find, reverse, codes, Option, if◌then◌else◌}
+use Rattle.std.specs.List.{prefix_len, list_any}
 use Rattle.std.specs.Str.{bytes_eq}
-use Rattle.session_options.specs.Text.{is_blank, without_blanks}
-
--- the word that the line begins with
-abbrev pub command_of : List ℕ → List ℕ
-command_of line = before_first is_blank (without_blanks line)
-
--- what comes after the line's first word, and the blanks behind it
-abbrev pub rest_of : List ℕ → List ℕ
-rest_of line = without_blanks (drop (position_or_len is_blank (without_blanks line)) (without_blanks line))
-
--- the words of a text: what stands between its blanks
-abbrev pub words : List ℕ → List (List ℕ)
-words text = filter (λ word. nat_le 1 (length word)) (slice_split is_blank text)
 
 -- an option begins with two dashes; two dashes alone are none
 abbrev pub is_option : List ℕ → Bool

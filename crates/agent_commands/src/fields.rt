@@ -1,15 +1,15 @@
 ghost use Rattle.std.specs.Prelude.{◌≡◌, ◌≤◌, ◌++◌, length, codes, [], MatchOption};
 ghost use Rattle.std.specs.Option.{option_and_then, option_map};
 ghost use Rattle.hex.specs.Hex.{decode_of};
-ghost use Rattle.agent_commands.specs.Words.{words, options_of, last_option};
+ghost use Rattle.assuan_text.specs.Words.{words};
+ghost use Rattle.agent_commands.specs.Words.{options_of, last_option};
 ghost use Rattle.agent_commands.specs.Fields.{is_none, cache_id, unless_none, text_or, texts, repeats, life, life_of_seconds, passphrase, given_passphrase};
 
+use crate::Texts;
 use crate::options::last_option;
-use crate::words::next_word;
-use crate::{Text, Texts};
 use assuan_escape::unescape;
+use assuan_text::{Text, next_word, number_of};
 use cache_policy::{CacheId, Life, Secret};
-use session_options::number_of;
 
 /// The word that stands for none.
 const NONE: &[u8] = b"X";

@@ -6,15 +6,8 @@ mod names;
 mod options;
 mod read;
 mod request;
-mod table;
 #[cfg(test)]
 mod tests;
-mod words;
-
-use arrayvec::ArrayVec;
-
-/// What a line can hold: at most 1,000 bytes.
-type Text = ArrayVec<u8, 1000>;
 
 pub use names::{COMMANDS, CommandName, commands_are_as_defined};
 pub use read::read_request;

@@ -2,8 +2,7 @@ ghost use Rattle.std.specs.Prelude.{◌≡◌, map};
 ghost use Rattle.agent_commands.specs.declared.names.TheConstants.{COMMANDS};
 ghost use Rattle.agent_commands.specs.Names.{commands, command_named, what_named, is_listed};
 
-use crate::table::{found_in_any_case, has_pair};
-use session_options::found;
+use assuan_text::{found, found_in_any_case, has_pair};
 
 /// The commands that are served.
 #[derive(Clone, Copy, Debug, PartialEq, Eq)]

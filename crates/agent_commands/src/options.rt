@@ -1,9 +1,10 @@
 ghost use Rattle.std.specs.Prelude.{◌≡◌, ◌≤◌, ◌<◌, ◌∷◌, true, length, drop, MatchOption};
 ghost use Rattle.std.specs.List.{prefix_len};
 ghost use Rattle.std.specs.Option.{option_map};
-ghost use Rattle.agent_commands.specs.Words.{is_option, options_of, arguments_of, has_option, names_option, last_option, words};
+ghost use Rattle.assuan_text.specs.Words.{words};
+ghost use Rattle.agent_commands.specs.Words.{is_option, options_of, arguments_of, has_option, names_option, last_option};
 
-use crate::words::next_word;
+use assuan_text::next_word;
 
 const MARK: &[u8] = b"--";
 

@@ -1,14 +1,15 @@
 ghost use Rattle.std.specs.Prelude.{◌≡◌, ◌≤◌, length};
-ghost use Rattle.agent_commands.specs.Words.{words, options_of, arguments_of};
+ghost use Rattle.assuan_text.specs.Words.{words};
+ghost use Rattle.agent_commands.specs.Words.{options_of, arguments_of};
 ghost use Rattle.agent_commands.specs.Requests.{request_of, info_request, pair_request, get_request, preset_request};
 
 use crate::fields::{cache_id, given_passphrase, life, repeats, texts, unless_none};
 use crate::names::{CommandName, What, command_named, is_listed, what_named};
 use crate::options::{arguments, has_option};
-use crate::words::{command_and_rest, next_word};
-use crate::{CacheCommand, Info, Request, Text};
+use crate::{CacheCommand, Info, Request};
 use assuan_line::Line;
 use assuan_server::Code;
+use assuan_text::{Text, command_and_rest, next_word};
 
 /// Reads a line as what it asks for.
 ///

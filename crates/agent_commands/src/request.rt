@@ -1,5 +1,5 @@
-use crate::Text;
 use assuan_server::Code;
+use assuan_text::Text;
 use cache_policy::{CacheId, Life, Secret};
 
 /// What a line asks for.

@@ -1,4 +1,5 @@
 use super::*;
+use arrayvec::ArrayVec;
 use assuan_line::Line;
 use assuan_server::Code;
 use cache_policy::Life;

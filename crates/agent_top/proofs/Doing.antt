@@ -10,7 +10,8 @@ use Rattle.assuan_line.specs.declared.reader.Took.{Took}
 use Rattle.assuan_line.specs.declared.reader.Took.TheVariants as took
 use Rattle.assuan_server.specs.Connections.{Connection}
 use Rattle.assuan_server.specs.Passing.{Comes, Says}
-use Rattle.assuan_server.specs.Requests.{IsNextRequest, is_ignored}
+use Rattle.assuan_text.specs.Forms.{is_ignored}
+use Rattle.assuan_server.specs.Requests.{IsNextRequest}
 use Rattle.cache_policy.specs.declared.life.Limits.{Limits}
 use Rattle.cache_policy.specs.declared.mark.MarkStep.{MarkStep}
 use Rattle.agent_top.specs.Cache.{Standing, Turns, none as no_turns, heard as turns_heard, wrote as turns_wrote, inquired as turns_inquired, turned, refused}

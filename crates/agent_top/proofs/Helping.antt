@@ -5,7 +5,8 @@ use Rattle.std.specs.List.{flat_map}
 use Rattle.std.proofs.lemmas.Grind.{flat_map-append}
 use Rattle.std.proofs.lemmas.List.{take_more, take-append-drop}
 use Rattle.assuan_server.specs.Connections.{Connection}
-use Rattle.assuan_server.specs.Written.{line_of, comment_text}
+use Rattle.assuan_text.specs.LineEnds.{line_of}
+use Rattle.assuan_server.specs.Written.{comment_text}
 use Rattle.agent_commands.specs.declared.names.CommandName.{CommandName}
 use Rattle.agent_top.specs.Exchanges.{ok}
 use Rattle.agent_top.specs.Steps.{HasSaid}

@@ -12,7 +12,8 @@ use Rattle.assuan_line.specs.declared.reader.Took.TheVariants as took
 use Rattle.assuan_server.specs.Connections.{Connection}
 use Rattle.assuan_server.specs.Inquiries.{Outcome, Inquiry, ComesTo, can, end, past, foreign, ended, too_long, spent, read_fault, AnswersSecret, ended_of_secret, inquire_text, carried, is_passing}
 use Rattle.assuan_server.specs.Inquiries as outcome
-use Rattle.assuan_server.specs.Written.{HasWritten, line_of, status_text}
+use Rattle.assuan_text.specs.LineEnds.{line_of}
+use Rattle.assuan_server.specs.Written.{HasWritten, status_text}
 use Rattle.assuan_server.specs.declared.inquiry.InquiredSecret.{InquiredSecret}
 use Rattle.assuan_server.specs.declared.inquiry.InquiredSecret.TheVariants as inquired
 use Rattle.agent_top.specs.Cache.{wrote as turns_wrote, inquired as turns_inquired, none as no_turns}

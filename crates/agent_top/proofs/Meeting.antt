@@ -5,7 +5,8 @@ use Rattle.agent_ports.specs.Sides.{Side, with_bytes, WhereTold}
 use Rattle.agent_ports.proofs.Told.{told_same, told_then}
 use Rattle.assuan_line.specs.Next.{Reader}
 use Rattle.assuan_server.specs.Connections.{Connection}
-use Rattle.assuan_server.specs.Written.{line_of, greeting}
+use Rattle.assuan_text.specs.LineEnds.{line_of}
+use Rattle.assuan_server.specs.Written.{greeting}
 use Rattle.session_options.specs.Choices.{at_start}
 use Rattle.session_options.specs.declared.rules.Rules.{Rules}
 use Rattle.agent_top.specs.Cache.{at_start as empty_cache, limits_of, Turns, none, wrote}

@@ -10,7 +10,7 @@ use Rattle.std.proofs.lemmas.List.Sums.{prefix_len-le-length, split_at_first, pa
 use Rattle.std.proofs.lemmas.Slice.Eq.{bytes_eq-Decides}
 use Rattle.std.proofs.Math.Seq.{take-append_seam, drop-append-add}
 use Rattle.assuan_line.proofs.Places.{place_after}
-use Rattle.session_options.specs.Rows.{found}
+use Rattle.assuan_text.specs.Rows.{found}
 use Rattle.agent_top.specs.Forms.{forms, form_of, is_of_form, fits}
 use Rattle.agent_top.specs.Settings.{Setting, is_equals, holds_equals, begins_with_dash, alone, is_value_of, settings, Spells, none, bare, joined, apart}
 use Rattle.agent_top.specs.declared.words.forms.Form.{Form}

@@ -7,7 +7,8 @@ use Rattle.assuan_server.specs.DataLines.{AreData, data_text}
 use Rattle.assuan_server.specs.Errors.{error_text}
 use Rattle.assuan_server.specs.Inquiries.{Outcome, Data, inquire_text}
 use Rattle.assuan_server.specs.Inquiries as outcome
-use Rattle.assuan_server.specs.Written.{line_of, ok_text, status_text, comment_text}
+use Rattle.assuan_text.specs.LineEnds.{line_of}
+use Rattle.assuan_server.specs.Written.{ok_text, status_text, comment_text}
 use Rattle.assuan_server.specs.declared.errors.Code.{Code}
 use Rattle.assuan_server.specs.declared.errors.Code.TheVariants as code
 use Rattle.assuan_server.specs.declared.errors.Origin.TheVariants.{Agent}

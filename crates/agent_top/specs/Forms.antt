@@ -2,8 +2,8 @@
 -- numbers and the length of a path; the other names are gpg-agent's (GnuPG manual, "agent options").
 use Rattle.std.specs.Prelude.{ℕ, ◌&&◌, nat_le, Bool, true, false, List, [], ◌∷◌, length, codes, is_some, unwrap_or, Option, Some, None, if◌then◌else◌}
 use Rattle.std.specs.Option.{option_and_then, option_map_or}
-use Rattle.session_options.specs.Rows.{found}
-use Rattle.session_options.specs.Table.{number_of}
+use Rattle.assuan_text.specs.Rows.{found}
+use Rattle.assuan_text.specs.Numbers.{number_of}
 use Rattle.agent_top.specs.Settings.{Setting, value_given}
 use Rattle.agent_top.specs.declared.words.forms.Form.{Form}
 use Rattle.agent_top.specs.declared.words.forms.Form.TheVariants.{Flag, Path, Number}

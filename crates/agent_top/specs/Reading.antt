@@ -8,7 +8,7 @@ use Rattle.assuan_line.specs.declared.reader.Took.{Took}
 use Rattle.assuan_line.specs.declared.reader.Took.TheVariants.{Line, TooLong, End, Spent, ReadFault}
 use Rattle.assuan_server.specs.Inquiries.{Outcome, ComesTo, carried, is_passing}
 use Rattle.assuan_server.specs.Passing.{Passed, Stops}
-use Rattle.assuan_server.specs.Requests.{is_ignored}
+use Rattle.assuan_text.specs.Forms.{is_ignored}
 use Rattle.agent_top.specs.Deeds.{Came, Deed, Heard, Wrote, Turned, Inquired}
 
 -- how many bytes a session may take

@@ -3,7 +3,7 @@
 use Rattle.std.specs.Prelude.{◌≡◌, ℕ, ◌==◌, ◌&&◌, not, Bool, true, false, List, [], ◌∷◌, ◌++◌, Option, Some, None, is_some, slice_index, if◌then◌else◌}
 use Rattle.std.specs.List.{list_any, before_first, after_first}
 use Rattle.std.specs.Option.{option_and_then, option_map}
-use Rattle.session_options.specs.Rows.{found}
+use Rattle.assuan_text.specs.Rows.{found}
 use Rattle.agent_top.specs.declared.words.settings.Setting.{Setting as Named}
 
 -- what a word names, and its value, if it has one

@@ -5,7 +5,7 @@ use Rattle.std.specs.Option.{option_and_then}
 use Rattle.std.proofs.Common.{lit≤}
 use Rattle.std.proofs.lemmas.Bool.{leb-true, and_parts, cond_both}
 use Rattle.session_options.specs.Counts.{IsS2kCount, IsWorkers}
-use Rattle.session_options.specs.Table.{number_of}
+use Rattle.assuan_text.specs.Numbers.{number_of}
 use Rattle.agent_top.specs.Settings.{Setting, value_given}
 use Rattle.agent_top.specs.Forms.{form_of, if_between, number_for, number_or}
 use Rattle.agent_top.specs.declared.words.forms.Form.{Form}

@@ -1,6 +1,7 @@
 ghost use Rattle.std.specs.Prelude.{◌≡◌, ◌++◌, ℕ, List};
 ghost use Rattle.std.specs.List.{flat_map};
-ghost use Rattle.assuan_server.specs.Written.{line_of, comment_text, HasWritten};
+ghost use Rattle.assuan_text.specs.LineEnds.{line_of};
+ghost use Rattle.assuan_server.specs.Written.{comment_text, HasWritten};
 ghost use Rattle.agent_commands.specs.Names.{command_names};
 ghost use Rattle.agent_top.specs.Exchanges.{IsData, help};
 ghost use Rattle.agent_top.specs.Steps.{IsText, HasSaid};

@@ -8,7 +8,8 @@ use Rattle.std.proofs.lemmas.List.{take_more}
 use Rattle.std.proofs.lemmas.List.Concat.{flat_map-append}
 use Rattle.percent_encoding.specs.Percent.{percent_encode_byte, percent_decode}
 use Rattle.percent_encoding.proofs.PercentLemmas.{IsByte, percent_decode-nil, percent_decode_not_percent, percent_decode-percent_encode_byte}
-use Rattle.assuan_escape.specs.Escapes.{hex_digits, hex_text, is_escaped, escape_of, escapes, has_lf}
+use Rattle.assuan_text.specs.LineEnds.{has_lf}
+use Rattle.assuan_escape.specs.Escapes.{hex_digits, hex_text, is_escaped, escape_of, escapes}
 
 pub escape_of-escaped : (byte : ℕ) → is_escaped byte ≡ true → escape_of byte ≡ 37 ∷ hex_digits byte
 escape_of-escaped byte e = cond-true _ _ _ e

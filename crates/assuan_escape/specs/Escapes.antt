@@ -2,7 +2,7 @@
 -- line feed (10) are sent as `%` and two hexadecimal digits. That bytes from 128 on are escaped too, and that the digits
 -- are uppercase, is this project's own rule. Any escape is read again, also of a byte that needs none.
 use Rattle.std.specs.Prelude.{ℕ, ◌/◌, ◌%◌, ◌==◌, ◌||◌, nat_le, Bool, true, List, [], ◌∷◌, map, if◌then◌else◌}
-use Rattle.std.specs.List.{flat_map, list_any}
+use Rattle.std.specs.List.{flat_map}
 use Rattle.std.specs.Fmt.{digit_glyph}
 use Rattle.percent_encoding.specs.Percent.{percent_decode}
 
@@ -34,7 +34,3 @@ with_blanks bytes = map (λ byte. if byte == 43 then 32 else byte) bytes
 -- other `%` stands for itself. Where `plus`, a `+` is a blank, and one that is meant is escaped.
 abbrev pub unescaped : Bool → List ℕ → List ℕ
 unescaped plus bytes = percent_decode (if plus then with_blanks bytes else bytes)
-
--- a line feed is among the bytes
-abbrev pub has_lf : List ℕ → Bool
-has_lf bytes = list_any (λ byte. byte == 10) bytes

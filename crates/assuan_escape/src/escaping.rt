@@ -1,8 +1,9 @@
 ghost use Rattle.std.specs.Prelude.{◌≡◌, ◌+◌, ◌<◌, ◌≤◌, ◌++◌, ◌↔◌, ℕ, List, false, length, take, slice_index, IsTrue, All};
 ghost use Rattle.std.specs.Bool.{OnTrue, OnFalse};
-ghost use Rattle.assuan_escape.specs.Escapes.{is_escaped, escape_of, escapes, unescaped, has_lf};
+ghost use Rattle.assuan_text.specs.LineEnds.{has_lf};
+ghost use Rattle.assuan_escape.specs.Escapes.{is_escaped, escape_of, escapes, unescaped};
 
-use crate::Text;
+use assuan_text::Text;
 use percent_encoding::percent_encode_byte;
 
 /// Appends the escapes of as many first bytes as fit whole, and says how many bytes that are. Escaped are `%`, CR, LF and

@@ -1,7 +1,8 @@
 ghost use Rattle.std.specs.Prelude.{◌≡◌, ◌≤◌, ◌*◌, false, length};
-ghost use Rattle.assuan_escape.specs.Escapes.{hex_text, has_lf};
+ghost use Rattle.assuan_text.specs.LineEnds.{has_lf};
+ghost use Rattle.assuan_escape.specs.Escapes.{hex_text};
 
-use crate::Text;
+use assuan_text::Text;
 use percent_encoding::percent_encode_byte;
 
 /// Each byte as two uppercase hexadecimal digits.

@@ -7,11 +7,6 @@ mod hexadecimal;
 mod tests;
 mod unescaping;
 
-use arrayvec::ArrayVec;
-
-/// What a line can hold: at most 1,000 bytes.
-type Text = ArrayVec<u8, 1000>;
-
 pub use escaping::{escape_into, escapes_are_undone};
 pub use hexadecimal::upper_hex;
 pub use unescaping::unescape;

@@ -1,4 +1,5 @@
 use super::*;
+use assuan_text::Text;
 use std::test::Fail;
 
 /// The escapes of these bytes, after what the line holds already, and how many bytes fitted.

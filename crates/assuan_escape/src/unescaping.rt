@@ -2,7 +2,7 @@ ghost use Rattle.std.specs.Prelude.{◌≡◌, ◌≤◌, length};
 ghost use Rattle.percent_encoding.specs.Percent.{percent_decode};
 ghost use Rattle.assuan_escape.specs.Escapes.{unescaped, with_blanks};
 
-use crate::Text;
+use assuan_text::Text;
 use percent_encoding::percent_decode;
 
 /// The bytes that were meant by these. `%` and two hexadecimal digits of either case are a byte, and any other `%` stands

@@ -7,7 +7,8 @@ use Rattle.std.proofs.lemmas.List.Folds.{list_any-append}
 use Rattle.std.specs.Option.{ok_or}
 use Rattle.agent_ports.specs.Sides.{followed_by, WhereTold}
 use Rattle.agent_ports.proofs.Told.{told_by}
-use Rattle.assuan_line.specs.Lines.{is_lf, has_lf, without_cr}
+use Rattle.assuan_text.specs.LineEnds.{is_lf, has_lf}
+use Rattle.assuan_line.specs.Lines.{without_cr}
 use Rattle.assuan_line.specs.Next.{next_of, Tells, IsCutShort}
 use Rattle.assuan_line.specs.Stops.{took_of, took_from, reader_with}
 use Rattle.assuan_line.specs.declared.reader.Took.TheVariants as took

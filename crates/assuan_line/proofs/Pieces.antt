@@ -6,7 +6,8 @@ use Rattle.std.proofs.lemmas.List.{take_all}
 use Rattle.std.proofs.lemmas.List.Folds.{list_any-append}
 use Rattle.std.proofs.Math.Seq.{take-append_seam, take-append-add, drop-append-add}
 use Rattle.assuan_line.proofs.Places.{place_after}
-use Rattle.assuan_line.specs.Lines.{is_lf, has_lf, without_cr, first_line, after_line}
+use Rattle.assuan_text.specs.LineEnds.{is_lf, has_lf}
+use Rattle.assuan_line.specs.Lines.{without_cr, first_line, after_line}
 use Rattle.assuan_line.specs.Next.{next_of}
 use Rattle.assuan_line.specs.declared.reader.Took.TheVariants.{Line, TooLong, End}
 

@@ -1,14 +1,8 @@
 -- Lines of bytes, as the Assuan manual has them ("client requests"): each is at most 1,000 bytes and ends with a line
 -- feed (LF, 10), which a carriage return (CR, 13) may precede. Neither counts as the line's.
-use Rattle.std.specs.Prelude.{◌≡◌, ◌==◌, ◌-◌, ◌≤◌, ℕ, Bool, false, List, [], length, map, take, get_or, slice_index, if◌then◌else◌}
-use Rattle.std.specs.List.{list_any, before_first, after_first, slice_split}
-
-abbrev pub is_lf : ℕ → Bool
-is_lf byte = byte == 10
-
--- a line feed is among the bytes
-abbrev pub has_lf : List ℕ → Bool
-has_lf bytes = list_any is_lf bytes
+use Rattle.std.specs.Prelude.{◌≡◌, ◌==◌, ◌-◌, ◌≤◌, ℕ, false, List, [], length, map, take, get_or, slice_index, if◌then◌else◌}
+use Rattle.std.specs.List.{before_first, after_first, slice_split}
+use Rattle.assuan_text.specs.LineEnds.{is_lf, has_lf}
 
 -- what can be a line: at most 1,000 bytes, none of them a line feed
 pub record IsLine (bytes : List ℕ) : Type 0 where

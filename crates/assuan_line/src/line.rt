@@ -1,10 +1,8 @@
 ghost use Rattle.std.specs.Prelude.{◌≡◌, ◌↔◌, IsSome, IfSome};
 ghost use Rattle.assuan_line.specs.Lines.{IsLine};
 
-use arrayvec::ArrayVec;
+use assuan_text::Text;
 use std::marker::Model;
-
-pub(crate) type Text = ArrayVec<u8, 1000>;
 
 pub(crate) const LF: u8 = b'\n';
 

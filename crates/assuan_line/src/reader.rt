@@ -1,7 +1,8 @@
 ghost use Rattle.std.specs.Prelude.{◌≡◌, ◌≢◌, ◌↔◌, ◌≤◌, ◌+◌, ◌<◌, ◌∷◌, [], ℕ, List, false, length, IsSome, IfSome, IfOk, OnOk, OnErr, Err, None};
 ghost use Rattle.agent_ports.specs.Counts.{Rose};
 ghost use Rattle.agent_ports.specs.Sides.{followed_by, WhereTold};
-ghost use Rattle.assuan_line.specs.Lines.{has_lf, without_cr, after_line, lines_of, rest_of};
+ghost use Rattle.assuan_text.specs.LineEnds.{has_lf};
+ghost use Rattle.assuan_line.specs.Lines.{without_cr, after_line, lines_of, rest_of};
 ghost use Rattle.assuan_line.specs.Next.{next_of, Tells, ended_by, OnLine, held};
 ghost use Rattle.assuan_line.specs.Stops.{took_of, took_from, reader_with};
 

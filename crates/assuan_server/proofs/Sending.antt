@@ -5,7 +5,8 @@ use Rattle.agent_ports.specs.Counts.{Rose}
 use Rattle.agent_ports.specs.Sides.{Side, with_bytes, sent_part, IfCut, IsCut}
 use Rattle.agent_ports.specs.declared.link.Sent.{Sent}
 use Rattle.agent_ports.specs.declared.link.Sent.TheVariants.{All, Failed}
-use Rattle.assuan_server.specs.Written.{line_of, HasSent}
+use Rattle.assuan_text.specs.LineEnds.{line_of}
+use Rattle.assuan_server.specs.Written.{HasSent}
 
 pub has_sent : (line : List ℕ) (before after : Side) (sent : Sent) → length line ≤ 1000 → IfCut sent (λ count. count ≤ length line + 1) → after.bytes ≡ with_bytes before.bytes (sent_part (line_of line) sent) → (IsCut sent → Rose before.faults after.faults) → HasSent (line_of line) before sent after
 has_sent line before after All short cut written failed = written

@@ -9,7 +9,8 @@ use Rattle.agent_ports.specs.declared.link.Sent.TheVariants.{All as Whole, Faile
 use Rattle.assuan_escape.specs.Escapes.{escape_of}
 use Rattle.assuan_server.specs.Connections.{Connection}
 use Rattle.assuan_server.specs.DataLines.{data_line, IsFullBefore, IsPiece, AreData, data_text}
-use Rattle.assuan_server.specs.Written.{line_of, HasCut, HasWritten}
+use Rattle.assuan_text.specs.LineEnds.{line_of}
+use Rattle.assuan_server.specs.Written.{HasCut, HasWritten}
 use Rattle.assuan_server.proofs.OnlyData.{pieces_of}
 
 -- the lines so far: whatever pieces the rest is sent in, they complete these

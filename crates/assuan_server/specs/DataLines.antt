@@ -3,7 +3,7 @@
 use Rattle.std.specs.Prelude.{◌≡◌, ◌+◌, ◌<◌, ◌≤◌, ℕ, List, [], ◌∷◌, ◌++◌, length, codes, slice_index, All}
 use Rattle.std.specs.List.{flat_map}
 use Rattle.assuan_escape.specs.Escapes.{escape_of, escapes}
-use Rattle.assuan_server.specs.Written.{line_of}
+use Rattle.assuan_text.specs.LineEnds.{line_of}
 
 -- the line of a piece of the bytes
 abbrev pub data_line : List ℕ → List ℕ

@@ -1,14 +1,15 @@
 -- Inquiries, as the Assuan manual has them ("server responses", INQUIRE): the client answers with data lines and END, or with
 -- CAN. What passes between these, and what becomes of any other line, is this project's own rule.
-use Rattle.std.specs.Prelude.{◌≡◌, ◌<◌, ◌≤◌, ◌==◌, ◌||◌, ◌&&◌, Bool, false, ℕ, List, [], ◌++◌, length, drop, map, codes, slice_index, if◌then◌else◌, Option, Some, None}
-use Rattle.std.specs.List.{flat_map, list_all, before_first}
+use Rattle.std.specs.Prelude.{◌≡◌, ◌<◌, ◌≤◌, ◌==◌, ◌||◌, Bool, false, ℕ, List, [], ◌++◌, length, drop, map, codes, if◌then◌else◌, Option, Some, None}
+use Rattle.std.specs.List.{flat_map, before_first}
 use Rattle.std.specs.Char.{to_ascii_lowercase}
+use Rattle.assuan_text.specs.Forms.{is_data, is_idle}
 use Rattle.assuan_escape.specs.Escapes.{unescaped}
 use Rattle.assuan_line.specs.Next.{Reader}
 use Rattle.assuan_line.specs.declared.reader.Took.{Took}
 use Rattle.assuan_line.specs.declared.reader.Took.TheVariants as took
 use Rattle.assuan_server.specs.Passing.{Comes}
-use Rattle.assuan_server.specs.Requests.{is_blank}
+use Rattle.assuan_text.specs.Blanks.{is_blank}
 use Rattle.assuan_server.specs.declared.inquiry.Inquired.{Inquired}
 use Rattle.assuan_server.specs.declared.inquiry.Inquired.TheVariants as inquired
 use Rattle.assuan_server.specs.declared.inquiry.InquiredSecret.{InquiredSecret}
@@ -21,18 +22,9 @@ abbrev pub inquire_text : List ℕ → List ℕ → List ℕ
 inquire_text word params =
     if length params == 0 then codes "INQUIRE " ++ word else codes "INQUIRE " ++ word ++ codes " " ++ params
 
--- a data line: `D` or `d` alone, or followed by one blank and escaped bytes
-abbrev pub is_data : List ℕ → Bool
-is_data line =
-    (slice_index line 0 == 68 || slice_index line 0 == 100) && (length line == 1 || slice_index line 1 == 32)
-
 -- the bytes that a line carries
 abbrev pub carried : List ℕ → List ℕ
 carried line = if is_data line then unescaped false (drop 2 line) else []
-
--- a comment, or nothing but blanks and tabs
-abbrev pub is_idle : List ℕ → Bool
-is_idle line = slice_index line 0 == 35 || list_all is_blank line
 
 -- a line that an inquiry reads past
 abbrev pub is_passing : List ℕ → Bool

@@ -1,5 +1,5 @@
 -- The lines that a server writes, as the Assuan manual has them ("server responses"), and what a write of them leaves.
-use Rattle.std.specs.Prelude.{◌≡◌, ◌≤◌, ◌^◌, ◌-◌, ◌==◌, ℕ, min, List, [], ◌∷◌, ◌++◌, length, codes, if◌then◌else◌}
+use Rattle.std.specs.Prelude.{◌≡◌, ◌≤◌, ◌^◌, ◌-◌, ◌==◌, ℕ, min, List, ◌++◌, length, codes, if◌then◌else◌}
 use Rattle.agent_ports.specs.Counts.{Rose}
 use Rattle.agent_ports.specs.Sides.{Side, with_bytes}
 use Rattle.agent_ports.specs.declared.link.Sent.{Sent}
@@ -17,10 +17,6 @@ status_text word text = codes "S " ++ word ++ codes " " ++ text
 
 abbrev pub comment_text : List ℕ → List ℕ
 comment_text text = codes "# " ++ text
-
--- a line with its end
-abbrev pub line_of : List ℕ → List ℕ
-line_of text = text ++ 10 ∷ []
 
 -- A write of these bytes failed: some first ones of them went, and are counted. The count stands still at the end of its type.
 pub record HasCut (bytes : List ℕ) (before : Side) (count : ℕ) (after : Side) : Type 0 where

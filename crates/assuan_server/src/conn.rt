@@ -1,18 +1,20 @@
 ghost use Rattle.std.specs.Prelude.{◌≡◌, ◌≤◌, ◌<◌, ◌+◌, ◌++◌, [], length, false, None};
 ghost use Rattle.agent_ports.specs.Counts.{Rose};
 ghost use Rattle.agent_ports.specs.Sides.{WhereTold};
-ghost use Rattle.assuan_line.specs.Lines.{IsLine, has_lf};
+ghost use Rattle.assuan_text.specs.LineEnds.{has_lf};
+ghost use Rattle.assuan_line.specs.Lines.{IsLine};
 ghost use Rattle.assuan_line.specs.Next.{Tells, OnLine, held, ended_by};
 ghost use Rattle.assuan_server.specs.Requests.{IsNextRequest};
 ghost use Rattle.assuan_server.specs.Errors.{error_text};
-ghost use Rattle.assuan_server.specs.Written.{greeting, ok_text, status_text, comment_text, line_of, HasSent, HasWritten};
+ghost use Rattle.assuan_text.specs.LineEnds.{line_of};
+ghost use Rattle.assuan_server.specs.Written.{greeting, ok_text, status_text, comment_text, HasSent, HasWritten};
 
-use crate::Text;
 use crate::errors::{Code, Origin, error_text};
 use crate::passing::next_beyond;
 use crate::request::Ignored;
 use agent_ports::{Link, Sent};
 use assuan_line::{Line, LineReader, Took, write_line};
+use assuan_text::Text;
 use std::alloc::Global;
 use std::marker::Model;
 

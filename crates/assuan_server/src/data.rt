@@ -1,13 +1,13 @@
 ghost use Rattle.std.specs.Prelude.{◌≡◌, false, ◌≤◌, ◌<◌, ◌+◌, ℕ, List, length, take, slice_index};
-ghost use Rattle.assuan_line.specs.Lines.{has_lf};
+ghost use Rattle.assuan_text.specs.LineEnds.{has_lf};
 ghost use Rattle.assuan_escape.specs.Escapes.{escape_of};
 ghost use Rattle.assuan_server.specs.DataLines.{data_line, AreData, data_text};
 ghost use Rattle.assuan_server.specs.Written.{HasWritten};
 
-use crate::Text;
 use crate::conn::Conn;
 use agent_ports::{Link, Sent};
 use assuan_escape::escape_into;
+use assuan_text::Text;
 
 impl<'a, L: Link> Conn<'a, L> {
     /// Writes the bytes as data lines, `D`, a blank and escaped bytes: each of at most 1,000 bytes and as full as no cut escape

@@ -1,8 +1,9 @@
 ghost use Rattle.std.specs.Prelude.{◌≡◌, ◌≤◌, ◌<◌, ◌^◌, length, false};
-ghost use Rattle.assuan_line.specs.Lines.{IsLine, has_lf};
+ghost use Rattle.assuan_text.specs.LineEnds.{has_lf};
+ghost use Rattle.assuan_line.specs.Lines.{IsLine};
 ghost use Rattle.assuan_server.specs.Errors.{code_of, description_of, source_of, source_name, error_number, error_text};
 
-use crate::Text;
+use assuan_text::Text;
 use itoa::Buffer;
 
 /// What went wrong, as an error line says it.

@@ -4,17 +4,18 @@ ghost use Rattle.agent_ports.specs.Sides.{with_bytes, WhereTold};
 ghost use Rattle.assuan_line.specs.Lines.{IsLine};
 ghost use Rattle.assuan_line.specs.Next.{Reader, OnLine, held, ended_by};
 ghost use Rattle.assuan_server.specs.Passing.{Comes};
-ghost use Rattle.assuan_server.specs.Written.{line_of, HasWritten};
+ghost use Rattle.assuan_text.specs.LineEnds.{line_of};
+ghost use Rattle.assuan_server.specs.Written.{HasWritten};
 ghost use Rattle.assuan_server.specs.Kept.{Collects, Buffers};
 ghost use Rattle.assuan_server.specs.Inquiries.{inquire_text, Inquiry, Outcome, ComesTo, Answers, AnswersSecret, IsWord, IfData, IsClosed, ended_of, ended_of_secret};
 
-use crate::Text;
 use crate::closing::{Closing, closing_of};
 use crate::conn::Conn;
 use crate::kept::{Buffered, Collected, Room};
 use crate::passing::{Sieve, next_beyond};
 use agent_ports::{Link, Sent};
 use assuan_line::Took;
+use assuan_text::Text;
 use cache_policy::Secret;
 use std::alloc::Global;
 

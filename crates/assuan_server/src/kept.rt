@@ -1,10 +1,11 @@
 ghost use Rattle.std.specs.Prelude.{◌≡◌, ◌≤◌, ◌<◌, ◌++◌, [], false, ℕ, List, length, vec_len, MatchOption};
 ghost use Rattle.assuan_server.specs.Kept.{Collects, Buffers};
 
-use crate::closing::{data_of, is_idle};
+use crate::closing::data_of;
 use crate::passing::Sieve;
 use arrayvec::ArrayVec;
 use assuan_line::Line;
+use assuan_text::is_idle;
 use cache_policy::Secret;
 use std::alloc::Global;
 

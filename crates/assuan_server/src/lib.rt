@@ -10,11 +10,6 @@ mod kept;
 mod passing;
 mod request;
 
-use arrayvec::ArrayVec;
-
-/// What a line can hold: at most 1,000 bytes.
-type Text = ArrayVec<u8, 1000>;
-
 pub use conn::Conn;
 pub use data::data_lines_are_the_only_ones;
 pub use errors::{Code, Origin};

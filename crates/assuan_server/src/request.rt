@@ -1,10 +1,11 @@
-ghost use Rattle.std.specs.Prelude.{◌≡◌, ◌+◌, ◌++◌, ◌∷◌, [], ℕ, List, true, false, drop, not, position};
-ghost use Rattle.std.specs.List.{position_or_len};
-ghost use Rattle.assuan_server.specs.Requests.{is_blank, after_blanks, is_ignored, IsNextRequest};
+ghost use Rattle.std.specs.Prelude.{◌≡◌, ◌++◌, ◌∷◌, [], ℕ, List, true, false};
 ghost use Rattle.assuan_line.specs.Next.{Reader};
+ghost use Rattle.assuan_text.specs.Forms.{is_ignored};
+ghost use Rattle.assuan_server.specs.Requests.{IsNextRequest};
 
 use crate::passing::Sieve;
 use assuan_line::{Line, Took};
+use assuan_text::is_ignored;
 
 /// The lines that are no requests, of which nothing is kept.
 #[derive(Drop)]
@@ -28,36 +29,3 @@ pub fn requests_are_the_only_ones()
         → IsNextRequest bytes (Took.Line line) after left → IsNextRequest bytes (Took.Line other) later rest
         → (line ≡ other) × (after.ahead ++ left ≡ later.ahead ++ rest) }
 {}
-
-/// Whether the line is empty or a comment, behind its blanks and tabs.
-fn is_ignored(line: &[u8]) -> bool
-    ensures { result ≡ is_ignored line.now }
-{
-    match after_blanks(line) {
-        [] => true,
-        [first, ..] => *first == b'#',
-    }
-}
-
-/// The line without the blanks and tabs at its front.
-fn after_blanks(line: &[u8]) -> &[u8]
-    ensures { result.now ≡ after_blanks line.now }
-{
-    match first_visible(line) {
-        Some(first) => &line[first..],
-        None => &[],
-    }
-}
-
-fn first_visible(line: &[u8]) -> Option<usize>
-    ensures { result ≡ position (λ byte. not (is_blank byte)) line.now }
-{
-    line.iter().position(|byte| !is_blank(*byte))
-}
-
-/// Whether the byte is a blank or a tab.
-pub(crate) fn is_blank(byte: u8) -> bool
-    ensures { result ≡ is_blank byte }
-{
-    matches!(byte, b' ' | b'\t')
-}

@@ -5,7 +5,8 @@ use Rattle.std.specs.Str.{bytes_eq}
 use Rattle.std.specs.List.{prefix_len, position_or_len, list_any, list_all}
 use Rattle.std.proofs.lemmas.Bool.{or_parts, and_parts, ne_eqb}
 use Rattle.std.proofs.Math.Seq.{take-append_seam, drop-append_seam}
-use Rattle.session_options.specs.Text.{is_blank, ends_name, without, without_blanks, name_of, after_name, value_of}
+use Rattle.assuan_text.specs.Blanks.{is_blank, without_blanks}
+use Rattle.session_options.specs.Text.{ends_name, without, name_of, after_name, value_of}
 use Rattle.session_options.specs.Choices.{Choices, judged_as, judged}
 
 -- what may come behind a name: nothing, or what begins with an end of names

@@ -1,5 +1,4 @@
 pub mod Counts
-pub mod Rows
 pub mod Text
 pub mod Table
 pub mod Choices

@@ -1,10 +1,10 @@
 -- The options of a session, by their names (GnuPG manual, "agent options"; gpg-agent's OPTION command). Which of them have no
 -- effect is this project's own.
-use Rattle.std.specs.Prelude.{ℕ, ◌+◌, ◌-◌, ◌*◌, ◌==◌, ◌&&◌, nat_le, List, [], ◌∷◌, length, fold, codes, Option, Some, None, if◌then◌else◌}
+use Rattle.std.specs.Prelude.{ℕ, ◌==◌, List, [], ◌∷◌, codes, Option, Some, None, if◌then◌else◌}
 use Rattle.std.specs.Option.{option_and_then}
-use Rattle.std.specs.Str.{all_ascii_digits}
+use Rattle.assuan_text.specs.Numbers.{number_of}
 use Rattle.session_options.specs.Counts.{is_s2k_count}
-use Rattle.session_options.specs.Rows.{found}
+use Rattle.assuan_text.specs.Rows.{found}
 use Rattle.session_options.specs.declared.names.OptionName.{OptionName}
 use Rattle.session_options.specs.declared.names.OptionName.TheVariants.{TtyName, TtyType, LcCtype, LcMessages, NoEffect, AllowPinentryNotify, PinentryMode, S2kCount}
 use Rattle.session_options.specs.declared.options.PinMode.{PinMode}
@@ -43,17 +43,6 @@ modes =
 
 unfoldable pub mode_of : List ℕ → Option PinMode
 mode_of value = found value modes
-
--- the number that decimal digits are
-abbrev pub decimal : List ℕ → ℕ
-decimal digits = fold (λ number digit. 10 * number + (digit - 48)) 0 digits
-
--- the number that a value of 1 to 10 decimal digits is
-abbrev pub number_of : List ℕ → Option ℕ
-number_of value =
-    if nat_le 1 (length value) && nat_le (length value) 10 && all_ascii_digits value
-    then Some (decimal value)
-    else None
 
 -- the count that a number means: 0 is the rules' own
 abbrev pub count_for : ℕ → ℕ → Option ℕ

@@ -1,20 +1,13 @@
 -- The text of an option, as the client of an Assuan server writes it: a name, which two dashes may precede, then blanks,
 -- at most one `=`, blanks, and the value to the end of the line.
 use Rattle.std.specs.Prelude.{ℕ, ◌==◌, ◌||◌, ◌&&◌, nat_le, not, Bool, List, length, take, drop, codes, if◌then◌else◌}
-use Rattle.std.specs.List.{prefix_len, position_or_len, before_first, list_any}
+use Rattle.std.specs.List.{position_or_len, before_first, list_any}
 use Rattle.std.specs.Str.{bytes_eq}
-
--- a blank, or a tab
-abbrev pub is_blank : ℕ → Bool
-is_blank byte = byte == 32 || byte == 9
+use Rattle.assuan_text.specs.Blanks.{is_blank, without_blanks}
 
 -- a name goes up to the first blank, tab or `=`
 abbrev pub ends_name : ℕ → Bool
 ends_name byte = is_blank byte || byte == 61
-
--- without the blanks at the front
-abbrev pub without_blanks : List ℕ → List ℕ
-without_blanks bytes = drop (prefix_len is_blank bytes) bytes
 
 -- the bytes after a mark, where they begin with it
 abbrev pub without : List ℕ → List ℕ → List ℕ

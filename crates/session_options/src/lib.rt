@@ -5,7 +5,6 @@ mod env;
 mod names;
 mod options;
 mod rules;
-mod table;
 #[cfg(test)]
 mod tests;
 mod text;
@@ -19,6 +18,3 @@ type Word = ArrayVec<u8, 255>;
 pub use env::Env;
 pub use options::{OptionAnswer, Options, PinMode, spelling_is_plain};
 pub use rules::{Rules, RunMode};
-pub use table::found;
-pub use text::without_blanks;
-pub use values::number_of;

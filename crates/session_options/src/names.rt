@@ -1,6 +1,6 @@
 ghost use Rattle.std.specs.Prelude.{◌≡◌};
 
-use crate::table::found;
+use assuan_text::found;
 
 /// The options that a client may set.
 #[derive(Clone, Copy, Debug, PartialEq, Eq)]

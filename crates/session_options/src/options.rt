@@ -1,13 +1,15 @@
 ghost use Rattle.std.specs.Prelude.{◌≡◌, ◌≢◌, ℕ, List, [], ◌∷◌, ◌++◌, true, false, slice_index};
 ghost use Rattle.std.specs.List.{list_any, list_all};
 ghost use Rattle.session_options.specs.Counts.{IsS2kCount};
-ghost use Rattle.session_options.specs.Text.{is_blank, ends_name};
+ghost use Rattle.assuan_text.specs.Blanks.{is_blank};
+ghost use Rattle.session_options.specs.Text.{ends_name};
 ghost use Rattle.session_options.specs.Choices.{Choices, judged, judged_as};
 
 use crate::names::OptionName;
 use crate::text::{name_and_value, word_of};
-use crate::values::{count_for, mode_of, number_of};
+use crate::values::{count_for, mode_of};
 use crate::{Env, Rules};
+use assuan_text::number_of;
 use std::marker::Model;
 
 /// How a passphrase is come by (GnuPG manual, `--pinentry-mode`).

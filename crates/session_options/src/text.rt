@@ -1,8 +1,10 @@
 ghost use Rattle.std.specs.Prelude.{◌≡◌, ◌≤◌, ◌↔◌, true, false, length, IsSome, IfSome};
 ghost use Rattle.std.specs.List.{position_or_len};
-ghost use Rattle.session_options.specs.Text.{ends_name, without, without_blanks, name_of, value_of, ends_line, has_line_end, can_be_kept};
+ghost use Rattle.assuan_text.specs.Blanks.{without_blanks};
+ghost use Rattle.session_options.specs.Text.{ends_name, without, name_of, value_of, ends_line, has_line_end, can_be_kept};
 
 use crate::Word;
+use assuan_text::without_blanks;
 
 /// An option's name, and its value.
 pub(crate) fn name_and_value(text: &[u8]) -> (&[u8], &[u8])
@@ -20,9 +22,7 @@ fn name_len(text: &[u8]) -> usize
     ensures place { result ≡ position_or_len ends_name text.now }
     ensures within { result ≤ length text.now }
 {
-    text.iter()
-        .position(|byte| ends_name(*byte))
-        .unwrap_or(text.len())
+    text.iter().take_while(|byte| !ends_name(**byte)).count()
 }
 
 fn ends_name(byte: u8) -> bool
@@ -36,18 +36,6 @@ fn without<'a>(mark: &[u8], bytes: &'a [u8]) -> &'a [u8]
     ensures { result.now ≡ without mark.now bytes.now }
 {
     bytes.strip_prefix(mark).unwrap_or(bytes)
-}
-
-/// The bytes after the blanks and tabs at the front.
-pub fn without_blanks(bytes: &[u8]) -> &[u8]
-    ensures bytes { result.now ≡ without_blanks bytes.now }
-    ensures shorter { length result.now ≤ length bytes.now }
-{
-    let mut rest = bytes;
-    while let [b' ' | b'\t', others @ ..] = rest {
-        rest = others;
-    }
-    rest
 }
 
 /// The value as a word, if it can be kept: at most 255 bytes, and no end of a line among them.

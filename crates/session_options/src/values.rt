@@ -1,8 +1,9 @@
 ghost use Rattle.std.specs.Prelude.{◌≡◌};
-ghost use Rattle.session_options.specs.Table.{mode_of, number_of, count_for};
+ghost use Rattle.assuan_text.specs.Numbers.{number_of};
+ghost use Rattle.session_options.specs.Table.{mode_of, count_for};
 
 use crate::PinMode;
-use crate::table::found;
+use assuan_text::found;
 
 const MODES: [(&[u8], PinMode); 5] = [
     (b"ask", PinMode::Ask),
@@ -29,21 +30,4 @@ pub(crate) fn count_for(rules_count: u64, number: u64) -> Option<u64>
         65_536..=65_011_712 => Some(number),
         _ => None,
     }
-}
-
-/// The number that a value of 1 to 10 decimal digits is.
-pub fn number_of(value: &[u8]) -> Option<u64>
-    ensures { result ≡ number_of value.now }
-{
-    if value.is_empty() || value.len() > 10 {
-        return None;
-    }
-    let mut number: u64 = 0;
-    for &byte in value {
-        if !byte.is_ascii_digit() {
-            return None;
-        }
-        number = 10 * number + u64::from(byte - b'0');
-    }
-    Some(number)
 }

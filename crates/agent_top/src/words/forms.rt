@@ -4,7 +4,7 @@ ghost use Rattle.agent_top.specs.Forms.{form_of, fits, path_of, number_between, 
 ghost use Rattle.agent_top.specs.Settings.{setting_of};
 
 use super::settings::Setting;
-use session_options::{found, number_of};
+use assuan_text::{found, number_of};
 
 /// What an option takes.
 #[derive(Clone, Copy)]

@@ -1,7 +1,7 @@
 ghost use Rattle.std.specs.Prelude.{◌≡◌, ◌<◌, true, ℕ, List, [], ◌∷◌, length, map, string_bytes, MatchOption};
 ghost use Rattle.std.specs.List.{list_all};
 ghost use Rattle.std.specs.Option.{option_map};
-ghost use Rattle.session_options.specs.Rows.{found};
+ghost use Rattle.assuan_text.specs.Rows.{found};
 ghost use Rattle.agent_top.specs.Forms.{fits};
 ghost use Rattle.agent_top.specs.Settings.{Setting as Named, Spells, settings, setting_of, value_of, is_given, value_given, are_distinct, begins_with_dash};
 

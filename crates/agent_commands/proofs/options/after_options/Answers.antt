@@ -1,5 +1,5 @@
 use Rattle.std.proofs.Common.{sym, ◌∙◌, arith}
-use Rattle.agent_commands.specs.Words.{words}
+use Rattle.assuan_text.specs.Words.{words}
 use Rattle.agent_commands.proofs.OptionLemmas.{after-step}
 use Rattle.agent_commands.proofs.options.after_options.Goals as goal
 

@@ -1,6 +1,7 @@
 use Rattle.std.proofs.Common.{◌≡◌, ◌≤◌, length, drop}
 use Rattle.std.specs.List.{prefix_len}
-use Rattle.agent_commands.specs.Words.{is_option, words}
+use Rattle.assuan_text.specs.Words.{words}
+use Rattle.agent_commands.specs.Words.{is_option}
 use Rattle.agent_commands.proofs.options.after_options.Given as goal
 
 -- what comes after the options stays the same

@@ -1,5 +1,6 @@
 use Rattle.std.proofs.Common.{◌≡◌, length}
-use Rattle.agent_commands.specs.Words.{has_option, options_of, words}
+use Rattle.assuan_text.specs.Words.{words}
+use Rattle.agent_commands.specs.Words.{has_option, options_of}
 use Rattle.agent_commands.proofs.options.has_option.Given as goal
 
 -- the options that are left decide

@@ -1,6 +1,7 @@
 use Rattle.std.proofs.Common.{◌≡◌, ◌∷◌, Bool, true, false, cond, find, reverse, Option, Some, None, List, ℕ, refl, sym, ap, ◌∙◌}
 use Rattle.std.specs.Option.{option_map, option_or}
-use Rattle.agent_commands.specs.Words.{names_option, options_of, words}
+use Rattle.assuan_text.specs.Words.{words}
+use Rattle.agent_commands.specs.Words.{names_option, options_of}
 use Rattle.agent_commands.proofs.OptionLemmas.{options-step, find-reverse-cons}
 use Rattle.agent_commands.proofs.options.last_option.Goals as goal
 

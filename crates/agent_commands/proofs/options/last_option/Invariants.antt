@@ -1,6 +1,7 @@
 use Rattle.std.proofs.Common.{◌≡◌, length, find, reverse}
 use Rattle.std.specs.Option.{option_map, option_or}
-use Rattle.agent_commands.specs.Words.{names_option, last_option, options_of, words}
+use Rattle.assuan_text.specs.Words.{words}
+use Rattle.agent_commands.specs.Words.{names_option, last_option, options_of}
 use Rattle.agent_commands.proofs.options.last_option.Given as goal
 
 -- the last among the options that are left, or else the one before them

@@ -1,6 +1,6 @@
 use Rattle.std.proofs.Common.{◌≡◌, ◌≤◌, ◌+◌, ◌-◌, length, false}
 use Rattle.agent_ports.specs.Sides.{followed_by}
-use Rattle.assuan_line.specs.Lines.{has_lf}
+use Rattle.assuan_text.specs.LineEnds.{has_lf}
 use Rattle.assuan_line.proofs.reader.take_line.Given as goal
 
 -- the bytes taken so far are those of the piece, and hold no line feed

@@ -1,4 +1,4 @@
-use Rattle.assuan_server.specs.Requests.{is_ignored}
+use Rattle.assuan_text.specs.Forms.{is_ignored}
 use Rattle.assuan_server.proofs.OnlyOutcome.{only_reading}
 use Rattle.assuan_server.proofs.request.requests_are_the_only_ones.Goals as goal
 

@@ -1,6 +1,6 @@
 use Rattle.std.proofs.Common.{◌≡◌, length, map}
 use Rattle.std.specs.Prelude.{string_bytes}
-use Rattle.session_options.specs.Rows.{found}
+use Rattle.assuan_text.specs.Rows.{found}
 use Rattle.agent_top.specs.Settings.{settings}
 use Rattle.agent_top.proofs.words.settings.setting_named.Given as goal
 

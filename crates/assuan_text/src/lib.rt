@@ -1,0 +1,23 @@
+//! What every reader of the lines of an Assuan server or client reads alike: blanks and words, the forms of lines, numbers of
+//! decimal digits, and names in a table. No call takes memory.
+#![tactic(auto)]
+
+mod blanks;
+mod forms;
+mod numbers;
+mod rows;
+mod words;
+
+use arrayvec::ArrayVec;
+
+/// How many bytes a line holds at most, without its end (Assuan manual, "client requests").
+pub const MAX_LINE_LEN: usize = 1000;
+
+/// What a line can hold.
+pub type Text = ArrayVec<u8, MAX_LINE_LEN>;
+
+pub use blanks::{is_blank, without_blanks};
+pub use forms::{escaped_part, is_idle, is_ignored};
+pub use numbers::number_of;
+pub use rows::{found, found_in_any_case, has_pair};
+pub use words::{command_and_rest, first_word, next_word};

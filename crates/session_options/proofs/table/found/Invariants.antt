@@ -1,8 +1,0 @@
-use Rattle.std.proofs.Common.{◌≡◌, drop}
-use Rattle.session_options.specs.Rows.{found, rows_of}
-use Rattle.session_options.proofs.table.found.Given as goal
-
--- the rows that are left decide
-abbrev pub invariant-loop-known : goal.invariant-loop-known
-invariant-loop-known g l =
-    found l.name (rows_of (drop l.known-index l.rows)) ≡ found l.name (rows_of l.rows)
