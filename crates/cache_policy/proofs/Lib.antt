@@ -3,3 +3,7 @@ pub mod EntriesLemmas
 pub mod BookLemmas
 pub mod WorkedExamples
 pub mod ReturnLemmas
+pub mod OneMore
+pub mod Growing
+pub mod GrowingRuns
+pub mod BareLemmas

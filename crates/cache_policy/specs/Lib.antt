@@ -10,3 +10,4 @@ pub mod Runs
 pub mod Legal
 pub mod Book
 pub mod Return
+pub mod Bare

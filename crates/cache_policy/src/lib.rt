@@ -19,7 +19,9 @@ pub use entry::Entry;
 pub use grant::Grant;
 pub use history::{Held, History, Marks};
 pub use id::CacheId;
-pub use laws::nothing_comes_back;
+pub use laws::{
+    a_history_turns_over, a_run_goes_on, no_secret_is_read, nothing_comes_back, one_more_mark,
+};
 pub use life::{Life, Limits};
 pub use list_book::{ListBook, NoMemory};
 pub use mark::{Mark, MarkReply, MarkStep, Under, Way};
