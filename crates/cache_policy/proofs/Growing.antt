@@ -7,6 +7,7 @@ use Rattle.std.proofs.Math.Bool.{or-false}
 use Rattle.std.proofs.Math.Nat.{add-mod_right}
 use Rattle.std.specs.List.{AllByRecursion, list_any}
 use Rattle.std.specs.Option.{option_or, option_map, option_and_then}
+use Rattle.cache_policy.specs.declared.bounds.TheConstants.{MAX_MARKS, MAX_MOMENT}
 use Rattle.cache_policy.specs.declared.mode.Mode.{Mode}
 use Rattle.cache_policy.specs.declared.life.Life.{Life}
 use Rattle.cache_policy.specs.declared.life.Life.TheVariants.{Default}
@@ -29,7 +30,7 @@ use Rattle.cache_policy.specs.Entries.{entry_of, kept_under, kept, stored, entri
 use Rattle.cache_policy.specs.Seat.{is_open, under_of, gives_back, last_open, unless_back, seat, stopped}
 use Rattle.cache_policy.specs.Live.{newest, gives, last_use, is_live, live}
 use Rattle.cache_policy.specs.Policy.{Reply, policy, prompt_ruling, ask_ruling}
-use Rattle.cache_policy.specs.Runs.{room, last_base, greatest_moment, turn_over, moment_before}
+use Rattle.cache_policy.specs.Runs.{last_base, turn_over, moment_before}
 use Rattle.cache_policy.specs.Legal.{FollowsPolicy, NeverFall, IsLegal}
 use Rattle.cache_policy.proofs.Lists.{all_reverse, all_find, filter_none}
 use Rattle.cache_policy.proofs.EntriesLemmas.{entries-with_mark}
@@ -49,7 +50,7 @@ follows-push limits start (first ∷ later) mark follows rules = (
 
 -- one mark more whose moment isn't below the last one
 pub never_fall-push : (since : ℕ) (marks : List Mark) (mark : Mark) → NeverFall since marks
-    → fold (λ _ (m : Mark). m.moment) since marks ≤ mark.moment → mark.moment ≤ greatest_moment
+    → fold (λ _ (m : Mark). m.moment) since marks ≤ mark.moment → mark.moment ≤ MAX_MOMENT
     → NeverFall since (marks ++ mark ∷ [])
 never_fall-push since [] mark moments later within = (later, within, tt)
 never_fall-push since (first ∷ others) mark moments later within =
@@ -58,7 +59,7 @@ never_fall-push since (first ∷ others) mark moments later within =
 -- a legal history with one mark more is legal, where the mark follows the policy, has room, and its moment doesn't fall
 pub legal-with_mark : (limits : Limits) (history : History) (mark : Mark) → IsLegal limits history
     → policy limits history mark.step mark.moment ≡ Reply mark.reply → moment_before history.marks ≤ mark.moment
-    → mark.moment ≤ greatest_moment → history.base < last_base → length history.marks < room
+    → mark.moment ≤ MAX_MOMENT → history.base < last_base → length history.marks < MAX_MARKS
     → IsLegal limits (with_mark history mark)
 legal-with_mark limits history mark legal rules later within going few = record {
   replies = follows-push limits (start_of history) history.marks mark legal.replies rules;
@@ -86,7 +87,7 @@ entry_numbered : (limits : Limits) (number moment : ℕ) (id : List ℕ) (mode :
     → AreNumbered number (entry_of limits number moment id mode life secret) (number + 1)
 entry_numbered limits number moment id mode life secret =
     elim (is_zero (ttl_of limits mode life)) as (λ b. AreNumbered number (cond b [] (record { number = number; id = id; mode = mode; secret = secret; entered = moment; ttl = ttl_of limits mode life; max = max_of limits mode } ∷ []))
-        (number + 1)) [
+    (number + 1)) [
       | true ↦ omega arith
       | false ↦ (omega arith, omega arith)
     ]
@@ -114,13 +115,13 @@ entries_after_numbered : (limits : Limits) (before : History) (marks : List Mark
 entries_after_numbered limits before [] = omega arith
 entries_after_numbered limits before (mark ∷ later) =
     let more : AreNumbered (next_number (with_mark before mark)) (entries_after limits (with_mark before mark) later)
-        (next_number (with_mark before mark) + length later) = entries_after_numbered limits (with_mark before mark) later in
+    (next_number (with_mark before mark) + length later) = entries_after_numbered limits (with_mark before mark) later in
     numbered-append (next_number before) (stored limits before mark.step mark.moment)
-        (entries_after limits (with_mark before mark) later) (next_number before + 1) (next_number before + length (mark ∷ later))
+    (entries_after limits (with_mark before mark) later) (next_number before + 1) (next_number before + length (mark ∷ later))
     (stored_numbered limits before mark.step mark.moment)
     (subst (λ (n : ℕ). AreNumbered n (entries_after limits (with_mark before mark) later) (next_number before + length (mark ∷ later))) (next_number-with_mark before mark)
     (numbered-wider (next_number (with_mark before mark)) (entries_after limits (with_mark before mark) later)
-        (next_number (with_mark before mark) + length later) (next_number before + length (mark ∷ later)) more (omega (arith, next_number-with_mark before mark))))
+    (next_number (with_mark before mark) + length later) (next_number before + length (mark ∷ later)) more (omega (arith, next_number-with_mark before mark))))
 
 -- the entries of a history have the numbers of marks of it, which rise
 pub entries_numbered : (limits : Limits) (history : History) → AreNumbered history.base (entries limits history) (next_number history)
@@ -210,7 +211,7 @@ last_open_below number [] = tt
 last_open_below number (mark ∷ later) =
     elim (last_open (number + 1) later) as (λ o. IfSome o (λ (found : Held × List Mark). found.0.ticket < number + 1 + length later)
     → IfSome (option_or o (if is_open mark.reply then Some (record { ticket = number; under = under_of mark.step }, later) else None))
-        (λ (found : Held × List Mark). found.0.ticket < number + length (mark ∷ later))) [
+    (λ (found : Held × List Mark). found.0.ticket < number + length (mark ∷ later))) [
       | Some found ↦ λ below. omega (arith, below)
       | None ↦ λ below. elim (is_open mark.reply) as (λ b. IfSome (cond b (Some (record { ticket = number; under = under_of mark.step }, later)) None)
           (λ (found : Held × List Mark). found.0.ticket < number + length (mark ∷ later))) [ true ↦ omega arith | false ↦ tt ]
@@ -226,9 +227,9 @@ seat_below history older =
       | Some found ↦ λ below. below
       | None ↦ λ below. elim history.held as (λ h. IfSome h (λ held. held.ticket < history.base)
           → IfSome (option_map (λ held. (held, history.marks)) h) (λ (found : Held × List Mark). found.0.ticket < next_number history)) [
-        | Some held ↦ λ below. omega (arith, below)
-        | None ↦ λ below. tt
-      ] older
+            | Some held ↦ λ below. omega (arith, below)
+            | None ↦ λ below. tt
+          ] older
     ] (last_open_below history.base history.marks))
   where
     by_found : (o : Option (Held × List Mark)) → IfSome o (λ (found : Held × List Mark). found.0.ticket < next_number history)
@@ -249,15 +250,15 @@ pub live-turn_over : (limits : Limits) (history : History) (id : List ℕ) (mode
 live-turn_over limits history id mode moment = refl
 
 -- the history that follows a legal full one is legal
-pub legal-turn_over : (limits : Limits) (history : History) → IsLegal limits history → length history.marks ≡ room
+pub legal-turn_over : (limits : Limits) (history : History) → IsLegal limits history → length history.marks ≡ MAX_MARKS
     → IsLegal limits (turn_over history)
 legal-turn_over limits history legal full = record {
   replies = tt;
   moments = tt;
-  base = add-mod_right history.base room ∙ legal.base;
+  base = add-mod_right history.base MAX_MARKS ∙ legal.base;
   not_spent = inr refl;
   few = omega arith;
-  held = elim (seat history) as (λ h. IfSome h (λ held. held.ticket < next_number history) → IfSome h (λ held. held.ticket < history.base + room)) [
+  held = elim (seat history) as (λ h. IfSome h (λ held. held.ticket < next_number history) → IfSome h (λ held. held.ticket < history.base + MAX_MARKS)) [
     | Some held ↦ λ below. omega (arith, below, full)
     | None ↦ λ below. tt
   ] (seat_below history legal.held);
@@ -270,7 +271,7 @@ pub is_live-stored : (limits : Limits) (history : History) (mark : Mark) (entry 
 is_live-stored limits history mark entry moment legal same kept =
     ap (λ (b : Bool). not b && within entry (last_use (with_mark history mark) entry) moment) (gone-newest history mark entry same)
     ∙ ap (λ (last : ℕ). within entry last moment)
-        (last_use-with_mark history mark entry ∙ ap (λ (b : Bool). if b then max (last_use history entry) mark.moment else last_use history entry) kept ∙ never_used)
+    (last_use-with_mark history mark entry ∙ ap (λ (b : Bool). if b then max (last_use history entry) mark.moment else last_use history entry) kept ∙ never_used)
   where
     never_used : last_use history entry ≡ entry.entered
     never_used = ap (λ (marks : List Mark). fold max entry.entered (moments marks))

@@ -5,12 +5,13 @@ use Rattle.std.proofs.lemmas.List.{append_assoc, append-nil}
 use Rattle.std.proofs.lemmas.List.Sums.{fold-append}
 use Rattle.std.proofs.lemmas.Bool.Decides.{nat_tests}
 use Rattle.std.specs.List.{AllByRecursion}
+use Rattle.cache_policy.specs.declared.bounds.TheConstants.{MAX_MARKS, MAX_MOMENT}
 use Rattle.cache_policy.specs.declared.life.Limits.{Limits}
 use Rattle.cache_policy.specs.declared.mark.Mark.{Mark}
 use Rattle.cache_policy.specs.declared.history.History.{History}
 use Rattle.cache_policy.specs.Histories.{start_of, with_mark}
 use Rattle.cache_policy.specs.Policy.{Reply, policy}
-use Rattle.cache_policy.specs.Runs.{room, last_base, greatest_moment, turn_over, next_history, IsFollowedBy, IsRun, joined, start_of_run, moment_before, last_history, run_with_mark}
+use Rattle.cache_policy.specs.Runs.{last_base, turn_over, next_history, IsFollowedBy, IsRun, joined, start_of_run, moment_before, last_history, run_with_mark}
 use Rattle.cache_policy.specs.Legal.{NeverFall, IsLegal, IsLegalRun}
 use Rattle.cache_policy.proofs.Growing.{never_fall-push, legal-with_mark, legal-turn_over}
 
@@ -22,7 +23,7 @@ grown_last history mark full = if full then history ∷ with_mark (turn_over his
 pub joined-run_with_mark : (run : List History) (mark : Mark) → IsRun run → joined (run_with_mark run mark) ≡ joined run ++ mark ∷ []
 joined-run_with_mark [] mark is = absurd is
 joined-run_with_mark (history ∷ []) mark is =
-    elim (length history.marks == room) as (λ b. joined (grown_last history mark b) ≡ (history.marks ++ []) ++ mark ∷ []) [
+    elim (length history.marks == MAX_MARKS) as (λ b. joined (grown_last history mark b) ≡ (history.marks ++ []) ++ mark ∷ []) [
       | true ↦ sym (ap (λ (marks : List Mark). marks ++ mark ∷ []) (append-nil history.marks))
       | false ↦ append-nil (history.marks ++ mark ∷ []) ∙ sym (ap (λ (marks : List Mark). marks ++ mark ∷ []) (append-nil history.marks))
     ]
@@ -32,16 +33,16 @@ joined-run_with_mark (history ∷ next ∷ later) mark is =
 
 pub start-run_with_mark : (run : List History) (mark : Mark) → start_of_run (run_with_mark run mark) ≡ start_of_run run
 start-run_with_mark [] mark = refl
-start-run_with_mark (history ∷ []) mark = elim (length history.marks == room) as (λ b. start_of_run (grown_last history mark b) ≡ Some (start_of history)) [ true ↦ refl | false ↦ refl ]
+start-run_with_mark (history ∷ []) mark = elim (length history.marks == MAX_MARKS) as (λ b. start_of_run (grown_last history mark b) ≡ Some (start_of history)) [ true ↦ refl | false ↦ refl ]
 start-run_with_mark (history ∷ next ∷ later) mark = refl
 
-followed_by_turn_over : (history : History) (mark : Mark) → length history.marks ≡ room → IsFollowedBy history (with_mark (turn_over history) mark)
+followed_by_turn_over : (history : History) (mark : Mark) → length history.marks ≡ MAX_MARKS → IsFollowedBy history (with_mark (turn_over history) mark)
 followed_by_turn_over history mark full = record { full = full; start = refl }
 
 is_run_after : (front history : History) (later : List History) (mark : Mark) → IsFollowedBy front history
     → IsRun (history ∷ later) → IsRun (front ∷ run_with_mark (history ∷ later) mark)
 is_run_after front history [] mark followed is =
-    elim (length history.marks == room) as (λ b. (length history.marks == room) ≡ b → IsRun (front ∷ grown_last history mark b)) [
+    elim (length history.marks == MAX_MARKS) as (λ b. (length history.marks == MAX_MARKS) ≡ b → IsRun (front ∷ grown_last history mark b)) [
       | true ↦ λ e. (followed, (followed_by_turn_over history mark (grind (arith, nat_tests)), tt))
       | false ↦ λ e. (record { full = followed.full; start = followed.start }, tt)
     ] refl
@@ -51,7 +52,7 @@ is_run_after front history (next ∷ more) mark followed is = (followed, is_run_
 pub is_run-run_with_mark : (run : List History) (mark : Mark) → IsRun run → IsRun (run_with_mark run mark)
 is_run-run_with_mark [] mark is = absurd is
 is_run-run_with_mark (history ∷ []) mark is =
-    elim (length history.marks == room) as (λ b. (length history.marks == room) ≡ b → IsRun (grown_last history mark b)) [
+    elim (length history.marks == MAX_MARKS) as (λ b. (length history.marks == MAX_MARKS) ≡ b → IsRun (grown_last history mark b)) [
       | true ↦ λ e. (followed_by_turn_over history mark (grind (arith, nat_tests)), tt)
       | false ↦ λ e. tt
     ] refl
@@ -90,17 +91,17 @@ moment_before-last run history last =
 -- the next history of a legal one is legal, and has room for a mark
 record HasRoom (limits : Limits) (history : History) : Type 0 where
   pub legal : IsLegal limits history
-  pub few : length history.marks < room
+  pub few : length history.marks < MAX_MARKS
 
 next_has_room : (limits : Limits) (history : History) → IsLegal limits history → HasRoom limits (next_history history)
 next_has_room limits history legal =
-    elim (length history.marks == room) as (λ b. (length history.marks == room) ≡ b → HasRoom limits (if b then turn_over history else history)) [
+    elim (length history.marks == MAX_MARKS) as (λ b. (length history.marks == MAX_MARKS) ≡ b → HasRoom limits (if b then turn_over history else history)) [
       | true ↦ λ e. record { legal = legal-turn_over limits history legal (grind (arith, nat_tests)); few = omega arith }
       | false ↦ λ e. record { legal = legal; few = grind (arith, nat_tests, legal.few) }
     ] refl
 
 next_moment : (history : History) → moment_before (next_history history).marks ≤ moment_before history.marks
-next_moment history = elim (length history.marks == room) as (λ b. moment_before (if b then turn_over history else history).marks ≤ moment_before history.marks) [ true ↦ omega arith | false ↦ omega arith ]
+next_moment history = elim (length history.marks == MAX_MARKS) as (λ b. moment_before (if b then turn_over history else history).marks ≤ moment_before history.marks) [ true ↦ omega arith | false ↦ omega arith ]
 
 all_grown : (limits : Limits) (run : List History) (history : History) (mark : Mark) → last_history run ≡ Some history
     → AllByRecursion (IsLegal limits) run → IsLegal limits (with_mark (next_history history) mark)
@@ -108,7 +109,7 @@ all_grown : (limits : Limits) (run : List History) (history : History) (mark : M
 all_grown limits [] history mark last each legal = absurd (cc)
 all_grown limits (first ∷ []) history mark last each legal =
     let same : history ≡ first = cc in
-    elim (length first.marks == room) as (λ b. IsLegal limits (with_mark (if b then turn_over first else first) mark) → AllByRecursion (IsLegal limits) (grown_last first mark b)) [
+    elim (length first.marks == MAX_MARKS) as (λ b. IsLegal limits (with_mark (if b then turn_over first else first) mark) → AllByRecursion (IsLegal limits) (grown_last first mark b)) [
       | true ↦ λ l. (each.0, (l, tt))
       | false ↦ λ l. (l, tt)
     ] (subst (λ (h : History). IsLegal limits (with_mark (next_history h) mark)) same legal)
@@ -124,7 +125,7 @@ last_of_all limits (first ∷ next ∷ later) history last each = last_of_all li
 -- doesn't fall.
 pub legal-run_with_mark : (limits : Limits) (run : List History) (history : History) (mark : Mark) → IsLegalRun limits run
     → last_history run ≡ Some history → policy limits (next_history history) mark.step mark.moment ≡ Reply mark.reply
-    → moment_before (joined run) ≤ mark.moment → mark.moment ≤ greatest_moment → (next_history history).base < last_base
+    → moment_before (joined run) ≤ mark.moment → mark.moment ≤ MAX_MOMENT → (next_history history).base < last_base
     → IsLegalRun limits (run_with_mark run mark)
 legal-run_with_mark limits run history mark legal last rules later within going =
     let next = next_has_room limits history (last_of_all limits run history last legal.each) in

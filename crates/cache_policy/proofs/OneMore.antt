@@ -80,13 +80,13 @@ later_by mark (held, later) = (held, later ++ mark ∷ [])
 -- the last Open mark of more marks is the one more, or else the one before
 last_open-with_mark : (number : ℕ) (marks : List Mark) (mark : Mark)
     → last_open number (marks ++ mark ∷ [])
-        ≡ (if is_open mark.reply then Some (record { ticket = number + length marks; under = under_of mark.step }, []) else option_map (later_by mark) (last_open number marks))
+    ≡ (if is_open mark.reply then Some (record { ticket = number + length marks; under = under_of mark.step }, []) else option_map (later_by mark) (last_open number marks))
 last_open-with_mark number [] mark =
     ap (λ (n : ℕ). if is_open mark.reply then Some (record { ticket = n; under = under_of mark.step }, []) else None) (omega arith)
 last_open-with_mark number (first ∷ marks) mark =
     ap (λ o. option_or o (at_first (marks ++ mark ∷ []))) (last_open-with_mark (number + 1) marks mark)
     ∙ elim (is_open mark.reply) as (λ b. option_or (cond b (Some (record { ticket = number + 1 + length marks; under = under_of mark.step }, []))
-        (option_map (later_by mark) (last_open (number + 1) marks))) (at_first (marks ++ mark ∷ []))
+    (option_map (later_by mark) (last_open (number + 1) marks))) (at_first (marks ++ mark ∷ []))
     ≡ cond b (Some (record { ticket = number + length (first ∷ marks); under = under_of mark.step }, [])) (option_map (later_by mark) (option_or (last_open (number + 1) marks) (at_first marks)))) [
       | true ↦ ap (λ (n : ℕ). Some (record { ticket = n; under = under_of mark.step }, [])) (omega arith)
       | false ↦ elim (last_open (number + 1) marks) as (λ o. option_or (option_map (later_by mark) o) (at_first (marks ++ mark ∷ [])) ≡ option_map (later_by mark) (option_or o (at_first marks))) [
@@ -111,12 +111,12 @@ unless_back-later mark (held, later) =
 -- an Open mark's ticket is out after it; after any other mark the one that was out, unless that mark gives it back
 pub seat-with_mark : (history : History) (mark : Mark)
     → seat (with_mark history mark)
-        ≡ (if is_open mark.reply then Some (record { ticket = next_number history; under = under_of mark.step }) else option_and_then (unless_given_back mark.step) (seat history))
+    ≡ (if is_open mark.reply then Some (record { ticket = next_number history; under = under_of mark.step }) else option_and_then (unless_given_back mark.step) (seat history))
 seat-with_mark history mark =
     ap (λ o. option_and_then unless_back (option_or o (option_map (λ held. (held, history.marks ++ mark ∷ [])) history.held)))
     (last_open-with_mark history.base history.marks mark)
     ∙ elim (is_open mark.reply) as (λ b. option_and_then unless_back (option_or (cond b (Some (record { ticket = next_number history; under = under_of mark.step }, []))
-        (option_map (later_by mark) (last_open history.base history.marks))) (option_map (λ held. (held, history.marks ++ mark ∷ [])) history.held))
+    (option_map (later_by mark) (last_open history.base history.marks))) (option_map (λ held. (held, history.marks ++ mark ∷ [])) history.held))
     ≡ cond b (Some (record { ticket = next_number history; under = under_of mark.step })) (option_and_then (unless_given_back mark.step) (seat history))) [
       | true ↦ refl
       | false ↦ elim (last_open history.base history.marks) as (λ o. option_and_then unless_back (option_or (option_map (later_by mark) o)
@@ -134,7 +134,7 @@ seat-with_mark history mark =
 -- an entry that was stored before is live after the mark where that doesn't take it away, and by its last use up to there
 pub is_live-with_mark : (history : History) (mark : Mark) (entry : Entry) (moment : ℕ) → entry.number < next_number history
     → is_live (with_mark history mark) moment entry ≡ (not (gone history entry || takes_away entry mark.step)
-        && within entry (if gives entry.number mark.reply then max (last_use history entry) mark.moment else last_use history entry) moment)
+    && within entry (if gives entry.number mark.reply then max (last_use history entry) mark.moment else last_use history entry) moment)
 is_live-with_mark history mark entry moment older =
     ap (λ (b : Bool). not b && within entry (last_use (with_mark history mark) entry) moment) (gone-with_mark history mark entry older)
     ∙ ap (λ (last : ℕ). not (gone history entry || takes_away entry mark.step) && within entry last moment) (last_use-with_mark history mark entry)

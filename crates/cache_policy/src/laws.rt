@@ -1,5 +1,6 @@
 ghost use Rattle.std.specs.Prelude.{◌≡◌, ◌<◌, ◌≤◌, ◌+◌, ◌||◌, ◌&&◌, ℕ, List, [], ◌∷◌, ◌++◌, Option, None, Some, Bool, false, not, max, length, map, if◌then◌else◌};
 ghost use Rattle.std.specs.Option.{option_or, option_and_then};
+ghost use Rattle.cache_policy.specs.declared.bounds.TheConstants.{MAX_MARKS, MAX_MOMENT};
 ghost use Rattle.cache_policy.specs.declared.life.Limits.{Limits};
 ghost use Rattle.cache_policy.specs.declared.mode.Mode.{Mode};
 ghost use Rattle.cache_policy.specs.declared.mark.Mark.{Mark};
@@ -13,7 +14,7 @@ ghost use Rattle.cache_policy.specs.Entries.{stored, entries, AreNumbered};
 ghost use Rattle.cache_policy.specs.Seat.{under_of, is_open, is_stop, unless_given_back, seat, stopped};
 ghost use Rattle.cache_policy.specs.Live.{newest_of, newest, takes_away, gone, gives, last_use, is_live, live};
 ghost use Rattle.cache_policy.specs.Policy.{Reply, policy};
-ghost use Rattle.cache_policy.specs.Runs.{room, last_base, greatest_moment, turn_over, next_history, IsRun, joined, start_of_run, moment_before, last_history, run_with_mark};
+ghost use Rattle.cache_policy.specs.Runs.{last_base, turn_over, next_history, IsRun, joined, start_of_run, moment_before, last_history, run_with_mark};
 ghost use Rattle.cache_policy.specs.Legal.{IsLegal, IsLegalRun};
 ghost use Rattle.cache_policy.specs.Return.{IsGivenRightly};
 ghost use Rattle.cache_policy.specs.Bare.{bare_step, bare, bare_entry};
@@ -52,8 +53,8 @@ pub fn one_more_mark()
 
     ensures legal { (limits : Limits) (history : History) (mark : Mark) → IsLegal limits history
         → policy limits history mark.step mark.moment ≡ Reply mark.reply
-        → moment_before history.marks ≤ mark.moment → mark.moment ≤ greatest_moment
-        → history.base < last_base → length history.marks < room → IsLegal limits (with_mark history mark) }
+        → moment_before history.marks ≤ mark.moment → mark.moment ≤ MAX_MOMENT
+        → history.base < last_base → length history.marks < MAX_MARKS → IsLegal limits (with_mark history mark) }
 {}
 
 /// What a turn-over makes of a full history: the seat stays as it was, and so does whether the agent has stopped; nothing is live any
@@ -63,7 +64,7 @@ pub fn a_history_turns_over()
     ensures stopped { (history : History) → stopped (turn_over history) ≡ stopped history }
     ensures live { (limits : Limits) (history : History) (id : List ℕ) (mode : Mode) (moment : ℕ)
         → live limits (turn_over history) id mode moment ≡ None }
-    ensures legal { (limits : Limits) (history : History) → IsLegal limits history → length history.marks ≡ room
+    ensures legal { (limits : Limits) (history : History) → IsLegal limits history → length history.marks ≡ MAX_MARKS
         → IsLegal limits (turn_over history) }
 {}
 
@@ -74,7 +75,7 @@ pub fn a_run_goes_on()
     ensures marks { (run : List History) (mark : Mark) → IsRun run → joined (run_with_mark run mark) ≡ joined run ++ mark ∷ [] }
     ensures legal { (limits : Limits) (run : List History) (history : History) (mark : Mark) → IsLegalRun limits run
         → last_history run ≡ Some history → policy limits (next_history history) mark.step mark.moment ≡ Reply mark.reply
-        → moment_before (joined run) ≤ mark.moment → mark.moment ≤ greatest_moment
+        → moment_before (joined run) ≤ mark.moment → mark.moment ≤ MAX_MOMENT
         → (next_history history).base < last_base → IsLegalRun limits (run_with_mark run mark) }
 {}
 
