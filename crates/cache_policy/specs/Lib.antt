@@ -11,3 +11,5 @@ pub mod Legal
 pub mod Book
 pub mod Return
 pub mod Bare
+pub mod Turns
+pub mod Desks

@@ -5,6 +5,7 @@
 #![tactic(auto)]
 
 mod bounds;
+mod desk;
 mod entry;
 mod grant;
 mod history;
@@ -15,8 +16,10 @@ mod list_book;
 mod mark;
 mod mode;
 mod secret;
+mod step;
 
 pub use bounds::{MAX_MARKS, MAX_MOMENT};
+pub use desk::Desk;
 pub use entry::Entry;
 pub use grant::Grant;
 pub use history::{Held, History, Marks};
@@ -29,3 +32,4 @@ pub use list_book::{ListBook, NoMemory};
 pub use mark::{Mark, MarkReply, MarkStep, Under, Way};
 pub use mode::Mode;
 pub use secret::Secret;
+pub use step::{Refused, Reply, Step};
