@@ -11,21 +11,29 @@ use Rattle.assuan_line.specs.declared.reader.Took.{Took}
 use Rattle.assuan_line.specs.declared.reader.Took.TheVariants.{Line, TooLong, End, Spent, ReadFault}
 use Rattle.assuan_line.proofs.Decided.{stays, after_stays, after_shorter, no_spent, no_fault}
 
+-- what one read gave
+pub record IsRead (before after : Reader) (was is : Side) (read : List ℕ) : Type 0 where
+  pub few : length read ≤ MAX_AHEAD
+  pub ahead : after.ahead ≡ before.ahead ++ read
+  pub bytes : was.bytes ≡ followed_by read is.bytes
+  pub budget : before.left ≡ length read + after.left
+  pub faults : was.faults ≤ is.faults
+
 -- one read, where nothing was decided
-pub one_read : (before after : Reader) (was is : Side) (read : List ℕ) → next_of before.ahead ≡ End → length read ≤ MAX_AHEAD → after.ahead ≡ before.ahead ++ read → was.bytes ≡ followed_by read is.bytes → before.left ≡ length read + after.left → was.faults ≤ is.faults → HasReadOn before was after is
-one_read before after was is read undecided few ahead bytes budget faults = record {
+pub one_read : (before after : Reader) (was is : Side) (read : List ℕ) → next_of before.ahead ≡ End → IsRead before after was is read → HasReadOn before was after is
+one_read before after was is read undecided one = record {
   taken = read;
-  ahead = ahead;
-  bytes = bytes;
+  ahead = one.ahead;
+  bytes = one.bytes;
   needed = inr (record {
     early = [];
     late = read;
     split = sym (append-nil read);
     undecided = ap next_of (append-nil before.ahead) ∙ undecided;
-    few = few;
+    few = one.few;
   });
-  budget = budget;
-  faults = faults;
+  budget = one.budget;
+  faults = one.faults;
 }
 
 pub no_read : (before : Reader) (was : Side) → HasReadOn before was before was
@@ -82,12 +90,13 @@ decides_since before after Spent was mid is since decides = decides
 decides_since before after ReadFault was mid is since decides = (decides.0, decides.1, decides.2, omega (arith, decides.3))
 
 -- what the bytes ahead tell by themselves
-pub decides_ahead : (before after : Reader) (answer : Took) (was is : Side) → answer ≢ End → answer ≡ next_of before.ahead → OnLine answer (after.ahead ≡ after_line before.ahead) → (IsSome (ended_by answer) → after.ahead ≡ before.ahead) → Decides before was answer after is
-decides_ahead before after (Line line) was is other by line_left left = (sym by, line_left)
-decides_ahead before after TooLong was is other by line_left left = (sym by, left refl)
-decides_ahead before after End was is other by line_left left = absurd (other refl)
-decides_ahead before after Spent was is other by line_left left = absurd (no_spent before.ahead (sym by))
-decides_ahead before after ReadFault was is other by line_left left = absurd (no_fault before.ahead (sym by))
+module _ (before after : Reader) (was is : Side) where
+  pub decides_ahead : (answer : Took) → answer ≢ End → answer ≡ next_of before.ahead → OnLine answer (after.ahead ≡ after_line before.ahead) → (IsSome (ended_by answer) → after.ahead ≡ before.ahead) → Decides before was answer after is
+  decides_ahead (Line line) other by line_left left = (sym by, line_left)
+  decides_ahead TooLong other by line_left left = (sym by, left refl)
+  decides_ahead End other by line_left left = absurd (other refl)
+  decides_ahead Spent other by line_left left = absurd (no_spent before.ahead (sym by))
+  decides_ahead ReadFault other by line_left left = absurd (no_fault before.ahead (sym by))
 
 -- What an answer says, from the bytes that were taken for it.
 module _ (before after : Reader) (was is : Side) (answer : Took) (given : HasTaken (unended before) was answer (unended after) is) where

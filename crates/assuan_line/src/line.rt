@@ -1,6 +1,7 @@
 ghost use Rattle.std.specs.Prelude.{◌≡◌, ◌↔◌, IsSome, IfSome};
 ghost use Rattle.assuan_line.specs.Lines.{IsLine};
 
+use assuan_text::MAX_LINE_LEN;
 use std::marker::Model;
 use wiping::Wiped;
 
@@ -12,7 +13,7 @@ pub(crate) const CR: u8 = b'\r';
 /// its bytes are overwritten when it is dropped.
 #[derive(Drop)]
 pub struct Line {
-    bytes: Wiped<1000>,
+    bytes: Wiped<MAX_LINE_LEN>,
 }
 
 impl Model for Line {

@@ -12,4 +12,10 @@ pub returns-in-Bytes-clause-read : goal.returns-in-Bytes-clause-read
 returns-in-Bytes-clause-read g c =
     let r = c.in-Bytes.ensures.read in
     let count = c.in-Bytes.ensures.count in
-    one_read (reader_at c.args.ahead.now c.args.left.now) (reader_at c.read.new.self _) _ _ r.0 c.requires.undecided (omega (arith, r.1, count.2)) r.2 r.3 (omega (arith, r.1, count.1)) c.read.ensures.faults
+    one_read (reader_at c.args.ahead.now c.args.left.now) (reader_at c.read.new.self _) _ _ r.0 c.requires.undecided (record {
+      few = omega (arith, r.1, count.2);
+      ahead = r.2;
+      bytes = r.3;
+      budget = omega (arith, r.1, count.1);
+      faults = c.read.ensures.faults;
+    })

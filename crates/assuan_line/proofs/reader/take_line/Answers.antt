@@ -10,11 +10,15 @@ pub returns-in_default : goal.returns-in_default
 returns-in_default g c =
     let i = c.loop-took.invariant in
     let e = c.take_line.ensures in
+    let middle = reader_at c.loop-took.ahead c.loop-took.left in
+    let after = reader_at c.take_line.new.self c.loop-took.left in
     record {
       taken = record {
-        middle = reader_at c.loop-took.ahead c.loop-took.left;
+        middle = middle;
         read = i.read;
-        decides = decides_ahead (reader_at c.loop-took.ahead c.loop-took.left) (reader_at c.take_line.new.self c.loop-took.left) c.take_line.result (g.S.Source.input c.args.source.now) (g.S.Source.input c.loop-took.source) c.in_default.not-End e.took e.line (λ some. ap bytes_ahead (e.others some));
+        decides =
+            decides_ahead middle after (g.S.Source.input c.args.source.now) (g.S.Source.input c.loop-took.source) c.take_line.result
+            c.in_default.not-End e.took e.line (λ some. ap bytes_ahead (e.others some));
         budget = refl {a = c.loop-took.left};
       };
       alone = i.alone;
