@@ -1,5 +1,6 @@
 pub mod Ahead
-mod Answered
+mod Decided
 mod Parts
-mod Pieces
 pub mod Places
+mod Reading
+mod Slices

@@ -1,12 +1,14 @@
 //! Lines of the Assuan protocol: read from bytes in whatever pieces they come, and written whole.
 #![tactic(auto)]
 
+mod buffer;
 mod line;
 mod reader;
 mod writer;
 
+pub use buffer::MAX_AHEAD;
 pub use line::Line;
-pub use reader::{LineReader, MAX_AHEAD, Took, lines_come_in_order};
+pub use reader::{LineReader, Took, lines_come_in_order};
 pub use writer::write_line;
 
 #[cfg(test)]
