@@ -7,3 +7,4 @@ pub mod OneMore
 pub mod Growing
 pub mod GrowingRuns
 pub mod BareLemmas
+pub mod Extending

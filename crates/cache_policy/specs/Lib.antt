@@ -13,3 +13,4 @@ pub mod Return
 pub mod Bare
 pub mod Turns
 pub mod Desks
+pub mod Extending

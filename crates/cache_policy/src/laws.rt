@@ -18,6 +18,10 @@ ghost use Rattle.cache_policy.specs.Runs.{last_base, turn_over, next_history, Is
 ghost use Rattle.cache_policy.specs.Legal.{IsLegal, IsLegalRun};
 ghost use Rattle.cache_policy.specs.Return.{IsGivenRightly};
 ghost use Rattle.cache_policy.specs.Bare.{bare_step, bare, bare_entry};
+ghost use Rattle.agent_ports.specs.Leads.{Leads};
+ghost use Rattle.cache_policy.specs.Extending.{Taken, TakesTurn, ExtendsDesk};
+
+use crate::Desk;
 
 /// Nothing comes back. In a legal history each passphrase that was given was the newest for its request, had not been
 /// cleared, and was within both lifetimes.
@@ -88,4 +92,11 @@ pub fn no_secret_is_read()
     ensures policy { (limits : Limits) (history : History) (asked : MarkStep) (moment : ℕ)
         → policy limits (bare history) (bare_step asked) moment ≡ policy limits history asked moment }
     ensures legal { (limits : Limits) (history : History) → IsLegal limits history → IsLegal limits (bare history) }
+{}
+
+/// Turns at a desk extend its run where that is known: the marks of the desk's session in it are theirs, in their order, and it stays
+/// legal.
+pub fn turns_extend_a_run<D: Desk>()
+    ensures { (before after : D) (turns : List Taken) → Leads (TakesTurn D.turned) before turns after
+        → ExtendsDesk (D.at before) turns (D.at after) }
 {}
