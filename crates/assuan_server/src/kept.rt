@@ -74,7 +74,7 @@ impl Sieve for Collected {
     fn pass(&mut self, line: &Line) -> bool {
         match data_of(line.bytes()) {
             Some(bytes) => {
-                self.add(&bytes);
+                self.add(bytes.bytes());
                 true
             }
             None => is_idle(line.bytes()),
@@ -135,7 +135,7 @@ impl Sieve for Buffered {
     fn pass(&mut self, line: &Line) -> bool {
         match data_of(line.bytes()) {
             Some(bytes) => {
-                self.add(&bytes);
+                self.add(bytes.bytes());
                 true
             }
             None => is_idle(line.bytes()),
