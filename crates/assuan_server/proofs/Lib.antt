@@ -1,6 +1,5 @@
-mod Beyond
 mod ErrorLines
+mod Inquiring
 mod OnlyData
-mod Sending
-mod Writing
 mod OnlyOutcome
+mod Writing

@@ -8,6 +8,7 @@ use crate::conn::Conn;
 use agent_ports::{Link, Sent};
 use assuan_escape::escape_into;
 use assuan_text::Text;
+use wiping::wipe;
 
 impl<'a, L: Link> Conn<'a, L> {
     /// Writes the bytes as data lines, `D`, a blank and escaped bytes: each of at most 1,000 bytes and as full as no cut escape
@@ -19,9 +20,11 @@ impl<'a, L: Link> Conn<'a, L> {
         let mut rest = bytes;
         let mut sent: usize = 0;
         while !rest.is_empty() {
-            let (line, count) = full_line(rest);
+            let (mut line, count) = full_line(rest);
             let whole = line.len() + 1;
-            match self.say(&line) {
+            let said = self.say(&[&line]);
+            wipe(&mut line);
+            match said {
                 Sent::All => sent = sent.saturating_add(whole),
                 Sent::Failed { sent: part } => {
                     return Sent::Failed {

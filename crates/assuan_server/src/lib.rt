@@ -6,8 +6,6 @@ mod conn;
 mod data;
 mod errors;
 mod inquiry;
-mod kept;
-mod passing;
 mod request;
 
 pub use conn::Conn;
