@@ -1,6 +1,5 @@
 mod Beyond
 mod ErrorLines
-mod OnlyData
 mod Sending
 mod Writing
 mod OnlyOutcome

@@ -8,7 +8,8 @@ use Rattle.assuan_line.specs.Next.{next_of, Reader}
 use Rattle.assuan_line.specs.declared.reader.Took.{Took}
 use Rattle.assuan_line.specs.declared.reader.Took.TheVariants as took
 use Rattle.assuan_server.specs.Passing.{Passed, none, one, Comes}
-use Rattle.assuan_server.specs.Inquiries.{IsWord, Outcome, ComesTo, Inquiry, IsClosed, is_passing, carried}
+use Rattle.assuan_escape.specs.DataLines.{carried}
+use Rattle.assuan_server.specs.Inquiries.{IsWord, Outcome, ComesTo, Inquiry, IsClosed, is_passing}
 
 same_line : (bytes line other : List ℕ) → next_of bytes ≡ took.Line line → next_of bytes ≡ took.Line other → line ≡ other
 same_line bytes line other first second = cc (sym first ∙ second)

@@ -1,5 +1,4 @@
 pub mod Connections
-pub mod DataLines
 pub mod Errors
 pub mod Inquiries
 pub mod Kept

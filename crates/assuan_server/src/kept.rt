@@ -1,9 +1,9 @@
 ghost use Rattle.std.specs.Prelude.{◌≡◌, ◌≤◌, ◌<◌, ◌++◌, [], false, ℕ, List, length, vec_len, MatchOption};
 ghost use Rattle.assuan_server.specs.Kept.{Collects, Buffers};
 
-use crate::closing::data_of;
 use crate::passing::Sieve;
 use arrayvec::ArrayVec;
+use assuan_escape::data_of;
 use assuan_line::Line;
 use assuan_text::is_idle;
 use cache_policy::Secret;
@@ -62,7 +62,8 @@ impl Collected {
 
 impl Sieve for Collected {
     ghost use Rattle.std.specs.List.{flat_map};
-    ghost use Rattle.assuan_server.specs.Inquiries.{is_passing, carried};
+    ghost use Rattle.assuan_escape.specs.DataLines.{carried};
+    ghost use Rattle.assuan_server.specs.Inquiries.{is_passing};
 
     ghost passes = { is_passing };
 
@@ -122,7 +123,8 @@ impl Buffered {
 
 impl Sieve for Buffered {
     ghost use Rattle.std.specs.List.{flat_map};
-    ghost use Rattle.assuan_server.specs.Inquiries.{is_passing, carried};
+    ghost use Rattle.assuan_escape.specs.DataLines.{carried};
+    ghost use Rattle.assuan_server.specs.Inquiries.{is_passing};
 
     ghost passes = { is_passing };
 

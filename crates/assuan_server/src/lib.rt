@@ -11,7 +11,6 @@ mod passing;
 mod request;
 
 pub use conn::Conn;
-pub use data::data_lines_are_the_only_ones;
 pub use errors::{Code, Origin};
 pub use inquiry::{Inquired, InquiredSecret, inquiries_come_to_one_outcome};
 pub use request::requests_are_the_only_ones;
