@@ -10,7 +10,8 @@ use Rattle.assuan_line.specs.Next.{held, ended_by}
 use Rattle.assuan_line.specs.declared.reader.Took.{Took}
 use Rattle.assuan_line.specs.declared.reader.Took.TheVariants as took
 use Rattle.assuan_server.specs.Connections.{Connection}
-use Rattle.assuan_server.specs.Inquiries.{Outcome, Inquiry, ComesTo, can, end, past, foreign, ended, too_long, spent, read_fault, AnswersSecret, ended_of_secret, inquire_text, carried, is_passing}
+use Rattle.assuan_escape.specs.DataLines.{carried}
+use Rattle.assuan_server.specs.Inquiries.{Outcome, Inquiry, ComesTo, can, end, past, foreign, ended, too_long, spent, read_fault, AnswersSecret, ended_of_secret, inquire_text, is_passing}
 use Rattle.assuan_server.specs.Inquiries as outcome
 use Rattle.assuan_text.specs.LineEnds.{line_of}
 use Rattle.assuan_server.specs.Written.{HasWritten, status_text}

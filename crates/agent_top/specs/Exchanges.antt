@@ -3,7 +3,7 @@
 use Rattle.std.specs.Prelude.{◌≡◌, ◌≢◌, ℕ, Bool, true, false, List, [], ◌∷◌, ◌++◌, codes, decimal, Option, Some, None}
 use Rattle.std.specs.List.{flat_map}
 use Rattle.assuan_escape.specs.Escapes.{hex_text}
-use Rattle.assuan_server.specs.DataLines.{AreData, data_text}
+use Rattle.assuan_escape.specs.DataLines.{AreData, data_text}
 use Rattle.assuan_server.specs.Errors.{error_text}
 use Rattle.assuan_server.specs.Inquiries.{Outcome, Data, inquire_text}
 use Rattle.assuan_server.specs.Inquiries as outcome

@@ -6,7 +6,8 @@ use Rattle.assuan_line.specs.Lines.{after_line}
 use Rattle.assuan_line.specs.Next.{next_of, IsCutShort, IsTooLong}
 use Rattle.assuan_line.specs.declared.reader.Took.{Took}
 use Rattle.assuan_line.specs.declared.reader.Took.TheVariants.{Line, TooLong, End, Spent, ReadFault}
-use Rattle.assuan_server.specs.Inquiries.{Outcome, ComesTo, carried, is_passing}
+use Rattle.assuan_escape.specs.DataLines.{carried}
+use Rattle.assuan_server.specs.Inquiries.{Outcome, ComesTo, is_passing}
 use Rattle.assuan_server.specs.Passing.{Passed, Stops}
 use Rattle.assuan_text.specs.Forms.{is_ignored}
 use Rattle.agent_top.specs.Deeds.{Came, Deed, Heard, Wrote, Turned, Inquired}

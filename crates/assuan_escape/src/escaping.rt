@@ -1,5 +1,6 @@
 ghost use Rattle.std.specs.Prelude.{◌≡◌, ◌+◌, ◌<◌, ◌≤◌, ◌++◌, ◌↔◌, ℕ, List, false, length, take, slice_index, IsTrue, All};
 ghost use Rattle.std.specs.Bool.{OnTrue, OnFalse};
+ghost use Rattle.assuan_text.specs.declared.TheConstants.{MAX_LINE_LEN};
 ghost use Rattle.assuan_text.specs.LineEnds.{has_lf};
 ghost use Rattle.assuan_escape.specs.Escapes.{is_escaped, escape_of, escapes, unescaped};
 
@@ -11,12 +12,13 @@ use percent_encoding::percent_encode_byte;
 pub fn escape_into(bytes: &[u8], out: &mut Text) -> usize
     ensures within { result ≤ length bytes.now }
     ensures written { out.new.items ≡ out.old.items ++ escapes (take result bytes.now) }
+    ensures fits { length out.old.items ≤ MAX_LINE_LEN → length out.new.items ≤ MAX_LINE_LEN }
 
     // It stops only where the next escape doesn't fit, so no more bytes would have fitted.
     ensures stops { result < length bytes.now
-        → 1000 < length out.new.items + length (escape_of (slice_index bytes.now result)) }
+        → MAX_LINE_LEN < length out.new.items + length (escape_of (slice_index bytes.now result)) }
     ensures greatest { (count : ℕ) → count ≤ length bytes.now
-        → length out.old.items + length (escapes (take count bytes.now)) ≤ 1000 → count ≤ result }
+        → length out.old.items + length (escapes (take count bytes.now)) ≤ MAX_LINE_LEN → count ≤ result }
 
     // What is appended holds no line feed.
     ensures one_line { has_lf out.old.items ≡ false → has_lf out.new.items ≡ false }
@@ -32,7 +34,7 @@ pub fn escape_into(bytes: &[u8], out: &mut Text) -> usize
 /// Appends the escape of one byte, if it fits whole.
 #[tactic(auto, unfolding(percent_encoding::specs::Percent::percent_encode_byte))]
 fn push_escape(byte: u8, out: &mut Text) -> bool
-    ensures fits { IsTrue result ↔ (length out.old.items + length (escape_of byte) ≤ 1000) }
+    ensures fits { IsTrue result ↔ (length out.old.items + length (escape_of byte) ≤ MAX_LINE_LEN) }
     ensures written { OnTrue result (out.new.items ≡ out.old.items ++ escape_of byte) }
     ensures refused { OnFalse result (out.new.items ≡ out.old.items) }
 {

@@ -1,12 +1,14 @@
 //! Bytes as one line of the Assuan protocol can hold them: escaped, and as hexadecimal digits. No call takes memory.
 #![tactic(auto)]
 
+mod data_lines;
 mod escaping;
 mod hexadecimal;
 #[cfg(test)]
 mod tests;
 mod unescaping;
 
+pub use data_lines::{data_lines_are_the_only_ones, data_of, full_line};
 pub use escaping::{escape_into, escapes_are_undone};
 pub use hexadecimal::upper_hex;
 pub use unescaping::unescape;

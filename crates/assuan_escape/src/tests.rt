@@ -39,6 +39,7 @@ fn escapes_fit_whole(rt: HostRuntime) -> Result<(), Fail> {
     let (text, taken) = escaped_after(&[b'a'; 998], b"b\nc")?;
     assert_eq!(rt; (text.len(), taken), (999, 1));
     escapes_are_undone();
+    data_lines_are_the_only_ones();
     Ok(())
 }
 

@@ -5,6 +5,7 @@ use Rattle.std.proofs.lemmas.Bool.{cases_lt}
 use Rattle.std.specs.List.{flat_map}
 use Rattle.agent_ports.specs.Sides.{Side}
 use Rattle.agent_ports.specs.declared.link.Sent.TheVariants.{All}
+use Rattle.assuan_escape.specs.DataLines.{carried}
 use Rattle.assuan_line.specs.Next.{Reader, ended_by}
 use Rattle.assuan_line.specs.Reading.{HasRead}
 use Rattle.assuan_line.specs.Skipping.{ReadsOn}
@@ -15,7 +16,7 @@ use Rattle.assuan_line.proofs.ReadingOn.{read_so}
 use Rattle.assuan_server.specs.Asking.{Gather, Inquire}
 use Rattle.assuan_server.specs.Connections.{Connection}
 use Rattle.assuan_server.specs.Failures.{IsAnswer}
-use Rattle.assuan_server.specs.Inquiries.{Outcome, Data, TooMuch, Cancelled, Unexpected, Ended, TooLong, Spent, ReadFault, IsAtEnd, IsWord, Answers, ComesTo, can, end, past, foreign, ended, too_long, spent, read_fault, ended_of, carried, is_passing}
+use Rattle.assuan_server.specs.Inquiries.{Outcome, Data, TooMuch, Cancelled, Unexpected, Ended, TooLong, Spent, ReadFault, IsAtEnd, IsWord, Answers, ComesTo, can, end, past, foreign, ended, too_long, spent, read_fault, ended_of, is_passing}
 use Rattle.assuan_server.specs.Written.{HasWritten}
 
 -- a line was written, and then lines were read

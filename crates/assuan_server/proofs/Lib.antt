@@ -1,5 +1,4 @@
 mod ErrorLines
 mod Inquiring
-mod OnlyData
 mod OnlyOutcome
 mod Writing

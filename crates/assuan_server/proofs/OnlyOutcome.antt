@@ -7,7 +7,8 @@ use Rattle.assuan_line.specs.Skipping.{ReadsAfter}
 use Rattle.assuan_line.specs.declared.reader.Took.{Took}
 use Rattle.assuan_line.specs.declared.reader.Took.TheVariants as took
 use Rattle.assuan_line.proofs.OnlyReading.{only_reading}
-use Rattle.assuan_server.specs.Inquiries.{IsWord, Outcome, ComesTo, Inquiry, IsClosed, is_passing, carried}
+use Rattle.assuan_escape.specs.DataLines.{carried}
+use Rattle.assuan_server.specs.Inquiries.{IsWord, Outcome, ComesTo, Inquiry, IsClosed, is_passing}
 
 -- a line closed the inquiry
 closes : {limit : ℕ} {bytes : List ℕ} {answer : Took} {outcome : Outcome} → ComesTo limit bytes answer outcome → IsClosed outcome → (line : List ℕ) × (answer ≡ took.Line line)

@@ -1,19 +1,16 @@
 -- A write of data lines that is under way.
-use Rattle.std.proofs.Common.{◌≡◌, ℕ, ◌+◌, ◌-◌, ◌^◌, ◌<◌, ◌≤◌, min, List, [], ◌∷◌, ◌++◌, length, take, drop, get_or, Option, Some, None, refl, ap, sym, ◌∙◌, subst, arith, append_assoc, append-nil, length-append, length-drop}
-use Rattle.std.proofs.lemmas.List.{take-append-drop, length-take-le, length_push, drop_more}
+use Rattle.std.proofs.Common.{◌≡◌, ℕ, ◌+◌, ◌-◌, ◌^◌, ◌≤◌, min, List, [], ◌∷◌, ◌++◌, length, take, drop, Option, Some, None, refl, ap, sym, ◌∙◌, subst, arith, append_assoc, append-nil, length-append}
+use Rattle.std.proofs.lemmas.List.{length_push}
 use Rattle.std.proofs.lemmas.List.Concat.{flat_map-append}
-use Rattle.std.proofs.lemmas.List.Elements.{All-cons, All-head}
 use Rattle.agent_ports.specs.Sides.{with_bytes}
 use Rattle.agent_ports.proofs.Told.{with_bytes-append}
 use Rattle.agent_ports.specs.declared.link.Sent.{Sent}
 use Rattle.agent_ports.specs.declared.link.Sent.TheVariants.{All as Whole, Failed}
-use Rattle.assuan_escape.specs.Escapes.{escape_of}
 use Rattle.assuan_server.specs.Connections.{Connection}
-use Rattle.assuan_server.specs.DataLines.{data_line, IsFullBefore, IsPiece, AreData, data_text}
+use Rattle.assuan_escape.specs.DataLines.{data_line, AreData, data_text}
 use Rattle.assuan_text.specs.LineEnds.{line_of}
 use Rattle.assuan_line.specs.Written.{HasCut}
 use Rattle.assuan_server.specs.Written.{HasWritten}
-use Rattle.assuan_server.proofs.OnlyData.{pieces_of}
 
 -- the lines so far: whatever pieces the rest is sent in, they complete these
 pub record IsWriting (bytes : List ℕ) (before now : Connection) (rest : List ℕ) (sent : ℕ) : Type 0 where
@@ -46,22 +43,6 @@ writing_none bytes before = record {
   link = refl;
 }
 
--- a first piece, and pieces of what follows it
-with_piece : (rest : List ℕ) (count : ℕ) → 0 < count → count ≤ length rest → length (data_line (take count rest)) ≤ 1000 → (count < length rest → 1000 < length (data_line (take count rest)) + length (escape_of (get_or rest count 0))) → (later : List (List ℕ)) → AreData (drop count rest) later → AreData rest (take count rest ∷ later)
-with_piece rest count some within short full later are = record {
-  joined = ap (λ (x : List ℕ). take count rest ++ x) are.joined ∙ take-append-drop count rest;
-  each = All-cons IsPiece (take count rest) later (omega (arith, length-take-le count rest within), short) are.each;
-  full = (full_here later are, are.full);
-} where
-  full_here : (later : List (List ℕ)) → AreData (drop count rest) later → IsFullBefore (take count rest) later
-  full_here [] are = tt
-  full_here ([] ∷ more) are = absurd (omega (arith, (All-head IsPiece [] more are.each).0))
-  full_here ((byte ∷ next) ∷ more) are =
-      let inside : count < length rest = omega (arith, ap length are.joined, length-drop count rest) in
-      let next = drop_more rest count 0 inside in
-      let first : get_or rest count 0 ≡ byte = cc in
-      subst (λ (b : ℕ). 1000 < length (data_line (take count rest)) + length (escape_of b)) first (full inside)
-
 module _ (bytes : List ℕ) (before now : Connection) (rest : List ℕ) (sent : ℕ) (writing : IsWriting bytes before now rest sent) where
   -- nothing is left
   pub written_all : rest ≡ [] → (pieces : List (List ℕ)) × AreData bytes pieces × HasWritten (data_text pieces) before Whole now
@@ -72,7 +53,7 @@ module _ (bytes : List ℕ) (before now : Connection) (rest : List ℕ) (sent : 
     record { output = writing.output; faults = writing.faults; input = writing.input; reader = writing.reader; link = writing.link },
   )
 
-  module _ (count : ℕ) (some : 0 < count) (within : count ≤ length rest) (short : length (data_line (take count rest)) ≤ 1000) (full : count < length rest → 1000 < length (data_line (take count rest)) + length (escape_of (get_or rest count 0))) (after : Connection) where
+  module _ (count : ℕ) (first : (later : List (List ℕ)) → AreData (drop count rest) later → AreData rest (take count rest ∷ later)) (after : Connection) where
     text_more : data_text (writing.done ++ take count rest ∷ []) ≡ data_text writing.done ++ line_of (data_line (take count rest))
     text_more = flat_map-append (λ (piece : List ℕ). line_of (data_line piece)) writing.done (take count rest ∷ []) ∙ ap (λ (x : List ℕ). data_text writing.done ++ x) (append-nil (line_of (data_line (take count rest))))
 
@@ -82,7 +63,7 @@ module _ (bytes : List ℕ) (before now : Connection) (rest : List ℕ) (sent : 
       done = writing.done ++ take count rest ∷ [];
       completes = λ later are.
           subst (λ (x : List (List ℕ)). AreData bytes x) (sym (append_assoc writing.done (take count rest ∷ []) later))
-          (writing.completes (take count rest ∷ later) (with_piece rest count some within short full later are));
+          (writing.completes (take count rest ∷ later) (first later are));
       output = wrote.output ∙ ap (λ (o : Option (List ℕ)). with_bytes o (line_of (data_line (take count rest)))) writing.output
           ∙ with_bytes-append before.output.bytes (data_text writing.done) (line_of (data_line (take count rest)))
           ∙ ap (λ (x : List ℕ). with_bytes before.output.bytes x) (sym text_more);
@@ -94,17 +75,16 @@ module _ (bytes : List ℕ) (before now : Connection) (rest : List ℕ) (sent : 
     }
 
     -- the line was cut
-    pub written_cut : (part : ℕ) → HasWritten (line_of (data_line (take count rest))) now (Failed part) after → (pieces : List (List ℕ)) × AreData bytes pieces × HasWritten (data_text pieces) before (Failed (min (sent + part) (2 ^ 64 - 1))) after
-    written_cut part wrote =
+    pub written_cut : (part : ℕ) → (others : (later : List (List ℕ)) × AreData (drop count rest) later) → HasWritten (line_of (data_line (take count rest))) now (Failed part) after → (pieces : List (List ℕ)) × AreData bytes pieces × HasWritten (data_text pieces) before (Failed (min (sent + part) (2 ^ 64 - 1))) after
+    written_cut part later wrote =
         let cut : HasCut (line_of (data_line (take count rest))) now.output part after.output = wrote.output in
-        let later = pieces_of (drop count rest) in
         let whole : data_text (writing.done ++ take count rest ∷ later.0) ≡ (data_text writing.done ++ cut.sent) ++ (cut.unsent ++ data_text later.0) =
         flat_map-append (λ (piece : List ℕ). line_of (data_line piece)) writing.done (take count rest ∷ later.0)
         ∙ ap (λ (x : List ℕ). data_text writing.done ++ (x ++ data_text later.0)) cut.split
         ∙ ap (λ (x : List ℕ). data_text writing.done ++ x) (append_assoc cut.sent cut.unsent (data_text later.0))
         ∙ sym (append_assoc (data_text writing.done) cut.sent (cut.unsent ++ data_text later.0)) in (
           writing.done ++ take count rest ∷ later.0,
-          writing.completes (take count rest ∷ later.0) (with_piece rest count some within short full later.0 later.1),
+          writing.completes (take count rest ∷ later.0) (first later.0 later.1),
           record {
             output = record {
               sent = data_text writing.done ++ cut.sent;

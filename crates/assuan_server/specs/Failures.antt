@@ -3,8 +3,8 @@ use Rattle.std.specs.Prelude.{◌≡◌, ℕ, List, Option}
 use Rattle.assuan_line.specs.Next.{ended_by}
 use Rattle.assuan_line.specs.declared.reader.Took.{Took}
 use Rattle.assuan_server.specs.Inquiries.{Outcome, Cancelled, Unexpected, Ended, TooLong, Spent, ReadFault, ComesTo, Answers, ended_of}
-use Rattle.assuan_server.specs.declared.inquiry.Failure.{Failure}
-use Rattle.assuan_server.specs.declared.inquiry.Failure.TheVariants as failure
+use Rattle.assuan_server.specs.declared.inquiry.failure.Failure.{Failure}
+use Rattle.assuan_server.specs.declared.inquiry.failure.Failure.TheVariants as failure
 
 abbrev pub without : Failure → Outcome
 without failure.Cancelled = Cancelled

@@ -1,10 +1,10 @@
 -- Inquiries, as the Assuan manual has them ("server responses", INQUIRE): the client answers with data lines and END, or with
 -- CAN. What passes between these, and what becomes of any other line, is this project's own rule.
-use Rattle.std.specs.Prelude.{◌≡◌, ◌<◌, ◌≤◌, ◌==◌, ◌||◌, Bool, false, ℕ, List, [], ◌++◌, length, drop, map, codes, if◌then◌else◌, Option, Some, None}
+use Rattle.std.specs.Prelude.{◌≡◌, ◌<◌, ◌≤◌, ◌==◌, ◌||◌, Bool, ℕ, List, [], ◌++◌, length, map, codes, if◌then◌else◌, Option, Some, None}
 use Rattle.std.specs.List.{flat_map, before_first}
 use Rattle.std.specs.Char.{to_ascii_lowercase}
 use Rattle.assuan_text.specs.Forms.{is_data, is_idle}
-use Rattle.assuan_escape.specs.Escapes.{unescaped}
+use Rattle.assuan_escape.specs.DataLines.{carried}
 use Rattle.assuan_line.specs.Next.{Reader}
 use Rattle.assuan_line.specs.Skipping.{ReadsAfter}
 use Rattle.assuan_line.specs.declared.reader.Took.{Took}
@@ -14,17 +14,11 @@ use Rattle.assuan_server.specs.declared.inquiry.Inquired.{Inquired}
 use Rattle.assuan_server.specs.declared.inquiry.Inquired.TheVariants as inquired
 use Rattle.assuan_server.specs.declared.inquiry.InquiredSecret.{InquiredSecret}
 use Rattle.assuan_server.specs.declared.inquiry.InquiredSecret.TheVariants as inquired_secret
-use Rattle.assuan_server.specs.declared.closing.Closing.{Closing}
-use Rattle.assuan_server.specs.declared.closing.Closing.TheVariants as closing
 
 -- the line that asks the client
 abbrev pub inquire_text : List ℕ → List ℕ → List ℕ
 inquire_text word params =
     if length params == 0 then codes "INQUIRE " ++ word else codes "INQUIRE " ++ word ++ codes " " ++ params
-
--- the bytes that a line carries
-abbrev pub carried : List ℕ → List ℕ
-carried line = if is_data line then unescaped false (drop 2 line) else []
 
 -- a line that an inquiry reads past
 abbrev pub is_passing : List ℕ → Bool
@@ -117,9 +111,3 @@ Answers None outcome = IsAtEnd outcome
 abbrev pub IfData : Inquired → (List ℕ → Type 0) → Type 0
 IfData (inquired.Data bytes) P = P bytes.items
 IfData _ P = Unit {0}
-
--- what a line that doesn't pass is
-abbrev pub IsClosing : List ℕ → Closing → Type 0
-IsClosing line closing.End = IsWord (codes "end") line
-IsClosing line closing.Cancel = IsWord (codes "can") line
-IsClosing line closing.Foreign = (IsWord (codes "can") line → ⊥) × (IsWord (codes "end") line → ⊥)

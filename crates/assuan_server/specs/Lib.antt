@@ -1,7 +1,6 @@
 pub mod Asking
 pub mod Buffers
 pub mod Connections
-pub mod DataLines
 pub mod Errors
 pub mod Failures
 pub mod Inquiries

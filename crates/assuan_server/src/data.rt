@@ -1,13 +1,10 @@
-ghost use Rattle.std.specs.Prelude.{◌≡◌, false, ◌≤◌, ◌<◌, ◌+◌, ℕ, List, length, take, slice_index};
-ghost use Rattle.assuan_text.specs.LineEnds.{has_lf};
-ghost use Rattle.assuan_escape.specs.Escapes.{escape_of};
-ghost use Rattle.assuan_server.specs.DataLines.{data_line, AreData, data_text};
+ghost use Rattle.std.specs.Prelude.{ℕ, List};
+ghost use Rattle.assuan_escape.specs.DataLines.{AreData, data_text};
 ghost use Rattle.assuan_server.specs.Written.{HasWritten};
 
 use crate::conn::Conn;
 use agent_ports::{Link, Sent};
-use assuan_escape::escape_into;
-use assuan_text::Text;
+use assuan_escape::full_line;
 use wiping::wipe;
 
 impl<'a, L: Link> Conn<'a, L> {
@@ -37,24 +34,3 @@ impl<'a, L: Link> Conn<'a, L> {
         Sent::All
     }
 }
-
-/// A data line with as many of these bytes as it can hold, and how many these are.
-fn full_line(bytes: &[u8]) -> (Text, usize)
-    requires { 0 < length bytes.now }
-    ensures some { 0 < result.1 }
-    ensures within { result.1 ≤ length bytes.now }
-    ensures text { result.0.items ≡ data_line (take result.1 bytes.now) }
-    ensures one_line { has_lf result.0.items ≡ false }
-    ensures full { result.1 < length bytes.now
-        → 1000 < length result.0.items + length (escape_of (slice_index bytes.now result.1)) }
-{
-    let mut line = Text::new();
-    line.try_extend_from_slice(b"D ").unwrap();
-    let count = escape_into(bytes, &mut line);
-    (line, count)
-}
-
-/// A law: the bytes are sent in one list of data lines, and in no other.
-pub fn data_lines_are_the_only_ones()
-    ensures { (bytes : List ℕ) → (pieces others : List (List ℕ)) → AreData bytes pieces → AreData bytes others → pieces ≡ others }
-{}

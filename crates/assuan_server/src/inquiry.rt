@@ -4,21 +4,23 @@ ghost use Rattle.assuan_line.specs.Lines.{IsLine};
 ghost use Rattle.assuan_line.specs.Next.{Reader};
 ghost use Rattle.assuan_line.specs.Skipping.{ReadsOn};
 ghost use Rattle.assuan_text.specs.LineEnds.{line_of};
+ghost use Rattle.assuan_escape.specs.DataLines.{carried};
 ghost use Rattle.assuan_server.specs.Asking.{Gather, Inquire, IsNotAsked};
 ghost use Rattle.assuan_server.specs.Buffers.{IsVecOf, IsSecretOf};
 ghost use Rattle.assuan_server.specs.Connections.{IsOpen};
-ghost use Rattle.assuan_server.specs.Inquiries.{inquire_text, Inquiry, Outcome, ComesTo, IsWord, IfData, IsClosed, outcome_of, outcome_of_secret, carried, is_passing};
-ghost use Rattle.assuan_server.specs.Failures.{without, IsAnswer};
+ghost use Rattle.assuan_server.specs.Inquiries.{inquire_text, Inquiry, Outcome, ComesTo, IsWord, IfData, IsClosed, outcome_of, outcome_of_secret, is_passing};
+ghost use Rattle.assuan_server.specs.Failures.{IsAnswer};
 ghost use Rattle.assuan_server.specs.Written.{HasWritten};
 
 mod buffer;
+mod failure;
 
-use crate::closing::{Closing, closing_of};
 use crate::conn::Conn;
 use agent_ports::{Link, Sent};
 use assuan_line::Took;
 use buffer::{Buffer, InquiryLines, Overflow, SecretBuffer, VecBuffer};
 use cache_policy::Secret;
+use failure::end_of;
 use std::alloc::Global;
 
 /// What an inquiry came to. After `Ended`, `TooLong`, `Spent` and `ReadFault` no more is read.
@@ -58,55 +60,6 @@ pub enum InquiredSecret {
     Spent,
     ReadFault,
     WriteFault,
-}
-
-/// Why an inquiry brought no bytes.
-#[derive(Clone, Copy, Debug, PartialEq, Eq)]
-enum Failure {
-    Cancelled,
-    Unexpected,
-    Ended,
-    TooLong,
-    Spent,
-    ReadFault,
-}
-
-impl From<Failure> for Inquired {
-    ghost use Rattle.std.specs.Prelude.{◌≡◌, Some};
-    ghost use Rattle.assuan_server.specs.Inquiries.{outcome_of};
-    ghost use Rattle.assuan_server.specs.Failures.{without};
-
-    ghost from_gives = { λ failure answer. outcome_of answer ≡ Some (without failure) };
-
-    fn from(failure: Failure) -> Inquired {
-        match failure {
-            Failure::Cancelled => Inquired::Cancelled,
-            Failure::Unexpected => Inquired::Unexpected,
-            Failure::Ended => Inquired::Ended,
-            Failure::TooLong => Inquired::TooLong,
-            Failure::Spent => Inquired::Spent,
-            Failure::ReadFault => Inquired::ReadFault,
-        }
-    }
-}
-
-impl From<Failure> for InquiredSecret {
-    ghost use Rattle.std.specs.Prelude.{◌≡◌, Some};
-    ghost use Rattle.assuan_server.specs.Inquiries.{outcome_of_secret};
-    ghost use Rattle.assuan_server.specs.Failures.{without};
-
-    ghost from_gives = { λ failure answer. outcome_of_secret answer ≡ Some (without failure) };
-
-    fn from(failure: Failure) -> InquiredSecret {
-        match failure {
-            Failure::Cancelled => InquiredSecret::Cancelled,
-            Failure::Unexpected => InquiredSecret::Unexpected,
-            Failure::Ended => InquiredSecret::Ended,
-            Failure::TooLong => InquiredSecret::TooLong,
-            Failure::Spent => InquiredSecret::Spent,
-            Failure::ReadFault => InquiredSecret::ReadFault,
-        }
-    }
 }
 
 impl<'a, L: Link> Conn<'a, L> {
@@ -189,24 +142,6 @@ pub fn inquiries_come_to_one_outcome()
         → Inquiry limit bytes took outcome after left → Inquiry limit bytes other_took other later rest
         → (outcome ≡ other) × (after.ahead ++ left ≡ later.ahead ++ rest) }
 {}
-
-/// Whether the answer after an inquiry's data lines is END, or why the inquiry brought no bytes.
-fn end_of(took: Took) -> Result<(), Failure>
-    ensures end { OnOk result ((line : List ℕ) × (took ≡ Took.Line line) × IsWord (codes "end") line) }
-    ensures failure { IfErr result (λ failure. (limit : ℕ) (bytes : List ℕ) → ComesTo limit bytes took (without failure)) }
-{
-    match took {
-        Took::Line(line) => match closing_of(line.bytes()) {
-            Closing::End => Ok(()),
-            Closing::Cancel => Err(Failure::Cancelled),
-            Closing::Foreign => Err(Failure::Unexpected),
-        },
-        Took::TooLong => Err(Failure::TooLong),
-        Took::End => Err(Failure::Ended),
-        Took::Spent => Err(Failure::Spent),
-        Took::ReadFault => Err(Failure::ReadFault),
-    }
-}
 
 /// What an inquiry comes to whose bytes are kept so, by the answer after its data lines.
 fn collected(took: Took, buffer: VecBuffer) -> Inquired

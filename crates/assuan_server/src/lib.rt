@@ -1,7 +1,6 @@
 //! One connection of a server to its client: the lines that it writes, the requests that it reads, and inquiries.
 #![tactic(auto)]
 
-mod closing;
 mod conn;
 mod data;
 mod errors;
@@ -9,7 +8,6 @@ mod inquiry;
 mod request;
 
 pub use conn::Conn;
-pub use data::data_lines_are_the_only_ones;
 pub use errors::{Code, Origin};
 pub use inquiry::{Inquired, InquiredSecret, inquiries_come_to_one_outcome};
 pub use request::requests_are_the_only_ones;

@@ -1,7 +1,7 @@
 ghost use Rattle.std.specs.Prelude.{◌≡◌, ◌≤◌, ◌<◌, ◌++◌, [], false, ℕ, List, length, vec_len, MatchOption};
 ghost use Rattle.assuan_server.specs.Buffers.{IsVecOf, IsSecretOf};
 
-use crate::closing::data_of;
+use assuan_escape::data_of;
 use assuan_line::{Line, LineFilter};
 use assuan_text::is_idle;
 use cache_policy::Secret;
@@ -29,7 +29,8 @@ pub(crate) struct InquiryLines<B: Drop> {
 
 impl<B: Buffer + Drop> LineFilter for InquiryLines<B> {
     ghost use Rattle.std.specs.List.{flat_map};
-    ghost use Rattle.assuan_server.specs.Inquiries.{is_passing, carried};
+    ghost use Rattle.assuan_escape.specs.DataLines.{carried};
+    ghost use Rattle.assuan_server.specs.Inquiries.{is_passing};
 
     ghost skips = { λ _ line. is_passing line };
 

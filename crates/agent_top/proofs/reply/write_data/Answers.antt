@@ -1,6 +1,6 @@
 use Rattle.std.proofs.Common.{refl}
 use Rattle.std.proofs.lemmas.Result.{err_from_is_err_and}
-use Rattle.assuan_server.specs.DataLines.{data_text}
+use Rattle.assuan_escape.specs.DataLines.{data_text}
 use Rattle.agent_top.specs.Exchanges.{ok}
 use Rattle.agent_top.proofs.Saying.{said_then, said_first}
 use Rattle.agent_top.proofs.reply.write_data.Goals as goal

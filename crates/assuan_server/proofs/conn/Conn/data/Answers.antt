@@ -1,25 +1,23 @@
-use Rattle.std.proofs.Common.{◌≡◌, ◌∙◌, ◌≤◌, length, take, arith, ap, sym, List, ℕ}
+use Rattle.std.proofs.Common.{◌≡◌, ◌∙◌, length, take, ap, sym, List, ℕ}
 use Rattle.std.proofs.lemmas.Bool.{eqb-true}
 use Rattle.std.proofs.lemmas.List.{nil_from_length}
-use Rattle.assuan_server.specs.DataLines.{data_line}
+use Rattle.assuan_escape.specs.DataLines.{data_line}
 use Rattle.assuan_server.proofs.Writing.{written_alone, writing_more, written_all, written_cut}
 use Rattle.assuan_server.proofs.conn.Conn.data.Goals as goal
 
 pub returns-in-Failed : goal.returns-in-Failed
 returns-in-Failed g c =
     let line = c.full_line-line.ensures in
-    let short : length (data_line (take c.full_line-line.result.1 c.loop-rest.rest.now)) ≤ 1000 = omega (arith, ap (λ (x : List ℕ). length x) line.text, c.len-whole.ensures.value, c.len-whole.ensures.fits) in
     rw c.saturating_add.ensures
-    (written_cut c.args.bytes.now c.args.self.now c.loop-rest.self c.loop-rest.rest.now c.loop-rest.sent c.loop-rest.invariant c.full_line-line.result.1 line.some line.within short (rw line.text at line.full) c.say-said.new.self c.in-Failed.part
+    (written_cut c.args.bytes.now c.args.self.now c.loop-rest.self c.loop-rest.rest.now c.loop-rest.sent c.loop-rest.invariant c.full_line-line.result.1 line.first c.say-said.new.self c.in-Failed.part line.others
     (written_alone (data_line (take c.full_line-line.result.1 c.loop-rest.rest.now)) (rw (c.deref.ensures.0, line.text) at c.in-Failed.ensures)))
 
 pub loop-rest-preserved : goal.loop-rest-preserved
 loop-rest-preserved g c =
     let line = c.full_line-line.ensures in
-    let short : length (data_line (take c.full_line-line.result.1 c.loop-rest.rest.now)) ≤ 1000 = omega (arith, ap (λ (x : List ℕ). length x) line.text, c.len-whole.ensures.value, c.len-whole.ensures.fits) in
     let len : c.len-whole.result ≡ length (data_line (take c.full_line-line.result.1 c.loop-rest.rest.now)) = c.len-whole.ensures.value ∙ ap (λ (x : List ℕ). length x) line.text in
     rw (c.split_at.ensures.back, c.saturating_add-sent.ensures, len)
-    (writing_more c.args.bytes.now c.args.self.now c.loop-rest.self c.loop-rest.rest.now c.loop-rest.sent c.loop-rest.invariant c.full_line-line.result.1 line.some line.within short (rw line.text at line.full) c.say-said.new.self
+    (writing_more c.args.bytes.now c.args.self.now c.loop-rest.self c.loop-rest.rest.now c.loop-rest.sent c.loop-rest.invariant c.full_line-line.result.1 line.first c.say-said.new.self
     (written_alone (data_line (take c.full_line-line.result.1 c.loop-rest.rest.now)) (rw (c.deref.ensures.0, line.text) at c.in-All.ensures)))
 
 pub returns : goal.returns

@@ -1,13 +1,13 @@
 -- There is one list of data lines for any bytes, and no other.
-use Rattle.std.proofs.Common.{◌≡◌, ℕ, ◌+◌, ◌<◌, ◌≤◌, List, [], ◌∷◌, ◌++◌, length, take, drop, get_or, All, refl, ap, sym, ◌∙◌, subst, arith, append_assoc, append-nil, length-append, ⊎_elim, inl, inr}
+use Rattle.std.proofs.Common.{◌≡◌, ℕ, ◌+◌, ◌<◌, ◌≤◌, List, [], ◌∷◌, ◌++◌, length, take, drop, get_or, All, refl, ap, sym, ◌∙◌, subst, arith, append_assoc, append-nil, length-append, length-drop, ⊎_elim, inl, inr}
 use Rattle.std.specs.List.{flat_map}
 use Rattle.std.proofs.lemmas.Bool.{cases_Bool, cond-true, cond-false, cases_lt}
-use Rattle.std.proofs.lemmas.List.{take-append-drop, take-append-le, append_cancel_left}
+use Rattle.std.proofs.lemmas.List.{take-append-drop, take-append-le, append_cancel_left, length-take-le, drop_more}
 use Rattle.std.proofs.lemmas.List.Concat.{flat_map-append}
 use Rattle.std.proofs.lemmas.List.Elements.{All-head, All-tail, All-cons}
 use Rattle.std.proofs.Math.Seq.{take-append_seam, take-append-add}
 use Rattle.assuan_escape.specs.Escapes.{is_escaped, hex_digits, escape_of, escapes}
-use Rattle.assuan_server.specs.DataLines.{data_line, IsFullBefore, AreFull, IsPiece, AreData}
+use Rattle.assuan_escape.specs.DataLines.{data_line, IsFullBefore, AreFull, IsPiece, AreData}
 
 joined_of : List (List ℕ) → List ℕ
 joined_of pieces = flat_map (λ piece. piece) pieces
@@ -117,3 +117,19 @@ pieces_of [] = ([], record { joined = refl; each = λ k d h. absurd (omega arith
 pieces_of (byte ∷ bytes) =
     let has = pieces_from byte [] bytes (omega (arith, length-escape_of byte, ap length (append-nil (escape_of byte)))) in
     (has.pieces, has.is)
+
+-- a first piece, and pieces of what follows it
+pub with_piece : (rest : List ℕ) (count : ℕ) → 0 < count → count ≤ length rest → length (data_line (take count rest)) ≤ 1000 → (count < length rest → 1000 < length (data_line (take count rest)) + length (escape_of (get_or rest count 0))) → (later : List (List ℕ)) → AreData (drop count rest) later → AreData rest (take count rest ∷ later)
+with_piece rest count some within short full later are = record {
+  joined = ap (λ (x : List ℕ). take count rest ++ x) are.joined ∙ take-append-drop count rest;
+  each = All-cons IsPiece (take count rest) later (omega (arith, length-take-le count rest within), short) are.each;
+  full = (full_here later are, are.full);
+} where
+  full_here : (later : List (List ℕ)) → AreData (drop count rest) later → IsFullBefore (take count rest) later
+  full_here [] are = tt
+  full_here ([] ∷ more) are = absurd (omega (arith, (All-head IsPiece [] more are.each).0))
+  full_here ((byte ∷ next) ∷ more) are =
+      let inside : count < length rest = omega (arith, ap length are.joined, length-drop count rest) in
+      let next = drop_more rest count 0 inside in
+      let first : get_or rest count 0 ≡ byte = cc in
+      subst (λ (b : ℕ). 1000 < length (data_line (take count rest)) + length (escape_of b)) first (full inside)

@@ -1,13 +1,5 @@
-use Rattle.assuan_server.specs.Inquiries.{can, foreign, ended, too_long, spent, read_fault}
-use Rattle.assuan_server.proofs.inquiry.end_of.Goals as goal
-
-pub returns-in-Cancel-clause-failure : goal.returns-in-Cancel-clause-failure
-returns-in-Cancel-clause-failure c = λ limit bytes. rw c.in-Line.is (can (rw c.bytes.ensures.bytes at c.in-Cancel.ensures))
-
-pub returns-in-Foreign-clause-failure : goal.returns-in-Foreign-clause-failure
-returns-in-Foreign-clause-failure c = λ limit bytes.
-    let neither = rw c.bytes.ensures.bytes at c.in-Foreign.ensures in
-    rw c.in-Line.is (foreign neither.0 neither.1)
+use Rattle.assuan_server.specs.Inquiries.{ended, too_long, spent, read_fault}
+use Rattle.assuan_server.proofs.inquiry.failure.end_of.Goals as goal
 
 pub returns-in-TooLong-clause-failure : goal.returns-in-TooLong-clause-failure
 returns-in-TooLong-clause-failure c = λ limit bytes. rw c.in-TooLong.is too_long

@@ -1,0 +1,42 @@
+ghost use Rattle.std.specs.Prelude.{◌≡◌, ◌≤◌, ◌<◌, ◌∷◌, ℕ, List, true, false, length, take, drop, MatchOption};
+ghost use Rattle.assuan_text.specs.declared.TheConstants.{MAX_LINE_LEN};
+ghost use Rattle.assuan_text.specs.Forms.{is_data};
+ghost use Rattle.assuan_text.specs.LineEnds.{has_lf};
+ghost use Rattle.assuan_escape.specs.DataLines.{data_line, AreData, carried};
+
+use crate::{escape_into, unescape};
+use assuan_text::{Text, escaped_part};
+
+/// The first data line of these bytes, which has as many of them as it can hold, and how many these are.
+pub fn full_line(bytes: &[u8]) -> (Text, usize)
+    requires { 0 < length bytes.now }
+    ensures some { 0 < result.1 }
+    ensures within { result.1 ≤ length bytes.now }
+    ensures text { result.0.items ≡ data_line (take result.1 bytes.now) }
+    ensures one_line { has_lf result.0.items ≡ false }
+
+    // The data lines of the other bytes complete it, and there are some.
+    ensures first { (later : List (List ℕ)) → AreData (drop result.1 bytes.now) later
+        → AreData bytes.now (take result.1 bytes.now ∷ later) }
+    ensures others { (later : List (List ℕ)) × AreData (drop result.1 bytes.now) later }
+{
+    let mut line = Text::new();
+    line.try_extend_from_slice(b"D ").unwrap();
+    let count = escape_into(bytes, &mut line);
+    (line, count)
+}
+
+/// The bytes that a data line carries. `None` for any other line.
+pub fn data_of(line: &[u8]) -> Option<Text>
+    requires { length line.now ≤ MAX_LINE_LEN }
+    ensures { MatchOption result (is_data line.now ≡ false)
+        (λ text. (is_data line.now ≡ true) × (text.items ≡ carried line.now)) }
+{
+    Some(unescape(escaped_part(line)?, false))
+}
+
+/// A law: any bytes are sent in one list of data lines, and in no other.
+pub fn data_lines_are_the_only_ones()
+    ensures some { (bytes : List ℕ) → (pieces : List (List ℕ)) × AreData bytes pieces }
+    ensures only { (bytes : List ℕ) (pieces others : List (List ℕ)) → AreData bytes pieces → AreData bytes others → pieces ≡ others }
+{}
