@@ -3,3 +3,6 @@ mod Answered
 mod Parts
 mod Pieces
 pub mod Places
+pub mod OnlyReading
+pub mod ReadingOn
+mod Sending

@@ -1,3 +1,6 @@
 pub mod Lines
 pub mod Next
+pub mod Reading
+pub mod Skipping
 pub mod Stops
+pub mod Written

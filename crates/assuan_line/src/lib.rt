@@ -1,12 +1,16 @@
 //! Lines of the Assuan protocol: read from bytes in whatever pieces they come, and written whole.
 #![tactic(auto)]
 
+mod filter;
 mod line;
 mod reader;
+mod text;
 mod writer;
 
+pub use filter::{LineFilter, next_after_skipped};
 pub use line::Line;
 pub use reader::{LineReader, MAX_AHEAD, Took, lines_come_in_order};
+pub use text::write_text;
 pub use writer::write_line;
 
 #[cfg(test)]
