@@ -4,3 +4,6 @@ mod Parts
 pub mod Places
 mod Reading
 mod Slices
+pub mod OnlyReading
+pub mod ReadingOn
+mod Sending

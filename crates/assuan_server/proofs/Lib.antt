@@ -1,5 +1,4 @@
-mod Beyond
 mod ErrorLines
-mod Sending
-mod Writing
+mod Inquiring
 mod OnlyOutcome
+mod Writing

@@ -4,11 +4,13 @@ use Rattle.std.proofs.lemmas.List.{length_push}
 use Rattle.std.proofs.lemmas.List.Concat.{flat_map-append}
 use Rattle.agent_ports.specs.Sides.{with_bytes}
 use Rattle.agent_ports.proofs.Told.{with_bytes-append}
+use Rattle.agent_ports.specs.declared.link.Sent.{Sent}
 use Rattle.agent_ports.specs.declared.link.Sent.TheVariants.{All as Whole, Failed}
 use Rattle.assuan_server.specs.Connections.{Connection}
 use Rattle.assuan_escape.specs.DataLines.{data_line, AreData, data_text}
 use Rattle.assuan_text.specs.LineEnds.{line_of}
-use Rattle.assuan_server.specs.Written.{HasCut, HasWritten}
+use Rattle.assuan_line.specs.Written.{HasCut}
+use Rattle.assuan_server.specs.Written.{HasWritten}
 
 -- the lines so far: whatever pieces the rest is sent in, they complete these
 pub record IsWriting (bytes : List ℕ) (before now : Connection) (rest : List ℕ) (sent : ℕ) : Type 0 where
@@ -20,6 +22,10 @@ pub record IsWriting (bytes : List ℕ) (before now : Connection) (rest : List �
   pub input : now.input ≡ before.input
   pub reader : now.reader ≡ before.reader
   pub link : now.link ≡ before.link
+
+-- a text alone is a line's parts
+pub written_alone : (text : List ℕ) {before after : Connection} {sent : Sent} → HasWritten (line_of (text ++ [])) before sent after → HasWritten (line_of text) before sent after
+written_alone text {before} {after} {sent} wrote = subst (λ (t : List ℕ). HasWritten (line_of t) before sent after) (append-nil text) wrote
 
 nothing_written : (o : Option (List ℕ)) → o ≡ with_bytes o []
 nothing_written None = refl

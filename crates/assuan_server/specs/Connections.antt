@@ -1,4 +1,5 @@
 -- A connection as contracts see it.
+use Rattle.std.specs.Prelude.{◌≡◌, None}
 use Rattle.std.specs.Borrow.{GName}
 use Rattle.agent_ports.specs.Sides.{Side}
 use Rattle.assuan_line.specs.Next.{Reader}
@@ -11,3 +12,7 @@ pub record Connection : Type 0 where
   pub output : Side
   -- what reads its lines
   pub reader : Reader
+
+-- its reader hasn't ended
+abbrev pub IsOpen : Connection → Type 0
+IsOpen conn = conn.reader.ended ≡ None

@@ -1,21 +1,19 @@
 -- Inquiries, as the Assuan manual has them ("server responses", INQUIRE): the client answers with data lines and END, or with
 -- CAN. What passes between these, and what becomes of any other line, is this project's own rule.
-use Rattle.std.specs.Prelude.{◌≡◌, ◌<◌, ◌≤◌, ◌==◌, ◌||◌, Bool, ℕ, List, ◌++◌, length, map, codes, if◌then◌else◌, Option, Some, None}
+use Rattle.std.specs.Prelude.{◌≡◌, ◌<◌, ◌≤◌, ◌==◌, ◌||◌, Bool, ℕ, List, [], ◌++◌, length, map, codes, if◌then◌else◌, Option, Some, None}
 use Rattle.std.specs.List.{flat_map, before_first}
 use Rattle.std.specs.Char.{to_ascii_lowercase}
 use Rattle.assuan_text.specs.Forms.{is_data, is_idle}
 use Rattle.assuan_escape.specs.DataLines.{carried}
 use Rattle.assuan_line.specs.Next.{Reader}
+use Rattle.assuan_line.specs.Skipping.{ReadsAfter}
 use Rattle.assuan_line.specs.declared.reader.Took.{Took}
 use Rattle.assuan_line.specs.declared.reader.Took.TheVariants as took
-use Rattle.assuan_server.specs.Passing.{Comes}
 use Rattle.assuan_text.specs.Blanks.{is_blank}
 use Rattle.assuan_server.specs.declared.inquiry.Inquired.{Inquired}
 use Rattle.assuan_server.specs.declared.inquiry.Inquired.TheVariants as inquired
 use Rattle.assuan_server.specs.declared.inquiry.InquiredSecret.{InquiredSecret}
 use Rattle.assuan_server.specs.declared.inquiry.InquiredSecret.TheVariants as inquired_secret
-use Rattle.assuan_server.specs.declared.closing.Closing.{Closing}
-use Rattle.assuan_server.specs.declared.closing.Closing.TheVariants as closing
 
 -- the line that asks the client
 abbrev pub inquire_text : List ℕ → List ℕ → List ℕ
@@ -52,12 +50,19 @@ pub data ComesTo (limit : ℕ) (bytes : List ℕ) : Took → Outcome → Type 0 
   spent : ComesTo limit bytes took.Spent Spent
   read_fault : ComesTo limit bytes took.ReadFault ReadFault
 
--- an inquiry over these bytes: what its lines came to, how the reader stands then, and what the source holds
-pub record Inquiry (limit : ℕ) (bytes : List ℕ) (outcome : Outcome) (after : Reader) (left : List ℕ) : Type 0 where
+-- an inquiry over these bytes: what its lines came to, the answer after them, how the reader stands then, and what the source holds
+pub record Inquiry (limit : ℕ) (bytes : List ℕ) (took : Took) (outcome : Outcome) (after : Reader) (left : List ℕ) : Type 0 where
   pub lines : List (List ℕ)
-  pub took : Took
-  pub comes : Comes is_passing bytes lines took after left
+  pub reads : ReadsAfter (λ before line. is_passing line) [] lines bytes took after left
   pub comes_to : ComesTo limit (flat_map carried lines) took outcome
+
+-- how the reader has ended by what an inquiry came to: a line closes it, and leaves the reader open
+abbrev pub ended_of : Outcome → Option Took
+ended_of Ended = Some took.End
+ended_of TooLong = Some took.TooLong
+ended_of Spent = Some took.Spent
+ended_of ReadFault = Some took.ReadFault
+ended_of _ = None
 
 -- a line of the client closed the inquiry
 abbrev pub IsClosed : Outcome → Type 0
@@ -73,52 +78,36 @@ IsAtEnd (Data bytes) = Unit {0}
 IsAtEnd TooMuch = Unit {0}
 IsAtEnd _ = ⊥
 
--- the answer says so. Where there was no memory for the bytes, END has another answer.
-abbrev pub Answers : Inquired → Outcome → Type 0
-Answers (inquired.Data bytes) outcome = outcome ≡ Data bytes.items
-Answers inquired.Cancelled outcome = outcome ≡ Cancelled
-Answers inquired.TooMuch outcome = outcome ≡ TooMuch
-Answers inquired.Unexpected outcome = outcome ≡ Unexpected
-Answers inquired.Ended outcome = outcome ≡ Ended
-Answers inquired.TooLong outcome = outcome ≡ TooLong
-Answers inquired.Spent outcome = outcome ≡ Spent
-Answers inquired.ReadFault outcome = outcome ≡ ReadFault
-Answers inquired.NoMemory outcome = IsAtEnd outcome
-Answers inquired.WriteFault outcome = ⊥
+-- What an answer says that the inquiry came to. It says nothing where there was no memory for the bytes, or nothing was read.
+abbrev pub outcome_of : Inquired → Option Outcome
+outcome_of (inquired.Data bytes) = Some (Data bytes.items)
+outcome_of inquired.Cancelled = Some Cancelled
+outcome_of inquired.TooMuch = Some TooMuch
+outcome_of inquired.Unexpected = Some Unexpected
+outcome_of inquired.Ended = Some Ended
+outcome_of inquired.TooLong = Some TooLong
+outcome_of inquired.Spent = Some Spent
+outcome_of inquired.ReadFault = Some ReadFault
+outcome_of inquired.NoMemory = None
+outcome_of inquired.WriteFault = None
 
-abbrev pub AnswersSecret : InquiredSecret → Outcome → Type 0
-AnswersSecret (inquired_secret.Secret secret) outcome = outcome ≡ Data secret
-AnswersSecret inquired_secret.Cancelled outcome = outcome ≡ Cancelled
-AnswersSecret inquired_secret.TooMuch outcome = outcome ≡ TooMuch
-AnswersSecret inquired_secret.Unexpected outcome = outcome ≡ Unexpected
-AnswersSecret inquired_secret.Ended outcome = outcome ≡ Ended
-AnswersSecret inquired_secret.TooLong outcome = outcome ≡ TooLong
-AnswersSecret inquired_secret.Spent outcome = outcome ≡ Spent
-AnswersSecret inquired_secret.ReadFault outcome = outcome ≡ ReadFault
-AnswersSecret inquired_secret.WriteFault outcome = ⊥
+abbrev pub outcome_of_secret : InquiredSecret → Option Outcome
+outcome_of_secret (inquired_secret.Secret secret) = Some (Data secret)
+outcome_of_secret inquired_secret.Cancelled = Some Cancelled
+outcome_of_secret inquired_secret.TooMuch = Some TooMuch
+outcome_of_secret inquired_secret.Unexpected = Some Unexpected
+outcome_of_secret inquired_secret.Ended = Some Ended
+outcome_of_secret inquired_secret.TooLong = Some TooLong
+outcome_of_secret inquired_secret.Spent = Some Spent
+outcome_of_secret inquired_secret.ReadFault = Some ReadFault
+outcome_of_secret inquired_secret.WriteFault = None
 
--- how the reader has ended by an answer
-abbrev pub ended_of : Inquired → Option Took
-ended_of inquired.Ended = Some took.End
-ended_of inquired.TooLong = Some took.TooLong
-ended_of inquired.Spent = Some took.Spent
-ended_of inquired.ReadFault = Some took.ReadFault
-ended_of _ = None
-
-abbrev pub ended_of_secret : InquiredSecret → Option Took
-ended_of_secret inquired_secret.Ended = Some took.End
-ended_of_secret inquired_secret.TooLong = Some took.TooLong
-ended_of_secret inquired_secret.Spent = Some took.Spent
-ended_of_secret inquired_secret.ReadFault = Some took.ReadFault
-ended_of_secret _ = None
+-- the answer of an inquiry that was read says so. Where there was no memory for the bytes, END was read.
+abbrev pub Answers : Option Outcome → Outcome → Type 0
+Answers (Some says) outcome = says ≡ outcome
+Answers None outcome = IsAtEnd outcome
 
 -- a fact of the bytes, where an answer has them
 abbrev pub IfData : Inquired → (List ℕ → Type 0) → Type 0
 IfData (inquired.Data bytes) P = P bytes.items
 IfData _ P = Unit {0}
-
--- what a line that doesn't pass is
-abbrev pub IsClosing : List ℕ → Closing → Type 0
-IsClosing line closing.End = IsWord (codes "end") line
-IsClosing line closing.Cancel = IsWord (codes "can") line
-IsClosing line closing.Foreign = (IsWord (codes "can") line → ⊥) × (IsWord (codes "end") line → ⊥)

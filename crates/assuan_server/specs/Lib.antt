@@ -1,7 +1,8 @@
+pub mod Asking
+pub mod Buffers
 pub mod Connections
 pub mod Errors
+pub mod Failures
 pub mod Inquiries
-pub mod Kept
-pub mod Passing
 pub mod Requests
 pub mod Written

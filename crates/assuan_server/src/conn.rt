@@ -1,25 +1,29 @@
-ghost use Rattle.std.specs.Prelude.{◌≡◌, ◌≤◌, ◌<◌, ◌+◌, ◌++◌, [], length, false, None};
-ghost use Rattle.agent_ports.specs.Counts.{Rose};
-ghost use Rattle.agent_ports.specs.Sides.{WhereTold};
-ghost use Rattle.assuan_text.specs.LineEnds.{has_lf};
+ghost use Rattle.std.specs.Prelude.{◌≡◌, ◌≤◌, [], length, false, None, Some, List, ℕ, OnSome};
+ghost use Rattle.std.specs.List.{flat_map};
 ghost use Rattle.assuan_line.specs.Lines.{IsLine};
-ghost use Rattle.assuan_line.specs.Next.{Tells, OnLine, held, ended_by};
-ghost use Rattle.assuan_server.specs.Requests.{IsNextRequest};
-ghost use Rattle.assuan_server.specs.Errors.{error_text};
+ghost use Rattle.assuan_text.specs.LineEnds.{has_lf};
+ghost use Rattle.assuan_line.specs.Reading.{HasRead};
+ghost use Rattle.assuan_line.specs.Skipping.{ReadsOn};
 ghost use Rattle.assuan_text.specs.LineEnds.{line_of};
-ghost use Rattle.assuan_server.specs.Written.{greeting, ok_text, status_text, comment_text, HasSent, HasWritten};
+ghost use Rattle.assuan_server.specs.Connections.{IsOpen};
+ghost use Rattle.assuan_server.specs.Requests.{NextRequest};
+ghost use Rattle.assuan_server.specs.Errors.{error_text};
+ghost use Rattle.assuan_server.specs.Written.{greeting, ok_text, status_text, comment_text, HasWritten};
 
 use crate::errors::{Code, Origin, error_text};
-use crate::passing::next_beyond;
 use crate::request::Ignored;
 use agent_ports::{Link, Sent};
-use assuan_line::{Line, LineReader, Took, write_line};
-use assuan_text::Text;
+use assuan_line::{LineFilter, LineReader, Took, next_after_skipped, write_text};
 use std::alloc::Global;
 use std::marker::Model;
 
 /// A server's connection to its client, over a link that it borrows: the server's side of the Assuan protocol (Assuan manual,
 /// "server responses" and "client requests"). Each line has at most 1,000 bytes before its line feed.
+///
+/// A session goes so: `greet` once, then `next_request` up to an answer that is no line. Each request is answered by any number
+/// of `status`, `comment` and `data`, and of inquiries where the client is to give something, and at last by one `ok` or `err`.
+/// Once a call has answered that the input ended, or that a line was too long, nothing is read any more. At the end `into_link`
+/// gives the link back.
 ///
 /// A call that writes answers how much of its lines went, and leaves the input alone. Contracts see the link's two sides and
 /// the reader of its lines.
@@ -71,7 +75,7 @@ impl<'a, L: Link> Conn<'a, L> {
     pub fn greet(&mut self) -> Sent
         ensures { HasWritten (line_of greeting) self.old result self.new }
     {
-        self.say(b"OK Pleased to meet you")
+        self.say(&[b"OK Pleased to meet you"])
     }
 
     /// Says that a command was carried out: `OK`, and the text behind a blank where it isn't empty.
@@ -81,19 +85,16 @@ impl<'a, L: Link> Conn<'a, L> {
         ensures { HasWritten (line_of (ok_text text.now)) self.old result self.new }
     {
         if text.is_empty() {
-            return self.say(b"OK");
+            return self.say(&[b"OK"]);
         }
-        let mut line = Text::new();
-        line.try_extend_from_slice(b"OK ").unwrap();
-        line.try_extend_from_slice(text).unwrap();
-        self.say(&line)
+        self.say(&[b"OK ", text])
     }
 
     /// Says that a command failed: `ERR`, the error's number, its description, and in angle brackets where it comes from.
     pub fn err(&mut self, code: Code, origin: Origin) -> Sent
         ensures { HasWritten (line_of (error_text code origin)) self.old result self.new }
     {
-        self.say(&error_text(code, origin))
+        self.say(&[&error_text(code, origin)])
     }
 
     /// Writes a status line, `S`, the word and the text, each behind a blank.
@@ -101,12 +102,7 @@ impl<'a, L: Link> Conn<'a, L> {
         requires { IsLine (status_text word.now text.now) }
         ensures { HasWritten (line_of (status_text word.now text.now)) self.old result self.new }
     {
-        let mut line = Text::new();
-        line.try_extend_from_slice(b"S ").unwrap();
-        line.try_extend_from_slice(word).unwrap();
-        line.push(b' ');
-        line.try_extend_from_slice(text).unwrap();
-        self.say(&line)
+        self.say(&[b"S ", word, b" ", text])
     }
 
     /// Writes a comment, `#` and the text behind a blank, which the client passes over.
@@ -114,70 +110,36 @@ impl<'a, L: Link> Conn<'a, L> {
         requires { IsLine (comment_text text.now) }
         ensures { HasWritten (line_of (comment_text text.now)) self.old result self.new }
     {
-        let mut line = Text::new();
-        line.try_extend_from_slice(b"# ").unwrap();
-        line.try_extend_from_slice(text).unwrap();
-        self.say(&line)
+        self.say(&[b"# ", text])
     }
 
     /// Reads the next request: the next line that isn't empty, nor nothing but blanks and tabs, nor a comment. It isn't
     /// split into words. After any answer but a line no more is read.
     pub fn next_request(&mut self) -> Took
-        requires { self.old.reader.ended ≡ None }
-        // What it says of the bytes, where the link tells them.
-        ensures request { WhereTold self.old.input.bytes self.new.input.bytes
-            (λ rest left. IsNextRequest (self.old.reader.ahead ++ rest) result self.new.reader left) }
-        // It takes no byte beyond its budget.
-        ensures budget { WhereTold self.old.input.bytes self.new.input.bytes
-            (λ rest left. length rest + self.new.reader.left ≡ length left + self.old.reader.left) }
+        requires { IsOpen self.old }
+        ensures { NextRequest self.old result self.new }
+    {
+        self.next_after(&mut Ignored)
+    }
 
-        // A line uses up a byte at least.
-        ensures progress { OnLine result (held self.new.reader < held self.old.reader) }
-
-        ensures spent { result ≡ Took.Spent → self.new.reader.left ≡ 0 }
-        ensures fault { result ≡ Took.ReadFault → Rose self.old.input.faults self.new.input.faults }
-        ensures faults { self.old.input.faults ≤ self.new.input.faults }
-        ensures ended { self.new.reader.ended ≡ ended_by result }
+    /// Reads on over the lines that the filter skips.
+    pub(crate) fn next_after<F: LineFilter>(&mut self, filter: &mut F) -> Took
+        requires { IsOpen self.old }
+        ensures read { (before : List (List ℕ)) → F.keeps filter.old before
+            → HasRead (ReadsOn F.skips before (F.keeps filter.new))
+            self.old.reader self.old.input result self.new.reader self.new.input }
+        ensures limit { F.limit filter.new ≡ F.limit filter.old }
         ensures output { self.new.output ≡ self.old.output }
         ensures link { self.new.link ≡ self.old.link }
     {
-        next_beyond(self, &mut Ignored)
+        next_after_skipped(&mut self.reader, self.link, filter)
     }
 
-    /// Reads the next line.
-    pub(crate) fn next_line(&mut self) -> Took
-        requires { self.old.reader.ended ≡ None }
-        ensures tells { WhereTold self.old.input.bytes self.new.input.bytes
-            (λ rest left. Tells self.old.reader rest result self.new.reader left) }
-        ensures budget { WhereTold self.old.input.bytes self.new.input.bytes
-            (λ rest left. length rest + self.new.reader.left ≡ length left + self.old.reader.left) }
-        ensures progress { OnLine result (held self.new.reader < held self.old.reader) }
-        ensures spent { result ≡ Took.Spent → self.new.reader.left ≡ 0 }
-        ensures fault { result ≡ Took.ReadFault → Rose self.old.input.faults self.new.input.faults }
-        ensures faults { self.old.input.faults ≤ self.new.input.faults }
-        ensures ended { self.new.reader.ended ≡ ended_by result }
-        ensures output { self.new.output ≡ self.old.output }
-        ensures link { self.new.link ≡ self.old.link }
+    /// Writes one line, whose text is the parts one behind another.
+    pub(crate) fn say(&mut self, parts: &[&[u8]]) -> Sent
+        requires { IsLine (flat_map (λ part. part.now) parts.now) }
+        ensures { HasWritten (line_of (flat_map (λ part. part.now) parts.now)) self.old result self.new }
     {
-        self.reader.next(self.link)
+        write_text(self.link, parts)
     }
-
-    /// Writes one line.
-    pub(crate) fn say(&mut self, text: &[u8]) -> Sent
-        requires { IsLine text.now }
-        ensures { HasWritten (line_of text.now) self.old result self.new }
-    {
-        put_line(self.link, text)
-    }
-}
-
-/// Writes one line to a link.
-fn put_line<L: Link>(link: &mut L, text: &[u8]) -> Sent
-    requires { IsLine text.now }
-    ensures sent { HasSent (line_of text.now) (L.output link.old) result (L.output link.new) }
-    ensures faults { (L.output link.old).faults ≤ (L.output link.new).faults }
-    ensures beside { L.input link.new ≡ L.input link.old }
-{
-    let line = Line::of(text).unwrap();
-    write_line(link, &line)
 }

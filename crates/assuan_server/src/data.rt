@@ -18,7 +18,7 @@ impl<'a, L: Link> Conn<'a, L> {
         while !rest.is_empty() {
             let (line, count) = full_line(rest);
             let whole = line.len() + 1;
-            match self.say(&line) {
+            match self.say(&[line.bytes()]) {
                 Sent::All => sent = sent.saturating_add(whole),
                 Sent::Failed { sent: part } => {
                     return Sent::Failed {

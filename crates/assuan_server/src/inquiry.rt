@@ -1,22 +1,26 @@
-ghost use Rattle.std.specs.Prelude.{◌≡◌, ◌≢◌, ◌≤◌, ◌<◌, ◌+◌, ◌++◌, ◌∷◌, [], ℕ, List, length, codes, None, Some, IfSome, IfNone, OnSome};
-ghost use Rattle.agent_ports.specs.Counts.{Rose};
-ghost use Rattle.agent_ports.specs.Sides.{with_bytes, WhereTold};
+ghost use Rattle.std.specs.Prelude.{◌≡◌, ◌≢◌, ◌≤◌, ◌∷◌, ◌++◌, [], ℕ, List, length, codes, None, Some, IfSome, IfNone, OnOk, IfErr, MatchResult};
+ghost use Rattle.std.specs.List.{flat_map};
 ghost use Rattle.assuan_line.specs.Lines.{IsLine};
-ghost use Rattle.assuan_line.specs.Next.{Reader, OnLine, held, ended_by};
-ghost use Rattle.assuan_server.specs.Passing.{Comes};
+ghost use Rattle.assuan_line.specs.Next.{Reader};
+ghost use Rattle.assuan_line.specs.Skipping.{ReadsOn};
 ghost use Rattle.assuan_text.specs.LineEnds.{line_of};
+ghost use Rattle.assuan_escape.specs.DataLines.{carried};
+ghost use Rattle.assuan_server.specs.Asking.{Gather, Inquire, IsNotAsked};
+ghost use Rattle.assuan_server.specs.Buffers.{IsVecOf, IsSecretOf};
+ghost use Rattle.assuan_server.specs.Connections.{IsOpen};
+ghost use Rattle.assuan_server.specs.Inquiries.{inquire_text, Inquiry, Outcome, ComesTo, IsWord, IfData, IsClosed, outcome_of, outcome_of_secret, is_passing};
+ghost use Rattle.assuan_server.specs.Failures.{IsAnswer};
 ghost use Rattle.assuan_server.specs.Written.{HasWritten};
-ghost use Rattle.assuan_server.specs.Kept.{Collects, Buffers};
-ghost use Rattle.assuan_server.specs.Inquiries.{inquire_text, Inquiry, Outcome, ComesTo, Answers, AnswersSecret, IsWord, IfData, IsClosed, ended_of, ended_of_secret};
 
-use crate::closing::{Closing, closing_of};
+mod buffer;
+mod failure;
+
 use crate::conn::Conn;
-use crate::kept::{Buffered, Collected, Room};
-use crate::passing::{Sieve, next_beyond};
 use agent_ports::{Link, Sent};
 use assuan_line::Took;
-use assuan_text::Text;
+use buffer::{Buffer, InquiryLines, Overflow, SecretBuffer, VecBuffer};
 use cache_policy::Secret;
+use failure::end_of;
 use std::alloc::Global;
 
 /// What an inquiry came to. After `Ended`, `TooLong`, `Spent` and `ReadFault` no more is read.
@@ -64,91 +68,57 @@ impl<'a, L: Link> Conn<'a, L> {
     ///
     /// At most `limit` bytes are kept. Bytes past it, and those for which there is no memory, are read and dropped.
     pub fn inquire(&mut self, alloc: Global, word: &[u8], params: &[u8], limit: usize) -> Inquired
-        requires going { self.old.reader.ended ≡ None }
+        requires going { IsOpen self.old }
         requires one_line { IsLine (inquire_text word.now params.now) }
-        // What the client's lines come to, where the link tells its bytes.
-        ensures inquiry { result ≢ Inquired.WriteFault → WhereTold self.old.input.bytes self.new.input.bytes
-            (λ rest left. (outcome : Outcome) × Inquiry limit (self.old.reader.ahead ++ rest) outcome self.new.reader left
-            × Answers result outcome) }
-        ensures written { result ≢ Inquired.WriteFault → self.new.output.bytes
-            ≡ with_bytes self.old.output.bytes (line_of (inquire_text word.now params.now)) }
-        ensures cut { result ≡ Inquired.WriteFault → (count : ℕ)
-            × HasWritten (line_of (inquire_text word.now params.now)) self.old (Sent.Failed count) self.new }
+        ensures inquiry { result ≢ Inquired.WriteFault
+            → Inquire limit (inquire_text word.now params.now) (outcome_of result) self.old self.new }
+        ensures cut { result ≡ Inquired.WriteFault → IsNotAsked (inquire_text word.now params.now) self.old self.new }
         ensures within { IfData result (λ bytes. length bytes ≤ limit) }
-        // It takes no byte beyond its budget.
-        ensures budget { WhereTold self.old.input.bytes self.new.input.bytes
-            (λ rest left. length rest + self.new.reader.left ≡ length left + self.old.reader.left) }
-        ensures spent { result ≡ Inquired.Spent → self.new.reader.left ≡ 0 }
-        ensures fault { result ≡ Inquired.ReadFault → Rose self.old.input.faults self.new.input.faults }
-        ensures input_faults { self.old.input.faults ≤ self.new.input.faults }
-        ensures output_faults { self.old.output.faults ≤ self.new.output.faults }
-        ensures progress { self.new.reader.ended ≡ None → held self.new.reader ≤ held self.old.reader }
-        ensures ended { self.new.reader.ended ≡ ended_of result }
-        ensures link { self.new.link ≡ self.old.link }
     {
-        let mut kept = Collected::new(alloc, limit);
-        match self.gather(word, params, &mut kept) {
-            Some(took) => collected(took, kept),
+        let mut lines = InquiryLines {
+            buffer: VecBuffer::new(alloc, limit),
+        };
+        match self.gather(word, params, &mut lines) {
+            Some(took) => collected(took, lines.buffer),
             None => Inquired::WriteFault,
         }
     }
 
     /// Asks the client for a passphrase of at most 255 bytes, as `inquire` does for bytes. It takes no memory.
     pub fn inquire_secret(&mut self, word: &[u8], params: &[u8]) -> InquiredSecret
-        requires going { self.old.reader.ended ≡ None }
+        requires going { IsOpen self.old }
         requires one_line { IsLine (inquire_text word.now params.now) }
-        // What the client's lines come to, where the link tells its bytes.
-        ensures inquiry { result ≢ InquiredSecret.WriteFault → WhereTold self.old.input.bytes self.new.input.bytes
-            (λ rest left. (outcome : Outcome) × Inquiry 255 (self.old.reader.ahead ++ rest) outcome self.new.reader left
-            × AnswersSecret result outcome) }
-        ensures written { result ≢ InquiredSecret.WriteFault → self.new.output.bytes
-            ≡ with_bytes self.old.output.bytes (line_of (inquire_text word.now params.now)) }
-        ensures cut { result ≡ InquiredSecret.WriteFault → (count : ℕ)
-            × HasWritten (line_of (inquire_text word.now params.now)) self.old (Sent.Failed count) self.new }
-        // It takes no byte beyond its budget.
-        ensures budget { WhereTold self.old.input.bytes self.new.input.bytes
-            (λ rest left. length rest + self.new.reader.left ≡ length left + self.old.reader.left) }
-        ensures spent { result ≡ InquiredSecret.Spent → self.new.reader.left ≡ 0 }
-        ensures fault { result ≡ InquiredSecret.ReadFault → Rose self.old.input.faults self.new.input.faults }
-        ensures input_faults { self.old.input.faults ≤ self.new.input.faults }
-        ensures output_faults { self.old.output.faults ≤ self.new.output.faults }
-        ensures progress { self.new.reader.ended ≡ None → held self.new.reader ≤ held self.old.reader }
-        ensures ended { self.new.reader.ended ≡ ended_of_secret result }
-        ensures link { self.new.link ≡ self.old.link }
+        ensures inquiry { result ≢ InquiredSecret.WriteFault
+            → Inquire 255 (inquire_text word.now params.now) (outcome_of_secret result) self.old self.new }
+        ensures cut { result ≡ InquiredSecret.WriteFault
+            → IsNotAsked (inquire_text word.now params.now) self.old self.new }
     {
-        let mut kept = Buffered::new();
-        match self.gather(word, params, &mut kept) {
-            Some(took) => buffered(took, kept),
+        let mut lines = InquiryLines {
+            buffer: SecretBuffer::new(),
+        };
+        match self.gather(word, params, &mut lines) {
+            Some(took) => buffered(took, lines.buffer),
             None => InquiredSecret::WriteFault,
         }
     }
 
-    /// Asks the client, and reads up to the first line that isn't passed over. `None` where the question couldn't be
-    /// written.
-    fn gather<S: Sieve>(&mut self, word: &[u8], params: &[u8], sieve: &mut S) -> Option<Took>
-        requires going { self.old.reader.ended ≡ None }
+    /// Asks the client, and reads up to the first line that isn't skipped. `None` where the question couldn't be written.
+    fn gather<B: Buffer + Drop>(
+        &mut self,
+        word: &[u8],
+        params: &[u8],
+        lines: &mut InquiryLines<B>,
+    ) -> Option<Took>
+        requires going { IsOpen self.old }
         requires one_line { IsLine (inquire_text word.now params.now) }
-        ensures comes { IfSome result (λ took. WhereTold self.old.input.bytes self.new.input.bytes
-            (λ rest left. (lines : List (List ℕ))
-            × Comes S.passes (self.old.reader.ahead ++ rest) lines took self.new.reader left
-            × (S.keeps sieve.old [] → S.keeps sieve.new lines))) }
-        ensures written { OnSome result (self.new.output.bytes
-            ≡ with_bytes self.old.output.bytes (line_of (inquire_text word.now params.now))) }
-        ensures cut { IfNone result ((count : ℕ)
-            × HasWritten (line_of (inquire_text word.now params.now)) self.old (Sent.Failed count) self.new) }
-        ensures limit { S.limit sieve.new ≡ S.limit sieve.old }
-        ensures budget { WhereTold self.old.input.bytes self.new.input.bytes
-            (λ rest left. length rest + self.new.reader.left ≡ length left + self.old.reader.left) }
-        ensures spent { result ≡ Some Took.Spent → self.new.reader.left ≡ 0 }
-        ensures fault { result ≡ Some Took.ReadFault → Rose self.old.input.faults self.new.input.faults }
-        ensures input_faults { self.old.input.faults ≤ self.new.input.faults }
-        ensures output_faults { self.old.output.faults ≤ self.new.output.faults }
-        ensures progress { IfSome result (λ took. OnLine took (held self.new.reader < held self.old.reader)) }
-        ensures ended { IfSome result (λ took. self.new.reader.ended ≡ ended_by took) }
-        ensures link { self.new.link ≡ self.old.link }
+        ensures gathered { B.keeps lines.old.buffer [] → IfSome result (λ took.
+            Gather (ReadsOn (λ before line. is_passing line) [] (λ skipped. B.keeps lines.new.buffer (flat_map carried skipped)))
+            (inquire_text word.now params.now) self.old took self.new) }
+        ensures cut { IfNone result (IsNotAsked (inquire_text word.now params.now) self.old self.new) }
+        ensures limit { B.limit lines.new.buffer ≡ B.limit lines.old.buffer }
     {
         match self.ask(word, params) {
-            Sent::All => Some(next_beyond(self, sieve)),
+            Sent::All => Some(self.next_after(lines)),
             Sent::Failed { .. } => None,
         }
     }
@@ -158,84 +128,47 @@ impl<'a, L: Link> Conn<'a, L> {
         requires { IsLine (inquire_text word.now params.now) }
         ensures { HasWritten (line_of (inquire_text word.now params.now)) self.old result self.new }
     {
-        let mut line = Text::new();
-        line.try_extend_from_slice(b"INQUIRE ").unwrap();
-        line.try_extend_from_slice(word).unwrap();
-        if !params.is_empty() {
-            line.push(b' ');
-            line.try_extend_from_slice(params).unwrap();
+        if params.is_empty() {
+            return self.say(&[b"INQUIRE ", word]);
         }
-        self.say(&line)
+        self.say(&[b"INQUIRE ", word, b" ", params])
     }
 }
 
 /// A law: the bytes decide what an inquiry comes to that a line closes, and which bytes are left behind that line.
 pub fn inquiries_come_to_one_outcome()
-    ensures { (limit : ℕ) (bytes : List ℕ) (outcome other : Outcome) (after later : Reader) (left rest : List ℕ)
-        → IsClosed outcome → IsClosed other
-        → Inquiry limit bytes outcome after left → Inquiry limit bytes other later rest
+    ensures { (limit : ℕ) (bytes : List ℕ) (took other_took : Took) (outcome other : Outcome) (after later : Reader)
+        (left rest : List ℕ) → IsClosed outcome → IsClosed other
+        → Inquiry limit bytes took outcome after left → Inquiry limit bytes other_took other later rest
         → (outcome ≡ other) × (after.ahead ++ left ≡ later.ahead ++ rest) }
 {}
 
 /// What an inquiry comes to whose bytes are kept so, by the answer after its data lines.
-fn collected(took: Took, kept: Collected) -> Inquired
-    ensures answers { (bytes : List ℕ) → Collects kept.limit kept.bytes.items kept.room bytes
-        → (outcome : Outcome) × ComesTo kept.limit bytes took outcome × Answers result outcome }
-    ensures within { IfData result (λ bytes. length bytes ≤ kept.limit) }
-    ensures ended { ended_of result ≡ ended_by took }
-    ensures spent { result ≡ Inquired.Spent → took ≡ Took.Spent }
-    ensures fault { result ≡ Inquired.ReadFault → took ≡ Took.ReadFault }
+fn collected(took: Took, buffer: VecBuffer) -> Inquired
+    ensures answer { IsAnswer buffer.limit (IsVecOf buffer.limit buffer.bytes.items buffer.overflow) took (outcome_of result) }
+    ensures within { IfData result (λ bytes. length bytes ≤ buffer.limit) }
     ensures others { result ≢ Inquired.WriteFault }
 {
-    match took {
-        Took::Line(line) => match closing_of(line.bytes()) {
-            Closing::End => at_end(kept),
-            Closing::Cancel => Inquired::Cancelled,
-            Closing::Foreign => Inquired::Unexpected,
-        },
-        Took::TooLong => Inquired::TooLong,
-        Took::End => Inquired::Ended,
-        Took::Spent => Inquired::Spent,
-        Took::ReadFault => Inquired::ReadFault,
+    if let Err(failure) = end_of(took) {
+        return failure.into();
     }
-}
-
-/// What an inquiry comes to at END.
-fn at_end(kept: Collected) -> Inquired
-    ensures answers { (bytes line : List ℕ) → Collects kept.limit kept.bytes.items kept.room bytes → IsWord (codes "end") line
-        → (outcome : Outcome) × ComesTo kept.limit bytes (Took.Line line) outcome × Answers result outcome }
-    ensures within { IfData result (λ bytes. length bytes ≤ kept.limit) }
-    ensures going { ended_of result ≡ None }
-    ensures others { result ≢ Inquired.WriteFault }
-{
-    match kept.room {
-        Room::Within => Inquired::Data(kept.bytes),
-        Room::Past => Inquired::TooMuch,
-        Room::NoMemory => Inquired::NoMemory,
+    match buffer.overflow {
+        Overflow::None => Inquired::Data(buffer.into_bytes()),
+        Overflow::TooMuch => Inquired::TooMuch,
+        Overflow::NoMemory => Inquired::NoMemory,
     }
 }
 
 /// What an inquiry for a secret comes to whose bytes are kept so, by the answer after its data lines.
-fn buffered(took: Took, kept: Buffered) -> InquiredSecret
-    ensures answers { (bytes : List ℕ) → Buffers kept.bytes.items kept.past bytes
-        → (outcome : Outcome) × ComesTo 255 bytes took outcome × AnswersSecret result outcome }
-    ensures ended { ended_of_secret result ≡ ended_by took }
-    ensures spent { result ≡ InquiredSecret.Spent → took ≡ Took.Spent }
-    ensures fault { result ≡ InquiredSecret.ReadFault → took ≡ Took.ReadFault }
+fn buffered(took: Took, buffer: SecretBuffer) -> InquiredSecret
+    ensures answer { IsAnswer 255 (IsSecretOf buffer.bytes buffer.too_much) took (outcome_of_secret result) }
     ensures others { result ≢ InquiredSecret.WriteFault }
 {
-    match took {
-        Took::Line(line) => match closing_of(line.bytes()) {
-            Closing::End => match kept.secret() {
-                Some(secret) => InquiredSecret::Secret(secret),
-                None => InquiredSecret::TooMuch,
-            },
-            Closing::Cancel => InquiredSecret::Cancelled,
-            Closing::Foreign => InquiredSecret::Unexpected,
-        },
-        Took::TooLong => InquiredSecret::TooLong,
-        Took::End => InquiredSecret::Ended,
-        Took::Spent => InquiredSecret::Spent,
-        Took::ReadFault => InquiredSecret::ReadFault,
+    if let Err(failure) = end_of(took) {
+        return failure.into();
+    }
+    match buffer.secret() {
+        Some(secret) => InquiredSecret::Secret(secret),
+        None => InquiredSecret::TooMuch,
     }
 }

@@ -1,13 +1,10 @@
 //! One connection of a server to its client: the lines that it writes, the requests that it reads, and inquiries.
 #![tactic(auto)]
 
-mod closing;
 mod conn;
 mod data;
 mod errors;
 mod inquiry;
-mod kept;
-mod passing;
 mod request;
 
 pub use conn::Conn;

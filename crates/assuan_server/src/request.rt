@@ -3,22 +3,21 @@ ghost use Rattle.assuan_line.specs.Next.{Reader};
 ghost use Rattle.assuan_text.specs.Forms.{is_ignored};
 ghost use Rattle.assuan_server.specs.Requests.{IsNextRequest};
 
-use crate::passing::Sieve;
-use assuan_line::{Line, Took};
+use assuan_line::{Line, LineFilter, Took};
 use assuan_text::is_ignored;
 
 /// The lines that are no requests, of which nothing is kept.
 #[derive(Drop)]
 pub(crate) struct Ignored;
 
-impl Sieve for Ignored {
-    ghost passes = { is_ignored };
+impl LineFilter for Ignored {
+    ghost skips = { λ _ line. is_ignored line };
 
     ghost keeps = { λ _ _. Unit {0} };
 
     ghost limit = { λ _. 0 };
 
-    fn pass(&mut self, line: &Line) -> bool {
+    fn skip(&mut self, line: &Line) -> bool {
         is_ignored(line.bytes())
     }
 }

@@ -32,5 +32,5 @@ pub use life::{Life, Limits, MAX_SECONDS};
 pub use list_book::{ListBook, NoMemory};
 pub use mark::{Mark, MarkReply, MarkStep, Under, Way};
 pub use mode::Mode;
-pub use secret::Secret;
+pub use secret::{MAX_SECRET_LEN, Secret};
 pub use step::{Refused, Reply, Step};

@@ -1,24 +1,24 @@
-use Rattle.std.proofs.Common.{refl}
-use Rattle.assuan_server.specs.Inquiries.{Cancelled, Unexpected, Ended, TooLong, Spent, ReadFault, can, foreign, ended, too_long, spent, read_fault}
+use Rattle.std.proofs.Common.{◌≡◌, ◌≤◌, List, ℕ, rules, subst, length}
+use Rattle.assuan_server.proofs.Inquiring.{failed, brought, beyond, without_memory}
 use Rattle.assuan_server.proofs.inquiry.collected.Goals as goal
 
-pub returns-in-Cancel-clause-answers : goal.returns-in-Cancel-clause-answers
-returns-in-Cancel-clause-answers c = λ bytes kept.
-    rw c.in-Line.is (Cancelled, can (rw c.bytes.ensures.bytes at c.in-Cancel.ensures), refl)
+pub returns-in-Err-clause-answer : goal.returns-in-Err-clause-answer
+returns-in-Err-clause-answer c = rw c.into.ensures (failed c.in-Err.ensures.failure)
 
-pub returns-in-Foreign-clause-answers : goal.returns-in-Foreign-clause-answers
-returns-in-Foreign-clause-answers c = λ bytes kept.
-    let neither = rw c.bytes.ensures.bytes at c.in-Foreign.ensures in
-    rw c.in-Line.is (Unexpected, foreign neither.0 neither.1, refl)
+pub returns-in-None-clause-answer : goal.returns-in-None-clause-answer
+returns-in-None-clause-answer c =
+    let end = c.in_default.ensures.end in
+    let short : length c.args.buffer.bytes.items ≤ c.args.buffer.limit = search rules in
+    rw c.into_bytes.ensures.bytes
+    (brought end.0 end.1 end.2 c.args.buffer.bytes.items (λ other kept.
+    let same : c.args.buffer.bytes.items ≡ other = rw c.in-None.is at kept in (same, subst (λ (b : List ℕ). length b ≤ c.args.buffer.limit) same short)))
 
-pub returns-in-TooLong-clause-answers : goal.returns-in-TooLong-clause-answers
-returns-in-TooLong-clause-answers c = λ bytes kept. rw c.in-TooLong.is (TooLong, too_long, refl)
+pub returns-in-TooMuch-clause-answer : goal.returns-in-TooMuch-clause-answer
+returns-in-TooMuch-clause-answer c =
+    let end = c.in_default.ensures.end in
+    beyond end.0 end.1 end.2 (λ bytes kept. rw c.in-TooMuch.is at kept)
 
-pub returns-in-End-clause-answers : goal.returns-in-End-clause-answers
-returns-in-End-clause-answers c = λ bytes kept. rw c.in-End.is (Ended, ended, refl)
-
-pub returns-in-Spent-clause-answers : goal.returns-in-Spent-clause-answers
-returns-in-Spent-clause-answers c = λ bytes kept. rw c.in-Spent.is (Spent, spent, refl)
-
-pub returns-in-ReadFault-clause-answers : goal.returns-in-ReadFault-clause-answers
-returns-in-ReadFault-clause-answers c = λ bytes kept. rw c.in-ReadFault.is (ReadFault, read_fault, refl)
+pub returns-in-NoMemory-clause-answer : goal.returns-in-NoMemory-clause-answer
+returns-in-NoMemory-clause-answer c =
+    let end = c.in_default.ensures.end in
+    without_memory end.0 end.1 end.2

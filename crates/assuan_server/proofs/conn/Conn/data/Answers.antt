@@ -2,7 +2,7 @@ use Rattle.std.proofs.Common.{◌≡◌, ◌∙◌, length, take, ap, sym, List,
 use Rattle.std.proofs.lemmas.Bool.{eqb-true}
 use Rattle.std.proofs.lemmas.List.{nil_from_length}
 use Rattle.assuan_escape.specs.DataLines.{data_line}
-use Rattle.assuan_server.proofs.Writing.{writing_more, written_all, written_cut}
+use Rattle.assuan_server.proofs.Writing.{written_alone, writing_more, written_all, written_cut}
 use Rattle.assuan_server.proofs.conn.Conn.data.Goals as goal
 
 pub returns-in-Failed : goal.returns-in-Failed
@@ -10,7 +10,7 @@ returns-in-Failed g c =
     let line = c.full_line-line.ensures in
     rw c.saturating_add.ensures
     (written_cut c.args.bytes.now c.args.self.now c.loop-rest.self c.loop-rest.rest.now c.loop-rest.sent c.loop-rest.invariant c.full_line-line.result.1 line.first c.say.new.self c.in-Failed.part line.others
-    (rw (c.deref.ensures.0, line.text) at c.in-Failed.ensures))
+    (written_alone (data_line (take c.full_line-line.result.1 c.loop-rest.rest.now)) (rw (c.bytes.ensures.value, line.text) at c.in-Failed.ensures)))
 
 pub loop-rest-preserved : goal.loop-rest-preserved
 loop-rest-preserved g c =
@@ -18,7 +18,7 @@ loop-rest-preserved g c =
     let len : c.len-whole.result ≡ length (data_line (take c.full_line-line.result.1 c.loop-rest.rest.now)) = c.len-whole.ensures.value ∙ ap (λ (x : List ℕ). length x) line.text in
     rw (c.split_at.ensures.back, c.saturating_add-sent.ensures, len)
     (writing_more c.args.bytes.now c.args.self.now c.loop-rest.self c.loop-rest.rest.now c.loop-rest.sent c.loop-rest.invariant c.full_line-line.result.1 line.first c.say.new.self
-    (rw (c.deref.ensures.0, line.text) at c.in-All.ensures))
+    (written_alone (data_line (take c.full_line-line.result.1 c.loop-rest.rest.now)) (rw (c.bytes.ensures.value, line.text) at c.in-All.ensures)))
 
 pub returns : goal.returns
 returns g c =

@@ -1,0 +1,19 @@
+-- What a write of one line leaves.
+use Rattle.std.proofs.Common.{◌≡◌, ◌≤◌, ◌^◌, ℕ, List, length, take, drop, sym, arith}
+use Rattle.std.proofs.lemmas.List.{take-append-drop, length-take-le}
+use Rattle.agent_ports.specs.Counts.{Rose}
+use Rattle.agent_ports.specs.Sides.{Side, with_bytes, sent_part, IfCut, IsCut}
+use Rattle.agent_ports.specs.declared.link.Sent.{Sent}
+use Rattle.agent_ports.specs.declared.link.Sent.TheVariants.{All, Failed}
+use Rattle.assuan_line.specs.Written.{HasSent}
+
+pub has_sent : (bytes : List ℕ) (before after : Side) (sent : Sent) → length bytes ≤ 1001 → IfCut sent (λ count. count ≤ length bytes) → after.bytes ≡ with_bytes before.bytes (sent_part bytes sent) → (IsCut sent → Rose before.faults after.faults) → HasSent bytes before sent after
+has_sent bytes before after All short cut written failed = written
+has_sent bytes before after (Failed count) short cut written failed = record {
+  sent = take count bytes;
+  unsent = drop count bytes;
+  split = sym (take-append-drop count bytes);
+  written = written;
+  counted = omega (arith, length-take-le count bytes cut);
+  rose = failed tt;
+}

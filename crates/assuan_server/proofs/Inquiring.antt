@@ -1,0 +1,92 @@
+-- An inquiry: from its question to what its answer says.
+use Rattle.std.proofs.Common.{◌≡◌, ◌≤◌, ◌<◌, ℕ, List, [], length, Option, Some, None, refl, ap, sym, ◌∙◌, subst, arith, inl, inr}
+use Rattle.std.specs.Prelude.{codes}
+use Rattle.std.proofs.lemmas.Bool.{cases_lt}
+use Rattle.std.specs.List.{flat_map}
+use Rattle.agent_ports.specs.Sides.{Side}
+use Rattle.agent_ports.specs.declared.link.Sent.TheVariants.{All}
+use Rattle.assuan_escape.specs.DataLines.{carried}
+use Rattle.assuan_line.specs.Next.{Reader, ended_by}
+use Rattle.assuan_line.specs.Reading.{HasRead}
+use Rattle.assuan_line.specs.Skipping.{ReadsOn}
+use Rattle.assuan_text.specs.LineEnds.{line_of}
+use Rattle.assuan_line.specs.declared.reader.Took.{Took}
+use Rattle.assuan_line.specs.declared.reader.Took.TheVariants.{Line}
+use Rattle.assuan_line.proofs.ReadingOn.{read_so}
+use Rattle.assuan_server.specs.Asking.{Gather, Inquire}
+use Rattle.assuan_server.specs.Connections.{Connection}
+use Rattle.assuan_server.specs.Failures.{IsAnswer}
+use Rattle.assuan_server.specs.Inquiries.{Outcome, Data, TooMuch, Cancelled, Unexpected, Ended, TooLong, Spent, ReadFault, IsAtEnd, IsWord, Answers, ComesTo, can, end, past, foreign, ended, too_long, spent, read_fault, ended_of, is_passing}
+use Rattle.assuan_server.specs.Written.{HasWritten}
+
+-- a line was written, and then lines were read
+pub gathered : {Reads : List ℕ → Took → Reader → List ℕ → Type 0} (line : List ℕ) (before mid after : Connection) (took : Took) → HasWritten (line_of line) before All mid → HasRead Reads mid.reader mid.input took after.reader after.input → after.output ≡ mid.output → after.link ≡ mid.link → Gather Reads line before took after
+gathered {Reads} line before mid after took wrote read output link = record {
+  read =
+      subst (λ (s : Side). HasRead Reads before.reader s took after.reader after.input) wrote.input
+      (subst (λ (r : Reader). HasRead Reads r mid.input took after.reader after.input) wrote.reader read);
+  written = ap (λ (s : Side). s.bytes) output ∙ wrote.output;
+  output_faults = omega (arith, wrote.faults, ap (λ (s : Side). s.faults) output);
+  link = link ∙ wrote.link;
+}
+
+-- how the reader has ended, by what the inquiry came to
+pub ended_by_outcome : {limit : ℕ} {bytes : List ℕ} {took : Took} {outcome : Outcome} → ComesTo limit bytes took outcome → ended_by took ≡ ended_of outcome
+ended_by_outcome (can word) = refl
+ended_by_outcome (end word within) = refl
+ended_by_outcome (past word beyond) = refl
+ended_by_outcome (foreign no_can no_end) = refl
+ended_by_outcome ended = refl
+ended_by_outcome too_long = refl
+ended_by_outcome spent = refl
+ended_by_outcome read_fault = refl
+
+-- the inquiry came to this, whatever its bytes are
+pub failed : {limit : ℕ} {keeps : List ℕ → Type 0} {took : Took} {outcome : Outcome} → ((limit : ℕ) (bytes : List ℕ) → ComesTo limit bytes took outcome) → IsAnswer limit keeps took (Some outcome)
+failed {limit} {outcome = outcome} comes_to = record {
+  answers = λ bytes kept. (outcome, comes_to limit bytes, refl);
+  ended = λ other is. ended_by_outcome (comes_to 0 []) ∙ ap ended_of is;
+}
+
+pub inquired : {limit : ℕ} {keeps : List ℕ → Type 0} {line : List ℕ} {before after : Connection} {took : Took} {says : Option Outcome} → Gather (ReadsOn (λ before line. is_passing line) [] (λ lines. keeps (flat_map carried lines))) line before took after → IsAnswer limit keeps took says → Inquire limit line says before after
+inquired {took = took} gather answer = record {
+  took = took;
+  gathered = record {
+    read = read_so (λ bytes left on.
+        let to = answer.answers (flat_map carried on.0) on.2 in
+        (to.0, record { lines = on.0; reads = on.1; comes_to = to.1 }, to.2)) gather.read;
+    written = gather.written;
+    output_faults = gather.output_faults;
+    link = gather.link;
+  };
+  ended = answer.ended;
+}
+
+-- END was read
+closed : (outcome : Outcome) → IsAtEnd outcome → ended_of outcome ≡ None
+closed (Data bytes) is = refl
+closed TooMuch is = refl
+closed Cancelled is = absurd is
+closed Unexpected is = absurd is
+closed Ended is = absurd is
+closed TooLong is = absurd is
+closed Spent is = absurd is
+closed ReadFault is = absurd is
+
+at_end : {limit : ℕ} {keeps : List ℕ → Type 0} {took : Took} {says : Option Outcome} (line : List ℕ) → took ≡ Line line → ((outcome : Outcome) → Answers says outcome → IsAtEnd outcome) → ((bytes : List ℕ) → keeps bytes → (outcome : Outcome) × ComesTo limit bytes (Line line) outcome × Answers says outcome) → IsAnswer limit keeps took says
+at_end {limit} {keeps} {says = says} line is at comes_to =
+    subst (λ t. IsAnswer limit keeps t says) (sym is) (record { answers = comes_to; ended = λ outcome answers. sym (closed outcome (at outcome answers)) })
+
+module _ {limit : ℕ} {keeps : List ℕ → Type 0} {took : Took} (line : List ℕ) (is : took ≡ Line line) (word : IsWord (codes "end") line) where
+  pub brought : (bytes : List ℕ) → ((other : List ℕ) → keeps other → (bytes ≡ other) × (length other ≤ limit)) → IsAnswer limit keeps took (Some (Data bytes))
+  brought bytes kept = at_end line is (λ outcome same. subst IsAtEnd same tt) (λ other keeps.
+      let so = kept other keeps in (Data other, end word so.1, ap (λ (b : List ℕ). Data b) so.0))
+
+  pub beyond : ((bytes : List ℕ) → keeps bytes → limit < length bytes) → IsAnswer limit keeps took (Some TooMuch)
+  beyond kept = at_end line is (λ outcome same. subst IsAtEnd same tt) (λ bytes keeps. (TooMuch, past word (kept bytes keeps), refl))
+
+  pub without_memory : IsAnswer limit keeps took None
+  without_memory = at_end line is (λ outcome at. at) (λ bytes keeps. elim (cases_lt limit (length bytes)) [
+    | inl long ↦ (TooMuch, past word long, tt)
+    | inr short ↦ (Data bytes, end word short, tt)
+  ])

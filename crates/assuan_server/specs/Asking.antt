@@ -1,0 +1,32 @@
+-- What asking the client does to a connection.
+use Rattle.std.specs.Prelude.{◌≡◌, ◌≤◌, ℕ, List, Option}
+use Rattle.agent_ports.specs.Sides.{with_bytes}
+use Rattle.agent_ports.specs.declared.link.Sent.TheVariants.{Failed}
+use Rattle.assuan_line.specs.Next.{Reader, ended_by}
+use Rattle.assuan_line.specs.Reading.{HasRead}
+use Rattle.assuan_text.specs.LineEnds.{line_of}
+use Rattle.assuan_line.specs.declared.reader.Took.{Took}
+use Rattle.assuan_server.specs.Connections.{Connection}
+use Rattle.assuan_server.specs.Inquiries.{Outcome, Inquiry, Answers, ended_of}
+use Rattle.assuan_server.specs.Written.{HasWritten}
+
+-- a line was written, and lines were read up to this answer
+pub record Gather (Reads : List ℕ → Took → Reader → List ℕ → Type 0) (line : List ℕ) (before : Connection) (took : Took) (after : Connection) : Type 0 where
+  pub read : HasRead Reads before.reader before.input took after.reader after.input
+  pub written : after.output.bytes ≡ with_bytes before.output.bytes (line_of line)
+  pub output_faults : before.output.faults ≤ after.output.faults
+  pub link : after.link ≡ before.link
+
+-- what an inquiry comes to, of which an answer says so much
+abbrev pub ReadsAnswer : ℕ → Option Outcome → List ℕ → Took → Reader → List ℕ → Type 0
+ReadsAnswer limit says bytes took after left = (outcome : Outcome) × Inquiry limit bytes took outcome after left × Answers says outcome
+
+-- The client was asked by this line, and answered within this limit, or its input ended.
+pub record Inquire (limit : ℕ) (line : List ℕ) (says : Option Outcome) (before after : Connection) : Type 0 where
+  pub took : Took
+  pub gathered : Gather (ReadsAnswer limit says) line before took after
+  pub ended : (outcome : Outcome) → Answers says outcome → ended_by took ≡ ended_of outcome
+
+-- The line wasn't written whole, and nothing was read.
+abbrev pub IsNotAsked : List ℕ → Connection → Connection → Type 0
+IsNotAsked line before after = (count : ℕ) × HasWritten (line_of line) before (Failed count) after

@@ -1,0 +1,15 @@
+-- What a buffer keeps of the bytes that an inquiry's data lines carried so far.
+use Rattle.std.specs.Prelude.{◌≡◌, ◌<◌, Bool, true, false, ℕ, List, length}
+use Rattle.assuan_server.specs.declared.inquiry.buffer.Overflow.{Overflow}
+use Rattle.assuan_server.specs.declared.inquiry.buffer.Overflow.TheVariants.{None, TooMuch, NoMemory}
+
+-- in memory: the bytes themselves, or that they are past the limit, or that there was no memory for them
+abbrev pub IsVecOf : ℕ → List ℕ → Overflow → List ℕ → Type 0
+IsVecOf limit kept None bytes = kept ≡ bytes
+IsVecOf limit kept TooMuch bytes = limit < length bytes
+IsVecOf limit kept NoMemory bytes = Unit {0}
+
+-- as a secret, which has at most 255 bytes: the bytes themselves, or that they are past that
+abbrev pub IsSecretOf : List ℕ → Bool → List ℕ → Type 0
+IsSecretOf kept false bytes = kept ≡ bytes
+IsSecretOf kept true bytes = 255 < length bytes

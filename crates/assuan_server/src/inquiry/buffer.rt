@@ -1,0 +1,167 @@
+ghost use Rattle.std.specs.Prelude.{◌≡◌, ◌≤◌, ◌<◌, ◌++◌, [], false, ℕ, List, length, vec_len, MatchOption};
+ghost use Rattle.assuan_server.specs.Buffers.{IsVecOf, IsSecretOf};
+
+use assuan_escape::data_of;
+use assuan_line::{Line, LineFilter};
+use assuan_text::is_idle;
+use cache_policy::Secret;
+use std::alloc::Global;
+use wiping::{Wiped, wipe};
+
+/// Keeps the bytes that an inquiry's data lines carry.
+pub(crate) trait Buffer {
+    /// What is kept of these bytes.
+    ghost keeps: { Self → List ℕ → Type 0 };
+
+    /// How many bytes may be kept.
+    ghost limit: { Self → ℕ };
+
+    fn add(&mut self, bytes: &[u8])
+        ensures keeps { (before : List ℕ) → keeps self.old before → keeps self.new (before ++ bytes.now) }
+        ensures limit { limit self.new ≡ limit self.old };
+}
+
+/// The lines that an inquiry skips. A buffer takes what they carry.
+#[derive(Drop)]
+pub(crate) struct InquiryLines<B: Drop> {
+    pub(crate) buffer: B,
+}
+
+impl<B: Buffer + Drop> LineFilter for InquiryLines<B> {
+    ghost use Rattle.std.specs.List.{flat_map};
+    ghost use Rattle.assuan_escape.specs.DataLines.{carried};
+    ghost use Rattle.assuan_server.specs.Inquiries.{is_passing};
+
+    ghost skips = { λ _ line. is_passing line };
+
+    ghost keeps = { λ filter lines. B.keeps filter.buffer (flat_map carried lines) };
+
+    ghost limit = { λ filter. B.limit filter.buffer };
+
+    fn skip(&mut self, line: &Line) -> bool {
+        match data_of(line.bytes()) {
+            Some(bytes) => {
+                self.buffer.add(bytes.bytes());
+                true
+            }
+            None => is_idle(line.bytes()),
+        }
+    }
+}
+
+/// Why bytes of an inquiry aren't kept. Further ones are dropped.
+#[derive(Clone, Copy, Debug, PartialEq, Eq)]
+pub(crate) enum Overflow {
+    /// They are all kept.
+    None,
+    /// They went past the limit.
+    TooMuch,
+    /// There was no memory for them.
+    NoMemory,
+}
+
+/// Keeps bytes in memory, up to a limit. They are overwritten when it is dropped.
+pub(crate) struct VecBuffer {
+    pub(crate) bytes: Vec<u8>,
+    pub(crate) limit: usize,
+    pub(crate) overflow: Overflow,
+    ghost within: { vec_len bytes ≤ limit },
+}
+
+impl VecBuffer {
+    pub(crate) fn new(alloc: Global, limit: usize) -> VecBuffer
+        ensures bytes { result.bytes.items ≡ [] }
+        ensures limit { result.limit ≡ limit }
+        ensures overflow { result.overflow ≡ Overflow.None }
+    {
+        VecBuffer {
+            bytes: Vec::new(alloc),
+            limit,
+            overflow: Overflow::None,
+        }
+    }
+
+    pub(crate) fn into_bytes(self) -> Vec<u8>
+        ensures bytes { result.items ≡ self.bytes.items }
+        ensures within { vec_len result ≤ self.limit }
+    {
+        let VecBuffer {
+            bytes,
+            limit: _,
+            overflow: _,
+        } = self;
+        bytes
+    }
+}
+
+impl Drop for VecBuffer {
+    fn drop(self) {
+        let VecBuffer {
+            mut bytes,
+            limit: _,
+            overflow: _,
+        } = self;
+        wipe(bytes.as_mut_slice());
+    }
+}
+
+impl Buffer for VecBuffer {
+    ghost keeps = { λ buffer bytes. IsVecOf buffer.limit buffer.bytes.items buffer.overflow bytes };
+
+    ghost limit = { λ buffer. buffer.limit };
+
+    fn add(&mut self, bytes: &[u8]) {
+        if self.overflow != Overflow::None {
+            return;
+        }
+        if bytes.len() > self.limit - self.bytes.len() {
+            self.overflow = Overflow::TooMuch;
+            return;
+        }
+        if self.bytes.extend_from_slice(bytes).is_err() {
+            self.overflow = Overflow::NoMemory;
+        }
+    }
+}
+
+/// Keeps bytes without taking memory, up to as many as a secret has.
+#[derive(Drop)]
+pub(crate) struct SecretBuffer {
+    pub(crate) bytes: Wiped<255>,
+    pub(crate) too_much: bool,
+}
+
+impl SecretBuffer {
+    pub(crate) fn new() -> SecretBuffer
+        ensures bytes { result.bytes ≡ [] }
+        ensures too_much { result.too_much ≡ false }
+    {
+        SecretBuffer {
+            bytes: Wiped::new(),
+            too_much: false,
+        }
+    }
+
+    /// The bytes, if they can be a secret.
+    pub(crate) fn secret(self) -> Option<Secret>
+        ensures { (bytes : List ℕ) → IsSecretOf self.bytes self.too_much bytes
+            → MatchOption result (255 < length bytes) (λ secret. (secret ≡ bytes) × (length bytes ≤ 255)) }
+    {
+        if self.too_much {
+            return None;
+        }
+        Some(Secret::of(self.bytes.bytes()).unwrap())
+    }
+}
+
+impl Buffer for SecretBuffer {
+    ghost keeps = { λ buffer bytes. IsSecretOf buffer.bytes buffer.too_much bytes };
+
+    ghost limit = { λ _. 255 };
+
+    fn add(&mut self, bytes: &[u8]) {
+        if !self.too_much && self.bytes.try_extend_from_slice(bytes).is_err() {
+            self.too_much = true;
+        }
+    }
+}
