@@ -177,7 +177,7 @@ moments-bare : (marks : List Mark) → moments (map bare_mark marks) ≡ moments
 moments-bare [] = refl
 moments-bare (mark ∷ later) = ap (λ (list : List ℕ). mark.moment ∷ list) (moments-bare later)
 
-last_use-bare : (history : History) (entry : Entry) → last_use (bare history) (bare_entry entry) ≡ last_use history entry
+pub last_use-bare : (history : History) (entry : Entry) → last_use (bare history) (bare_entry entry) ≡ last_use history entry
 last_use-bare history entry =
     ap (λ (marks : List Mark). fold max entry.entered (moments marks)) (filter-map bare_mark (λ (m : Mark). gives entry.number m.reply) (λ (m : Mark). gives entry.number m.reply) (λ m. refl) history.marks)
     ∙ ap (fold max entry.entered) (moments-bare (filter (λ (m : Mark). gives entry.number m.reply) history.marks))

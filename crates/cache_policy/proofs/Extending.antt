@@ -8,35 +8,20 @@ use Rattle.cache_policy.specs.declared.life.Limits.{Limits}
 use Rattle.cache_policy.specs.declared.mark.Mark.{Mark}
 use Rattle.cache_policy.specs.declared.mark.MarkStep.{MarkStep}
 use Rattle.cache_policy.specs.declared.history.History.{History}
-use Rattle.cache_policy.specs.Runs.{joined}
-use Rattle.cache_policy.specs.Turns.{Turn, Given, Empty, Open, Stand, Done, Held, Stopping, Refused}
-use Rattle.cache_policy.specs.Desks.{AtDesk, is_of, Shows, MakesMarks, marked, refused, spent, GoesOn, GoesOnWhereKnown, IsTurn}
-use Rattle.cache_policy.specs.Extending.{Taken, TakesTurn, mark_reply, IsMarkedAs, marked as is_marked, refused as is_refused, spent as is_spent, AreMarked, none, turned, IsExtended, IsExtendedWhereKnown, ExtendsDesk}
+use Rattle.cache_policy.specs.Runs.{joined, Extends}
+use Rattle.cache_policy.specs.Turns.{Turn}
+use Rattle.cache_policy.specs.Desks.{AtDesk, is_of, MakesMarks, marked, refused, spent, GoesOn, GoesOnWhereKnown, IsTurn}
+use Rattle.cache_policy.specs.Extending.{Taken, TakesTurn, AreMarked, none, turned, IsExtended, IsExtendedWhereKnown, ExtendsDesk}
 use Rattle.cache_policy.proofs.Lists.{filter_none}
-
-shown_reply : (limits : Limits) (before : History) (mark : Mark) (turn : Turn) → Shows limits before mark turn → mark_reply turn ≡ Some mark.reply
-shown_reply limits before mark (Given grant) shows = ap (λ r. Some r) (sym shows.0)
-shown_reply limits before mark Empty shows = ap (λ r. Some r) (sym shows)
-shown_reply limits before mark (Open number) shows = ap (λ r. Some r) (sym shows.0)
-shown_reply limits before mark Stand shows = absurd shows
-shown_reply limits before mark Done shows = ap (λ r. Some r) (sym shows)
-shown_reply limits before mark (Held held) shows = ap (λ r. Some r) (sym shows)
-shown_reply limits before mark Stopping shows = ap (λ r. Some r) (sym shows)
-shown_reply limits before mark Refused shows = absurd shows
-
-makes : {limits : Limits} {session : SessionId} {asked : MarkStep} {run : List History} {turn : Turn} {own : List Mark}
-    → MakesMarks limits session asked run turn own → IsMarkedAs session (record { asked = asked; turn = turn }) own
-makes {limits} {turn = turn} (marked own is) = is_marked own is.by is.asked_is (shown_reply limits is.before own turn is.shows)
-makes refused = is_refused refl
-makes (spent all) = is_spent refl
 
 is_own : (session : SessionId) (mark : Mark) → mark.session ≡ session → is_of session mark ≡ true
 is_own session mark by = rw (by, eq-eqb session.pass session.pass refl, eq-eqb session.count session.count refl) refl
 
-own_filtered : {session : SessionId} {taken : Taken} {own : List Mark} → IsMarkedAs session taken own → filter (is_of session) own ≡ own
-own_filtered {session} (is_marked mark by asked reply) = ap (λ (b : Bool). cond b (mark ∷ []) []) (is_own session mark by)
-own_filtered (is_refused is) = refl
-own_filtered (is_spent is) = refl
+own_filtered : {limits : Limits} {session : SessionId} {asked : MarkStep} {run : List History} {turn : Turn} {own : List Mark}
+    → MakesMarks limits session asked run turn own → filter (is_of session) own ≡ own
+own_filtered {session = session} (marked own is) = ap (λ (b : Bool). cond b (own ∷ []) []) (is_own session own is.by)
+own_filtered refused = refl
+own_filtered (spent all) = refl
 
 -- no turn
 extended_same : (limits : Limits) (session : SessionId) (run : Option (List History)) → IsExtendedWhereKnown limits session run [] run
@@ -54,7 +39,6 @@ extended_first : (limits : Limits) (session : SessionId) (before mid after : Lis
     → GoesOn limits session before taken.asked taken.turn mid → IsExtended limits session mid turns after
     → IsExtended limits session before (taken ∷ turns) after
 extended_first limits session before mid after taken turns first rest =
-    let own : IsMarkedAs session taken first.own = makes first.makes in
     record {
       start = rest.start ∙ first.start;
       more = (first.others ++ first.own) ++ rest.more;
@@ -65,8 +49,9 @@ extended_first limits session before mid after taken turns first rest =
           ∙ ap (λ (m : List Mark). m ++ filter (is_of session) rest.more)
           (filter-append (is_of session) first.others first.own
           ∙ ap (λ (m : List Mark). m ++ filter (is_of session) first.own) (filter_none (is_of session) first.others first.foreign)
-          ∙ own_filtered own) in
-          subst (λ (m : List Mark). AreMarked session (taken ∷ turns) m) (sym shown) (turned own rest.own);
+          ∙ own_filtered first.makes) in
+          subst (λ (m : List Mark). AreMarked limits session after (taken ∷ turns) m) (sym shown)
+          (turned mid (record { start = rest.start; more = rest.more; marks = rest.marks }) first.makes rest.own);
       legal = λ legal. rest.legal (first.legal legal);
     }
 

@@ -1,8 +1,9 @@
 -- A legal run stays legal by a mark that follows the policy of the history that is next.
 use Rattle.std.specs.Prelude.{◌≡◌, ℕ, ◌+◌, ◌<◌, ◌≤◌, ◌==◌, List, [], ◌∷◌, ◌++◌, length, fold, Bool, true, false, Option, Some, None, refl, cond, if◌then◌else◌}
-use Rattle.std.proofs.Common.{ap, sym, ◌∙◌, subst, arith}
+use Rattle.std.proofs.Common.{ap, sym, ◌∙◌, subst, arith, inl, inr}
 use Rattle.std.proofs.lemmas.List.{append_assoc, append-nil}
 use Rattle.std.proofs.lemmas.List.Sums.{fold-append}
+use Rattle.std.proofs.lemmas.Grind.{flat_map-append}
 use Rattle.std.proofs.lemmas.Bool.Decides.{nat_tests}
 use Rattle.std.specs.List.{AllByRecursion}
 use Rattle.cache_policy.specs.declared.bounds.TheConstants.{MAX_MARKS, MAX_MOMENT}
@@ -11,8 +12,9 @@ use Rattle.cache_policy.specs.declared.mark.Mark.{Mark}
 use Rattle.cache_policy.specs.declared.history.History.{History}
 use Rattle.cache_policy.specs.Histories.{start_of, with_mark}
 use Rattle.cache_policy.specs.Policy.{Reply, policy}
-use Rattle.cache_policy.specs.Runs.{last_base, turn_over, next_history, IsFollowedBy, IsRun, joined, start_of_run, moment_before, last_history, run_with_mark}
+use Rattle.cache_policy.specs.Runs.{last_base, is_spent, turn_over, next_history, IsFollowedBy, IsRun, joined, start_of_run, moment_before, last_history, run_with_mark}
 use Rattle.cache_policy.specs.Legal.{NeverFall, IsLegal, IsLegalRun}
+use Rattle.cache_policy.proofs.Lists.{all_append}
 use Rattle.cache_policy.proofs.Growing.{never_fall-push, legal-with_mark, legal-turn_over}
 
 -- the last history of a run, with the mark: one history, or a full one and the next
@@ -135,3 +137,68 @@ legal-run_with_mark limits run history mark legal last rules later within going 
           (legal-with_mark limits (next_history history) mark next.legal rules (omega (arith, next_moment history, moment_before-last run history last, later)) within going next.few);
       moments = subst (NeverFall 0) (sym (joined-run_with_mark run mark legal.turns_over)) (never_fall-push 0 (joined run) mark legal.moments later within);
     }
+
+-- the mark stands at the end of the last history
+pub last-run_with_mark : (run : List History) (history : History) (mark : Mark) → last_history run ≡ Some history
+    → last_history (run_with_mark run mark) ≡ Some (with_mark (next_history history) mark)
+last-run_with_mark [] history mark last = absurd (cc)
+last-run_with_mark (first ∷ []) history mark last =
+    let same : first ≡ history = cc in
+    subst (λ (h : History). last_history (run_with_mark (first ∷ []) mark) ≡ Some (with_mark (next_history h) mark)) same
+    (elim (length first.marks == MAX_MARKS) as (λ b. last_history (grown_last first mark b)
+    ≡ Some (with_mark (if b then turn_over first else first) mark)) [ true ↦ refl | false ↦ refl ])
+last-run_with_mark (first ∷ next ∷ later) history mark last =
+    last_behind first (next ∷ later) mark (with_mark (next_history history) mark) (last-run_with_mark (next ∷ later) history mark last)
+  where
+    last_behind : (first : History) (rest : List History) (mark : Mark) (end : History) → last_history (run_with_mark rest mark) ≡ Some end
+        → last_history (first ∷ run_with_mark rest mark) ≡ Some end
+    last_behind first rest mark end is = at (run_with_mark rest mark) is
+      where
+        at : (run : List History) → last_history run ≡ Some end → last_history (first ∷ run) ≡ Some end
+        at [] e = absurd (cc)
+        at (one ∷ more) e = e
+
+-- a spent agent has made all its marks
+pub spent-all : (limits : Limits) (history : History) → IsLegal limits history → is_spent (next_history history) ≡ true
+    → history.base + length history.marks ≡ last_base
+spent-all limits history legal spent =
+    elim (length history.marks == MAX_MARKS) as (λ b. (length history.marks == MAX_MARKS) ≡ b
+    → is_spent (if b then turn_over history else history) ≡ true → history.base + length history.marks ≡ last_base) [
+      | true ↦ λ full is. grind (arith, nat_tests)
+      | false ↦ λ few is. elim legal.not_spent [
+        | inl going ↦ absurd (below going (grind (arith, nat_tests)))
+        | inr none ↦ none_yet none (grind (arith, nat_tests))
+      ]
+    ] refl spent
+  where
+    below : history.base < last_base → history.base ≡ last_base → ⊥
+    below going is = omega (arith, going, is)
+
+    none_yet : history.marks ≡ [] → history.base ≡ last_base → history.base + length history.marks ≡ last_base
+    none_yet none is = omega (arith, is, ap (λ (l : List Mark). length l) none)
+
+turned_over_run : (run : List History) (history : History) → IsRun run → last_history run ≡ Some history → length history.marks ≡ MAX_MARKS
+    → IsRun (run ++ turn_over history ∷ [])
+turned_over_run [] history is last full = absurd is
+turned_over_run (first ∷ []) history is last full =
+    let same : history ≡ first = cc in
+    subst (λ (h : History). length h.marks ≡ MAX_MARKS → IsRun (first ∷ turn_over h ∷ [])) (sym same) (λ f. (record { full = f; start = refl }, tt)) full
+turned_over_run (first ∷ next ∷ later) history is last full = (is.0, turned_over_run (next ∷ later) history is.1 last full)
+
+-- a run whose last history is full goes on by an empty one
+pub legal-turned_over : (limits : Limits) (run : List History) (history : History) → IsLegalRun limits run → last_history run ≡ Some history
+    → length history.marks ≡ MAX_MARKS
+    → IsLegalRun limits (run ++ turn_over history ∷ []) × (joined (run ++ turn_over history ∷ []) ≡ joined run)
+legal-turned_over limits run history legal last full = (
+  record {
+    turns_over = turned_over_run run history legal.turns_over last full;
+    each =
+        all_append (IsLegal limits) run (turn_over history ∷ []) legal.each
+        (legal-turn_over limits history (last_of_all limits run history last legal.each) full, tt);
+    moments = subst (NeverFall 0) (sym same) legal.moments;
+  },
+  same,
+)
+  where
+    same : joined (run ++ turn_over history ∷ []) ≡ joined run
+    same = flat_map-append (λ (h : History). h.marks) run (turn_over history ∷ []) ∙ append-nil (joined run)

@@ -40,7 +40,8 @@ Shows limits before mark (Held held) = mark.reply ≡ answer.Held held
 Shows limits before mark Stopping = mark.reply ≡ answer.Stopping
 Shows limits before mark Refused = ⊥
 
--- the last mark of a run is the session's own, with the step that was asked and the turn's answer
+-- The last mark of a run is the session's own, with the step that was asked and the turn's answer. No history without a mark comes
+-- behind it.
 pub record IsOwnMark (limits : Limits) (session : SessionId) (asked : MarkStep) (turn : Turn) (run : List History) (mark : Mark) : Type 0 where
   pub by : mark.session ≡ session
   pub asked_is : mark.step ≡ asked

@@ -56,26 +56,32 @@ abbrev pub closes : MarkStep → Option ℕ
 closes (Close ticket keep) = Some ticket
 closes _ = None
 
--- Which turns a step can come to at a desk. None is Stand: a desk waits. A Close is never refused.
+-- Which turns a step can come to. A Close is never refused.
+abbrev pub FitsReply : MarkStep → Turn → Type 0
+FitsReply asked Stopping = ⊤
+FitsReply (Close ticket keep) Refused = ⊥
+FitsReply asked Refused = ⊤
+FitsReply asked Stand = opens asked ≡ true
+FitsReply (Ask id mode way) (Given grant) = (grant.id ≡ id) × (grant.mode ≡ mode)
+FitsReply (Ask id mode Quiet) Empty = ⊤
+FitsReply (Ask id mode Prompt) (Open number) = ⊤
+FitsReply (Seat under) (Open number) = ⊤
+FitsReply (Peek id mode) (Held held) = ⊤
+FitsReply (Close ticket keep) Done = ⊤
+FitsReply (Put id mode life secret) Done = ⊤
+FitsReply (Clear id mode) Done = ⊤
+FitsReply Flush Done = ⊤
+FitsReply Stop Done = ⊤
+FitsReply _ _ = ⊥
+
+-- the same at a desk, which waits in place of a Stand
 abbrev pub FitsStep : MarkStep → Turn → Type 0
 FitsStep asked Stand = ⊥
-FitsStep asked Stopping = ⊤
-FitsStep (Close ticket keep) Refused = ⊥
-FitsStep asked Refused = ⊤
-FitsStep (Ask id mode way) (Given grant) = (grant.id ≡ id) × (grant.mode ≡ mode)
-FitsStep (Ask id mode Quiet) Empty = ⊤
-FitsStep (Ask id mode Prompt) (Open number) = ⊤
-FitsStep (Seat under) (Open number) = ⊤
-FitsStep (Peek id mode) (Held held) = ⊤
-FitsStep (Close ticket keep) Done = ⊤
-FitsStep (Put id mode life secret) Done = ⊤
-FitsStep (Clear id mode) Done = ⊤
-FitsStep Flush Done = ⊤
-FitsStep Stop Done = ⊤
-FitsStep _ _ = ⊥
+FitsStep asked turn = FitsReply asked turn
 
 -- the ticket that the session has after a turn: an Open gives it one, and a Close takes it
 abbrev pub out_after : Option ℕ → MarkStep → Turn → Option ℕ
+out_after out asked Refused = out
 out_after out asked (Open number) = Some number
 out_after out (Close ticket keep) turn = None
 out_after out asked turn = out

@@ -1,5 +1,5 @@
-ghost use Rattle.std.specs.Prelude.{◌≡◌, ◌<◌, ◌≤◌, ◌+◌, ◌||◌, ◌&&◌, ℕ, List, [], ◌∷◌, ◌++◌, Option, None, Some, Bool, false, not, max, length, map, if◌then◌else◌};
-ghost use Rattle.std.specs.Option.{option_or, option_and_then};
+ghost use Rattle.std.specs.Prelude.{◌≡◌, ◌<◌, ◌≤◌, ◌+◌, ◌||◌, ◌&&◌, ℕ, List, [], ◌∷◌, ◌++◌, Option, None, Some, Bool, true, false, not, max, length, map, if◌then◌else◌};
+ghost use Rattle.std.specs.Option.{option_or, option_map, option_and_then};
 ghost use Rattle.cache_policy.specs.declared.bounds.TheConstants.{MAX_MARKS, MAX_MOMENT};
 ghost use Rattle.cache_policy.specs.declared.life.Limits.{Limits};
 ghost use Rattle.cache_policy.specs.declared.mode.Mode.{Mode};
@@ -14,7 +14,7 @@ ghost use Rattle.cache_policy.specs.Entries.{stored, entries, AreNumbered};
 ghost use Rattle.cache_policy.specs.Seat.{under_of, is_open, is_stop, unless_given_back, seat, stopped};
 ghost use Rattle.cache_policy.specs.Live.{newest_of, newest, takes_away, gone, gives, last_use, is_live, live};
 ghost use Rattle.cache_policy.specs.Policy.{Reply, policy};
-ghost use Rattle.cache_policy.specs.Runs.{last_base, turn_over, next_history, IsRun, joined, start_of_run, moment_before, last_history, run_with_mark};
+ghost use Rattle.cache_policy.specs.Runs.{last_base, is_spent, turn_over, next_history, IsRun, joined, start_of_run, moment_before, last_history, run_with_mark};
 ghost use Rattle.cache_policy.specs.Legal.{IsLegal, IsLegalRun};
 ghost use Rattle.cache_policy.specs.Return.{IsGivenRightly};
 ghost use Rattle.cache_policy.specs.Bare.{bare_step, bare, bare_entry};
@@ -32,12 +32,14 @@ pub fn nothing_comes_back()
 {}
 
 /// What one mark more makes of a history: of its seat, of whether it has stopped, and of which entries are gone, used, newest and
-/// live. It stays legal by a mark that follows the policy, has room, and whose moment doesn't fall.
+/// live. It stays legal by a mark that follows the policy, has room, and whose moment doesn't fall, unless the agent is spent.
 pub fn one_more_mark()
     ensures seat { (history : History) (mark : Mark) → seat (with_mark history mark)
         ≡ (if is_open mark.reply then Some (record { ticket = next_number history; under = under_of mark.step })
         else option_and_then (unless_given_back mark.step) (seat history)) }
     ensures stopped { (history : History) (mark : Mark) → stopped (with_mark history mark) ≡ (stopped history || is_stop mark.step) }
+    ensures entries { (limits : Limits) (history : History) (mark : Mark) → entries limits (with_mark history mark)
+        ≡ entries limits history ++ stored limits history mark.step mark.moment }
     ensures numbers { (limits : Limits) (history : History) → AreNumbered history.base (entries limits history) (next_number history) }
     ensures newest { (limits : Limits) (history : History) (mark : Mark) (id : List ℕ) (mode : Mode)
         → newest limits (with_mark history mark) id mode
@@ -77,10 +79,20 @@ pub fn a_history_turns_over()
 pub fn a_run_goes_on()
     ensures start { (run : List History) (mark : Mark) → start_of_run (run_with_mark run mark) ≡ start_of_run run }
     ensures marks { (run : List History) (mark : Mark) → IsRun run → joined (run_with_mark run mark) ≡ joined run ++ mark ∷ [] }
+    ensures last { (run : List History) (history : History) (mark : Mark) → last_history run ≡ Some history
+        → last_history (run_with_mark run mark) ≡ Some (with_mark (next_history history) mark) }
     ensures legal { (limits : Limits) (run : List History) (history : History) (mark : Mark) → IsLegalRun limits run
         → last_history run ≡ Some history → policy limits (next_history history) mark.step mark.moment ≡ Reply mark.reply
         → moment_before (joined run) ≤ mark.moment → mark.moment ≤ MAX_MOMENT
         → (next_history history).base < last_base → IsLegalRun limits (run_with_mark run mark) }
+
+    // A spent agent has made all its marks.
+    ensures spent { (limits : Limits) (history : History) → IsLegal limits history → is_spent (next_history history) ≡ true
+        → history.base + length history.marks ≡ last_base }
+    // A turn-over alone leaves the run as legal as it was.
+    ensures turned_over { (limits : Limits) (run : List History) (history : History) → IsLegalRun limits run
+        → last_history run ≡ Some history → length history.marks ≡ MAX_MARKS
+        → IsLegalRun limits (run ++ turn_over history ∷ []) × (joined (run ++ turn_over history ∷ []) ≡ joined run) }
 {}
 
 /// The policy reads no byte of a secret: without them a history has the same seat, the same entries but for their bytes, and the same
@@ -89,6 +101,9 @@ pub fn no_secret_is_read()
     ensures seat { (history : History) → seat (bare history) ≡ seat history }
     ensures stopped { (history : History) → stopped (bare history) ≡ stopped history }
     ensures entries { (limits : Limits) (history : History) → entries limits (bare history) ≡ map bare_entry (entries limits history) }
+    ensures live { (limits : Limits) (history : History) (id : List ℕ) (mode : Mode) (moment : ℕ)
+        → live limits (bare history) id mode moment ≡ option_map bare_entry (live limits history id mode moment) }
+    ensures last_use { (history : History) (entry : Entry) → last_use (bare history) (bare_entry entry) ≡ last_use history entry }
     ensures policy { (limits : Limits) (history : History) (asked : MarkStep) (moment : ℕ)
         → policy limits (bare history) (bare_step asked) moment ≡ policy limits history asked moment }
     ensures legal { (limits : Limits) (history : History) → IsLegal limits history → IsLegal limits (bare history) }

@@ -1,4 +1,4 @@
-use Rattle.cache_policy.proofs.BareLemmas.{seat-bare, stopped-bare, entries-bare, policy-bare, legal-bare}
+use Rattle.cache_policy.proofs.BareLemmas.{seat-bare, stopped-bare, entries-bare, live-bare, last_use-bare, policy-bare, legal-bare}
 use Rattle.cache_policy.proofs.laws.no_secret_is_read.Goals as goal
 
 pub returns-clause-seat : goal.returns-clause-seat
@@ -15,3 +15,9 @@ returns-clause-policy c = policy-bare
 
 pub returns-clause-legal : goal.returns-clause-legal
 returns-clause-legal c = legal-bare
+
+pub returns-clause-live : goal.returns-clause-live
+returns-clause-live c = live-bare
+
+pub returns-clause-last_use : goal.returns-clause-last_use
+returns-clause-last_use c = last_use-bare

@@ -1,3 +1,4 @@
+use Rattle.cache_policy.proofs.EntriesLemmas.{entries-with_mark}
 use Rattle.cache_policy.proofs.OneMore.{seat-with_mark, stopped-with_mark, newest-with_mark, gone-with_mark, last_use-with_mark, is_live-with_mark}
 use Rattle.cache_policy.proofs.Growing.{entries_numbered, is_live-stored, legal-with_mark}
 use Rattle.cache_policy.proofs.laws.one_more_mark.Goals as goal
@@ -28,3 +29,6 @@ returns-clause-live_at_once c = is_live-stored
 
 pub returns-clause-legal : goal.returns-clause-legal
 returns-clause-legal c = legal-with_mark
+
+pub returns-clause-entries : goal.returns-clause-entries
+returns-clause-entries c = entries-with_mark
