@@ -4,13 +4,15 @@ use Rattle.std.specs.Prelude.{ℕ, ◌&&◌, nat_le, Bool, true, false, List, []
 use Rattle.std.specs.Option.{option_and_then, option_map_or}
 use Rattle.assuan_text.specs.Rows.{found}
 use Rattle.assuan_text.specs.Numbers.{number_of}
+use Rattle.cache_policy.specs.declared.life.TheConstants.{MAX_SECONDS}
+use Rattle.session_options.specs.declared.rules.TheConstants.{MIN_S2K_COUNT, MAX_S2K_COUNT, MIN_WORKERS, MAX_WORKERS}
 use Rattle.agent_top.specs.Settings.{Setting, value_given}
 use Rattle.agent_top.specs.declared.words.forms.Form.{Form}
 use Rattle.agent_top.specs.declared.words.forms.Form.TheVariants.{Flag, Path, Number}
 
 -- a number of seconds
 abbrev pub seconds : Form
-seconds = Number 0 2147483647
+seconds = Number 0 MAX_SECONDS
 
 abbrev pub forms : List (List ℕ × Form)
 forms =
@@ -28,8 +30,8 @@ forms =
     ∷ (codes "--min-passphrase-len", Number 0 255)
     ∷ (codes "--min-passphrase-nonalpha", Number 0 255)
     ∷ (codes "--pinentry-timeout", seconds)
-    ∷ (codes "--s2k-count", Number 65536 65011712)
-    ∷ (codes "--workers", Number 1 64)
+    ∷ (codes "--s2k-count", Number MIN_S2K_COUNT MAX_S2K_COUNT)
+    ∷ (codes "--workers", Number MIN_WORKERS MAX_WORKERS)
     ∷ []
 
 -- what the option of this name takes

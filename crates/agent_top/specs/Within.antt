@@ -5,6 +5,7 @@ use Rattle.std.specs.Option.{option_and_then}
 use Rattle.std.proofs.Common.{lit≤}
 use Rattle.std.proofs.lemmas.Bool.{leb-true, and_parts, cond_both}
 use Rattle.session_options.specs.Counts.{IsS2kCount, IsWorkers}
+use Rattle.session_options.specs.Defaults.{default_rules}
 use Rattle.assuan_text.specs.Numbers.{number_of}
 use Rattle.agent_top.specs.Settings.{Setting, value_given}
 use Rattle.agent_top.specs.Forms.{form_of, if_between, number_for, number_or}
@@ -36,14 +37,14 @@ number-within (Some Flag) default value within = absurd within
 number-within (Some Path) default value within = absurd within
 number-within None default value within = absurd within
 
-pub count-within : (given : List Setting) → IsS2kCount (number_or 4194304 (codes "--s2k-count") given)
+pub count-within : (given : List Setting) → IsS2kCount (number_or default_rules.s2k_count (codes "--s2k-count") given)
 unfolding form_of
 count-within given =
-    let within = number-within (form_of (codes "--s2k-count")) 4194304 (value_given (codes "--s2k-count") given) (lit≤ tt, lit≤ tt) in
+    let within = number-within (form_of (codes "--s2k-count")) default_rules.s2k_count (value_given (codes "--s2k-count") given) (lit≤ tt, lit≤ tt) in
     record { least = within.0; greatest = within.1 }
 
-pub workers-within : (given : List Setting) → IsWorkers (number_or 8 (codes "--workers") given)
+pub workers-within : (given : List Setting) → IsWorkers (number_or default_rules.workers (codes "--workers") given)
 unfolding form_of
 workers-within given =
-    let within = number-within (form_of (codes "--workers")) 8 (value_given (codes "--workers") given) (lit≤ tt, lit≤ tt) in
+    let within = number-within (form_of (codes "--workers")) default_rules.workers (value_given (codes "--workers") given) (lit≤ tt, lit≤ tt) in
     record { least = within.0; greatest = within.1 }

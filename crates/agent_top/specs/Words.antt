@@ -4,6 +4,7 @@ use Rattle.std.specs.Prelude.{ℕ, ◌&&◌, not, Bool, true, false, List, codes
 use Rattle.std.specs.List.{list_all}
 use Rattle.std.specs.Option.{option_map, option_and_then}
 use Rattle.arrayvec.specs.ArrayVec.{ArrayVec}
+use Rattle.session_options.specs.Defaults.{default_rules}
 use Rattle.session_options.specs.declared.rules.Rules.{Rules}
 use Rattle.session_options.specs.declared.rules.RunMode.{RunMode}
 use Rattle.session_options.specs.declared.rules.RunMode.TheVariants.{Server, Daemon, Load}
@@ -26,23 +27,23 @@ run_of given =
 abbrev word : List ℕ → ArrayVec ℕ
 word bytes = record { items = bytes }
 
--- the number of the process isn't asked for yet
+-- each is what its option is given, or else the default; the number of the process isn't asked for yet
 abbrev pub rules_with : List Setting → RunMode → Rules
 rules_with given run = record {
-  default_ttl = number_or 600 (codes "--default-cache-ttl") given;
-  max_ttl = number_or 7200 (codes "--max-cache-ttl") given;
-  default_ttl_ssh = number_or 1800 (codes "--default-cache-ttl-ssh") given;
-  max_ttl_ssh = number_or 7200 (codes "--max-cache-ttl-ssh") given;
-  pinentry_timeout = number_or 0 (codes "--pinentry-timeout") given;
-  workers = number_or 8 (codes "--workers") given;
-  pid = 0;
-  min_len = number_or 8 (codes "--min-passphrase-len") given;
-  min_nonalpha = number_or 1 (codes "--min-passphrase-nonalpha") given;
+  default_ttl = number_or default_rules.default_ttl (codes "--default-cache-ttl") given;
+  max_ttl = number_or default_rules.max_ttl (codes "--max-cache-ttl") given;
+  default_ttl_ssh = number_or default_rules.default_ttl_ssh (codes "--default-cache-ttl-ssh") given;
+  max_ttl_ssh = number_or default_rules.max_ttl_ssh (codes "--max-cache-ttl-ssh") given;
+  pinentry_timeout = number_or default_rules.pinentry_timeout (codes "--pinentry-timeout") given;
+  workers = number_or default_rules.workers (codes "--workers") given;
+  pid = default_rules.pid;
+  min_len = number_or default_rules.min_len (codes "--min-passphrase-len") given;
+  min_nonalpha = number_or default_rules.min_nonalpha (codes "--min-passphrase-nonalpha") given;
   allow_preset = is_given (codes "--allow-preset-passphrase") given;
   allow_loopback = not (is_given (codes "--no-allow-loopback-pinentry") given);
-  s2k_count = number_or 4194304 (codes "--s2k-count") given;
-  pinentry = word (path_or (codes "/usr/bin/pinentry") (codes "--pinentry-program") given);
-  homedir = word (path_or (codes ".") (codes "--homedir") given);
+  s2k_count = number_or default_rules.s2k_count (codes "--s2k-count") given;
+  pinentry = word (path_or default_rules.pinentry.items (codes "--pinentry-program") given);
+  homedir = word (path_or default_rules.homedir.items (codes "--homedir") given);
   run = run;
   count_in_range = count-within given;
   workers_in_range = workers-within given;

@@ -15,6 +15,8 @@ use forms::{form_of, number_for, path_of};
 use session_options::{Rules, RunMode};
 pub use settings::words_are_read_as_spelled;
 use settings::{all_fit, are_distinct, is_given, value_given};
+use std::error::Error;
+use std::fmt;
 
 /// The words of the command line are none that the agent takes.
 #[derive(Clone, Copy, Debug, PartialEq, Eq)]
@@ -22,6 +24,14 @@ pub enum WordsFault {
     /// An unknown word, one given twice, a value out of form, or no word that says what to do.
     Bad,
 }
+
+impl fmt::Display for WordsFault {
+    fn fmt<W: fmt::Write>(&self, f: &mut fmt::Formatter<W>) -> fmt::Result {
+        f.write_str("unknown or faulty words on the command line")
+    }
+}
+
+impl Error for WordsFault {}
 
 /// Reads the words of the command line, without the program's name, as the rules that they mean (GnuPG manual, "agent
 /// options"). `--daemon` and `--load` are refused, since they aren't built yet.
@@ -57,21 +67,34 @@ fn rules_from(words: &[String]) -> Option<Rules>
 fn rules_with(words: &[String], run: RunMode) -> Rules
     ensures { result ≡ rules_with (settings (map string_bytes words.now)) run }
 {
+    let usual = Rules::default();
     Rules {
-        default_ttl: number_or(words, "--default-cache-ttl", 600) as u32,
-        max_ttl: number_or(words, "--max-cache-ttl", 7200) as u32,
-        default_ttl_ssh: number_or(words, "--default-cache-ttl-ssh", 1800) as u32,
-        max_ttl_ssh: number_or(words, "--max-cache-ttl-ssh", 7200) as u32,
-        pinentry_timeout: number_or(words, "--pinentry-timeout", 0) as u32,
-        workers: number_or(words, "--workers", 8) as u32,
-        pid: 0,
-        min_len: number_or(words, "--min-passphrase-len", 8) as u8,
-        min_nonalpha: number_or(words, "--min-passphrase-nonalpha", 1) as u8,
+        default_ttl: number_or(words, "--default-cache-ttl", usual.default_ttl.into()) as u32,
+        max_ttl: number_or(words, "--max-cache-ttl", usual.max_ttl.into()) as u32,
+        default_ttl_ssh: number_or(
+            words,
+            "--default-cache-ttl-ssh",
+            usual.default_ttl_ssh.into(),
+        ) as u32,
+        max_ttl_ssh: number_or(words, "--max-cache-ttl-ssh", usual.max_ttl_ssh.into()) as u32,
+        pinentry_timeout: number_or(
+            words,
+            "--pinentry-timeout",
+            usual.pinentry_timeout.into(),
+        ) as u32,
+        workers: number_or(words, "--workers", usual.workers.into()) as u32,
+        pid: usual.pid,
+        min_len: number_or(words, "--min-passphrase-len", usual.min_len.into()) as u8,
+        min_nonalpha: number_or(
+            words,
+            "--min-passphrase-nonalpha",
+            usual.min_nonalpha.into(),
+        ) as u8,
         allow_preset: is_given(words, "--allow-preset-passphrase"),
         allow_loopback: !is_given(words, "--no-allow-loopback-pinentry"),
-        s2k_count: number_or(words, "--s2k-count", 4_194_304),
-        pinentry: path_or(words, "--pinentry-program", "/usr/bin/pinentry"),
-        homedir: path_or(words, "--homedir", "."),
+        s2k_count: number_or(words, "--s2k-count", usual.s2k_count),
+        pinentry: path_or(words, "--pinentry-program", &usual.pinentry),
+        homedir: path_or(words, "--homedir", &usual.homedir),
         run,
     }
 }
@@ -106,14 +129,15 @@ fn number_or(words: &[String], name: &str, default: u64) -> u64
 }
 
 /// The path that an option is given, or else its default.
-fn path_or(words: &[String], name: &str, default: &str) -> ArrayVec<u8, 255>
+fn path_or(words: &[String], name: &str, default: &[u8]) -> ArrayVec<u8, 255>
     requires { length default.now ≤ 200 }
     ensures { result.items ≡ path_or default.now name.now (settings (map string_bytes words.now)) }
 {
-    let path = value_given(words, name)
-        .and_then(path_of)
-        .unwrap_or(default);
+    let path = match value_given(words, name).and_then(path_of) {
+        Some(path) => path.as_bytes(),
+        None => default,
+    };
     let mut word = ArrayVec::new();
-    word.try_extend_from_slice(path.as_bytes()).unwrap();
+    word.try_extend_from_slice(path).unwrap();
     word
 }

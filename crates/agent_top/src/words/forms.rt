@@ -5,6 +5,8 @@ ghost use Rattle.agent_top.specs.Settings.{setting_of};
 
 use super::settings::Setting;
 use assuan_text::{found, number_of};
+use cache_policy::MAX_SECONDS;
+use session_options::{MAX_S2K_COUNT, MAX_WORKERS, MIN_S2K_COUNT, MIN_WORKERS};
 
 /// What an option takes.
 #[derive(Clone, Copy)]
@@ -19,7 +21,7 @@ pub(crate) enum Form {
 
 const SECONDS: Form = Form::Number {
     least: 0,
-    greatest: 2_147_483_647,
+    greatest: MAX_SECONDS as u64,
 };
 
 const UP_TO_255: Form = Form::Number {
@@ -33,13 +35,13 @@ const LOAD: Form = Form::Number {
 };
 
 const S2K_COUNT: Form = Form::Number {
-    least: 65_536,
-    greatest: 65_011_712,
+    least: MIN_S2K_COUNT,
+    greatest: MAX_S2K_COUNT,
 };
 
 const WORKERS: Form = Form::Number {
-    least: 1,
-    greatest: 64,
+    least: MIN_WORKERS as u64,
+    greatest: MAX_WORKERS as u64,
 };
 
 const FORMS: [(&[u8], Form); 16] = [

@@ -93,7 +93,12 @@ fn other_words_are_refused(rt: HostRuntime) -> Result<(), Fail> {
     for line in REFUSED {
         assert!(rt; read(rt.alloc(), line)?.is_err(), "{line}");
     }
-    assert!(rt; read_words(&[]).is_err());
+    let fault = read_words(&[]).err().ok_or("taken")?;
+    let text = format!(in rt.alloc(); "{fault}")?;
+    assert_eq!(rt;
+        text.as_str(),
+        "unknown or faulty words on the command line"
+    );
     Ok(())
 }
 
