@@ -1,15 +1,29 @@
 -- The definition on worked examples, each by computation.
-use Rattle.std.specs.Prelude.{◌≡◌, [], ◌∷◌, ◌++◌, replicate, codes, true, false, Some, None, refl}
+use Rattle.std.specs.Prelude.{◌≡◌, ℕ, List, [], ◌∷◌, ◌++◌, replicate, codes, true, false, Some, None, refl}
 use Rattle.percent_encoding.proofs.OnLiterals.{percent_encoding_on_literals}
 use Rattle.hex.proofs.OnLiterals.{hex_on_literals}
+use Rattle.session_options.specs.Defaults.{default_rules}
+use Rattle.cache_policy.specs.Lifetimes.{default_limits}
 use Rattle.cache_policy.specs.declared.life.Life.TheVariants.{Default, Endless, Seconds}
-use Rattle.agent_commands.specs.Names.{command_named, what_named, is_listed}
+use Rattle.agent_commands.specs.Names.{command_named, info_named, is_listed}
 use Rattle.agent_commands.specs.Fields.{text}
-use Rattle.agent_commands.specs.Requests.{request_of}
+use Rattle.agent_commands.specs.Requests.{GetFields, request_of, get_passphrase}
 use Rattle.assuan_server.specs.declared.errors.Code.TheVariants.{NotSupported, UnknownCommand, Parameter}
 use Rattle.agent_commands.specs.declared.request.Info.TheVariants.{Version, Listed}
-use Rattle.agent_commands.specs.declared.request.CacheCommand.TheVariants.{Nop, Bye, SetOption, GetInfo, GetPassphrase, PresetPassphrase}
+use Rattle.agent_commands.specs.declared.request.CacheCommand.TheVariants.{Nop, Bye, SetOption, GetInfo, PresetPassphrase}
 use Rattle.agent_commands.specs.declared.request.Request.TheVariants.{Cache, Bad}
+
+-- GET_PASSPHRASE with no option and no texts
+abbrev of_id : List ℕ → GetFields
+of_id id = record {
+  plain = false;
+  check = false;
+  no_ask = false;
+  repeat = 0;
+  quality = false;
+  id = Some id;
+  texts = None;
+}
 
 nop_with_blanks : request_of (codes "NOP" ++ replicate 997 32) ≡ Cache Nop
 unfolding request_of command_named
@@ -20,11 +34,11 @@ unfolding request_of command_named
 blanks_in_front = refl
 
 version : request_of (codes "getinfo version") ≡ Cache (GetInfo Version)
-unfolding request_of command_named what_named
+unfolding request_of command_named info_named
 version = refl
 
 version_is_lower : request_of (codes "GETINFO Version") ≡ Bad Parameter
-unfolding request_of command_named what_named
+unfolding request_of command_named info_named
 version_is_lower = refl
 
 foo : request_of (codes "FOO") ≡ Bad UnknownCommand
@@ -36,15 +50,15 @@ unfolding request_of command_named
 no_command = refl
 
 unlisted_pair : request_of (codes "GETINFO cmd_has_option GET_PASSPHRASE mode") ≡ Bad NotSupported
-unfolding request_of command_named what_named is_listed
+unfolding request_of command_named info_named is_listed
 unlisted_pair = refl
 
 listed_pair : request_of (codes "GETINFO cmd_has_option PRESET_PASSPHRASE inquire more") ≡ Cache (GetInfo Listed)
-unfolding request_of command_named what_named is_listed
+unfolding request_of command_named info_named is_listed
 listed_pair = refl
 
 half_a_pair : request_of (codes "GETINFO cmd_has_option FOO") ≡ Bad Parameter
-unfolding request_of command_named what_named
+unfolding request_of command_named info_named
 half_a_pair = refl
 
 option_text : request_of (codes "OPTION --ttyname = /dev/pts/1") ≡ Cache (SetOption (text (codes "--ttyname = /dev/pts/1")))
@@ -79,15 +93,15 @@ odd_digits : request_of (codes "PRESET_PASSPHRASE id1 -1 255") ≡ Bad Parameter
 unfolding request_of command_named hex_on_literals
 odd_digits = refl
 
-get : request_of (codes "GET_PASSPHRASE --no-ask --data id1") ≡ Cache (GetPassphrase true false true 0 false (Some (codes "id1")) None)
+get : request_of (codes "GET_PASSPHRASE --no-ask --data id1") ≡ Cache (get_passphrase (record (of_id (codes "id1")) { plain = true; no_ask = true }))
 unfolding request_of command_named
 get = refl
 
-no_id : request_of (codes "GET_PASSPHRASE --no-ask X") ≡ Cache (GetPassphrase false false true 0 false None None)
+no_id : request_of (codes "GET_PASSPHRASE --no-ask X") ≡ Cache (get_passphrase (record (of_id (codes "X")) { no_ask = true; id = None }))
 unfolding request_of command_named
 no_id = refl
 
-unknown_option : request_of (codes "GET_PASSPHRASE --frob --data=yes --repeat=9 --repeat=02 id1") ≡ Cache (GetPassphrase false false false 2 false (Some (codes "id1")) None)
+unknown_option : request_of (codes "GET_PASSPHRASE --frob --data=yes --repeat=9 --repeat=02 id1") ≡ Cache (get_passphrase (record (of_id (codes "id1")) { repeat = 2 }))
 unfolding request_of command_named
 unknown_option = refl
 
@@ -95,7 +109,7 @@ repeat_17 : request_of (codes "GET_PASSPHRASE --repeat=17 id1") ≡ Bad Paramete
 unfolding request_of command_named
 repeat_17 = refl
 
-repeat_once : request_of (codes "GET_PASSPHRASE --repeat=17 --repeat id1") ≡ Cache (GetPassphrase false false false 1 false (Some (codes "id1")) None)
+repeat_once : request_of (codes "GET_PASSPHRASE --repeat=17 --repeat id1") ≡ Cache (get_passphrase (record (of_id (codes "id1")) { repeat = 1 }))
 unfolding request_of command_named
 repeat_once = refl
 
@@ -103,26 +117,39 @@ two_words : request_of (codes "GET_PASSPHRASE id1 X") ≡ Bad Parameter
 unfolding request_of command_named
 two_words = refl
 
-usual_texts : request_of (codes "GET_PASSPHRASE id1 X X X more") ≡ Cache (GetPassphrase false false false 0 false (Some (codes "id1")) (Some (record {
-  error = text [];
-  prompt = text (codes "Passphrase:");
-  description = text (codes "Please enter the passphrase");
-})))
+usual_texts : request_of (codes "GET_PASSPHRASE id1 X X X more") ≡ Cache (get_passphrase (record (of_id (codes "id1")) {
+  texts = Some (record {
+    error = text [];
+    prompt = text (codes "Passphrase:");
+    description = text (codes "Please enter the passphrase");
+  });
+}))
 unfolding request_of command_named
 usual_texts = refl
 
-escaped_texts : request_of (codes "GET_PASSPHRASE id1 a+b 100%25 %C3%a9+x") ≡ Cache (GetPassphrase false false false 0 false (Some (codes "id1")) (Some (record {
-  error = text (codes "a b");
-  prompt = text (codes "100%");
-  description = text (195 ∷ 169 ∷ codes " x");
-})))
+escaped_texts : request_of (codes "GET_PASSPHRASE id1 a+b 100%25 %C3%a9+x") ≡ Cache (get_passphrase (record (of_id (codes "id1")) {
+  texts = Some (record {
+    error = text (codes "a b");
+    prompt = text (codes "100%");
+    description = text (195 ∷ 169 ∷ codes " x");
+  });
+}))
 unfolding request_of command_named percent_encoding_on_literals
 escaped_texts = refl
 
-id_of_50 : request_of (codes "GET_PASSPHRASE " ++ replicate 50 97) ≡ Cache (GetPassphrase false false false 0 false (Some (replicate 50 97)) None)
+id_of_50 : request_of (codes "GET_PASSPHRASE " ++ replicate 50 97) ≡ Cache (get_passphrase (of_id (replicate 50 97)))
 unfolding request_of command_named
 id_of_50 = refl
 
 id_of_51 : request_of (codes "GET_PASSPHRASE " ++ replicate 51 97) ≡ Bad Parameter
 unfolding request_of command_named
 id_of_51 = refl
+
+-- the lifetimes by default are those of the cache
+same_lifetimes : default_limits ≡ record {
+  ttl = default_rules.default_ttl;
+  max = default_rules.max_ttl;
+  ttl_ssh = default_rules.default_ttl_ssh;
+  max_ssh = default_rules.max_ttl_ssh;
+}
+same_lifetimes = refl

@@ -7,22 +7,26 @@ use Rattle.arrayvec.specs.ArrayVec.{ArrayVec}
 use Rattle.hex.specs.Hex.{decode_of}
 use Rattle.hex.specs.declared.error.FromHexError.{FromHexError}
 use Rattle.assuan_escape.specs.Escapes.{unescaped}
+use Rattle.cache_policy.specs.declared.id.TheConstants.{MAX_ID_LEN}
+use Rattle.cache_policy.specs.declared.life.TheConstants.{MAX_SECONDS}
+use Rattle.cache_policy.specs.declared.secret.TheConstants.{MAX_SECRET_LEN}
 use Rattle.cache_policy.specs.declared.life.Life.{Life}
 use Rattle.cache_policy.specs.declared.life.Life.TheVariants.{Default, Endless, Seconds}
 use Rattle.assuan_text.specs.Numbers.{number_of}
+use Rattle.agent_commands.specs.declared.fields.TheConstants.{MAX_REPEAT}
 use Rattle.agent_commands.specs.declared.request.Texts.{Texts}
 
--- the word stands for none
-abbrev pub is_none : List ℕ → Bool
-is_none word = bytes_eq word (codes "X")
+-- the word that stands for none
+abbrev pub is_placeholder : List ℕ → Bool
+is_placeholder word = bytes_eq word (codes "X")
 
--- a cache id has 1 to 50 bytes
+-- a cache id has a byte at least, and isn't too long
 abbrev pub cache_id : List ℕ → Option (List ℕ)
-cache_id word = if nat_le 1 (length word) && nat_le (length word) 50 then Some word else None
+cache_id word = if nat_le 1 (length word) && nat_le (length word) MAX_ID_LEN then Some word else None
 
 -- the id, where it isn't the one that stands for none
-abbrev pub unless_none : List ℕ → Option (List ℕ)
-unless_none id = if is_none id then None else Some id
+abbrev pub unless_placeholder : List ℕ → Option (List ℕ)
+unless_placeholder id = if is_placeholder id then None else Some id
 
 -- the bytes as a text
 abbrev pub text : List ℕ → ArrayVec ℕ
@@ -30,7 +34,7 @@ text bytes = record { items = bytes }
 
 -- the text that a word means, where a `+` is a blank, or the one that stands for none
 abbrev pub text_or : List ℕ → List ℕ → ArrayVec ℕ
-text_or usual word = if is_none word then text usual else text (unescaped true word)
+text_or usual word = if is_placeholder word then text usual else text (unescaped true word)
 
 -- what a prompt says: no word for none of it, or one each for the error, the prompt and the description. `None` where
 -- there are one or two.
@@ -43,9 +47,9 @@ texts (error ∷ prompt ∷ description ∷ more) = Some (Some (record {
 }))
 texts _ = None
 
--- how often a new passphrase is asked for again: up to 16 times
-abbrev pub up_to_16 : ℕ → Option ℕ
-up_to_16 number = if nat_le number 16 then Some number else None
+-- how often a new passphrase is asked for again
+abbrev pub repeat_of : ℕ → Option ℕ
+repeat_of number = if nat_le number MAX_REPEAT then Some number else None
 
 -- the number that a word of one or two digits is
 abbrev pub short_number : List ℕ → Option ℕ
@@ -56,13 +60,13 @@ abbrev pub repeats : Option (List ℕ) → Option ℕ
 repeats None = Some 0
 repeats (Some option) =
     if bytes_eq option (codes "--repeat") then Some 1
-    else option_and_then up_to_16 (short_number (drop (length (codes "--repeat=")) option))
+    else option_and_then repeat_of (short_number (drop (length (codes "--repeat=")) option))
 
 -- a number of seconds, where 0 is the usual lifetime
 abbrev pub life_of_seconds : ℕ → Option Life
 life_of_seconds seconds =
     if seconds == 0 then Some Default
-    else if nat_le seconds 2147483647 then Some (Seconds seconds)
+    else if nat_le seconds MAX_SECONDS then Some (Seconds seconds)
     else None
 
 -- the lifetime that a word says
@@ -71,9 +75,9 @@ life word =
     if bytes_eq word (codes "-1") then Some Endless
     else option_and_then life_of_seconds (number_of word)
 
--- a passphrase has at most 255 bytes
+-- a passphrase isn't too long
 abbrev pub passphrase : Result (List ℕ) FromHexError → Option (List ℕ)
-passphrase (Ok bytes) = if nat_le (length bytes) 255 then Some bytes else None
+passphrase (Ok bytes) = if nat_le (length bytes) MAX_SECRET_LEN then Some bytes else None
 passphrase (Err _) = None
 
 -- the passphrase is in the hexadecimal digits of the word, or comes by an inquiry, and not both. `None` where it is neither.

@@ -4,8 +4,8 @@ use Rattle.std.specs.Prelude.{ℕ, Bool, List, [], ◌∷◌, codes, map, Option
 use Rattle.assuan_text.specs.Rows.{found, found_in_any_case, has_pair}
 use Rattle.agent_commands.specs.declared.names.CommandName.{CommandName}
 use Rattle.agent_commands.specs.declared.names.CommandName.TheVariants.{Nop, Reset, Bye, Help, SetOption, GetInfo, GetPassphrase, PresetPassphrase}
-use Rattle.agent_commands.specs.declared.names.What.{What}
-use Rattle.agent_commands.specs.declared.names.What.TheVariants.{Version, Pid, S2kCount, HasOption}
+use Rattle.agent_commands.specs.declared.request.Info.{Info}
+use Rattle.agent_commands.specs.declared.request.Info.TheVariants.{Version, Pid, S2kCount}
 
 abbrev pub commands : List (List ℕ × CommandName)
 commands =
@@ -27,17 +27,16 @@ command_names = map (λ row. row.0) commands
 unfoldable pub command_named : List ℕ → Option CommandName
 command_named word = found_in_any_case word commands
 
--- what GETINFO can be asked for
-abbrev pub whats : List (List ℕ × What)
-whats =
+-- what GETINFO can be asked for by one word
+abbrev pub infos : List (List ℕ × Info)
+infos =
     (codes "version", Version)
     ∷ (codes "pid", Pid)
     ∷ (codes "s2k_count", S2kCount)
-    ∷ (codes "cmd_has_option", HasOption)
     ∷ []
 
-unfoldable pub what_named : List ℕ → Option What
-what_named word = found word whats
+unfoldable pub info_named : List ℕ → Option Info
+info_named word = found word infos
 
 -- the options that GETINFO knows of the commands that are served
 abbrev pub listed : List (List ℕ × List ℕ)

@@ -1,81 +1,106 @@
 -- What a line asks for, or the fault for which it is refused (GnuPG manual, "Agent's Assuan protocol"). Which fault a refusal has is
 -- this project's own.
-use Rattle.std.specs.Prelude.{ℕ, List, [], ◌∷◌, codes, Option, Some, None, if◌then◌else◌}
-use Rattle.cache_policy.specs.declared.life.Life.{Life}
+use Rattle.std.specs.Prelude.{ℕ, Bool, List, [], ◌∷◌, codes, ok_or, Option, Result, Ok, Err, if◌then◌else◌}
+use Rattle.std.specs.Str.{bytes_eq}
+use Rattle.assuan_text.specs.Options.{options_of, arguments_of, has_option, last_option}
 use Rattle.assuan_text.specs.Words.{command_of, rest_of, words}
-use Rattle.agent_commands.specs.Words.{options_of, arguments_of, has_option, last_option}
-use Rattle.agent_commands.specs.Names.{command_named, what_named, is_listed}
-use Rattle.agent_commands.specs.Fields.{cache_id, unless_none, text, texts, repeats, life, given_passphrase}
+use Rattle.agent_commands.specs.Names.{command_named, info_named, is_listed}
+use Rattle.agent_commands.specs.Fields.{cache_id, unless_placeholder, text, texts, repeats, life, given_passphrase}
+use Rattle.assuan_server.specs.declared.errors.Code.{Code}
 use Rattle.assuan_server.specs.declared.errors.Code.TheVariants.{NotSupported, UnknownCommand, Parameter}
 use Rattle.agent_commands.specs.declared.names.CommandName.{CommandName}
 use Rattle.agent_commands.specs.declared.names.CommandName.TheVariants as name
-use Rattle.agent_commands.specs.declared.names.What.{What}
-use Rattle.agent_commands.specs.declared.names.What.TheVariants as what
 use Rattle.agent_commands.specs.declared.request.Texts.{Texts}
-use Rattle.agent_commands.specs.declared.request.Info.TheVariants.{Version, Pid, S2kCount, Listed}
+use Rattle.agent_commands.specs.declared.request.Info.{Info}
+use Rattle.agent_commands.specs.declared.request.Info.TheVariants.{Listed}
+use Rattle.agent_commands.specs.declared.request.CacheCommand.{CacheCommand}
 use Rattle.agent_commands.specs.declared.request.CacheCommand.TheVariants.{Nop, Reset, Bye, Help, SetOption, GetInfo, GetPassphrase, PresetPassphrase}
 use Rattle.agent_commands.specs.declared.request.Request.{Request}
 use Rattle.agent_commands.specs.declared.request.Request.TheVariants.{Cache, Bad}
 
--- GETINFO cmd_has_option COMMAND OPTION; further words are passed over
-abbrev pub pair_request : List (List ℕ) → Request
-pair_request (command ∷ option ∷ more) =
-    if is_listed command option then Cache (GetInfo Listed) else Bad NotSupported
-pair_request _ = Bad Parameter
+infixl 10 ◌>>=◌
+-- what is read, and then what follows it; or else the first fault
+abbrev pub ◌>>=◌ : {A B : Type 0} → Result A Code → (A → Result B Code) → Result B Code
+(Ok value) >>= next = next value
+(Err code) >>= next = Err code
 
-abbrev pub what_request : Option What → List (List ℕ) → Request
-what_request (Some what.Version) more = Cache (GetInfo Version)
-what_request (Some what.Pid) more = Cache (GetInfo Pid)
-what_request (Some what.S2kCount) more = Cache (GetInfo S2kCount)
-what_request (Some what.HasOption) more = pair_request more
-what_request None more = Bad Parameter
+-- a field that has to be there, and to be in form
+abbrev pub needed : {A : Type 0} → Option A → Result A Code
+needed field = ok_or field Parameter
 
--- GETINFO WHAT
-abbrev pub info_request : List (List ℕ) → Request
-info_request [] = Bad Parameter
-info_request (word ∷ more) = what_request (what_named word) more
+-- cmd_has_option COMMAND OPTION; further words are passed over
+abbrev pub listed_info : List (List ℕ) → Result Info Code
+listed_info (command ∷ option ∷ more) = if is_listed command option then Ok Listed else Err NotSupported
+listed_info _ = Err Parameter
 
--- GET_PASSPHRASE with these options, where its fields can be read
-abbrev pub get_of : List (List ℕ) → Option ℕ → Option (List ℕ) → Option (Option Texts) → Request
-get_of options (Some repeat) (Some id) (Some texts) =
-    Cache (GetPassphrase
-    (has_option (codes "--data") options)
-    (has_option (codes "--check") options)
-    (has_option (codes "--no-ask") options)
-    repeat
-    (has_option (codes "--qualitybar") options)
-    (unless_none id)
-    texts)
-get_of options _ _ _ = Bad Parameter
+-- what GETINFO is asked for, by its arguments
+abbrev pub info_of : List (List ℕ) → Result Info Code
+info_of [] = Err Parameter
+info_of (what ∷ more) =
+    if bytes_eq what (codes "cmd_has_option") then listed_info more else needed (info_named what)
+
+-- the fields of GET_PASSPHRASE, by their names
+pub record GetFields : Type 0 where
+  pub plain : Bool
+  pub check : Bool
+  pub no_ask : Bool
+  pub repeat : ℕ
+  pub quality : Bool
+  pub id : Option (List ℕ)
+  pub texts : Option Texts
+
+abbrev pub get_passphrase : GetFields → CacheCommand
+get_passphrase fields =
+    GetPassphrase fields.plain fields.check fields.no_ask fields.repeat fields.quality fields.id fields.texts
 
 -- GET_PASSPHRASE OPTIONS ID [ERROR PROMPT DESCRIPTION]
-abbrev pub get_request : List (List ℕ) → List (List ℕ) → Request
-get_request options [] = Bad Parameter
-get_request options (id ∷ more) =
-    get_of options (repeats (last_option (codes "--repeat") options)) (cache_id id) (texts more)
-
--- PRESET_PASSPHRASE, where its fields can be read
-abbrev pub preset_of : Option (List ℕ) → Option Life → Option (Option (List ℕ)) → Request
-preset_of (Some id) (Some life) (Some secret) = Cache (PresetPassphrase id life secret)
-preset_of _ _ _ = Bad Parameter
+abbrev pub get_of : List (List ℕ) → List (List ℕ) → Result CacheCommand Code
+get_of options [] = Err Parameter
+get_of options (word ∷ more) = do
+  repeat ← needed (repeats (last_option (codes "--repeat") options))
+  id ← needed (cache_id word)
+  texts ← needed (texts more)
+  Ok (get_passphrase (record {
+    plain = has_option (codes "--data") options;
+    check = has_option (codes "--check") options;
+    no_ask = has_option (codes "--no-ask") options;
+    repeat = repeat;
+    quality = has_option (codes "--qualitybar") options;
+    id = unless_placeholder id;
+    texts = texts;
+  }))
 
 -- PRESET_PASSPHRASE [--inquire] ID TIMEOUT [DIGITS]
-abbrev pub preset_request : List (List ℕ) → List (List ℕ) → Request
-preset_request options (id ∷ timeout ∷ more) =
-    preset_of (cache_id id) (life timeout) (given_passphrase (has_option (codes "--inquire") options) more)
-preset_request options _ = Bad Parameter
+abbrev pub preset_of : List (List ℕ) → List (List ℕ) → Result CacheCommand Code
+preset_of options (word ∷ timeout ∷ more) = do
+  id ← needed (cache_id word)
+  life ← needed (life timeout)
+  secret ← needed (given_passphrase (has_option (codes "--inquire") options) more)
+  Ok (PresetPassphrase id life secret)
+preset_of options _ = Err Parameter
 
 -- a command, and what comes after it. OPTION's text is kept as it is.
-abbrev pub command_request : Option CommandName → List ℕ → Request
-command_request (Some name.Nop) rest = Cache Nop
-command_request (Some name.Reset) rest = Cache Reset
-command_request (Some name.Bye) rest = Cache Bye
-command_request (Some name.Help) rest = Cache Help
-command_request (Some name.SetOption) rest = Cache (SetOption (text rest))
-command_request (Some name.GetInfo) rest = info_request (arguments_of (words rest))
-command_request (Some name.GetPassphrase) rest = get_request (options_of (words rest)) (arguments_of (words rest))
-command_request (Some name.PresetPassphrase) rest = preset_request (options_of (words rest)) (arguments_of (words rest))
-command_request None rest = Bad UnknownCommand
+abbrev pub asked_by : CommandName → List ℕ → Result CacheCommand Code
+asked_by name.Nop rest = Ok Nop
+asked_by name.Reset rest = Ok Reset
+asked_by name.Bye rest = Ok Bye
+asked_by name.Help rest = Ok Help
+asked_by name.SetOption rest = Ok (SetOption (text rest))
+asked_by name.GetInfo rest = do
+  info ← info_of (arguments_of (words rest))
+  Ok (GetInfo info)
+asked_by name.GetPassphrase rest = get_of (options_of (words rest)) (arguments_of (words rest))
+asked_by name.PresetPassphrase rest = preset_of (options_of (words rest)) (arguments_of (words rest))
+
+-- the command that the line begins with, carried out with the rest of the line
+abbrev pub command_in : List ℕ → Result CacheCommand Code
+command_in line = do
+  name ← ok_or (command_named (command_of line)) UnknownCommand
+  asked_by name (rest_of line)
+
+abbrev pub either : Result CacheCommand Code → Request
+either (Ok command) = Cache command
+either (Err code) = Bad code
 
 unfoldable pub request_of : List ℕ → Request
-request_of line = command_request (command_named (command_of line)) (rest_of line)
+request_of line = either (command_in line)

@@ -2,17 +2,21 @@ ghost use Rattle.std.specs.Prelude.{◌≡◌, ◌≤◌, ◌++◌, length, code
 ghost use Rattle.std.specs.Option.{option_and_then, option_map};
 ghost use Rattle.hex.specs.Hex.{decode_of};
 ghost use Rattle.assuan_text.specs.Words.{words};
-ghost use Rattle.agent_commands.specs.Words.{options_of, last_option};
-ghost use Rattle.agent_commands.specs.Fields.{is_none, cache_id, unless_none, text_or, texts, repeats, life, life_of_seconds, passphrase, given_passphrase};
+ghost use Rattle.assuan_text.specs.Options.{options_of, last_option};
+ghost use Rattle.assuan_text.specs.declared.TheConstants.{MAX_LINE_LEN};
+ghost use Rattle.agent_commands.specs.Fields.{cache_id, unless_placeholder, text_or, texts, repeats, life, life_of_seconds, passphrase, given_passphrase};
 
 use crate::Texts;
-use crate::options::last_option;
 use assuan_escape::unescape;
-use assuan_text::{Text, next_word, number_of};
-use cache_policy::{CacheId, Life, Secret};
+use assuan_text::{Text, last_option, next_word, number_of};
+use cache_policy::{CacheId, Life, MAX_SECONDS, MAX_SECRET_LEN, Secret};
+use wiping::wipe;
 
 /// The word that stands for none.
-const NONE: &[u8] = b"X";
+const PLACEHOLDER: &[u8] = b"X";
+
+/// How often a new passphrase can be asked for again at most.
+pub const MAX_REPEAT: u64 = 16;
 
 const REPEAT: &[u8] = b"--repeat";
 
@@ -25,15 +29,19 @@ pub(crate) fn cache_id(word: &[u8]) -> Option<CacheId>
 }
 
 /// The id, where it isn't the one that stands for none.
-pub(crate) fn unless_none(id: CacheId) -> Option<CacheId>
-    ensures { result ≡ unless_none id }
+pub(crate) fn unless_placeholder(id: CacheId) -> Option<CacheId>
+    ensures { result ≡ unless_placeholder id }
 {
-    if id.bytes() == NONE { None } else { Some(id) }
+    if id.bytes() == PLACEHOLDER {
+        None
+    } else {
+        Some(id)
+    }
 }
 
 /// What a prompt says: `Some(None)` where there is no word, and `None` where there are one or two.
 pub(crate) fn texts(text: &[u8]) -> Option<Option<Texts>>
-    requires { length text.now ≤ 1000 }
+    requires { length text.now ≤ MAX_LINE_LEN }
     ensures { result ≡ texts (words text.now) }
 {
     let Some((error, rest)) = next_word(text) else {
@@ -50,11 +58,11 @@ pub(crate) fn texts(text: &[u8]) -> Option<Option<Texts>>
 
 /// The text that a word means, or the usual one where it stands for none.
 fn text_or(usual: &[u8], word: &[u8]) -> Text
-    requires usual { length usual.now ≤ 1000 }
-    requires word { length word.now ≤ 1000 }
+    requires usual { length usual.now ≤ MAX_LINE_LEN }
+    requires word { length word.now ≤ MAX_LINE_LEN }
     ensures { result ≡ text_or usual.now word.now }
 {
-    if word != NONE {
+    if word != PLACEHOLDER {
         return unescape(word, true);
     }
     let mut text = Text::new();
@@ -77,7 +85,7 @@ pub(crate) fn repeats(text: &[u8]) -> Option<u8>
         return None;
     }
     match number_of(value)? {
-        number @ ..=16 => Some(number as u8),
+        number @ ..=MAX_REPEAT => Some(number as u8),
         _ => None,
     }
 }
@@ -96,7 +104,7 @@ fn life_of_seconds(seconds: u64) -> Option<Life>
 {
     match seconds {
         0 => Some(Life::Default),
-        ..=2_147_483_647 => Some(Life::Seconds(seconds as u32)),
+        _ if seconds <= u64::from(MAX_SECONDS) => Some(Life::Seconds(seconds as u32)),
         _ => None,
     }
 }
@@ -112,16 +120,19 @@ pub(crate) fn given_passphrase(inquire: bool, text: &[u8]) -> Option<Option<Secr
     }
 }
 
-/// The passphrase that hexadecimal digits spell.
+/// The passphrase that hexadecimal digits spell. Its bytes are left in the passphrase alone.
 fn passphrase(digits: &[u8]) -> Option<Secret>
     ensures { result ≡ passphrase (decode_of digits.now) }
 {
     let count = digits.len() / 2;
-    if count > 255 {
+    if count > MAX_SECRET_LEN {
         return None;
     }
-    let mut bytes = [0u8; 255];
-    let bytes = &mut bytes[..count];
-    hex::decode_to_slice(digits, bytes).ok()?;
-    Secret::of(bytes)
+    let mut bytes = [0u8; MAX_SECRET_LEN];
+    let secret = match hex::decode_to_slice(digits, &mut bytes[..count]) {
+        Ok(()) => Secret::of(&bytes[..count]),
+        Err(_) => None,
+    };
+    wipe(&mut bytes);
+    secret
 }

@@ -3,12 +3,12 @@
 
 mod fields;
 mod names;
-mod options;
 mod read;
 mod request;
 #[cfg(test)]
 mod tests;
 
+pub use fields::MAX_REPEAT;
 pub use names::{COMMANDS, CommandName, commands_are_as_defined};
 pub use read::read_request;
 pub use request::{CacheCommand, Info, Request, Texts};

@@ -1,7 +1,8 @@
 ghost use Rattle.std.specs.Prelude.{◌≡◌, map};
 ghost use Rattle.agent_commands.specs.declared.names.TheConstants.{COMMANDS};
-ghost use Rattle.agent_commands.specs.Names.{commands, command_named, what_named, is_listed};
+ghost use Rattle.agent_commands.specs.Names.{commands, command_named, info_named, is_listed};
 
+use crate::Info;
 use assuan_text::{found, found_in_any_case, has_pair};
 
 /// The commands that are served.
@@ -34,21 +35,15 @@ pub fn commands_are_as_defined()
     ensures { map (λ row. (row.0.now, row.1)) COMMANDS ≡ commands }
 {}
 
-/// What GETINFO can be asked for.
-#[derive(Clone, Copy, Debug, PartialEq, Eq)]
-pub(crate) enum What {
-    Version,
-    Pid,
-    S2kCount,
-    HasOption,
-}
-
-const WHATS: [(&[u8], What); 4] = [
-    (b"version", What::Version),
-    (b"pid", What::Pid),
-    (b"s2k_count", What::S2kCount),
-    (b"cmd_has_option", What::HasOption),
+/// What GETINFO can be asked for by one word.
+const INFOS: [(&[u8], Info); 3] = [
+    (b"version", Info::Version),
+    (b"pid", Info::Pid),
+    (b"s2k_count", Info::S2kCount),
 ];
+
+/// The word of GETINFO before a command and an option.
+pub(crate) const HAS_OPTION: &[u8] = b"cmd_has_option";
 
 const LISTED: [(&[u8], &[u8]); 6] = [
     (b"GET_PASSPHRASE", b"data"),
@@ -67,11 +62,11 @@ pub(crate) fn command_named(word: &[u8]) -> Option<CommandName>
     found_in_any_case(word, &COMMANDS)
 }
 
-#[tactic(auto, unfolding(crate::specs::Names::what_named))]
-pub(crate) fn what_named(word: &[u8]) -> Option<What>
-    ensures { result ≡ what_named word.now }
+#[tactic(auto, unfolding(crate::specs::Names::info_named))]
+pub(crate) fn info_named(word: &[u8]) -> Option<Info>
+    ensures { result ≡ info_named word.now }
 {
-    found(word, &WHATS)
+    found(word, &INFOS)
 }
 
 /// Whether the command is known to have the option.

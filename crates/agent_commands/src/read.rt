@@ -1,15 +1,15 @@
 ghost use Rattle.std.specs.Prelude.{◌≡◌, ◌≤◌, length};
+ghost use Rattle.assuan_text.specs.declared.TheConstants.{MAX_LINE_LEN};
+ghost use Rattle.assuan_text.specs.Options.{options_of, arguments_of};
 ghost use Rattle.assuan_text.specs.Words.{words};
-ghost use Rattle.agent_commands.specs.Words.{options_of, arguments_of};
-ghost use Rattle.agent_commands.specs.Requests.{request_of, info_request, pair_request, get_request, preset_request};
+ghost use Rattle.agent_commands.specs.Requests.{request_of, command_in, info_of, listed_info, get_of, preset_of};
 
-use crate::fields::{cache_id, given_passphrase, life, repeats, texts, unless_none};
-use crate::names::{CommandName, What, command_named, is_listed, what_named};
-use crate::options::{arguments, has_option};
+use crate::fields::{cache_id, given_passphrase, life, repeats, texts, unless_placeholder};
+use crate::names::{CommandName, HAS_OPTION, command_named, info_named, is_listed};
 use crate::{CacheCommand, Info, Request};
 use assuan_line::Line;
 use assuan_server::Code;
-use assuan_text::{Text, command_and_rest, next_word};
+use assuan_text::{Text, arguments, command_and_rest, has_option, next_word};
 
 /// Reads a line as what it asks for.
 ///
@@ -18,27 +18,32 @@ use assuan_text::{Text, command_and_rest, next_word};
 pub fn read_request(line: &Line) -> Request
     ensures { result ≡ request_of line.now }
 {
-    let (command, rest) = command_and_rest(line.bytes());
-    let Some(command) = command_named(command) else {
-        return Request::Bad(Code::UnknownCommand);
-    };
-    let command = match command {
-        CommandName::Nop => CacheCommand::Nop,
-        CommandName::Reset => CacheCommand::Reset,
-        CommandName::Bye => CacheCommand::Bye,
-        CommandName::Help => CacheCommand::Help,
-        CommandName::SetOption => CacheCommand::SetOption {
+    match read_command(line) {
+        Ok(command) => Request::Cache(command),
+        Err(code) => Request::Bad(code),
+    }
+}
+
+fn read_command(line: &Line) -> Result<CacheCommand, Code>
+    ensures { result ≡ command_in line.now }
+{
+    let (word, rest) = command_and_rest(line.bytes());
+    match command_named(word).ok_or(Code::UnknownCommand)? {
+        CommandName::Nop => Ok(CacheCommand::Nop),
+        CommandName::Reset => Ok(CacheCommand::Reset),
+        CommandName::Bye => Ok(CacheCommand::Bye),
+        CommandName::Help => Ok(CacheCommand::Help),
+        CommandName::SetOption => Ok(CacheCommand::SetOption {
             text: text_of(rest),
-        },
-        CommandName::GetInfo => return read_info(arguments(rest)),
-        CommandName::GetPassphrase => return read_get(rest),
-        CommandName::PresetPassphrase => return read_preset(rest),
-    };
-    Request::Cache(command)
+        }),
+        CommandName::GetInfo => Ok(CacheCommand::GetInfo(read_info(arguments(rest))?)),
+        CommandName::GetPassphrase => read_get(rest),
+        CommandName::PresetPassphrase => read_preset(rest),
+    }
 }
 
 fn text_of(bytes: &[u8]) -> Text
-    requires { length bytes.now ≤ 1000 }
+    requires { length bytes.now ≤ MAX_LINE_LEN }
     ensures { result.items ≡ bytes.now }
 {
     let mut text = Text::new();
@@ -47,86 +52,57 @@ fn text_of(bytes: &[u8]) -> Text
 }
 
 /// What GETINFO is asked for, by its arguments.
-fn read_info(text: &[u8]) -> Request
-    ensures { result ≡ info_request (words text.now) }
+fn read_info(text: &[u8]) -> Result<Info, Code>
+    ensures { result ≡ info_of (words text.now) }
 {
-    let Some((what, rest)) = next_word(text) else {
-        return Request::Bad(Code::Parameter);
-    };
-    let Some(what) = what_named(what) else {
-        return Request::Bad(Code::Parameter);
-    };
-    let info = match what {
-        What::Version => Info::Version,
-        What::Pid => Info::Pid,
-        What::S2kCount => Info::S2kCount,
-        What::HasOption => return read_pair(rest),
-    };
-    Request::Cache(CacheCommand::GetInfo(info))
+    let (what, rest) = next_word(text).ok_or(Code::Parameter)?;
+    if what == HAS_OPTION {
+        return read_listed(rest);
+    }
+    info_named(what).ok_or(Code::Parameter)
 }
 
 /// A command, and an option that it may have.
-fn read_pair(text: &[u8]) -> Request
-    ensures { result ≡ pair_request (words text.now) }
+fn read_listed(text: &[u8]) -> Result<Info, Code>
+    ensures { result ≡ listed_info (words text.now) }
 {
-    let Some((command, rest)) = next_word(text) else {
-        return Request::Bad(Code::Parameter);
-    };
-    let Some((option, _)) = next_word(rest) else {
-        return Request::Bad(Code::Parameter);
-    };
-    if !is_listed(command, option) {
-        return Request::Bad(Code::NotSupported);
+    let (command, rest) = next_word(text).ok_or(Code::Parameter)?;
+    let (option, _) = next_word(rest).ok_or(Code::Parameter)?;
+    if is_listed(command, option) {
+        Ok(Info::Listed)
+    } else {
+        Err(Code::NotSupported)
     }
-    Request::Cache(CacheCommand::GetInfo(Info::Listed))
 }
 
 /// What comes after GET_PASSPHRASE.
-fn read_get(text: &[u8]) -> Request
-    requires { length text.now ≤ 1000 }
-    ensures { result ≡ get_request (options_of (words text.now)) (arguments_of (words text.now)) }
+fn read_get(text: &[u8]) -> Result<CacheCommand, Code>
+    requires { length text.now ≤ MAX_LINE_LEN }
+    ensures { result ≡ get_of (options_of (words text.now)) (arguments_of (words text.now)) }
 {
-    let Some((id, rest)) = next_word(arguments(text)) else {
-        return Request::Bad(Code::Parameter);
-    };
-    let Some(repeat) = repeats(text) else {
-        return Request::Bad(Code::Parameter);
-    };
-    let Some(id) = cache_id(id) else {
-        return Request::Bad(Code::Parameter);
-    };
-    let Some(texts) = texts(rest) else {
-        return Request::Bad(Code::Parameter);
-    };
-    Request::Cache(CacheCommand::GetPassphrase {
+    let (word, rest) = next_word(arguments(text)).ok_or(Code::Parameter)?;
+    let repeat = repeats(text).ok_or(Code::Parameter)?;
+    let id = cache_id(word).ok_or(Code::Parameter)?;
+    let texts = texts(rest).ok_or(Code::Parameter)?;
+    Ok(CacheCommand::GetPassphrase {
         plain: has_option(text, b"--data"),
         check: has_option(text, b"--check"),
         no_ask: has_option(text, b"--no-ask"),
         repeat,
         quality: has_option(text, b"--qualitybar"),
-        id: unless_none(id),
+        id: unless_placeholder(id),
         texts,
     })
 }
 
 /// What comes after PRESET_PASSPHRASE.
-fn read_preset(text: &[u8]) -> Request
-    ensures { result ≡ preset_request (options_of (words text.now)) (arguments_of (words text.now)) }
+fn read_preset(text: &[u8]) -> Result<CacheCommand, Code>
+    ensures { result ≡ preset_of (options_of (words text.now)) (arguments_of (words text.now)) }
 {
-    let Some((id, rest)) = next_word(arguments(text)) else {
-        return Request::Bad(Code::Parameter);
-    };
-    let Some((timeout, rest)) = next_word(rest) else {
-        return Request::Bad(Code::Parameter);
-    };
-    let Some(id) = cache_id(id) else {
-        return Request::Bad(Code::Parameter);
-    };
-    let Some(life) = life(timeout) else {
-        return Request::Bad(Code::Parameter);
-    };
-    let Some(secret) = given_passphrase(has_option(text, b"--inquire"), rest) else {
-        return Request::Bad(Code::Parameter);
-    };
-    Request::Cache(CacheCommand::PresetPassphrase { id, life, secret })
+    let (word, rest) = next_word(arguments(text)).ok_or(Code::Parameter)?;
+    let (timeout, rest) = next_word(rest).ok_or(Code::Parameter)?;
+    let id = cache_id(word).ok_or(Code::Parameter)?;
+    let life = life(timeout).ok_or(Code::Parameter)?;
+    let secret = given_passphrase(has_option(text, b"--inquire"), rest).ok_or(Code::Parameter)?;
+    Ok(CacheCommand::PresetPassphrase { id, life, secret })
 }

@@ -5,15 +5,16 @@ ghost use Rattle.assuan_text.specs.LineEnds.{has_lf};
 ghost use Rattle.assuan_escape.specs.DataLines.{data_line, AreData, carried};
 
 use crate::{escape_into, unescape};
-use assuan_text::{Text, escaped_part};
+use assuan_text::{MAX_LINE_LEN, Text, escaped_part};
+use wiping::{Wiped, wipe};
 
 /// The first data line of these bytes, which has as many of them as it can hold, and how many these are.
-pub fn full_line(bytes: &[u8]) -> (Text, usize)
+pub fn full_line(bytes: &[u8]) -> (Wiped<MAX_LINE_LEN>, usize)
     requires { 0 < length bytes.now }
     ensures some { 0 < result.1 }
     ensures within { result.1 ≤ length bytes.now }
-    ensures text { result.0.items ≡ data_line (take result.1 bytes.now) }
-    ensures one_line { has_lf result.0.items ≡ false }
+    ensures text { result.0 ≡ data_line (take result.1 bytes.now) }
+    ensures one_line { has_lf result.0 ≡ false }
 
     // The data lines of the other bytes complete it, and there are some.
     ensures first { (later : List (List ℕ)) → AreData (drop result.1 bytes.now) later
@@ -23,16 +24,26 @@ pub fn full_line(bytes: &[u8]) -> (Text, usize)
     let mut line = Text::new();
     line.try_extend_from_slice(b"D ").unwrap();
     let count = escape_into(bytes, &mut line);
-    (line, count)
+    (taken(&mut line), count)
 }
 
 /// The bytes that a data line carries. `None` for any other line.
-pub fn data_of(line: &[u8]) -> Option<Text>
+pub fn data_of(line: &[u8]) -> Option<Wiped<MAX_LINE_LEN>>
     requires { length line.now ≤ MAX_LINE_LEN }
     ensures { MatchOption result (is_data line.now ≡ false)
-        (λ text. (is_data line.now ≡ true) × (text.items ≡ carried line.now)) }
+        (λ bytes. (is_data line.now ≡ true) × (bytes ≡ carried line.now)) }
 {
-    Some(unescape(escaped_part(line)?, false))
+    let mut text = unescape(escaped_part(line)?, false);
+    Some(taken(&mut text))
+}
+
+/// The bytes of the text, which are left in the result alone.
+fn taken(text: &mut Text) -> Wiped<MAX_LINE_LEN>
+    ensures { result ≡ text.old.items }
+{
+    let bytes = Wiped::of(text).unwrap();
+    wipe(text.as_mut_slice());
+    bytes
 }
 
 /// A law: any bytes are sent in one list of data lines, and in no other.

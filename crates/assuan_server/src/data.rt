@@ -5,7 +5,6 @@ ghost use Rattle.assuan_server.specs.Written.{HasWritten};
 use crate::conn::Conn;
 use agent_ports::{Link, Sent};
 use assuan_escape::full_line;
-use wiping::wipe;
 
 impl<'a, L: Link> Conn<'a, L> {
     /// Writes the bytes as data lines, `D`, a blank and escaped bytes: each of at most 1,000 bytes and as full as no cut escape
@@ -17,11 +16,9 @@ impl<'a, L: Link> Conn<'a, L> {
         let mut rest = bytes;
         let mut sent: usize = 0;
         while !rest.is_empty() {
-            let (mut line, count) = full_line(rest);
+            let (line, count) = full_line(rest);
             let whole = line.len() + 1;
-            let said = self.say(&[&line]);
-            wipe(&mut line);
-            match said {
+            match self.say(&[line.bytes()]) {
                 Sent::All => sent = sent.saturating_add(whole),
                 Sent::Failed { sent: part } => {
                     return Sent::Failed {

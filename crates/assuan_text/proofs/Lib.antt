@@ -1,1 +1,3 @@
 mod WordLemmas
+mod OptionLemmas
+mod WorkedExamples

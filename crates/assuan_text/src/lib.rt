@@ -1,11 +1,14 @@
-//! What every reader of the lines of an Assuan server or client reads alike: blanks and words, the forms of lines, numbers of
-//! decimal digits, and names in a table. No call takes memory.
+//! What every reader of the lines of an Assuan server or client reads alike: blanks, words and options, the forms of lines,
+//! numbers of decimal digits, and names in a table. No call takes memory.
 #![tactic(auto)]
 
 mod blanks;
 mod forms;
 mod numbers;
+mod options;
 mod rows;
+#[cfg(test)]
+mod tests;
 mod words;
 
 use arrayvec::ArrayVec;
@@ -19,5 +22,6 @@ pub type Text = ArrayVec<u8, MAX_LINE_LEN>;
 pub use blanks::{is_blank, without_blanks};
 pub use forms::{escaped_part, is_idle, is_ignored};
 pub use numbers::number_of;
+pub use options::{arguments, has_option, last_option, last_value};
 pub use rows::{found, found_in_any_case, has_pair};
 pub use words::{command_and_rest, first_word, next_word};

@@ -16,7 +16,8 @@ use Rattle.cache_policy.specs.Lifetimes.{default_limits}
 use Rattle.cache_policy.specs.Entries.{entries}
 use Rattle.cache_policy.specs.Seat.{seat, stopped}
 use Rattle.cache_policy.specs.Policy.{Ruling, Reply, Stand, policy}
-use Rattle.cache_policy.specs.Runs.{turn_over, joined, room, last_base, moment_before, moment_of}
+use Rattle.cache_policy.specs.declared.bounds.TheConstants.{MAX_MARKS}
+use Rattle.cache_policy.specs.Runs.{turn_over, joined, last_base, moment_before, moment_of}
 use Rattle.cache_policy.specs.Legal.{FollowsPolicy, IsLegal, IsLegalRun}
 
 abbrev name : List ℕ
@@ -196,7 +197,7 @@ legal_run : IsLegalRun default_limits (one_close ∷ [])
 legal_run = record { turns_over = tt; each = (legal, tt); moments = legal.moments }
 
 -- an agent is spent after a whole number of histories
-spent_after_whole_histories : last_base % room ≡ 0
+spent_after_whole_histories : last_base % MAX_MARKS ≡ 0
 spent_after_whole_histories = refl
 
 -- readings that fall back, and readings past the greatest moment

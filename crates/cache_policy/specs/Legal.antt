@@ -6,7 +6,8 @@ use Rattle.cache_policy.specs.declared.mark.Mark.{Mark}
 use Rattle.cache_policy.specs.declared.history.History.{History}
 use Rattle.cache_policy.specs.Histories.{start_of, with_mark}
 use Rattle.cache_policy.specs.Policy.{Reply, policy}
-use Rattle.cache_policy.specs.Runs.{room, last_base, greatest_moment, IsRun, joined}
+use Rattle.cache_policy.specs.declared.bounds.TheConstants.{MAX_MARKS, MAX_MOMENT}
+use Rattle.cache_policy.specs.Runs.{last_base, IsRun, joined}
 
 -- each of the marks has the policy's reply after the marks before it, at its moment; none of them is Stand
 abbrev pub FollowsPolicy : Limits → History → List Mark → Type 0
@@ -18,16 +19,16 @@ FollowsPolicy limits before (mark ∷ later) =
 abbrev pub NeverFall : ℕ → List Mark → Type 0
 NeverFall since [] = Unit {0}
 NeverFall since (mark ∷ later) =
-    (since ≤ mark.moment) × (mark.moment ≤ greatest_moment) × NeverFall mark.moment later
+    (since ≤ mark.moment) × (mark.moment ≤ MAX_MOMENT) × NeverFall mark.moment later
 
 -- a legal history: each reply is the policy's, moments never fall, the base is some number of full histories and below the
 -- last base unless there is no mark, the marks have room, and a ticket that was out at the start is older than the base
 pub record IsLegal (limits : Limits) (history : History) : Type 0 where
   pub replies : FollowsPolicy limits (start_of history) history.marks
   pub moments : NeverFall 0 history.marks
-  pub base : history.base % room ≡ 0
+  pub base : history.base % MAX_MARKS ≡ 0
   pub not_spent : (history.base < last_base) ⊎ (history.marks ≡ [])
-  pub few : length history.marks ≤ room
+  pub few : length history.marks ≤ MAX_MARKS
   pub held : IfSome history.held (λ held. held.ticket < history.base)
 
 -- a run of legal histories, over which the moments never fall

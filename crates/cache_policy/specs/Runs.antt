@@ -1,22 +1,19 @@
 -- Runs: one history after another, each beginning with an empty cache. All of this is the project's own.
 use Rattle.std.specs.Prelude.{◌≡◌, ℕ, ◌+◌, ◌^◌, ◌==◌, if◌then◌else◌, min, max, List, [], ◌∷◌, ◌++◌, length, fold, Bool, Option, Some, None}
 use Rattle.std.specs.List.{flat_map}
+use Rattle.cache_policy.specs.declared.bounds.TheConstants.{MAX_MARKS, MAX_MOMENT}
 use Rattle.cache_policy.specs.declared.mark.Mark.{Mark}
 use Rattle.cache_policy.specs.declared.history.History.{History}
 use Rattle.cache_policy.specs.Histories.{start_of}
 use Rattle.cache_policy.specs.Seat.{seat, stopped}
 
--- how many marks one history has room for
-abbrev pub room : ℕ
-room = 131072
-
 -- the history that a full one is followed by: the base raised, the same ticket out, stopped likewise, and no marks
 abbrev pub turn_over : History → History
-turn_over history = record { base = history.base + room; held = seat history; stopped = stopped history; marks = [] }
+turn_over history = record { base = history.base + MAX_MARKS; held = seat history; stopped = stopped history; marks = [] }
 
--- the history on which the next step is taken: the same, or where that is full the one that follows it
+-- the history on which the next step is taken: the same, or where that has no room the one that follows it
 abbrev pub next_history : History → History
-next_history history = if length history.marks == room then turn_over history else history
+next_history history = if length history.marks == MAX_MARKS then turn_over history else history
 
 -- the base at which an agent is spent
 abbrev pub last_base : ℕ
@@ -28,7 +25,7 @@ is_spent history = history.base == last_base
 
 -- the first history is full, and the second begins as the first one leaves it
 pub record IsFollowedBy (history next : History) : Type 0 where
-  pub full : length history.marks ≡ room
+  pub full : length history.marks ≡ MAX_MARKS
   pub start : start_of next ≡ turn_over history
 
 -- a run has at least one history, and each but the last is followed by the next
@@ -52,14 +49,10 @@ pub record Extends (earlier later : List History) : Type 0 where
   pub more : List Mark
   pub marks : joined later ≡ joined earlier ++ more
 
--- readings are cut to this moment
-abbrev pub greatest_moment : ℕ
-greatest_moment = 2 ^ 62
-
 -- the moment of the last mark of a run, and 0 where it has none
 abbrev pub moment_before : List Mark → ℕ
 moment_before marks = fold (λ _ mark. mark.moment) 0 marks
 
 -- the moment of a step: its reading, cut, or the moment of the last mark where that is greater
 abbrev pub moment_of : ℕ → ℕ → ℕ
-moment_of before reading = max before (min reading greatest_moment)
+moment_of before reading = max before (min reading MAX_MOMENT)

@@ -3,20 +3,24 @@ ghost use Rattle.std.specs.Prelude.{◌≡◌, ◌<◌, ◌≤◌, ◌↔◌, le
 use arrayvec::ArrayVec;
 use std::marker::Model;
 
+/// How many bytes a cache id has at most.
+pub const MAX_ID_LEN: usize = 50;
+
 /// The name of a passphrase in the cache: 1 to 50 bytes.
 #[derive(Debug, PartialEq, Eq, Drop)]
 pub struct CacheId {
-    bytes: ArrayVec<u8, 50>,
+    bytes: ArrayVec<u8, MAX_ID_LEN>,
 }
 
 impl Model for CacheId {
     ghost use Rattle.std.specs.Prelude.{ℕ, ◌≤◌, ◌<◌, List, length};
+    ghost use Rattle.cache_policy.specs.declared.id.TheConstants.{MAX_ID_LEN};
 
     ghost Value = { List ℕ };
 
     ghost view = { λ id. id.bytes.items };
 
-    ghost invariant = { λ id. (0 < length id.bytes.items) × (length id.bytes.items ≤ 50) };
+    ghost invariant = { λ id. (0 < length id.bytes.items) × (length id.bytes.items ≤ MAX_ID_LEN) };
 
     ghost inverse = { λ bytes. record { bytes = record { items = bytes } } };
 }
@@ -24,7 +28,7 @@ impl Model for CacheId {
 impl CacheId {
     /// `None` for no bytes, and for more than 50.
     pub fn of(bytes: &[u8]) -> Option<CacheId>
-        ensures within { IsSome result ↔ ((0 < length bytes.now) × (length bytes.now ≤ 50)) }
+        ensures within { IsSome result ↔ ((0 < length bytes.now) × (length bytes.now ≤ MAX_ID_LEN)) }
         ensures bytes { IfSome result (λ id. id ≡ bytes.now) }
     {
         if bytes.is_empty() {
@@ -37,7 +41,7 @@ impl CacheId {
     pub fn bytes(&self) -> &[u8]
         ensures value { result.now ≡ self.now }
         ensures some { 0 < length self.now }
-        ensures within { length self.now ≤ 50 }
+        ensures within { length self.now ≤ MAX_ID_LEN }
     {
         self.bytes.as_slice()
     }

@@ -4,6 +4,7 @@
 //! [`ListBook`] is the plain cache that meets them for puts alone.
 #![tactic(auto)]
 
+mod bounds;
 mod entry;
 mod grant;
 mod history;
@@ -15,13 +16,14 @@ mod mark;
 mod mode;
 mod secret;
 
+pub use bounds::{MAX_MARKS, MAX_MOMENT};
 pub use entry::Entry;
 pub use grant::Grant;
 pub use history::{Held, History, Marks};
-pub use id::CacheId;
+pub use id::{CacheId, MAX_ID_LEN};
 pub use laws::nothing_comes_back;
-pub use life::{Life, Limits};
+pub use life::{Life, Limits, MAX_SECONDS};
 pub use list_book::{ListBook, NoMemory};
 pub use mark::{Mark, MarkReply, MarkStep, Under, Way};
 pub use mode::Mode;
-pub use secret::Secret;
+pub use secret::{MAX_SECRET_LEN, Secret};

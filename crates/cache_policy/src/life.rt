@@ -2,6 +2,9 @@ ghost use Rattle.std.specs.Prelude.{◌≡◌};
 
 use crate::Mode;
 
+/// The longest lifetime that can be asked for, in seconds.
+pub const MAX_SECONDS: u32 = 2_147_483_647;
+
 /// How long a passphrase that is put into the cache may go unused.
 #[derive(Clone, Copy, Debug, PartialEq, Eq, Hash)]
 pub enum Life {

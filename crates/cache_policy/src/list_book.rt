@@ -6,7 +6,7 @@ ghost use Rattle.cache_policy.specs.declared.mark.Way.{Way};
 ghost use Rattle.cache_policy.specs.declared.mark.MarkReply.{MarkReply};
 ghost use Rattle.cache_policy.specs.declared.history.History.{History};
 ghost use Rattle.cache_policy.specs.Histories.{with_mark};
-ghost use Rattle.cache_policy.specs.Runs.{greatest_moment};
+ghost use Rattle.cache_policy.specs.declared.bounds.TheConstants.{MAX_MOMENT};
 ghost use Rattle.cache_policy.specs.Live.{newest_of, live};
 ghost use Rattle.cache_policy.specs.Book.{empty_book, after_put, found, put_mark, ask_mark, IsBookOf, IsEndlessBookOf};
 
@@ -66,7 +66,7 @@ impl ListBook {
         limits: &Limits,
     ) -> Result<(), NoMemory>
         requires in_order { self.old.latest ≤ moment }
-        requires in_range { moment ≤ greatest_moment }
+        requires in_range { moment ≤ MAX_MOMENT }
 
         ensures ok { OnOk result (self.new ≡ after_put limits.now self.old moment id mode life secret) }
         ensures err { OnErr result (self.new ≡ self.old) }
@@ -90,7 +90,7 @@ impl ListBook {
     /// The newest passphrase for the id and mode, if it is within both lifetimes at the moment, in seconds.
     pub fn find(&self, moment: u64, id: &CacheId, mode: Mode) -> Option<Grant>
         requires in_order { self.now.latest ≤ moment }
-        requires in_range { moment ≤ greatest_moment }
+        requires in_range { moment ≤ MAX_MOMENT }
 
         ensures found { option_map (λ grant. grant.entry) result ≡ found self.now.entries id.now mode moment }
         ensures id { IfSome result (λ grant. grant.id ≡ id.now) }

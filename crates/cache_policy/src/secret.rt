@@ -3,29 +3,33 @@ ghost use Rattle.std.specs.Prelude.{◌≡◌, ◌≤◌, ◌↔◌, length, IsS
 use std::marker::Model;
 use wiping::Wiped;
 
+/// How many bytes a passphrase has at most.
+pub const MAX_SECRET_LEN: usize = 255;
+
 /// A passphrase: at most 255 bytes, maybe none.
 ///
 /// It is neither cloned nor printed nor compared, and its bytes are overwritten with zeros when it is dropped.
 /// A move leaves the bytes where they were, as in Rust, and no proof says that wiped bytes are gone from the machine.
 #[derive(Drop)]
 pub struct Secret {
-    bytes: Wiped<255>,
+    bytes: Wiped<MAX_SECRET_LEN>,
 }
 
 impl Model for Secret {
     ghost use Rattle.std.specs.Prelude.{ℕ, ◌≤◌, List, length};
+    ghost use Rattle.cache_policy.specs.declared.secret.TheConstants.{MAX_SECRET_LEN};
 
     ghost Value = { List ℕ };
 
     ghost view = { λ secret. secret.bytes };
 
-    ghost invariant = { λ secret. length secret.bytes ≤ 255 };
+    ghost invariant = { λ secret. length secret.bytes ≤ MAX_SECRET_LEN };
 }
 
 impl Secret {
     /// `None` for more than 255 bytes.
     pub fn of(bytes: &[u8]) -> Option<Secret>
-        ensures within { IsSome result ↔ (length bytes.now ≤ 255) }
+        ensures within { IsSome result ↔ (length bytes.now ≤ MAX_SECRET_LEN) }
         ensures bytes { IfSome result (λ secret. secret ≡ bytes.now) }
     {
         let bytes = Wiped::of(bytes)?;
@@ -34,7 +38,7 @@ impl Secret {
 
     pub fn bytes(&self) -> &[u8]
         ensures value { result.now ≡ self.now }
-        ensures within { length self.now ≤ 255 }
+        ensures within { length self.now ≤ MAX_SECRET_LEN }
     {
         self.bytes.bytes()
     }

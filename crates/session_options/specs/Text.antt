@@ -3,6 +3,7 @@
 use Rattle.std.specs.Prelude.{ℕ, ◌==◌, ◌||◌, ◌&&◌, nat_le, not, Bool, List, length, take, drop, codes, if◌then◌else◌}
 use Rattle.std.specs.List.{position_or_len, before_first, list_any}
 use Rattle.std.specs.Str.{bytes_eq}
+use Rattle.session_options.specs.declared.TheConstants.{MAX_VALUE_LEN}
 use Rattle.assuan_text.specs.Blanks.{is_blank, without_blanks}
 
 -- a name goes up to the first blank, tab or `=`
@@ -32,7 +33,7 @@ ends_line byte = byte == 13 || byte == 10
 abbrev pub has_line_end : List ℕ → Bool
 has_line_end bytes = list_any ends_line bytes
 
--- a value can be kept: at most 255 bytes, and no end of a line among them, since it is written as a line to the pinentry. This
+-- a value can be kept: not too long, and no end of a line among them, since it is written as a line to the pinentry. This
 -- is this project's own
 abbrev pub can_be_kept : List ℕ → Bool
-can_be_kept value = nat_le (length value) 255 && not (has_line_end value)
+can_be_kept value = nat_le (length value) MAX_VALUE_LEN && not (has_line_end value)

@@ -12,9 +12,12 @@ mod values;
 
 use arrayvec::ArrayVec;
 
-/// A word of the command line or of an option: at most 255 bytes.
-type Word = ArrayVec<u8, 255>;
+/// How many bytes the value of an option has at most.
+pub const MAX_VALUE_LEN: usize = 255;
+
+/// A value of the command line or of an option.
+type Word = ArrayVec<u8, MAX_VALUE_LEN>;
 
 pub use env::Env;
 pub use options::{OptionAnswer, Options, PinMode, spelling_is_plain};
-pub use rules::{Rules, RunMode};
+pub use rules::{MAX_S2K_COUNT, MAX_WORKERS, MIN_S2K_COUNT, MIN_WORKERS, Rules, RunMode};

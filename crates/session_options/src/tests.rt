@@ -1,34 +1,10 @@
 use super::*;
 use std::test::Fail;
 
-fn rules(allow_loopback: bool) -> Rules {
-    Rules {
-        default_ttl: 600,
-        max_ttl: 7200,
-        default_ttl_ssh: 1800,
-        max_ttl_ssh: 7200,
-        pinentry_timeout: 0,
-        workers: 8,
-        pid: 0,
-        min_len: 8,
-        min_nonalpha: 1,
-        allow_preset: false,
-        allow_loopback,
-        s2k_count: 4_194_304,
-        pinentry: Word::new(),
-        homedir: Word::new(),
-        run: RunMode::Server,
-    }
-}
-
-/// An option of this name with a value of so many bytes.
-fn long_option(name: &[u8], value_len: usize) -> Result<ArrayVec<u8, 1000>, Fail> {
-    let mut text = ArrayVec::new();
-    text.try_extend_from_slice(name).ok().ok_or("too long")?;
-    for _ in 0..value_len {
-        text.try_push(b'a').ok().ok_or("too long")?;
-    }
-    Ok(text)
+fn options(allow_loopback: bool) -> Options {
+    let mut rules = Rules::default();
+    rules.allow_loopback = allow_loopback;
+    Options::new(&rules)
 }
 
 const ANSWERS: [(&[u8], OptionAnswer); 29] = [
@@ -63,90 +39,77 @@ const ANSWERS: [(&[u8], OptionAnswer); 29] = [
     (b"s2k-count", OptionAnswer::Parameter),
 ];
 
-#[test]
-fn options_are_answered(rt: HostRuntime) {
-    for (text, answer) in ANSWERS {
-        let mut options = Options::new(&rules(true));
-        assert_eq!(rt; options.set(text), answer, "at {text:?}");
-    }
-}
+/// An option of this name with a value of so many bytes, and what it is answered.
+const LONG_ANSWERS: [(&[u8], usize, OptionAnswer); 4] = [
+    (b"ttyname=", 255, OptionAnswer::Set),
+    (b"ttyname=", 256, OptionAnswer::Parameter),
+    (b"display=", 256, OptionAnswer::Parameter),
+    (b"foo=", 256, OptionAnswer::Unknown),
+];
 
 #[test]
-fn words_are_kept(rt: HostRuntime) -> Result<(), Fail> {
-    let cases: [(&[u8], &[u8]); 6] = [
-        (b"--ttyname = /dev/pts/1", b"/dev/pts/1"),
-        (b"ttyname \t=\t x y ", b"x y "),
-        (b"ttyname==x", b"=x"),
-        (b"ttyname x=y", b"x=y"),
-        (b"ttyname=", b""),
-        (b"ttytype=xterm", b"before"),
-    ];
-    for (text, ttyname) in cases {
-        let mut options = Options::new(&rules(true));
-        assert_eq!(rt; options.set(b"ttyname=before"), OptionAnswer::Set);
-        assert_eq!(rt; options.set(text), OptionAnswer::Set);
-        assert_eq!(rt; options.env().ttyname.as_slice(), ttyname);
+fn options_are_answered(rt: HostRuntime) -> Result<(), Fail> {
+    for (text, answer) in ANSWERS {
+        assert_eq!(rt; options(true).set(text), answer, "at {text:?}");
     }
-    let mut options = Options::new(&rules(true));
+    for (name, value_len, answer) in LONG_ANSWERS {
+        let mut text: ArrayVec<u8, 1000> = ArrayVec::new();
+        text.try_extend_from_slice(name).ok().ok_or("too long")?;
+        text.try_extend_from_slice(&[b'a'; 256][..value_len])
+            .ok()
+            .ok_or("too long")?;
+        assert_eq!(rt; options(true).set(&text), answer, "at {name:?}");
+    }
     assert_eq!(rt;
-        options.set(&long_option(b"ttyname=", 256)?),
-        OptionAnswer::Parameter
-    );
-    assert_eq!(rt; options.env().ttyname.len(), 0);
-    assert_eq!(rt;
-        options.set(&long_option(b"ttyname=", 255)?),
-        OptionAnswer::Set
-    );
-    assert_eq!(rt; options.env().ttyname.len(), 255);
-    assert_eq!(rt;
-        options.set(&long_option(b"display=", 256)?),
+        options(true).set(b"lc-ctype=a\nb"),
         OptionAnswer::Parameter
     );
     assert_eq!(rt;
-        options.set(&long_option(b"foo=", 256)?),
-        OptionAnswer::Unknown
+        options(false).set(b"pinentry-mode=loopback"),
+        OptionAnswer::NotSupported
     );
-    assert_eq!(rt; options.set(b"lc-ctype=a\nb"), OptionAnswer::Parameter);
-    assert_eq!(rt; options.env().lc_ctype.len(), 0);
     Ok(())
 }
 
-#[test]
-fn modes_are_set(rt: HostRuntime) {
-    let mut options = Options::new(&rules(true));
-    let cases: [(&[u8], PinMode); 5] = [
-        (b"pinentry-mode=loopback", PinMode::Loopback),
-        (b"pinentry-mode=cancel", PinMode::Cancel),
-        (b"pinentry-mode=error", PinMode::Error),
-        (b"pinentry-mode=other", PinMode::Error),
-        (b"pinentry-mode=ask", PinMode::Ask),
-    ];
-    for (text, mode) in cases {
-        let _ = options.set(text);
-        assert_eq!(rt; options.mode(), mode);
-    }
-    let mut strict = Options::new(&rules(false));
-    assert_eq!(rt;
-        strict.set(b"pinentry-mode=loopback"),
-        OptionAnswer::NotSupported
-    );
-    assert_eq!(rt; strict.mode(), PinMode::Ask);
-}
+/// Options that one session sets, and its terminal, mode and count after each.
+const STEPS: [(&[u8], &[u8], PinMode, u64); 19] = [
+    (b"ttyname=before", b"before", PinMode::Ask, 4_194_304),
+    (b"ttytype=xterm", b"before", PinMode::Ask, 4_194_304),
+    (
+        b"--ttyname = /dev/pts/1",
+        b"/dev/pts/1",
+        PinMode::Ask,
+        4_194_304,
+    ),
+    (b"ttyname \t=\t x y ", b"x y ", PinMode::Ask, 4_194_304),
+    (b"ttyname==x", b"=x", PinMode::Ask, 4_194_304),
+    (b"ttyname x=y", b"x=y", PinMode::Ask, 4_194_304),
+    (b"ttyname=a\rb", b"x=y", PinMode::Ask, 4_194_304),
+    (b"ttyname=", b"", PinMode::Ask, 4_194_304),
+    (b"pinentry-mode=loopback", b"", PinMode::Loopback, 4_194_304),
+    (b"pinentry-mode=cancel", b"", PinMode::Cancel, 4_194_304),
+    (b"pinentry-mode=error", b"", PinMode::Error, 4_194_304),
+    (b"pinentry-mode=other", b"", PinMode::Error, 4_194_304),
+    (b"pinentry-mode=ask", b"", PinMode::Ask, 4_194_304),
+    (b"s2k-count=65536", b"", PinMode::Ask, 65_536),
+    (b"s2k-count=65535", b"", PinMode::Ask, 65_536),
+    (b"s2k-count=0", b"", PinMode::Ask, 4_194_304),
+    (b"s2k-count=65011712", b"", PinMode::Ask, 65_011_712),
+    (b"s2k-count=0000000000", b"", PinMode::Ask, 4_194_304),
+    (b"s2k-count=0000065536", b"", PinMode::Ask, 65_536),
+];
 
 #[test]
-fn counts_are_set_and_all_is_reset(rt: HostRuntime) {
-    let mut options = Options::new(&rules(true));
-    let cases: [(&[u8], u64); 6] = [
-        (b"s2k-count=65536", 65_536),
-        (b"s2k-count=65535", 65_536),
-        (b"s2k-count=0", 4_194_304),
-        (b"s2k-count=65011712", 65_011_712),
-        (b"s2k-count=0000000000", 4_194_304),
-        (b"s2k-count=0000065536", 65_536),
-    ];
-    for (text, count) in cases {
+fn options_stand_until_they_are_reset(rt: HostRuntime) {
+    let mut options = options(true);
+    for (text, ttyname, mode, count) in STEPS {
         let _ = options.set(text);
-        assert_eq!(rt; options.s2k_count(), count);
+        assert_eq!(rt; options.env().ttyname.as_slice(), ttyname, "at {text:?}");
+        assert_eq!(rt;
+            (options.mode(), options.s2k_count()),
+            (mode, count),
+            "at {text:?}"
+        );
     }
     assert_eq!(rt; options.notify(), false);
     let _ = options.set(b"allow-pinentry-notify=no");
@@ -160,4 +123,5 @@ fn counts_are_set_and_all_is_reset(rt: HostRuntime) {
         (false, PinMode::Ask, 4_194_304)
     );
     assert_eq!(rt; options.env().lc_messages.len(), 0);
+    spelling_is_plain();
 }

@@ -38,7 +38,7 @@ fn without<'a>(mark: &[u8], bytes: &'a [u8]) -> &'a [u8]
     bytes.strip_prefix(mark).unwrap_or(bytes)
 }
 
-/// The value as a word, if it can be kept: at most 255 bytes, and no end of a line among them.
+/// The value as a word, if it can be kept: it isn't too long, and has no end of a line.
 pub(crate) fn word_of(value: &[u8]) -> Option<Word>
     ensures some { IsSome result ↔ (can_be_kept value.now ≡ true) }
     ensures word { IfSome result (λ word. (word.items ≡ value.now) × (has_line_end word.items ≡ false)) }

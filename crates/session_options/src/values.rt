@@ -2,7 +2,7 @@ ghost use Rattle.std.specs.Prelude.{◌≡◌};
 ghost use Rattle.assuan_text.specs.Numbers.{number_of};
 ghost use Rattle.session_options.specs.Table.{mode_of, count_for};
 
-use crate::PinMode;
+use crate::{MAX_S2K_COUNT, MIN_S2K_COUNT, PinMode};
 use assuan_text::found;
 
 const MODES: [(&[u8], PinMode); 5] = [
@@ -27,7 +27,7 @@ pub(crate) fn count_for(rules_count: u64, number: u64) -> Option<u64>
 {
     match number {
         0 => Some(rules_count),
-        65_536..=65_011_712 => Some(number),
+        MIN_S2K_COUNT..=MAX_S2K_COUNT => Some(number),
         _ => None,
     }
 }

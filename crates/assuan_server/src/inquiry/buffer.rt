@@ -40,9 +40,8 @@ impl<B: Buffer + Drop> LineFilter for InquiryLines<B> {
 
     fn skip(&mut self, line: &Line) -> bool {
         match data_of(line.bytes()) {
-            Some(mut bytes) => {
-                self.buffer.add(&bytes);
-                wipe(&mut bytes);
+            Some(bytes) => {
+                self.buffer.add(bytes.bytes());
                 true
             }
             None => is_idle(line.bytes()),

@@ -11,5 +11,5 @@ too_long : (decoded : Result (List ℕ) FromHexError) → ((bytes : List ℕ) �
 too_long (Err _) long = refl
 too_long (Ok bytes) long = sym (ap (λ b. cond b (Some bytes) None) (lt-leb (length bytes) 255 (long bytes refl)))
 
-pub returns-then-count-gt255 : goal.returns-then-count-gt255
-returns-then-count-gt255 c = too_long (decode_of c.args.digits.now) (λ bytes decodes. omega (arith, (decode_of-ok _ bytes decodes).2))
+pub returns-then-count-gt-MAX_SECRET_LEN : goal.returns-then-count-gt-MAX_SECRET_LEN
+returns-then-count-gt-MAX_SECRET_LEN c = too_long (decode_of c.args.digits.now) (λ bytes decodes. omega (arith, (decode_of-ok _ bytes decodes).2))

@@ -1,4 +1,3 @@
-use Rattle.std.proofs.Common.{sym}
 use Rattle.assuan_server.proofs.Inquiring.{failed, brought, beyond}
 use Rattle.assuan_server.proofs.inquiry.buffered.Goals as goal
 

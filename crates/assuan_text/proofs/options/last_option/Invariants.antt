@@ -1,8 +1,8 @@
 use Rattle.std.proofs.Common.{◌≡◌, length, find, reverse}
 use Rattle.std.specs.Option.{option_map, option_or}
 use Rattle.assuan_text.specs.Words.{words}
-use Rattle.agent_commands.specs.Words.{names_option, last_option, options_of}
-use Rattle.agent_commands.proofs.options.last_option.Given as goal
+use Rattle.assuan_text.specs.Options.{names_option, last_option, options_of}
+use Rattle.assuan_text.proofs.options.last_option.Given as goal
 
 -- the last among the options that are left, or else the one before them
 abbrev pub invariant-loop-option : goal.invariant-loop-option

@@ -1,15 +1,15 @@
-ghost use Rattle.std.specs.Prelude.{◌≡◌, ◌≤◌, ◌<◌, ◌∷◌, true, length, drop, MatchOption};
+ghost use Rattle.std.specs.Prelude.{◌≡◌, ◌≤◌, ◌<◌, ◌+◌, ◌∷◌, true, false, length, drop, MatchOption};
 ghost use Rattle.std.specs.List.{prefix_len};
 ghost use Rattle.std.specs.Option.{option_map};
+ghost use Rattle.assuan_text.specs.Options.{is_option, options_of, arguments_of, has_option, gives_value, names_option, last_option, last_value};
 ghost use Rattle.assuan_text.specs.Words.{words};
-ghost use Rattle.agent_commands.specs.Words.{is_option, options_of, arguments_of, has_option, names_option, last_option};
 
-use assuan_text::next_word;
+use crate::words::next_word;
 
 const MARK: &[u8] = b"--";
 
 /// Whether the option is among those of the text.
-pub(crate) fn has_option(text: &[u8], name: &[u8]) -> bool
+pub fn has_option(text: &[u8], name: &[u8]) -> bool
     ensures { result ≡ has_option name.now (options_of (words text.now)) }
 {
     let mut rest = text;
@@ -23,7 +23,7 @@ pub(crate) fn has_option(text: &[u8], name: &[u8]) -> bool
 }
 
 /// The last option of this name in the text, with a value or without.
-pub(crate) fn last_option<'a>(text: &'a [u8], name: &[u8]) -> Option<&'a [u8]>
+pub fn last_option<'a>(text: &'a [u8], name: &[u8]) -> Option<&'a [u8]>
     ensures { option_map (λ option. option.now) result ≡ last_option name.now (options_of (words text.now)) }
 {
     let mut rest = text;
@@ -47,8 +47,31 @@ fn names_option(name: &[u8], option: &[u8]) -> bool
     }
 }
 
+/// What the last option of this name with a value says. The name alone is another option.
+pub fn last_value<'a>(text: &'a [u8], name: &[u8]) -> Option<&'a [u8]>
+    ensures { option_map (λ value. value.now) result ≡ last_value name.now (options_of (words text.now)) }
+{
+    let mut rest = text;
+    let mut latest = None;
+    while let Some((option, after)) = next_option(rest) {
+        if let Some(value) = value_in(name, option) {
+            latest = Some(value);
+        }
+        rest = after;
+    }
+    latest
+}
+
+/// What the option says, if it is the one of that name with a value.
+fn value_in<'a>(name: &[u8], option: &'a [u8]) -> Option<&'a [u8]>
+    ensures { MatchOption result (gives_value name.now option.now ≡ false)
+        (λ value. (gives_value name.now option.now ≡ true) × (value.now ≡ drop (length name.now + 1) option.now)) }
+{
+    option.strip_prefix(name)?.strip_prefix(b"=")
+}
+
 /// What comes after the options of the text.
-pub(crate) fn arguments(text: &[u8]) -> &[u8]
+pub fn arguments(text: &[u8]) -> &[u8]
     ensures arguments { words result.now ≡ arguments_of (words text.now) }
     ensures shorter { length result.now ≤ length text.now }
 {

@@ -1,7 +1,7 @@
 use Rattle.std.proofs.Common.{sym, ◌∙◌, arith}
 use Rattle.assuan_text.specs.Words.{words}
-use Rattle.agent_commands.proofs.OptionLemmas.{after-step}
-use Rattle.agent_commands.proofs.options.after_options.Goals as goal
+use Rattle.assuan_text.proofs.OptionLemmas.{after-step}
+use Rattle.assuan_text.proofs.options.after_options.Goals as goal
 
 pub loop-after-preserved : goal.loop-after-preserved
 loop-after-preserved c =

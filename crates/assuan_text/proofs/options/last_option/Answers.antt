@@ -1,9 +1,9 @@
 use Rattle.std.proofs.Common.{◌≡◌, ◌∷◌, Bool, true, false, cond, find, reverse, Option, Some, None, List, ℕ, refl, sym, ap, ◌∙◌}
 use Rattle.std.specs.Option.{option_map, option_or}
 use Rattle.assuan_text.specs.Words.{words}
-use Rattle.agent_commands.specs.Words.{names_option, options_of}
-use Rattle.agent_commands.proofs.OptionLemmas.{options-step, find-reverse-cons}
-use Rattle.agent_commands.proofs.options.last_option.Goals as goal
+use Rattle.assuan_text.specs.Options.{names_option, options_of}
+use Rattle.assuan_text.proofs.OptionLemmas.{options-step, find-reverse-cons}
+use Rattle.assuan_text.proofs.options.last_option.Goals as goal
 
 -- the last option of this name among these, or else the one before them
 abbrev last : List ℕ → Option (List ℕ) → List (List ℕ) → Option (List ℕ)

@@ -1,7 +1,8 @@
--- The words of a line, as the commands of an Assuan server read them: the command, and after blanks and tabs its options
--- and arguments. Which of two options counts, and that others are passed over, is this project's own rule.
-use Rattle.std.specs.Prelude.{ℕ, ◌||◌, ◌&&◌, not, Bool, List, [], ◌∷◌, length, take, drop, find, reverse, codes, Option, if◌then◌else◌}
+-- The options of a command, which stand before its arguments (GnuPG manual, "Agent's Assuan protocol"). Which of two options counts,
+-- and that others are passed over, is this project's own rule.
+use Rattle.std.specs.Prelude.{ℕ, ◌+◌, ◌||◌, ◌&&◌, not, Bool, List, [], ◌∷◌, length, take, drop, find, reverse, codes, Option, if◌then◌else◌}
 use Rattle.std.specs.List.{prefix_len, list_any}
+use Rattle.std.specs.Option.{option_map}
 use Rattle.std.specs.Str.{bytes_eq}
 
 -- an option begins with two dashes; two dashes alone are none
@@ -25,11 +26,21 @@ arguments_of words = without_mark (drop (prefix_len is_option words) words)
 abbrev pub has_option : List ℕ → List (List ℕ) → Bool
 has_option name options = list_any (bytes_eq name) options
 
+-- this is the option with a value: its name, and then `=`
+abbrev pub gives_value : List ℕ → List ℕ → Bool
+gives_value name option =
+    bytes_eq (take (length name) option) name && bytes_eq (take 1 (drop (length name) option)) (codes "=")
+
 -- the option without a value, or with one
 abbrev pub names_option : List ℕ → List ℕ → Bool
-names_option name option =
-    bytes_eq option name || bytes_eq (take (length name) option) name && bytes_eq (take 1 (drop (length name) option)) (codes "=")
+names_option name option = bytes_eq option name || gives_value name option
 
 -- the last of the options of this name, with a value or without
 abbrev pub last_option : List ℕ → List (List ℕ) → Option (List ℕ)
 last_option name options = find (names_option name) (reverse options)
+
+-- The value of an option that always has one: what the last of those with a value says. The name alone is another option, and
+-- so passed over.
+abbrev pub last_value : List ℕ → List (List ℕ) → Option (List ℕ)
+last_value name options =
+    option_map (drop (length name + 1)) (find (gives_value name) (reverse options))

@@ -1,8 +1,8 @@
 use Rattle.std.proofs.Common.{◌||◌, sym, ap, ◌∙◌}
 use Rattle.assuan_text.specs.Words.{words}
-use Rattle.agent_commands.specs.Words.{has_option, options_of}
-use Rattle.agent_commands.proofs.OptionLemmas.{options-step}
-use Rattle.agent_commands.proofs.options.has_option.Goals as goal
+use Rattle.assuan_text.specs.Options.{has_option, options_of}
+use Rattle.assuan_text.proofs.OptionLemmas.{options-step}
+use Rattle.assuan_text.proofs.options.has_option.Goals as goal
 
 pub loop-option-preserved : goal.loop-option-preserved
 loop-option-preserved c =

@@ -1,8 +1,8 @@
 use Rattle.std.proofs.Common.{◌≡◌, ◌≤◌, length, drop}
 use Rattle.std.specs.List.{prefix_len}
 use Rattle.assuan_text.specs.Words.{words}
-use Rattle.agent_commands.specs.Words.{is_option}
-use Rattle.agent_commands.proofs.options.after_options.Given as goal
+use Rattle.assuan_text.specs.Options.{is_option}
+use Rattle.assuan_text.proofs.options.after_options.Given as goal
 
 -- what comes after the options stays the same
 abbrev pub invariant-loop-after : goal.invariant-loop-after

@@ -4,7 +4,7 @@ use Rattle.std.specs.List.{prefix_len}
 use Rattle.std.specs.Option.{option_or}
 use Rattle.std.proofs.lemmas.List.Folds.{find-append}
 use mathlib.Core.List.{reverse-cons}
-use Rattle.agent_commands.specs.Words.{is_option, options_of}
+use Rattle.assuan_text.specs.Options.{is_option, options_of}
 
 one_more : (word : List ℕ) (more : List (List ℕ)) → is_option word ≡ true → prefix_len is_option (word ∷ more) ≡ 1 + prefix_len is_option more
 one_more word more option = ap (λ b. cond b (1 + prefix_len is_option more) 0) option

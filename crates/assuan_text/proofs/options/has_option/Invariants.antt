@@ -1,7 +1,7 @@
 use Rattle.std.proofs.Common.{◌≡◌, length}
 use Rattle.assuan_text.specs.Words.{words}
-use Rattle.agent_commands.specs.Words.{has_option, options_of}
-use Rattle.agent_commands.proofs.options.has_option.Given as goal
+use Rattle.assuan_text.specs.Options.{has_option, options_of}
+use Rattle.assuan_text.proofs.options.has_option.Given as goal
 
 -- the options that are left decide
 abbrev pub invariant-loop-option : goal.invariant-loop-option

@@ -1,0 +1,5 @@
+/// How many marks one history has room for.
+pub const MAX_MARKS: u64 = 131_072;
+
+/// The moment to which readings of the clock are cut, in seconds.
+pub const MAX_MOMENT: u64 = 1 << 62;
