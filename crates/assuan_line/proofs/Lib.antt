@@ -1,8 +1,9 @@
 pub mod Ahead
-mod Answered
+mod Decided
 mod Parts
-mod Pieces
 pub mod Places
 pub mod OnlyReading
+mod Reading
 pub mod ReadingOn
 mod Sending
+mod Slices
