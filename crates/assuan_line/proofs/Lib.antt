@@ -6,4 +6,5 @@ pub mod OnlyReading
 mod Reading
 pub mod ReadingOn
 mod Sending
+mod SkippedLines
 mod Slices
