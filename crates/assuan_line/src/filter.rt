@@ -2,6 +2,9 @@ ghost use Rattle.std.specs.Prelude.{◌≡◌, ◌++◌, ◌∷◌, [], ℕ, Lis
 ghost use Rattle.assuan_line.specs.Reading.{HasRead};
 ghost use Rattle.assuan_line.specs.Skipping.{IsUndecided, ReadsOn};
 
+#[cfg(test)]
+mod tests;
+
 use crate::{Line, LineReader, Took};
 use agent_ports::Source;
 
