@@ -23,7 +23,8 @@ use Rattle.agent_top.specs.declared.reply.WriteFault.{WriteFault}
 use Rattle.agent_top.proofs.Saying.{with_nothing}
 
 -- one list of turns, and then another
-turns_then : {limits : Limits} {standing mid after : Standing} {first second : List Deed} {readings more : List ℕ} → Turns limits standing first readings mid → Turns limits mid second more after → Turns limits standing (first ++ second) (readings ++ more) after
+turns_then : {limits : Limits} {standing mid after : Standing} {first second : List Deed} {readings more : List ℕ} → Turns limits standing first readings mid → Turns limits mid second more after
+    → Turns limits standing (first ++ second) (readings ++ more) after
 turns_then no_turns later = later
 turns_then (turns_heard turns) later = turns_heard (turns_then turns later)
 turns_then (turns_wrote turns) later = turns_wrote (turns_then turns later)
@@ -40,7 +41,8 @@ takes_then (takes_turned takes) later = takes_turned (takes_then takes later)
 takes_then (takes_inquired answer takes) later = takes_inquired answer (takes_then takes later)
 
 -- deeds that read nothing took no line
-pub taken_none : (deeds : List Deed) (input input_now : Side) (reader reader_now : Reader) → input_now ≡ input → reader_now ≡ reader → ((total : ℕ) (bytes : List ℕ) → Takes total bytes deeds bytes) → WhereTold input.bytes input_now.bytes (TakesLines deeds reader reader_now)
+pub taken_none : (deeds : List Deed) (input input_now : Side) (reader reader_now : Reader) → input_now ≡ input → reader_now ≡ reader → ((total : ℕ) (bytes : List ℕ) → Takes total bytes deeds bytes)
+    → WhereTold input.bytes input_now.bytes (TakesLines deeds reader reader_now)
 taken_none deeds input input_now reader reader_now same same_reader takes =
     subst (λ (s : Side). WhereTold input.bytes s.bytes (TakesLines deeds reader reader_now)) (sym same)
     (subst (λ (r : Reader). WhereTold input.bytes input.bytes (TakesLines deeds reader r)) (sym same_reader)
@@ -86,7 +88,8 @@ done_then {first} {second} {start} {mid} {now} one two = record {
 }
 
 -- a text was written
-pub done_wrote : (text : List ℕ) (start now : Connection) (clock : Readings) (cache : Cache) → HasSaid text start (Ok tt) now → HasDone (Wrote text ∷ []) (record { conn = start; clock = clock; cache = cache }) (record { conn = now; clock = clock; cache = cache })
+pub done_wrote : (text : List ℕ) (start now : Connection) (clock : Readings) (cache : Cache) → HasSaid text start (Ok tt) now
+    → HasDone (Wrote text ∷ []) (record { conn = start; clock = clock; cache = cache }) (record { conn = now; clock = clock; cache = cache })
 done_wrote text start now clock cache said = record {
   written = said.output ∙ ap (λ (x : List ℕ). with_bytes start.output.bytes x) (sym (append-nil text));
   output_faults = said.faults;
@@ -100,7 +103,8 @@ done_wrote text start now clock cache said = record {
 }
 
 -- a write stopped
-pub done_stopped : (text : List ℕ) (start now : Connection) (clock : Readings) (cache : Cache) (why : WriteFault) (stopped : HasStopped text start.output now.output) → HasSaid text start (Err why) now → HasDone (Wrote stopped.sent ∷ []) (record { conn = start; clock = clock; cache = cache }) (record { conn = now; clock = clock; cache = cache })
+pub done_stopped : (text : List ℕ) (start now : Connection) (clock : Readings) (cache : Cache) (why : WriteFault) (stopped : HasStopped text start.output now.output) → HasSaid text start (Err why) now
+    → HasDone (Wrote stopped.sent ∷ []) (record { conn = start; clock = clock; cache = cache }) (record { conn = now; clock = clock; cache = cache })
 done_stopped text start now clock cache why stopped said = record {
   written = stopped.written ∙ ap (λ (x : List ℕ). with_bytes start.output.bytes x) (sym (append-nil stopped.sent));
   output_faults = said.faults;
@@ -114,7 +118,10 @@ done_stopped text start now clock cache why stopped said = record {
 }
 
 -- a turn of the cache
-pub done_turned : (asked : MarkStep) (came : Came) (conn : Connection) (clock clock_now : Readings) (reading : ℕ) (cache cache_now : Cache) → HasGiven clock (reading ∷ []) clock_now → cache_now.limits ≡ cache.limits → ((standing : Standing) → IsKept standing cache → (after : Standing) × Turns cache.limits standing (Turned asked came ∷ []) (reading ∷ []) after × IsKept after cache_now) → HasDone (Turned asked came ∷ []) (record { conn = conn; clock = clock; cache = cache }) (record { conn = conn; clock = clock_now; cache = cache_now })
+pub done_turned : (asked : MarkStep) (came : Came) (conn : Connection) (clock clock_now : Readings) (reading : ℕ) (cache cache_now : Cache) → HasGiven clock (reading ∷ []) clock_now
+    → cache_now.limits ≡ cache.limits
+    → ((standing : Standing) → IsKept standing cache → (after : Standing) × Turns cache.limits standing (Turned asked came ∷ []) (reading ∷ []) after × IsKept after cache_now)
+    → HasDone (Turned asked came ∷ []) (record { conn = conn; clock = clock; cache = cache }) (record { conn = conn; clock = clock_now; cache = cache_now })
 done_turned asked came conn clock clock_now reading cache cache_now given limits turns = record {
   written = with_nothing conn.output.bytes;
   output_faults = omega arith;

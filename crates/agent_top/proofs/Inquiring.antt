@@ -119,7 +119,8 @@ module _ (start mid now : Connection) (clock : Readings) (cache : Cache) (said :
     })
 
   -- what is made of an inquiry
-  module _ (going : mid.reader.ended ≡ None) (came : InquiredSecret) (inquiry : came ≢ inquired.WriteFault → Inquire 255 question_text (outcome_of_secret came) mid now) (cut : came ≡ inquired.WriteFault → IsNotAsked question_text mid now) where
+  module _ (going : mid.reader.ended ≡ None) (came : InquiredSecret)
+      (inquiry : came ≢ inquired.WriteFault → Inquire 255 question_text (outcome_of_secret came) mid now) (cut : came ≡ inquired.WriteFault → IsNotAsked question_text mid now) where
     -- the client was asked where something came of it
     inquire_so : (what : Outcome) → outcome_of_secret came ≡ Some what → Inquire 255 question_text (Some what) mid now
     inquire_so what says =

@@ -44,7 +44,8 @@ said_part text before after count fault part =
     }
 
 -- a first text was written whole, and then a second one
-then_said : (first second : List ℕ) (before mid after : Side) (result : Result (Unit {0}) WriteFault) → mid.bytes ≡ with_bytes before.bytes first → before.faults ≤ mid.faults → IsSaid second mid result after → IsSaid (first ++ second) before result after
+then_said : (first second : List ℕ) (before mid after : Side) (result : Result (Unit {0}) WriteFault) → mid.bytes ≡ with_bytes before.bytes first → before.faults ≤ mid.faults
+    → IsSaid second mid result after → IsSaid (first ++ second) before result after
 then_said first second before mid after (Ok done) is faults said =
     said ∙ ap (λ (o : Option (List ℕ)). with_bytes o second) is ∙ with_bytes-append before.bytes first second
 then_said first second before mid after (Err fault) is faults stopped = record {

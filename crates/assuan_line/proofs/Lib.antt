@@ -2,8 +2,9 @@ pub mod Ahead
 mod Decided
 mod Parts
 pub mod Places
-mod Reading
-mod Slices
 pub mod OnlyReading
+mod Reading
 pub mod ReadingOn
 mod Sending
+mod SkippedLines
+mod Slices

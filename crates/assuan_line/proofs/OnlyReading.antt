@@ -20,7 +20,10 @@ module _ (skips : List (List ℕ) → List ℕ → Bool) where
   no_stop before bytes line other first second stops skip =
       false≢true (sym stops ∙ ap (λ (l : List (List ℕ)). skips l line) (append-nil before) ∙ ap (skips before) (same_line bytes line other first second) ∙ skip)
 
-  only : {before lines others : List (List ℕ)} {bytes later rest : List ℕ} (line other : List ℕ) → Skipped skips before bytes lines later → Skipped skips before bytes others rest → next_of later ≡ Line line → next_of rest ≡ Line other → skips (before ++ lines) line ≡ false → skips (before ++ others) other ≡ false → IsSame lines others line other later rest
+  only : {before lines others : List (List ℕ)} {bytes later rest : List ℕ} (line other : List ℕ)
+      → Skipped skips before bytes lines later → Skipped skips before bytes others rest
+      → next_of later ≡ Line line → next_of rest ≡ Line other
+      → skips (before ++ lines) line ≡ false → skips (before ++ others) other ≡ false → IsSame lines others line other later rest
   only {bytes = bytes} line other none none is is' stops stops' = record { skipped = refl; stopped = same_line bytes line other is is'; left = refl }
   only {before} {bytes = bytes} line other none (one first next skip more) is is' stops stops' = absurd (no_stop before bytes line first is next stops skip)
   only {before} {bytes = bytes} line other (one first next skip more) none is is' stops stops' = absurd (no_stop before bytes other first is' next stops' skip)
@@ -38,7 +41,9 @@ module _ (skips : List (List ℕ) → List ℕ → Bool) where
     pub stopped : line ≡ other
     pub left_is : after.ahead ++ left ≡ later.ahead ++ rest
 
-  pub only_reading : (before lines others : List (List ℕ)) (bytes line other : List ℕ) (after later : Reader) (left rest : List ℕ) → ReadsAfter skips before lines bytes (Line line) after left → ReadsAfter skips before others bytes (Line other) later rest → IsOne lines others line other after later left rest
+  pub only_reading : (before lines others : List (List ℕ)) (bytes line other : List ℕ) (after later : Reader) (left rest : List ℕ)
+      → ReadsAfter skips before lines bytes (Line line) after left
+      → ReadsAfter skips before others bytes (Line other) later rest → IsOne lines others line other after later left rest
   only_reading before lines others bytes line other after later left rest first second =
       let same = only line other first.skipped second.skipped first.next.0 second.next.0 first.stops second.stops in
       record { skipped = same.skipped; stopped = same.stopped; left_is = first.next.1 ∙ ap after_line same.left ∙ sym second.next.1 }

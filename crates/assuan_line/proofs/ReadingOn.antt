@@ -1,15 +1,15 @@
 -- A read on over lines that are skipped: how it stands, and what the next line makes of it.
-use Rattle.std.proofs.Common.{◌≡◌, ◌≤◌, ◌<◌, ◌+◌, ℕ, Bool, true, false, List, [], ◌∷◌, ◌++◌, length, Option, None, Some, refl, ap, sym, ◌∙◌, subst, arith, append_assoc, append-nil}
+use Rattle.std.proofs.Common.{◌≡◌, ◌≤◌, ◌<◌, ◌+◌, ◌⊎◌, inl, inr, ℕ, Bool, true, false, List, [], ◌∷◌, ◌++◌, length, Option, None, Some, refl, ap, sym, ◌∙◌, subst, arith, append_assoc, append-nil}
 use Rattle.agent_ports.specs.Counts.{Rose}
 use Rattle.agent_ports.specs.Sides.{Side, WhereTold}
-use Rattle.agent_ports.proofs.Told.{told_same, told_then}
-use Rattle.assuan_line.specs.Lines.{after_line}
-use Rattle.assuan_line.specs.Next.{next_of, Reader, Tells, OnLine, held, ended_by}
-use Rattle.assuan_line.specs.Reading.{HasRead}
-use Rattle.assuan_line.specs.Skipping.{Skipped, none, one, Stops, ReadsNext, ReadsAfter, ReadsOn}
+use Rattle.agent_ports.proofs.Told.{told_same, told_then, told_both}
+use Rattle.assuan_line.specs.Next.{next_of, Reader, Tells, TakesWhatItNeeds, OnLine, held, ended_by}
+use Rattle.assuan_line.specs.Reading.{WereNeededBy, HasRead}
+use Rattle.assuan_line.specs.Skipping.{Skipped, none, IsUndecided, Stops, ReadsNext, ReadsAfter, ReadsOn}
 use Rattle.assuan_line.specs.declared.reader.Took.{Took}
 use Rattle.assuan_line.specs.declared.reader.Took.TheVariants.{Line, TooLong, End, Spent, ReadFault}
 use Rattle.assuan_line.proofs.Ahead.{cut_short_of_all, too_long_of_all}
+use Rattle.assuan_line.proofs.SkippedLines.{skipped_more, without_last}
 
 -- what an answer says, it says of all the bytes that are there
 reads_next : (before : Reader) (rest : List ℕ) (took : Took) (after : Reader) (left : List ℕ) → Tells before rest took after left → ReadsNext (before.ahead ++ rest) took after left
@@ -36,12 +36,17 @@ on_line ReadFault P Q each p = tt
 module _ (before after : Reader) (input input_after : Side) (took : Took) (going : before.ended ≡ None) where
   pub has_read : (before.ended ≡ None → WhereTold input.bytes input_after.bytes (λ rest left. Tells before rest took after left))
       → WhereTold input.bytes input_after.bytes (λ rest left. length rest + after.left ≡ length left + before.left)
+      → WhereTold input.bytes input_after.bytes (TakesWhatItNeeds before.ahead)
       → OnLine took (held after < held before) → (before.ended ≡ None → took ≡ Spent → after.left ≡ 0)
       → (before.ended ≡ None → took ≡ ReadFault → Rose input.faults input_after.faults) → input.faults ≤ input_after.faults
-      → after.ended ≡ ended_by took → HasRead ReadsNext before input took after input_after
-  has_read known budget progress spent fault faults ended = record {
+      → after.ended ≡ ended_by took → HasRead (λ bytes. next_of bytes ≡ End) ReadsNext before input took after input_after
+  has_read known budget needed progress spent fault faults ended = record {
     known = where_known input.bytes input_after.bytes _ _ (known going) (λ rest left. reads_next before rest took after left);
     budget = budget;
+    needed = where_known input.bytes input_after.bytes _ _ needed (λ rest left needs. elim needs [
+      | inl same ↦ inl same
+      | inr more ↦ inr (record { early = more.early; late = more.late; split = more.split; undecided = more.undecided; few = more.few })
+    ]);
     progress = progress;
     spent = spent going;
     fault = fault going;
@@ -50,19 +55,55 @@ module _ (before after : Reader) (input input_after : Side) (took : Took) (going
   }
 
 module _ (skips : List (List ℕ) → List ℕ → Bool) where
-  -- one line more is skipped
-  skipped_more : {before lines : List (List ℕ)} {bytes later : List ℕ} (line : List ℕ) → Skipped skips before bytes lines later → next_of later ≡ Line line → skips (before ++ lines) line ≡ true → Skipped skips before bytes (lines ++ line ∷ []) (after_line later)
-  skipped_more {before} line none next skip =
-      one line next (subst (λ (l : List (List ℕ)). skips l line ≡ true) (append-nil before) skip) none
-  skipped_more {before} line (one {lines = lines} first is first_skips more) next skip =
-      one first is first_skips
-      (skipped_more line more next (subst (λ (l : List (List ℕ)). skips l line ≡ true) (sym (append_assoc before (first ∷ []) lines)) skip))
+  -- an answer that is no line stops at once
+  pub stops_no_line : (lines : List (List ℕ)) (took : Took) → ((line : List ℕ) → took ≡ Line line → ⊥) → Stops skips lines took
+  stops_no_line lines (Line line) other = absurd (other line refl)
+  stops_no_line lines TooLong other = tt
+  stops_no_line lines End other = tt
+  stops_no_line lines Spent other = tt
+  stops_no_line lines ReadFault other = tt
+
+  -- nothing was taken from the source, or what is needed, and of one read at most more
+  abbrev TakesNeeded : List (List ℕ) → List ℕ → List ℕ → List ℕ → Type 0
+  TakesNeeded before ahead rest left = (rest ≡ left) ⊎ WereNeededBy (IsUndecided skips before) ahead rest left
+
+  -- what was taken so far
+  taken_so_far : (before : List (List ℕ)) (ahead rest left : List ℕ) → TakesNeeded before ahead rest left → (taken : List ℕ) × (rest ≡ taken ++ left)
+  taken_so_far before ahead rest left (inl same) = ([], same)
+  taken_so_far before ahead rest left (inr more) = (more.early ++ more.late, more.split ∙ sym (append_assoc more.early more.late left))
+
+  -- what the next line takes is needed after the lines that are skipped
+  module _ (before lines : List (List ℕ)) (ahead now_ahead rest left last : List ℕ)
+      (skipped : Skipped skips before (ahead ++ rest) lines (now_ahead ++ left)) (first : TakesNeeded before ahead rest left) where
+    needed_then : (left ≡ last) ⊎ WereNeededBy (λ bytes. next_of bytes ≡ End) now_ahead left last → TakesNeeded before ahead rest last
+    needed_then (inl same) = subst (λ (l : List ℕ). TakesNeeded before ahead rest l) same first
+    needed_then (inr more) =
+        let so_far = taken_so_far before ahead rest left first in
+        let behind : List ℕ = more.late ++ last in
+        let split : rest ≡ (so_far.0 ++ more.early) ++ behind =
+        so_far.1 ∙ ap (λ (l : List ℕ). so_far.0 ++ l) more.split ∙ sym (append_assoc so_far.0 more.early behind) in
+        inr (record {
+          early = so_far.0 ++ more.early;
+          late = more.late;
+          split = split;
+          undecided = record {
+            lines = lines;
+            later = now_ahead ++ more.early;
+            skipped =
+                without_last skips (ahead ++ (so_far.0 ++ more.early)) (now_ahead ++ more.early) behind skipped
+                (ap (λ (l : List ℕ). ahead ++ l) split ∙ sym (append_assoc ahead (so_far.0 ++ more.early) behind))
+                (ap (λ (l : List ℕ). now_ahead ++ l) more.split ∙ sym (append_assoc now_ahead more.early behind));
+            undecided = more.undecided;
+          };
+          few = more.few;
+        })
 
   -- Lines were skipped behind those before, and `keeps` holds of them all.
   pub record IsSkipping (before : List (List ℕ)) (keeps : List (List ℕ) → Type 0) (start : Reader) (input : Side) (now : Reader) (input_now : Side) : Type 0 where
     pub known : WhereTold input.bytes input_now.bytes (λ rest left.
         (lines : List (List ℕ)) × Skipped skips before (start.ahead ++ rest) lines (now.ahead ++ left) × keeps (before ++ lines))
     pub budget : WhereTold input.bytes input_now.bytes (λ rest left. length rest + now.left ≡ length left + start.left)
+    pub needed : WhereTold input.bytes input_now.bytes (TakesNeeded before start.ahead)
     pub fewer : held now ≤ held start
     pub faults : input.faults ≤ input_now.faults
 
@@ -71,25 +112,36 @@ module _ (skips : List (List ℕ) → List ℕ → Bool) where
   skipping_none before keeps start input kept = record {
     known = told_same input.bytes _ (λ rest. ([], none, subst keeps (sym (append-nil before)) kept));
     budget = told_same input.bytes _ (λ rest. refl);
+    needed = told_same input.bytes _ (λ rest. inl refl);
     fewer = omega arith;
     faults = omega arith;
   }
 
-  module _ (before : List (List ℕ)) (keeps now_keeps : List (List ℕ) → Type 0) (start now after : Reader) (input input_now input_after : Side) (took : Took) (skipping : IsSkipping before keeps start input now input_now) (read : HasRead ReadsNext now input_now took after input_after) where
+  module _ (before : List (List ℕ)) (keeps now_keeps : List (List ℕ) → Type 0) (start now after : Reader) (input input_now input_after : Side) (took : Took)
+      (skipping : IsSkipping before keeps start input now input_now) (read : HasRead (λ bytes. next_of bytes ≡ End) ReadsNext now input_now took after input_after) where
     budget : WhereTold input.bytes input_after.bytes (λ rest left. length rest + after.left ≡ length left + start.left)
     budget = told_then input.bytes input_now.bytes input_after.bytes _ _ _ skipping.budget read.budget (λ rest left more first second. omega (arith, first, second))
 
+    needed : WhereTold input.bytes input_after.bytes (TakesNeeded before start.ahead)
+    needed =
+        told_then input.bytes input_now.bytes input_after.bytes _ _ _ (told_both input.bytes input_now.bytes _ _ skipping.known skipping.needed) read.needed
+        (λ rest left more so_far next.
+        needed_then before so_far.0.0 start.ahead now.ahead rest left more so_far.0.1 so_far.1 next)
+
     -- the next line is skipped
-    pub skipping_more : (line : List ℕ) → took ≡ Line line → ((lines : List (List ℕ)) → keeps lines → skips lines line ≡ true) → ((lines : List (List ℕ)) → keeps lines → now_keeps (lines ++ line ∷ [])) → IsSkipping before now_keeps start input after input_after
+    pub skipping_more : (line : List ℕ) → took ≡ Line line
+        → ((lines : List (List ℕ)) → keeps lines → skips lines line ≡ true) → ((lines : List (List ℕ)) → keeps lines → now_keeps (lines ++ line ∷ []))
+        → IsSkipping before now_keeps start input after input_after
     skipping_more line is skip keep = record {
       known = told_then input.bytes input_now.bytes input_after.bytes _ _ _ skipping.known read.known (λ rest left more skipped next.
           let line_is : ReadsNext (now.ahead ++ left) (Line line) after more = subst (λ t. ReadsNext (now.ahead ++ left) t after more) is next in (
             skipped.0 ++ line ∷ [],
             subst (λ (b : List ℕ). Skipped skips before (start.ahead ++ rest) (skipped.0 ++ line ∷ []) b) (sym line_is.1)
-                (skipped_more line skipped.1 line_is.0 (skip (before ++ skipped.0) skipped.2)),
+                (skipped_more skips line skipped.1 line_is.0 (skip (before ++ skipped.0) skipped.2)),
             subst now_keeps (append_assoc before skipped.0 (line ∷ [])) (keep (before ++ skipped.0) skipped.2),
           ));
       budget = budget;
+      needed = needed;
       fewer =
           let fewer : held after < held now = subst (λ t. OnLine t (held after < held now)) is read.progress in
           omega (arith, fewer, skipping.fewer);
@@ -97,7 +149,8 @@ module _ (skips : List (List ℕ) → List ℕ → Bool) where
     }
 
     -- the next answer is no line that is skipped
-    pub read_on : ((lines : List (List ℕ)) → keeps lines → Stops skips lines took) → ((lines : List (List ℕ)) → keeps lines → now_keeps lines) → HasRead (ReadsOn skips before now_keeps) start input took after input_after
+    pub read_on : ((lines : List (List ℕ)) → keeps lines → Stops skips lines took) → ((lines : List (List ℕ)) → keeps lines → now_keeps lines)
+        → HasRead (IsUndecided skips before) (ReadsOn skips before now_keeps) start input took after input_after
     read_on stops keep = record {
       known = told_then input.bytes input_now.bytes input_after.bytes _ _ _ skipping.known read.known (λ rest left more skipped next. (
         skipped.0,
@@ -105,6 +158,7 @@ module _ (skips : List (List ℕ) → List ℕ → Bool) where
         keep (before ++ skipped.0) skipped.2,
       ));
       budget = budget;
+      needed = needed;
       progress = on_line took _ _ (λ (fewer : held after < held now). omega (arith, fewer, skipping.fewer)) read.progress;
       spent = read.spent;
       fault = λ is. omega (arith, read.fault is, skipping.faults);
@@ -113,10 +167,13 @@ module _ (skips : List (List ℕ) → List ℕ → Bool) where
     }
 
 -- what is said of the bytes says less
-pub read_so : {P Q : List ℕ → Took → Reader → List ℕ → Type 0} {before after : Reader} {input input_after : Side} {took : Took} → ((bytes left : List ℕ) → P bytes took after left → Q bytes took after left) → HasRead P before input took after input_after → HasRead Q before input took after input_after
+pub read_so : {Undecided : List ℕ → Type 0} {P Q : List ℕ → Took → Reader → List ℕ → Type 0} {before after : Reader} {input input_after : Side} {took : Took}
+    → ((bytes left : List ℕ) → P bytes took after left → Q bytes took after left)
+    → HasRead Undecided P before input took after input_after → HasRead Undecided Q before input took after input_after
 read_so {before = before} {input = input} {input_after = input_after} each read = record {
   known = where_known input.bytes input_after.bytes _ _ read.known (λ rest left. each (before.ahead ++ rest) left);
   budget = read.budget;
+  needed = read.needed;
   progress = read.progress;
   spent = read.spent;
   fault = read.fault;
@@ -146,7 +203,8 @@ on_none End P is p = absurd (cc is)
 on_none Spent P is p = absurd (cc is)
 on_none ReadFault P is p = absurd (cc is)
 
-module _ {Reads : List ℕ → Took → Reader → List ℕ → Type 0} {before after : Reader} {input input_after : Side} {took : Took} (read : HasRead Reads before input took after input_after) where
+module _ {Undecided : List ℕ → Type 0} {Reads : List ℕ → Took → Reader → List ℕ → Type 0} {before after : Reader} {input input_after : Side} {took : Took}
+    (read : HasRead Undecided Reads before input took after input_after) where
   pub spent_so : after.ended ≡ Some Spent → after.left ≡ 0
   spent_so is = read.spent (ends_spent took (sym read.ended ∙ is))
 

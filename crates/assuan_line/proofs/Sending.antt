@@ -7,7 +7,8 @@ use Rattle.agent_ports.specs.declared.link.Sent.{Sent}
 use Rattle.agent_ports.specs.declared.link.Sent.TheVariants.{All, Failed}
 use Rattle.assuan_line.specs.Written.{HasSent}
 
-pub has_sent : (bytes : List ℕ) (before after : Side) (sent : Sent) → length bytes ≤ 1001 → IfCut sent (λ count. count ≤ length bytes) → after.bytes ≡ with_bytes before.bytes (sent_part bytes sent) → (IsCut sent → Rose before.faults after.faults) → HasSent bytes before sent after
+pub has_sent : (bytes : List ℕ) (before after : Side) (sent : Sent) → length bytes ≤ 1001 → IfCut sent (λ count. count ≤ length bytes)
+    → after.bytes ≡ with_bytes before.bytes (sent_part bytes sent) → (IsCut sent → Rose before.faults after.faults) → HasSent bytes before sent after
 has_sent bytes before after All short cut written failed = written
 has_sent bytes before after (Failed count) short cut written failed = record {
   sent = take count bytes;

@@ -4,7 +4,7 @@ use Rattle.std.specs.Prelude.{◌≡◌, Bool, true, false, ℕ, List, [], ◌�
 use Rattle.assuan_line.specs.Lines.{after_line}
 use Rattle.assuan_line.specs.Next.{next_of, Reader, Tells}
 use Rattle.assuan_line.specs.declared.reader.Took.{Took}
-use Rattle.assuan_line.specs.declared.reader.Took.TheVariants.{Line}
+use Rattle.assuan_line.specs.declared.reader.Took.TheVariants.{Line, End}
 
 -- The lines at the front of the bytes that are skipped, one after another, and the bytes from there on. The lines `before` were
 -- skipped earlier.
@@ -12,6 +12,13 @@ pub data Skipped (skips : List (List ℕ) → List ℕ → Bool) : List (List �
   none : {before : List (List ℕ)} {bytes : List ℕ} → Skipped skips before bytes [] bytes
   one : {before lines : List (List ℕ)} {bytes later : List ℕ} (line : List ℕ) → next_of bytes ≡ Line line → skips before line ≡ true
       → Skipped skips (before ++ line ∷ []) (after_line bytes) lines later → Skipped skips before bytes (line ∷ lines) later
+
+-- the bytes are lines that are skipped, and behind them neither a line nor one that is too long
+pub record IsUndecided (skips : List (List ℕ) → List ℕ → Bool) (before : List (List ℕ)) (bytes : List ℕ) : Type 0 where
+  pub lines : List (List ℕ)
+  pub later : List ℕ
+  pub skipped : Skipped skips before bytes lines later
+  pub undecided : next_of later ≡ End
 
 -- it is no line that is skipped behind these
 abbrev pub Stops : (List (List ℕ) → List ℕ → Bool) → List (List ℕ) → Took → Type 0

@@ -1,6 +1,9 @@
 ghost use Rattle.std.specs.Prelude.{◌≡◌, ◌++◌, ◌∷◌, [], ℕ, List, Bool, true, false, None};
 ghost use Rattle.assuan_line.specs.Reading.{HasRead};
-ghost use Rattle.assuan_line.specs.Skipping.{ReadsOn};
+ghost use Rattle.assuan_line.specs.Skipping.{IsUndecided, ReadsOn};
+
+#[cfg(test)]
+mod tests;
 
 use crate::{Line, LineReader, Took};
 use agent_ports::Source;
@@ -34,7 +37,7 @@ pub fn next_after_skipped<S: Source, F: LineFilter>(
 ) -> Took
     requires { reader.old.ended ≡ None }
     ensures read { (before : List (List ℕ)) → F.keeps filter.old before
-        → HasRead (ReadsOn F.skips before (F.keeps filter.new))
+        → HasRead (IsUndecided F.skips before) (ReadsOn F.skips before (F.keeps filter.new))
         reader.old (S.input source.old) result reader.new (S.input source.new) }
     ensures limit { F.limit filter.new ≡ F.limit filter.old }
     ensures beside { S.beside_input source.new ≡ S.beside_input source.old }

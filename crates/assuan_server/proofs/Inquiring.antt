@@ -8,7 +8,7 @@ use Rattle.agent_ports.specs.declared.link.Sent.TheVariants.{All}
 use Rattle.assuan_escape.specs.DataLines.{carried}
 use Rattle.assuan_line.specs.Next.{Reader, ended_by}
 use Rattle.assuan_line.specs.Reading.{HasRead}
-use Rattle.assuan_line.specs.Skipping.{ReadsOn}
+use Rattle.assuan_line.specs.Skipping.{IsUndecided, ReadsOn}
 use Rattle.assuan_text.specs.LineEnds.{line_of}
 use Rattle.assuan_line.specs.declared.reader.Took.{Took}
 use Rattle.assuan_line.specs.declared.reader.Took.TheVariants.{Line}
@@ -19,16 +19,21 @@ use Rattle.assuan_server.specs.Failures.{IsAnswer}
 use Rattle.assuan_server.specs.Inquiries.{Outcome, Data, TooMuch, Cancelled, Unexpected, Ended, TooLong, Spent, ReadFault, IsAtEnd, IsWord, Answers, ComesTo, can, end, past, foreign, ended, too_long, spent, read_fault, ended_of, is_skipped}
 use Rattle.assuan_server.specs.Written.{HasWritten}
 
+abbrev Undecided : List ℕ → Type 0
+Undecided = IsUndecided (λ before line. is_skipped line) []
+
 -- a line was written, and then lines were read
-pub gathered : {Reads : List ℕ → Took → Reader → List ℕ → Type 0} (line : List ℕ) (before mid after : Connection) (took : Took) → HasWritten (line_of line) before All mid → HasRead Reads mid.reader mid.input took after.reader after.input → after.output ≡ mid.output → after.link ≡ mid.link → Gather Reads line before took after
-gathered {Reads} line before mid after took wrote read output link = record {
-  read =
-      subst (λ (s : Side). HasRead Reads before.reader s took after.reader after.input) wrote.input
-      (subst (λ (r : Reader). HasRead Reads r mid.input took after.reader after.input) wrote.reader read);
-  written = ap (λ (s : Side). s.bytes) output ∙ wrote.output;
-  output_faults = omega (arith, wrote.faults, ap (λ (s : Side). s.faults) output);
-  link = link ∙ wrote.link;
-}
+module _ {Reads : List ℕ → Took → Reader → List ℕ → Type 0} (line : List ℕ) (before mid after : Connection) (took : Took) where
+  pub gathered : HasWritten (line_of line) before All mid → HasRead Undecided Reads mid.reader mid.input took after.reader after.input
+      → after.output ≡ mid.output → after.link ≡ mid.link → Gather Reads line before took after
+  gathered wrote read output link = record {
+    read =
+        subst (λ (s : Side). HasRead Undecided Reads before.reader s took after.reader after.input) wrote.input
+        (subst (λ (r : Reader). HasRead Undecided Reads r mid.input took after.reader after.input) wrote.reader read);
+    written = ap (λ (s : Side). s.bytes) output ∙ wrote.output;
+    output_faults = omega (arith, wrote.faults, ap (λ (s : Side). s.faults) output);
+    link = link ∙ wrote.link;
+  }
 
 -- how the reader has ended, by what the inquiry came to
 pub ended_by_outcome : {limit : ℕ} {bytes : List ℕ} {took : Took} {outcome : Outcome} → ComesTo limit bytes took outcome → ended_by took ≡ ended_of outcome
@@ -48,7 +53,8 @@ failed {limit} {outcome = outcome} comes_to = record {
   ended = λ other is. ended_by_outcome (comes_to 0 []) ∙ ap ended_of is;
 }
 
-pub inquired : {limit : ℕ} {keeps : List ℕ → Type 0} {line : List ℕ} {before after : Connection} {took : Took} {says : Option Outcome} → Gather (ReadsOn (λ before line. is_skipped line) [] (λ lines. keeps (flat_map carried lines))) line before took after → IsAnswer limit keeps took says → Inquire limit line says before after
+pub inquired : {limit : ℕ} {keeps : List ℕ → Type 0} {line : List ℕ} {before after : Connection} {took : Took} {says : Option Outcome}
+    → Gather (ReadsOn (λ before line. is_skipped line) [] (λ lines. keeps (flat_map carried lines))) line before took after → IsAnswer limit keeps took says → Inquire limit line says before after
 inquired {took = took} gather answer = record {
   took = took;
   gathered = record {
@@ -73,7 +79,9 @@ closed TooLong is = absurd is
 closed Spent is = absurd is
 closed ReadFault is = absurd is
 
-at_end : {limit : ℕ} {keeps : List ℕ → Type 0} {took : Took} {says : Option Outcome} (line : List ℕ) → took ≡ Line line → ((outcome : Outcome) → Answers says outcome → IsAtEnd outcome) → ((bytes : List ℕ) → keeps bytes → (outcome : Outcome) × ComesTo limit bytes (Line line) outcome × Answers says outcome) → IsAnswer limit keeps took says
+at_end : {limit : ℕ} {keeps : List ℕ → Type 0} {took : Took} {says : Option Outcome} (line : List ℕ) → took ≡ Line line
+    → ((outcome : Outcome) → Answers says outcome → IsAtEnd outcome)
+    → ((bytes : List ℕ) → keeps bytes → (outcome : Outcome) × ComesTo limit bytes (Line line) outcome × Answers says outcome) → IsAnswer limit keeps took says
 at_end {limit} {keeps} {says = says} line is at comes_to =
     subst (λ t. IsAnswer limit keeps t says) (sym is) (record { answers = comes_to; ended = λ outcome answers. sym (closed outcome (at outcome answers)) })
 

@@ -43,7 +43,9 @@ one_outcome (ComesTo.foreign no_can no_end) (ComesTo.past is past) = absurd (no_
 one_outcome (ComesTo.foreign no_can no_end) (ComesTo.foreign no_can' no_end') = refl
 
 -- an inquiry that a line closes comes to one outcome
-pub only_outcome : (limit : ℕ) (bytes : List ℕ) (answer other_answer : Took) (outcome other : Outcome) (after later : Reader) (left rest : List ℕ) → IsClosed outcome → IsClosed other → Inquiry limit bytes answer outcome after left → Inquiry limit bytes other_answer other later rest → (outcome ≡ other) × (after.ahead ++ left ≡ later.ahead ++ rest)
+pub only_outcome : (limit : ℕ) (bytes : List ℕ) (answer other_answer : Took) (outcome other : Outcome) (after later : Reader) (left rest : List ℕ)
+    → IsClosed outcome → IsClosed other → Inquiry limit bytes answer outcome after left → Inquiry limit bytes other_answer other later rest
+    → (outcome ≡ other) × (after.ahead ++ left ≡ later.ahead ++ rest)
 only_outcome limit bytes answer other_answer outcome other after later left rest closed closed' first second =
     let by = closes first.comes_to closed in
     let by' = closes second.comes_to closed' in

@@ -1,18 +1,19 @@
 -- What asking the client does to a connection.
-use Rattle.std.specs.Prelude.{◌≡◌, ◌≤◌, ℕ, List, Option}
+use Rattle.std.specs.Prelude.{◌≡◌, ◌≤◌, ℕ, List, [], Option}
 use Rattle.agent_ports.specs.Sides.{with_bytes}
 use Rattle.agent_ports.specs.declared.link.Sent.TheVariants.{Failed}
 use Rattle.assuan_line.specs.Next.{Reader, ended_by}
 use Rattle.assuan_line.specs.Reading.{HasRead}
+use Rattle.assuan_line.specs.Skipping.{IsUndecided}
 use Rattle.assuan_text.specs.LineEnds.{line_of}
 use Rattle.assuan_line.specs.declared.reader.Took.{Took}
 use Rattle.assuan_server.specs.Connections.{Connection}
-use Rattle.assuan_server.specs.Inquiries.{Outcome, Inquiry, Answers, ended_of}
+use Rattle.assuan_server.specs.Inquiries.{Outcome, Inquiry, Answers, ended_of, is_skipped}
 use Rattle.assuan_server.specs.Written.{HasWritten}
 
--- a line was written, and lines were read up to this answer
+-- a line was written, and lines were read up to the first answer that an inquiry doesn't skip
 pub record Gather (Reads : List ℕ → Took → Reader → List ℕ → Type 0) (line : List ℕ) (before : Connection) (took : Took) (after : Connection) : Type 0 where
-  pub read : HasRead Reads before.reader before.input took after.reader after.input
+  pub read : HasRead (IsUndecided (λ lines line. is_skipped line) []) Reads before.reader before.input took after.reader after.input
   pub written : after.output.bytes ≡ with_bytes before.output.bytes (line_of line)
   pub output_faults : before.output.faults ≤ after.output.faults
   pub link : after.link ≡ before.link

@@ -3,7 +3,7 @@
 use Rattle.std.specs.Prelude.{◌≡◌, ℕ, List, []}
 use Rattle.assuan_line.specs.Next.{Reader}
 use Rattle.assuan_line.specs.Reading.{HasRead}
-use Rattle.assuan_line.specs.Skipping.{ReadsAfter}
+use Rattle.assuan_line.specs.Skipping.{IsUndecided, ReadsAfter}
 use Rattle.assuan_line.specs.declared.reader.Took.{Took}
 use Rattle.assuan_text.specs.Forms.{is_ignored}
 use Rattle.assuan_server.specs.Connections.{Connection}
@@ -14,6 +14,6 @@ IsNextRequest bytes took after left = (lines : List (List ℕ)) × ReadsAfter (�
 
 -- the next request was read, and the rest of the connection left alone
 pub record NextRequest (before : Connection) (took : Took) (after : Connection) : Type 0 where
-  pub read : HasRead IsNextRequest before.reader before.input took after.reader after.input
+  pub read : HasRead (IsUndecided (λ lines line. is_ignored line) []) IsNextRequest before.reader before.input took after.reader after.input
   pub output : after.output ≡ before.output
   pub link : after.link ≡ before.link

@@ -3,7 +3,7 @@ ghost use Rattle.std.specs.List.{flat_map};
 ghost use Rattle.assuan_line.specs.Lines.{IsLine};
 ghost use Rattle.assuan_text.specs.LineEnds.{has_lf};
 ghost use Rattle.assuan_line.specs.Reading.{HasRead};
-ghost use Rattle.assuan_line.specs.Skipping.{ReadsOn};
+ghost use Rattle.assuan_line.specs.Skipping.{IsUndecided, ReadsOn};
 ghost use Rattle.assuan_text.specs.LineEnds.{line_of};
 ghost use Rattle.assuan_server.specs.Connections.{IsOpen};
 ghost use Rattle.assuan_server.specs.Requests.{NextRequest};
@@ -126,7 +126,7 @@ impl<'a, L: Link> Conn<'a, L> {
     pub(crate) fn next_after<F: LineFilter>(&mut self, filter: &mut F) -> Took
         requires { IsOpen self.old }
         ensures read { (before : List (List ℕ)) → F.keeps filter.old before
-            → HasRead (ReadsOn F.skips before (F.keeps filter.new))
+            → HasRead (IsUndecided F.skips before) (ReadsOn F.skips before (F.keeps filter.new))
             self.old.reader self.old.input result self.new.reader self.new.input }
         ensures limit { F.limit filter.new ≡ F.limit filter.old }
         ensures output { self.new.output ≡ self.old.output }
