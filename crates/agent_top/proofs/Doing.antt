@@ -6,18 +6,18 @@ use Rattle.agent_ports.specs.Sides.{Side, with_bytes, WhereTold}
 use Rattle.agent_ports.proofs.Given.{given_then}
 use Rattle.agent_ports.proofs.Told.{told_same, told_then, told_both, with_bytes-append}
 use Rattle.assuan_line.specs.Next.{Reader, ended_by}
+use Rattle.assuan_line.specs.Skipping.{ReadsNext, ReadsAfter}
 use Rattle.assuan_line.specs.declared.reader.Took.{Took}
 use Rattle.assuan_line.specs.declared.reader.Took.TheVariants as took
 use Rattle.assuan_server.specs.Connections.{Connection}
-use Rattle.assuan_server.specs.Passing.{Comes, Says}
 use Rattle.assuan_text.specs.Forms.{is_ignored}
-use Rattle.assuan_server.specs.Requests.{IsNextRequest}
+use Rattle.assuan_server.specs.Requests.{NextRequest}
 use Rattle.cache_policy.specs.declared.life.Limits.{Limits}
 use Rattle.cache_policy.specs.declared.mark.MarkStep.{MarkStep}
 use Rattle.agent_top.specs.Cache.{Standing, Turns, none as no_turns, heard as turns_heard, wrote as turns_wrote, inquired as turns_inquired, turned, refused}
 use Rattle.agent_top.specs.Deeds.{Came, Deed, Heard, Wrote, Turned, written, output_of}
 use Rattle.agent_top.specs.Reading.{Reads, line, too_long, end, spent, fault, ReadsPast, Takes, none as no_lines, heard as takes_heard, wrote as takes_wrote, turned as takes_turned, inquired as takes_inquired}
-use Rattle.agent_top.specs.Steps.{HasStopped, HasSaid, IsKept, Point, here, IsTotal, TakesLines, HasDone}
+use Rattle.agent_top.specs.Steps.{HasStopped, HasSaid, IsKept, Point, point, here, IsTotal, TakesLines, HasDone}
 use Rattle.agent_top.specs.declared.cache.Cache.{Cache}
 use Rattle.agent_top.specs.declared.reply.WriteFault.{WriteFault}
 use Rattle.agent_top.proofs.Saying.{with_nothing}
@@ -128,50 +128,55 @@ done_turned asked came conn clock clock_now reading cache cache_now given limits
 }
 
 -- What an answer says is what is read. The reader stands as the answer makes it.
-reads : (total : ℕ) (later : List ℕ) (answer : Took) (ahead : List ℕ) (count : ℕ) (left : List ℕ) → IsTotal total (record { ahead = ahead; left = count; ended = ended_by answer }) left → Says later answer (record { ahead = ahead; left = count; ended = ended_by answer }) left → Reads total later answer (here (record { ahead = ahead; left = count; ended = ended_by answer }) left)
-reads total later (took.Line text) ahead count left is says = subst (λ (x : List ℕ). Reads total later (took.Line text) x) (sym says.1) (line says.0)
-reads total later took.TooLong ahead count left is says = too_long says
-reads total later took.End ahead count left is says =
-    subst (λ (x : List ℕ). Reads total later took.End x) (sym says.1)
-    (end says.0 (omega (arith, is, says.2, ap (λ (l : List ℕ). length l) says.1)))
-reads total later took.Spent ahead count left is says = spent says.0 (omega (arith, is, says.1))
-reads total later took.ReadFault ahead count left is says = fault says.0 (omega (arith, is, says.1))
+abbrev ended_reader : List ℕ → ℕ → Took → Reader
+ended_reader ahead count answer = record { ahead = ahead; left = count; ended = ended_by answer }
 
-pub reads_past : (passes : List ℕ → Bool) (total : ℕ) (bytes : List ℕ) (lines : List (List ℕ)) (answer : Took) (after : Reader) (left : List ℕ) → after.ended ≡ ended_by answer → IsTotal total after left → Comes passes bytes lines answer after left → ReadsPast passes total bytes lines answer (here after left)
-reads_past passes total bytes lines answer after left ended is comes =
-    let as_ended : after ≡ record { ahead = after.ahead; left = after.left; ended = ended_by answer } =
-    ap (λ (o : Option Took). record { ahead = after.ahead; left = after.left; ended = o }) ended in
-    record {
-      later = comes.later;
-      passed = comes.passed;
-      stops = comes.stops;
-      reads =
-          subst (λ (r : Reader). Reads total comes.later answer (here r left)) (sym as_ended)
-          (reads total comes.later answer after.ahead after.left left is (subst (λ (r : Reader). Says comes.later answer r left) as_ended comes.says));
-    }
+module _ (total : ℕ) (later : List ℕ) (ahead : List ℕ) (count : ℕ) (left : List ℕ) where
+  reads : (answer : Took) → IsTotal total (ended_reader ahead count answer) left → ReadsNext later answer (ended_reader ahead count answer) left → Reads total later answer (here (ended_reader ahead count answer) left)
+  reads (took.Line text) is says = subst (λ (x : List ℕ). Reads total later (took.Line text) x) (sym says.1) (line says.0)
+  reads took.TooLong is says = too_long says
+  reads took.End is says =
+      subst (λ (x : List ℕ). Reads total later took.End x) (sym says.1)
+      (end says.0 (omega (arith, is, says.2, ap (λ (l : List ℕ). length l) says.1)))
+  reads took.Spent is says = spent says.0 (omega (arith, is, says.1))
+  reads took.ReadFault is says = fault says.0 (omega (arith, is, says.1))
+
+module _ (skips : List (List ℕ) → List ℕ → Bool) (total : ℕ) (bytes : List ℕ) (lines : List (List ℕ)) (answer : Took) (after : Reader) (left : List ℕ) where
+  pub reads_past : after.ended ≡ ended_by answer → IsTotal total after left → ReadsAfter skips [] lines bytes answer after left → ReadsPast skips total bytes lines answer (here after left)
+  reads_past ended is read =
+      let as_ended : after ≡ ended_reader after.ahead after.left answer = ap (λ (o : Option Took). record { ahead = after.ahead; left = after.left; ended = o }) ended in
+      record {
+        later = read.later;
+        skipped = read.skipped;
+        stops = read.stops;
+        reads =
+            subst (λ (r : Reader). Reads total read.later answer (here r left)) (sym as_ended)
+            (reads total read.later after.ahead after.left left answer is (subst (λ (r : Reader). ReadsNext read.later answer r left) as_ended read.next));
+      }
 
 -- the bytes before a read are those ahead and those that the source holds
 pub here_going : (reader : Reader) (left : List ℕ) → reader.ended ≡ None → here reader left ≡ reader.ahead ++ left
 here_going reader left going = rw going refl
 
 -- the next request was read
-pub done_heard : (start now : Connection) (clock : Readings) (cache : Cache) (answer : Took) → start.reader.ended ≡ None → now.reader.ended ≡ ended_by answer → now.output ≡ start.output → now.link ≡ start.link → start.input.faults ≤ now.input.faults → WhereTold start.input.bytes now.input.bytes (λ rest left. IsNextRequest (start.reader.ahead ++ rest) answer now.reader left) → WhereTold start.input.bytes now.input.bytes (λ rest left. length rest + now.reader.left ≡ length left + start.reader.left) → HasDone (Heard answer ∷ []) (record { conn = start; clock = clock; cache = cache }) (record { conn = now; clock = clock; cache = cache })
-done_heard start now clock cache answer going ended_so output link faults request count = record {
-  written = ap (λ (s : Side). s.bytes) output ∙ with_nothing start.output.bytes;
-  output_faults = omega (arith, ap (λ (s : Side). s.faults) output);
-  readings = [];
-  given = not_read;
-  turns = λ standing kept. (standing, turns_heard no_turns, kept);
-  limits = refl;
-  taken =
-      told_then start.input.bytes now.input.bytes now.input.bytes _ (λ rest left. rest ≡ left) _
-      (told_both start.input.bytes now.input.bytes _ _ request count) (told_same now.input.bytes _ (λ rest. refl))
-      (λ rest left more read same. λ total is.
-      let is_now : IsTotal total now.reader left = omega (arith, is, read.1) in
-      let takes : Takes total (here start.reader rest) (Heard answer ∷ []) (here now.reader left) =
-      subst (λ (b : List ℕ). Takes total b (Heard answer ∷ []) (here now.reader left)) (sym (here_going start.reader rest going))
-      (takes_heard (read.0.0, reads_past is_ignored total (start.reader.ahead ++ rest) read.0.0 answer now.reader left ended_so is_now read.0.1) no_lines) in
-      subst (λ (x : List ℕ). Takes total (here start.reader rest) (Heard answer ∷ []) (here now.reader x) × IsTotal total now.reader x) same (takes, is_now));
-  input_faults = faults;
-  link = link;
-}
+module _ (start now : Connection) (clock : Readings) (cache : Cache) (answer : Took) where
+  pub done_heard : start.reader.ended ≡ None → NextRequest start answer now → HasDone (Heard answer ∷ []) (point start clock cache) (point now clock cache)
+  done_heard going next = record {
+    written = ap (λ (s : Side). s.bytes) next.output ∙ with_nothing start.output.bytes;
+    output_faults = omega (arith, ap (λ (s : Side). s.faults) next.output);
+    readings = [];
+    given = not_read;
+    turns = λ standing kept. (standing, turns_heard no_turns, kept);
+    limits = refl;
+    taken =
+        told_then start.input.bytes now.input.bytes now.input.bytes _ (λ rest left. rest ≡ left) _
+        (told_both start.input.bytes now.input.bytes _ _ next.read.known next.read.budget) (told_same now.input.bytes _ (λ rest. refl))
+        (λ rest left more read same. λ total is.
+        let is_now : IsTotal total now.reader left = omega (arith, is, read.1) in
+        let takes : Takes total (here start.reader rest) (Heard answer ∷ []) (here now.reader left) =
+        subst (λ (b : List ℕ). Takes total b (Heard answer ∷ []) (here now.reader left)) (sym (here_going start.reader rest going))
+        (takes_heard (read.0.0, reads_past (λ before line. is_ignored line) total (start.reader.ahead ++ rest) read.0.0 answer now.reader left next.read.ended is_now read.0.1) no_lines) in
+        subst (λ (x : List ℕ). Takes total (here start.reader rest) (Heard answer ∷ []) (here now.reader x) × IsTotal total now.reader x) same (takes, is_now));
+    input_faults = next.read.faults;
+    link = next.link;
+  }

@@ -6,12 +6,13 @@ use Rattle.agent_ports.specs.Readings.{Readings, none as not_read}
 use Rattle.agent_ports.specs.Sides.{with_bytes, WhereTold}
 use Rattle.agent_ports.specs.declared.link.Sent.TheVariants.{Failed}
 use Rattle.agent_ports.proofs.Told.{told_then, told_both, told_same}
-use Rattle.assuan_line.specs.Next.{held, ended_by}
+use Rattle.assuan_line.specs.Next.{held}
 use Rattle.assuan_line.specs.declared.reader.Took.{Took}
-use Rattle.assuan_line.specs.declared.reader.Took.TheVariants as took
+use Rattle.assuan_line.proofs.ReadingOn.{fewer_so, fault_so}
 use Rattle.assuan_server.specs.Connections.{Connection}
 use Rattle.assuan_escape.specs.DataLines.{carried}
-use Rattle.assuan_server.specs.Inquiries.{Outcome, Inquiry, ComesTo, can, end, past, foreign, ended, too_long, spent, read_fault, AnswersSecret, ended_of_secret, inquire_text, is_passing}
+use Rattle.assuan_server.specs.Asking.{Gather, Inquire, IsNotAsked, ReadsAnswer as AnswerSays}
+use Rattle.assuan_server.specs.Inquiries.{Outcome, Inquiry, ComesTo, inquire_text, is_skipped, outcome_of_secret, ended_of}
 use Rattle.assuan_server.specs.Inquiries as outcome
 use Rattle.assuan_text.specs.LineEnds.{line_of}
 use Rattle.assuan_server.specs.Written.{HasWritten, status_text}
@@ -29,51 +30,14 @@ use Rattle.agent_top.specs.declared.reply.WriteFault.{WriteFault}
 use Rattle.agent_top.proofs.Doing.{done_then, done_wrote, done_stopped, reads_past, here_going}
 use Rattle.agent_top.proofs.Saying.{said_part}
 
--- how the reader has ended where an inquiry came to this
-abbrev ended_outcome : Outcome → Option Took
-ended_outcome outcome.Ended = Some took.End
-ended_outcome outcome.TooLong = Some took.TooLong
-ended_outcome outcome.Spent = Some took.Spent
-ended_outcome outcome.ReadFault = Some took.ReadFault
-ended_outcome _ = None
-
-ended_by_outcome : {limit : ℕ} {bytes : List ℕ} {answer : Took} {what : Outcome} → ComesTo limit bytes answer what → ended_by answer ≡ ended_outcome what
-ended_by_outcome (can word) = refl
-ended_by_outcome (end word within) = refl
-ended_by_outcome (past word beyond) = refl
-ended_by_outcome (foreign no_can no_end) = refl
-ended_by_outcome ended = refl
-ended_by_outcome too_long = refl
-ended_by_outcome spent = refl
-ended_by_outcome read_fault = refl
-
-ended_of_outcome : (came : InquiredSecret) (what : Outcome) → AnswersSecret came what → ended_outcome what ≡ ended_of_secret came
-ended_of_outcome (inquired.Secret secret) what is = ap ended_outcome is
-ended_of_outcome inquired.Cancelled what is = ap ended_outcome is
-ended_of_outcome inquired.TooMuch what is = ap ended_outcome is
-ended_of_outcome inquired.Unexpected what is = ap ended_outcome is
-ended_of_outcome inquired.Ended what is = ap ended_outcome is
-ended_of_outcome inquired.TooLong what is = ap ended_outcome is
-ended_of_outcome inquired.Spent what is = ap ended_outcome is
-ended_of_outcome inquired.ReadFault what is = ap ended_outcome is
-ended_of_outcome inquired.WriteFault what is = absurd is
-
-same_outcome : (came : InquiredSecret) (one other : Outcome) → AnswersSecret came one → AnswersSecret came other → one ≡ other
-same_outcome (inquired.Secret secret) one other is also = is ∙ sym also
-same_outcome inquired.Cancelled one other is also = is ∙ sym also
-same_outcome inquired.TooMuch one other is also = is ∙ sym also
-same_outcome inquired.Unexpected one other is also = is ∙ sym also
-same_outcome inquired.Ended one other is also = is ∙ sym also
-same_outcome inquired.TooLong one other is also = is ∙ sym also
-same_outcome inquired.Spent one other is also = is ∙ sym also
-same_outcome inquired.ReadFault one other is also = is ∙ sym also
-same_outcome inquired.WriteFault one other is also = absurd is
-
 abbrev status_line : List ℕ
 status_line = line_of (status_text (codes "INQUIRE_MAXLEN") (codes "255"))
 
+abbrev question_text : List ℕ
+question_text = inquire_text (codes "PASSPHRASE") []
+
 abbrev question_line : List ℕ
-question_line = line_of (inquire_text (codes "PASSPHRASE") [])
+question_line = line_of question_text
 
 -- the connection among the rest of a point
 abbrev at_conn : Connection → Readings → Cache → Point
@@ -119,17 +83,15 @@ module _ (start mid now : Connection) (clock : Readings) (cache : Cache) (said :
       }
 
   -- the client answered
-  module _ (came : InquiredSecret) (what : Outcome) (answers : AnswersSecret came what) (going : mid.reader.ended ≡ None) (ended_so : now.reader.ended ≡ ended_of_secret came) (written : now.output.bytes ≡ with_bytes mid.output.bytes question_line) (faults : mid.output.faults ≤ now.output.faults) (link : now.link ≡ mid.link) (input_faults : mid.input.faults ≤ now.input.faults) (inquiry : WhereTold mid.input.bytes now.input.bytes (λ rest left. (outcome : Outcome) × Inquiry 255 (mid.reader.ahead ++ rest) outcome now.reader left × AnswersSecret came outcome)) (budget : WhereTold mid.input.bytes now.input.bytes (λ rest left. length rest + now.reader.left ≡ length left + mid.reader.left)) where
-    answer_read : (total : ℕ) (rest left : List ℕ) → IsTotal total now.reader left → (outcome : Outcome) → Inquiry 255 (mid.reader.ahead ++ rest) outcome now.reader left → AnswersSecret came outcome → ReadsAnswer total 255 (mid.reader.ahead ++ rest) what (here now.reader left)
-    answer_read total rest left is outcome inquiry answers_too =
-        let same : outcome ≡ what = same_outcome came outcome what answers_too answers in
+  module _ (going : mid.reader.ended ≡ None) (what : Outcome) (answer : Took) (gathered : Gather (AnswerSays 255 (Some what)) question_text mid answer now) where
+    answer_read : (total : ℕ) (rest left : List ℕ) → IsTotal total now.reader left → AnswerSays 255 (Some what) (mid.reader.ahead ++ rest) answer now.reader left → ReadsAnswer total 255 (mid.reader.ahead ++ rest) what (here now.reader left)
+    answer_read total rest left is read =
+        let inquiry : Inquiry 255 (mid.reader.ahead ++ rest) answer read.0 now.reader left = read.1 in
         record {
           lines = inquiry.lines;
-          took = inquiry.took;
-          past =
-              reads_past is_passing total (mid.reader.ahead ++ rest) inquiry.lines inquiry.took now.reader left
-              (ended_so ∙ sym (ended_of_outcome came outcome answers_too) ∙ sym (ended_by_outcome inquiry.comes_to)) is inquiry.comes;
-          comes_to = subst (λ o. ComesTo 255 (flat_map carried inquiry.lines) inquiry.took o) same inquiry.comes_to;
+          took = answer;
+          past = reads_past (λ before line. is_skipped line) total (mid.reader.ahead ++ rest) inquiry.lines answer now.reader left gathered.read.ended is inquiry.reads;
+          comes_to = subst (λ o. ComesTo 255 (flat_map carried inquiry.lines) answer o) (sym read.2) inquiry.comes_to;
         }
 
     abbrev asks : List Deed
@@ -137,51 +99,61 @@ module _ (start mid now : Connection) (clock : Readings) (cache : Cache) (said :
 
     pub asked : HasDone (question ++ (Inquired 255 what ∷ [])) (at_conn start clock cache) (at_conn now clock cache)
     asked = done_then (done_wrote status_line start mid clock cache said) (record {
-      written = written;
-      output_faults = faults;
+      written = gathered.written;
+      output_faults = gathered.output_faults;
       readings = [];
       given = not_read;
       turns = λ standing kept. (standing, turns_wrote (turns_inquired no_turns), kept);
       limits = refl;
       taken =
           told_then mid.input.bytes now.input.bytes now.input.bytes _ (λ rest left. rest ≡ left) _
-          (told_both mid.input.bytes now.input.bytes _ _ inquiry budget) (told_same now.input.bytes _ (λ rest. refl))
+          (told_both mid.input.bytes now.input.bytes _ _ gathered.read.known gathered.read.budget) (told_same now.input.bytes _ (λ rest. refl))
           (λ rest left more read same. λ total is.
           let is_now : IsTotal total now.reader left = omega (arith, is, read.1) in
-          let answer : ReadsAnswer total 255 (mid.reader.ahead ++ rest) what (here now.reader left) =
-          answer_read total rest left is_now read.0.0 read.0.1 read.0.2 in
+          let answer : ReadsAnswer total 255 (mid.reader.ahead ++ rest) what (here now.reader left) = answer_read total rest left is_now read.0 in
           let takes : Takes total (here mid.reader rest) asks (here now.reader left) =
           wrote (taken_inquired (subst (λ (b : List ℕ). ReadsAnswer total 255 b what (here now.reader left)) (sym (here_going mid.reader rest going)) answer) none) in
           subst (λ (x : List ℕ). Takes total (here mid.reader rest) asks (here now.reader x) × IsTotal total now.reader x) same (takes, is_now));
-      input_faults = input_faults;
-      link = link;
+      input_faults = gathered.read.faults;
+      link = gathered.link;
     })
 
--- an inquiry that came to something was written
-no_write_fault : (came : InquiredSecret) (what : Outcome) → AnswersSecret came what → came ≢ inquired.WriteFault
-no_write_fault came what answers e = subst (λ k. AnswersSecret k what) e answers
+  -- what is made of an inquiry
+  module _ (going : mid.reader.ended ≡ None) (came : InquiredSecret) (inquiry : came ≢ inquired.WriteFault → Inquire 255 question_text (outcome_of_secret came) mid now) (cut : came ≡ inquired.WriteFault → IsNotAsked question_text mid now) where
+    -- the client was asked where something came of it
+    inquire_so : (what : Outcome) → outcome_of_secret came ≡ Some what → Inquire 255 question_text (Some what) mid now
+    inquire_so what says =
+        subst (λ o. Inquire 255 question_text o mid now) says
+        (inquiry (λ e. absurd (cc (sym says ∙ ap outcome_of_secret e))))
 
--- what is made of an inquiry
-module _ (start mid now : Connection) (clock : Readings) (cache : Cache) (said : HasSaid status_line start (Ok tt) mid) (going : mid.reader.ended ≡ None) (came : InquiredSecret) (inquiry : came ≢ inquired.WriteFault → WhereTold mid.input.bytes now.input.bytes (λ rest left. (outcome : Outcome) × Inquiry 255 (mid.reader.ahead ++ rest) outcome now.reader left × AnswersSecret came outcome)) (written : came ≢ inquired.WriteFault → now.output.bytes ≡ with_bytes mid.output.bytes question_line) (cut : came ≡ inquired.WriteFault → (sent : ℕ) × HasWritten question_line mid (Failed sent) now) (budget : WhereTold mid.input.bytes now.input.bytes (λ rest left. length rest + now.reader.left ≡ length left + mid.reader.left)) (read_fault : came ≡ inquired.ReadFault → Rose mid.input.faults now.input.faults) (input_faults : mid.input.faults ≤ now.input.faults) (output_faults : mid.output.faults ≤ now.output.faults) (progress : now.reader.ended ≡ None → held now.reader ≤ held mid.reader) (ended_so : now.reader.ended ≡ ended_of_secret came) (link : now.link ≡ mid.link) where
-  asked_so : (what : Outcome) → AnswersSecret came what → HasDone (question ++ (Inquired 255 what ∷ [])) (at_conn start clock cache) (at_conn now clock cache)
-  asked_so what answers =
-      let wrote_it = no_write_fault came what answers in
-      asked start mid now clock cache said came what answers going ended_so (written wrote_it) output_faults link input_faults (inquiry wrote_it) budget
+    module _ (what : Outcome) (says : outcome_of_secret came ≡ Some what) where
+      asked_so : HasDone (question ++ (Inquired 255 what ∷ [])) (at_conn start clock cache) (at_conn now clock cache)
+      asked_so = let inquire = inquire_so what says in asked going what inquire.took inquire.gathered
 
-  fewer : now.reader.ended ≡ None → held now.reader ≤ held start.reader
-  fewer is = omega (arith, progress is, ap held said.reader)
+      ended_so : now.reader.ended ≡ ended_of what
+      ended_so = let inquire = inquire_so what says in inquire.gathered.read.ended ∙ inquire.ended what refl
 
-  pub inquired_so : (result : Result Brought WriteFault) → IsBrought came result → IsInquired (at_conn start clock cache) result (at_conn now clock cache)
-  inquired_so (Ok (Passphrase secret)) is =
-      let none : now.reader.ended ≡ None = ended_so ∙ ap ended_of_secret is in
-      (asked_so (outcome.Data secret) (subst (λ k. AnswersSecret k (outcome.Data secret)) (sym is) refl), (none, fewer none))
-  inquired_so (Ok (Without answer)) lacks = record {
-    outcome = lacks.outcome;
-    done = asked_so lacks.outcome lacks.answers;
-    fails = lacks.fails;
-    fits = lacks.fits start.reader now.reader ended_so fewer;
-    fault = λ e. omega (arith, read_fault (lacks.fault e), ap (λ s. s.faults) said.input);
-  }
-  inquired_so (Err why) is =
-      let part = cut is in
-      not_asked_question start mid now clock cache said part.0 why part.1
+      fewer : now.reader.ended ≡ None → held now.reader ≤ held start.reader
+      fewer is = let inquire = inquire_so what says in omega (arith, fewer_so inquire.gathered.read is, ap held said.reader)
+
+      read_fault_so : what ≡ outcome.ReadFault → Rose start.input.faults now.input.faults
+      read_fault_so is =
+          let inquire = inquire_so what says in
+          let rose : Rose mid.input.faults now.input.faults = fault_so inquire.gathered.read (ended_so ∙ ap ended_of is) in
+          omega (arith, rose, ap (λ s. s.faults) said.input)
+
+    pub inquired_so : (result : Result Brought WriteFault) → IsBrought came result → IsInquired (at_conn start clock cache) result (at_conn now clock cache)
+    inquired_so (Ok (Passphrase secret)) is =
+        let says : outcome_of_secret came ≡ Some (outcome.Data secret) = ap outcome_of_secret is in
+        let going_on : now.reader.ended ≡ None = ended_so (outcome.Data secret) says in
+        (asked_so (outcome.Data secret) says, (going_on, fewer (outcome.Data secret) says going_on))
+    inquired_so (Ok (Without answer)) lacks = record {
+      outcome = lacks.outcome;
+      done = asked_so lacks.outcome lacks.says;
+      fails = lacks.fails;
+      fits = lacks.fits start.reader now.reader (ended_so lacks.outcome lacks.says) (fewer lacks.outcome lacks.says);
+      fault = λ e. read_fault_so lacks.outcome lacks.says (lacks.fault e);
+    }
+    inquired_so (Err why) is =
+        let part = cut is in
+        not_asked_question part.0 why part.1

@@ -4,7 +4,8 @@ use Rattle.agent_ports.specs.Sides.{Side, with_bytes}
 use Rattle.agent_ports.specs.declared.link.Sent.TheVariants.{All, Failed}
 use Rattle.agent_ports.proofs.Told.{with_bytes-append}
 use Rattle.assuan_server.specs.Connections.{Connection}
-use Rattle.assuan_server.specs.Written.{HasWritten, HasCut}
+use Rattle.assuan_line.specs.Written.{HasCut}
+use Rattle.assuan_server.specs.Written.{HasWritten}
 use Rattle.agent_top.specs.Steps.{HasStopped, IsSaid, HasSaid}
 use Rattle.agent_top.specs.declared.reply.WriteFault.{WriteFault}
 

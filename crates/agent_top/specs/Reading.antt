@@ -4,11 +4,11 @@ use Rattle.std.specs.Prelude.{◌≡◌, ◌<◌, ◌+◌, ◌^◌, ℕ, Bool, L
 use Rattle.std.specs.List.{flat_map}
 use Rattle.assuan_line.specs.Lines.{after_line}
 use Rattle.assuan_line.specs.Next.{next_of, IsCutShort, IsTooLong}
+use Rattle.assuan_line.specs.Skipping.{Skipped, Stops}
 use Rattle.assuan_line.specs.declared.reader.Took.{Took}
 use Rattle.assuan_line.specs.declared.reader.Took.TheVariants.{Line, TooLong, End, Spent, ReadFault}
 use Rattle.assuan_escape.specs.DataLines.{carried}
-use Rattle.assuan_server.specs.Inquiries.{Outcome, ComesTo, is_passing}
-use Rattle.assuan_server.specs.Passing.{Passed, Stops}
+use Rattle.assuan_server.specs.Inquiries.{Outcome, ComesTo, is_skipped}
 use Rattle.assuan_text.specs.Forms.{is_ignored}
 use Rattle.agent_top.specs.Deeds.{Came, Deed, Heard, Wrote, Turned, Inquired}
 
@@ -28,22 +28,22 @@ pub data Reads (total : ℕ) (bytes : List ℕ) : Took → List ℕ → Type 0 w
   -- a read failed, and what is left of the bytes taken is neither a line nor too long
   fault : {rest : List ℕ} → IsCutShort [] bytes rest → total < budget + length rest → Reads total bytes ReadFault rest
 
--- lines that are passed over, and what comes after them
-pub record ReadsPast (passes : List ℕ → Bool) (total : ℕ) (bytes : List ℕ) (lines : List (List ℕ)) (took : Took) (rest : List ℕ) : Type 0 where
+-- lines that are skipped, and what comes after them
+pub record ReadsPast (skips : List (List ℕ) → List ℕ → Bool) (total : ℕ) (bytes : List ℕ) (lines : List (List ℕ)) (took : Took) (rest : List ℕ) : Type 0 where
   pub later : List ℕ
-  pub passed : Passed passes bytes lines later
-  pub stops : Stops passes took
+  pub skipped : Skipped skips [] bytes lines later
+  pub stops : Stops skips lines took
   pub reads : Reads total later took rest
 
 -- the next request, or what comes in its place
 abbrev pub ReadsRequest : ℕ → List ℕ → Took → List ℕ → Type 0
-ReadsRequest total bytes took rest = (lines : List (List ℕ)) × ReadsPast is_ignored total bytes lines took rest
+ReadsRequest total bytes took rest = (lines : List (List ℕ)) × ReadsPast (λ before line. is_ignored line) total bytes lines took rest
 
 -- what an inquiry comes to
 pub record ReadsAnswer (total limit : ℕ) (bytes : List ℕ) (outcome : Outcome) (rest : List ℕ) : Type 0 where
   pub lines : List (List ℕ)
   pub took : Took
-  pub past : ReadsPast is_passing total bytes lines took rest
+  pub past : ReadsPast (λ before line. is_skipped line) total bytes lines took rest
   pub comes_to : ComesTo limit (flat_map carried lines) took outcome
 
 -- the requests and inquiries among the deeds took their lines from these bytes, in order, and left the rest

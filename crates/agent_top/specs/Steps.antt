@@ -7,7 +7,8 @@ use Rattle.agent_ports.specs.Sides.{Side, with_bytes, WhereTold}
 use Rattle.assuan_line.specs.Next.{Reader, held}
 use Rattle.assuan_line.specs.declared.reader.Took.TheVariants as took
 use Rattle.assuan_server.specs.Connections.{Connection}
-use Rattle.assuan_server.specs.Inquiries.{Outcome, Data, AnswersSecret, ended_of_secret}
+use Rattle.assuan_server.specs.Inquiries.{Outcome, Data, outcome_of_secret, ended_of}
+use Rattle.assuan_server.specs.Inquiries as comes
 use Rattle.assuan_server.specs.declared.inquiry.InquiredSecret.{InquiredSecret}
 use Rattle.assuan_server.specs.declared.inquiry.InquiredSecret.TheVariants as inquired
 use Rattle.cache_policy.specs.Book.{IsEndlessBookOf}
@@ -178,10 +179,10 @@ pub record HasMet (rules : Rules) (before : Connection) (clock : Readings) (end 
 -- what the client was asked brought no passphrase, and this is the answer
 pub record Lacks (came : InquiredSecret) (answer : Answer) : Type 0 where
   pub outcome : Outcome
-  pub answers : AnswersSecret came outcome
+  pub says : outcome_of_secret came ≡ Some outcome
   pub fails : (more : List Deed) → IsReply answer.reply more → Fails outcome more answer.went
-  pub fits : (before after : Reader) → after.ended ≡ ended_of_secret came → (after.ended ≡ None → held after ≤ held before) → Fits answer.went before after
-  pub fault : answer.went ≡ End ReadFault → came ≡ inquired.ReadFault
+  pub fits : (before after : Reader) → after.ended ≡ ended_of outcome → (after.ended ≡ None → held after ≤ held before) → Fits answer.went before after
+  pub fault : answer.went ≡ End ReadFault → outcome ≡ comes.ReadFault
 
 -- the client was asked for a passphrase, which brought none, and this is the answer
 pub record HasLacked (start : Point) (answer : Answer) (now : Point) : Type 0 where

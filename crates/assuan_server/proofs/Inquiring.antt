@@ -16,7 +16,7 @@ use Rattle.assuan_line.proofs.ReadingOn.{read_so}
 use Rattle.assuan_server.specs.Asking.{Gather, Inquire}
 use Rattle.assuan_server.specs.Connections.{Connection}
 use Rattle.assuan_server.specs.Failures.{IsAnswer}
-use Rattle.assuan_server.specs.Inquiries.{Outcome, Data, TooMuch, Cancelled, Unexpected, Ended, TooLong, Spent, ReadFault, IsAtEnd, IsWord, Answers, ComesTo, can, end, past, foreign, ended, too_long, spent, read_fault, ended_of, is_passing}
+use Rattle.assuan_server.specs.Inquiries.{Outcome, Data, TooMuch, Cancelled, Unexpected, Ended, TooLong, Spent, ReadFault, IsAtEnd, IsWord, Answers, ComesTo, can, end, past, foreign, ended, too_long, spent, read_fault, ended_of, is_skipped}
 use Rattle.assuan_server.specs.Written.{HasWritten}
 
 -- a line was written, and then lines were read
@@ -48,7 +48,7 @@ failed {limit} {outcome = outcome} comes_to = record {
   ended = λ other is. ended_by_outcome (comes_to 0 []) ∙ ap ended_of is;
 }
 
-pub inquired : {limit : ℕ} {keeps : List ℕ → Type 0} {line : List ℕ} {before after : Connection} {took : Took} {says : Option Outcome} → Gather (ReadsOn (λ before line. is_passing line) [] (λ lines. keeps (flat_map carried lines))) line before took after → IsAnswer limit keeps took says → Inquire limit line says before after
+pub inquired : {limit : ℕ} {keeps : List ℕ → Type 0} {line : List ℕ} {before after : Connection} {took : Took} {says : Option Outcome} → Gather (ReadsOn (λ before line. is_skipped line) [] (λ lines. keeps (flat_map carried lines))) line before took after → IsAnswer limit keeps took says → Inquire limit line says before after
 inquired {took = took} gather answer = record {
   took = took;
   gathered = record {

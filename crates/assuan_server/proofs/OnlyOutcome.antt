@@ -8,7 +8,7 @@ use Rattle.assuan_line.specs.declared.reader.Took.{Took}
 use Rattle.assuan_line.specs.declared.reader.Took.TheVariants as took
 use Rattle.assuan_line.proofs.OnlyReading.{only_reading}
 use Rattle.assuan_escape.specs.DataLines.{carried}
-use Rattle.assuan_server.specs.Inquiries.{IsWord, Outcome, ComesTo, Inquiry, IsClosed, is_passing}
+use Rattle.assuan_server.specs.Inquiries.{IsWord, Outcome, ComesTo, Inquiry, IsClosed, is_skipped}
 
 -- a line closed the inquiry
 closes : {limit : ℕ} {bytes : List ℕ} {answer : Took} {outcome : Outcome} → ComesTo limit bytes answer outcome → IsClosed outcome → (line : List ℕ) × (answer ≡ took.Line line)
@@ -47,9 +47,9 @@ pub only_outcome : (limit : ℕ) (bytes : List ℕ) (answer other_answer : Took)
 only_outcome limit bytes answer other_answer outcome other after later left rest closed closed' first second =
     let by = closes first.comes_to closed in
     let by' = closes second.comes_to closed' in
-    let reads = subst (λ t. ReadsAfter (λ before line. is_passing line) [] first.lines bytes t after left) by.1 first.reads in
-    let reads' = subst (λ t. ReadsAfter (λ before line. is_passing line) [] second.lines bytes t later rest) by'.1 second.reads in
-    let same = only_reading (λ before line. is_passing line) [] first.lines second.lines bytes by.0 by'.0 after later left rest reads reads' in
+    let reads = subst (λ t. ReadsAfter (λ before line. is_skipped line) [] first.lines bytes t after left) by.1 first.reads in
+    let reads' = subst (λ t. ReadsAfter (λ before line. is_skipped line) [] second.lines bytes t later rest) by'.1 second.reads in
+    let same = only_reading (λ before line. is_skipped line) [] first.lines second.lines bytes by.0 by'.0 after later left rest reads reads' in
     let to = subst (λ t. ComesTo limit (flat_map carried first.lines) t outcome) by.1 first.comes_to in
     let to' = subst (λ t. ComesTo limit (flat_map carried second.lines) t other) by'.1 second.comes_to in
     let to_lines = subst (λ (l : List (List ℕ)). ComesTo limit (flat_map carried l) (took.Line by'.0) other) (sym same.skipped) to' in

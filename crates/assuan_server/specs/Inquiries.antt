@@ -1,5 +1,5 @@
 -- Inquiries, as the Assuan manual has them ("server responses", INQUIRE): the client answers with data lines and END, or with
--- CAN. What passes between these, and what becomes of any other line, is this project's own rule.
+-- CAN. What is skipped between these, and what becomes of any other line, is this project's own rule.
 use Rattle.std.specs.Prelude.{◌≡◌, ◌<◌, ◌≤◌, ◌==◌, ◌||◌, Bool, ℕ, List, [], ◌++◌, length, map, codes, if◌then◌else◌, Option, Some, None}
 use Rattle.std.specs.List.{flat_map, before_first}
 use Rattle.std.specs.Char.{to_ascii_lowercase}
@@ -20,9 +20,9 @@ abbrev pub inquire_text : List ℕ → List ℕ → List ℕ
 inquire_text word params =
     if length params == 0 then codes "INQUIRE " ++ word else codes "INQUIRE " ++ word ++ codes " " ++ params
 
--- a line that an inquiry reads past
-abbrev pub is_passing : List ℕ → Bool
-is_passing line = is_data line || is_idle line
+-- a line that an inquiry skips
+abbrev pub is_skipped : List ℕ → Bool
+is_skipped line = is_data line || is_idle line
 
 -- The line begins with this word, in either case of its letters, which is given in lowercase. Further words are ignored.
 abbrev pub IsWord : List ℕ → List ℕ → Type 0
@@ -53,7 +53,7 @@ pub data ComesTo (limit : ℕ) (bytes : List ℕ) : Took → Outcome → Type 0 
 -- an inquiry over these bytes: what its lines came to, the answer after them, how the reader stands then, and what the source holds
 pub record Inquiry (limit : ℕ) (bytes : List ℕ) (took : Took) (outcome : Outcome) (after : Reader) (left : List ℕ) : Type 0 where
   pub lines : List (List ℕ)
-  pub reads : ReadsAfter (λ before line. is_passing line) [] lines bytes took after left
+  pub reads : ReadsAfter (λ before line. is_skipped line) [] lines bytes took after left
   pub comes_to : ComesTo limit (flat_map carried lines) took outcome
 
 -- how the reader has ended by what an inquiry came to: a line closes it, and leaves the reader open

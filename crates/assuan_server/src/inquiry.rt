@@ -8,7 +8,7 @@ ghost use Rattle.assuan_escape.specs.DataLines.{carried};
 ghost use Rattle.assuan_server.specs.Asking.{Gather, Inquire, IsNotAsked};
 ghost use Rattle.assuan_server.specs.Buffers.{IsVecOf, IsSecretOf};
 ghost use Rattle.assuan_server.specs.Connections.{IsOpen};
-ghost use Rattle.assuan_server.specs.Inquiries.{inquire_text, Inquiry, Outcome, ComesTo, IsWord, IfData, IsClosed, outcome_of, outcome_of_secret, is_passing};
+ghost use Rattle.assuan_server.specs.Inquiries.{inquire_text, Inquiry, Outcome, ComesTo, IsWord, IfData, IsClosed, outcome_of, outcome_of_secret, is_skipped};
 ghost use Rattle.assuan_server.specs.Failures.{IsAnswer};
 ghost use Rattle.assuan_server.specs.Written.{HasWritten};
 
@@ -112,7 +112,7 @@ impl<'a, L: Link> Conn<'a, L> {
         requires going { IsOpen self.old }
         requires one_line { IsLine (inquire_text word.now params.now) }
         ensures gathered { B.keeps lines.old.buffer [] → IfSome result (λ took.
-            Gather (ReadsOn (λ before line. is_passing line) [] (λ skipped. B.keeps lines.new.buffer (flat_map carried skipped)))
+            Gather (ReadsOn (λ before line. is_skipped line) [] (λ skipped. B.keeps lines.new.buffer (flat_map carried skipped)))
             (inquire_text word.now params.now) self.old took self.new) }
         ensures cut { IfNone result (IsNotAsked (inquire_text word.now params.now) self.old self.new) }
         ensures limit { B.limit lines.new.buffer ≡ B.limit lines.old.buffer }

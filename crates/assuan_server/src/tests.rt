@@ -14,25 +14,6 @@ fn link(alloc: Global, bytes: &[u8], piece: usize) -> Result<MemLink, AllocError
     Ok(MemLink::new(source, MemSink::new(alloc, 0, Vec::new(alloc))))
 }
 
-#[test]
-fn lines_are_written(rt: HostRuntime) -> Result<(), Fail> {
-    let alloc = rt.alloc();
-    let mut link = link(alloc, b"", 1)?;
-    let mut conn = Conn::new(alloc, &mut link, 1 << 40);
-    assert_eq!(rt; conn.greet(), Sent::All);
-    assert_eq!(rt; conn.ok(b""), Sent::All);
-    assert_eq!(rt; conn.ok(b"closing connection"), Sent::All);
-    assert_eq!(rt; conn.status(b"INQUIRE_MAXLEN", b"255"), Sent::All);
-    assert_eq!(rt; conn.comment(b"NOP"), Sent::All);
-    assert_eq!(rt; conn.data(b""), Sent::All);
-    assert_eq!(rt; conn.data(b"\xC3\xA9"), Sent::All);
-    conn.into_link();
-    let want =
-        b"OK Pleased to meet you\nOK\nOK closing connection\nS INQUIRE_MAXLEN 255\n# NOP\nD %C3%A9\n";
-    assert_eq!(rt; link.written(), want.as_slice());
-    Ok(())
-}
-
 /// Every error line that is used.
 const ERROR_LINES: &[u8] = b"\
 ERR 67108865 General error <GPG Agent>\n\
@@ -63,10 +44,18 @@ ERR 67141667 File exists <GPG Agent>\n\
 ERR 67141718 Cannot allocate memory <GPG Agent>\n";
 
 #[test]
-fn errors_are_written_with_their_numbers_and_texts(rt: HostRuntime) -> Result<(), Fail> {
+fn lines_are_written(rt: HostRuntime) -> Result<(), Fail> {
     let alloc = rt.alloc();
     let mut link = link(alloc, b"", 1)?;
     let mut conn = Conn::new(alloc, &mut link, 1 << 40);
+    assert_eq!(rt; conn.greet(), Sent::All);
+    assert_eq!(rt; conn.ok(b""), Sent::All);
+    assert_eq!(rt; conn.ok(b"closing connection"), Sent::All);
+    assert_eq!(rt; conn.status(b"INQUIRE_MAXLEN", b"255"), Sent::All);
+    assert_eq!(rt; conn.comment(b"NOP"), Sent::All);
+    assert_eq!(rt; conn.data(b""), Sent::All);
+    assert_eq!(rt; conn.data(b"\xC3\xA9"), Sent::All);
+    assert_eq!(rt; conn.data(&[b'\n'; 400]), Sent::All);
     let errors = [
         (Code::General, Origin::Agent),
         (Code::BadSecKey, Origin::Agent),
@@ -99,18 +88,10 @@ fn errors_are_written_with_their_numbers_and_texts(rt: HostRuntime) -> Result<()
         assert_eq!(rt; conn.err(code, origin), Sent::All);
     }
     conn.into_link();
-    assert_eq!(rt; link.written(), ERROR_LINES);
-    Ok(())
-}
-
-#[test]
-fn data_lines_are_full(rt: HostRuntime) -> Result<(), Fail> {
-    let alloc = rt.alloc();
-    let mut link = link(alloc, b"", 1)?;
-    let mut conn = Conn::new(alloc, &mut link, 1 << 40);
-    assert_eq!(rt; conn.data(&[b'\n'; 400]), Sent::All);
-    conn.into_link();
-    let mut want = Vec::from_slice(alloc, b"D ")?;
+    let mut want = Vec::from_slice(
+        alloc,
+        b"OK Pleased to meet you\nOK\nOK closing connection\nS INQUIRE_MAXLEN 255\n# NOP\nD %C3%A9\nD ",
+    )?;
     for _ in 0..332 {
         want.extend_from_slice(b"%0A")?;
     }
@@ -119,12 +100,13 @@ fn data_lines_are_full(rt: HostRuntime) -> Result<(), Fail> {
         want.extend_from_slice(b"%0A")?;
     }
     want.push(b'\n')?;
+    want.extend_from_slice(ERROR_LINES)?;
     assert_eq!(rt; link.written(), want.as_slice());
     Ok(())
 }
 
 #[test]
-fn a_write_that_fails_is_counted(rt: HostRuntime) -> Result<(), Fail> {
+fn a_write_that_fails_is_counted_and_reads_nothing(rt: HostRuntime) -> Result<(), Fail> {
     let alloc = rt.alloc();
     let source = MemSource::new(Vec::new(alloc), 1, Vec::new(alloc));
     let sink = MemSink::new(alloc, 5, vec![in alloc; 1u64]?);
@@ -134,6 +116,18 @@ fn a_write_that_fails_is_counted(rt: HostRuntime) -> Result<(), Fail> {
     assert_eq!(rt; conn.ok(b""), Sent::All);
     conn.into_link();
     assert_eq!(rt; link.written().len(), 1009);
+    let source = MemSource::new(Vec::from_slice(alloc, b"NOP\n")?, 1, Vec::new(alloc));
+    let mut link = MemLink::new(source, MemSink::new(alloc, 3, vec![in alloc; 0u64]?));
+    let mut conn = Conn::new(alloc, &mut link, 1 << 40);
+    match conn.inquire_secret(b"PASSPHRASE", b"") {
+        InquiredSecret::WriteFault => {
+            let next = next_text(alloc, &mut conn)?;
+            assert_eq!(rt; next.as_str(), "NOP");
+        }
+        _ => return Err("no write fault".into()),
+    }
+    conn.into_link();
+    assert_eq!(rt; link.written(), b"INQ".as_slice());
     Ok(())
 }
 
@@ -193,6 +187,27 @@ fn assert_bytes(got: &[u8], want: &[u8]) -> Result<(), Fail> {
     }
 }
 
+/// What an inquiry for a secret comes to over a data line of so many bytes.
+fn secret_of(alloc: Global, len: usize, end: &[u8]) -> Result<String, Fail> {
+    let mut bytes = Vec::from_slice(alloc, b"D ")?;
+    for _ in 0..len {
+        bytes.push(b'a')?;
+    }
+    bytes.extend_from_slice(end)?;
+    let mut link = link(alloc, bytes.as_slice(), 7)?;
+    let mut conn = Conn::new(alloc, &mut link, 1 << 40);
+    let text = match conn.inquire_secret(b"PASSPHRASE", b"please") {
+        InquiredSecret::Secret(secret) => format!(in alloc; "{} bytes", secret.bytes().len())?,
+        InquiredSecret::Cancelled => String::from_str(alloc, "cancelled")?,
+        InquiredSecret::TooMuch => String::from_str(alloc, "too much")?,
+        InquiredSecret::Unexpected => String::from_str(alloc, "unexpected")?,
+        _ => String::from_str(alloc, "ended")?,
+    };
+    conn.into_link();
+    assert_bytes(link.written(), b"INQUIRE PASSPHRASE please\n")?;
+    Ok(text)
+}
+
 #[test]
 fn an_inquiry_is_read_in_any_pieces(rt: HostRuntime) -> Result<(), Fail> {
     let alloc = rt.alloc();
@@ -231,34 +246,7 @@ fn an_inquiry_is_read_in_any_pieces(rt: HostRuntime) -> Result<(), Fail> {
     long.extend_from_slice(b"\nEND\n")?;
     let got = inquired(alloc, long.as_slice(), 7, 255)?;
     assert_eq!(rt; got.as_str(), "too long");
-    Ok(())
-}
-
-/// What an inquiry for a secret comes to over a data line of so many bytes.
-fn secret_of(alloc: Global, len: usize, end: &[u8]) -> Result<String, Fail> {
-    let mut bytes = Vec::from_slice(alloc, b"D ")?;
-    for _ in 0..len {
-        bytes.push(b'a')?;
-    }
-    bytes.extend_from_slice(end)?;
-    let mut link = link(alloc, bytes.as_slice(), 7)?;
-    let mut conn = Conn::new(alloc, &mut link, 1 << 40);
-    let text = match conn.inquire_secret(b"PASSPHRASE", b"please") {
-        InquiredSecret::Secret(secret) => format!(in alloc; "{} bytes", secret.bytes().len())?,
-        InquiredSecret::Cancelled => String::from_str(alloc, "cancelled")?,
-        InquiredSecret::TooMuch => String::from_str(alloc, "too much")?,
-        InquiredSecret::Unexpected => String::from_str(alloc, "unexpected")?,
-        _ => String::from_str(alloc, "ended")?,
-    };
-    conn.into_link();
-    assert_bytes(link.written(), b"INQUIRE PASSPHRASE please\n")?;
-    Ok(text)
-}
-
-#[test]
-fn a_secret_has_at_most_255_bytes(rt: HostRuntime) -> Result<(), Fail> {
-    let alloc = rt.alloc();
-    let cases: [(usize, &[u8], &str); 7] = [
+    let secrets: [(usize, &[u8], &str); 7] = [
         (0, b"\nEND\n", "0 bytes"),
         (255, b"\nEND\n", "255 bytes"),
         (256, b"\nEND\n", "too much"),
@@ -267,7 +255,7 @@ fn a_secret_has_at_most_255_bytes(rt: HostRuntime) -> Result<(), Fail> {
         (255, b"\nNOP\n", "unexpected"),
         (255, b"\nEND", "ended"),
     ];
-    for (len, end, want) in cases {
+    for (len, end, want) in secrets {
         let got = secret_of(alloc, len, end)?;
         assert_eq!(rt; got.as_str(), want, "{len} bytes");
     }
@@ -299,23 +287,5 @@ fn what_is_no_request_is_passed_over(rt: HostRuntime) -> Result<(), Fail> {
             assert_eq!(rt; got.as_str(), want, "in pieces of {piece}");
         }
     }
-    Ok(())
-}
-
-#[test]
-fn an_inquiry_that_cannot_be_written_reads_nothing(rt: HostRuntime) -> Result<(), Fail> {
-    let alloc = rt.alloc();
-    let source = MemSource::new(Vec::from_slice(alloc, b"NOP\n")?, 1, Vec::new(alloc));
-    let mut link = MemLink::new(source, MemSink::new(alloc, 3, vec![in alloc; 0u64]?));
-    let mut conn = Conn::new(alloc, &mut link, 1 << 40);
-    match conn.inquire_secret(b"PASSPHRASE", b"") {
-        InquiredSecret::WriteFault => {
-            let next = next_text(alloc, &mut conn)?;
-            assert_eq!(rt; next.as_str(), "NOP");
-        }
-        _ => return Err("no write fault".into()),
-    }
-    conn.into_link();
-    assert_eq!(rt; link.written(), b"INQ".as_slice());
     Ok(())
 }

@@ -1,11 +1,11 @@
-ghost use Rattle.std.specs.Prelude.{◌≡◌, ◌≤◌, ◌<◌, ◌++◌, [], false, ℕ, List, length, vec_len, MatchOption};
+ghost use Rattle.std.specs.Prelude.{◌≡◌, ◌≤◌, ◌<◌, ◌+◌, ◌++◌, [], false, ℕ, List, length, vec_len, OnOk, OnErr, MatchOption};
 ghost use Rattle.assuan_server.specs.Buffers.{IsVecOf, IsSecretOf};
 
 use assuan_escape::data_of;
 use assuan_line::{Line, LineFilter};
 use assuan_text::is_idle;
 use cache_policy::Secret;
-use std::alloc::Global;
+use std::alloc::{AllocError, Global};
 use wiping::{Wiped, wipe};
 
 /// Keeps the bytes that an inquiry's data lines carry.
@@ -30,9 +30,9 @@ pub(crate) struct InquiryLines<B: Drop> {
 impl<B: Buffer + Drop> LineFilter for InquiryLines<B> {
     ghost use Rattle.std.specs.List.{flat_map};
     ghost use Rattle.assuan_escape.specs.DataLines.{carried};
-    ghost use Rattle.assuan_server.specs.Inquiries.{is_passing};
+    ghost use Rattle.assuan_server.specs.Inquiries.{is_skipped};
 
-    ghost skips = { λ _ line. is_passing line };
+    ghost skips = { λ _ line. is_skipped line };
 
     ghost keeps = { λ filter lines. B.keeps filter.buffer (flat_map carried lines) };
 
@@ -62,6 +62,7 @@ pub(crate) enum Overflow {
 
 /// Keeps bytes in memory, up to a limit. They are overwritten when it is dropped.
 pub(crate) struct VecBuffer {
+    alloc: Global,
     pub(crate) bytes: Vec<u8>,
     pub(crate) limit: usize,
     pub(crate) overflow: Overflow,
@@ -75,6 +76,7 @@ impl VecBuffer {
         ensures overflow { result.overflow ≡ Overflow.None }
     {
         VecBuffer {
+            alloc,
             bytes: Vec::new(alloc),
             limit,
             overflow: Overflow::None,
@@ -86,6 +88,7 @@ impl VecBuffer {
         ensures within { vec_len result ≤ self.limit }
     {
         let VecBuffer {
+            alloc: _,
             bytes,
             limit: _,
             overflow: _,
@@ -94,9 +97,31 @@ impl VecBuffer {
     }
 }
 
+impl VecBuffer {
+    /// Appends the bytes. Where they need another place in memory, the one before it is overwritten.
+    fn extend(&mut self, bytes: &[u8]) -> Result<(), AllocError>
+        requires { vec_len self.old.bytes + length bytes.now ≤ self.old.limit }
+        ensures ok { OnOk result (self.new.bytes.items ≡ self.old.bytes.items ++ bytes.now) }
+        ensures err { OnErr result (self.new.bytes.items ≡ self.old.bytes.items) }
+        ensures limit { self.new.limit ≡ self.old.limit }
+        ensures overflow { self.new.overflow ≡ self.old.overflow }
+    {
+        let len = self.bytes.len() + bytes.len();
+        if self.bytes.capacity() < len {
+            let capacity = len.max(self.bytes.len().saturating_mul(2)).min(self.limit);
+            let mut larger = Vec::with_capacity(self.alloc, capacity)?;
+            larger.extend_from_slice(&self.bytes)?;
+            wipe(self.bytes.as_mut_slice());
+            self.bytes = larger;
+        }
+        self.bytes.extend_from_slice(bytes)
+    }
+}
+
 impl Drop for VecBuffer {
     fn drop(self) {
         let VecBuffer {
+            alloc: _,
             mut bytes,
             limit: _,
             overflow: _,
@@ -118,7 +143,7 @@ impl Buffer for VecBuffer {
             self.overflow = Overflow::TooMuch;
             return;
         }
-        if self.bytes.extend_from_slice(bytes).is_err() {
+        if self.extend(bytes).is_err() {
             self.overflow = Overflow::NoMemory;
         }
     }

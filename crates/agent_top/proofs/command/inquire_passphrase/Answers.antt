@@ -14,4 +14,4 @@ returns g c = λ clock cache.
     let e = c.inquire_secret.ensures in
     inquired_so c.args.conn.now c.status.new.self c.inquire_secret.new.self _ cache (c.in_ok-whole.ensures _ _ _ c.status.ensures)
     (ap (λ (r : Reader). r.ended) c.status.ensures.reader ∙ c.requires)
-    c.inquire_secret.result e.inquiry e.written e.cut e.budget e.fault e.input_faults e.output_faults e.progress e.ended e.link c.passphrase_of.result c.passphrase_of.ensures
+    c.inquire_secret.result e.inquiry e.cut c.passphrase_of.result c.passphrase_of.ensures

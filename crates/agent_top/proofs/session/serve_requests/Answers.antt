@@ -16,13 +16,13 @@ returns-in_err-answer-in-Line g c =
     let i = c.loop-line.invariant in
     let e = c.next_request.ensures in
     let p = err_from_is_err_and c.from_residual.result c.from_residual.ensures.1 in
-    rw p.1 (is_broken c.args.rules.now c.args.options.now _ _ _ i.serving _ c.next_request.result (done_heard c.loop-line.conn c.next_request.new.self _ _ c.next_request.result i.going e.ended e.output e.link e.faults e.request e.budget) c.in-Line.line c.in-Line.is c.args.options.now _ c.in_err-answer-in-Line.ensures)
+    rw p.1 (is_broken c.args.rules.now c.args.options.now _ _ _ i.serving _ c.next_request.result (done_heard c.loop-line.conn c.next_request.new.self _ _ c.next_request.result i.going e) c.in-Line.line c.in-Line.is c.args.options.now _ c.in_err-answer-in-Line.ensures)
 
 pub loop-line-smaller : goal.loop-line-smaller
 loop-line-smaller g c =
     let i = c.loop-line.invariant in
     let e = c.next_request.ensures in
-    let fewer : held c.next_request.new.self.reader < held c.loop-line.conn.reader = rw c.in-Line.is at e.progress in
+    let fewer : held c.next_request.new.self.reader < held c.loop-line.conn.reader = rw c.in-Line.is at e.read.progress in
     let answered = rw c.in-On.is at c.in_ok-answer-in-Line.ensures in
     omega (arith, fewer, answered.fits.1)
 
@@ -31,42 +31,42 @@ loop-line-preserved g c =
     let i = c.loop-line.invariant in
     let e = c.next_request.ensures in
     let answered = rw c.in-On.is at c.in_ok-answer-in-Line.ensures in
-    record { serving = serves_on c.args.rules.now c.args.options.now _ _ _ i.serving _ c.next_request.result (done_heard c.loop-line.conn c.next_request.new.self _ _ c.next_request.result i.going e.ended e.output e.link e.faults e.request e.budget) c.in-Line.line c.in-Line.is _ _ answered; going = answered.fits.0 }
+    record { serving = serves_on c.args.rules.now c.args.options.now _ _ _ i.serving _ c.next_request.result (done_heard c.loop-line.conn c.next_request.new.self _ _ c.next_request.result i.going e) c.in-Line.line c.in-Line.is _ _ answered; going = answered.fits.0 }
 
 pub returns-in-End-2 : goal.returns-in-End-2
 returns-in-End-2 g c =
     let i = c.loop-line.invariant in
     let e = c.next_request.ensures in
     let answered = rw c.in-End-2.is at c.in_ok-answer-in-Line.ensures in
-    is_over c.args.rules.now c.args.options.now _ _ _ i.serving _ c.next_request.result (done_heard c.loop-line.conn c.next_request.new.self _ _ c.next_request.result i.going e.ended e.output e.link e.faults e.request e.budget) c.in-Line.line c.in-Line.is _ _ c.in-End-2.end answered
+    is_over c.args.rules.now c.args.options.now _ _ _ i.serving _ c.next_request.result (done_heard c.loop-line.conn c.next_request.new.self _ _ c.next_request.result i.going e) c.in-Line.line c.in-Line.is _ _ c.in-End-2.end answered
 
 pub returns-in_err-whole-in-TooLong : goal.returns-in_err-whole-in-TooLong
 returns-in_err-whole-in-TooLong g c =
     let i = c.loop-line.invariant in
     let e = c.next_request.ensures in
     let p = err_from_is_err_and c.from_residual-in_err-whole-in-TooLong.result c.from_residual-in_err-whole-in-TooLong.ensures.1 in
-    rw p.1 (cut_at_too_long c.args.rules.now c.args.options.now _ _ _ i.serving _ c.next_request.result (done_heard c.loop-line.conn c.next_request.new.self _ _ c.next_request.result i.going e.ended e.output e.link e.faults e.request e.budget) c.in-TooLong.is c.err.new.self _ (c.in_err-whole-in-TooLong.ensures _ _ _ c.err.ensures))
+    rw p.1 (cut_at_too_long c.args.rules.now c.args.options.now _ _ _ i.serving _ c.next_request.result (done_heard c.loop-line.conn c.next_request.new.self _ _ c.next_request.result i.going e) c.in-TooLong.is c.err.new.self _ (c.in_err-whole-in-TooLong.ensures _ _ _ c.err.ensures))
 
 pub returns-in-TooLong : goal.returns-in-TooLong
 returns-in-TooLong g c =
     let i = c.loop-line.invariant in
     let e = c.next_request.ensures in
-    at_too_long c.args.rules.now c.args.options.now _ _ _ i.serving _ c.next_request.result (done_heard c.loop-line.conn c.next_request.new.self _ _ c.next_request.result i.going e.ended e.output e.link e.faults e.request e.budget) c.in-TooLong.is c.err.new.self c.in-TooLong.ensures.ended (c.in_ok-whole-in-TooLong.ensures _ _ _ c.err.ensures)
+    at_too_long c.args.rules.now c.args.options.now _ _ _ i.serving _ c.next_request.result (done_heard c.loop-line.conn c.next_request.new.self _ _ c.next_request.result i.going e) c.in-TooLong.is c.err.new.self c.in-TooLong.ensures.read.ended (c.in_ok-whole-in-TooLong.ensures _ _ _ c.err.ensures)
 
 pub returns-in-End : goal.returns-in-End
 returns-in-End g c =
     let i = c.loop-line.invariant in
     let e = c.next_request.ensures in
-    at_end c.args.rules.now c.args.options.now _ _ _ i.serving _ c.next_request.result (done_heard c.loop-line.conn c.next_request.new.self _ _ c.next_request.result i.going e.ended e.output e.link e.faults e.request e.budget) c.in-End.is c.in-End.ensures.ended
+    at_end c.args.rules.now c.args.options.now _ _ _ i.serving _ c.next_request.result (done_heard c.loop-line.conn c.next_request.new.self _ _ c.next_request.result i.going e) c.in-End.is c.in-End.ensures.read.ended
 
 pub returns-in-Spent : goal.returns-in-Spent
 returns-in-Spent g c =
     let i = c.loop-line.invariant in
     let e = c.next_request.ensures in
-    at_spent c.args.rules.now c.args.options.now _ _ _ i.serving _ c.next_request.result (done_heard c.loop-line.conn c.next_request.new.self _ _ c.next_request.result i.going e.ended e.output e.link e.faults e.request e.budget) c.in-Spent.is c.in-Spent.ensures.ended
+    at_spent c.args.rules.now c.args.options.now _ _ _ i.serving _ c.next_request.result (done_heard c.loop-line.conn c.next_request.new.self _ _ c.next_request.result i.going e) c.in-Spent.is c.in-Spent.ensures.read.ended
 
 pub returns-in-ReadFault : goal.returns-in-ReadFault
 returns-in-ReadFault g c =
     let i = c.loop-line.invariant in
     let e = c.next_request.ensures in
-    at_read_fault c.args.rules.now c.args.options.now _ _ _ i.serving _ c.next_request.result (done_heard c.loop-line.conn c.next_request.new.self _ _ c.next_request.result i.going e.ended e.output e.link e.faults e.request e.budget) c.in-ReadFault.is c.in-ReadFault.ensures.ended (c.in-ReadFault.ensures.fault refl)
+    at_read_fault c.args.rules.now c.args.options.now _ _ _ i.serving _ c.next_request.result (done_heard c.loop-line.conn c.next_request.new.self _ _ c.next_request.result i.going e) c.in-ReadFault.is c.in-ReadFault.ensures.read.ended (c.in-ReadFault.ensures.read.fault refl)
