@@ -5,33 +5,65 @@ ghost use Rattle.assuan_server.specs.Errors.{code_of, description_of, source_of,
 
 use assuan_text::Text;
 use itoa::Buffer;
+use std::error::Error;
+use std::fmt;
 
-/// What went wrong, as an error line says it.
+/// What went wrong, as an error line says it. The command that it answers has done nothing more.
 #[derive(Clone, Copy, Debug, PartialEq, Eq)]
 pub enum Code {
+    /// A failure with no code of its own, as of a key file that can't be read or of random bytes.
     General,
+    /// A key that isn't in the form of a secret key.
     BadSecKey,
+    /// A wrapped key that doesn't come out whole: another key wrapped it, or it was changed.
     Checksum,
+    /// No passphrase was given that opens the key.
     BadPass,
+    /// There is no key of this grip.
     NoSecKey,
+    /// The cache has no passphrase to give, and nobody may be asked for one.
     NoData,
+    /// An option, a value of one or a kind of key that the agent doesn't have.
     NotSupported,
+    /// The user didn't answer in time, or another prompt didn't end in time.
     Timeout,
+    /// Bytes that aren't one canonical expression.
     InvSexp,
+    /// The user can't be asked: the client wants it so, or no pinentry answers.
     NoPinentry,
+    /// The trust list doesn't have the certificate, or refuses it.
     NotTrusted,
+    /// The user, the client within an inquiry, or the end of the agent cancelled the command.
     Cancelled,
+    /// The user was asked to confirm, and said no.
     NotConfirmed,
+    /// OPTION with a name that the agent doesn't have.
     UnknownOption,
+    /// A command that isn't allowed on this connection.
     Forbidden,
+    /// A line of more than 1,000 bytes. The session ends.
     LineTooLong,
+    /// More bytes in an inquiry than it takes. They were read and dropped.
     TooMuch,
+    /// A line within an inquiry that is no line of one. It isn't run as a command.
     Unexpected,
+    /// A line that begins with no command of the agent.
     UnknownCommand,
+    /// A command whose options or arguments are missing or out of form.
     Parameter,
+    /// A key that is there already.
     FileExists,
+    /// There was no memory for the command. The session goes on.
     NoMemory,
 }
+
+impl fmt::Display for Code {
+    fn fmt<W: fmt::Write>(&self, f: &mut fmt::Formatter<W>) -> fmt::Result {
+        f.write_str(self.text())
+    }
+}
+
+impl Error for Code {}
 
 /// Where an error comes from.
 #[derive(Clone, Copy, Debug, PartialEq, Eq)]
@@ -73,34 +105,34 @@ impl Code {
         }
     }
 
-    fn description(self) -> &'static [u8]
+    fn text(self) -> &'static str
         ensures text { result.now ≡ description_of self }
         ensures short { length result.now ≤ 40 }
         ensures one_line { has_lf result.now ≡ false }
     {
         match self {
-            Code::General => b"General error",
-            Code::BadSecKey => b"Bad secret key",
-            Code::Checksum => b"Checksum error",
-            Code::BadPass => b"Bad passphrase",
-            Code::NoSecKey => b"No secret key",
-            Code::NoData => b"No data",
-            Code::NotSupported => b"Not supported",
-            Code::Timeout => b"Timeout",
-            Code::InvSexp => b"Invalid S-expression",
-            Code::NoPinentry => b"No pinentry",
-            Code::NotTrusted => b"Not trusted",
-            Code::Cancelled => b"Operation cancelled",
-            Code::NotConfirmed => b"Not confirmed",
-            Code::UnknownOption => b"Unknown option",
-            Code::Forbidden => b"Forbidden",
-            Code::LineTooLong => b"Line passed to IPC too long",
-            Code::TooMuch => b"Too much data for IPC layer",
-            Code::Unexpected => b"Unexpected IPC command",
-            Code::UnknownCommand => b"Unknown IPC command",
-            Code::Parameter => b"IPC parameter error",
-            Code::FileExists => b"File exists",
-            Code::NoMemory => b"Cannot allocate memory",
+            Code::General => "General error",
+            Code::BadSecKey => "Bad secret key",
+            Code::Checksum => "Checksum error",
+            Code::BadPass => "Bad passphrase",
+            Code::NoSecKey => "No secret key",
+            Code::NoData => "No data",
+            Code::NotSupported => "Not supported",
+            Code::Timeout => "Timeout",
+            Code::InvSexp => "Invalid S-expression",
+            Code::NoPinentry => "No pinentry",
+            Code::NotTrusted => "Not trusted",
+            Code::Cancelled => "Operation cancelled",
+            Code::NotConfirmed => "Not confirmed",
+            Code::UnknownOption => "Unknown option",
+            Code::Forbidden => "Forbidden",
+            Code::LineTooLong => "Line passed to IPC too long",
+            Code::TooMuch => "Too much data for IPC layer",
+            Code::Unexpected => "Unexpected IPC command",
+            Code::UnknownCommand => "Unknown IPC command",
+            Code::Parameter => "IPC parameter error",
+            Code::FileExists => "File exists",
+            Code::NoMemory => "Cannot allocate memory",
         }
     }
 }
@@ -118,14 +150,14 @@ impl Origin {
         }
     }
 
-    fn name(self) -> &'static [u8]
+    fn name(self) -> &'static str
         ensures text { result.now ≡ source_name self }
         ensures short { length result.now ≤ 40 }
         ensures one_line { has_lf result.now ≡ false }
     {
         match self {
-            Origin::Agent => b"GPG Agent",
-            Origin::Pinentry => b"Pinentry",
+            Origin::Agent => "GPG Agent",
+            Origin::Pinentry => "Pinentry",
         }
     }
 }
@@ -142,9 +174,10 @@ pub(crate) fn error_text(code: Code, origin: Origin) -> Text
     text.try_extend_from_slice(buffer.format(number).as_bytes())
         .unwrap();
     text.push(b' ');
-    text.try_extend_from_slice(code.description()).unwrap();
+    text.try_extend_from_slice(code.text().as_bytes()).unwrap();
     text.try_extend_from_slice(b" <").unwrap();
-    text.try_extend_from_slice(origin.name()).unwrap();
+    text.try_extend_from_slice(origin.name().as_bytes())
+        .unwrap();
     text.push(b'>');
     text
 }
