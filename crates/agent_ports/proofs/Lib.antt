@@ -1,4 +1,5 @@
+pub mod Digits
 pub mod Given
+pub mod Leading
 mod Pieces
 pub mod Told
-pub mod Leading
