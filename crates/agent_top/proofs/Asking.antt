@@ -11,26 +11,26 @@ use Rattle.cache_policy.specs.Live.{live}
 use Rattle.cache_policy.specs.Policy.{ask_ruling}
 use Rattle.cache_policy.specs.Runs.{next_history, moment_of}
 use Rattle.cache_policy.specs.Seat.{seat, stopped}
-use Rattle.agent_top.specs.Cache.{Standing, marked, IsRuled, given, empty, Turns, turned, none}
-use Rattle.agent_top.specs.Deeds.{Came, Given, Empty, Turned}
+use Rattle.agent_top.specs.Cache.{CacheState, marked, IsRuled, given, empty, Turns, turned, none}
+use Rattle.agent_top.specs.Events.{CacheAnswer, Given, Empty, CacheTurn}
 use Rattle.agent_top.specs.Exchanges.{ask}
 use Rattle.agent_top.specs.Steps.{IsKept}
 use Rattle.agent_top.specs.declared.cache.Cache.{Cache}
 
-module _ (limits : Limits) (id : List ℕ) (reading : ℕ) (cache : Cache) (standing : Standing) (kept : (reply : MarkReply) → IsKept (marked standing (ask id) reply reading) cache) where
+module _ (limits : Limits) (id : List ℕ) (reading : ℕ) (cache : Cache) (cache_state : CacheState) (kept : (reply : MarkReply) → IsKept (marked cache_state (ask id) reply reading) cache) where
   abbrev live_now : Option Entry
-  live_now = live limits (next_history standing.history) id User (moment_of standing.latest reading)
+  live_now = live limits (next_history cache_state.history) id User (moment_of cache_state.latest reading)
 
   -- the turn came out so, and the cache stands after it
-  abbrev pub HasCome : Came → Type 0
-  HasCome came = (after : Standing) × Turns limits standing (Turned (ask id) came ∷ []) (reading ∷ []) after × IsKept after cache
+  abbrev pub HasCome : CacheAnswer → Type 0
+  HasCome came = (after : CacheState) × Turns limits cache_state (CacheTurn (ask id) came ∷ []) (reading ∷ []) after × IsKept after cache
 
   given_of : (secret : List ℕ) (found : Option Entry) → live_now ≡ found → Some secret ≡ option_map (λ entry. entry.secret) found → HasCome (Given secret)
   given_of secret (Some entry) is same =
       let secret_is : entry.secret ≡ secret = cc same in (
-        marked standing (ask id) (reply.Given entry.number) reading,
+        marked cache_state (ask id) (reply.Given entry.number) reading,
         turned (reply.Given entry.number)
-            (subst (λ s. IsRuled limits (next_history standing.history) (moment_of standing.latest reading) (ask id) (Given s) (reply.Given entry.number)) secret_is (given entry is)) none,
+            (subst (λ s. IsRuled limits (next_history cache_state.history) (moment_of cache_state.latest reading) (ask id) (Given s) (reply.Given entry.number)) secret_is (given entry is)) none,
         kept (reply.Given entry.number),
       )
   given_of secret None is same = absurd (cc same)
@@ -40,8 +40,8 @@ module _ (limits : Limits) (id : List ℕ) (reading : ℕ) (cache : Cache) (stan
 
   empty_of : (found : Option Entry) → live_now ≡ found → option_map (λ entry. entry.secret) found ≡ None → HasCome Empty
   empty_of None is same = (
-    marked standing (ask id) reply.Empty reading,
-    turned reply.Empty (empty (ap (λ (o : Option Entry). ask_ruling o Quiet (stopped (next_history standing.history)) (seat (next_history standing.history))) is)) none,
+    marked cache_state (ask id) reply.Empty reading,
+    turned reply.Empty (empty (ap (λ (o : Option Entry). ask_ruling o Quiet (stopped (next_history cache_state.history)) (seat (next_history cache_state.history))) is)) none,
     kept reply.Empty,
   )
   empty_of (Some entry) is same = absurd (cc same)

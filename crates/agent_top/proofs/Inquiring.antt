@@ -12,20 +12,19 @@ use Rattle.assuan_line.proofs.ReadingOn.{fewer_so, fault_so}
 use Rattle.assuan_server.specs.Connections.{Connection}
 use Rattle.assuan_escape.specs.DataLines.{carried}
 use Rattle.assuan_server.specs.Asking.{Gather, Inquire, IsNotAsked, ReadsAnswer as AnswerSays}
-use Rattle.assuan_server.specs.Inquiries.{Outcome, Inquiry, ComesTo, inquire_text, is_skipped, outcome_of_secret, ended_of}
+use Rattle.assuan_server.specs.Inquiries.{Outcome, Inquiry as Inquires, ComesTo, inquire_text, is_skipped, outcome_of_secret, ended_of}
 use Rattle.assuan_server.specs.Inquiries as outcome
 use Rattle.assuan_text.specs.LineEnds.{line_of}
 use Rattle.assuan_server.specs.Written.{HasWritten, status_text}
 use Rattle.assuan_server.specs.declared.inquiry.InquiredSecret.{InquiredSecret}
 use Rattle.assuan_server.specs.declared.inquiry.InquiredSecret.TheVariants as inquired
-use Rattle.agent_top.specs.Cache.{wrote as turns_wrote, inquired as turns_inquired, none as no_turns}
-use Rattle.agent_top.specs.Deeds.{Deed, Wrote, Inquired}
+use Rattle.agent_top.specs.Cache.{sent as turns_wrote, inquired as turns_inquired, none as no_turns}
+use Rattle.agent_top.specs.Events.{Event, Sent, Inquiry}
 use Rattle.agent_top.specs.Exchanges.{question}
-use Rattle.agent_top.specs.Reading.{Takes, none, wrote, inquired as taken_inquired, ReadsAnswer}
-use Rattle.agent_top.specs.Steps.{HasSaid, HasStopped, Point, here, IsTotal, HasDone, HasNotAsked, IsInquired, IsBrought}
+use Rattle.agent_top.specs.Reading.{Takes, none, sent, inquired as taken_inquired, ReadsAnswer}
+use Rattle.agent_top.specs.Steps.{WritesText, StopsWriting, SessionState, unread, IsTotal, EventsLead, FailsToAsk, InquiresPassphrase, PassphraseOf}
 use Rattle.agent_top.specs.declared.cache.Cache.{Cache}
-use Rattle.agent_top.specs.declared.command.Brought.{Brought}
-use Rattle.agent_top.specs.declared.command.Brought.TheVariants.{Passphrase, Without}
+use Rattle.agent_top.specs.declared.command.Answer.{Answer}
 use Rattle.agent_top.specs.declared.reply.WriteFault.{WriteFault}
 use Rattle.agent_top.proofs.Doing.{done_then, done_wrote, done_stopped, reads_past, here_going}
 use Rattle.agent_top.proofs.Saying.{said_part}
@@ -39,22 +38,22 @@ question_text = inquire_text (codes "PASSPHRASE") []
 abbrev question_line : List ℕ
 question_line = line_of question_text
 
--- the connection among the rest of a point
-abbrev at_conn : Connection → Readings → Cache → Point
+-- the connection among the rest of a session_state
+abbrev at_conn : Connection → Readings → Cache → SessionState
 at_conn conn clock cache = record { conn = conn; clock = clock; cache = cache }
 
 -- the status line stopped
-pub not_asked_status : (start now : Connection) (clock : Readings) (cache : Cache) (why : WriteFault) → HasSaid status_line start (Err why) now → HasNotAsked (at_conn start clock cache) (at_conn now clock cache)
+pub not_asked_status : (start now : Connection) (clock : Readings) (cache : Cache) (why : WriteFault) → WritesText status_line start (Err why) now → FailsToAsk (at_conn start clock cache) (at_conn now clock cache)
 not_asked_status start now clock cache why said =
-    let stopped : HasStopped status_line start.output now.output = said.output in
+    let stopped : StopsWriting status_line start.output now.output = said.output in
     record {
-      part = Wrote stopped.sent ∷ [];
+      part = Sent stopped.sent ∷ [];
       cut = λ more. record {
         before = [];
         sent = stopped.sent;
         unsent = stopped.unsent;
-        more = Wrote question_line ∷ more;
-        whole = ap (λ (x : List ℕ). Wrote x ∷ Wrote question_line ∷ more) stopped.split;
+        more = Sent question_line ∷ more;
+        whole = ap (λ (x : List ℕ). Sent x ∷ Sent question_line ∷ more) stopped.split;
         done_is = refl;
       };
       done = done_stopped status_line start now clock cache why stopped said;
@@ -62,20 +61,20 @@ not_asked_status start now clock cache why said =
     }
 
 -- `mid` is the connection after the status line
-module _ (start mid now : Connection) (clock : Readings) (cache : Cache) (said : HasSaid status_line start (Ok tt) mid) where
+module _ (start mid now : Connection) (clock : Readings) (cache : Cache) (said : WritesText status_line start (Ok tt) mid) where
   -- the question stopped
-  pub not_asked_question : (sent : ℕ) (why : WriteFault) → HasWritten question_line mid (Failed sent) now → HasNotAsked (at_conn start clock cache) (at_conn now clock cache)
-  not_asked_question sent why part =
-      let failed = said_part question_line mid now sent why part in
-      let stopped : HasStopped question_line mid.output now.output = failed.output in
+  pub not_asked_question : (count : ℕ) (why : WriteFault) → HasWritten question_line mid (Failed count) now → FailsToAsk (at_conn start clock cache) (at_conn now clock cache)
+  not_asked_question count why part =
+      let failed = said_part question_line mid now count why part in
+      let stopped : StopsWriting question_line mid.output now.output = failed.output in
       record {
-        part = Wrote status_line ∷ Wrote stopped.sent ∷ [];
+        part = Sent status_line ∷ Sent stopped.sent ∷ [];
         cut = λ more. record {
-          before = Wrote status_line ∷ [];
+          before = Sent status_line ∷ [];
           sent = stopped.sent;
           unsent = stopped.unsent;
           more = more;
-          whole = ap (λ (x : List ℕ). Wrote status_line ∷ Wrote x ∷ more) stopped.split;
+          whole = ap (λ (x : List ℕ). Sent status_line ∷ Sent x ∷ more) stopped.split;
           done_is = refl;
         };
         done = done_then (done_wrote status_line start mid clock cache said) (done_stopped question_line mid now clock cache why stopped failed);
@@ -84,9 +83,9 @@ module _ (start mid now : Connection) (clock : Readings) (cache : Cache) (said :
 
   -- the client answered
   module _ (going : mid.reader.ended ≡ None) (what : Outcome) (answer : Took) (gathered : Gather (AnswerSays 255 (Some what)) question_text mid answer now) where
-    answer_read : (total : ℕ) (rest left : List ℕ) → IsTotal total now.reader left → AnswerSays 255 (Some what) (mid.reader.ahead ++ rest) answer now.reader left → ReadsAnswer total 255 (mid.reader.ahead ++ rest) what (here now.reader left)
+    answer_read : (total : ℕ) (rest left : List ℕ) → IsTotal total now.reader left → AnswerSays 255 (Some what) (mid.reader.ahead ++ rest) answer now.reader left → ReadsAnswer total 255 (mid.reader.ahead ++ rest) what (unread now.reader left)
     answer_read total rest left is read =
-        let inquiry : Inquiry 255 (mid.reader.ahead ++ rest) answer read.0 now.reader left = read.1 in
+        let inquiry : Inquires 255 (mid.reader.ahead ++ rest) answer read.0 now.reader left = read.1 in
         record {
           lines = inquiry.lines;
           took = answer;
@@ -94,26 +93,26 @@ module _ (start mid now : Connection) (clock : Readings) (cache : Cache) (said :
           comes_to = subst (λ o. ComesTo 255 (flat_map carried inquiry.lines) answer o) (sym read.2) inquiry.comes_to;
         }
 
-    abbrev asks : List Deed
-    asks = Wrote question_line ∷ Inquired 255 what ∷ []
+    abbrev asks : List Event
+    asks = Sent question_line ∷ Inquiry 255 what ∷ []
 
-    pub asked : HasDone (question ++ (Inquired 255 what ∷ [])) (at_conn start clock cache) (at_conn now clock cache)
+    pub asked : EventsLead (question ++ (Inquiry 255 what ∷ [])) (at_conn start clock cache) (at_conn now clock cache)
     asked = done_then (done_wrote status_line start mid clock cache said) (record {
       written = gathered.written;
       output_faults = gathered.output_faults;
       readings = [];
       given = not_read;
-      turns = λ standing kept. (standing, turns_wrote (turns_inquired no_turns), kept);
+      turns = λ cache_state kept. (cache_state, turns_wrote (turns_inquired no_turns), kept);
       limits = refl;
       taken =
           told_then mid.input.bytes now.input.bytes now.input.bytes _ (λ rest left. rest ≡ left) _
           (told_both mid.input.bytes now.input.bytes _ _ gathered.read.known gathered.read.budget) (told_same now.input.bytes _ (λ rest. refl))
           (λ rest left more read same. λ total is.
           let is_now : IsTotal total now.reader left = omega (arith, is, read.1) in
-          let answer : ReadsAnswer total 255 (mid.reader.ahead ++ rest) what (here now.reader left) = answer_read total rest left is_now read.0 in
-          let takes : Takes total (here mid.reader rest) asks (here now.reader left) =
-          wrote (taken_inquired (subst (λ (b : List ℕ). ReadsAnswer total 255 b what (here now.reader left)) (sym (here_going mid.reader rest going)) answer) none) in
-          subst (λ (x : List ℕ). Takes total (here mid.reader rest) asks (here now.reader x) × IsTotal total now.reader x) same (takes, is_now));
+          let answer : ReadsAnswer total 255 (mid.reader.ahead ++ rest) what (unread now.reader left) = answer_read total rest left is_now read.0 in
+          let takes : Takes total (unread mid.reader rest) asks (unread now.reader left) =
+          sent (taken_inquired (subst (λ (b : List ℕ). ReadsAnswer total 255 b what (unread now.reader left)) (sym (here_going mid.reader rest going)) answer) none) in
+          subst (λ (x : List ℕ). Takes total (unread mid.reader rest) asks (unread now.reader x) × IsTotal total now.reader x) same (takes, is_now));
       input_faults = gathered.read.faults;
       link = gathered.link;
     })
@@ -128,7 +127,7 @@ module _ (start mid now : Connection) (clock : Readings) (cache : Cache) (said :
         (inquiry (λ e. absurd (cc (sym says ∙ ap outcome_of_secret e))))
 
     module _ (what : Outcome) (says : outcome_of_secret came ≡ Some what) where
-      asked_so : HasDone (question ++ (Inquired 255 what ∷ [])) (at_conn start clock cache) (at_conn now clock cache)
+      asked_so : EventsLead (question ++ (Inquiry 255 what ∷ [])) (at_conn start clock cache) (at_conn now clock cache)
       asked_so = let inquire = inquire_so what says in asked going what inquire.took inquire.gathered
 
       ended_so : now.reader.ended ≡ ended_of what
@@ -143,12 +142,12 @@ module _ (start mid now : Connection) (clock : Readings) (cache : Cache) (said :
           let rose : Rose mid.input.faults now.input.faults = fault_so inquire.gathered.read (ended_so ∙ ap ended_of is) in
           omega (arith, rose, ap (λ s. s.faults) said.input)
 
-    pub inquired_so : (result : Result Brought WriteFault) → IsBrought came result → IsInquired (at_conn start clock cache) result (at_conn now clock cache)
-    inquired_so (Ok (Passphrase secret)) is =
+    pub inquired_so : (result : Result (Result (List ℕ) Answer) WriteFault) → PassphraseOf came result → InquiresPassphrase (at_conn start clock cache) result (at_conn now clock cache)
+    inquired_so (Ok (Ok secret)) is =
         let says : outcome_of_secret came ≡ Some (outcome.Data secret) = ap outcome_of_secret is in
         let going_on : now.reader.ended ≡ None = ended_so (outcome.Data secret) says in
         (asked_so (outcome.Data secret) says, (going_on, fewer (outcome.Data secret) says going_on))
-    inquired_so (Ok (Without answer)) lacks = record {
+    inquired_so (Ok (Err answer)) lacks = record {
       outcome = lacks.outcome;
       done = asked_so lacks.outcome lacks.says;
       fails = lacks.fails;

@@ -4,9 +4,9 @@ use Rattle.assuan_line.specs.Next.{Reader, held}
 use Rattle.assuan_server.specs.Inquiries.{Outcome, outcome_of_secret, ended_of}
 use Rattle.assuan_server.specs.Inquiries as outcome
 use Rattle.assuan_server.specs.declared.inquiry.InquiredSecret.{InquiredSecret}
-use Rattle.agent_top.specs.Deeds.{Deed}
+use Rattle.agent_top.specs.Events.{Event}
 use Rattle.agent_top.specs.Exchanges.{Fails}
-use Rattle.agent_top.specs.Steps.{IsReply, Fits, Lacks}
+use Rattle.agent_top.specs.Steps.{IsReply, ReaderAfter, IsWithoutPassphrase}
 use Rattle.agent_top.specs.declared.command.Answer.{Answer}
 use Rattle.agent_top.specs.declared.reply.Reply.{Reply}
 use Rattle.agent_top.specs.declared.session.SessionEnd.TheVariants.{ReadFault}
@@ -15,9 +15,9 @@ use Rattle.agent_top.specs.declared.session.Went.TheVariants.{End}
 use Rattle.agent_top.proofs.Preparing.{answer_is}
 
 module _ (came : InquiredSecret) (what : Outcome) (answer : Answer) (reply : Option Reply) (went : Went) where
-  pub lacks : answer.reply ≡ reply → answer.went ≡ went → outcome_of_secret came ≡ Some what → ((more : List Deed) → IsReply reply more → Fails what more went)
-      → ((before after : Reader) → after.ended ≡ ended_of what → (after.ended ≡ None → held after ≤ held before) → Fits went before after)
-      → (went ≡ End ReadFault → what ≡ outcome.ReadFault) → Lacks came answer
+  pub lacks : answer.reply ≡ reply → answer.went ≡ went → outcome_of_secret came ≡ Some what → ((more : List Event) → IsReply reply more → Fails what more went)
+      → ((before after : Reader) → after.ended ≡ ended_of what → (after.ended ≡ None → held after ≤ held before) → ReaderAfter went before after)
+      → (went ≡ End ReadFault → what ≡ outcome.ReadFault) → IsWithoutPassphrase came answer
   lacks reply_is went_is says fails fits fault =
-      subst (λ a. Lacks came a) (sym (answer_is answer reply went reply_is went_is))
+      subst (λ a. IsWithoutPassphrase came a) (sym (answer_is answer reply went reply_is went_is))
       (record { outcome = what; says = says; fails = fails; fits = fits; fault = fault })

@@ -6,7 +6,7 @@ use Rattle.agent_ports.proofs.Told.{with_bytes-append}
 use Rattle.assuan_server.specs.Connections.{Connection}
 use Rattle.assuan_line.specs.Written.{HasCut}
 use Rattle.assuan_server.specs.Written.{HasWritten}
-use Rattle.agent_top.specs.Steps.{HasStopped, IsSaid, HasSaid}
+use Rattle.agent_top.specs.Steps.{StopsWriting, WritesOrStops, WritesText}
 use Rattle.agent_top.specs.declared.reply.WriteFault.{WriteFault}
 
 -- nothing was written
@@ -14,7 +14,7 @@ pub with_nothing : (o : Option (List ℕ)) → o ≡ with_bytes o []
 with_nothing None = refl
 with_nothing (Some before) = ap (λ (x : List ℕ). Some x) (sym (append-nil before))
 
-pub said_nothing : (conn : Connection) → HasSaid [] conn (Ok tt) conn
+pub said_nothing : (conn : Connection) → WritesText [] conn (Ok tt) conn
 said_nothing conn = record {
   output = with_nothing conn.output.bytes;
   faults = omega arith;
@@ -23,7 +23,7 @@ said_nothing conn = record {
   link = refl;
 }
 
-pub said_whole : (text : List ℕ) (before after : Connection) → HasWritten text before All after → HasSaid text before (Ok tt) after
+pub said_whole : (text : List ℕ) (before after : Connection) → HasWritten text before All after → WritesText text before (Ok tt) after
 said_whole text before after all = record {
   output = all.output;
   faults = all.faults;
@@ -32,7 +32,7 @@ said_whole text before after all = record {
   link = all.link;
 }
 
-pub said_part : (text : List ℕ) (before after : Connection) (count : ℕ) (fault : WriteFault) → HasWritten text before (Failed count) after → HasSaid text before (Err fault) after
+pub said_part : (text : List ℕ) (before after : Connection) (count : ℕ) (fault : WriteFault) → HasWritten text before (Failed count) after → WritesText text before (Err fault) after
 said_part text before after count fault part =
     let cut : HasCut text before.output count after.output = part.output in
     record {
@@ -45,7 +45,7 @@ said_part text before after count fault part =
 
 -- a first text was written whole, and then a second one
 then_said : (first second : List ℕ) (before mid after : Side) (result : Result (Unit {0}) WriteFault) → mid.bytes ≡ with_bytes before.bytes first → before.faults ≤ mid.faults
-    → IsSaid second mid result after → IsSaid (first ++ second) before result after
+    → WritesOrStops second mid result after → WritesOrStops (first ++ second) before result after
 then_said first second before mid after (Ok done) is faults said =
     said ∙ ap (λ (o : Option (List ℕ)). with_bytes o second) is ∙ with_bytes-append before.bytes first second
 then_said first second before mid after (Err fault) is faults stopped = record {
@@ -56,7 +56,7 @@ then_said first second before mid after (Err fault) is faults stopped = record {
   rose = omega (arith, stopped.rose, faults);
 }
 
-pub said_then : (first second : List ℕ) (before mid after : Connection) (result : Result (Unit {0}) WriteFault) → HasSaid first before (Ok tt) mid → HasSaid second mid result after → HasSaid (first ++ second) before result after
+pub said_then : (first second : List ℕ) (before mid after : Connection) (result : Result (Unit {0}) WriteFault) → WritesText first before (Ok tt) mid → WritesText second mid result after → WritesText (first ++ second) before result after
 said_then first second before mid after result one two = record {
   output = then_said first second before.output mid.output after.output result one.output one.faults two.output;
   faults = omega (arith, one.faults, two.faults);
@@ -66,9 +66,9 @@ said_then first second before mid after result one two = record {
 }
 
 -- the first of two stopped
-pub said_first : (first second : List ℕ) (before after : Connection) (fault : WriteFault) → HasSaid first before (Err fault) after → HasSaid (first ++ second) before (Err fault) after
+pub said_first : (first second : List ℕ) (before after : Connection) (fault : WriteFault) → WritesText first before (Err fault) after → WritesText (first ++ second) before (Err fault) after
 said_first first second before after fault part =
-    let stopped : HasStopped first before.output after.output = part.output in
+    let stopped : StopsWriting first before.output after.output = part.output in
     record {
       output = record {
         sent = stopped.sent;

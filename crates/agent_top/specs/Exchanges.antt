@@ -28,7 +28,7 @@ use Rattle.agent_commands.specs.declared.request.Info.TheVariants.{Version, Pid,
 use Rattle.agent_commands.specs.declared.request.Request.{Request}
 use Rattle.agent_commands.specs.declared.request.Request.TheVariants.{Cache, Bad}
 use Rattle.agent_commands.specs.declared.request.Texts.{Texts}
-use Rattle.agent_top.specs.Deeds.{Given, Empty, Done, Refused, Deed, Wrote, Turned, Inquired}
+use Rattle.agent_top.specs.Events.{Given, Empty, Done, Refused, Event, Sent, CacheTurn, Inquiry}
 use Rattle.agent_top.specs.declared.session.SessionEnd.TheVariants as ends
 use Rattle.agent_top.specs.declared.session.Went.{Went}
 use Rattle.agent_top.specs.declared.session.Went.TheVariants.{On, End}
@@ -78,63 +78,63 @@ abbrev pub put : List ℕ → Life → List ℕ → MarkStep
 put id life secret = Put id Any life secret
 
 -- the client is asked for a passphrase
-abbrev pub question : List Deed
+abbrev pub question : List Event
 question =
-    Wrote (line_of (status_text (codes "INQUIRE_MAXLEN") (codes "255")))
-    ∷ Wrote (line_of (inquire_text (codes "PASSPHRASE") []))
+    Sent (line_of (status_text (codes "INQUIRE_MAXLEN") (codes "255")))
+    ∷ Sent (line_of (inquire_text (codes "PASSPHRASE") []))
     ∷ []
 
 -- what is done after an inquiry that brought no data, and how the session goes on
-pub data Fails : Outcome → List Deed → Went → Type 0 where
-  cancelled : Fails outcome.Cancelled (Wrote (failed code.Cancelled) ∷ []) On
-  too_much : Fails outcome.TooMuch (Wrote (failed code.TooMuch) ∷ []) On
-  unexpected : Fails outcome.Unexpected (Wrote (failed code.Unexpected) ∷ []) On
-  too_long : Fails outcome.TooLong (Wrote (failed code.LineTooLong) ∷ []) (End ends.TooLong)
+pub data Fails : Outcome → List Event → Went → Type 0 where
+  cancelled : Fails outcome.Cancelled (Sent (failed code.Cancelled) ∷ []) On
+  too_much : Fails outcome.TooMuch (Sent (failed code.TooMuch) ∷ []) On
+  unexpected : Fails outcome.Unexpected (Sent (failed code.Unexpected) ∷ []) On
+  too_long : Fails outcome.TooLong (Sent (failed code.LineTooLong) ∷ []) (End ends.TooLong)
   ended : Fails outcome.Ended [] (End ends.Ended)
   spent : Fails outcome.Spent [] (End ends.Spent)
   read_fault : Fails outcome.ReadFault [] (End ends.ReadFault)
 
 -- a passphrase is stored, or there is no memory for it
-pub data Stores (id : List ℕ) (life : Life) (secret : List ℕ) : List Deed → Type 0 where
-  stored : Stores id life secret (Turned (put id life secret) Done ∷ Wrote ok ∷ [])
-  no_memory : Stores id life secret (Turned (put id life secret) Refused ∷ Wrote (failed code.NoMemory) ∷ [])
+pub data Stores (id : List ℕ) (life : Life) (secret : List ℕ) : List Event → Type 0 where
+  stored : Stores id life secret (CacheTurn (put id life secret) Done ∷ Sent ok ∷ [])
+  no_memory : Stores id life secret (CacheTurn (put id life secret) Refused ∷ Sent (failed code.NoMemory) ∷ [])
 
 -- A request: what the client had chosen before it, what the session does for it, what is chosen after it, and how the session
 -- goes on.
-pub data Exchange (rules : Rules) (before : Choices) : Request → List Deed → Choices → Went → Type 0 where
-  refused : {code : Code} → Exchange rules before (Bad code) (Wrote (failed code) ∷ []) before On
-  nop : Exchange rules before (Cache Nop) (Wrote ok ∷ []) before On
+pub data Exchange (rules : Rules) (before : Choices) : Request → List Event → Choices → Went → Type 0 where
+  refused : {code : Code} → Exchange rules before (Bad code) (Sent (failed code) ∷ []) before On
+  nop : Exchange rules before (Cache Nop) (Sent ok ∷ []) before On
   -- what the rules said stays
-  reset : Exchange rules before (Cache Reset) (Wrote ok ∷ []) (at_start before.rules_count before.allow_loopback) On
-  bye : Exchange rules before (Cache Bye) (Wrote closing ∷ []) before (End ends.Bye)
-  help_given : Exchange rules before (Cache Help) (Wrote help ∷ []) before On
+  reset : Exchange rules before (Cache Reset) (Sent ok ∷ []) (at_start before.rules_count before.allow_loopback) On
+  bye : Exchange rules before (Cache Bye) (Sent closing ∷ []) before (End ends.Bye)
+  help_given : Exchange rules before (Cache Help) (Sent help ∷ []) before On
   option_judged : {text : _}
-      → Exchange rules before (Cache (SetOption text)) (Wrote (option_text (judged before text.items).answer) ∷ []) (judged before text.items).after On
-  version : {text : List ℕ} → IsData (codes "2.4.0") text → Exchange rules before (Cache (GetInfo Version)) (Wrote text ∷ []) before On
-  pid : {text : List ℕ} → IsData (decimal rules.pid) text → Exchange rules before (Cache (GetInfo Pid)) (Wrote text ∷ []) before On
+      → Exchange rules before (Cache (SetOption text)) (Sent (option_text (judged before text.items).answer) ∷ []) (judged before text.items).after On
+  version : {text : List ℕ} → IsData (codes "2.4.0") text → Exchange rules before (Cache (GetInfo Version)) (Sent text ∷ []) before On
+  pid : {text : List ℕ} → IsData (decimal rules.pid) text → Exchange rules before (Cache (GetInfo Pid)) (Sent text ∷ []) before On
   s2k_count : {text : List ℕ} → IsData (decimal rules.s2k_count) text
-      → Exchange rules before (Cache (GetInfo S2kCount)) (Wrote text ∷ []) before On
-  listed : Exchange rules before (Cache (GetInfo Listed)) (Wrote ok ∷ []) before On
+      → Exchange rules before (Cache (GetInfo S2kCount)) (Sent text ∷ []) before On
+  listed : Exchange rules before (Cache (GetInfo Listed)) (Sent ok ∷ []) before On
   -- a request that may prompt isn't served yet
   not_quiet : {plain check no_ask quality : Bool} {repeat : ℕ} {id : Option (List ℕ)} {texts : Option Texts} → is_quiet no_ask texts ≡ false
-      → Exchange rules before (Cache (GetPassphrase plain check no_ask repeat quality id texts)) (Wrote (failed code.NotSupported) ∷ []) before On
+      → Exchange rules before (Cache (GetPassphrase plain check no_ask repeat quality id texts)) (Sent (failed code.NotSupported) ∷ []) before On
   no_id : {plain check no_ask quality : Bool} {repeat : ℕ} {texts : Option Texts} → is_quiet no_ask texts ≡ true
-      → Exchange rules before (Cache (GetPassphrase plain check no_ask repeat quality None texts)) (Wrote (failed code.NoData) ∷ []) before On
+      → Exchange rules before (Cache (GetPassphrase plain check no_ask repeat quality None texts)) (Sent (failed code.NoData) ∷ []) before On
   given : {plain check no_ask quality : Bool} {repeat : ℕ} {id secret text : List ℕ} {texts : Option Texts} → is_quiet no_ask texts ≡ true
       → IsPassphrase plain secret text
       → Exchange rules before (Cache (GetPassphrase plain check no_ask repeat quality (Some id) texts))
-      (Turned (ask id) (Given secret) ∷ Wrote text ∷ []) before On
+      (CacheTurn (ask id) (Given secret) ∷ Sent text ∷ []) before On
   empty : {plain check no_ask quality : Bool} {repeat : ℕ} {id : List ℕ} {texts : Option Texts} → is_quiet no_ask texts ≡ true
       → Exchange rules before (Cache (GetPassphrase plain check no_ask repeat quality (Some id) texts))
-      (Turned (ask id) Empty ∷ Wrote (failed code.NoData) ∷ []) before On
+      (CacheTurn (ask id) Empty ∷ Sent (failed code.NoData) ∷ []) before On
   -- another lifetime isn't served yet
   other_life : {id : List ℕ} {life : Life} {secret : Option (List ℕ)} → life ≢ Endless
-      → Exchange rules before (Cache (PresetPassphrase id life secret)) (Wrote (failed code.NotSupported) ∷ []) before On
+      → Exchange rules before (Cache (PresetPassphrase id life secret)) (Sent (failed code.NotSupported) ∷ []) before On
   not_allowed : {id : List ℕ} {life : Life} {secret : Option (List ℕ)} → rules.allow_preset ≡ false
-      → Exchange rules before (Cache (PresetPassphrase id life secret)) (Wrote (failed code.NotSupported) ∷ []) before On
-  preset : {id secret : List ℕ} {deeds : List Deed} → rules.allow_preset ≡ true → Stores id Endless secret deeds
-      → Exchange rules before (Cache (PresetPassphrase id Endless (Some secret))) deeds before On
-  brought : {id secret : List ℕ} {deeds : List Deed} → rules.allow_preset ≡ true → Stores id Endless secret deeds
-      → Exchange rules before (Cache (PresetPassphrase id Endless None)) (question ++ (Inquired 255 (Data secret) ∷ deeds)) before On
-  not_brought : {id : List ℕ} {outcome : Outcome} {deeds : List Deed} {went : Went} → rules.allow_preset ≡ true → Fails outcome deeds went
-      → Exchange rules before (Cache (PresetPassphrase id Endless None)) (question ++ (Inquired 255 outcome ∷ deeds)) before went
+      → Exchange rules before (Cache (PresetPassphrase id life secret)) (Sent (failed code.NotSupported) ∷ []) before On
+  preset : {id secret : List ℕ} {events : List Event} → rules.allow_preset ≡ true → Stores id Endless secret events
+      → Exchange rules before (Cache (PresetPassphrase id Endless (Some secret))) events before On
+  brought : {id secret : List ℕ} {events : List Event} → rules.allow_preset ≡ true → Stores id Endless secret events
+      → Exchange rules before (Cache (PresetPassphrase id Endless None)) (question ++ (Inquiry 255 (Data secret) ∷ events)) before On
+  not_brought : {id : List ℕ} {outcome : Outcome} {events : List Event} {went : Went} → rules.allow_preset ≡ true → Fails outcome events went
+      → Exchange rules before (Cache (PresetPassphrase id Endless None)) (question ++ (Inquiry 255 outcome ∷ events)) before went

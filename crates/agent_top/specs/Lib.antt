@@ -1,5 +1,5 @@
 pub mod Cache
-pub mod Deeds
+pub mod Events
 pub mod Exchanges
 pub mod Forms
 pub mod Reading

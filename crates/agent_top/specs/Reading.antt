@@ -10,7 +10,7 @@ use Rattle.assuan_line.specs.declared.reader.Took.TheVariants.{Line, TooLong, En
 use Rattle.assuan_escape.specs.DataLines.{carried}
 use Rattle.assuan_server.specs.Inquiries.{Outcome, ComesTo, is_skipped}
 use Rattle.assuan_text.specs.Forms.{is_ignored}
-use Rattle.agent_top.specs.Deeds.{Came, Deed, Heard, Wrote, Turned, Inquired}
+use Rattle.agent_top.specs.Events.{CacheAnswer, Event, Received, Sent, CacheTurn, Inquiry}
 
 -- how many bytes a session may take
 abbrev pub budget : ℕ
@@ -46,14 +46,14 @@ pub record ReadsAnswer (total limit : ℕ) (bytes : List ℕ) (outcome : Outcome
   pub past : ReadsPast (λ before line. is_skipped line) total bytes lines took rest
   pub comes_to : ComesTo limit (flat_map carried lines) took outcome
 
--- the requests and inquiries among the deeds took their lines from these bytes, in order, and left the rest
-pub data Takes (total : ℕ) : List ℕ → List Deed → List ℕ → Type 0 where
+-- the requests and inquiries among the events took their lines from these bytes, in order, and left the rest
+pub data Takes (total : ℕ) : List ℕ → List Event → List ℕ → Type 0 where
   none : {bytes : List ℕ} → Takes total bytes [] bytes
-  heard : {bytes later rest : List ℕ} {took : Took} {deeds : List Deed} → ReadsRequest total bytes took later → Takes total later deeds rest
-      → Takes total bytes (Heard took ∷ deeds) rest
-  wrote : {bytes text rest : List ℕ} {deeds : List Deed} → Takes total bytes deeds rest → Takes total bytes (Wrote text ∷ deeds) rest
-  turned : {bytes rest : List ℕ} {step : _} {came : Came} {deeds : List Deed}
-      → Takes total bytes deeds rest → Takes total bytes (Turned step came ∷ deeds) rest
-  inquired : {bytes later rest : List ℕ} {limit : ℕ} {outcome : Outcome} {deeds : List Deed}
-      → ReadsAnswer total limit bytes outcome later → Takes total later deeds rest
-      → Takes total bytes (Inquired limit outcome ∷ deeds) rest
+  received : {bytes later rest : List ℕ} {took : Took} {events : List Event} → ReadsRequest total bytes took later → Takes total later events rest
+      → Takes total bytes (Received took ∷ events) rest
+  sent : {bytes text rest : List ℕ} {events : List Event} → Takes total bytes events rest → Takes total bytes (Sent text ∷ events) rest
+  turned : {bytes rest : List ℕ} {step : _} {came : CacheAnswer} {events : List Event}
+      → Takes total bytes events rest → Takes total bytes (CacheTurn step came ∷ events) rest
+  inquired : {bytes later rest : List ℕ} {limit : ℕ} {outcome : Outcome} {events : List Event}
+      → ReadsAnswer total limit bytes outcome later → Takes total later events rest
+      → Takes total bytes (Inquiry limit outcome ∷ events) rest

@@ -1,5 +1,5 @@
 -- A session from bytes to bytes: what it does, request after request, and how each of its ends to the outside fixes that. A session
--- is the Assuan manual's ("client requests", "server responses"); how it ends, and how its deeds are told from the outside, is this
+-- is the Assuan manual's ("client requests", "server responses"); how it ends, and how its events are told from the outside, is this
 -- project's own.
 use Rattle.std.specs.Prelude.{◌≡◌, ◌≤◌, ◌+◌, ℕ, List, [], ◌∷◌, ◌++◌, length}
 use Rattle.agent_ports.specs.Readings.{Readings, HasGiven}
@@ -11,8 +11,8 @@ use Rattle.assuan_server.specs.declared.errors.Code.TheVariants.{LineTooLong}
 use Rattle.session_options.specs.Choices.{Choices, at_start}
 use Rattle.session_options.specs.declared.rules.Rules.{Rules}
 use Rattle.agent_commands.specs.Requests.{request_of}
-use Rattle.agent_top.specs.Cache.{Standing, at_start as empty_cache, limits_of, Turns}
-use Rattle.agent_top.specs.Deeds.{Deed, Heard, Wrote, output_of, IsCut}
+use Rattle.agent_top.specs.Cache.{CacheState, at_start as empty_cache, limits_of, Turns}
+use Rattle.agent_top.specs.Events.{Event, Received, Sent, output_of, IsCut}
 use Rattle.agent_top.specs.Exchanges.{Exchange, failed}
 use Rattle.agent_top.specs.Reading.{budget, Takes}
 use Rattle.agent_top.specs.declared.session.SessionEnd.{SessionEnd}
@@ -21,32 +21,32 @@ use Rattle.agent_top.specs.declared.session.Went.{Went}
 use Rattle.agent_top.specs.declared.session.Went.TheVariants.{On, End}
 
 -- A session from some request on: what its client has chosen before it, what the session does, and how it ends.
-pub data Talk (rules : Rules) : Choices → List Deed → SessionEnd → Type 0 where
+pub data Talk (rules : Rules) : Choices → List Event → SessionEnd → Type 0 where
   -- the request is answered, and the session goes on
-  goes_on : {before after : Choices} {deeds more : List Deed} {end : SessionEnd} (line : List ℕ)
-      → Exchange rules before (request_of line) deeds after On → Talk rules after more end
-      → Talk rules before (Heard (took.Line line) ∷ (deeds ++ more)) end
+  goes_on : {before after : Choices} {events more : List Event} {end : SessionEnd} (line : List ℕ)
+      → Exchange rules before (request_of line) events after On → Talk rules after more end
+      → Talk rules before (Received (took.Line line) ∷ (events ++ more)) end
   -- the request is the last one
-  over : {before after : Choices} {deeds : List Deed} {end : SessionEnd} (line : List ℕ)
-      → Exchange rules before (request_of line) deeds after (End end)
-      → Talk rules before (Heard (took.Line line) ∷ deeds) end
+  over : {before after : Choices} {events : List Event} {end : SessionEnd} (line : List ℕ)
+      → Exchange rules before (request_of line) events after (End end)
+      → Talk rules before (Received (took.Line line) ∷ events) end
   -- no request comes
-  ended : {before : Choices} → Talk rules before (Heard took.End ∷ []) Ended
-  spent : {before : Choices} → Talk rules before (Heard took.Spent ∷ []) Spent
-  read_fault : {before : Choices} → Talk rules before (Heard took.ReadFault ∷ []) ReadFault
-  too_long : {before : Choices} → Talk rules before (Heard took.TooLong ∷ Wrote (failed LineTooLong) ∷ []) TooLong
+  ended : {before : Choices} → Talk rules before (Received took.End ∷ []) Ended
+  spent : {before : Choices} → Talk rules before (Received took.Spent ∷ []) Spent
+  read_fault : {before : Choices} → Talk rules before (Received took.ReadFault ∷ []) ReadFault
+  too_long : {before : Choices} → Talk rules before (Received took.TooLong ∷ Sent (failed LineTooLong) ∷ []) TooLong
   -- a write failed
-  cut : {before after : Choices} {deeds done : List Deed} {went : Went} (line : List ℕ)
-      → Exchange rules before (request_of line) deeds after went → IsCut deeds done
-      → Talk rules before (Heard (took.Line line) ∷ done) WriteFault
-  cut_too_long : {before : Choices} {done : List Deed} → IsCut (Wrote (failed LineTooLong) ∷ []) done
-      → Talk rules before (Heard took.TooLong ∷ done) WriteFault
+  cut : {before after : Choices} {events done : List Event} {went : Went} (line : List ℕ)
+      → Exchange rules before (request_of line) events after went → IsCut events done
+      → Talk rules before (Received (took.Line line) ∷ done) WriteFault
+  cut_too_long : {before : Choices} {done : List Event} → IsCut (Sent (failed LineTooLong) ∷ []) done
+      → Talk rules before (Received took.TooLong ∷ done) WriteFault
 
 -- a whole session: the greeting, and what follows
-pub data Session (rules : Rules) : List Deed → SessionEnd → Type 0 where
-  greeted : {deeds : List Deed} {end : SessionEnd} → Talk rules (at_start rules.s2k_count rules.allow_loopback) deeds end
-      → Session rules (Wrote (line_of greeting) ∷ deeds) end
-  cut_greeting : {done : List Deed} → IsCut (Wrote (line_of greeting) ∷ []) done → Session rules done WriteFault
+pub data Session (rules : Rules) : List Event → SessionEnd → Type 0 where
+  greeted : {events : List Event} {end : SessionEnd} → Talk rules (at_start rules.s2k_count rules.allow_loopback) events end
+      → Session rules (Sent (line_of greeting) ∷ events) end
+  cut_greeting : {done : List Event} → IsCut (Sent (line_of greeting) ∷ []) done → Session rules done WriteFault
 
 -- what a session has to do with the outside: both sides of its link, and its clock
 pub record Outside : Type 0 where
@@ -67,16 +67,16 @@ Leaves TooLong rest left = rest ≡ left
 Leaves Spent rest left = rest ≡ left
 Leaves ReadFault rest left = rest ≡ left
 
--- What a session did to the outside. Its deeds are a session's. Each end fixes those that show there: the bytes that were written
+-- What a session did to the outside. Its events are a session's. Each end fixes those that show there: the bytes that were written
 -- are theirs; their turns of the cache are the policy's from an empty cache on, by the rules' lifetimes, at the clock's readings;
 -- and their requests and inquiries are those of the bytes that were read, of which no more were taken than the budget allows.
-pub record HasServed (rules : Rules) (before : Outside) (end : SessionEnd) (after : Outside) : Type 0 where
-  pub deeds : List Deed
-  pub session : Session rules deeds end
-  pub written : after.output.bytes ≡ with_bytes before.output.bytes (output_of deeds)
+pub record ServesSession (rules : Rules) (before : Outside) (end : SessionEnd) (after : Outside) : Type 0 where
+  pub events : List Event
+  pub session : Session rules events end
+  pub written : after.output.bytes ≡ with_bytes before.output.bytes (output_of events)
   pub readings : List ℕ
   pub given : HasGiven before.clock readings after.clock
-  pub standing : Standing
-  pub turns : Turns (limits_of rules) empty_cache deeds readings standing
+  pub cache_state : CacheState
+  pub turns : Turns (limits_of rules) empty_cache events readings cache_state
   pub taken : WhereTold before.input.bytes after.input.bytes (λ bytes left.
-      (rest : List ℕ) × Takes (length bytes) bytes deeds rest × Leaves end rest left × (length bytes ≤ budget + length left))
+      (rest : List ℕ) × Takes (length bytes) bytes events rest × Leaves end rest left × (length bytes ≤ budget + length left))

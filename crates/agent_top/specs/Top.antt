@@ -6,7 +6,7 @@ use Rattle.agent_top.specs.declared.session.SessionEnd.{SessionEnd}
 use Rattle.agent_top.specs.declared.session.SessionEnd.TheVariants.{Bye, Ended, TooLong, Spent, ReadFault, WriteFault}
 use Rattle.agent_top.specs.declared.status.Status.{Status}
 use Rattle.agent_top.specs.declared.status.Status.TheVariants as status
-use Rattle.agent_top.specs.Session.{Outside, HasServed}
+use Rattle.agent_top.specs.Session.{Outside, ServesSession}
 
 -- the number that the process ends with
 abbrev pub number_of : Status → ℕ
@@ -28,10 +28,10 @@ status_of Spent = status.Spent
 status_of TooLong = status.TooLong
 
 -- a session was served, and the number is that of its end; a fault is told only where its count has risen
-pub record HasRun (rules : Rules) (before : Outside) (number : ℕ) (after : Outside) : Type 0 where
+pub record RunsServer (rules : Rules) (before : Outside) (number : ℕ) (after : Outside) : Type 0 where
   pub end : SessionEnd
   pub number_is : number ≡ number_of (status_of end)
-  pub served : HasServed rules before end after
+  pub served : ServesSession rules before end after
   pub read_fault : end ≡ ReadFault → Rose before.input.faults after.input.faults
   pub write_fault : end ≡ WriteFault → Rose before.output.faults after.output.faults
   -- the counts never fall

@@ -46,7 +46,7 @@ impl Cache {
     ghost use Rattle.cache_policy.specs.declared.mark.MarkReply.TheVariants.{Done};
     ghost use Rattle.cache_policy.specs.Live.{live};
     ghost use Rattle.cache_policy.specs.Runs.{next_history, moment_of};
-    ghost use Rattle.agent_top.specs.Cache.{Standing, at_start, marked};
+    ghost use Rattle.agent_top.specs.Cache.{CacheState, at_start, marked};
     ghost use Rattle.agent_top.specs.Exchanges.{ask, put};
     ghost use Rattle.agent_top.specs.Steps.{IsKept};
 
@@ -66,9 +66,9 @@ impl Cache {
 
     /// Stores a passphrase for every mode, without a ttl. Where there is no memory for it, all stays as it is.
     pub(crate) fn put(&mut self, reading: u64, id: CacheId, secret: Secret) -> Result<(), NoMemory>
-        ensures ok { OnOk result ((standing : Standing) → IsKept standing self.old
-            → IsKept (marked standing (put id Endless secret) Done reading) self.new) }
-        ensures err { OnErr result ((standing : Standing) → IsKept standing self.old → IsKept standing self.new) }
+        ensures ok { OnOk result ((cache_state : CacheState) → IsKept cache_state self.old
+            → IsKept (marked cache_state (put id Endless secret) Done reading) self.new) }
+        ensures err { OnErr result ((cache_state : CacheState) → IsKept cache_state self.old → IsKept cache_state self.new) }
         ensures limits { self.new.limits ≡ self.old.limits }
     {
         let moment = self.moment(reading);
@@ -89,11 +89,11 @@ impl Cache {
 
     /// The passphrase that is live for the id, if one is. The question is a mark.
     pub(crate) fn ask(&mut self, reading: u64, id: &CacheId) -> Option<Grant>
-        ensures live { (standing : Standing) → IsKept standing self.old
+        ensures live { (cache_state : CacheState) → IsKept cache_state self.old
             → option_map (λ grant. grant.entry.secret) result ≡ option_map (λ entry. entry.secret)
-            (live self.old.limits (next_history standing.history) id.now User (moment_of standing.latest reading)) }
-        ensures stands { (standing : Standing) (reply : MarkReply) → IsKept standing self.old
-            → IsKept (marked standing (ask id.now) reply reading) self.new }
+            (live self.old.limits (next_history cache_state.history) id.now User (moment_of cache_state.latest reading)) }
+        ensures stands { (cache_state : CacheState) (reply : MarkReply) → IsKept cache_state self.old
+            → IsKept (marked cache_state (ask id.now) reply reading) self.new }
         ensures limits { self.new.limits ≡ self.old.limits }
     {
         let moment = self.moment(reading);
@@ -105,8 +105,8 @@ impl Cache {
 
     /// Where the history is full, begins the next one with an empty book.
     fn turn_over(&mut self)
-        ensures stands { (standing : Standing) → IsKept standing self.old
-            → IsKept (record standing { history = next_history standing.history }) self.new }
+        ensures stands { (cache_state : CacheState) → IsKept cache_state self.old
+            → IsKept (record cache_state { history = next_history cache_state.history }) self.new }
         ensures room { self.new.marks < 131072 }
         ensures in_order { self.new.book.latest ≤ self.old.latest }
         ensures latest { self.new.latest ≡ self.old.latest }

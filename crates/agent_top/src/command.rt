@@ -7,9 +7,9 @@ ghost use Rattle.session_options.specs.Choices.{Choices};
 ghost use Rattle.session_options.specs.declared.rules.Rules.{Rules as TheRules};
 ghost use Rattle.agent_top.specs.declared.session.Went.TheVariants as went;
 ghost use Rattle.agent_top.specs.declared.cache.Cache.{Cache as TheCache};
-ghost use Rattle.agent_top.specs.Deeds.{Came, Wrote, Turned};
+ghost use Rattle.agent_top.specs.Events.{CacheAnswer, Sent, CacheTurn};
 ghost use Rattle.agent_top.specs.Exchanges.{Exchange, Stores, is_quiet, put, option_text};
-ghost use Rattle.agent_top.specs.Steps.{point, HasDone, HasPrepared, IsPrepared, IsInquired, IsBrought, IsText};
+ghost use Rattle.agent_top.specs.Steps.{session_state, EventsLead, CarriesOut, CarriesOutOrFails, InquiresPassphrase, PassphraseOf, IsText};
 
 use crate::cache::Cache;
 use crate::reply::{Reply, WriteFault, whole};
@@ -80,8 +80,8 @@ pub(crate) fn carry_out<L: Link, C: Clock>(
     clock: &mut C,
 ) -> Result<Answer, WriteFault>
     requires { conn.old.reader.ended ≡ None }
-    ensures { IsPrepared rules.now options.old request (point conn.old (C.readings clock.old) cache.old)
-        result options.new (point conn.new (C.readings clock.new) cache.new) }
+    ensures { CarriesOutOrFails rules.now options.old request (session_state conn.old (C.readings clock.old) cache.old)
+        result options.new (session_state conn.new (C.readings clock.new) cache.new) }
 {
     match request {
         Request::Bad(code) => Ok(Answer::failed(code)),
@@ -98,9 +98,9 @@ fn run_cache<L: Link, C: Clock>(
     clock: &mut C,
 ) -> Result<Answer, WriteFault>
     requires { conn.old.reader.ended ≡ None }
-    ensures { IsPrepared rules.now options.old (request.Cache command)
-        (point conn.old (C.readings clock.old) cache.old)
-        result options.new (point conn.new (C.readings clock.new) cache.new) }
+    ensures { CarriesOutOrFails rules.now options.old (request.Cache command)
+        (session_state conn.old (C.readings clock.old) cache.old)
+        result options.new (session_state conn.new (C.readings clock.new) cache.new) }
 {
     match command {
         CacheCommand::Nop => Ok(Answer::on(Reply::Ok)),
@@ -138,7 +138,7 @@ fn option_reply(answer: OptionAnswer) -> Reply
 
 fn info_reply(info: Info, rules: &Rules) -> Reply
     ensures { (before : Choices) (text : List ℕ) → IsText result text
-        → Exchange rules.now before (request.Cache (command.GetInfo info)) (Wrote text ∷ []) before went.On }
+        → Exchange rules.now before (request.Cache (command.GetInfo info)) (Sent text ∷ []) before went.On }
 {
     match info {
         Info::Version => Reply::Version,
@@ -158,9 +158,9 @@ fn get_passphrase<C: Clock>(
     clock: &mut C,
 ) -> Answer
     ensures { (rules : TheRules) (before : Choices) (check quality : Bool) (repeat : ℕ) (conn : Connection) → conn.reader.ended ≡ None
-        → HasPrepared rules before (request.Cache (command.GetPassphrase plain check no_ask repeat quality id texts))
-        (point conn (C.readings clock.old) cache.old) result before
-        (point conn (C.readings clock.new) cache.new) }
+        → CarriesOut rules before (request.Cache (command.GetPassphrase plain check no_ask repeat quality id texts))
+        (session_state conn (C.readings clock.old) cache.old) result before
+        (session_state conn (C.readings clock.new) cache.new) }
 {
     if !is_quiet(no_ask, &texts) {
         return Answer::failed(Code::NotSupported);
@@ -192,9 +192,9 @@ fn preset_passphrase<L: Link, C: Clock>(
     clock: &mut C,
 ) -> Result<Answer, WriteFault>
     requires { conn.old.reader.ended ≡ None }
-    ensures { (before : Choices) → IsPrepared rules.now before (request.Cache (command.PresetPassphrase id life secret))
-        (point conn.old (C.readings clock.old) cache.old)
-        result before (point conn.new (C.readings clock.new) cache.new) }
+    ensures { (before : Choices) → CarriesOutOrFails rules.now before (request.Cache (command.PresetPassphrase id life secret))
+        (session_state conn.old (C.readings clock.old) cache.old)
+        result before (session_state conn.new (C.readings clock.new) cache.new) }
 {
     let Life::Endless = life else {
         return Ok(Answer::failed(Code::NotSupported));
@@ -217,23 +217,23 @@ fn preset_inquired<L: Link, C: Clock>(
 ) -> Result<Answer, WriteFault>
     requires { conn.old.reader.ended ≡ None }
     ensures { (rules : TheRules) (before : Choices) → rules.allow_preset ≡ true
-        → IsPrepared rules before (request.Cache (command.PresetPassphrase id Life.Endless None))
-        (point conn.old (C.readings clock.old) cache.old)
-        result before (point conn.new (C.readings clock.new) cache.new) }
+        → CarriesOutOrFails rules before (request.Cache (command.PresetPassphrase id Life.Endless None))
+        (session_state conn.old (C.readings clock.old) cache.old)
+        result before (session_state conn.new (C.readings clock.new) cache.new) }
 {
     match inquire_passphrase(conn)? {
-        Brought::Passphrase(secret) => Ok(Answer::on(store(id, secret, cache, clock))),
-        Brought::Without(answer) => Ok(answer),
+        Ok(secret) => Ok(Answer::on(store(id, secret, cache, clock))),
+        Err(answer) => Ok(answer),
     }
 }
 
 /// Stores a passphrase at the clock's next reading.
 fn store<C: Clock>(id: CacheId, secret: Secret, cache: &mut Cache, clock: &mut C) -> Reply
-    ensures { (came : Came)
-        × ((text : List ℕ) → IsText result text → Stores id Life.Endless secret (Turned (put id Life.Endless secret) came ∷ Wrote text ∷ []))
-        × ((conn : Connection) → HasDone (Turned (put id Life.Endless secret) came ∷ [])
-        (point conn (C.readings clock.old) cache.old)
-        (point conn (C.readings clock.new) cache.new)) }
+    ensures { (came : CacheAnswer)
+        × ((text : List ℕ) → IsText result text → Stores id Life.Endless secret (CacheTurn (put id Life.Endless secret) came ∷ Sent text ∷ []))
+        × ((conn : Connection) → EventsLead (CacheTurn (put id Life.Endless secret) came ∷ [])
+        (session_state conn (C.readings clock.old) cache.old)
+        (session_state conn (C.readings clock.new) cache.new)) }
 {
     match cache.put(clock.now(), id, secret) {
         Ok(()) => Reply::Ok,
@@ -241,27 +241,20 @@ fn store<C: Clock>(id: CacheId, secret: Secret, cache: &mut Cache, clock: &mut C
     }
 }
 
-/// What the client's answer brought: a passphrase, or how the request is answered without one.
-#[derive(Drop)]
-pub(crate) enum Brought {
-    Passphrase(Secret),
-    Without(Answer),
-}
-
-/// Asks the client for a passphrase.
-fn inquire_passphrase<L: Link>(conn: &mut Conn<'_, L>) -> Result<Brought, WriteFault>
+/// Asks the client for a passphrase. Where none comes, it gives how the request is answered without one.
+fn inquire_passphrase<L: Link>(conn: &mut Conn<'_, L>) -> Result<Result<Secret, Answer>, WriteFault>
     requires { conn.old.reader.ended ≡ None }
-    ensures { (clock : Readings) (cache : TheCache) → IsInquired (point conn.old clock cache) result (point conn.new clock cache) }
+    ensures { (clock : Readings) (cache : TheCache) → InquiresPassphrase (session_state conn.old clock cache) result (session_state conn.new clock cache) }
 {
     whole(conn.status(b"INQUIRE_MAXLEN", b"255"))?;
     passphrase_of(conn.inquire_secret(b"PASSPHRASE", b""))
 }
 
-fn passphrase_of(inquired: InquiredSecret) -> Result<Brought, WriteFault>
-    ensures { IsBrought inquired result }
+fn passphrase_of(inquired: InquiredSecret) -> Result<Result<Secret, Answer>, WriteFault>
+    ensures { PassphraseOf inquired result }
 {
     let without = match inquired {
-        InquiredSecret::Secret(secret) => return Ok(Brought::Passphrase(secret)),
+        InquiredSecret::Secret(secret) => return Ok(Ok(secret)),
         InquiredSecret::WriteFault => return Err(WriteFault),
         InquiredSecret::Cancelled => Answer::failed(Code::Cancelled),
         InquiredSecret::TooMuch => Answer::failed(Code::TooMuch),
@@ -274,5 +267,5 @@ fn passphrase_of(inquired: InquiredSecret) -> Result<Brought, WriteFault>
         InquiredSecret::Spent => Answer::silent(SessionEnd::Spent),
         InquiredSecret::ReadFault => Answer::silent(SessionEnd::ReadFault),
     };
-    Ok(Brought::Without(without))
+    Ok(Err(without))
 }

@@ -4,7 +4,7 @@ ghost use Rattle.assuan_text.specs.LineEnds.{line_of};
 ghost use Rattle.assuan_server.specs.Written.{comment_text, HasWritten};
 ghost use Rattle.agent_commands.specs.Names.{command_names};
 ghost use Rattle.agent_top.specs.Exchanges.{IsData, help};
-ghost use Rattle.agent_top.specs.Steps.{IsText, HasSaid};
+ghost use Rattle.agent_top.specs.Steps.{IsText, WritesText};
 
 use agent_commands::COMMANDS;
 use agent_ports::{Link, Sent};
@@ -37,7 +37,7 @@ pub(crate) struct WriteFault;
 
 /// Writes a reply.
 pub(crate) fn write_reply<L: Link>(conn: &mut Conn<'_, L>, reply: &Reply) -> Result<(), WriteFault>
-    ensures { (text : List ℕ) × IsText reply.now text × HasSaid text conn.old result conn.new }
+    ensures { (text : List ℕ) × IsText reply.now text × WritesText text conn.old result conn.new }
 {
     match reply {
         Reply::Ok => whole(conn.ok(b"")),
@@ -56,7 +56,7 @@ pub(crate) fn write_reply<L: Link>(conn: &mut Conn<'_, L>, reply: &Reply) -> Res
 
 /// Writes these bytes as data lines, and that this is all.
 fn write_data<L: Link>(conn: &mut Conn<'_, L>, bytes: &[u8]) -> Result<(), WriteFault>
-    ensures { (text : List ℕ) × IsData bytes.now text × HasSaid text conn.old result conn.new }
+    ensures { (text : List ℕ) × IsData bytes.now text × WritesText text conn.old result conn.new }
 {
     whole(conn.data(bytes))?;
     whole(conn.ok(b""))
@@ -64,7 +64,7 @@ fn write_data<L: Link>(conn: &mut Conn<'_, L>, bytes: &[u8]) -> Result<(), Write
 
 /// Writes a comment for each command, and that this is all.
 fn write_help<L: Link>(conn: &mut Conn<'_, L>) -> Result<(), WriteFault>
-    ensures { HasSaid help conn.old result conn.new }
+    ensures { WritesText help conn.old result conn.new }
 {
     for (name, _) in COMMANDS {
         whole(conn.comment(name))?;
@@ -74,7 +74,7 @@ fn write_help<L: Link>(conn: &mut Conn<'_, L>) -> Result<(), WriteFault>
 
 /// Whether a write went whole.
 pub(crate) fn whole(sent: Sent) -> Result<(), WriteFault>
-    ensures { (text : List ℕ) (before after : _) → HasWritten text before sent after → HasSaid text before result after }
+    ensures { (text : List ℕ) (before after : _) → HasWritten text before sent after → WritesText text before result after }
 {
     match sent {
         Sent::All => Ok(()),

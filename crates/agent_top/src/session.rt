@@ -2,8 +2,8 @@ ghost use Rattle.std.specs.Prelude.{◌≡◌, ◌≤◌, [], None};
 ghost use Rattle.agent_ports.specs.Counts.{Rose};
 ghost use Rattle.agent_commands.specs.Requests.{request_of};
 ghost use Rattle.agent_top.specs.Reading.{budget};
-ghost use Rattle.agent_top.specs.Session.{HasServed, outside};
-ghost use Rattle.agent_top.specs.Steps.{point, IsAnswered, HasTalked, HasMet, end_of};
+ghost use Rattle.agent_top.specs.Session.{ServesSession, outside};
+ghost use Rattle.agent_top.specs.Steps.{session_state, AnswersOrFails, ServesRequests, ServesConn, end_of};
 
 use crate::Status;
 use crate::cache::{Cache, limits_of};
@@ -62,7 +62,7 @@ pub(crate) fn serve<L: Link, C: Clock>(
     link: &mut L,
     clock: &mut C,
 ) -> SessionEnd
-    ensures served { HasServed rules.now
+    ensures served { ServesSession rules.now
         (outside (L.input link.old) (L.output link.old) (C.readings clock.old)) result
         (outside (L.input link.new) (L.output link.new) (C.readings clock.new)) }
     ensures read_fault { result ≡ SessionEnd.ReadFault → Rose (L.input link.old).faults (L.input link.new).faults }
@@ -88,7 +88,7 @@ fn serve_conn<L: Link, C: Clock>(
     clock: &mut C,
 ) -> Result<SessionEnd, WriteFault>
     requires { conn.old.reader ≡ record { ahead = []; left = budget; ended = None } }
-    ensures { HasMet rules.now conn.old (C.readings clock.old) (end_of result)
+    ensures { ServesConn rules.now conn.old (C.readings clock.old) (end_of result)
         conn.new (C.readings clock.new) }
 {
     whole(conn.greet())?;
@@ -106,8 +106,8 @@ fn serve_requests<L: Link, C: Clock>(
     clock: &mut C,
 ) -> Result<SessionEnd, WriteFault>
     requires { conn.old.reader.ended ≡ None }
-    ensures { HasTalked rules.now options.old (point conn.old (C.readings clock.old) cache.old)
-        (end_of result) (point conn.new (C.readings clock.new) cache.new) }
+    ensures { ServesRequests rules.now options.old (session_state conn.old (C.readings clock.old) cache.old)
+        (end_of result) (session_state conn.new (C.readings clock.new) cache.new) }
 {
     loop {
         match conn.next_request() {
@@ -136,9 +136,9 @@ fn answer<L: Link, C: Clock>(
     clock: &mut C,
 ) -> Result<Went, WriteFault>
     requires { conn.old.reader.ended ≡ None }
-    ensures { IsAnswered rules.now options.old (request_of line.now)
-        (point conn.old (C.readings clock.old) cache.old) result
-        options.new (point conn.new (C.readings clock.new) cache.new) }
+    ensures { AnswersOrFails rules.now options.old (request_of line.now)
+        (session_state conn.old (C.readings clock.old) cache.old) result
+        options.new (session_state conn.new (C.readings clock.new) cache.new) }
 {
     let answer = carry_out(read_request(line), rules, options, conn, cache, clock)?;
     let Some(reply) = &answer.reply else {

@@ -1,7 +1,7 @@
 ghost use Rattle.std.specs.Prelude.{◌≡◌, map, string_bytes, IfSome, IfNone};
 ghost use Rattle.agent_top.specs.Words.{rules_of};
 ghost use Rattle.agent_top.specs.Session.{outside};
-ghost use Rattle.agent_top.specs.Top.{number_of, HasRun};
+ghost use Rattle.agent_top.specs.Top.{number_of, RunsServer};
 
 use crate::Status;
 use crate::session::serve;
@@ -28,7 +28,7 @@ pub fn run_agent<W: Threads + Wait + rt::Clock + Sync, S: Link, H: Host>(
     ensures refused { IfNone (rules_of (map string_bytes words.now))
         ((result ≡ number_of Status.BadWords) × (S.input stdio.new ≡ S.input stdio.old) × (S.output stdio.new ≡ S.output stdio.old)
         × (host.new ≡ host.old)) }
-    ensures served { IfSome (rules_of (map string_bytes words.now)) (λ rules. HasRun rules
+    ensures served { IfSome (rules_of (map string_bytes words.now)) (λ rules. RunsServer rules
         (outside (S.input stdio.old) (S.output stdio.old) (H.readings host.old)) result
         (outside (S.input stdio.new) (S.output stdio.new) (H.readings host.new))) }
 {
@@ -40,7 +40,7 @@ pub fn run_agent<W: Threads + Wait + rt::Clock + Sync, S: Link, H: Host>(
 
 /// Serves one session on standard input and output, and gives its status, as `run_agent` does. It always returns.
 pub fn run_server<S: Link, H: Host>(alloc: Global, rules: &Rules, stdio: &mut S, host: &mut H) -> u8
-    ensures { HasRun rules.now
+    ensures { RunsServer rules.now
         (outside (S.input stdio.old) (S.output stdio.old) (H.readings host.old)) result
         (outside (S.input stdio.new) (S.output stdio.new) (H.readings host.new)) }
 {

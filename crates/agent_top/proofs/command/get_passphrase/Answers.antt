@@ -1,7 +1,7 @@
 use Rattle.std.proofs.Common.{◌∙◌, refl, sym}
 use Rattle.agent_ports.proofs.Given.{given_one}
 use Rattle.assuan_server.specs.declared.errors.Code.TheVariants.{NoData, NotSupported}
-use Rattle.agent_top.specs.Deeds.{Given, Empty}
+use Rattle.agent_top.specs.Events.{Given, Empty}
 use Rattle.agent_top.specs.Exchanges.{ask, not_quiet, no_id, given, empty}
 use Rattle.agent_top.specs.declared.reply.Reply.TheVariants.{Failed}
 use Rattle.agent_top.proofs.Asking.{turn_given, turn_empty}
@@ -24,8 +24,8 @@ returns-in-Some-ask g c = λ rules before check quality repeat conn going.
     prepared_turned rules before _ (ask c.in-Some.id) (Given c.in-Some-ask.grant.entry.secret) _ _ c.on.result _ going refl c.on.ensures.reply c.on.ensures.went
     (done_turned (ask c.in-Some.id) (Given c.in-Some-ask.grant.entry.secret) conn _ _ c.now.result _ _
     (given_one c.now.ensures) c.ask.ensures.limits
-    (λ standing kept. turn_given _ c.in-Some.id c.now.result c.ask.new.self standing (λ reply. c.ask.ensures.stands standing reply kept)
-    c.in-Some-ask.grant.entry.secret (c.in-Some-ask.ensures.live standing kept)))
+    (λ cache_state kept. turn_given _ c.in-Some.id c.now.result c.ask.new.self cache_state (λ reply. c.ask.ensures.stands cache_state reply kept)
+    c.in-Some-ask.grant.entry.secret (c.in-Some-ask.ensures.live cache_state kept)))
     (λ text is. rw c.in-Some.is (given (sym c.is_quiet.ensures ∙ c.if-not-is_quiet.false) is))
 
 pub returns-in-None : goal.returns-in-None
@@ -33,6 +33,6 @@ returns-in-None g c = λ rules before check quality repeat conn going.
     prepared_turned rules before _ (ask c.in-Some.id) Empty _ _ c.failed-in-None.result (Failed NoData) going refl c.failed-in-None.ensures.reply c.failed-in-None.ensures.went
     (done_turned (ask c.in-Some.id) Empty conn _ _ c.now.result _ _
     (given_one c.now.ensures) c.ask.ensures.limits
-    (λ standing kept. turn_empty _ c.in-Some.id c.now.result c.ask.new.self standing (λ reply. c.ask.ensures.stands standing reply kept)
-    (sym (c.in-None.ensures.live standing kept))))
+    (λ cache_state kept. turn_empty _ c.in-Some.id c.now.result c.ask.new.self cache_state (λ reply. c.ask.ensures.stands cache_state reply kept)
+    (sym (c.in-None.ensures.live cache_state kept))))
     (λ text is. rw (c.in-Some.is, is) (empty (sym c.is_quiet.ensures ∙ c.if-not-is_quiet.false)))

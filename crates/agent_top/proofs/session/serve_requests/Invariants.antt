@@ -1,13 +1,13 @@
 use Rattle.std.proofs.Common.{◌≡◌, None}
 use Rattle.assuan_line.specs.Next.{held}
-use Rattle.agent_top.specs.Steps.{point}
+use Rattle.agent_top.specs.Steps.{session_state}
 use Rattle.agent_top.proofs.Serving.{IsServing}
 use Rattle.agent_top.proofs.session.serve_requests.Given as goal
 
 abbrev pub invariant-loop-line : goal.invariant-loop-line
 invariant-loop-line g l =
     record {
-      serving : IsServing l.fn.rules l.fn.options (point l.fn.conn (g.C.Clock.readings l.fn.clock) l.fn.cache) (point l.conn (g.C.Clock.readings l.clock) l.cache) l.options;
+      serving : IsServing l.fn.rules l.fn.options (session_state l.fn.conn (g.C.Clock.readings l.fn.clock) l.fn.cache) (session_state l.conn (g.C.Clock.readings l.clock) l.cache) l.options;
       going : l.conn.reader.ended ≡ None;
     }
 
