@@ -2,4 +2,4 @@ pub mod Digits
 pub mod Given
 pub mod Leading
 mod Pieces
-pub mod Told
+pub mod Known

@@ -6,7 +6,7 @@ use Rattle.agent_ports.specs.declared.link.Got.TheVariants.{Bytes, End, Failed}
 use Rattle.agent_ports.specs.declared.link.Sent.{Sent}
 use Rattle.agent_ports.specs.declared.link.Sent.TheVariants as sent
 
--- the bytes of one side, where the object tells them, and how many calls have failed there
+-- the bytes of one side, where they are known, and how many calls have failed there
 pub record Side : Type 0 where
   pub bytes : Option (List ℕ)
   pub faults : ℕ
@@ -46,9 +46,9 @@ abbrev pub IsCut : Sent → Type 0
 IsCut sent.All = ⊥
 IsCut (sent.Failed n) = ⊤
 
--- A fact of the bytes before a call and after it, where they are told. Whether they are told doesn't change.
-abbrev pub WhereTold : Option (List ℕ) → Option (List ℕ) → (List ℕ → List ℕ → Type 0) → Type 0
-WhereTold None None P = ⊤
-WhereTold None (Some after) P = ⊥
-WhereTold (Some before) None P = ⊥
-WhereTold (Some before) (Some after) P = P before after
+-- A fact of the bytes before a call and after it, where they are known. Whether they are known doesn't change.
+abbrev pub WhereKnown : Option (List ℕ) → Option (List ℕ) → (List ℕ → List ℕ → Type 0) → Type 0
+WhereKnown None None P = ⊤
+WhereKnown None (Some after) P = ⊥
+WhereKnown (Some before) None P = ⊥
+WhereKnown (Some before) (Some after) P = P before after

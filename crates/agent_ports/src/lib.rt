@@ -1,6 +1,6 @@
 //! What the agent asks of the outside: bytes in and out, the time of day, and the machine that it runs on.
 //!
-//! Each trait has its contents, which an implementation tells or doesn't, and counts that never fall. An answer that
+//! Each trait has its contents, which an implementation shows or doesn't, and counts that never fall. An answer that
 //! something failed comes only where its count rose in that call. The forms in memory tell their contents, and fail at
 //! the calls that a test names.
 #![tactic(auto)]

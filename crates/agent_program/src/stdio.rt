@@ -4,7 +4,7 @@ ghost use Rattle.agent_ports.specs.Sides.{Side};
 use agent_ports::{Got, Link, Sent, Sink, Source};
 use std::io::{ErrorKind, Read, Write};
 
-/// A reader and a writer as a link. It doesn't tell what they hold.
+/// A reader and a writer as a link. It doesn't show what they hold.
 #[derive(Drop)]
 pub struct StdLink<R, W> {
     reader: R,

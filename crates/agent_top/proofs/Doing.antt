@@ -2,9 +2,9 @@
 use Rattle.std.proofs.Common.{◌≡◌, ◌≤◌, ◌+◌, ℕ, Bool, List, [], ◌∷◌, ◌++◌, length, Option, None, Ok, Err, refl, ap, sym, ◌∙◌, subst, arith, append-nil}
 use Rattle.std.proofs.lemmas.Grind.{flat_map-append}
 use Rattle.agent_ports.specs.Readings.{Readings, HasGiven, none as not_read}
-use Rattle.agent_ports.specs.Sides.{Side, with_bytes, WhereTold}
+use Rattle.agent_ports.specs.Sides.{Side, with_bytes, WhereKnown}
 use Rattle.agent_ports.proofs.Given.{given_then}
-use Rattle.agent_ports.proofs.Told.{told_same, told_then, told_both, with_bytes-append}
+use Rattle.agent_ports.proofs.Known.{known_same, known_then, known_both, with_bytes-append}
 use Rattle.assuan_line.specs.Next.{Reader, ended_by}
 use Rattle.assuan_line.specs.Skipping.{ReadsNext, ReadsAfter}
 use Rattle.assuan_line.specs.declared.reader.Took.{Took}
@@ -42,11 +42,11 @@ takes_then (takes_inquired answer takes) later = takes_inquired answer (takes_th
 
 -- events that read nothing took no line
 pub taken_none : (events : List Event) (input input_now : Side) (reader reader_now : Reader) → input_now ≡ input → reader_now ≡ reader → ((total : ℕ) (bytes : List ℕ) → Takes total bytes events bytes)
-    → WhereTold input.bytes input_now.bytes (TakesLines events reader reader_now)
+    → WhereKnown input.bytes input_now.bytes (TakesLines events reader reader_now)
 taken_none events input input_now reader reader_now same same_reader takes =
-    subst (λ (s : Side). WhereTold input.bytes s.bytes (TakesLines events reader reader_now)) (sym same)
-    (subst (λ (r : Reader). WhereTold input.bytes input.bytes (TakesLines events reader r)) (sym same_reader)
-    (told_same input.bytes _ (λ rest. λ total is. (takes total (unread reader rest), is))))
+    subst (λ (s : Side). WhereKnown input.bytes s.bytes (TakesLines events reader reader_now)) (sym same)
+    (subst (λ (r : Reader). WhereKnown input.bytes input.bytes (TakesLines events reader r)) (sym same_reader)
+    (known_same input.bytes _ (λ rest. λ total is. (takes total (unread reader rest), is))))
 
 pub done_none : (now : SessionState) → EventsLead [] now now
 done_none now = record {
@@ -79,7 +79,7 @@ done_then {first} {second} {start} {mid} {now} one two = record {
       );
   limits = two.limits ∙ one.limits;
   taken =
-      told_then start.conn.input.bytes mid.conn.input.bytes now.conn.input.bytes _ _ _ one.taken two.taken (λ rest left more first_takes second_takes. λ total is.
+      known_then start.conn.input.bytes mid.conn.input.bytes now.conn.input.bytes _ _ _ one.taken two.taken (λ rest left more first_takes second_takes. λ total is.
       let before = first_takes total is in
       let after = second_takes total before.1 in
       (takes_then before.0 after.0, after.1));
@@ -176,8 +176,8 @@ module _ (start now : Connection) (clock : Readings) (cache : Cache) (answer : T
     turns = λ cache_state kept. (cache_state, turns_heard no_turns, kept);
     limits = refl;
     taken =
-        told_then start.input.bytes now.input.bytes now.input.bytes _ (λ rest left. rest ≡ left) _
-        (told_both start.input.bytes now.input.bytes _ _ next.read.known next.read.budget) (told_same now.input.bytes _ (λ rest. refl))
+        known_then start.input.bytes now.input.bytes now.input.bytes _ (λ rest left. rest ≡ left) _
+        (known_both start.input.bytes now.input.bytes _ _ next.read.known next.read.budget) (known_same now.input.bytes _ (λ rest. refl))
         (λ rest left more read same. λ total is.
         let is_now : IsTotal total now.reader left = omega (arith, is, read.1) in
         let takes : Takes total (unread start.reader rest) (Received answer ∷ []) (unread now.reader left) =

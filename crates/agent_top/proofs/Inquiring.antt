@@ -3,9 +3,9 @@ use Rattle.std.proofs.Common.{◌≡◌, ◌≢◌, ◌≤◌, ◌+◌, ℕ, Lis
 use Rattle.std.specs.List.{flat_map}
 use Rattle.agent_ports.specs.Counts.{Rose}
 use Rattle.agent_ports.specs.Readings.{Readings, none as not_read}
-use Rattle.agent_ports.specs.Sides.{with_bytes, WhereTold}
+use Rattle.agent_ports.specs.Sides.{with_bytes, WhereKnown}
 use Rattle.agent_ports.specs.declared.link.Sent.TheVariants.{Failed}
-use Rattle.agent_ports.proofs.Told.{told_then, told_both, told_same}
+use Rattle.agent_ports.proofs.Known.{known_then, known_both, known_same}
 use Rattle.assuan_line.specs.Next.{held}
 use Rattle.assuan_line.specs.declared.reader.Took.{Took}
 use Rattle.assuan_line.proofs.ReadingOn.{fewer_so, fault_so}
@@ -105,8 +105,8 @@ module _ (start mid now : Connection) (clock : Readings) (cache : Cache) (said :
       turns = λ cache_state kept. (cache_state, turns_wrote (turns_inquired no_turns), kept);
       limits = refl;
       taken =
-          told_then mid.input.bytes now.input.bytes now.input.bytes _ (λ rest left. rest ≡ left) _
-          (told_both mid.input.bytes now.input.bytes _ _ gathered.read.known gathered.read.budget) (told_same now.input.bytes _ (λ rest. refl))
+          known_then mid.input.bytes now.input.bytes now.input.bytes _ (λ rest left. rest ≡ left) _
+          (known_both mid.input.bytes now.input.bytes _ _ gathered.read.known gathered.read.budget) (known_same now.input.bytes _ (λ rest. refl))
           (λ rest left more read same. λ total is.
           let is_now : IsTotal total now.reader left = omega (arith, is, read.1) in
           let answer : ReadsAnswer total 255 (mid.reader.ahead ++ rest) what (unread now.reader left) = answer_read total rest left is_now read.0 in

@@ -1,8 +1,8 @@
 -- A session on a connection, from its greeting on.
 use Rattle.std.proofs.Common.{◌≡◌, ◌≤◌, ◌+◌, ℕ, List, [], ◌∷◌, length, None, Ok, Err, refl, ap, sym, ◌∙◌, subst, arith, append-nil}
 use Rattle.agent_ports.specs.Readings.{Readings, none as not_read}
-use Rattle.agent_ports.specs.Sides.{Side, with_bytes, WhereTold}
-use Rattle.agent_ports.proofs.Told.{told_same, told_then}
+use Rattle.agent_ports.specs.Sides.{Side, with_bytes, WhereKnown}
+use Rattle.agent_ports.proofs.Known.{known_same, known_then}
 use Rattle.assuan_line.specs.Next.{Reader}
 use Rattle.assuan_server.specs.Connections.{Connection}
 use Rattle.assuan_text.specs.LineEnds.{line_of}
@@ -49,8 +49,8 @@ met_cut rules start now clock why said =
         given = not_read;
         cache_state = empty_cache;
         turns = sent none;
-        taken = subst (λ (s : Side). WhereTold start.input.bytes s.bytes (Took (Sent stopped.sent ∷ []) CutOff)) (sym said.input)
-            (told_same start.input.bytes _ (λ bytes. (bytes, takes_wrote no_lines, ([], refl), omega arith)));
+        taken = subst (λ (s : Side). WhereKnown start.input.bytes s.bytes (Took (Sent stopped.sent ∷ []) CutOff)) (sym said.input)
+            (known_same start.input.bytes _ (λ bytes. (bytes, takes_wrote no_lines, ([], refl), omega arith)));
       };
       read_fault = λ e. absurd (cc e);
       write_fault = λ e. stopped.rose;
@@ -74,17 +74,17 @@ met rules start mid clock cache last end new kept limits said talked =
         cache_state = turned.0;
         turns = subst (λ l. Turns l empty_cache (Sent (line_of greeting) ∷ talked.events) done.readings turned.0) limits turned.1;
         taken =
-            told_then start.input.bytes last.conn.input.bytes last.conn.input.bytes _ (λ rest left. rest ≡ left) _ done.taken
-            (told_same last.conn.input.bytes _ (λ rest. refl))
+            known_then start.input.bytes last.conn.input.bytes last.conn.input.bytes _ (λ rest left. rest ≡ left) _ done.taken
+            (known_same last.conn.input.bytes _ (λ rest. refl))
             (λ bytes left more takes same.
             let total : IsTotal (length bytes) start.reader bytes = rw new refl in
-            let told = takes (length bytes) total in
+            let known = takes (length bytes) total in
             let begun : unread start.reader bytes ≡ bytes = rw new refl in
             subst (λ (x : List ℕ). Took (Sent (line_of greeting) ∷ talked.events) end bytes x) same (
               unread last.conn.reader left,
-              subst (λ (b : List ℕ). Takes (length bytes) b (Sent (line_of greeting) ∷ talked.events) (unread last.conn.reader left)) begun told.0,
+              subst (λ (b : List ℕ). Takes (length bytes) b (Sent (line_of greeting) ∷ talked.events) (unread last.conn.reader left)) begun known.0,
               talked.leaves left,
-              omega (arith, told.1),
+              omega (arith, known.1),
             ));
       };
       read_fault = λ e. omega (arith, talked.read_fault e, ap (λ (s : Side). s.faults) said.input);

@@ -2,7 +2,7 @@
 use Rattle.std.proofs.Common.{◌≡◌, ◌≤◌, ℕ, List, [], ◌++◌, Option, None, Some, Result, Ok, Err, refl, ap, sym, ◌∙◌, arith, append_assoc, append-nil}
 use Rattle.agent_ports.specs.Sides.{Side, with_bytes}
 use Rattle.agent_ports.specs.declared.link.Sent.TheVariants.{All, Failed}
-use Rattle.agent_ports.proofs.Told.{with_bytes-append}
+use Rattle.agent_ports.proofs.Known.{with_bytes-append}
 use Rattle.assuan_server.specs.Connections.{Connection}
 use Rattle.assuan_line.specs.Written.{HasCut}
 use Rattle.assuan_server.specs.Written.{HasWritten}

@@ -1,9 +1,9 @@
 -- A session from bytes to bytes: what it does, request after request, and how each of its ends to the outside fixes that. A session
--- is the Assuan manual's ("client requests", "server responses"); how it ends, and how its events are told from the outside, is this
+-- is the Assuan manual's ("client requests", "server responses"); how it ends, and how its events are known from the outside, is this
 -- project's own.
 use Rattle.std.specs.Prelude.{◌≡◌, ◌≤◌, ◌+◌, ℕ, List, [], ◌∷◌, ◌++◌, length}
 use Rattle.agent_ports.specs.Readings.{Readings, HasGiven}
-use Rattle.agent_ports.specs.Sides.{Side, with_bytes, WhereTold}
+use Rattle.agent_ports.specs.Sides.{Side, with_bytes, WhereKnown}
 use Rattle.assuan_line.specs.declared.reader.Took.TheVariants as took
 use Rattle.assuan_text.specs.LineEnds.{line_of}
 use Rattle.assuan_server.specs.Written.{greeting}
@@ -78,5 +78,5 @@ pub record ServesSession (rules : Rules) (before : Outside) (end : SessionEnd) (
   pub given : HasGiven before.clock readings after.clock
   pub cache_state : CacheState
   pub turns : Turns (limits_of rules) empty_cache events readings cache_state
-  pub taken : WhereTold before.input.bytes after.input.bytes (λ bytes left.
+  pub taken : WhereKnown before.input.bytes after.input.bytes (λ bytes left.
       (rest : List ℕ) × Takes (length bytes) bytes events rest × Leaves end rest left × (length bytes ≤ budget + length left))

@@ -3,7 +3,7 @@ use Rattle.std.specs.Prelude.{◌≡◌, ◌≤◌, ◌+◌, ℕ, List, [], ◌�
 use Rattle.std.specs.Option.{option_map_or}
 use Rattle.agent_ports.specs.Counts.{Rose}
 use Rattle.agent_ports.specs.Readings.{Readings, HasGiven}
-use Rattle.agent_ports.specs.Sides.{Side, with_bytes, WhereTold}
+use Rattle.agent_ports.specs.Sides.{Side, with_bytes, WhereKnown}
 use Rattle.assuan_line.specs.Next.{Reader, held}
 use Rattle.assuan_line.specs.declared.reader.Took.TheVariants as took
 use Rattle.assuan_server.specs.Connections.{Connection}
@@ -97,7 +97,7 @@ pub record EventsLead (events : List Event) (start now : SessionState) : Type 0 
   pub turns : (cache_state : CacheState) → IsKept cache_state start.cache
       → (after : CacheState) × Turns start.cache.limits cache_state events readings after × IsKept after now.cache
   pub limits : now.cache.limits ≡ start.cache.limits
-  pub taken : WhereTold start.conn.input.bytes now.conn.input.bytes (TakesLines events start.conn.reader now.conn.reader)
+  pub taken : WhereKnown start.conn.input.bytes now.conn.input.bytes (TakesLines events start.conn.reader now.conn.reader)
   pub input_faults : start.conn.input.faults ≤ now.conn.input.faults
   pub link : now.conn.link ≡ start.conn.link
 

@@ -27,7 +27,7 @@ status_of WriteFault = status.WriteFault
 status_of Spent = status.Spent
 status_of TooLong = status.TooLong
 
--- a session was served, and the number is that of its end; a fault is told only where its count has risen
+-- a session was served, and the number is that of its end; a fault is given only where its count has risen
 pub record RunsServer (rules : Rules) (before : Outside) (number : ℕ) (after : Outside) : Type 0 where
   pub end : SessionEnd
   pub number_is : number ≡ number_of (status_of end)

@@ -13,7 +13,7 @@ use assuan_server::{Code, Conn, Origin};
 use cache_policy::Grant;
 use itoa::Buffer;
 
-/// The version that GETINFO tells.
+/// The version that GETINFO gives.
 const VERSION: &[u8] = b"2.4.0";
 
 /// What a request is answered, once all else is done for it.

@@ -1,8 +1,8 @@
 -- Reads after one another, and what an answer says that comes after them.
 use Rattle.std.proofs.Common.{◌≡◌, ◌≢◌, ℕ, ◌+◌, ◌<◌, ◌≤◌, List, [], ◌++◌, length, Option, Some, None, IsSome, IfSome, inl, inr, refl, ap, sym, ◌∙◌, subst, arith, append_assoc, append-nil, length-append}
 use Rattle.agent_ports.specs.Counts.{Rose}
-use Rattle.agent_ports.specs.Sides.{Side, followed_by, WhereTold}
-use Rattle.agent_ports.proofs.Told.{told_by}
+use Rattle.agent_ports.specs.Sides.{Side, followed_by, WhereKnown}
+use Rattle.agent_ports.proofs.Known.{known_by}
 use Rattle.assuan_line.specs.Lines.{after_line}
 use Rattle.assuan_line.specs.Next.{Reader, next_of, Tells, TakesWhatItNeeds, WereNeeded, ended_by, OnLine, held}
 use Rattle.assuan_line.specs.Stops.{unended, HasReadOn, Decides, HasTaken}
@@ -117,16 +117,16 @@ module _ (before after : Reader) (was is : Side) (answer : Took) (given : HasTak
   tells ReadFault left decides some =
       (record { taken = given.read.taken; split = refl; none = ap next_of (sym given.read.ahead) ∙ decides.0 }, decides.2)
 
-  pub told : WhereTold was.bytes is.bytes (λ rest left. Tells before rest answer after left)
-  told = told_by given.read.taken was.bytes is.bytes _ given.read.bytes (λ left some. tells answer left given.decides some)
+  pub known : WhereKnown was.bytes is.bytes (λ rest left. Tells before rest answer after left)
+  known = known_by given.read.taken was.bytes is.bytes _ given.read.bytes (λ left some. tells answer left given.decides some)
 
-  pub told_budget : WhereTold was.bytes is.bytes (λ rest left. length rest + after.left ≡ length left + before.left)
+  pub told_budget : WhereKnown was.bytes is.bytes (λ rest left. length rest + after.left ≡ length left + before.left)
   told_budget =
-      told_by given.read.taken was.bytes is.bytes _ given.read.bytes
+      known_by given.read.taken was.bytes is.bytes _ given.read.bytes
       (λ left some. omega (arith, given.read.budget, given.budget, length-append given.read.taken left))
 
-  pub told_needed : WhereTold was.bytes is.bytes (TakesWhatItNeeds before.ahead)
-  told_needed = told_by given.read.taken was.bytes is.bytes _ given.read.bytes (λ left some. elim given.read.needed [
+  pub told_needed : WhereKnown was.bytes is.bytes (TakesWhatItNeeds before.ahead)
+  told_needed = known_by given.read.taken was.bytes is.bytes _ given.read.bytes (λ left some. elim given.read.needed [
     | inl none ↦ inl (ap (λ (x : List ℕ). x ++ left) none)
     | inr more ↦ inr (record {
       early = more.early;
@@ -144,9 +144,9 @@ module _ (before after : Reader) (was is : Side) (answer : Took) (given : HasTak
   kept_ahead Spent some decides = decides.1
   kept_ahead ReadFault some decides = decides.1
 
-  pub told_kept : IsSome (ended_by answer) → WhereTold was.bytes is.bytes (λ rest left. after.ahead ++ left ≡ before.ahead ++ rest)
+  pub told_kept : IsSome (ended_by answer) → WhereKnown was.bytes is.bytes (λ rest left. after.ahead ++ left ≡ before.ahead ++ rest)
   told_kept some =
-      told_by given.read.taken was.bytes is.bytes _ given.read.bytes
+      known_by given.read.taken was.bytes is.bytes _ given.read.bytes
       (λ left at. ap (λ (x : List ℕ). x ++ left) (kept_ahead answer some given.decides) ∙ sym (all left))
 
   falls : (took : Took) → Decides given.middle was took (unended after) is → OnLine took (held after < held before)

@@ -1,8 +1,8 @@
 -- A read on over lines that are skipped: how it stands, and what the next line makes of it.
 use Rattle.std.proofs.Common.{◌≡◌, ◌≤◌, ◌<◌, ◌+◌, ◌⊎◌, inl, inr, ℕ, Bool, true, false, List, [], ◌∷◌, ◌++◌, length, Option, None, Some, refl, ap, sym, ◌∙◌, subst, arith, append_assoc, append-nil}
 use Rattle.agent_ports.specs.Counts.{Rose}
-use Rattle.agent_ports.specs.Sides.{Side, WhereTold}
-use Rattle.agent_ports.proofs.Told.{told_same, told_then, told_both}
+use Rattle.agent_ports.specs.Sides.{Side, WhereKnown}
+use Rattle.agent_ports.proofs.Known.{known_same, known_then, known_both}
 use Rattle.assuan_line.specs.Next.{next_of, Reader, Tells, TakesWhatItNeeds, OnLine, held, ended_by}
 use Rattle.assuan_line.specs.Reading.{WereNeededBy, HasRead}
 use Rattle.assuan_line.specs.Skipping.{Skipped, none, IsUndecided, Stops, ReadsNext, ReadsAfter, ReadsOn}
@@ -13,13 +13,13 @@ use Rattle.assuan_line.proofs.SkippedLines.{skipped_more, without_last}
 
 -- what an answer says, it says of all the bytes that are there
 reads_next : (before : Reader) (rest : List ℕ) (took : Took) (after : Reader) (left : List ℕ) → Tells before rest took after left → ReadsNext (before.ahead ++ rest) took after left
-reads_next before rest (Line line) after left told = told
-reads_next before rest TooLong after left told = too_long_of_all told
-reads_next before rest End after left told = told
-reads_next before rest Spent after left told = (cut_short_of_all told.0, told.1)
-reads_next before rest ReadFault after left told = (cut_short_of_all told.0, told.1)
+reads_next before rest (Line line) after left known = known
+reads_next before rest TooLong after left known = too_long_of_all known
+reads_next before rest End after left known = known
+reads_next before rest Spent after left known = (cut_short_of_all known.0, known.1)
+reads_next before rest ReadFault after left known = (cut_short_of_all known.0, known.1)
 
-where_known : (before after : Option (List ℕ)) (P Q : List ℕ → List ℕ → Type 0) → WhereTold before after P → ((rest left : List ℕ) → P rest left → Q rest left) → WhereTold before after Q
+where_known : (before after : Option (List ℕ)) (P Q : List ℕ → List ℕ → Type 0) → WhereKnown before after P → ((rest left : List ℕ) → P rest left → Q rest left) → WhereKnown before after Q
 where_known None None P Q known each = tt
 where_known None (Some left) P Q known each = known
 where_known (Some rest) None P Q known each = known
@@ -34,9 +34,9 @@ on_line ReadFault P Q each p = tt
 
 -- the clauses of a read of a line, as one record
 module _ (before after : Reader) (input input_after : Side) (took : Took) (going : before.ended ≡ None) where
-  pub has_read : (before.ended ≡ None → WhereTold input.bytes input_after.bytes (λ rest left. Tells before rest took after left))
-      → WhereTold input.bytes input_after.bytes (λ rest left. length rest + after.left ≡ length left + before.left)
-      → WhereTold input.bytes input_after.bytes (TakesWhatItNeeds before.ahead)
+  pub has_read : (before.ended ≡ None → WhereKnown input.bytes input_after.bytes (λ rest left. Tells before rest took after left))
+      → WhereKnown input.bytes input_after.bytes (λ rest left. length rest + after.left ≡ length left + before.left)
+      → WhereKnown input.bytes input_after.bytes (TakesWhatItNeeds before.ahead)
       → OnLine took (held after < held before) → (before.ended ≡ None → took ≡ Spent → after.left ≡ 0)
       → (before.ended ≡ None → took ≡ ReadFault → Rose input.faults input_after.faults) → input.faults ≤ input_after.faults
       → after.ended ≡ ended_by took → HasRead (λ bytes. next_of bytes ≡ End) ReadsNext before input took after input_after
@@ -100,31 +100,31 @@ module _ (skips : List (List ℕ) → List ℕ → Bool) where
 
   -- Lines were skipped behind those before, and `keeps` holds of them all.
   pub record IsSkipping (before : List (List ℕ)) (keeps : List (List ℕ) → Type 0) (start : Reader) (input : Side) (now : Reader) (input_now : Side) : Type 0 where
-    pub known : WhereTold input.bytes input_now.bytes (λ rest left.
+    pub known : WhereKnown input.bytes input_now.bytes (λ rest left.
         (lines : List (List ℕ)) × Skipped skips before (start.ahead ++ rest) lines (now.ahead ++ left) × keeps (before ++ lines))
-    pub budget : WhereTold input.bytes input_now.bytes (λ rest left. length rest + now.left ≡ length left + start.left)
-    pub needed : WhereTold input.bytes input_now.bytes (TakesNeeded before start.ahead)
+    pub budget : WhereKnown input.bytes input_now.bytes (λ rest left. length rest + now.left ≡ length left + start.left)
+    pub needed : WhereKnown input.bytes input_now.bytes (TakesNeeded before start.ahead)
     pub fewer : held now ≤ held start
     pub faults : input.faults ≤ input_now.faults
 
   -- nothing was read
   pub skipping_none : (before : List (List ℕ)) (keeps : List (List ℕ) → Type 0) (start : Reader) (input : Side) → keeps before → IsSkipping before keeps start input start input
   skipping_none before keeps start input kept = record {
-    known = told_same input.bytes _ (λ rest. ([], none, subst keeps (sym (append-nil before)) kept));
-    budget = told_same input.bytes _ (λ rest. refl);
-    needed = told_same input.bytes _ (λ rest. inl refl);
+    known = known_same input.bytes _ (λ rest. ([], none, subst keeps (sym (append-nil before)) kept));
+    budget = known_same input.bytes _ (λ rest. refl);
+    needed = known_same input.bytes _ (λ rest. inl refl);
     fewer = omega arith;
     faults = omega arith;
   }
 
   module _ (before : List (List ℕ)) (keeps now_keeps : List (List ℕ) → Type 0) (start now after : Reader) (input input_now input_after : Side) (took : Took)
       (skipping : IsSkipping before keeps start input now input_now) (read : HasRead (λ bytes. next_of bytes ≡ End) ReadsNext now input_now took after input_after) where
-    budget : WhereTold input.bytes input_after.bytes (λ rest left. length rest + after.left ≡ length left + start.left)
-    budget = told_then input.bytes input_now.bytes input_after.bytes _ _ _ skipping.budget read.budget (λ rest left more first second. omega (arith, first, second))
+    budget : WhereKnown input.bytes input_after.bytes (λ rest left. length rest + after.left ≡ length left + start.left)
+    budget = known_then input.bytes input_now.bytes input_after.bytes _ _ _ skipping.budget read.budget (λ rest left more first second. omega (arith, first, second))
 
-    needed : WhereTold input.bytes input_after.bytes (TakesNeeded before start.ahead)
+    needed : WhereKnown input.bytes input_after.bytes (TakesNeeded before start.ahead)
     needed =
-        told_then input.bytes input_now.bytes input_after.bytes _ _ _ (told_both input.bytes input_now.bytes _ _ skipping.known skipping.needed) read.needed
+        known_then input.bytes input_now.bytes input_after.bytes _ _ _ (known_both input.bytes input_now.bytes _ _ skipping.known skipping.needed) read.needed
         (λ rest left more so_far next.
         needed_then before so_far.0.0 start.ahead now.ahead rest left more so_far.0.1 so_far.1 next)
 
@@ -133,7 +133,7 @@ module _ (skips : List (List ℕ) → List ℕ → Bool) where
         → ((lines : List (List ℕ)) → keeps lines → skips lines line ≡ true) → ((lines : List (List ℕ)) → keeps lines → now_keeps (lines ++ line ∷ []))
         → IsSkipping before now_keeps start input after input_after
     skipping_more line is skip keep = record {
-      known = told_then input.bytes input_now.bytes input_after.bytes _ _ _ skipping.known read.known (λ rest left more skipped next.
+      known = known_then input.bytes input_now.bytes input_after.bytes _ _ _ skipping.known read.known (λ rest left more skipped next.
           let line_is : ReadsNext (now.ahead ++ left) (Line line) after more = subst (λ t. ReadsNext (now.ahead ++ left) t after more) is next in (
             skipped.0 ++ line ∷ [],
             subst (λ (b : List ℕ). Skipped skips before (start.ahead ++ rest) (skipped.0 ++ line ∷ []) b) (sym line_is.1)
@@ -152,7 +152,7 @@ module _ (skips : List (List ℕ) → List ℕ → Bool) where
     pub read_on : ((lines : List (List ℕ)) → keeps lines → Stops skips lines took) → ((lines : List (List ℕ)) → keeps lines → now_keeps lines)
         → HasRead (IsUndecided skips before) (ReadsOn skips before now_keeps) start input took after input_after
     read_on stops keep = record {
-      known = told_then input.bytes input_now.bytes input_after.bytes _ _ _ skipping.known read.known (λ rest left more skipped next. (
+      known = known_then input.bytes input_now.bytes input_after.bytes _ _ _ skipping.known read.known (λ rest left more skipped next. (
         skipped.0,
         record { later = now.ahead ++ left; skipped = skipped.1; stops = stops (before ++ skipped.0) skipped.2; next = next },
         keep (before ++ skipped.0) skipped.2,
@@ -181,7 +181,7 @@ read_so {before = before} {input = input} {input_after = input_after} each read 
   ended = read.ended;
 }
 
--- the answer is told by how the reader has ended
+-- the answer is known by how the reader has ended
 ends_spent : (took : Took) → ended_by took ≡ Some Spent → took ≡ Spent
 ends_spent (Line line) is = absurd (cc is)
 ends_spent TooLong is = cc is

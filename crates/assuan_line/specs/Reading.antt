@@ -1,7 +1,7 @@
 -- What a read does to a reader of lines and to its source.
 use Rattle.std.specs.Prelude.{◌≡◌, ◌≤◌, ◌<◌, ◌+◌, ◌⊎◌, ℕ, List, ◌++◌, length}
 use Rattle.agent_ports.specs.Counts.{Rose}
-use Rattle.agent_ports.specs.Sides.{Side, WhereTold}
+use Rattle.agent_ports.specs.Sides.{Side, WhereKnown}
 use Rattle.assuan_line.specs.Next.{Reader, OnLine, held, ended_by}
 use Rattle.assuan_line.specs.declared.buffer.TheConstants.{MAX_AHEAD}
 use Rattle.assuan_line.specs.declared.reader.Took.{Took}
@@ -19,11 +19,11 @@ pub record WereNeededBy (Undecided : List ℕ → Type 0) (ahead rest left : Lis
 -- after left` is what an answer says where these bytes were there before it, in the reader and in the source, and the source holds
 -- `left` after it.
 pub record HasRead (Undecided : List ℕ → Type 0) (Reads : List ℕ → Took → Reader → List ℕ → Type 0) (before : Reader) (input : Side) (took : Took) (after : Reader) (input_after : Side) : Type 0 where
-  pub known : WhereTold input.bytes input_after.bytes (λ rest left. Reads (before.ahead ++ rest) took after left)
+  pub known : WhereKnown input.bytes input_after.bytes (λ rest left. Reads (before.ahead ++ rest) took after left)
   -- it takes no byte beyond its budget
-  pub budget : WhereTold input.bytes input_after.bytes (λ rest left. length rest + after.left ≡ length left + before.left)
+  pub budget : WhereKnown input.bytes input_after.bytes (λ rest left. length rest + after.left ≡ length left + before.left)
   -- it takes nothing, or what it needs, and of that one read at most more
-  pub needed : WhereTold input.bytes input_after.bytes (λ rest left. (rest ≡ left) ⊎ WereNeededBy Undecided before.ahead rest left)
+  pub needed : WhereKnown input.bytes input_after.bytes (λ rest left. (rest ≡ left) ⊎ WereNeededBy Undecided before.ahead rest left)
   -- a line uses up a byte at least
   pub progress : OnLine took (held after < held before)
   pub spent : took ≡ Spent → after.left ≡ 0

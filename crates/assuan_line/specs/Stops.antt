@@ -34,7 +34,7 @@ pub record HasReadOn (before : Reader) (was : Side) (after : Reader) (is : Side)
   pub budget : before.left ≡ length taken + after.left
   pub faults : was.faults ≤ is.faults
 
--- what is told by the bytes ahead, or why no more can be read though they tell nothing
+-- what the bytes ahead decide, or why no more can be read though they decide nothing
 abbrev pub Decides : Reader → Side → Took → Reader → Side → Type 0
 Decides before was (took.Line line) after is = (next_of before.ahead ≡ took.Line line) × (after.ahead ≡ after_line before.ahead)
 Decides before was took.TooLong after is = (next_of before.ahead ≡ took.TooLong) × (after.ahead ≡ before.ahead)

@@ -1,7 +1,7 @@
 ghost use Rattle.std.specs.Prelude.{◌≡◌, ◌≢◌, ◌≤◌, ◌+◌, ◌<◌, ◌∷◌, [], ◌++◌, ℕ, List, length, IsSome, IfSome, OnOk, IfErr, None};
 ghost use Rattle.std.specs.Option.{option_map};
 ghost use Rattle.agent_ports.specs.Counts.{Rose};
-ghost use Rattle.agent_ports.specs.Sides.{WhereTold};
+ghost use Rattle.agent_ports.specs.Sides.{WhereKnown};
 ghost use Rattle.assuan_line.specs.Ahead.{bytes_ahead, IsWithin};
 ghost use Rattle.assuan_line.specs.Lines.{after_line, lines_of, rest_of};
 ghost use Rattle.assuan_line.specs.Next.{next_of, Tells, TakesWhatItNeeds, ended_by, OnLine, held};
@@ -111,18 +111,18 @@ impl LineReader {
 
     /// Reads the next line. After any answer but a line the reader has ended, and gives that answer again and again.
     pub fn next<S: Source>(&mut self, source: &mut S) -> Took
-        // What it says of the bytes, where the source tells them, until it has ended.
-        ensures told { self.old.ended ≡ None → WhereTold (S.input source.old).bytes (S.input source.new).bytes
+        // What it says of the bytes, where the source's bytes are known, until it has ended.
+        ensures known { self.old.ended ≡ None → WhereKnown (S.input source.old).bytes (S.input source.new).bytes
             (λ rest left. Tells self.old rest result self.new left) }
         // It takes no byte beyond its budget.
-        ensures budget { WhereTold (S.input source.old).bytes (S.input source.new).bytes
+        ensures budget { WhereKnown (S.input source.old).bytes (S.input source.new).bytes
             (λ rest left. length rest + self.new.left ≡ length left + self.old.left) }
         // It takes what it needs, and of that one read at most more.
-        ensures needed { WhereTold (S.input source.old).bytes (S.input source.new).bytes (TakesWhatItNeeds self.old.ahead) }
+        ensures needed { WhereKnown (S.input source.old).bytes (S.input source.new).bytes (TakesWhatItNeeds self.old.ahead) }
         // Where the bytes ahead decide, it leaves the source alone.
         ensures alone { next_of self.old.ahead ≢ Took.End → source.new ≡ source.old }
         // No byte is lost but those of its lines.
-        ensures kept { IsSome self.new.ended → WhereTold (S.input source.old).bytes (S.input source.new).bytes
+        ensures kept { IsSome self.new.ended → WhereKnown (S.input source.old).bytes (S.input source.new).bytes
             (λ rest left. self.new.ahead ++ left ≡ self.old.ahead ++ rest) }
         ensures within { length self.new.ahead ≤ MAX_AHEAD }
 

@@ -3,7 +3,7 @@ use Rattle.std.proofs.Common.{◌≡◌, ℕ, ◌+◌, ◌-◌, ◌^◌, ◌≤�
 use Rattle.std.proofs.lemmas.List.{length_push}
 use Rattle.std.proofs.lemmas.List.Concat.{flat_map-append}
 use Rattle.agent_ports.specs.Sides.{with_bytes}
-use Rattle.agent_ports.proofs.Told.{with_bytes-append}
+use Rattle.agent_ports.proofs.Known.{with_bytes-append}
 use Rattle.agent_ports.specs.declared.link.Sent.{Sent}
 use Rattle.agent_ports.specs.declared.link.Sent.TheVariants.{All as Whole, Failed}
 use Rattle.assuan_server.specs.Connections.{Connection}

@@ -18,7 +18,7 @@ loop-line-preserved-else-not-skip g c =
     let i = c.loop-line.invariant in
     let e = c.next-took.ensures in
     let skip = c.skip.ensures in
-    let read = has_read _ _ _ _ _ i.going e.told e.budget e.needed e.progress e.spent e.fault e.faults e.ended in
+    let read = has_read _ _ _ _ _ i.going e.known e.budget e.needed e.progress e.spent e.fault e.faults e.ended in
     record {
       going = rw c.in-Line.is at e.ended;
       skipping = λ before kept. skipping_more _ before _ (g.F.LineFilter.keeps c.skip.new.self) _ _ _ _ _ _ _ (i.skipping before kept) read c.in-Line.line c.in-Line.is
@@ -31,7 +31,7 @@ pub returns-in_default : goal.returns-in_default
 returns-in_default g c =
     let i = c.loop-line.invariant in
     let e = c.next-took.ensures in
-    let read = has_read _ _ _ _ _ i.going e.told e.budget e.needed e.progress e.spent e.fault e.faults e.ended in
+    let read = has_read _ _ _ _ _ i.going e.known e.budget e.needed e.progress e.spent e.fault e.faults e.ended in
     record {
       read = λ before kept. read_on _ before _ (g.F.LineFilter.keeps c.loop-line.filter) _ _ _ _ _ _ _ (i.skipping before kept) read
           (λ lines keeps. stops_no_line g.F.LineFilter.skips lines c.next-took.result c.in_default.not-Line) (λ lines keeps. keeps);
@@ -44,6 +44,6 @@ returns-then-not-skip-clause-read g c = λ before kept.
     let i = c.loop-line.invariant in
     let e = c.next-took.ensures in
     let skip = c.skip.ensures in
-    let read = has_read _ _ _ _ _ i.going e.told e.budget e.needed e.progress e.spent e.fault e.faults e.ended in
+    let read = has_read _ _ _ _ _ i.going e.known e.budget e.needed e.progress e.spent e.fault e.faults e.ended in
     read_on _ before _ (g.F.LineFilter.keeps c.skip.new.self) _ _ _ _ _ _ _ (i.skipping before kept) read
     (λ lines keeps. rw c.in-Line.is (sym (skip.known lines keeps) ∙ c.if-not-skip.true)) (λ lines keeps. skip.stays lines keeps c.if-not-skip.true)
