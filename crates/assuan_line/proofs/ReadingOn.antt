@@ -1,11 +1,11 @@
 -- A read on over lines that are skipped: how it stands, and what the next line makes of it.
-use Rattle.std.proofs.Common.{◌≡◌, ◌≤◌, ◌<◌, ◌+◌, ◌⊎◌, inl, inr, ℕ, Bool, true, false, List, [], ◌∷◌, ◌++◌, length, Option, None, Some, refl, ap, sym, ◌∙◌, subst, arith, append_assoc, append-nil}
+use Rattle.std.proofs.Common.{◌≡◌, ◌≤◌, ◌<◌, ◌+◌, ◌⊎◌, inl, inr, ℕ, Bool, true, List, [], ◌∷◌, ◌++◌, length, Option, None, Some, refl, ap, sym, ◌∙◌, subst, arith, append_assoc, append-nil}
 use Rattle.agent_ports.specs.Counts.{Rose}
 use Rattle.agent_ports.specs.Sides.{Side, WhereKnown}
 use Rattle.agent_ports.proofs.Known.{known_same, known_then, known_both}
 use Rattle.assuan_line.specs.Next.{next_of, Reader, Tells, TakesWhatItNeeds, OnLine, held, ended_by}
 use Rattle.assuan_line.specs.Reading.{WereNeededBy, HasRead}
-use Rattle.assuan_line.specs.Skipping.{Skipped, none, IsUndecided, Stops, ReadsNext, ReadsAfter, ReadsOn}
+use Rattle.assuan_line.specs.Skipping.{Skipped, none, IsUndecided, Stops, ReadsNext, ReadsOn}
 use Rattle.assuan_line.specs.declared.reader.Took.{Took}
 use Rattle.assuan_line.specs.declared.reader.Took.TheVariants.{Line, TooLong, End, Spent, ReadFault}
 use Rattle.assuan_line.proofs.Ahead.{cut_short_of_all, too_long_of_all}

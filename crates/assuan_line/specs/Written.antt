@@ -1,5 +1,5 @@
 -- What a write of a line leaves.
-use Rattle.std.specs.Prelude.{◌≡◌, ◌≤◌, ◌^◌, ◌-◌, ℕ, min, List, ◌++◌, length}
+use Rattle.std.specs.Prelude.{◌≡◌, ◌^◌, ◌-◌, ℕ, min, List, ◌++◌, length}
 use Rattle.agent_ports.specs.Counts.{Rose}
 use Rattle.agent_ports.specs.Sides.{Side, with_bytes}
 use Rattle.agent_ports.specs.declared.link.Sent.{Sent}

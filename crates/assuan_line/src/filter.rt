@@ -1,4 +1,5 @@
 ghost use Rattle.std.specs.Prelude.{◌≡◌, ◌++◌, ◌∷◌, [], ℕ, List, Bool, true, false, None};
+ghost use Rattle.assuan_line.specs.Next.{ended_by};
 ghost use Rattle.assuan_line.specs.Reading.{HasRead};
 ghost use Rattle.assuan_line.specs.Skipping.{IsUndecided, ReadsOn};
 
@@ -39,6 +40,7 @@ pub fn next_after_skipped<S: Source, F: LineFilter>(
     ensures read { (before : List (List ℕ)) → F.keeps filter.old before
         → HasRead (IsUndecided F.skips before) (ReadsOn F.skips before (F.keeps filter.new))
         reader.old (S.input source.old) result reader.new (S.input source.new) }
+    ensures ended { reader.new.ended ≡ ended_by result }
     ensures limit { F.limit filter.new ≡ F.limit filter.old }
     ensures beside { S.beside_input source.new ≡ S.beside_input source.old }
 {

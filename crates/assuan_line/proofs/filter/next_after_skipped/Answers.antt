@@ -1,7 +1,4 @@
-use Rattle.std.proofs.Common.{◌≡◌, ◌∙◌, refl, sym, true, List, ℕ}
-use Rattle.assuan_line.specs.Next.{Reader}
-use Rattle.assuan_line.specs.Reading.{HasRead}
-use Rattle.assuan_line.specs.Skipping.{ReadsNext}
+use Rattle.std.proofs.Common.{◌∙◌, refl, sym}
 use Rattle.assuan_line.proofs.ReadingOn.{has_read, stops_no_line, skipping_none, skipping_more, read_on}
 use Rattle.assuan_line.proofs.filter.next_after_skipped.Goals as goal
 
@@ -35,6 +32,7 @@ returns-in_default g c =
     record {
       read = λ before kept. read_on _ before _ (g.F.LineFilter.keeps c.loop-line.filter) _ _ _ _ _ _ _ (i.skipping before kept) read
           (λ lines keeps. stops_no_line g.F.LineFilter.skips lines c.next-took.result c.in_default.not-Line) (λ lines keeps. keeps);
+      ended = e.ended;
       limit = i.limit;
       beside = e.beside ∙ i.beside;
     }

@@ -1,4 +1,4 @@
-use Rattle.std.proofs.Common.{◌≡◌, take, List, ℕ}
+use Rattle.std.proofs.Common.{◌≡◌, take}
 use Rattle.std.specs.List.{flat_map}
 use Rattle.assuan_line.proofs.text.write_text.Given as goal
 
