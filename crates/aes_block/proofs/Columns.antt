@@ -1,12 +1,13 @@
--- The inverse of MixColumns undoes MixColumns: both are linear, so it is enough to look at one byte.
+-- MixColumns and its inverse undo each other: both are linear, so it is enough to look at one byte.
 use Rattle.std.proofs.Common.{◌≡◌, ℕ, ◌<◌, List, [], ◌∷◌, length, slice_index, refl, ap₂, ◌∙◌, sym}
 use Rattle.std.specs.Prelude.{bit_xor}
 use Rattle.aes_block.specs.Field.{product}
 use Rattle.aes_block.specs.Aes.{xor_of, dot, mix_column, inv_mix_column, mix_columns, inv_mix_columns}
 use Rattle.aes_block.proofs.Lists.{literal}
-use Rattle.aes_block.proofs.XorLemmas.{xor_swap, xor-zero}
+use Rattle.std.specs.Int.Bits.{xor_zero_r}
+use Rattle.aes_block.proofs.XorLemmas.{xor_swap}
 use Rattle.aes_block.proofs.Products.{product-xor}
-use Rattle.aes_block.proofs.Computed.{unmixed_first, unmixed_second, unmixed_third, unmixed_fourth}
+use Rattle.aes_block.proofs.Computed.{unmixed_first, unmixed_second, unmixed_third, unmixed_fourth, mixed_first, mixed_second, mixed_third, mixed_fourth}
 
 dot-xor : (p q r s a b c d e f g h : ℕ)
     → dot p q r s (bit_xor a e) (bit_xor b f) (bit_xor c g) (bit_xor d h) ≡ bit_xor (dot p q r s a b c d) (dot p q r s e f g h)
@@ -37,7 +38,7 @@ inv_mix_column-mix_column a b c d ha hb hc hd =
     ∙ ap₂ xor_of (unmixed_first a ha) (unmixed_second b hb))
     (unmixed_third c hc))
     (unmixed_fourth d hd)
-    ∙ simp xor-zero refl
+    ∙ simp xor_zero_r refl
 
 pub inv_mix_columns-mix_columns : (s : List ℕ) → length s ≡ 16 → ((k : ℕ) → slice_index s k < 256) → inv_mix_columns (mix_columns s) ≡ s
 unfolding mix_columns inv_mix_columns mix_column
@@ -47,5 +48,37 @@ inv_mix_columns-mix_columns s h small =
       inv_mix_column-mix_column (slice_index s 4) (slice_index s 5) (slice_index s 6) (slice_index s 7) (small 4) (small 5) (small 6) (small 7),
       inv_mix_column-mix_column (slice_index s 8) (slice_index s 9) (slice_index s 10) (slice_index s 11) (small 8) (small 9) (small 10) (small 11),
       inv_mix_column-mix_column (slice_index s 12) (slice_index s 13) (slice_index s 14) (slice_index s 15) (small 12) (small 13) (small 14) (small 15),
+    )
+    (sym (literal 16 s h))
+
+-- ---- and the other way round
+
+mix_column-xor : (a b c d e f g h : ℕ)
+    → mix_column (bit_xor a e) (bit_xor b f) (bit_xor c g) (bit_xor d h) ≡ xor_of (mix_column a b c d) (mix_column e f g h)
+unfolding mix_column
+mix_column-xor a b c d e f g h =
+    rw (dot-xor 2 3 1 1 a b c d e f g h, dot-xor 1 2 3 1 a b c d e f g h, dot-xor 1 1 2 3 a b c d e f g h, dot-xor 3 1 1 2 a b c d e f g h) refl
+
+pub mix_column-inv_mix_column : (a b c d : ℕ) → a < 256 → b < 256 → c < 256 → d < 256
+    → mix_column (dot 14 11 13 9 a b c d) (dot 9 14 11 13 a b c d) (dot 13 9 14 11 a b c d) (dot 11 13 9 14 a b c d) ≡ a ∷ b ∷ c ∷ d ∷ []
+mix_column-inv_mix_column a b c d ha hb hc hd =
+    mix_column-xor _ _ _ _ (product 9 d) (product 13 d) (product 11 d) (product 14 d)
+    ∙ ap₂ xor_of
+    (mix_column-xor _ _ _ _ (product 13 c) (product 11 c) (product 14 c) (product 9 c)
+    ∙ ap₂ xor_of
+    (mix_column-xor _ _ _ _ (product 11 b) (product 14 b) (product 9 b) (product 13 b)
+    ∙ ap₂ xor_of (mixed_first a ha) (mixed_second b hb))
+    (mixed_third c hc))
+    (mixed_fourth d hd)
+    ∙ simp xor_zero_r refl
+
+pub mix_columns-inv_mix_columns : (s : List ℕ) → length s ≡ 16 → ((k : ℕ) → slice_index s k < 256) → mix_columns (inv_mix_columns s) ≡ s
+unfolding mix_columns inv_mix_columns inv_mix_column
+mix_columns-inv_mix_columns s h small =
+    rw (
+      mix_column-inv_mix_column (slice_index s 0) (slice_index s 1) (slice_index s 2) (slice_index s 3) (small 0) (small 1) (small 2) (small 3),
+      mix_column-inv_mix_column (slice_index s 4) (slice_index s 5) (slice_index s 6) (slice_index s 7) (small 4) (small 5) (small 6) (small 7),
+      mix_column-inv_mix_column (slice_index s 8) (slice_index s 9) (slice_index s 10) (slice_index s 11) (small 8) (small 9) (small 10) (small 11),
+      mix_column-inv_mix_column (slice_index s 12) (slice_index s 13) (slice_index s 14) (slice_index s 15) (small 12) (small 13) (small 14) (small 15),
     )
     (sym (literal 16 s h))

@@ -4,7 +4,7 @@ use Rattle.std.specs.Prelude.{◌==◌, unwrap_or, position, bit_xor}
 use Rattle.std.proofs.lemmas.List.FromFn.{get_or-map-range_with_len}
 use Rattle.std.specs.List.{range_with_len}
 use Rattle.aes_block.specs.Field.{product, product_below, remainder, power, inverse, from_bits, sub_byte, inv_sub_byte, substitutes}
-use Rattle.aes_block.specs.Aes.{inv_mix_column}
+use Rattle.aes_block.specs.Aes.{mix_column, inv_mix_column}
 use Rattle.aes_block.specs.declared.tables.TheConstants.{SUBSTITUTES, ORIGINALS, DOUBLES, ROUND_CONSTANTS}
 
 pub substitutes_are : substitutes ≡ SUBSTITUTES
@@ -89,6 +89,9 @@ pub round_constant_is : (r : ℕ) → r < 10 → slice_index ROUND_CONSTANTS r �
 round_constant_is r h =
     ap (λ t. slice_index t r) (sym round_constants_in) ∙ get_or-map-range_with_len (power 2) 0 10 r r 0 h (omega arith)
 
+reduced_lt : (n m : ℕ) → m % 256 ≡ n → n < 256
+reduced_lt n m e = omega arith
+
 -- ---- what the inverses undo
 
 pub inv_sub_byte-sub_byte : (b : ℕ) → b < 256 → inv_sub_byte (sub_byte b) ≡ b
@@ -96,6 +99,12 @@ inv_sub_byte-sub_byte b h =
     inv_sub_byte_is (sub_byte b)
     ∙ ap (place_in SUBSTITUTES) (sym (substitute_is b h))
     ∙ on_bytes (λ b. place_in SUBSTITUTES (slice_index SUBSTITUTES b)) (λ b. b) refl b h
+
+pub sub_byte-inv_sub_byte : (b : ℕ) → b < 256 → sub_byte (inv_sub_byte b) ≡ b
+sub_byte-inv_sub_byte b h =
+    ap sub_byte (sym (original_is b h))
+    ∙ sym (substitute_is (slice_index ORIGINALS b) (reduced_lt _ _ (on_bytes (λ b. slice_index ORIGINALS b % 256) (slice_index ORIGINALS) refl b h)))
+    ∙ on_bytes (λ b. slice_index SUBSTITUTES (slice_index ORIGINALS b)) (λ b. b) refl b h
 
 -- each byte's part in a mixed column, unmixed
 pub unmixed_first : (x : ℕ) → x < 256 → inv_mix_column (product 2 x) (product 1 x) (product 1 x) (product 3 x) ≡ x ∷ 0 ∷ 0 ∷ 0 ∷ []
@@ -114,10 +123,24 @@ pub unmixed_fourth : (x : ℕ) → x < 256 → inv_mix_column (product 1 x) (pro
 unfolding inv_mix_column product product_below remainder
 unmixed_fourth = on_bytes (λ x. inv_mix_column (product 1 x) (product 1 x) (product 3 x) (product 2 x)) (λ x. 0 ∷ 0 ∷ 0 ∷ x ∷ []) refl
 
--- ---- bounds
+-- each byte's part in an unmixed column, mixed
+pub mixed_first : (x : ℕ) → x < 256 → mix_column (product 14 x) (product 9 x) (product 13 x) (product 11 x) ≡ x ∷ 0 ∷ 0 ∷ 0 ∷ []
+unfolding mix_column product product_below remainder
+mixed_first = on_bytes (λ x. mix_column (product 14 x) (product 9 x) (product 13 x) (product 11 x)) (λ x. x ∷ 0 ∷ 0 ∷ 0 ∷ []) refl
 
-reduced_lt : (n m : ℕ) → m % 256 ≡ n → n < 256
-reduced_lt n m e = omega arith
+pub mixed_second : (x : ℕ) → x < 256 → mix_column (product 11 x) (product 14 x) (product 9 x) (product 13 x) ≡ 0 ∷ x ∷ 0 ∷ 0 ∷ []
+unfolding mix_column product product_below remainder
+mixed_second = on_bytes (λ x. mix_column (product 11 x) (product 14 x) (product 9 x) (product 13 x)) (λ x. 0 ∷ x ∷ 0 ∷ 0 ∷ []) refl
+
+pub mixed_third : (x : ℕ) → x < 256 → mix_column (product 13 x) (product 11 x) (product 14 x) (product 9 x) ≡ 0 ∷ 0 ∷ x ∷ 0 ∷ []
+unfolding mix_column product product_below remainder
+mixed_third = on_bytes (λ x. mix_column (product 13 x) (product 11 x) (product 14 x) (product 9 x)) (λ x. 0 ∷ 0 ∷ x ∷ 0 ∷ []) refl
+
+pub mixed_fourth : (x : ℕ) → x < 256 → mix_column (product 9 x) (product 13 x) (product 11 x) (product 14 x) ≡ 0 ∷ 0 ∷ 0 ∷ x ∷ []
+unfolding mix_column product product_below remainder
+mixed_fourth = on_bytes (λ x. mix_column (product 9 x) (product 13 x) (product 11 x) (product 14 x)) (λ x. 0 ∷ 0 ∷ 0 ∷ x ∷ []) refl
+
+-- ---- bounds
 
 pub sub_byte-lt : (b : ℕ) → b < 256 → sub_byte b < 256
 sub_byte-lt b h = reduced_lt (sub_byte b) (slice_index SUBSTITUTES b)
@@ -126,3 +149,26 @@ sub_byte-lt b h = reduced_lt (sub_byte b) (slice_index SUBSTITUTES b)
 pub product_2-lt : (b : ℕ) → b < 256 → product 2 b < 256
 product_2-lt b h = reduced_lt (product 2 b) (slice_index DOUBLES b)
     (on_bytes (λ b. slice_index DOUBLES b % 256) (slice_index DOUBLES) refl b h ∙ double_is b h)
+
+pub inv_sub_byte-lt : (b : ℕ) → b < 256 → inv_sub_byte b < 256
+inv_sub_byte-lt b h = reduced_lt (inv_sub_byte b) (slice_index ORIGINALS b)
+    (on_bytes (λ b. slice_index ORIGINALS b % 256) (slice_index ORIGINALS) refl b h ∙ original_is b h)
+
+product_lt : (a : ℕ) → map (λ b. product a b % 256) (range_with_len 0 256) ≡ map (product a) (range_with_len 0 256) → (b : ℕ) → b < 256 → product a b < 256
+product_lt a e b h = reduced_lt (product a b) (product a b) (on_bytes (λ b. product a b % 256) (product a) e b h)
+
+pub product_9-lt : (b : ℕ) → b < 256 → product 9 b < 256
+unfolding product product_below remainder
+product_9-lt = product_lt 9 refl
+
+pub product_11-lt : (b : ℕ) → b < 256 → product 11 b < 256
+unfolding product product_below remainder
+product_11-lt = product_lt 11 refl
+
+pub product_13-lt : (b : ℕ) → b < 256 → product 13 b < 256
+unfolding product product_below remainder
+product_13-lt = product_lt 13 refl
+
+pub product_14-lt : (b : ℕ) → b < 256 → product 14 b < 256
+unfolding product product_below remainder
+product_14-lt = product_lt 14 refl

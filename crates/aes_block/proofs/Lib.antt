@@ -6,4 +6,5 @@ pub mod Words
 pub mod Rounds
 pub mod Columns
 pub mod Undone
+pub mod Restored
 pub mod Blocks

@@ -27,3 +27,8 @@ pub inv_shift_rows-shift_rows : (s : List ℕ) → length s ≡ 16 → inv_shift
 unfolding shift_rows inv_shift_rows
 inv_shift_rows-shift_rows s h =
     subst (λ (t : List ℕ). inv_shift_rows (shift_rows t) ≡ t) (sym (literal 16 s h)) refl
+
+pub shift_rows-inv_shift_rows : (s : List ℕ) → length s ≡ 16 → shift_rows (inv_shift_rows s) ≡ s
+unfolding shift_rows inv_shift_rows
+shift_rows-inv_shift_rows s h =
+    subst (λ (t : List ℕ). shift_rows (inv_shift_rows t) ≡ t) (sym (literal 16 s h)) refl

@@ -13,7 +13,7 @@ use Rattle.aes_block.proofs.Words.{length-word}
 use Rattle.aes_block.proofs.Columns.{inv_mix_columns-mix_columns}
 
 -- each element is a byte
-abbrev Small : List ℕ → Type 0
+abbrev pub Small : List ℕ → Type 0
 Small [] = Unit {0}
 Small (x ∷ xs) = (x < 256) × Small xs
 
@@ -21,16 +21,16 @@ small_from : (s : List ℕ) → ((k : ℕ) → slice_index s k < 256) → Small 
 small_from [] h = tt
 small_from (x ∷ xs) h = (h 0, small_from xs (λ k. h (suc k)))
 
-small_at : (s : List ℕ) → Small s → (k : ℕ) → slice_index s k < 256
+pub small_at : (s : List ℕ) → Small s → (k : ℕ) → slice_index s k < 256
 small_at [] h k = omega arith
 small_at (x ∷ xs) h zero = h.0
 small_at (x ∷ xs) h (suc k) = small_at xs h.1 k
 
-small-map : (f : ℕ → ℕ) → ((x : ℕ) → f x < 256) → (xs : List ℕ) → Small (map f xs)
+pub small-map : (f : ℕ → ℕ) → ((x : ℕ) → f x < 256) → (xs : List ℕ) → Small (map f xs)
 small-map f h [] = tt
 small-map f h (x ∷ xs) = (h x, small-map f h xs)
 
-small-append : (a b : List ℕ) → Small a → Small b → Small (a ++ b)
+pub small-append : (a b : List ℕ) → Small a → Small b → Small (a ++ b)
 small-append [] b h k = k
 small-append (x ∷ xs) b h k = (h.0, small-append xs b h.1 k)
 
@@ -53,7 +53,7 @@ one-lt x h = rw (product_1 x h) h
 three-lt : (x : ℕ) → x < 256 → product 3 x < 256
 three-lt x h = rw (product_3 x h) (xor_of_8 (product 2 x) x (product_2-lt x h) h)
 
-xor_of_four : (a b c d : ℕ) → a < 256 → b < 256 → c < 256 → d < 256 → bit_xor (bit_xor (bit_xor a b) c) d < 256
+pub xor_of_four : (a b c d : ℕ) → a < 256 → b < 256 → c < 256 → d < 256 → bit_xor (bit_xor (bit_xor a b) c) d < 256
 xor_of_four a b c d ha hb hc hd = xor_of_8 _ d (xor_of_8 _ c (xor_of_8 a b ha hb) hc) hd
 
 small-mix_column : (a b c d : ℕ) → a < 256 → b < 256 → c < 256 → d < 256 → Small (mix_column a b c d)
@@ -129,7 +129,7 @@ small-round_key key h r =
     let w = small-word key h in
     small-append _ _ (small-append _ _ (small-append _ _ (w (4 * r)) (w (4 * r + 1))) (w (4 * r + 2))) (w (4 * r + 3))
 
-length-round_key : (key : List ℕ) → length key ≡ 16 → (r : ℕ) → length (round_key key r) ≡ 16
+pub length-round_key : (key : List ℕ) → length key ≡ 16 → (r : ℕ) → length (round_key key r) ≡ 16
 unfolding round_key
 length-round_key key h r =
     simp length-append
@@ -137,23 +137,23 @@ length-round_key key h r =
 
 -- ---- the rounds
 
-record IsState (s : List ℕ) : Type 0 where
-  len : length s ≡ 16
-  small : Small s
+pub record IsState (s : List ℕ) : Type 0 where
+  pub len : length s ≡ 16
+  pub small : Small s
 
-is_bytes : (s : List ℕ) → IsState s → IsBytes 16 s
+pub is_bytes : (s : List ℕ) → IsState s → IsBytes 16 s
 is_bytes s h = record { len = h.len; small = small_at s h.small }
 
-is_state : (s : List ℕ) → IsBytes 16 s → IsState s
+pub is_state : (s : List ℕ) → IsBytes 16 s → IsState s
 is_state s h = record { len = h.len; small = small_from s h.small }
 
-xor_of-state : (a b : List ℕ) → IsState a → IsState b → IsState (xor_of a b)
+pub xor_of-state : (a b : List ℕ) → IsState a → IsState b → IsState (xor_of a b)
 xor_of-state a b h k = record { len = length-xor_of a b (h.len ∙ sym k.len) ∙ k.len; small = small-xor_of a b h.small k.small }
 
-round_key-state : (key : List ℕ) → IsState key → (r : ℕ) → IsState (round_key key r)
+pub round_key-state : (key : List ℕ) → IsState key → (r : ℕ) → IsState (round_key key r)
 round_key-state key h r = record { len = length-round_key key h.len r; small = small-round_key key h.small r }
 
-rounds-state : (key block : List ℕ) → IsState key → IsState block → (n : ℕ) → IsState (rounds key block n)
+pub rounds-state : (key block : List ℕ) → IsState key → IsState block → (n : ℕ) → IsState (rounds key block n)
 unfolding rounds
 rounds-state key block h k zero = xor_of-state _ _ k (round_key-state key h 0)
 rounds-state key block h k (suc n) =

@@ -3,34 +3,13 @@ use Rattle.std.proofs.Common.{◌≡◌, ℕ, zero, suc, ◌+◌, ◌*◌, ◌%�
 use Rattle.std.proofs.lemmas.List.{get_or-set_same, get_or-set_other, length-set}
 use native.Mathlib.Nat.{zero-mul, one-mul}
 use Rattle.std.specs.Prelude.{bit_xor}
-use Rattle.std.specs.Int.{bit_at}
+use Rattle.std.specs.Int.Bits.{xor_assoc, xor_self, xor_zero_r}
 use Rattle.std.proofs.lemmas.Nat.{xor_comm, xor_block, pow_pos}
-use Rattle.std.proofs.lemmas.Nat.Bits.{same_from_bits, bit_at_xor, bit_at-zero}
 use Rattle.aes_block.specs.Aes.{xor_of}
-
-assoc_mod : (a b c : ℕ) → ((a + b) % 2 + c) % 2 ≡ (a + (b + c) % 2) % 2
-assoc_mod a b c = omega arith
-
-pub xor_assoc : (a b c : ℕ) → bit_xor (bit_xor a b) c ≡ bit_xor a (bit_xor b c)
-xor_assoc a b c = same_from_bits (bit_xor (bit_xor a b) c) (bit_xor a (bit_xor b c)) (λ i.
-    bit_at_xor (bit_xor a b) c i
-    ∙ ap (λ x. (x + bit_at c i) % 2) (bit_at_xor a b i)
-    ∙ assoc_mod (bit_at a i) (bit_at b i) (bit_at c i)
-    ∙ sym (ap (λ x. (bit_at a i + x) % 2) (bit_at_xor b c i))
-    ∙ sym (bit_at_xor a (bit_xor b c) i))
-
-double_mod : (a : ℕ) → (a + a) % 2 ≡ 0
-double_mod a = omega arith
-
-pub xor_self : (a : ℕ) → bit_xor a a ≡ 0
-xor_self a = same_from_bits (bit_xor a a) 0 (λ i. bit_at_xor a a i ∙ double_mod (bit_at a i) ∙ sym (bit_at-zero i))
-
-pub xor-zero : (a : ℕ) → bit_xor a 0 ≡ a
-xor-zero a = xor_comm a 0 ∙ refl
 
 -- adding one number twice
 pub xor_twice : (a b : ℕ) → bit_xor (bit_xor a b) b ≡ a
-xor_twice a b = xor_assoc a b b ∙ ap (bit_xor a) (xor_self b) ∙ xor-zero a
+xor_twice a b = xor_assoc a b b ∙ ap (bit_xor a) (xor_self b) ∙ xor_zero_r a
 
 -- two sums of two, added place by place
 pub xor_swap : (a b c d : ℕ) → bit_xor (bit_xor a b) (bit_xor c d) ≡ bit_xor (bit_xor a c) (bit_xor b d)
@@ -60,7 +39,7 @@ xor-bit_mul m n a h k = elim (bit_cases m h) [
     | inr f ↦ rw f (simp (zero-mul, one-mul) refl)
   ])
   | inr e ↦ rw e (elim (bit_cases n k) [
-    | inl f ↦ rw f (simp (zero-mul, one-mul) (sym (xor-zero a)))
+    | inl f ↦ rw f (simp (zero-mul, one-mul) (sym (xor_zero_r a)))
     | inr f ↦ rw f (simp (zero-mul, one-mul) (sym (xor_self a)))
   ])
 ]

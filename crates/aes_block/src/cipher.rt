@@ -1,12 +1,12 @@
-ghost use Rattle.std.specs.Prelude.{◌≡◌, ℕ, List, map, slice_index_or, [], IsTrue};
+ghost use Rattle.std.specs.Prelude.{◌≡◌, ℕ, List, map, slice_index_or, []};
 ghost use Rattle.std.specs.List.{range_with_len};
 ghost use Rattle.aes_block.specs.Aes.{IsBytes, round_key, encrypted, decrypted};
 
 use crate::schedule::round_keys;
 use crate::state::{mix_columns, shift_and_restore, substitute_and_shift, unmix_columns};
 use crate::xor;
-use std::fmt;
 use std::marker::Model;
+use std::{fmt, hint};
 
 /// A key of 128 bits, expanded once for any number of blocks. A contract sees its 16 bytes.
 ///
@@ -70,19 +70,17 @@ impl fmt::Debug for Aes128 {
 
 impl Drop for Aes128 {
     fn drop(mut self) {
-        let mut is_wiped = false;
-        wipe(&mut self.round_keys, &mut is_wiped);
+        wipe(&mut self.round_keys);
         let Aes128 { round_keys: _ } = self;
     }
 }
 
-// Not inlined, and writes to a second place, since LLVM leaves out writes, and calls that write to one
-// place alone, where nothing reads that place again.
+// The toolchain has no volatile write. A call that is not inlined, and that has an effect which the optimiser may not drop,
+// stands in for it: so the call stays, and its writes with it.
 #[inline(never)]
-fn wipe(round_keys: &mut [[u8; 16]; 11], is_wiped: &mut bool)
-    ensures zeros { round_keys.new ≡ map (λ _. map (λ _. 0) (range_with_len 0 16)) (range_with_len 0 11) }
-    ensures wiped { IsTrue is_wiped.new }
+fn wipe(round_keys: &mut [[u8; 16]; 11])
+    ensures { round_keys.new ≡ map (λ _. map (λ _. 0) (range_with_len 0 16)) (range_with_len 0 11) }
 {
     *round_keys = [[0; 16]; 11];
-    *is_wiped = true;
+    hint::spin_loop();
 }

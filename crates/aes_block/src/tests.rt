@@ -1,4 +1,5 @@
 use crate::{Aes128, xor};
+use std::test::Fail;
 
 // FIPS 197, appendices B and C.1: a key, a block and its encryption.
 const EXAMPLES: [[[u8; 16]; 3]; 2] = [
@@ -39,6 +40,13 @@ fn known_blocks(rt: HostRuntime) {
         assert_eq!(rt; cipher.encrypt(&block).as_slice(), encrypted.as_slice());
         assert_eq!(rt; cipher.decrypt(&encrypted).as_slice(), block.as_slice());
     }
+}
+
+#[test]
+fn a_key_is_not_printed(rt: HostRuntime) -> Result<(), Fail> {
+    let text = format!(in rt.alloc(); "{:?}", Aes128::new(&[0x41; 16]))?;
+    assert_eq!(rt; text.as_str(), "Aes128 { .. }");
+    Ok(())
 }
 
 #[test]

@@ -1,8 +1,9 @@
 pub mod Ahead
-mod Answered
+mod Decided
 mod Parts
-mod Pieces
 pub mod Places
+mod Reading
+mod Slices
 pub mod OnlyReading
 pub mod ReadingOn
 mod Sending

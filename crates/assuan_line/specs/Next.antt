@@ -3,7 +3,7 @@
 use Rattle.std.specs.Prelude.{◌≡◌, ℕ, ◌+◌, ◌<◌, ◌≤◌, ◌⊎◌, List, [], ◌++◌, length, take, nat_le, Option, Some, None, if◌then◌else◌}
 use Rattle.assuan_text.specs.LineEnds.{has_lf}
 use Rattle.assuan_line.specs.Lines.{first_line, after_line}
-use Rattle.assuan_line.specs.declared.reader.TheConstants.{MAX_AHEAD}
+use Rattle.assuan_line.specs.declared.buffer.TheConstants.{MAX_AHEAD}
 use Rattle.assuan_line.specs.declared.reader.Took.{Took}
 use Rattle.assuan_line.specs.declared.reader.Took.TheVariants.{Line, TooLong, End, Spent, ReadFault}
 

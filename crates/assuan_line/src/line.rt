@@ -1,17 +1,19 @@
 ghost use Rattle.std.specs.Prelude.{◌≡◌, ◌↔◌, IsSome, IfSome};
 ghost use Rattle.assuan_line.specs.Lines.{IsLine};
 
-use assuan_text::Text;
+use assuan_text::MAX_LINE_LEN;
 use std::marker::Model;
+use wiping::Wiped;
 
 pub(crate) const LF: u8 = b'\n';
 
 pub(crate) const CR: u8 = b'\r';
 
-/// A line without its end: at most 1,000 bytes, none of them a line feed. It may hold a passphrase, so it isn't printed.
+/// A line without its end: at most 1,000 bytes, none of them a line feed. It may hold a passphrase, so it isn't printed, and
+/// its bytes are overwritten when it is dropped.
 #[derive(Drop)]
 pub struct Line {
-    bytes: Text,
+    bytes: Wiped<MAX_LINE_LEN>,
 }
 
 impl Model for Line {
@@ -20,9 +22,9 @@ impl Model for Line {
 
     ghost Value = { List ℕ };
 
-    ghost view = { λ l. l.bytes.items };
+    ghost view = { λ l. l.bytes };
 
-    ghost invariant = { λ l. IsLine l.bytes.items };
+    ghost invariant = { λ l. IsLine l.bytes };
 }
 
 impl Line {
@@ -34,15 +36,14 @@ impl Line {
         if bytes.contains(&LF) {
             return None;
         }
-        let mut text = Text::new();
-        text.try_extend_from_slice(bytes).ok()?;
-        Some(Line { bytes: text })
+        let bytes = Wiped::of(bytes)?;
+        Some(Line { bytes })
     }
 
     pub fn bytes(&self) -> &[u8]
         ensures bytes { result.now ≡ self.now }
         ensures is_line { IsLine self.now }
     {
-        &self.bytes
+        self.bytes.bytes()
     }
 }

@@ -1,23 +1,17 @@
-ghost use Rattle.std.specs.Prelude.{◌≡◌, ◌≢◌, ◌↔◌, ◌≤◌, ◌+◌, ◌<◌, ◌∷◌, [], ℕ, List, false, length, IsSome, IfSome, IfOk, OnOk, OnErr, Err, None};
+ghost use Rattle.std.specs.Prelude.{◌≡◌, ◌≢◌, ◌≤◌, ◌+◌, ◌<◌, ◌∷◌, [], ◌++◌, ℕ, List, length, IsSome, IfSome, OnOk, IfErr, None};
+ghost use Rattle.std.specs.Option.{option_map};
 ghost use Rattle.agent_ports.specs.Counts.{Rose};
-ghost use Rattle.agent_ports.specs.Sides.{followed_by, WhereTold};
-ghost use Rattle.assuan_text.specs.LineEnds.{has_lf};
-ghost use Rattle.assuan_line.specs.Lines.{without_cr, after_line, lines_of, rest_of};
-ghost use Rattle.assuan_line.specs.Next.{next_of, Tells, ended_by, OnLine, held};
-ghost use Rattle.assuan_line.specs.Stops.{took_of, took_from, reader_with};
+ghost use Rattle.agent_ports.specs.Sides.{WhereTold};
+ghost use Rattle.assuan_line.specs.Ahead.{bytes_ahead, IsWithin};
+ghost use Rattle.assuan_line.specs.Lines.{after_line, lines_of, rest_of};
+ghost use Rattle.assuan_line.specs.Next.{next_of, Tells, TakesWhatItNeeds, ended_by, OnLine, held};
+ghost use Rattle.assuan_line.specs.Stops.{took_of, reader_at, HasReadOn, Decides, HasTaken};
 
 use crate::Line;
-use crate::line::{CR, LF};
+use crate::buffer::{Ahead, MAX_AHEAD};
 use agent_ports::{Got, Source};
-use arrayvec::ArrayVec;
 use std::alloc::Global;
 use std::marker::Model;
-
-/// The most bytes that a reader holds ahead of the lines that it gave.
-pub const MAX_AHEAD: usize = 4096;
-
-/// The most bytes before a line feed: a line's 1,000, and a carriage return.
-const LONGEST: usize = 1001;
 
 /// What a read of a line gave.
 #[derive(Drop)]
@@ -30,6 +24,21 @@ pub enum Took {
     /// The budget was taken, and holds no whole line more.
     Spent,
     ReadFault,
+}
+
+impl Took {
+    /// Why the reader has ended, if this is no line.
+    fn stop(&self) -> Option<Stop>
+        ensures { option_map took_of result ≡ ended_by self.now }
+    {
+        match self {
+            Took::Line(_) => None,
+            Took::TooLong => Some(Stop::TooLong),
+            Took::End => Some(Stop::End),
+            Took::Spent => Some(Stop::Spent),
+            Took::ReadFault => Some(Stop::ReadFault),
+        }
+    }
 }
 
 /// Why a reader has ended.
@@ -54,30 +63,47 @@ impl From<Stop> for Took {
     }
 }
 
-/// Reads lines from a source, whatever pieces their bytes come in. It takes one byte at a time.
+/// Reads lines from a source, whatever pieces their bytes come in. It reads ahead, and only where the bytes that it holds
+/// tell neither a line nor that one is too long.
 #[derive(Drop)]
 pub struct LineReader {
+    ahead: Ahead,
     left: u64,
     stop: Option<Stop>,
 }
 
 impl Model for LineReader {
-    ghost use Rattle.std.specs.Prelude.{[]};
     ghost use Rattle.std.specs.Option.{option_map};
+    ghost use Rattle.assuan_line.specs.Ahead.{bytes_ahead, IsWithin};
     ghost use Rattle.assuan_line.specs.Next.{Reader};
     ghost use Rattle.assuan_line.specs.Stops.{took_of};
 
     ghost Value = { Reader };
 
-    ghost view = { λ r. record { ahead = []; left = r.left; ended = option_map took_of r.stop } };
+    ghost view = { λ r. record { ahead = bytes_ahead r.ahead; left = r.left; ended = option_map took_of r.stop } };
+
+    ghost invariant = { λ r. IsWithin r.ahead };
 }
 
 impl LineReader {
     /// A reader that takes at most `budget` bytes.
-    pub fn new(_alloc: Global, budget: u64) -> Self
+    pub fn new(alloc: Global, budget: u64) -> Self
         ensures { result ≡ record { ahead = []; left = budget; ended = None } }
     {
         LineReader {
+            ahead: Ahead::new(alloc),
+            left: budget,
+            stop: None,
+        }
+    }
+
+    /// A reader that takes at most `budget` bytes, and holds them as one does that found no memory.
+    #[cfg(test)]
+    pub(crate) fn without_memory(budget: u64) -> Self
+        ensures { result ≡ record { ahead = []; left = budget; ended = None } }
+    {
+        LineReader {
+            ahead: Ahead::without_memory(),
             left: budget,
             stop: None,
         }
@@ -91,6 +117,14 @@ impl LineReader {
         // It takes no byte beyond its budget.
         ensures budget { WhereTold (S.input source.old).bytes (S.input source.new).bytes
             (λ rest left. length rest + self.new.left ≡ length left + self.old.left) }
+        // It takes what it needs, and of that one read at most more.
+        ensures needed { WhereTold (S.input source.old).bytes (S.input source.new).bytes (TakesWhatItNeeds self.old.ahead) }
+        // Where the bytes ahead decide, it leaves the source alone.
+        ensures alone { next_of self.old.ahead ≢ Took.End → source.new ≡ source.old }
+        // No byte is lost but those of its lines.
+        ensures kept { IsSome self.new.ended → WhereTold (S.input source.old).bytes (S.input source.new).bytes
+            (λ rest left. self.new.ahead ++ left ≡ self.old.ahead ++ rest) }
+        ensures within { length self.new.ahead ≤ MAX_AHEAD }
 
         // A line uses up a byte at least.
         ensures progress { OnLine result (held self.new < held self.old) }
@@ -108,13 +142,9 @@ impl LineReader {
         if let Some(stop) = self.stop {
             return stop.into();
         }
-        match take_line(&mut self.left, source) {
-            Ok(line) => Took::Line(line),
-            Err(stop) => {
-                self.stop = Some(stop);
-                stop.into()
-            }
-        }
+        let took = take_line(&mut self.ahead, &mut self.left, source);
+        self.stop = took.stop();
+        took
     }
 }
 
@@ -126,64 +156,43 @@ pub fn lines_come_in_order()
     ensures end { (bytes : List ℕ) → next_of bytes ≡ Took.End → (lines_of bytes ≡ []) × (rest_of bytes ≡ bytes) }
 {}
 
-/// Takes the next bytes up to a line feed, and gives the line that they are.
-fn take_line<S: Source>(left: &mut u64, source: &mut S) -> Result<Line, Stop>
-    ensures told { WhereTold (S.input source.old).bytes (S.input source.new).bytes
-        (λ rest after. Tells (reader_with left.old) rest (took_from result) (reader_with left.new) after) }
-    ensures budget { WhereTold (S.input source.old).bytes (S.input source.new).bytes
-        (λ rest after. length rest + left.new ≡ length after + left.old) }
-    ensures progress { OnOk result (left.new < left.old) }
-    ensures spent { result ≡ Err Stop.Spent → left.new ≡ 0 }
-    ensures fault { result ≡ Err Stop.ReadFault → Rose (S.input source.old).faults (S.input source.new).faults }
-    ensures faults { (S.input source.old).faults ≤ (S.input source.new).faults }
+/// Reads until the bytes ahead tell a line or that one is too long, or no more can be read.
+fn take_line<S: Source>(ahead: &mut Ahead, left: &mut u64, source: &mut S) -> Took
+    requires { IsWithin ahead.old }
+    ensures taken { HasTaken (reader_at ahead.old left.old) (S.input source.old) result (reader_at ahead.new left.new) (S.input source.new) }
+    ensures alone { next_of (bytes_ahead ahead.old) ≢ Took.End → source.new ≡ source.old }
     ensures beside { S.beside_input source.new ≡ S.beside_input source.old }
+    ensures within { IsWithin ahead.new }
 {
-    let mut piece: ArrayVec<u8, LONGEST> = ArrayVec::new();
     loop {
-        let byte = take_byte(left, source)?;
-        if byte == LF {
-            return line_of(&piece).ok_or(Stop::TooLong);
+        match ahead.take_line() {
+            Took::End => {}
+            took => return took,
         }
-        if piece.is_full() {
-            return Err(Stop::TooLong);
+        if let Err(stop) = read_ahead(ahead, left, source) {
+            return stop.into();
         }
-        piece.push(byte);
     }
 }
 
-/// The line that these bytes before a line feed are, if it isn't too long.
-fn line_of(piece: &[u8]) -> Option<Line>
-    requires { has_lf piece.now ≡ false }
-    ensures some { IsSome result ↔ (length (without_cr piece.now) ≤ 1000) }
-    ensures line { IfSome result (λ line. line ≡ without_cr piece.now) }
-{
-    match piece {
-        [line @ .., CR] => Line::of(line),
-        line => Line::of(line),
-    }
-}
-
-/// Takes the next byte of the source, if the budget and the source have one.
-fn take_byte<S: Source>(left: &mut u64, source: &mut S) -> Result<u8, Stop>
-    ensures byte { IfOk result (λ byte. ((S.input source.old).bytes ≡ followed_by (byte ∷ []) (S.input source.new).bytes)
-        × (left.old ≡ left.new + 1)) }
-    ensures none { OnErr result (((S.input source.new).bytes ≡ (S.input source.old).bytes) × (left.new ≡ left.old)) }
-    ensures end { result ≡ Err Stop.End → (0 < left.new) × IfSome (S.input source.old).bytes (λ rest. rest ≡ []) }
-    ensures spent { result ≡ Err Stop.Spent → left.new ≡ 0 }
-    ensures fault { result ≡ Err Stop.ReadFault → (0 < left.new)
-        × Rose (S.input source.old).faults (S.input source.new).faults }
-    ensures others { result ≢ Err Stop.TooLong }
-    ensures faults { (S.input source.old).faults ≤ (S.input source.new).faults }
+/// Reads once, within the budget.
+fn read_ahead<S: Source>(ahead: &mut Ahead, left: &mut u64, source: &mut S) -> Result<(), Stop>
+    requires undecided { next_of (bytes_ahead ahead.old) ≡ Took.End }
+    requires within { IsWithin ahead.old }
+    ensures read { HasReadOn (reader_at ahead.old left.old) (S.input source.old) (reader_at ahead.new left.new) (S.input source.new) }
+    ensures progress { OnOk result (left.new < left.old) }
+    ensures stop { IfErr result (λ stop. Decides (reader_at ahead.new left.new) (S.input source.old) (took_of stop)
+        (reader_at ahead.new left.new) (S.input source.new)) }
     ensures beside { S.beside_input source.new ≡ S.beside_input source.old }
+    ensures within { IsWithin ahead.new }
 {
     if *left == 0 {
         return Err(Stop::Spent);
     }
-    let mut byte = [0u8; 1];
-    match source.read(&mut byte) {
-        Got::Bytes(_) => {
-            *left -= 1;
-            Ok(byte[0])
+    match ahead.read(*left, source) {
+        Got::Bytes(count) => {
+            *left -= count as u64;
+            Ok(())
         }
         Got::End => Err(Stop::End),
         Got::Failed => Err(Stop::ReadFault),

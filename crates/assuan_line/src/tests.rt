@@ -1,32 +1,53 @@
-ghost use Rattle.std.specs.Prelude.{◌≤◌};
+ghost use Rattle.std.specs.Prelude.{◌≡◌};
 
 use super::*;
-use agent_ports::{MemSink, MemSource, Sent};
+use agent_ports::{Got, MemSink, MemSource, Sent, Source};
 use std::alloc::{AllocError, Global};
 use std::test::Fail;
 
-/// What reads of lines give, each as a text, up to the first answer that is no line.
-fn answers(
+/// A source that counts its reads.
+#[derive(Drop)]
+struct Counting {
+    source: MemSource,
+    reads: u64,
+}
+
+impl Source for Counting {
+    ghost input = { λ s. ⟦<MemSource as Source>⟧.input s.source };
+
+    ghost beside_input = { λ s. ⟦<MemSource as Source>⟧.beside_input s.source };
+
+    fn read(&mut self, buf: &mut [u8]) -> Got {
+        self.reads = self.reads.saturating_add(1);
+        self.source.read(buf)
+    }
+}
+
+/// A reader with this budget, with a ring or, as where there is no memory for one, without.
+fn reader_of(alloc: Global, ring: bool, budget: u64) -> LineReader {
+    if ring {
+        LineReader::new(alloc, budget)
+    } else {
+        LineReader::without_memory(budget)
+    }
+}
+
+/// The lengths of the lines that a reader gives, and its first two answers that are no line.
+fn answers<S: Source>(
     alloc: Global,
-    bytes: &[u8],
-    piece: usize,
-    failing: Vec<u64>,
-    budget: u64,
-) -> Result<String, AllocError>
-    requires { 1 ≤ piece }
-{
-    let mut source = MemSource::new(Vec::from_slice(alloc, bytes)?, piece, failing);
-    let mut reader = LineReader::new(alloc, budget);
+    reader: &mut LineReader,
+    source: &mut S,
+) -> Result<String, AllocError> {
     let mut all = String::new(alloc);
-    for _ in 0..9 {
-        match reader.next(&mut source) {
+    for _ in 0..200 {
+        match reader.next(source) {
             Took::Line(line) => all.push_str(format!(in alloc;
                 "{} ",
                 line.bytes().len()
             )?.as_str())?,
             took => {
                 all.push_str(name(&took))?;
-                all.push_str(name(&reader.next(&mut source)))?;
+                all.push_str(name(&reader.next(source)))?;
                 break;
             }
         }
@@ -44,51 +65,81 @@ fn name(took: &Took) -> &'static str {
     }
 }
 
-/// So many bytes, and then the end of a line.
-fn line(alloc: Global, len: usize, end: &[u8]) -> Result<Vec<u8>, AllocError> {
+/// So many bytes, and then the others.
+fn text(alloc: Global, len: usize, end: &[u8]) -> Result<Vec<u8>, AllocError> {
     let mut bytes = vec![in alloc; b'x'; len]?;
     bytes.extend_from_slice(end)?;
     Ok(bytes)
 }
 
 #[test]
-fn lines_have_a_thousand_bytes_at_most(rt: HostRuntime) -> Result<(), Fail> {
+fn lines_are_the_same_in_any_pieces(rt: HostRuntime) -> Result<(), Fail> {
     let alloc = rt.alloc();
-    let cases: [(usize, &[u8], &str); 9] = [
-        (1000, b"\n", "1000 endend"),
-        (1000, b"\r\n", "1000 endend"),
-        (1001, b"\n", "longlong"),
-        (1001, b"\r\n", "longlong"),
-        (1002, b"", "longlong"),
-        (1001, b"", "endend"),
-        (0, b"\n\r\n\r\r\nab", "0 0 1 endend"),
-        (3, b"\nxx\nx", "3 2 endend"),
-        (0, b"", "endend"),
+    let much = 1 << 40;
+    let cases: [(usize, &[u8], u64, &str); 13] = [
+        (1000, b"\n", much, "1000 endend"),
+        (1000, b"\r\n", much, "1000 endend"),
+        (1001, b"\n", much, "longlong"),
+        (1001, b"\r\n", much, "longlong"),
+        (1002, b"", much, "longlong"),
+        (1001, b"", much, "endend"),
+        (0, b"\n\r\n\r\r\nab", much, "0 0 1 endend"),
+        (3, b"\nxx\nx", much, "3 2 endend"),
+        (0, b"", much, "endend"),
+        (0, b"ab\ncd\nef", 5, "2 spentspent"),
+        (0, b"ab\ncd\n", 6, "2 2 spentspent"),
+        (5000, b"\n", 1001, "spentspent"),
+        (5000, b"\n", 1002, "longlong"),
     ];
-    for (len, end, want) in cases {
+    for (len, end, budget, want) in cases {
         for piece in [1, 7, 4096] {
-            let got = answers(
-                alloc,
-                &line(alloc, len, end)?,
-                piece,
-                Vec::new(alloc),
-                1 << 40,
-            )?;
-            assert_eq!(rt; got.as_str(), want, "{len} bytes in pieces of {piece}");
+            for ring in [true, false] {
+                let bytes = text(alloc, len, end)?;
+                let mut source = MemSource::new(bytes, piece, Vec::new(alloc));
+                let mut reader = reader_of(alloc, ring, budget);
+                let got = answers(alloc, &mut reader, &mut source)?;
+                assert_eq!(rt;
+                    got.as_str(),
+                    want,
+                    "{len} bytes in pieces of {piece}, {ring}"
+                );
+            }
         }
     }
     Ok(())
 }
 
 #[test]
-fn a_budget_and_a_fault_end_the_reader(rt: HostRuntime) -> Result<(), Fail> {
+fn a_line_is_given_before_the_fault_behind_it(rt: HostRuntime) -> Result<(), Fail> {
     let alloc = rt.alloc();
-    let spent = answers(alloc, b"ab\ncd\nef", 1, Vec::new(alloc), 5)?;
-    assert_eq!(rt; spent.as_str(), "2 spentspent");
-    let whole = answers(alloc, b"ab\ncd\n", 1, Vec::new(alloc), 6)?;
-    assert_eq!(rt; whole.as_str(), "2 2 spentspent");
-    let fault = answers(alloc, b"ab\ncd\n", 1, vec![in alloc; 4u64]?, 9)?;
-    assert_eq!(rt; fault.as_str(), "2 faultfault");
+    for (piece, failing, ring) in [(6, 1, true), (1, 6, true), (4096, 6, false)] {
+        let bytes = text(alloc, 0, b"NOP\nNO")?;
+        let mut source = MemSource::new(bytes, piece, vec![in alloc; failing]?);
+        let mut reader = reader_of(alloc, ring, 9);
+        let got = answers(alloc, &mut reader, &mut source)?;
+        assert_eq!(rt; got.as_str(), "3 faultfault", "in pieces of {piece}");
+    }
+    Ok(())
+}
+
+#[test]
+fn reads_are_few(rt: HostRuntime) -> Result<(), Fail> {
+    let alloc = rt.alloc();
+    let mut bytes = Vec::new(alloc);
+    let mut want = String::new(alloc);
+    for len in 0..150usize {
+        bytes.extend_from_slice(text(alloc, len, b"\n")?.as_slice())?;
+        want.push_str(format!(in alloc; "{len} ")?.as_str())?;
+    }
+    want.push_str("endend")?;
+    for (ring, most) in [(true, 19), (false, 12_000)] {
+        let source = MemSource::new(bytes.clone()?, usize::MAX, Vec::new(alloc));
+        let mut counting = Counting { source, reads: 0 };
+        let mut reader = reader_of(alloc, ring, 1 << 40);
+        let got = answers(alloc, &mut reader, &mut counting)?;
+        assert_eq!(rt; got.as_str(), want.as_str());
+        assert!(rt; counting.reads <= most, "{} reads", counting.reads);
+    }
     Ok(())
 }
 

@@ -5,7 +5,7 @@ ghost use Rattle.agent_ports.specs.Sides.{with_bytes, sent_part, IfCut, IsCut};
 use crate::Line;
 use crate::line::LF;
 use agent_ports::{Sent, Sink};
-use arrayvec::ArrayVec;
+use wiping::Wiped;
 
 /// Writes the line and a line feed. Where the write fails, some first bytes of these went.
 pub fn write_line<K: Sink>(sink: &mut K, line: &Line) -> Sent
@@ -15,8 +15,8 @@ pub fn write_line<K: Sink>(sink: &mut K, line: &Line) -> Sent
     ensures faults { (K.output sink.old).faults ≤ (K.output sink.new).faults }
     ensures beside { K.beside_output sink.new ≡ K.beside_output sink.old }
 {
-    let mut text: ArrayVec<u8, 1001> = ArrayVec::new();
+    let mut text: Wiped<1001> = Wiped::new();
     text.try_extend_from_slice(line.bytes()).unwrap();
     text.push(LF);
-    sink.put(&text)
+    sink.put(text.bytes())
 }

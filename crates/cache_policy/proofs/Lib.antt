@@ -3,3 +3,8 @@ pub mod EntriesLemmas
 pub mod BookLemmas
 pub mod WorkedExamples
 pub mod ReturnLemmas
+pub mod OneMore
+pub mod Growing
+pub mod GrowingRuns
+pub mod BareLemmas
+pub mod Extending

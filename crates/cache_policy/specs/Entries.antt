@@ -1,6 +1,6 @@
 -- Entries: what the marks of a history stored. A passphrase is cached by a preset, or when a prompt ends (the GnuPG
 -- manual's agent protocol, PRESET_PASSPHRASE and GET_PASSPHRASE). That a ttl of 0 stores nothing is this project's own.
-use Rattle.std.specs.Prelude.{ℕ, ◌==◌, List, [], ◌∷◌, ◌++◌, Option, Some, None, if◌then◌else◌}
+use Rattle.std.specs.Prelude.{ℕ, ◌+◌, ◌≤◌, ◌==◌, List, [], ◌∷◌, ◌++◌, Option, Some, None, if◌then◌else◌}
 use Rattle.std.specs.Option.{option_and_then}
 use Rattle.cache_policy.specs.declared.mode.Mode.{Mode}
 use Rattle.cache_policy.specs.declared.life.Life.{Life}
@@ -56,3 +56,8 @@ entries_after limits before (mark ∷ later) =
 -- the entries of a history
 abbrev pub entries : Limits → History → List Entry
 entries limits history = entries_after limits (start_of history) history.marks
+
+-- the numbers of these entries rise, from the first bound on and below the second
+abbrev pub AreNumbered : ℕ → List Entry → ℕ → Type 0
+AreNumbered low [] high = low ≤ high
+AreNumbered low (entry ∷ later) high = (low ≤ entry.number) × AreNumbered (entry.number + 1) later high

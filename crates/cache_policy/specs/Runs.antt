@@ -4,7 +4,7 @@ use Rattle.std.specs.List.{flat_map}
 use Rattle.cache_policy.specs.declared.bounds.TheConstants.{MAX_MARKS, MAX_MOMENT}
 use Rattle.cache_policy.specs.declared.mark.Mark.{Mark}
 use Rattle.cache_policy.specs.declared.history.History.{History}
-use Rattle.cache_policy.specs.Histories.{start_of}
+use Rattle.cache_policy.specs.Histories.{start_of, with_mark}
 use Rattle.cache_policy.specs.Seat.{seat, stopped}
 
 -- the history that a full one is followed by: the base raised, the same ticket out, stopped likewise, and no marks
@@ -56,3 +56,16 @@ moment_before marks = fold (λ _ mark. mark.moment) 0 marks
 -- the moment of a step: its reading, cut, or the moment of the last mark where that is greater
 abbrev pub moment_of : ℕ → ℕ → ℕ
 moment_of before reading = max before (min reading MAX_MOMENT)
+
+-- the last history of a run, on which it goes on
+abbrev pub last_history : List History → Option History
+last_history [] = None
+last_history (history ∷ []) = Some history
+last_history (history ∷ next ∷ later) = last_history (next ∷ later)
+
+-- the run with one mark more, on the history that is next
+abbrev pub run_with_mark : List History → Mark → List History
+run_with_mark [] mark = []
+run_with_mark (history ∷ []) mark =
+    if length history.marks == MAX_MARKS then history ∷ with_mark (turn_over history) mark ∷ [] else with_mark history mark ∷ []
+run_with_mark (history ∷ next ∷ later) mark = history ∷ run_with_mark (next ∷ later) mark

@@ -40,6 +40,10 @@ last_open number (mark ∷ later) = option_or (last_open (number + 1) later)
 abbrev pub unless_back : Held × List Mark → Option Held
 unless_back (held, later) = if list_any (λ mark. gives_back held.ticket mark.step) later then None else Some held
 
+-- the ticket, unless this step gives it back
+abbrev pub unless_given_back : MarkStep → Held → Option Held
+unless_given_back asked held = if gives_back held.ticket asked then None else Some held
+
 -- the ticket that is out: the last Open mark's, or where there is no such mark the one held at the start, unless it was
 -- given back since
 abbrev pub seat : History → Option Held

@@ -5,6 +5,7 @@
 #![tactic(auto)]
 
 mod bounds;
+mod desk;
 mod entry;
 mod grant;
 mod history;
@@ -15,15 +16,21 @@ mod list_book;
 mod mark;
 mod mode;
 mod secret;
+mod step;
 
 pub use bounds::{MAX_MARKS, MAX_MOMENT};
+pub use desk::Desk;
 pub use entry::Entry;
 pub use grant::Grant;
 pub use history::{Held, History, Marks};
 pub use id::{CacheId, MAX_ID_LEN};
-pub use laws::nothing_comes_back;
+pub use laws::{
+    a_history_turns_over, a_run_goes_on, no_secret_is_read, nothing_comes_back, one_more_mark,
+    turns_extend_a_run,
+};
 pub use life::{Life, Limits, MAX_SECONDS};
 pub use list_book::{ListBook, NoMemory};
 pub use mark::{Mark, MarkReply, MarkStep, Under, Way};
 pub use mode::Mode;
 pub use secret::{MAX_SECRET_LEN, Secret};
+pub use step::{Refused, Reply, Step};

@@ -1,7 +1,7 @@
 //! The key wrap of RFC 3394 with AES-128 and the default initial value.
 #![tactic(auto)]
 
-ghost use Rattle.std.specs.Prelude.{◌≡◌, ◌≢◌, ℕ, ◌%◌, ◌≤◌, ◌↔◌, List, true, false, length, IfOk, MatchResult, IsTrue};
+ghost use Rattle.std.specs.Prelude.{◌≡◌, ◌≢◌, ◌⊎◌, ℕ, ◌+◌, ◌*◌, ◌/◌, ◌-◌, ◌%◌, ◌≤◌, ◌↔◌, List, true, false, length, IfOk, MatchResult, IsTrue};
 ghost use Rattle.std.specs.List.{concat};
 ghost use Rattle.aes_block.specs.Aes.{IsBytes};
 ghost use Rattle.key_wrap.specs.KeyWrap.{Registers, initial_value, wrapped_of, unwrapped_of, is_wrapped_length};
@@ -11,6 +11,7 @@ use aes_block::Aes128;
 use std::alloc::{AllocError, Global};
 use std::error::Error;
 use std::fmt;
+use wiping::wipe;
 
 mod laws;
 mod passes;
@@ -53,7 +54,8 @@ pub fn wrap(alloc: Global, key: &[u8; 16], bytes: &[u8]) -> Result<Vec<u8>, Allo
     requires whole { length bytes.now % 8 ≡ 0 }
     requires least { 16 ≤ length bytes.now }
     requires most { length bytes.now ≤ 65536 }
-    ensures { IfOk result (λ wrapped. wrapped.items ≡ wrapped_of key.now bytes.now) }
+    ensures wrapped { IfOk result (λ wrapped. wrapped.items ≡ wrapped_of key.now bytes.now) }
+    ensures len { IfOk result (λ wrapped. length wrapped.items ≡ length bytes.now + 8) }
 {
     let cipher = Aes128::new(key);
     let (blocks, _) = bytes.as_chunks::<8>();
@@ -62,9 +64,11 @@ pub fn wrap(alloc: Global, key: &[u8; 16], bytes: &[u8]) -> Result<Vec<u8>, Allo
     joined_registers(alloc, &check, &blocks)
 }
 
-/// Unwraps what `wrap` made under the same key (RFC 3394, 2.2.2).
+/// Unwraps what `wrap` made under the same key (RFC 3394, 2.2.2). What is found where the check fails is overwritten; the
+/// bytes that are given are the caller's to overwrite.
 pub fn unwrap(alloc: Global, key: &[u8; 16], bytes: &[u8]) -> Result<Vec<u8>, WrapFault>
     ensures unwrapped { IfOk result (λ plain. plain.items ≡ concat (unwrapped_of key.now bytes.now).blocks) }
+    ensures shorter { IfOk result (λ plain. length plain.items + 8 ≡ length bytes.now) }
 
     // Each answer but `NoMemory`, which may come in place of `Ok` and `Check`, has its cause.
     ensures ok { IfOk result (λ _. IsTrue (is_wrapped_length (length bytes.now))
@@ -72,6 +76,8 @@ pub fn unwrap(alloc: Global, key: &[u8; 16], bytes: &[u8]) -> Result<Vec<u8>, Wr
     ensures length { (result ≡ Err WrapFault.Length) ↔ (is_wrapped_length (length bytes.now) ≡ false) }
     ensures check { result ≡ Err WrapFault.Check → IsTrue (is_wrapped_length (length bytes.now))
         × ((unwrapped_of key.now bytes.now).check ≢ initial_value) }
+    ensures refused { IsTrue (is_wrapped_length (length bytes.now)) → (unwrapped_of key.now bytes.now).check ≢ initial_value
+        → (result ≡ Err WrapFault.Check) ⊎ (result ≡ Err WrapFault.NoMemory) }
 
     // It undoes the wrapping of all bytes under this key.
     ensures undoes { (plain : List ℕ) → IsBytes (length plain) plain → length plain % 8 ≡ 0
@@ -89,18 +95,28 @@ pub fn unwrap(alloc: Global, key: &[u8; 16], bytes: &[u8]) -> Result<Vec<u8>, Wr
     Ok(plain)
 }
 
-// What the registers hold at the end of an unwrapping.
-#[derive(Drop)]
+// What the registers hold at the end of an unwrapping: a clear key, so they are overwritten.
 struct Unwrapped {
     check: [u8; 8],
     blocks: Vec<[u8; 8]>,
 }
 
+impl Drop for Unwrapped {
+    fn drop(self) {
+        let Unwrapped {
+            check: _,
+            mut blocks,
+        } = self;
+        wipe(blocks.as_mut_slice().as_flattened_mut());
+    }
+}
+
 fn unwrapped_registers(alloc: Global, key: &[u8; 16], bytes: &[u8]) -> Result<Unwrapped, AllocError>
     requires least { 8 ≤ length bytes.now }
     requires most { length bytes.now ≤ 65544 }
-    ensures { IfOk result (λ registers.
+    ensures registers { IfOk result (λ registers.
         unwrapped_of key.now bytes.now ≡ record { check = registers.check; blocks = registers.blocks.items }) }
+    ensures count { IfOk result (λ registers. length registers.blocks.items ≡ length bytes.now / 8 - 1) }
 {
     let cipher = Aes128::new(key);
     let (blocks, _) = bytes.as_chunks::<8>();

@@ -1,6 +1,6 @@
 //! Passes over the registers.
 
-ghost use Rattle.std.specs.Prelude.{◌≡◌, ◌+◌, ◌^◌, ◌<◌, ◌≤◌, ◌++◌, length, take, drop, IfOk};
+ghost use Rattle.std.specs.Prelude.{◌≡◌, ◌+◌, ◌*◌, ◌^◌, ◌<◌, ◌≤◌, ◌++◌, length, take, drop, IfOk};
 ghost use Rattle.std.specs.List.{concat};
 ghost use Rattle.key_wrap.specs.KeyWrap.{Registers, initial_value, wrap_pass, unwrap_pass, wrap_passes, unwrap_passes};
 
@@ -103,11 +103,15 @@ pub(crate) fn joined_registers(
     front: &[u8],
     blocks: &[[u8; 8]],
 ) -> Result<Vec<u8>, AllocError>
-    ensures { IfOk result (λ bytes. bytes.items ≡ front.now ++ concat blocks.now) }
+    requires few { length blocks.now ≤ 8192 }
+    requires short { length front.now ≤ 8 }
+    ensures items { IfOk result (λ bytes. bytes.items ≡ front.now ++ concat blocks.now) }
+    ensures len { IfOk result (λ bytes. length bytes.items ≡ length front.now + 8 * length blocks.now) }
 {
-    let mut bytes = Vec::from_slice(alloc, front)?;
-    for block in blocks {
-        bytes.extend_from_slice(block)?;
-    }
+    let registers = blocks.as_flattened();
+    // The whole length at once: a vector that grows would leave bytes behind where it was.
+    let mut bytes = Vec::with_capacity(alloc, front.len() + registers.len())?;
+    bytes.extend_from_slice(front)?;
+    bytes.extend_from_slice(registers)?;
     Ok(bytes)
 }

@@ -7,15 +7,16 @@ ghost use Rattle.s2k_derive.specs.S2k.{repeated, derived_key, octets, IsAccepted
 ghost use Rattle.s2k_derive.specs.declared.TheConstants.{PIECE_LEN};
 
 use sha1::Sha1;
+use wiping::wipe;
 
 const SALT_LEN: usize = 8;
 
 const KEY_LEN: usize = 16;
 
 // The bounds of an accepted count, in bytes.
-const LEAST_COUNT: u64 = 65_536;
+const MIN_COUNT: u64 = 65_536;
 
-const GREATEST_COUNT: u64 = 4_294_967_296;
+const MAX_COUNT: u64 = 4_294_967_296;
 
 // Copies of salt and passphrase are hashed in pieces of about this many bytes, so that what a piece
 // costs beside its hash does not count.
@@ -23,13 +24,17 @@ const PIECE_LEN: usize = 2048;
 
 /// The key of a passphrase and a salt, for a count of bytes to be hashed. Salt and passphrase are
 /// hashed once where they are longer than the count.
+///
+/// The copies of the passphrase that it makes are overwritten; the key is the caller's to overwrite. What the hasher
+/// keeps of the last 64 bytes isn't.
 pub fn derive(pass: &[u8], salt: &[u8; 8], count: u64) -> [u8; 16]
     requires short { length pass.now ≤ 255 }
     requires bounded { count ≤ 2 ^ 32 }
     ensures { result ≡ derived_key pass.now salt.now count }
 {
     let copy_len = SALT_LEN + pass.len();
-    let copies = copies_of(pass, salt);
+    let mut copies = [0; PIECE_LEN];
+    write_copies(&mut copies, pass, salt);
     let piece = &copies[..PIECE_LEN - PIECE_LEN % copy_len];
     let total = (count as usize).max(copy_len);
     let mut hasher = Sha1::new();
@@ -37,23 +42,23 @@ pub fn derive(pass: &[u8], salt: &[u8; 8], count: u64) -> [u8; 16]
         hasher.update(piece);
     }
     hasher.update(&piece[..total % piece.len()]);
-    let digest = hasher.finalize();
+    let mut digest = hasher.finalize();
     let mut key = [0; KEY_LEN];
     key.copy_from_slice(&digest[..KEY_LEN]);
+    wipe(&mut copies);
+    wipe(&mut digest);
     key
 }
 
 // Salt and passphrase over and over, as far as there is room.
-fn copies_of(pass: &[u8], salt: &[u8; 8]) -> [u8; PIECE_LEN]
+fn write_copies(copies: &mut [u8; PIECE_LEN], pass: &[u8], salt: &[u8; 8])
     requires { length pass.now ≤ 255 }
-    ensures { result ≡ repeated (salt.now ++ pass.now) PIECE_LEN }
+    ensures { copies.new ≡ repeated (salt.now ++ pass.now) PIECE_LEN }
 {
     let copy_len = SALT_LEN + pass.len();
-    let mut copies = [0; PIECE_LEN];
     for (i, byte) in copies.iter_mut().enumerate() {
         *byte = byte_at(pass, salt, i % copy_len);
     }
-    copies
 }
 
 // One byte of salt and passphrase.
@@ -78,7 +83,7 @@ pub fn count_of(n: u64) -> Option<u64>
     } else {
         n
     };
-    (LEAST_COUNT..=GREATEST_COUNT)
+    (MIN_COUNT..=MAX_COUNT)
         .contains(&count)
         .then_some(count)
 }

@@ -6,3 +6,4 @@ pub mod Steps
 pub mod Open
 pub mod Written
 pub mod Dropped
+pub mod Copied

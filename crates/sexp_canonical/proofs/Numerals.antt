@@ -1,7 +1,8 @@
 -- Numbers in decimal: their digits, their value, and where a numeral ends.
-use Rattle.std.proofs.Common.{◌≡◌, ℕ, zero, suc, ◌+◌, ◌*◌, ◌-◌, ◌/◌, ◌%◌, ◌<◌, ◌≤◌, true, false, ltb, List, [], ◌∷◌, ◌++◌, refl, sym, ap, subst, ◌∙◌, ◌⊎◌, inl, inr, arith}
+use Rattle.std.proofs.Common.{◌≡◌, ℕ, zero, suc, ◌+◌, ◌*◌, ◌-◌, ◌/◌, ◌%◌, ◌^◌, ◌<◌, ◌≤◌, true, false, ltb, List, [], ◌∷◌, ◌++◌, length, refl, sym, ap, subst, ◌∙◌, ◌⊎◌, inl, inr, arith}
 use Rattle.std.proofs.lemmas.Bool.{cases_lt, lt-ltb, le-ltb, le-leb}
-use Rattle.std.proofs.lemmas.List.{append-nil}
+use Rattle.std.proofs.lemmas.List.{append-nil, length-append}
+use Rattle.std.proofs.Math.Nat.{pow-suc}
 use Rattle.std.specs.Char.{is_ascii_digit}
 use Rattle.sexp_canonical.specs.Spelling.{numeral_within, numeral}
 
@@ -91,6 +92,22 @@ value-numeral = numeral_by_steps (λ n ds. value_after 0 ds ≡ n)
 
 pub numeral_injective : (m n : ℕ) → numeral m ≡ numeral n → m ≡ n
 numeral_injective m n e = sym (value-numeral m) ∙ ap (value_after 0) e ∙ value-numeral n
+
+-- ---- how many digits
+
+short : (k n : ℕ) → n < 10 ^ suc k → length (numeral n) ≤ suc k
+short zero n h = omega (arith, ap length (numeral_small n (omega arith)))
+short (suc k) n h =
+    elim (cases_lt n 10) [
+      | inl lt ↦ omega (arith, ap length (numeral_small n lt))
+      | inr le ↦
+          let power : 10 ^ suc (suc k) ≡ 10 ^ suc k * 10 = pow-suc 10 (suc k) in
+          let digits = ap length (numeral_large n le) ∙ length-append (numeral (n / 10)) ((48 + n % 10) ∷ []) in
+          omega (arith, short k (n / 10) (omega arith))
+    ]
+
+pub length-numeral : (k n : ℕ) → n < 10 ^ (k + 1) → length (numeral n) ≤ k + 1
+length-numeral k n h = let e : k + 1 ≡ suc k = omega arith in rw e (short k n (rw e at h))
 
 -- ---- the first digit
 

@@ -18,7 +18,7 @@ use Rattle.sexp_canonical.specs.declared.tree.Sexp.{Sexp}
 use Rattle.sexp_canonical.specs.declared.tree.Sexp.TheVariants.{List as Listed}
 use Rattle.sexp_canonical.specs.declared.fault.SexpFault.{SexpFault}
 use Rattle.sexp_canonical.specs.declared.fault.SexpFault.TheVariants.{BadByte, Deep, Short}
-use Rattle.sexp_canonical.proofs.Trees.{spellings-row}
+use Rattle.sexp_canonical.proofs.Trees.{spelled_list}
 use Rattle.sexp_canonical.proofs.Steps.{drop_at_place}
 
 -- ---- what lists are open
@@ -113,9 +113,6 @@ atom_finished text place end lists tree at read = record {
   fits = let s = at.shallow in omega (arith, length-le-open_depth lists, read.flat);
   parts = at.parts ∙ ap (λ (s : List ℕ). opening lists ++ s) read.parts;
 }
-
-spelled_list : (items : List Tree) → spelling (list_of items) ≡ 40 ∷ (flat_map spelling items ++ 41 ∷ [])
-spelled_list items = ap (λ (s : List ℕ). 40 ∷ (s ++ 41 ∷ [])) (spellings-row items)
 
 pub list_finished : (text : List ℕ) (place : ℕ) (outer : OpenLists) (items : List Tree) → IsOpenAt text place (outer ++ items ∷ []) → place < length text → get_or text place 0 ≡ 41 → IsFinished text (place + 1) outer (list_of items)
 list_finished text place outer items at within byte =

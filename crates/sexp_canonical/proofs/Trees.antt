@@ -1,11 +1,13 @@
 -- No spelling begins another.
-use Rattle.std.proofs.Common.{◌≡◌, ℕ, ◌+◌, true, false, List, [], ◌∷◌, ◌++◌, length, refl, sym, ap, ◌∙◌, append_assoc, arith}
+use Rattle.std.proofs.Common.{◌≡◌, ℕ, ◌+◌, ◌≤◌, true, false, List, [], ◌∷◌, ◌++◌, length, refl, sym, ap, ◌∙◌, append_assoc, arith}
+use Rattle.std.specs.Prelude.{All}
 use Rattle.std.specs.List.{flat_map}
+use Rattle.std.proofs.lemmas.List.Elements.{All-nil, All-cons, All-head, All-tail}
 use Rattle.std.proofs.lemmas.List.Concat.{flat_map-cons}
 use Rattle.std.specs.Char.{is_ascii_digit}
-use Rattle.sexp_canonical.specs.Tree.{Tree, Row, leaf, branch, end, item, row}
+use Rattle.sexp_canonical.specs.Tree.{Tree, Row, leaf, branch, end, item, row, list_of, items_of}
 use Rattle.sexp_canonical.specs.View.{tree_of}
-use Rattle.sexp_canonical.specs.Spelling.{numeral, spelling, spellings}
+use Rattle.sexp_canonical.specs.Spelling.{numeral, spelling, spellings, depth, depths}
 use Rattle.sexp_canonical.specs.declared.tree.Sexp.{Sexp}
 use Rattle.sexp_canonical.specs.declared.tree.Sexp.TheVariants.{Atom, List as Listed}
 use Rattle.sexp_canonical.proofs.Numerals.{AreDigits, AreDigits-numeral, Leads, Leads-numeral, Ends, one_numeral}
@@ -33,6 +35,30 @@ tree_of_injective (Listed ts) (Listed us) e =
 pub spellings-row : (ts : List Tree) → spellings (row ts) ≡ flat_map spelling ts
 spellings-row [] = refl
 spellings-row (t ∷ ts) = ap (λ (s : List ℕ). spelling t ++ s) (spellings-row ts) ∙ sym (flat_map-cons spelling t ts)
+
+pub spelled_list : (items : List Tree) → spelling (list_of items) ≡ 40 ∷ (flat_map spelling items ++ 41 ∷ [])
+spelled_list items = ap (λ (s : List ℕ). 40 ∷ (s ++ 41 ∷ [])) (spellings-row items)
+
+pub row-items_of : (r : Row) → row (items_of r) ≡ r
+row-items_of end = refl
+row-items_of (item t more) = ap (item t) (row-items_of more)
+
+pub items_of-row : (ts : List Tree) → items_of (row ts) ≡ ts
+items_of-row [] = refl
+items_of-row (t ∷ ts) = ap (λ (us : List Tree). t ∷ us) (items_of-row ts)
+
+-- ---- how deep a list is
+
+pub depths-le : (ts : List Tree) (n : ℕ) → All (λ t. depth t ≤ n) ts → depths (row ts) ≤ n
+depths-le [] n h = omega arith
+depths-le (t ∷ ts) n h =
+    let P : Tree → Type 0 = λ u. depth u ≤ n in
+    let first = All-head P t ts h in
+    omega (arith, depths-le ts n (All-tail P t ts h))
+
+pub All-depths : (ts : List Tree) (n : ℕ) → depths (row ts) ≤ n → All (λ t. depth t ≤ n) ts
+All-depths [] n h = All-nil (λ t. depth t ≤ n)
+All-depths (t ∷ ts) n h = All-cons (λ u. depth u ≤ n) t ts (omega arith) (All-depths ts n (omega arith))
 
 -- ---- first bytes
 

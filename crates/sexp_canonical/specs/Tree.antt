@@ -20,6 +20,11 @@ row (t ∷ ts) = item t (row ts)
 abbrev pub list_of : List Tree → Tree
 list_of ts = branch (row ts)
 
+-- the items of a list
+abbrev pub items_of : Row → List Tree
+items_of end = []
+items_of (item t more) = t ∷ items_of more
+
 abbrev mutual
   tree_nodes : Tree → ℕ
   tree_nodes (leaf bytes) = 1

@@ -1,5 +1,8 @@
-ghost use Rattle.std.specs.Prelude.{◌≡◌, ◌++◌, ℕ, List, Result};
-ghost use Rattle.sexp_canonical.specs.Spelling.{spelling_of};
+ghost use Rattle.std.specs.Prelude.{◌≡◌, ◌↔◌, ◌+◌, ◌^◌, ◌<◌, ◌≤◌, [], ◌∷◌, ◌++◌, ℕ, List, length, All, Result};
+ghost use Rattle.std.specs.Fmt.{decimal};
+ghost use Rattle.std.specs.List.{flat_map};
+ghost use Rattle.sexp_canonical.specs.Tree.{Tree, Row, branch, row, list_of, items_of};
+ghost use Rattle.sexp_canonical.specs.Spelling.{left_paren, right_paren, numeral, spelling, spelling_of, depth};
 ghost use Rattle.sexp_canonical.specs.Reading.{Reads};
 ghost use Rattle.sexp_canonical.specs.declared.tree.Sexp.{Sexp};
 ghost use Rattle.sexp_canonical.specs.declared.fault.SexpFault.{SexpFault};
@@ -14,4 +17,21 @@ pub fn no_spelling_begins_another()
 /// fault is one.
 pub fn one_answer()
     ensures { (bytes : List ℕ) (a b : Result (Sexp × ℕ) SexpFault) → Reads bytes a → Reads bytes b → a ≡ b }
+{}
+
+/// Each list is that of its items and of no others. It is spelled by them, one after another, and it is one list deeper
+/// than the deepest of them.
+pub fn lists_are_their_items()
+    ensures made { (items : Row) → list_of (items_of items) ≡ branch items }
+    ensures one { (items : List Tree) → items_of (row items) ≡ items }
+    ensures spelled { (items : List Tree) → spelling (list_of items) ≡ left_paren ∷ flat_map spelling items ++ right_paren ∷ [] }
+    ensures deep { (items : List Tree) (n : ℕ) → (depth (list_of items) ≤ n + 1) ↔ All (λ t. depth t ≤ n) items }
+{}
+
+/// A length is written as std writes numbers, no two numbers alike, and a number below a power of ten in no more digits
+/// than the power.
+pub fn numerals_are_decimal()
+    ensures decimal { (n : ℕ) → n < 2 ^ 64 → decimal n ≡ numeral n }
+    ensures one { (m n : ℕ) → numeral m ≡ numeral n → m ≡ n }
+    ensures short { (k n : ℕ) → n < 10 ^ (k + 1) → length (numeral n) ≤ k + 1 }
 {}

@@ -2,19 +2,24 @@
 //! Rivest's "S-Expressions" (1997), without display hints.
 #![tactic(auto)]
 
+mod bytes;
+mod copying;
 mod fault;
 mod laws;
 mod reading;
 mod tree;
 mod writing;
 
+pub use bytes::Bytes;
 pub use fault::SexpFault;
-pub use laws::{no_spelling_begins_another, one_answer};
+pub use laws::{
+    lists_are_their_items, no_spelling_begins_another, numerals_are_decimal, one_answer,
+};
 pub use reading::read;
-pub use tree::{Bytes, Items, Sexp};
-pub use writing::write;
+pub use tree::{Items, Sexp};
+pub use writing::{append, append_atom, write};
 
-/// The most bytes that an expression may have where it is read.
+/// The most bytes that an expression may have where it is read. No atom of more bytes is begun either.
 pub const MAX_BYTES: usize = 65_536;
 
 /// The most lists that may be open at one place of an expression where it is read.

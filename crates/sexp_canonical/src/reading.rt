@@ -21,7 +21,8 @@ pub fn read(alloc: Global, bytes: &[u8]) -> Result<(Sexp, usize), SexpFault>
     // any time.
     ensures fault { IfErr result (λ fault. (fault ≡ SexpFault.NoMemory) ⊎ IsFirstFault (take most_bytes bytes.now) fault) }
 
-    // What the bytes say is the answer: no fault hides an expression, and no later fault an earlier one.
+    // What the bytes say is the answer: no fault hides an expression, and no later fault an earlier one. This and the next
+    // clause follow from the first two by the law `one_answer`, and stand here for callers.
     ensures only { (answer : Result (Sexp × ℕ) SexpFault) → Reads bytes.now answer
         → (result ≡ Err SexpFault.NoMemory) ⊎ (result ≡ answer) }
 

@@ -2,7 +2,7 @@ use super::*;
 use std::test::*;
 
 #[test]
-fn a_text_is_read_and_written_again(rt: HostRuntime) -> Result<(), Fail> {
+fn a_text_is_read_copied_and_written_again(rt: HostRuntime) -> Result<(), Fail> {
     let text = b"(3:abc(1:x0:))";
     let (tree, len) = read(rt.alloc(), text)?;
     assert_eq!(rt; len, 14);
@@ -11,6 +11,20 @@ fn a_text_is_read_and_written_again(rt: HostRuntime) -> Result<(), Fail> {
         Sexp::Atom(_bytes) => assert!(rt; false, "a list is read"),
         Sexp::List(items) => assert_eq!(rt; items.as_slice().len(), 2),
     }
+    let mut begun = Bytes::from(Vec::from_slice(rt.alloc(), b"(")?);
+    append(&mut begun, &tree.copy(rt.alloc())?)?;
+    append_atom(&mut begun, b"0123456789")?;
+    begun.extend_from_slice(b")")?;
+    assert_eq!(rt;
+        begun.as_slice(),
+        b"((3:abc(1:x0:))10:0123456789)".as_slice()
+    );
+    let items = Items::from(Vec::new(rt.alloc()));
+    assert_eq!(rt; items.into_vec().len(), 0);
+    no_spelling_begins_another();
+    lists_are_their_items();
+    numerals_are_decimal();
+    one_answer();
     Ok(())
 }
 
@@ -73,7 +87,7 @@ fn as_many_lists_and_bytes_as_the_limits_allow(rt: HostRuntime) -> Result<(), Fa
 }
 
 #[test]
-fn a_tree_of_many_levels_is_made_written_and_dropped(rt: HostRuntime) -> Result<(), Fail> {
+fn a_tree_of_many_levels_is_made_copied_written_and_dropped(rt: HostRuntime) -> Result<(), Fail> {
     let mut tree = Sexp::atom(rt.alloc(), b"x")?;
     for _ in 0..100_000 {
         let mut items = Vec::new(rt.alloc());
@@ -81,22 +95,7 @@ fn a_tree_of_many_levels_is_made_written_and_dropped(rt: HostRuntime) -> Result<
         items.push(Sexp::Atom(Bytes::from(Vec::new(rt.alloc()))))?;
         tree = Sexp::list(items);
     }
-    assert_eq!(rt; write(rt.alloc(), &tree)?.len(), 400_003);
-    Ok(())
-}
-
-#[test]
-fn vectors_are_given_back(rt: HostRuntime) -> Result<(), Fail> {
-    let bytes = Bytes::from(Vec::from_slice(rt.alloc(), b"ab")?);
-    assert_eq!(rt; bytes.as_slice(), b"ab".as_slice());
-    assert_eq!(rt; bytes.into_vec().as_slice(), b"ab".as_slice());
-    let mut trees = Vec::new(rt.alloc());
-    trees.push(Sexp::atom(rt.alloc(), b"a")?)?;
-    let items = Items::from(trees);
-    assert_eq!(rt; items.as_slice().len(), 1);
-    assert_eq!(rt; items.into_vec().len(), 1);
-    no_spelling_begins_another();
-    one_answer();
+    assert_eq!(rt; write(rt.alloc(), &tree.copy(rt.alloc())?)?.len(), 400_003);
     Ok(())
 }
 

@@ -3,45 +3,9 @@ ghost use Rattle.sexp_canonical.specs.Tree.{list_of};
 ghost use Rattle.sexp_canonical.specs.Dropping.{drop_steps};
 ghost use Rattle.sexp_canonical.specs.View.{trees};
 
+use crate::bytes::Bytes;
 use std::alloc::{AllocError, Global};
 use std::marker::Model;
-
-/// The bytes of an atom. Contracts see them as a list.
-#[derive(Drop)]
-pub struct Bytes(pub Vec<u8>);
-
-impl Model for Bytes {
-    ghost use Rattle.std.specs.Prelude.{List, ℕ};
-
-    ghost Value = { List ℕ };
-
-    ghost view = { λ bytes. bytes.0.items };
-}
-
-impl Bytes {
-    pub fn as_slice(&self) -> &[u8]
-        ensures { result.now ≡ self.now }
-    {
-        self.0.as_slice()
-    }
-
-    /// The vector that holds the bytes. It takes no memory.
-    pub fn into_vec(self) -> Vec<u8>
-        ensures { result.items ≡ self }
-    {
-        let Bytes(bytes) = self;
-        bytes
-    }
-}
-
-/// Takes no memory.
-impl From<Vec<u8>> for Bytes {
-    ghost from_gives = { λ bytes result. result ≡ bytes.items };
-
-    fn from(bytes: Vec<u8>) -> Bytes {
-        Bytes(bytes)
-    }
-}
 
 /// An S-expression: an atom, or a list of expressions of any depth.
 #[cycle(sexp)]

@@ -5,6 +5,7 @@ ghost use Rattle.sexp_canonical.specs.View.{tree_of, trees};
 ghost use Rattle.sexp_canonical.specs.Spelling.{right_paren, spelling, spelling_of};
 ghost use Rattle.sexp_canonical.specs.Writing.{rest_of, steps_of, begun_lists};
 
+use crate::bytes::Bytes;
 use crate::tree::Sexp;
 use itoa::Buffer;
 use std::alloc::{AllocError, Global};
@@ -13,29 +14,48 @@ use std::alloc::{AllocError, Global};
 pub fn write(alloc: Global, tree: &Sexp) -> Result<Vec<u8>, AllocError>
     ensures { IfOk result (λ text. text.items ≡ spelling_of tree.now) }
 {
-    let mut text = Vec::new(alloc);
+    let mut text = Bytes::new(alloc);
+    append(&mut text, tree)?;
+    Ok(text.into_vec())
+}
+
+/// Appends the canonical form of an expression to a text. Where the memory isn't enough, a part of it may stand there.
+pub fn append(text: &mut Bytes, tree: &Sexp) -> Result<(), AllocError>
+    ensures { OnOk result (text.new ≡ text.old ++ spelling_of tree.now) }
+{
     // What is left of each list that is begun, the innermost last.
-    let mut begun: Vec<&[Sexp]> = Vec::new(alloc);
-    begin(&mut text, &mut begun, tree)?;
+    let mut begun: Vec<&[Sexp]> = Vec::new(*text.0.allocator());
+    begin(text, &mut begun, tree)?;
     while let Some(items) = begun.pop() {
-        go_on(&mut text, &mut begun, items)?;
+        go_on(text, &mut begun, items)?;
     }
-    Ok(text)
+    Ok(())
+}
+
+/// Appends the canonical form of an atom of these bytes, or a part of it where the memory isn't enough.
+pub fn append_atom(text: &mut Bytes, bytes: &[u8]) -> Result<(), AllocError>
+    ensures { OnOk result (text.new ≡ text.old ++ spelling (leaf bytes.now)) }
+{
+    let mut buffer = Buffer::new();
+    text.extend_from_slice(buffer.format(bytes.len()).as_bytes())?;
+    text.extend_from_slice(b":")?;
+    text.extend_from_slice(bytes)?;
+    Ok(())
 }
 
 // Writes the next item of a list, or the end of the list where none is left.
 fn go_on<'a>(
-    text: &mut Vec<u8>,
+    text: &mut Bytes,
     begun: &mut Vec<&'a [Sexp]>,
     items: &'a [Sexp],
 ) -> Result<(), AllocError>
-    ensures written { OnOk result (text.new.items ++ rest_of (begun_lists begun.new.items)
-        ≡ text.old.items ++ (flat_map spelling (trees items.now) ++ right_paren ∷ rest_of (begun_lists begun.old.items))) }
+    ensures written { OnOk result (text.new ++ rest_of (begun_lists begun.new.items)
+        ≡ text.old ++ (flat_map spelling (trees items.now) ++ right_paren ∷ rest_of (begun_lists begun.old.items))) }
     ensures steps { OnOk result (steps_of (begun_lists begun.new.items)
         ≤ steps_of (begun_lists begun.old.items) + 2 * node_count (trees items.now)) }
 {
     let Some((item, others)) = items.split_first() else {
-        text.push(b')')?;
+        text.extend_from_slice(b")")?;
         return Ok(());
     };
     begun.push(others)?;
@@ -45,34 +65,24 @@ fn go_on<'a>(
 
 // Writes an atom, or the beginning of a list, whose items are then left to be written.
 fn begin<'a>(
-    text: &mut Vec<u8>,
+    text: &mut Bytes,
     begun: &mut Vec<&'a [Sexp]>,
     tree: &'a Sexp,
 ) -> Result<(), AllocError>
-    ensures written { OnOk result (text.new.items ++ rest_of (begun_lists begun.new.items)
-        ≡ text.old.items ++ (spelling_of tree.now ++ rest_of (begun_lists begun.old.items))) }
+    ensures written { OnOk result (text.new ++ rest_of (begun_lists begun.new.items)
+        ≡ text.old ++ (spelling_of tree.now ++ rest_of (begun_lists begun.old.items))) }
     ensures steps { OnOk result (steps_of (begun_lists begun.new.items)
         < steps_of (begun_lists begun.old.items) + 2 * node_count (tree_of tree.now ∷ [])) }
 {
     match tree {
         Sexp::Atom(bytes) => {
-            put_atom(text, bytes.as_slice())?;
+            append_atom(text, bytes.as_slice())?;
             Ok(())
         }
         Sexp::List(items) => {
-            text.push(b'(')?;
+            text.extend_from_slice(b"(")?;
             begun.push(items.as_slice())?;
             Ok(())
         }
     }
-}
-
-fn put_atom(text: &mut Vec<u8>, bytes: &[u8]) -> Result<(), AllocError>
-    ensures { OnOk result (text.new.items ≡ text.old.items ++ spelling (leaf bytes.now)) }
-{
-    let mut buffer = Buffer::new();
-    text.extend_from_slice(buffer.format(bytes.len()).as_bytes())?;
-    text.push(b':')?;
-    text.extend_from_slice(bytes)?;
-    Ok(())
 }

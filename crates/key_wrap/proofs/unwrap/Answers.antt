@@ -20,12 +20,12 @@ pub returns-then-ne-clause-undoes : goal.returns-then-ne-clause-undoes
 returns-then-ne-clause-undoes c plain bytes whole least most e =
     let p : IsPlain plain = record { bytes = bytes; whole = whole; least = least; most = most } in
     let s = opened c.args.key.now c.args.bytes.now plain (record { len = c.told-key; small = c.fits-key }) p e in
-    let same : c.in_ok-unwrapped.unwrapped.check ≡ initial_value = ap (λ r. r.check) (sym c.in_ok-unwrapped.ensures ∙ s) in
+    let same : c.in_ok-unwrapped.unwrapped.check ≡ initial_value = ap (λ r. r.check) (sym c.in_ok-unwrapped.ensures.registers ∙ s) in
     absurd (cc (rw same at c.ne.ensures, c.if-ne.true))
 
 pub returns-clause-undoes : goal.returns-clause-undoes
 returns-clause-undoes c plain bytes whole least most e =
     let p : IsPlain plain = record { bytes = bytes; whole = whole; least = least; most = most } in
     let s = opened c.args.key.now c.args.bytes.now plain (record { len = c.told-key; small = c.fits-key }) p e in
-    let blocks = c.deref.ensures.value ∙ ap (λ r. r.blocks) (sym c.in_ok-unwrapped.ensures ∙ s) in
-    c.in_ok-plain.ensures ∙ ap concat blocks ∙ concat-start plain p
+    let blocks = c.deref.ensures.value ∙ ap (λ r. r.blocks) (sym c.in_ok-unwrapped.ensures.registers ∙ s) in
+    c.in_ok-plain.ensures.items ∙ ap concat blocks ∙ concat-start plain p

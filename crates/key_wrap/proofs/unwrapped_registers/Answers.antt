@@ -4,8 +4,8 @@ use Rattle.key_wrap.specs.KeyWrap.{Registers, unwrap_passes}
 use Rattle.key_wrap.proofs.Steps.{unwrapped_from}
 use Rattle.key_wrap.proofs.unwrapped_registers.Goals as goal
 
-pub returns : goal.returns
-returns c =
+pub returns-clause-registers : goal.returns-clause-registers
+returns-clause-registers c =
     let items = c.in_ok-blocks.blocks.items in
     let all = c.as_chunks.result.0.now in
     let f : List ℕ → List (List ℕ) → Registers = λ k bs. unwrap_passes k (length bs) 6 (record { check = get_or all 0 []; blocks = bs }) in

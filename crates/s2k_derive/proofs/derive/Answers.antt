@@ -13,16 +13,16 @@ pieces-init c =
 
 pub pieces-preserved : goal.pieces-preserved
 pieces-preserved c =
-    let cut = piece_cut c.args.pass.now c.args.salt.now c.copies_of-copies.result c.told-salt c.copies_of-copies.ensures in
+    let cut = piece_cut c.args.pass.now c.args.salt.now c.write_copies.new.copies c.told-salt c.write_copies.ensures in
     subst (λ (m : List ℕ). Holds c.update.new.self m) (piece_more _ _ c.pieces.counter cut) (c.update.ensures _ c.pieces.invariant)
 
 pub returns : goal.returns
 returns c =
     let text = c.args.salt.now ++ c.args.pass.now in
-    let cut = piece_cut c.args.pass.now c.args.salt.now c.copies_of-copies.result c.told-salt c.copies_of-copies.ensures in
+    let cut = piece_cut c.args.pass.now c.args.salt.now c.write_copies.new.copies c.told-salt c.write_copies.ensures in
     let n = 2048 - 2048 % (8 + length c.args.pass.now) in
-    let size : length c.copies_of-copies.result ≡ 2048 = ap length c.copies_of-copies.ensures ∙ length-repeated text 2048 in
-    let pos : 0 < length (take n c.copies_of-copies.result) = omega (arith, length-take n c.copies_of-copies.result) in
+    let size : length c.write_copies.new.copies ≡ 2048 = ap length c.write_copies.ensures ∙ length-repeated text 2048 in
+    let pos : 0 < length (take n c.write_copies.new.copies) = omega (arith, length-take n c.write_copies.new.copies) in
     let all = piece_last _ _ c.max-total.result c.pieces.counter cut pos (omega arith) in
     let long : length text ≡ 8 + length c.args.pass.now = length-append _ _ ∙ ap (λ n. n + length c.args.pass.now) c.told-salt in
     let digest = c.finalize-digest.ensures _ (c.update-2.ensures _ c.pieces.invariant) in

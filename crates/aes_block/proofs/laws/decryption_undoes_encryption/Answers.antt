@@ -1,4 +1,5 @@
 use Rattle.aes_block.proofs.Undone.{decrypted-encrypted, encrypted-bytes}
+use Rattle.aes_block.proofs.Restored.{encrypted-decrypted, decrypted-bytes}
 use Rattle.aes_block.proofs.XorLemmas.{xor_of_twice}
 use Rattle.aes_block.proofs.laws.decryption_undoes_encryption.Goals as goal
 
@@ -7,6 +8,12 @@ returns-clause-block c = encrypted-bytes
 
 pub returns-clause-undone : goal.returns-clause-undone
 returns-clause-undone c = decrypted-encrypted
+
+pub returns-clause-plain : goal.returns-clause-plain
+returns-clause-plain c = decrypted-bytes
+
+pub returns-clause-restored : goal.returns-clause-restored
+returns-clause-restored c = encrypted-decrypted
 
 pub returns-clause-xor : goal.returns-clause-xor
 returns-clause-xor c = xor_of_twice

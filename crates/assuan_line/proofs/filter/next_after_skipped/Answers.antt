@@ -13,8 +13,8 @@ loop-line-init g c = record {
   beside = refl;
 }
 
-pub loop-line-preserved : goal.loop-line-preserved
-loop-line-preserved g c =
+pub loop-line-preserved-else-not-skip : goal.loop-line-preserved-else-not-skip
+loop-line-preserved-else-not-skip g c =
     let i = c.loop-line.invariant in
     let e = c.next-took.ensures in
     let skip = c.skip.ensures in

@@ -1,30 +1,58 @@
-use Rattle.std.proofs.Common.{Err, ap, arith}
-use Rattle.std.proofs.lemmas.Bool.Decides.{nat_tests}
-use Rattle.std.proofs.lemmas.Result.{err_from_is_err_and}
-use Rattle.assuan_line.specs.declared.reader.Stop.{Stop}
-use Rattle.assuan_line.proofs.Answered.{told_at_stop, told_at_lf, told_at_full}
+use Rattle.std.proofs.Common.{◌≡◌, refl, ap, sym, ◌∙◌, subst}
+use Rattle.assuan_line.specs.Ahead.{bytes_ahead}
+use Rattle.assuan_line.specs.Stops.{reader_at, HasReadOn, Decides}
+use Rattle.assuan_line.specs.declared.buffer.Ahead.{Ahead}
+use Rattle.assuan_line.specs.declared.reader.Took.{Took}
+use Rattle.assuan_line.proofs.Reading.{read_then, undecided_before, decides_since, decides_ahead}
 use Rattle.assuan_line.proofs.reader.take_line.Goals as goal
 
-pub returns-in_err-byte-clause-told : goal.returns-in_err-byte-clause-told
-returns-in_err-byte-clause-told g c =
-    let i = c.loop-byte.invariant in
-    let e = c.in_err-byte.ensures in
-    let p = err_from_is_err_and c.from_residual.result c.from_residual.ensures.1 in
-    rw (p.1, p.2) (told_at_stop _ c.args.left.now c.take_byte.new.left c.loop-byte.piece.items _ _ _ i.whole (omega arith) i.split e.none.0
-    (record {
-      end = λ is. e.end (ap (λ (s : Stop). Err s) is);
-      spent = λ is. e.spent (ap (λ (s : Stop). Err s) is);
-      fault = λ is. (e.fault (ap (λ (s : Stop). Err s) is)).0;
-      others = λ is. e.others (ap (λ (s : Stop). Err s) is);
-    }))
+pub returns-in_default : goal.returns-in_default
+returns-in_default g c =
+    let i = c.loop-took.invariant in
+    let e = c.take_line.ensures in
+    let middle = reader_at c.loop-took.ahead c.loop-took.left in
+    let after = reader_at c.take_line.new.self c.loop-took.left in
+    record {
+      taken = record {
+        middle = middle;
+        read = i.read;
+        decides =
+            decides_ahead middle after (g.S.Source.input c.args.source.now) (g.S.Source.input c.loop-took.source) c.take_line.result
+            c.in_default.not-End e.took e.line (λ some. ap bytes_ahead (e.others some));
+        budget = refl {a = c.loop-took.left};
+      };
+      alone = i.alone;
+      beside = i.beside;
+      within = e.within;
+    }
 
-pub returns-then-byte-eq-LF-clause-told : goal.returns-then-byte-eq-LF-clause-told
-returns-then-byte-eq-LF-clause-told g c =
-    let i = c.loop-byte.invariant in
-    let byte = c.in_ok-byte.ensures.byte.0 in
-    rw c.ok_or.ensures.value (told_at_lf c.line_of.result c.args.left.now c.take_byte.new.left c.loop-byte.piece.items _ _ _ i.whole (omega arith) (rw c.deref.ensures.0 at c.line_of.ensures.some) (rw c.deref.ensures.0 at c.line_of.ensures.line) i.split (rw c.if-byte-eq-LF.true at byte))
+pub returns-in-Err-clause-taken : goal.returns-in-Err-clause-taken
+returns-in-Err-clause-taken g c =
+    let i = c.loop-took.invariant in
+    let e = c.read_ahead.ensures in
+    let same : c.take_line.new.self ≡ c.loop-took.ahead = c.in-End.ensures.others refl in
+    let next = subst (λ (a : Ahead). HasReadOn (reader_at a c.loop-took.left) (g.S.Source.input c.loop-took.source) (reader_at c.read_ahead.new.ahead c.read_ahead.new.left) (g.S.Source.input c.read_ahead.new.source)) same e.read in
+    let after = reader_at c.read_ahead.new.ahead c.read_ahead.new.left in
+    record {
+      middle = after;
+      read = read_then _ (reader_at c.loop-took.ahead c.loop-took.left) after _ (g.S.Source.input c.loop-took.source) _ i.read next;
+      decides = subst (λ (t : Took). Decides after (g.S.Source.input c.args.source.now) t after (g.S.Source.input c.read_ahead.new.source)) (sym c.into.ensures)
+          (decides_since after after _ (g.S.Source.input c.args.source.now) (g.S.Source.input c.loop-took.source) (g.S.Source.input c.read_ahead.new.source) i.read.faults c.in-Err.ensures.stop);
+      budget = refl {a = c.read_ahead.new.left};
+    }
 
-pub returns-then-is_full-clause-told : goal.returns-then-is_full-clause-told
-returns-then-is_full-clause-told g c =
-    let i = c.loop-byte.invariant in
-    told_at_full c.in_ok-byte.byte c.args.left.now c.take_byte.new.left c.loop-byte.piece.items _ _ _ i.whole (λ e. omega arith) (grind (arith, nat_tests)) i.split c.in_ok-byte.ensures.byte.0
+pub returns-in-Err-clause-alone : goal.returns-in-Err-clause-alone
+returns-in-Err-clause-alone g c = λ decided. absurd (undecided_before _ _ _ _ c.loop-took.invariant.read (sym c.in-End.ensures.took) decided)
+
+pub loop-took-preserved : goal.loop-took-preserved
+loop-took-preserved g c =
+    let i = c.loop-took.invariant in
+    let e = c.read_ahead.ensures in
+    let same : c.take_line.new.self ≡ c.loop-took.ahead = c.in-End.ensures.others refl in
+    let next = subst (λ (a : Ahead). HasReadOn (reader_at a c.loop-took.left) (g.S.Source.input c.loop-took.source) (reader_at c.read_ahead.new.ahead c.read_ahead.new.left) (g.S.Source.input c.read_ahead.new.source)) same e.read in
+    record {
+      read = read_then _ (reader_at c.loop-took.ahead c.loop-took.left) (reader_at c.read_ahead.new.ahead c.read_ahead.new.left) _ (g.S.Source.input c.loop-took.source) _ i.read next;
+      alone = λ decided. absurd (undecided_before _ _ _ _ i.read (sym c.in-End.ensures.took) decided);
+      beside = e.beside ∙ i.beside;
+      within = e.within;
+    }

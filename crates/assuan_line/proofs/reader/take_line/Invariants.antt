@@ -1,19 +1,19 @@
-use Rattle.std.proofs.Common.{◌≡◌, ◌≤◌, ◌+◌, ◌-◌, length, false}
-use Rattle.agent_ports.specs.Sides.{followed_by}
-use Rattle.assuan_text.specs.LineEnds.{has_lf}
+use Rattle.std.proofs.Common.{◌≡◌, ◌≢◌}
+use Rattle.assuan_line.specs.Ahead.{bytes_ahead, IsWithin}
+use Rattle.assuan_line.specs.Next.{next_of}
+use Rattle.assuan_line.specs.Stops.{reader_at, HasReadOn}
+use Rattle.assuan_line.specs.declared.reader.Took.TheVariants.{End}
 use Rattle.assuan_line.proofs.reader.take_line.Given as goal
 
--- the bytes taken so far are those of the piece, and hold no line feed
-abbrev pub invariant-loop-byte : goal.invariant-loop-byte
-invariant-loop-byte g l =
+-- the bytes taken so far are ahead, and the source is as it was unless they were needed
+abbrev pub invariant-loop-took : goal.invariant-loop-took
+invariant-loop-took g l =
     record {
-      split : (g.S.Source.input l.fn.source).bytes ≡ followed_by l.piece.items (g.S.Source.input l.source).bytes;
-      whole : has_lf l.piece.items ≡ false;
-      short : length l.piece.items ≤ 1001;
-      budget : l.fn.left ≡ length l.piece.items + l.left;
-      faults : (g.S.Source.input l.fn.source).faults ≤ (g.S.Source.input l.source).faults;
+      read : HasReadOn (reader_at l.fn.ahead l.fn.left) (g.S.Source.input l.fn.source) (reader_at l.ahead l.left) (g.S.Source.input l.source);
+      alone : next_of (bytes_ahead l.fn.ahead) ≢ End → l.source ≡ l.fn.source;
       beside : g.S.Source.beside_input l.source ≡ g.S.Source.beside_input l.fn.source;
+      within : IsWithin l.ahead;
     }
 
-abbrev pub decreases-loop-byte : goal.decreases-loop-byte
-decreases-loop-byte g l = 1001 - length l.piece.items
+abbrev pub decreases-loop-took : goal.decreases-loop-took
+decreases-loop-took g l = l.left

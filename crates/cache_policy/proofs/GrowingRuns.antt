@@ -1,0 +1,137 @@
+-- A legal run stays legal by a mark that follows the policy of the history that is next.
+use Rattle.std.specs.Prelude.{◌≡◌, ℕ, ◌+◌, ◌<◌, ◌≤◌, ◌==◌, List, [], ◌∷◌, ◌++◌, length, fold, Bool, true, false, Option, Some, None, refl, cond, if◌then◌else◌}
+use Rattle.std.proofs.Common.{ap, sym, ◌∙◌, subst, arith}
+use Rattle.std.proofs.lemmas.List.{append_assoc, append-nil}
+use Rattle.std.proofs.lemmas.List.Sums.{fold-append}
+use Rattle.std.proofs.lemmas.Bool.Decides.{nat_tests}
+use Rattle.std.specs.List.{AllByRecursion}
+use Rattle.cache_policy.specs.declared.bounds.TheConstants.{MAX_MARKS, MAX_MOMENT}
+use Rattle.cache_policy.specs.declared.life.Limits.{Limits}
+use Rattle.cache_policy.specs.declared.mark.Mark.{Mark}
+use Rattle.cache_policy.specs.declared.history.History.{History}
+use Rattle.cache_policy.specs.Histories.{start_of, with_mark}
+use Rattle.cache_policy.specs.Policy.{Reply, policy}
+use Rattle.cache_policy.specs.Runs.{last_base, turn_over, next_history, IsFollowedBy, IsRun, joined, start_of_run, moment_before, last_history, run_with_mark}
+use Rattle.cache_policy.specs.Legal.{NeverFall, IsLegal, IsLegalRun}
+use Rattle.cache_policy.proofs.Growing.{never_fall-push, legal-with_mark, legal-turn_over}
+
+-- the last history of a run, with the mark: one history, or a full one and the next
+abbrev grown_last : History → Mark → Bool → List History
+grown_last history mark full = if full then history ∷ with_mark (turn_over history) mark ∷ [] else with_mark history mark ∷ []
+
+-- the run begins alike, and has the mark as its last one
+pub joined-run_with_mark : (run : List History) (mark : Mark) → IsRun run → joined (run_with_mark run mark) ≡ joined run ++ mark ∷ []
+joined-run_with_mark [] mark is = absurd is
+joined-run_with_mark (history ∷ []) mark is =
+    elim (length history.marks == MAX_MARKS) as (λ b. joined (grown_last history mark b) ≡ (history.marks ++ []) ++ mark ∷ []) [
+      | true ↦ sym (ap (λ (marks : List Mark). marks ++ mark ∷ []) (append-nil history.marks))
+      | false ↦ append-nil (history.marks ++ mark ∷ []) ∙ sym (ap (λ (marks : List Mark). marks ++ mark ∷ []) (append-nil history.marks))
+    ]
+joined-run_with_mark (history ∷ next ∷ later) mark is =
+    ap (λ (marks : List Mark). history.marks ++ marks) (joined-run_with_mark (next ∷ later) mark is.1)
+    ∙ sym (append_assoc history.marks (joined (next ∷ later)) (mark ∷ []))
+
+pub start-run_with_mark : (run : List History) (mark : Mark) → start_of_run (run_with_mark run mark) ≡ start_of_run run
+start-run_with_mark [] mark = refl
+start-run_with_mark (history ∷ []) mark = elim (length history.marks == MAX_MARKS) as (λ b. start_of_run (grown_last history mark b) ≡ Some (start_of history)) [ true ↦ refl | false ↦ refl ]
+start-run_with_mark (history ∷ next ∷ later) mark = refl
+
+followed_by_turn_over : (history : History) (mark : Mark) → length history.marks ≡ MAX_MARKS → IsFollowedBy history (with_mark (turn_over history) mark)
+followed_by_turn_over history mark full = record { full = full; start = refl }
+
+is_run_after : (front history : History) (later : List History) (mark : Mark) → IsFollowedBy front history
+    → IsRun (history ∷ later) → IsRun (front ∷ run_with_mark (history ∷ later) mark)
+is_run_after front history [] mark followed is =
+    elim (length history.marks == MAX_MARKS) as (λ b. (length history.marks == MAX_MARKS) ≡ b → IsRun (front ∷ grown_last history mark b)) [
+      | true ↦ λ e. (followed, (followed_by_turn_over history mark (grind (arith, nat_tests)), tt))
+      | false ↦ λ e. (record { full = followed.full; start = followed.start }, tt)
+    ] refl
+is_run_after front history (next ∷ more) mark followed is = (followed, is_run_after history next more mark is.0 is.1)
+
+-- it is a run
+pub is_run-run_with_mark : (run : List History) (mark : Mark) → IsRun run → IsRun (run_with_mark run mark)
+is_run-run_with_mark [] mark is = absurd is
+is_run-run_with_mark (history ∷ []) mark is =
+    elim (length history.marks == MAX_MARKS) as (λ b. (length history.marks == MAX_MARKS) ≡ b → IsRun (grown_last history mark b)) [
+      | true ↦ λ e. (followed_by_turn_over history mark (grind (arith, nat_tests)), tt)
+      | false ↦ λ e. tt
+    ] refl
+is_run-run_with_mark (history ∷ next ∷ later) mark is = is_run_after history next later mark is.0 is.1
+
+-- a run's marks end with those of its last history
+record EndsWith (run : List History) (history : History) : Type 0 where
+  pub front : List Mark
+  pub marks : joined run ≡ front ++ history.marks
+
+ends_with : (run : List History) (history : History) → last_history run ≡ Some history → EndsWith run history
+ends_with [] history last = absurd (cc)
+ends_with (first ∷ []) history last =
+    let same : first ≡ history = cc in
+    record { front = []; marks = append-nil first.marks ∙ ap (λ (h : History). h.marks) same }
+ends_with (first ∷ next ∷ later) history last =
+    let rest = ends_with (next ∷ later) history last in
+    record {
+      front = first.marks ++ rest.front;
+      marks = ap (λ (marks : List Mark). first.marks ++ marks) rest.marks ∙ sym (append_assoc first.marks rest.front history.marks);
+    }
+
+-- the moment of the last mark doesn't depend on what was before, where there is a mark
+since_start : (since : ℕ) (marks : List Mark) → fold (λ _ (m : Mark). m.moment) 0 marks ≤ fold (λ _ (m : Mark). m.moment) since marks
+since_start since [] = omega arith
+since_start since (mark ∷ later) = omega arith
+
+moment_before-last : (run : List History) (history : History) → last_history run ≡ Some history
+    → moment_before history.marks ≤ moment_before (joined run)
+moment_before-last run history last =
+    let ends = ends_with run history last in
+    subst (λ (moment : ℕ). moment_before history.marks ≤ moment)
+    (sym (ap moment_before ends.marks ∙ fold-append (λ _ (m : Mark). m.moment) 0 ends.front history.marks))
+    (since_start (moment_before ends.front) history.marks)
+
+-- the next history of a legal one is legal, and has room for a mark
+record HasRoom (limits : Limits) (history : History) : Type 0 where
+  pub legal : IsLegal limits history
+  pub few : length history.marks < MAX_MARKS
+
+next_has_room : (limits : Limits) (history : History) → IsLegal limits history → HasRoom limits (next_history history)
+next_has_room limits history legal =
+    elim (length history.marks == MAX_MARKS) as (λ b. (length history.marks == MAX_MARKS) ≡ b → HasRoom limits (if b then turn_over history else history)) [
+      | true ↦ λ e. record { legal = legal-turn_over limits history legal (grind (arith, nat_tests)); few = omega arith }
+      | false ↦ λ e. record { legal = legal; few = grind (arith, nat_tests, legal.few) }
+    ] refl
+
+next_moment : (history : History) → moment_before (next_history history).marks ≤ moment_before history.marks
+next_moment history = elim (length history.marks == MAX_MARKS) as (λ b. moment_before (if b then turn_over history else history).marks ≤ moment_before history.marks) [ true ↦ omega arith | false ↦ omega arith ]
+
+all_grown : (limits : Limits) (run : List History) (history : History) (mark : Mark) → last_history run ≡ Some history
+    → AllByRecursion (IsLegal limits) run → IsLegal limits (with_mark (next_history history) mark)
+    → AllByRecursion (IsLegal limits) (run_with_mark run mark)
+all_grown limits [] history mark last each legal = absurd (cc)
+all_grown limits (first ∷ []) history mark last each legal =
+    let same : history ≡ first = cc in
+    elim (length first.marks == MAX_MARKS) as (λ b. IsLegal limits (with_mark (if b then turn_over first else first) mark) → AllByRecursion (IsLegal limits) (grown_last first mark b)) [
+      | true ↦ λ l. (each.0, (l, tt))
+      | false ↦ λ l. (l, tt)
+    ] (subst (λ (h : History). IsLegal limits (with_mark (next_history h) mark)) same legal)
+all_grown limits (first ∷ next ∷ later) history mark last each legal = (each.0, all_grown limits (next ∷ later) history mark last each.1 legal)
+
+last_of_all : (limits : Limits) (run : List History) (history : History) → last_history run ≡ Some history
+    → AllByRecursion (IsLegal limits) run → IsLegal limits history
+last_of_all limits [] history last each = absurd (cc)
+last_of_all limits (first ∷ []) history last each = let same : first ≡ history = cc in subst (IsLegal limits) same each.0
+last_of_all limits (first ∷ next ∷ later) history last each = last_of_all limits (next ∷ later) history last each.1
+
+-- A legal run with one mark more is legal, where the mark follows the policy of the next history, which isn't spent, and its moment
+-- doesn't fall.
+pub legal-run_with_mark : (limits : Limits) (run : List History) (history : History) (mark : Mark) → IsLegalRun limits run
+    → last_history run ≡ Some history → policy limits (next_history history) mark.step mark.moment ≡ Reply mark.reply
+    → moment_before (joined run) ≤ mark.moment → mark.moment ≤ MAX_MOMENT → (next_history history).base < last_base
+    → IsLegalRun limits (run_with_mark run mark)
+legal-run_with_mark limits run history mark legal last rules later within going =
+    let next = next_has_room limits history (last_of_all limits run history last legal.each) in
+    record {
+      turns_over = is_run-run_with_mark run mark legal.turns_over;
+      each = all_grown limits run history mark last legal.each
+          (legal-with_mark limits (next_history history) mark next.legal rules (omega (arith, next_moment history, moment_before-last run history last, later)) within going next.few);
+      moments = subst (NeverFall 0) (sym (joined-run_with_mark run mark legal.turns_over)) (never_fall-push 0 (joined run) mark legal.moments later within);
+    }

@@ -1,0 +1,27 @@
+ghost use Rattle.std.specs.Prelude.{◌≡◌, true, None, Some, IfErr, IfSome};
+ghost use Rattle.cache_policy.specs.declared.mark.MarkStep.{MarkStep};
+ghost use Rattle.cache_policy.specs.Turns.{Turn, mark_step, turn_of, opens, closes};
+ghost use Rattle.cache_policy.specs.Desks.{AtDesk, IsTurn};
+
+use crate::{Refused, Reply, Step};
+
+/// Where one session takes its turns, while other sessions take theirs.
+pub trait Desk {
+    /// The lifetimes, the session, the histories so far where they are known, and the ticket that the session has.
+    ghost at: { Self → AtDesk };
+
+    /// A desk shows its turns by this relation between itself before a turn, the step, the turn, and itself after.
+    ghost turned: { Self → MarkStep → Turn → Self → Type 0 };
+
+    /// Takes one turn. It waits in place of a reply Stand. A step that finds no memory is handed back.
+    fn turn(&mut self, step: Step) -> Result<Reply, Refused>
+        // A session that has a ticket gives it back before it wants the prompt again, and gives back no other.
+        requires free { opens (mark_step step) ≡ true → (at self.old).out ≡ None }
+        requires own { IfSome (closes (mark_step step)) (λ number. (at self.old).out ≡ Some number) }
+        ensures turned { turned self.old (mark_step step) (turn_of result) self.new }
+        ensures refused { IfErr result (λ refused. refused.step ≡ step) };
+
+    /// What every turn does.
+    ghost promise: { (before : Self) (asked : MarkStep) (turn : Turn) (after : Self) → turned before asked turn after
+        → IsTurn (at before) asked turn (at after) };
+}
