@@ -75,7 +75,9 @@ module _ (bytes : List ℕ) (before now : Connection) (rest : List ℕ) (sent : 
     }
 
     -- the line was cut
-    pub written_cut : (part : ℕ) → (others : (later : List (List ℕ)) × AreData (drop count rest) later) → HasWritten (line_of (data_line (take count rest))) now (Failed part) after → (pieces : List (List ℕ)) × AreData bytes pieces × HasWritten (data_text pieces) before (Failed (min (sent + part) (2 ^ 64 - 1))) after
+    pub written_cut : (part : ℕ) → (others : (later : List (List ℕ)) × AreData (drop count rest) later)
+        → HasWritten (line_of (data_line (take count rest))) now (Failed part) after
+        → (pieces : List (List ℕ)) × AreData bytes pieces × HasWritten (data_text pieces) before (Failed (min (sent + part) (2 ^ 64 - 1))) after
     written_cut part later wrote =
         let cut : HasCut (line_of (data_line (take count rest))) now.output part after.output = wrote.output in
         let whole : data_text (writing.done ++ take count rest ∷ later.0) ≡ (data_text writing.done ++ cut.sent) ++ (cut.unsent ++ data_text later.0) =
