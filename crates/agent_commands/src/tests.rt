@@ -68,6 +68,16 @@ const REFUSALS: [(&[u8], Code); 36] = [
     (b"PRESET_PASSPHRASE id1 --inquire 25", Code::Parameter),
 ];
 
+/// A line, and whether it is refused with so many of one byte after it.
+const LONG_LINES: [(&[u8], u8, usize, bool); 6] = [
+    (b"NOP", b' ', 997, false),
+    (b"GET_PASSPHRASE ", b'a', 50, false),
+    (b"GET_PASSPHRASE ", b'a', 51, true),
+    (b"PRESET_PASSPHRASE --inquire ", b'a', 51, true),
+    (b"PRESET_PASSPHRASE id1 -1 ", b'6', 510, false),
+    (b"PRESET_PASSPHRASE id1 -1 ", b'6', 512, true),
+];
+
 #[test]
 fn refusals_have_their_codes(rt: HostRuntime) -> Result<(), Fail> {
     for (line, code) in REFUSALS {
@@ -77,174 +87,149 @@ fn refusals_have_their_codes(rt: HostRuntime) -> Result<(), Fail> {
             "at {line:?}"
         );
     }
+    for (front, byte, count, refused) in LONG_LINES {
+        let answer = request(&long_line(front, byte, count)?)?;
+        assert_eq!(rt;
+            matches!(&answer, Request::Bad(Code::Parameter)),
+            refused,
+            "at {front:?}"
+        );
+    }
     Ok(())
 }
 
+const INFOS: [(&[u8], Info); 10] = [
+    (b"getinfo version", Info::Version),
+    (b"GETINFO\tpid more", Info::Pid),
+    (b"GETINFO --frob s2k_count", Info::S2kCount),
+    (b"GETINFO -- version", Info::Version),
+    (b"GETINFO cmd_has_option GET_PASSPHRASE data", Info::Listed),
+    (b"GETINFO cmd_has_option GET_PASSPHRASE check", Info::Listed),
+    (
+        b"GETINFO cmd_has_option GET_PASSPHRASE no-ask",
+        Info::Listed,
+    ),
+    (
+        b"GETINFO cmd_has_option GET_PASSPHRASE repeat",
+        Info::Listed,
+    ),
+    (
+        b"GETINFO cmd_has_option GET_PASSPHRASE qualitybar",
+        Info::Listed,
+    ),
+    (
+        b"GETINFO cmd_has_option PRESET_PASSPHRASE inquire x",
+        Info::Listed,
+    ),
+];
+
+const OPTION_TEXTS: [(&[u8], &[u8]); 4] = [
+    (b"OPTION --ttyname = /dev/pts/1", b"--ttyname = /dev/pts/1"),
+    (b"option \t s2k-count=65535 ", b"s2k-count=65535 "),
+    (b"OPTION -- x", b"-- x"),
+    (b"OPTION", b""),
+];
+
 #[test]
 fn commands_are_known_in_any_case(rt: HostRuntime) -> Result<(), Fail> {
-    use CacheCommand::{Bye, GetInfo, Help, Nop, Reset};
+    use CacheCommand::{Bye, GetInfo, Help, Nop, Reset, SetOption};
     assert!(rt; matches!(request(b"nop")?, Request::Cache(Nop)));
     assert!(rt; matches!(request(b" \tReSeT and more")?, Request::Cache(Reset)));
     assert!(rt; matches!(request(b"BYE")?, Request::Cache(Bye)));
     assert!(rt; matches!(request(b"help GETINFO")?, Request::Cache(Help)));
-    let infos: [(&[u8], Info); 10] = [
-        (b"getinfo version", Info::Version),
-        (b"GETINFO\tpid more", Info::Pid),
-        (b"GETINFO --frob s2k_count", Info::S2kCount),
-        (b"GETINFO -- version", Info::Version),
-        (b"GETINFO cmd_has_option GET_PASSPHRASE data", Info::Listed),
-        (b"GETINFO cmd_has_option GET_PASSPHRASE check", Info::Listed),
-        (
-            b"GETINFO cmd_has_option GET_PASSPHRASE no-ask",
-            Info::Listed,
-        ),
-        (
-            b"GETINFO cmd_has_option GET_PASSPHRASE repeat",
-            Info::Listed,
-        ),
-        (
-            b"GETINFO cmd_has_option GET_PASSPHRASE qualitybar",
-            Info::Listed,
-        ),
-        (
-            b"GETINFO cmd_has_option PRESET_PASSPHRASE inquire x",
-            Info::Listed,
-        ),
-    ];
-    for (line, info) in infos {
+    for (line, info) in INFOS {
         let answer = request(line)?;
         assert!(rt;
             matches!(&answer, Request::Cache(GetInfo(known)) if *known == info),
             "at {line:?}"
         );
     }
-    let full = long_line(b"NOP", b' ', 997)?;
-    assert!(rt; matches!(request(&full)?, Request::Cache(Nop)));
-    assert!(rt; Line::of(&long_line(b"NOP", b' ', 998)?).is_none());
-    Ok(())
-}
-
-#[test]
-fn the_text_of_an_option_is_kept(rt: HostRuntime) -> Result<(), Fail> {
-    let cases: [(&[u8], &[u8]); 4] = [
-        (b"OPTION --ttyname = /dev/pts/1", b"--ttyname = /dev/pts/1"),
-        (b"option \t s2k-count=65535 ", b"s2k-count=65535 "),
-        (b"OPTION -- x", b"-- x"),
-        (b"OPTION", b""),
-    ];
-    for (line, kept) in cases {
+    for (line, kept) in OPTION_TEXTS {
         let answer = request(line)?;
         assert!(rt;
-            matches!(&answer, Request::Cache(CacheCommand::SetOption { text }) if text.as_slice() == kept),
+            matches!(&answer, Request::Cache(SetOption { text }) if text.as_slice() == kept),
             "at {line:?}"
         );
     }
+    commands_are_as_defined();
     Ok(())
 }
 
 /// `--data`, `--check`, `--no-ask`, `--repeat` and `--qualitybar`.
 type Chosen = (bool, bool, bool, u8, bool);
 
-#[test]
-fn options_are_read_in_order(rt: HostRuntime) -> Result<(), Fail> {
-    let cases: [(&[u8], Chosen); 9] = [
-        (b"GET_PASSPHRASE id1", (false, false, false, 0, false)),
-        (
-            b"GET_PASSPHRASE --no-ask --data id1",
-            (true, false, true, 0, false),
-        ),
-        (
-            b"get_passphrase --check --qualitybar --repeat id1",
-            (false, true, false, 1, true),
-        ),
-        (
-            b"GET_PASSPHRASE --frob --data=1 --no-as id1",
-            (false, false, false, 0, false),
-        ),
-        (
-            b"GET_PASSPHRASE --repeat=17 --repeat=16 id1",
-            (false, false, false, 16, false),
-        ),
-        (
-            b"GET_PASSPHRASE --repeat=2 --repeat --repeats=9 id1",
-            (false, false, false, 1, false),
-        ),
-        (
-            b"GET_PASSPHRASE --repeat=00 -- id1",
-            (false, false, false, 0, false),
-        ),
-        (
-            b"GET_PASSPHRASE -- --data a b c",
-            (false, false, false, 0, false),
-        ),
-        (
-            b"GET_PASSPHRASE --DATA id1 --data x y",
-            (false, false, false, 0, false),
-        ),
-    ];
-    for (line, chosen) in cases {
-        let Request::Cache(
-            CacheCommand::GetPassphrase {
-                plain,
-                check,
-                no_ask,
-                repeat,
-                quality,
-                ..
-            },
-        ) = request(line)?
-        else {
-            return Err("no request for a passphrase".into());
-        };
-        assert_eq!(rt;
-            (plain, check, no_ask, repeat, quality),
-            chosen,
-            "at {line:?}"
-        );
-    }
-    Ok(())
-}
+const GETS: [(&[u8], Chosen); 9] = [
+    (b"GET_PASSPHRASE id1", (false, false, false, 0, false)),
+    (
+        b"GET_PASSPHRASE --no-ask --data id1",
+        (true, false, true, 0, false),
+    ),
+    (
+        b"get_passphrase --check --qualitybar --repeat id1",
+        (false, true, false, 1, true),
+    ),
+    (
+        b"GET_PASSPHRASE --frob --data=1 --no-as id1",
+        (false, false, false, 0, false),
+    ),
+    (
+        b"GET_PASSPHRASE --repeat=17 --repeat=16 id1",
+        (false, false, false, 16, false),
+    ),
+    (
+        b"GET_PASSPHRASE --repeat=2 --repeat --repeats=9 id1",
+        (false, false, false, 1, false),
+    ),
+    (
+        b"GET_PASSPHRASE --repeat=00 -- id1",
+        (false, false, false, 0, false),
+    ),
+    (
+        b"GET_PASSPHRASE -- --data a b c",
+        (false, false, false, 0, false),
+    ),
+    (
+        b"GET_PASSPHRASE --DATA id1 --data x y",
+        (false, false, false, 0, false),
+    ),
+];
+
+const TEXTS: [(&[u8], &[u8], &[u8], &[u8]); 3] = [
+    (
+        b"GET_PASSPHRASE X X X X",
+        b"",
+        b"Passphrase:",
+        b"Please enter the passphrase",
+    ),
+    (
+        b"GET_PASSPHRASE X a+b 100%25 %c3%A9%2B more",
+        b"a b",
+        b"100%",
+        b"\xC3\xA9+",
+    ),
+    (b"GET_PASSPHRASE X x %58 XX", b"x", b"X", b"XX"),
+];
 
 #[test]
-fn ids_have_up_to_50_bytes(rt: HostRuntime) -> Result<(), Fail> {
-    let line = long_line(b"GET_PASSPHRASE ", b'a', 50)?;
-    let answer = request(&line)?;
-    assert!(rt;
-        matches!(
-            &answer,
-            Request::Cache(CacheCommand::GetPassphrase { id: Some(id), texts: None, .. }) if id.bytes().len() == 50
-        )
-    );
-    let line = long_line(b"GET_PASSPHRASE ", b'a', 51)?;
-    assert!(rt; matches!(request(&line)?, Request::Bad(Code::Parameter)));
-    let line = long_line(b"PRESET_PASSPHRASE --inquire ", b'a', 51)?;
-    assert!(rt; matches!(request(&line)?, Request::Bad(Code::Parameter)));
-    Ok(())
-}
-
-#[test]
-fn texts_are_read(rt: HostRuntime) -> Result<(), Fail> {
-    let cases: [(&[u8], &[u8], &[u8], &[u8]); 3] = [
-        (
-            b"GET_PASSPHRASE X X X X",
-            b"",
-            b"Passphrase:",
-            b"Please enter the passphrase",
-        ),
-        (
-            b"GET_PASSPHRASE X a+b 100%25 %c3%A9%2B more",
-            b"a b",
-            b"100%",
-            b"\xC3\xA9+",
-        ),
-        (b"GET_PASSPHRASE X x %58 XX", b"x", b"X", b"XX"),
-    ];
-    for (line, error, prompt, description) in cases {
+fn passphrases_are_asked_for(rt: HostRuntime) -> Result<(), Fail> {
+    use CacheCommand::GetPassphrase;
+    for (line, chosen) in GETS {
         let answer = request(line)?;
         assert!(rt;
             matches!(
                 &answer,
-                Request::Cache(CacheCommand::GetPassphrase { id: None, texts: Some(texts), .. })
+                Request::Cache(GetPassphrase { plain, check, no_ask, repeat, quality, .. })
+                    if (*plain, *check, *no_ask, *repeat, *quality) == chosen
+            ),
+            "at {line:?}"
+        );
+    }
+    for (line, error, prompt, description) in TEXTS {
+        let answer = request(line)?;
+        assert!(rt;
+            matches!(
+                &answer,
+                Request::Cache(GetPassphrase { id: None, texts: Some(texts), .. })
                     if texts.error.as_slice() == error
                         && texts.prompt.as_slice() == prompt
                         && texts.description.as_slice() == description
@@ -255,71 +240,58 @@ fn texts_are_read(rt: HostRuntime) -> Result<(), Fail> {
     Ok(())
 }
 
+const PRESETS: [(&[u8], &[u8], Life, Option<&[u8]>); 6] = [
+    (
+        b"PRESET_PASSPHRASE id1 -1 25",
+        b"id1",
+        Life::Endless,
+        Some(b"%"),
+    ),
+    (
+        b"preset_passphrase --frob id1 0 736563726574 more",
+        b"id1",
+        Life::Default,
+        Some(b"secret"),
+    ),
+    (
+        b"PRESET_PASSPHRASE X 0000000010 c3A9",
+        b"X",
+        Life::Seconds(10),
+        Some(b"\xC3\xA9"),
+    ),
+    (
+        b"PRESET_PASSPHRASE -- --id 2147483647 00",
+        b"--id",
+        Life::Seconds(2_147_483_647),
+        Some(b"\x00"),
+    ),
+    (
+        b"PRESET_PASSPHRASE --inquire id1 -1",
+        b"id1",
+        Life::Endless,
+        None,
+    ),
+    (
+        b"PRESET_PASSPHRASE --inquire=1 id1 000 ff",
+        b"id1",
+        Life::Default,
+        Some(b"\xFF"),
+    ),
+];
+
 #[test]
 fn presets_are_read(rt: HostRuntime) -> Result<(), Fail> {
-    let cases: [(&[u8], &[u8], Life, Option<&[u8]>); 6] = [
-        (
-            b"PRESET_PASSPHRASE id1 -1 25",
-            b"id1",
-            Life::Endless,
-            Some(b"%"),
-        ),
-        (
-            b"preset_passphrase --frob id1 0 736563726574 more",
-            b"id1",
-            Life::Default,
-            Some(b"secret"),
-        ),
-        (
-            b"PRESET_PASSPHRASE X 0000000010 c3A9",
-            b"X",
-            Life::Seconds(10),
-            Some(b"\xC3\xA9"),
-        ),
-        (
-            b"PRESET_PASSPHRASE -- --id 2147483647 00",
-            b"--id",
-            Life::Seconds(2_147_483_647),
-            Some(b"\x00"),
-        ),
-        (
-            b"PRESET_PASSPHRASE --inquire id1 -1",
-            b"id1",
-            Life::Endless,
-            None,
-        ),
-        (
-            b"PRESET_PASSPHRASE --inquire=1 id1 000 ff",
-            b"id1",
-            Life::Default,
-            Some(b"\xFF"),
-        ),
-    ];
-    for (line, name, lasting, bytes) in cases {
+    for (line, name, lasting, bytes) in PRESETS {
         let Request::Cache(CacheCommand::PresetPassphrase { id, life, secret }) = request(line)?
         else {
             return Err("no preset".into());
         };
-        assert_eq!(rt; id.bytes(), name);
-        assert_eq!(rt; life, lasting);
+        assert_eq!(rt; (id.bytes(), life), (name, lasting), "at {line:?}");
         let given = match &secret {
             Some(secret) => Some(secret.bytes()),
             None => None,
         };
-        assert_eq!(rt; given, bytes);
+        assert_eq!(rt; given, bytes, "at {line:?}");
     }
-    let front = b"PRESET_PASSPHRASE id1 -1 ";
-    let line = long_line(front, b'6', 510)?;
-    assert!(rt;
-        matches!(
-            request(&line)?,
-            Request::Cache(CacheCommand::PresetPassphrase {
-                secret: Some(_),
-                ..
-            })
-        )
-    );
-    let line = long_line(front, b'6', 512)?;
-    assert!(rt; matches!(request(&line)?, Request::Bad(Code::Parameter)));
     Ok(())
 }

@@ -24,7 +24,8 @@ length-escapes-front : (front rest : List ℕ) → length (escapes front) ≤ le
 length-escapes-front front rest = omega (arith, ap length (flat_map-append escape_of front rest), length-append (escapes front) (escapes rest))
 
 -- a piece that is full is no shorter than another for the same bytes
-not_shorter : (piece : List ℕ) (more : List (List ℕ)) (other rest : List ℕ) → piece ++ flat_map (λ p. p) more ≡ other ++ rest → All IsPiece more → IsFullBefore piece more → length (data_line other) ≤ 1000 → length piece < length other → ⊥
+not_shorter : (piece : List ℕ) (more : List (List ℕ)) (other rest : List ℕ) → piece ++ flat_map (λ p. p) more ≡ other ++ rest → All IsPiece more
+    → IsFullBefore piece more → length (data_line other) ≤ 1000 → length piece < length other → ⊥
 not_shorter piece [] other rest same each full short less =
     omega (arith, ap length same, length-append piece [], length-append other rest)
 not_shorter piece ([] ∷ more) other rest same each full short less = omega (arith, (All-head IsPiece [] more each).0)
@@ -90,7 +91,8 @@ last_piece first piece short = record {
 }
 
 -- the piece, and then others
-piece_before : (first byte : ℕ) (piece rest : List ℕ) → length (data_line (first ∷ piece)) ≤ 1000 → 1000 < length (data_line (first ∷ piece)) + length (escape_of byte) → HasPieces byte rest → HasPieces first ((first ∷ piece) ++ rest)
+piece_before : (first byte : ℕ) (piece rest : List ℕ) → length (data_line (first ∷ piece)) ≤ 1000
+    → 1000 < length (data_line (first ∷ piece)) + length (escape_of byte) → HasPieces byte rest → HasPieces first ((first ∷ piece) ++ rest)
 piece_before first byte piece rest short full others = record {
   pieces = (first ∷ piece) ∷ others.pieces;
   is = record {
@@ -119,7 +121,9 @@ pieces_of (byte ∷ bytes) =
     (has.pieces, has.is)
 
 -- a first piece, and pieces of what follows it
-pub with_piece : (rest : List ℕ) (count : ℕ) → 0 < count → count ≤ length rest → length (data_line (take count rest)) ≤ 1000 → (count < length rest → 1000 < length (data_line (take count rest)) + length (escape_of (get_or rest count 0))) → (later : List (List ℕ)) → AreData (drop count rest) later → AreData rest (take count rest ∷ later)
+pub with_piece : (rest : List ℕ) (count : ℕ) → 0 < count → count ≤ length rest → length (data_line (take count rest)) ≤ 1000
+    → (count < length rest → 1000 < length (data_line (take count rest)) + length (escape_of (get_or rest count 0))) → (later : List (List ℕ))
+    → AreData (drop count rest) later → AreData rest (take count rest ∷ later)
 with_piece rest count some within short full later are = record {
   joined = ap (λ (x : List ℕ). take count rest ++ x) are.joined ∙ take-append-drop count rest;
   each = All-cons IsPiece (take count rest) later (omega (arith, length-take-le count rest within), short) are.each;

@@ -2,7 +2,8 @@
 -- libgpg-error.
 use Rattle.std.specs.Prelude.{ℕ, ◌+◌, ◌*◌, List, ◌++◌, codes, decimal}
 use Rattle.assuan_server.specs.declared.errors.Code.{Code}
-use Rattle.assuan_server.specs.declared.errors.Code.TheVariants.{General, BadSecKey, Checksum, BadPass, NoSecKey, NoData, NotSupported, Timeout, InvSexp, NoPinentry, NotTrusted, Cancelled, NotConfirmed, UnknownOption, Forbidden, LineTooLong, TooMuch, Unexpected, UnknownCommand, Parameter, FileExists, NoMemory}
+use Rattle.assuan_server.specs.declared.errors.Code.TheVariants.{General, BadSecKey, Checksum, BadPass, NoSecKey, NoData, NotSupported, Timeout, InvSexp, NoPinentry}
+use Rattle.assuan_server.specs.declared.errors.Code.TheVariants.{NotTrusted, Cancelled, NotConfirmed, UnknownOption, Forbidden, LineTooLong, TooMuch, Unexpected, UnknownCommand, Parameter, FileExists, NoMemory}
 use Rattle.assuan_server.specs.declared.errors.Origin.{Origin}
 use Rattle.assuan_server.specs.declared.errors.Origin.TheVariants.{Agent, Pinentry}
 

@@ -1,5 +1,5 @@
 -- The definitions on worked examples, each by computation.
-use Rattle.std.specs.Prelude.{◌≡◌, [], ◌∷◌, ◌++◌, codes, true, false, Some, None, refl}
+use Rattle.std.specs.Prelude.{◌≡◌, [], ◌∷◌, codes, true, false, Some, None, refl}
 use Rattle.assuan_text.specs.Forms.{is_ignored, is_idle, is_data}
 use Rattle.assuan_text.specs.Numbers.{number_of}
 use Rattle.assuan_text.specs.Options.{options_of, arguments_of, last_option, last_value}

@@ -39,7 +39,8 @@ without_blanks-append (byte ∷ blanks) rest h =
     ∙ without_blanks-append blanks rest parts.1
 
 -- what is left without the dashes decides
-pub judged_parts : (old : Choices) (text name rest value : List ℕ) → without (codes "--") text ≡ name ++ rest → list_any ends_name name ≡ false → ends rest ≡ true → without_blanks (without (codes "=") (without_blanks rest)) ≡ value → judged old text ≡ judged_as old name value
+pub judged_parts : (old : Choices) (text name rest value : List ℕ) → without (codes "--") text ≡ name ++ rest → list_any ends_name name ≡ false
+    → ends rest ≡ true → without_blanks (without (codes "=") (without_blanks rest)) ≡ value → judged old text ≡ judged_as old name value
 unfolding judged
 judged_parts old text name rest value bare whole ended is =
     let place = name_ends name rest whole ended in
@@ -55,7 +56,8 @@ judged_parts old text name rest value bare whole ended is =
     ap (λ (x : List ℕ). judged_as old x (value_of text)) is_name ∙ ap (judged_as old name) is_value
 
 -- blanks, the mark and blanks before a value fall away
-pub marked : (before after value : List ℕ) → list_all is_blank before ≡ true → list_all is_blank after ≡ true → is_blank (get_or value 0 0) ≡ false → without_blanks (without (codes "=") (without_blanks (before ++ (61 ∷ (after ++ value))))) ≡ value
+pub marked : (before after value : List ℕ) → list_all is_blank before ≡ true → list_all is_blank after ≡ true → is_blank (get_or value 0 0) ≡ false
+    → without_blanks (without (codes "=") (without_blanks (before ++ (61 ∷ (after ++ value))))) ≡ value
 marked before after value blank blanks plain =
     ap (λ (r : List ℕ). without_blanks (without (codes "=") r)) (without_blanks-append before (61 ∷ (after ++ value)) blank)
     ∙ without_blanks-append after value blanks ∙ without_blanks-plain value plain
@@ -70,7 +72,8 @@ without_mark [] h = refl
 without_mark (byte ∷ value) h =
     ap (λ (b : Bool). cond (b && true) (drop 1 (byte ∷ value)) (byte ∷ value)) (or_parts (is_blank byte) (byte == 61) h).1
 
-pub unmarked : (blank : ℕ) (before value : List ℕ) → is_blank blank ≡ true → list_all is_blank before ≡ true → ends_name (get_or value 0 0) ≡ false → without_blanks (without (codes "=") (without_blanks (blank ∷ (before ++ value)))) ≡ value
+pub unmarked : (blank : ℕ) (before value : List ℕ) → is_blank blank ≡ true → list_all is_blank before ≡ true → ends_name (get_or value 0 0) ≡ false
+    → without_blanks (without (codes "=") (without_blanks (blank ∷ (before ++ value)))) ≡ value
 unmarked blank before value one blanks plain =
     let first = or_parts (is_blank (get_or value 0 0)) (get_or value 0 0 == 61) plain in
     ap (λ (r : List ℕ). without_blanks (without (codes "=") r))

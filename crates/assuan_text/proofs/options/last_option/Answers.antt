@@ -14,7 +14,8 @@ or_one (Some x) named option before = refl
 or_one None true option before = refl
 or_one None false option before = refl
 
-step : (name option : List ℕ) (before : Option (List ℕ)) (words more : List (List ℕ)) (named : Bool) → options_of words ≡ option ∷ options_of more → names_option name option ≡ named → last name (cond named (Some option) before) (options_of more) ≡ last name before (options_of words)
+step : (name option : List ℕ) (before : Option (List ℕ)) (words more : List (List ℕ)) (named : Bool) → options_of words ≡ option ∷ options_of more
+    → names_option name option ≡ named → last name (cond named (Some option) before) (options_of more) ≡ last name before (options_of words)
 step name option before words more named is e =
     or_one (find (names_option name) (reverse (options_of more))) named option before
     ∙ sym (ap (last name before) is
