@@ -10,19 +10,16 @@ use Rattle.assuan_line.proofs.Parts.{line_tells}
 use Rattle.assuan_line.proofs.Places.{place_behind, place_in_front, place_within, none_before, some_there, none_there}
 use Rattle.assuan_text.specs.LineEnds.{is_lf, has_lf}
 use Rattle.assuan_line.specs.Lines.{without_cr, first_line, after_line}
-use Rattle.assuan_line.specs.Next.{next_of}
+use Rattle.assuan_line.specs.Next.{next_of, OnLine}
+use Rattle.assuan_line.specs.Stops.{judged}
 use Rattle.assuan_line.specs.declared.reader.Took.{Took}
 use Rattle.assuan_line.specs.declared.reader.Took.TheVariants.{Line, TooLong, End, Spent, ReadFault}
-
--- the line, or that it is too long, where it ends
-judged : List ℕ → Took
-judged line = cond (leb (length line) 1000) (Line line) TooLong
 
 next_by : Bool → Bool → List ℕ → Took
 next_by among many line = cond among (judged line) (cond many TooLong End)
 
 next_is : (bytes : List ℕ) → next_of bytes ≡ next_by (has_lf (take 1002 bytes)) (leb 1002 (length bytes)) (first_line bytes)
-unfolding next_of next_by judged
+unfolding next_of next_by
 next_is bytes = refl
 
 pub whole_before : (bytes : List ℕ) (end : ℕ) → position is_lf bytes ≡ Some end → has_lf (take end bytes) ≡ false
@@ -54,8 +51,8 @@ without_cr_long line = either (slice_index line (length line - 1) == 13) where
   either false = omega arith
 
 -- by the place of the first line feed
-pub next_of_some : (bytes : List ℕ) (end : ℕ) → position is_lf bytes ≡ Some end → next_of bytes ≡ cond (leb (length (without_cr (take end bytes))) 1000) (Line (without_cr (take end bytes))) TooLong
-unfolding next_by judged
+pub next_of_some : (bytes : List ℕ) (end : ℕ) → position is_lf bytes ≡ Some end → next_of bytes ≡ judged (without_cr (take end bytes))
+unfolding next_by
 next_of_some bytes end is =
     let there = some_there is_lf bytes end is in
     let line : first_line bytes ≡ without_cr (take end bytes) = ap (λ (n : ℕ). without_cr (take n bytes)) there.1 in
@@ -72,7 +69,7 @@ next_of_some bytes end is =
           ∙ sym (ap (λ (b : Bool). cond b (Line (first_line bytes)) TooLong) (lt-leb (length (first_line bytes)) 1000 (omega arith)))
 
 pub next_of_none : (bytes : List ℕ) → position is_lf bytes ≡ None → next_of bytes ≡ cond (leb 1002 (length bytes)) TooLong End
-unfolding next_by judged
+unfolding next_by
 next_of_none bytes is =
     let none = none_there is_lf bytes is in
     next_is bytes ∙ ap (λ (b : Bool). next_by b (leb 1002 (length bytes)) (first_line bytes)) (absent (has_lf (take 1002 bytes)) refl) where
@@ -80,25 +77,12 @@ next_of_none bytes is =
       absent true e = absurd (false≢true (sym (none_there is_lf bytes is) ∙ among_all bytes e))
       absent false e = e
 
--- a line that was made, or wasn't, is judged so
-pub judged_line : (made : Option (List ℕ)) (line bytes : List ℕ) → made ≡ Some line → IsSome made ↔ (length bytes ≤ 1000) → IfSome made (λ l. l ≡ bytes) → cond (leb (length bytes) 1000) (Line bytes) TooLong ≡ Line line
-judged_line None line bytes is some at = absurd (cc is)
-judged_line (Some l) line bytes is some at =
-    ap (λ (b : Bool). cond b (Line bytes) TooLong) (le-leb (length bytes) 1000 (some.0 refl)) ∙ ap (λ (x : List ℕ). Line x) (sym at ∙ cc is)
-
-pub judged_long : (made : Option (List ℕ)) (bytes : List ℕ) → made ≡ None → IsSome made ↔ (length bytes ≤ 1000) → cond (leb (length bytes) 1000) (Line bytes) TooLong ≡ TooLong
-judged_long (Some l) bytes is some = absurd (cc is)
-judged_long None bytes is some = elim (leb_tells (length bytes) 1000) [
-  | inl t ↦ absurd (false≢true (some.1 t.1))
-  | inr f ↦ ap (λ (b : Bool). cond b (Line bytes) TooLong) f.0
-]
-
 -- bytes that decide: a line feed is among the first of them, or they are many
 record IsDecided (bytes : List ℕ) : Type 0 where
   pub tells : (has_lf (take 1002 bytes) ≡ true) ⊎ (1002 ≤ length bytes)
 
 decided : (bytes : List ℕ) → next_of bytes ≢ End → IsDecided bytes
-unfolding next_by judged
+unfolding next_by
 decided bytes some = by_line (has_lf (take 1002 bytes)) (leb 1002 (length bytes)) refl refl where
   by_line : (b c : Bool) → has_lf (take 1002 bytes) ≡ b → leb 1002 (length bytes) ≡ c → IsDecided bytes
   by_line true c e f = record { tells = inl e }
@@ -122,7 +106,7 @@ taken_stays bytes more among = elim (leb_tells 1002 (length bytes)) [
 
 -- what the bytes tell by themselves they tell with any bytes behind them
 pub stays : (bytes more : List ℕ) → next_of bytes ≢ End → next_of (bytes ++ more) ≡ next_of bytes
-unfolding next_by judged
+unfolding next_by
 stays bytes more some = elim (decided bytes some).tells [ inl among ↦ with_lf among | inr many ↦ of_many many (has_lf (take 1002 bytes)) refl ] where
   of_line : has_lf (take 1002 bytes) ≡ true → has_lf (take 1002 (bytes ++ more)) ≡ true → next_of (bytes ++ more) ≡ next_of bytes
   of_line among also =
@@ -157,7 +141,7 @@ after_shorter bytes line is =
 
 -- bytes that decide nothing are few
 pub few_undecided : (bytes : List ℕ) → next_of bytes ≡ End → length bytes < 1002
-unfolding next_by judged
+unfolding next_by
 few_undecided bytes is = by_line (has_lf (take 1002 bytes)) (leb 1002 (length bytes)) refl refl where
   no_end : (b : Bool) → cond b (Line (first_line bytes)) TooLong ≡ End → ⊥
   no_end true e = cc e
@@ -172,7 +156,7 @@ few_undecided bytes is = by_line (has_lf (take 1002 bytes)) (leb 1002 (length by
 
 -- bytes tell neither of the two answers that only a source gives
 no_others : (b c : Bool) (line : List ℕ) → (next_by b c line ≢ Spent) × (next_by b c line ≢ ReadFault)
-unfolding next_by judged
+unfolding next_by
 no_others true c line = either (leb (length line) 1000) where
   either : (b : Bool) → (cond b (Line line) TooLong ≢ Spent) × (cond b (Line line) TooLong ≢ ReadFault)
   either true = (λ e. cc e, λ e. cc e)
@@ -185,3 +169,11 @@ no_spent bytes is = (no_others (has_lf (take 1002 bytes)) (leb 1002 (length byte
 
 pub no_fault : (bytes : List ℕ) → next_of bytes ≡ ReadFault → ⊥
 no_fault bytes is = (no_others (has_lf (take 1002 bytes)) (leb 1002 (length bytes)) (first_line bytes)).1 (sym (next_is bytes) ∙ is)
+
+-- nothing is said of an answer that is no line
+pub on_no_line : (took : Took) (P : Type 0) → ((line : List ℕ) → took ≡ Line line → ⊥) → OnLine took P
+on_no_line (Line line) P none = absurd (none line refl)
+on_no_line TooLong P none = tt
+on_no_line End P none = tt
+on_no_line Spent P none = tt
+on_no_line ReadFault P none = tt

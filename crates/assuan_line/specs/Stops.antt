@@ -1,5 +1,5 @@
 -- What reads of bytes do on the way to an answer, and why a reader has ended, as the answer that it gives.
-use Rattle.std.specs.Prelude.{◌≡◌, ℕ, ◌+◌, ◌<◌, ◌≤◌, List, [], ◌++◌, length, None, IfSome}
+use Rattle.std.specs.Prelude.{◌≡◌, ℕ, ◌+◌, ◌<◌, ◌≤◌, List, [], ◌++◌, length, nat_le, if◌then◌else◌, None, IfSome}
 use Rattle.agent_ports.specs.Counts.{Rose}
 use Rattle.agent_ports.specs.Sides.{Side, followed_by}
 use Rattle.assuan_line.specs.Ahead.{bytes_ahead}
@@ -16,6 +16,10 @@ took_of TooLong = took.TooLong
 took_of End = took.End
 took_of Spent = took.Spent
 took_of ReadFault = took.ReadFault
+
+-- the line, or that it is too long
+abbrev pub judged : List ℕ → Took
+judged line = if nat_le (length line) 1000 then took.Line line else took.TooLong
 
 -- a reader that holds these bytes, may take so many more, and hasn't ended
 abbrev pub reader_at : Ahead → ℕ → Reader

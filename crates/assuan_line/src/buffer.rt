@@ -6,6 +6,7 @@ ghost use Rattle.assuan_line.specs.Ahead.{bytes_ahead, room_ahead, IsWithin};
 ghost use Rattle.assuan_text.specs.LineEnds.{is_lf, has_lf};
 ghost use Rattle.assuan_line.specs.Lines.{without_cr, after_line};
 ghost use Rattle.assuan_line.specs.Next.{next_of, ended_by, OnLine};
+ghost use Rattle.assuan_line.specs.Stops.{judged};
 
 use crate::line::{CR, LF};
 use crate::{Line, Took};
@@ -56,13 +57,13 @@ impl Ahead {
         ensures within { IsWithin self.new }
     {
         match self.line_feed() {
-            Some(end) => match self.line_before(end) {
-                Some(line) => {
+            Some(end) => {
+                let took = self.line_before(end);
+                if let Took::Line(_) = &took {
                     self.remove(end + 1);
-                    Took::Line(line)
                 }
-                None => Took::TooLong,
-            },
+                took
+            }
             None if self.len() < MAX_UNDECIDED => Took::End,
             None => Took::TooLong,
         }
@@ -161,12 +162,11 @@ impl Ahead {
         }
     }
 
-    /// The line that the first `end` bytes are, if it isn't too long.
-    fn line_before(&self, end: usize) -> Option<Line>
+    /// The line that the first `end` bytes are, or that it is too long.
+    fn line_before(&self, end: usize) -> Took
         requires within { end ≤ length (bytes_ahead self.now) }
         requires whole { has_lf (take end (bytes_ahead self.now)) ≡ false }
-        ensures some { IsSome result ↔ (length (without_cr (take end (bytes_ahead self.now))) ≤ 1000) }
-        ensures line { IfSome result (λ line. line ≡ without_cr (take end (bytes_ahead self.now))) }
+        ensures { result ≡ judged (without_cr (take end (bytes_ahead self.now))) }
     {
         let (front, back) = self.as_slices();
         if end <= front.len() {
@@ -196,26 +196,33 @@ fn line_feed(bytes: &[u8]) -> Option<usize>
     bytes.iter().position(|byte| *byte == LF)
 }
 
-/// The line that these bytes before a line feed are, if it isn't too long.
-fn line_of(piece: &[u8]) -> Option<Line>
+/// The line that these bytes before a line feed are, or that it is too long.
+fn line_of(piece: &[u8]) -> Took
     requires { has_lf piece.now ≡ false }
-    ensures some { IsSome result ↔ (length (without_cr piece.now) ≤ 1000) }
-    ensures line { IfSome result (λ line. line ≡ without_cr piece.now) }
+    ensures { result ≡ judged (without_cr piece.now) }
 {
-    match piece {
-        [line @ .., CR] => Line::of(line),
-        line => Line::of(line),
+    let line = match piece {
+        [line @ .., CR] => line,
+        line => line,
+    };
+    match Line::of(line) {
+        Some(line) => Took::Line(line),
+        None => Took::TooLong,
     }
 }
 
-/// The line that these bytes before a line feed are, if it isn't too long.
-fn line_across(front: &[u8], back: &[u8]) -> Option<Line>
+/// The same of bytes in two slices.
+fn line_across(front: &[u8], back: &[u8]) -> Took
     requires { has_lf (front.now ++ back.now) ≡ false }
-    ensures some { IsSome result ↔ (length (without_cr (front.now ++ back.now)) ≤ 1000) }
-    ensures line { IfSome result (λ line. line ≡ without_cr (front.now ++ back.now)) }
+    ensures { result ≡ judged (without_cr (front.now ++ back.now)) }
 {
     let mut piece: Wiped<MAX_UNDECIDED> = Wiped::new();
-    piece.try_extend_from_slice(front).ok()?;
-    piece.try_extend_from_slice(back).ok()?;
-    line_of(piece.bytes())
+    if front.len() > MAX_UNDECIDED || back.len() > MAX_UNDECIDED - front.len() {
+        return Took::TooLong;
+    }
+    piece.try_extend_from_slice(front).unwrap();
+    piece.try_extend_from_slice(back).unwrap();
+    let took = line_of(piece.bytes());
+    piece.clear();
+    took
 }

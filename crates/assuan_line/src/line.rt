@@ -36,8 +36,11 @@ impl Line {
         if bytes.contains(&LF) {
             return None;
         }
-        let bytes = Wiped::of(bytes)?;
-        Some(Line { bytes })
+        let mut line = Line {
+            bytes: Wiped::new(),
+        };
+        line.bytes.try_extend_from_slice(bytes).ok()?;
+        Some(line)
     }
 
     pub fn bytes(&self) -> &[u8]

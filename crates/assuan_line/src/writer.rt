@@ -18,5 +18,7 @@ pub fn write_line<K: Sink>(sink: &mut K, line: &Line) -> Sent
     let mut text: Wiped<1001> = Wiped::new();
     text.try_extend_from_slice(line.bytes()).unwrap();
     text.push(LF);
-    sink.put(text.bytes())
+    let sent = sink.put(text.bytes());
+    text.clear();
+    sent
 }

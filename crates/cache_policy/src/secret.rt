@@ -9,7 +9,8 @@ pub const MAX_SECRET_LEN: usize = 255;
 /// A passphrase: at most 255 bytes, maybe none.
 ///
 /// It is neither cloned nor printed nor compared, and its bytes are overwritten with zeros when it is dropped.
-/// A move leaves the bytes where they were, as in Rust, and no proof says that wiped bytes are gone from the machine.
+/// A move leaves the bytes where they were, as in Rust, and `drop` is given its value by a move. No proof says that wiped
+/// bytes are gone from the machine.
 #[derive(Drop)]
 pub struct Secret {
     bytes: Wiped<MAX_SECRET_LEN>,

@@ -88,7 +88,7 @@ impl<const N: usize> Wiped<N> {
         self.bytes.try_extend_from_slice(bytes)
     }
 
-    /// Overwrites and removes all bytes.
+    /// Overwrites all bytes where they lie, and removes them.
     pub fn clear(&mut self)
         ensures { self.new ≡ [] }
     {

@@ -1,6 +1,7 @@
-//! Buffers that leave nothing behind: their bytes are overwritten with zeros when they are dropped.
+//! Buffers whose bytes are overwritten with zeros when they are dropped, and a call that does it.
 //!
-//! A move leaves the bytes where they were, as in Rust, and no proof says that wiped bytes are gone from the machine.
+//! A move leaves the bytes where they were, as in Rust, and `drop` is given its value by a move: `Wiped::clear` and `wipe`
+//! overwrite them where they lie. No proof says that wiped bytes are gone from the machine.
 #![tactic(auto)]
 
 mod buffer;

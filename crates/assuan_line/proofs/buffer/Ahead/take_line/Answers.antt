@@ -1,22 +1,24 @@
-use Rattle.std.proofs.Common.{◌∙◌, ap, sym, cond, Bool, le-leb, arith}
+use Rattle.std.proofs.Common.{◌≡◌, ◌∙◌, ap, sym, ℕ, cond, Bool, le-leb, refl, arith}
 use Rattle.std.proofs.lemmas.Bool.{lt-leb}
 use Rattle.assuan_line.specs.Ahead.{bytes_ahead}
 use Rattle.assuan_line.specs.declared.reader.Took.TheVariants.{TooLong, End}
-use Rattle.assuan_line.proofs.Decided.{whole_before, next_of_some, next_of_none, judged_line, judged_long}
+use Rattle.assuan_line.proofs.Decided.{whole_before, next_of_some, next_of_none, on_no_line}
 use Rattle.assuan_line.proofs.buffer.Ahead.take_line.Goals as goal
 
-pub line_before-requires-clause-whole : goal.line_before-requires-clause-whole
-line_before-requires-clause-whole c = whole_before (bytes_ahead c.args.self.now) c.in-Some.end (sym c.line_feed.ensures ∙ c.in-Some.is)
+pub line_before-took-requires-clause-whole : goal.line_before-took-requires-clause-whole
+line_before-took-requires-clause-whole c = whole_before (bytes_ahead c.args.self.now) c.in-Some.end (sym c.line_feed.ensures ∙ c.in-Some.is)
 
-pub returns-in-Some-line_before-clause-took : goal.returns-in-Some-line_before-clause-took
-returns-in-Some-line_before-clause-took c =
-    sym (next_of_some (bytes_ahead c.args.self.now) c.in-Some.end (sym c.line_feed.ensures ∙ c.in-Some.is)
-    ∙ judged_line c.line_before.result c.in-Some-line_before.line _ c.in-Some-line_before.is c.line_before.ensures.some c.line_before.ensures.line)
+pub returns-in-Line-clause-took : goal.returns-in-Line-clause-took
+returns-in-Line-clause-took c =
+    c.line_before-took.ensures ∙ sym (next_of_some (bytes_ahead c.args.self.now) c.in-Some.end (sym c.line_feed.ensures ∙ c.in-Some.is))
 
-pub returns-in-None-line_before-clause-took : goal.returns-in-None-line_before-clause-took
-returns-in-None-line_before-clause-took c =
-    sym (next_of_some (bytes_ahead c.args.self.now) c.in-Some.end (sym c.line_feed.ensures ∙ c.in-Some.is)
-    ∙ judged_long c.line_before.result _ c.in-None-line_before.is c.line_before.ensures.some)
+pub returns-in_default : goal.returns-in_default
+returns-in_default c = record {
+  took = c.line_before-took.ensures ∙ sym (next_of_some (bytes_ahead c.args.self.now) c.in-Some.end (sym c.line_feed.ensures ∙ c.in-Some.is));
+  line = on_no_line c.line_before-took.result _ c.in_default.not-Line;
+  others = λ some. refl;
+  within = c.requires;
+}
 
 pub returns-in-None-clause-took : goal.returns-in-None-clause-took
 returns-in-None-clause-took c =
