@@ -1,3 +1,4 @@
 pub mod Given
 mod Pieces
 pub mod Told
+pub mod Digits
