@@ -1,5 +1,5 @@
 pub mod Digits
 pub mod Given
+pub mod Known
 pub mod Leading
 mod Pieces
-pub mod Known

@@ -1,4 +1,4 @@
-pub mod Tests
+pub mod ListTests
 pub mod OneName
 pub mod Parts
 pub mod Keys

@@ -1,5 +1,5 @@
 use Rattle.std.proofs.Common.{sym, ◌∙◌}
-use Rattle.sexp_keys.proofs.Tests.{curve_is}
+use Rattle.sexp_keys.proofs.ListTests.{curve_is}
 use Rattle.sexp_keys.proofs.parameters.are_public.Goals as goal
 
 pub returns-then-not-is_empty : goal.returns-then-not-is_empty

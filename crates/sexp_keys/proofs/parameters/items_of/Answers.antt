@@ -1,4 +1,4 @@
-use Rattle.sexp_keys.proofs.Tests.{items-listed}
+use Rattle.sexp_keys.proofs.ListTests.{items-listed}
 use Rattle.sexp_keys.proofs.parameters.items_of.Goals as goal
 
 pub returns-in-List : goal.returns-in-List
