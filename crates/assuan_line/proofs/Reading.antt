@@ -120,13 +120,13 @@ module _ (before after : Reader) (was is : Side) (answer : Took) (given : HasTak
   pub known : WhereKnown was.bytes is.bytes (λ rest left. Tells before rest answer after left)
   known = known_by given.read.taken was.bytes is.bytes _ given.read.bytes (λ left some. tells answer left given.decides some)
 
-  pub told_budget : WhereKnown was.bytes is.bytes (λ rest left. length rest + after.left ≡ length left + before.left)
-  told_budget =
+  pub known_budget : WhereKnown was.bytes is.bytes (λ rest left. length rest + after.left ≡ length left + before.left)
+  known_budget =
       known_by given.read.taken was.bytes is.bytes _ given.read.bytes
       (λ left some. omega (arith, given.read.budget, given.budget, length-append given.read.taken left))
 
-  pub told_needed : WhereKnown was.bytes is.bytes (TakesWhatItNeeds before.ahead)
-  told_needed = known_by given.read.taken was.bytes is.bytes _ given.read.bytes (λ left some. elim given.read.needed [
+  pub known_needed : WhereKnown was.bytes is.bytes (TakesWhatItNeeds before.ahead)
+  known_needed = known_by given.read.taken was.bytes is.bytes _ given.read.bytes (λ left some. elim given.read.needed [
     | inl none ↦ inl (ap (λ (x : List ℕ). x ++ left) none)
     | inr more ↦ inr (record {
       early = more.early;
@@ -144,8 +144,8 @@ module _ (before after : Reader) (was is : Side) (answer : Took) (given : HasTak
   kept_ahead Spent some decides = decides.1
   kept_ahead ReadFault some decides = decides.1
 
-  pub told_kept : IsSome (ended_by answer) → WhereKnown was.bytes is.bytes (λ rest left. after.ahead ++ left ≡ before.ahead ++ rest)
-  told_kept some =
+  pub known_kept : IsSome (ended_by answer) → WhereKnown was.bytes is.bytes (λ rest left. after.ahead ++ left ≡ before.ahead ++ rest)
+  known_kept some =
       known_by given.read.taken was.bytes is.bytes _ given.read.bytes
       (λ left at. ap (λ (x : List ℕ). x ++ left) (kept_ahead answer some given.decides) ∙ sym (all left))
 
