@@ -1,5 +1,5 @@
 -- Events one after another: what they sent, the turns that they took, and the lines.
-use Rattle.std.proofs.Common.{◌≡◌, ◌≤◌, ◌+◌, ℕ, Bool, List, [], ◌∷◌, ◌++◌, length, Option, None, Ok, Err, refl, ap, sym, ◌∙◌, subst, arith, append-nil}
+use Rattle.std.proofs.Common.{◌≡◌, ℕ, Bool, List, [], ◌∷◌, ◌++◌, length, Option, None, Ok, Err, refl, ap, sym, ◌∙◌, subst, arith, append-nil}
 use Rattle.std.proofs.lemmas.Grind.{flat_map-append}
 use Rattle.agent_ports.specs.Readings.{Readings, HasGiven, none as not_read}
 use Rattle.agent_ports.specs.Sides.{Side, with_bytes, WhereKnown}

@@ -1,9 +1,8 @@
 -- An inquiry for a passphrase, from its question to what it came to.
-use Rattle.std.proofs.Common.{◌≡◌, ◌≢◌, ◌≤◌, ◌+◌, ℕ, List, [], ◌∷◌, ◌++◌, length, codes, Option, None, Some, Result, Ok, Err, refl, ap, sym, ◌∙◌, subst, arith}
+use Rattle.std.proofs.Common.{◌≡◌, ◌≢◌, ◌≤◌, ℕ, List, [], ◌∷◌, ◌++◌, codes, None, Some, Result, Ok, Err, refl, ap, sym, ◌∙◌, subst, arith}
 use Rattle.std.specs.List.{flat_map}
 use Rattle.agent_ports.specs.Counts.{Rose}
 use Rattle.agent_ports.specs.Readings.{Readings, none as not_read}
-use Rattle.agent_ports.specs.Sides.{with_bytes, WhereKnown}
 use Rattle.agent_ports.specs.declared.link.Sent.TheVariants.{Failed}
 use Rattle.agent_ports.proofs.Known.{known_then, known_both, known_same}
 use Rattle.assuan_line.specs.Next.{held}
