@@ -18,6 +18,7 @@ use Rattle.assuan_server.specs.Written.{HasWritten, status_text}
 use Rattle.assuan_server.specs.declared.inquiry.InquiredSecret.{InquiredSecret}
 use Rattle.assuan_server.specs.declared.inquiry.InquiredSecret.TheVariants as inquired
 use Rattle.agent_top.specs.Cache.{sent as turns_wrote, inquired as turns_inquired, none as no_turns}
+use Rattle.cache_policy.specs.declared.secret.TheConstants.{MAX_SECRET_LEN}
 use Rattle.agent_top.specs.Events.{Event, Sent, Inquiry}
 use Rattle.agent_top.specs.Exchanges.{question}
 use Rattle.agent_top.specs.Reading.{Takes, none, sent, inquired as taken_inquired, ReadsAnswer}
@@ -81,10 +82,10 @@ module _ (start mid now : Connection) (clock : Readings) (cache : Cache) (said :
       }
 
   -- the client answered
-  module _ (going : mid.reader.ended ≡ None) (what : Outcome) (answer : Took) (gathered : Gather (AnswerSays 255 (Some what)) question_text mid answer now) where
-    answer_read : (total : ℕ) (rest left : List ℕ) → IsTotal total now.reader left → AnswerSays 255 (Some what) (mid.reader.ahead ++ rest) answer now.reader left → ReadsAnswer total 255 (mid.reader.ahead ++ rest) what (unread now.reader left)
+  module _ (going : mid.reader.ended ≡ None) (what : Outcome) (answer : Took) (gathered : Gather (AnswerSays MAX_SECRET_LEN (Some what)) question_text mid answer now) where
+    answer_read : (total : ℕ) (rest left : List ℕ) → IsTotal total now.reader left → AnswerSays MAX_SECRET_LEN (Some what) (mid.reader.ahead ++ rest) answer now.reader left → ReadsAnswer total MAX_SECRET_LEN (mid.reader.ahead ++ rest) what (unread now.reader left)
     answer_read total rest left is read =
-        let inquiry : Inquires 255 (mid.reader.ahead ++ rest) answer read.0 now.reader left = read.1 in
+        let inquiry : Inquires MAX_SECRET_LEN (mid.reader.ahead ++ rest) answer read.0 now.reader left = read.1 in
         record {
           lines = inquiry.lines;
           took = answer;
@@ -93,9 +94,9 @@ module _ (start mid now : Connection) (clock : Readings) (cache : Cache) (said :
         }
 
     abbrev asks : List Event
-    asks = Sent question_line ∷ Inquiry 255 what ∷ []
+    asks = Sent question_line ∷ Inquiry MAX_SECRET_LEN what ∷ []
 
-    pub asked : EventsLead (question ++ (Inquiry 255 what ∷ [])) (at_conn start clock cache) (at_conn now clock cache)
+    pub asked : EventsLead (question ++ (Inquiry MAX_SECRET_LEN what ∷ [])) (at_conn start clock cache) (at_conn now clock cache)
     asked = done_then (done_wrote status_line start mid clock cache said) (record {
       written = gathered.written;
       output_faults = gathered.output_faults;
@@ -108,9 +109,9 @@ module _ (start mid now : Connection) (clock : Readings) (cache : Cache) (said :
           (known_both mid.input.bytes now.input.bytes _ _ gathered.read.known gathered.read.budget) (known_same now.input.bytes _ (λ rest. refl))
           (λ rest left more read same. λ total is.
           let is_now : IsTotal total now.reader left = omega (arith, is, read.1) in
-          let answer : ReadsAnswer total 255 (mid.reader.ahead ++ rest) what (unread now.reader left) = answer_read total rest left is_now read.0 in
+          let answer : ReadsAnswer total MAX_SECRET_LEN (mid.reader.ahead ++ rest) what (unread now.reader left) = answer_read total rest left is_now read.0 in
           let takes : Takes total (unread mid.reader rest) asks (unread now.reader left) =
-          sent (taken_inquired (subst (λ (b : List ℕ). ReadsAnswer total 255 b what (unread now.reader left)) (sym (here_going mid.reader rest going)) answer) none) in
+          sent (taken_inquired (subst (λ (b : List ℕ). ReadsAnswer total MAX_SECRET_LEN b what (unread now.reader left)) (sym (here_going mid.reader rest going)) answer) none) in
           subst (λ (x : List ℕ). Takes total (unread mid.reader rest) asks (unread now.reader x) × IsTotal total now.reader x) same (takes, is_now));
       input_faults = gathered.read.faults;
       link = gathered.link;
@@ -118,15 +119,15 @@ module _ (start mid now : Connection) (clock : Readings) (cache : Cache) (said :
 
   -- what is made of an inquiry
   module _ (going : mid.reader.ended ≡ None) (came : InquiredSecret)
-      (inquiry : came ≢ inquired.WriteFault → Inquire 255 question_text (outcome_of_secret came) mid now) (cut : came ≡ inquired.WriteFault → IsNotAsked question_text mid now) where
+      (inquiry : came ≢ inquired.WriteFault → Inquire MAX_SECRET_LEN question_text (outcome_of_secret came) mid now) (cut : came ≡ inquired.WriteFault → IsNotAsked question_text mid now) where
     -- the client was asked where something came of it
-    inquire_so : (what : Outcome) → outcome_of_secret came ≡ Some what → Inquire 255 question_text (Some what) mid now
+    inquire_so : (what : Outcome) → outcome_of_secret came ≡ Some what → Inquire MAX_SECRET_LEN question_text (Some what) mid now
     inquire_so what says =
-        subst (λ o. Inquire 255 question_text o mid now) says
+        subst (λ o. Inquire MAX_SECRET_LEN question_text o mid now) says
         (inquiry (λ e. absurd (cc (sym says ∙ ap outcome_of_secret e))))
 
     module _ (what : Outcome) (says : outcome_of_secret came ≡ Some what) where
-      asked_so : EventsLead (question ++ (Inquiry 255 what ∷ [])) (at_conn start clock cache) (at_conn now clock cache)
+      asked_so : EventsLead (question ++ (Inquiry MAX_SECRET_LEN what ∷ [])) (at_conn start clock cache) (at_conn now clock cache)
       asked_so = let inquire = inquire_so what says in asked going what inquire.took inquire.gathered
 
       ended_so : now.reader.ended ≡ ended_of what

@@ -28,6 +28,7 @@ use Rattle.agent_commands.specs.declared.request.Info.TheVariants.{Version, Pid,
 use Rattle.agent_commands.specs.declared.request.Request.{Request}
 use Rattle.agent_commands.specs.declared.request.Request.TheVariants.{Cache, Bad}
 use Rattle.agent_commands.specs.declared.request.Texts.{Texts}
+use Rattle.cache_policy.specs.declared.secret.TheConstants.{MAX_SECRET_LEN}
 use Rattle.agent_top.specs.Events.{Given, Empty, Done, Refused, Event, Sent, CacheTurn, Inquiry}
 use Rattle.agent_top.specs.declared.session.SessionEnd.TheVariants as ends
 use Rattle.agent_top.specs.declared.session.Went.{Went}
@@ -135,6 +136,6 @@ pub data Exchange (rules : Rules) (before : Choices) : Request → List Event �
   preset : {id secret : List ℕ} {events : List Event} → rules.allow_preset ≡ true → Stores id Endless secret events
       → Exchange rules before (Cache (PresetPassphrase id Endless (Some secret))) events before On
   brought : {id secret : List ℕ} {events : List Event} → rules.allow_preset ≡ true → Stores id Endless secret events
-      → Exchange rules before (Cache (PresetPassphrase id Endless None)) (question ++ (Inquiry 255 (Data secret) ∷ events)) before On
+      → Exchange rules before (Cache (PresetPassphrase id Endless None)) (question ++ (Inquiry MAX_SECRET_LEN (Data secret) ∷ events)) before On
   not_brought : {id : List ℕ} {outcome : Outcome} {events : List Event} {went : Went} → rules.allow_preset ≡ true → Fails outcome events went
-      → Exchange rules before (Cache (PresetPassphrase id Endless None)) (question ++ (Inquiry 255 outcome ∷ events)) before went
+      → Exchange rules before (Cache (PresetPassphrase id Endless None)) (question ++ (Inquiry MAX_SECRET_LEN outcome ∷ events)) before went

@@ -1,6 +1,6 @@
 -- What a session reads from the bytes that are there: requests, and the lines that its inquiries take in between. The rules on
 -- a line that is too long, on the budget and on faults are this project's own.
-use Rattle.std.specs.Prelude.{◌≡◌, ◌<◌, ◌+◌, ◌^◌, ℕ, Bool, List, [], ◌∷◌, length}
+use Rattle.std.specs.Prelude.{◌≡◌, ◌<◌, ◌+◌, ℕ, Bool, List, [], ◌∷◌, length}
 use Rattle.std.specs.List.{flat_map}
 use Rattle.assuan_line.specs.Lines.{after_line}
 use Rattle.assuan_line.specs.Next.{next_of, IsCutShort, IsTooLong}
@@ -10,11 +10,12 @@ use Rattle.assuan_line.specs.declared.reader.Took.TheVariants.{Line, TooLong, En
 use Rattle.assuan_escape.specs.DataLines.{carried}
 use Rattle.assuan_server.specs.Inquiries.{Outcome, ComesTo, is_skipped}
 use Rattle.assuan_text.specs.Forms.{is_ignored}
+use Rattle.agent_top.specs.declared.session.TheConstants.{BUDGET}
 use Rattle.agent_top.specs.Events.{CacheAnswer, Event, Received, Sent, CacheTurn, Inquiry}
 
 -- how many bytes a session may take
 abbrev pub budget : ℕ
-budget = 2 ^ 40
+budget = BUDGET
 
 -- The next line of these bytes, or what comes in its place, and the bytes from there on. `total` is how many bytes there were at
 -- the start of the session.

@@ -16,6 +16,7 @@ use Rattle.session_options.specs.Choices.{Choices}
 use Rattle.session_options.specs.declared.rules.Rules.{Rules}
 use Rattle.agent_commands.specs.declared.request.Request.{Request}
 use Rattle.agent_top.specs.Cache.{CacheState, Turns}
+use Rattle.cache_policy.specs.declared.secret.TheConstants.{MAX_SECRET_LEN}
 use Rattle.agent_top.specs.Events.{Event, Sent, Inquiry, output_of, IsCut}
 use Rattle.agent_top.specs.Exchanges.{Exchange, Fails, IsData, IsPassphrase, ok, closing, help, failed, question}
 use Rattle.agent_top.specs.Reading.{budget, Takes}
@@ -185,7 +186,7 @@ pub record IsWithoutPassphrase (came : InquiredSecret) (answer : Answer) : Type 
 -- the client was asked for a passphrase, which brought none, and this is the answer
 pub record InquiresInVain (start : SessionState) (answer : Answer) (now : SessionState) : Type 0 where
   pub outcome : Outcome
-  pub done : EventsLead (question ++ (Inquiry 255 outcome ∷ [])) start now
+  pub done : EventsLead (question ++ (Inquiry MAX_SECRET_LEN outcome ∷ [])) start now
   pub fails : (more : List Event) → IsReply answer.reply more → Fails outcome more answer.went
   pub fits : ReaderAfter answer.went start.conn.reader now.conn.reader
   pub fault : answer.went ≡ End ReadFault → Rose start.conn.input.faults now.conn.input.faults
@@ -199,7 +200,7 @@ pub record FailsToAsk (start now : SessionState) : Type 0 where
 
 abbrev pub InquiresPassphrase : SessionState → Result (Result (List ℕ) Answer) Fault → SessionState → Type 0
 InquiresPassphrase start (Whole (Whole secret)) now =
-    EventsLead (question ++ (Inquiry 255 (Data secret) ∷ [])) start now × ReaderAfter On start.conn.reader now.conn.reader
+    EventsLead (question ++ (Inquiry MAX_SECRET_LEN (Data secret) ∷ [])) start now × ReaderAfter On start.conn.reader now.conn.reader
 InquiresPassphrase start (Whole (Part answer)) now = InquiresInVain start answer now
 InquiresPassphrase start (Part fault) now = FailsToAsk start now
 

@@ -1,15 +1,12 @@
 ghost use Rattle.std.specs.Prelude.{◌≡◌, ◌≤◌, ◌+◌, ◌<◌, ◌^◌, OnOk, OnErr};
+ghost use Rattle.cache_policy.specs.declared.bounds.TheConstants.{MAX_MARKS, MAX_MOMENT};
 ghost use Rattle.agent_top.specs.Cache.{limits_of};
 
-use cache_policy::{CacheId, Grant, Life, Limits, ListBook, Mode, NoMemory, Secret};
+use cache_policy::{
+    CacheId, Grant, Life, Limits, ListBook, MAX_MARKS, MAX_MOMENT, Mode, NoMemory, Secret,
+};
 use session_options::Rules;
 use std::alloc::Global;
-
-/// How many marks one history has room for.
-const ROOM: u64 = 131_072;
-
-/// The moment to which readings are cut.
-const GREATEST_MOMENT: u64 = 1 << 62;
 
 /// The passphrases of a session, since its cache last began empty.
 #[derive(Drop)]
@@ -21,9 +18,9 @@ pub(crate) struct Cache {
     pub(crate) marks: u64,
     /// The moment of the last mark of all.
     pub(crate) latest: u64,
-    ghost few: { marks ≤ 131072 },
+    ghost few: { marks ≤ MAX_MARKS },
     ghost in_order: { book.latest ≤ latest },
-    ghost in_range: { latest ≤ 2 ^ 62 },
+    ghost in_range: { latest ≤ MAX_MOMENT },
 }
 
 /// The lifetimes that the rules say.
@@ -72,7 +69,7 @@ impl Cache {
         ensures limits { self.new.limits ≡ self.old.limits }
     {
         let moment = self.moment(reading);
-        if self.marks < ROOM {
+        if self.marks < MAX_MARKS {
             self.book
                 .put(moment, id, Mode::Any, Life::Endless, secret, &self.limits)?;
             self.marks += 1;
@@ -107,12 +104,12 @@ impl Cache {
     fn turn_over(&mut self)
         ensures stands { (cache_state : CacheState) → IsKept cache_state self.old
             → IsKept (record cache_state { history = next_history cache_state.history }) self.new }
-        ensures room { self.new.marks < 131072 }
+        ensures room { self.new.marks < MAX_MARKS }
         ensures in_order { self.new.book.latest ≤ self.old.latest }
         ensures latest { self.new.latest ≡ self.old.latest }
         ensures limits { self.new.limits ≡ self.old.limits }
     {
-        if self.marks == ROOM {
+        if self.marks == MAX_MARKS {
             self.book = ListBook::new(self.alloc);
             self.marks = 0;
         }
@@ -122,8 +119,8 @@ impl Cache {
     fn moment(&self, reading: u64) -> u64
         ensures moment { result ≡ moment_of self.now.latest reading }
         ensures in_order { self.now.book.latest ≤ result }
-        ensures in_range { result ≤ 2 ^ 62 }
+        ensures in_range { result ≤ MAX_MOMENT }
     {
-        reading.min(GREATEST_MOMENT).max(self.latest)
+        reading.min(MAX_MOMENT).max(self.latest)
     }
 }

@@ -17,7 +17,7 @@ use session_options::{Options, Rules};
 use std::alloc::Global;
 
 /// How many bytes a session may take.
-const BUDGET: u64 = 1 << 40;
+pub(crate) const BUDGET: u64 = 1 << 40;
 
 /// How a session ended.
 #[derive(Clone, Copy)]

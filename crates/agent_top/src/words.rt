@@ -12,7 +12,7 @@ mod tests;
 
 use arrayvec::ArrayVec;
 use forms::{form_of, number_for, path_of};
-use session_options::{Rules, RunMode};
+use session_options::{MAX_VALUE_LEN, Rules, RunMode};
 pub use settings::words_are_read_as_spelled;
 use settings::{all_fit, are_distinct, is_given, value_given};
 use std::error::Error;
@@ -129,7 +129,7 @@ fn number_or(words: &[String], name: &str, default: u64) -> u64
 }
 
 /// The path that an option is given, or else its default.
-fn path_or(words: &[String], name: &str, default: &[u8]) -> ArrayVec<u8, 255>
+fn path_or(words: &[String], name: &str, default: &[u8]) -> ArrayVec<u8, MAX_VALUE_LEN>
     requires { length default.now ≤ 200 }
     ensures { result.items ≡ path_or default.now name.now (settings (map string_bytes words.now)) }
 {

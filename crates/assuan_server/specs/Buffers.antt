@@ -1,5 +1,6 @@
 -- What a buffer keeps of the bytes that an inquiry's data lines carried so far.
 use Rattle.std.specs.Prelude.{◌≡◌, ◌<◌, Bool, true, false, ℕ, List, length}
+use Rattle.cache_policy.specs.declared.secret.TheConstants.{MAX_SECRET_LEN}
 use Rattle.assuan_server.specs.declared.inquiry.buffer.Overflow.{Overflow}
 use Rattle.assuan_server.specs.declared.inquiry.buffer.Overflow.TheVariants.{None, TooMuch, NoMemory}
 
@@ -9,7 +10,7 @@ IsVecOf limit kept None bytes = kept ≡ bytes
 IsVecOf limit kept TooMuch bytes = limit < length bytes
 IsVecOf limit kept NoMemory bytes = Unit {0}
 
--- as a secret, which has at most 255 bytes: the bytes themselves, or that they are past that
+-- as a secret, which has so many bytes at most: the bytes themselves, or that they are past that
 abbrev pub IsSecretOf : List ℕ → Bool → List ℕ → Type 0
 IsSecretOf kept false bytes = kept ≡ bytes
-IsSecretOf kept true bytes = 255 < length bytes
+IsSecretOf kept true bytes = MAX_SECRET_LEN < length bytes

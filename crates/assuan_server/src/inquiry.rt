@@ -5,6 +5,7 @@ ghost use Rattle.assuan_line.specs.Next.{Reader};
 ghost use Rattle.assuan_line.specs.Skipping.{ReadsOn};
 ghost use Rattle.assuan_text.specs.LineEnds.{line_of};
 ghost use Rattle.assuan_escape.specs.DataLines.{carried};
+ghost use Rattle.cache_policy.specs.declared.secret.TheConstants.{MAX_SECRET_LEN};
 ghost use Rattle.assuan_server.specs.Asking.{Gather, Inquire, IsNotAsked};
 ghost use Rattle.assuan_server.specs.Buffers.{IsVecOf, IsSecretOf};
 ghost use Rattle.assuan_server.specs.Connections.{IsOpen};
@@ -19,7 +20,7 @@ use crate::conn::Conn;
 use agent_ports::{Link, Sent};
 use assuan_line::Took;
 use buffer::{Buffer, InquiryLines, Overflow, SecretBuffer, VecBuffer};
-use cache_policy::Secret;
+use cache_policy::{MAX_SECRET_LEN, Secret};
 use failure::end_of;
 use std::alloc::Global;
 
@@ -89,7 +90,7 @@ impl<'a, L: Link> Conn<'a, L> {
         requires going { IsOpen self.old }
         requires one_line { IsLine (inquire_text word.now params.now) }
         ensures inquiry { result ≢ InquiredSecret.WriteFault
-            → Inquire 255 (inquire_text word.now params.now) (outcome_of_secret result) self.old self.new }
+            → Inquire MAX_SECRET_LEN (inquire_text word.now params.now) (outcome_of_secret result) self.old self.new }
         ensures cut { result ≡ InquiredSecret.WriteFault
             → IsNotAsked (inquire_text word.now params.now) self.old self.new }
     {
@@ -161,7 +162,7 @@ fn collected(took: Took, buffer: VecBuffer) -> Inquired
 
 /// What an inquiry for a secret comes to whose bytes are kept so, by the answer after its data lines.
 fn buffered(took: Took, buffer: SecretBuffer) -> InquiredSecret
-    ensures answer { IsAnswer 255 (IsSecretOf buffer.bytes buffer.too_much) took (outcome_of_secret result) }
+    ensures answer { IsAnswer MAX_SECRET_LEN (IsSecretOf buffer.bytes buffer.too_much) took (outcome_of_secret result) }
     ensures others { result ≢ InquiredSecret.WriteFault }
 {
     if let Err(failure) = end_of(took) {

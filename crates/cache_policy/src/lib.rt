@@ -34,3 +34,6 @@ pub use mark::{Mark, MarkReply, MarkStep, Under, Way};
 pub use mode::Mode;
 pub use secret::{MAX_SECRET_LEN, Secret};
 pub use step::{Refused, Reply, Step};
+
+#[cfg(test)]
+mod tests;

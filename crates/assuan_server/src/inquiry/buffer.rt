@@ -1,10 +1,11 @@
 ghost use Rattle.std.specs.Prelude.{◌≡◌, ◌≤◌, ◌<◌, ◌+◌, ◌++◌, [], false, ℕ, List, length, vec_len, OnOk, OnErr, MatchOption};
+ghost use Rattle.cache_policy.specs.declared.secret.TheConstants.{MAX_SECRET_LEN};
 ghost use Rattle.assuan_server.specs.Buffers.{IsVecOf, IsSecretOf};
 
 use assuan_escape::data_of;
 use assuan_line::{Line, LineFilter};
 use assuan_text::is_idle;
-use cache_policy::Secret;
+use cache_policy::{MAX_SECRET_LEN, Secret};
 use std::alloc::{AllocError, Global};
 use wiping::{Wiped, wipe};
 
@@ -152,7 +153,7 @@ impl Buffer for VecBuffer {
 /// Keeps bytes without taking memory, up to as many as a secret has.
 #[derive(Drop)]
 pub(crate) struct SecretBuffer {
-    pub(crate) bytes: Wiped<255>,
+    pub(crate) bytes: Wiped<MAX_SECRET_LEN>,
     pub(crate) too_much: bool,
 }
 
@@ -168,21 +169,23 @@ impl SecretBuffer {
     }
 
     /// The bytes, if they can be a secret.
-    pub(crate) fn secret(self) -> Option<Secret>
+    pub(crate) fn secret(mut self) -> Option<Secret>
         ensures { (bytes : List ℕ) → IsSecretOf self.bytes self.too_much bytes
-            → MatchOption result (255 < length bytes) (λ secret. (secret ≡ bytes) × (length bytes ≤ 255)) }
+            → MatchOption result (MAX_SECRET_LEN < length bytes) (λ secret. (secret ≡ bytes) × (length bytes ≤ MAX_SECRET_LEN)) }
     {
         if self.too_much {
             return None;
         }
-        Some(Secret::of(self.bytes.bytes()).unwrap())
+        let secret = Secret::of(self.bytes.bytes()).unwrap();
+        self.bytes.clear();
+        Some(secret)
     }
 }
 
 impl Buffer for SecretBuffer {
     ghost keeps = { λ buffer bytes. IsSecretOf buffer.bytes buffer.too_much bytes };
 
-    ghost limit = { λ _. 255 };
+    ghost limit = { λ _. MAX_SECRET_LEN };
 
     fn add(&mut self, bytes: &[u8]) {
         if !self.too_much && self.bytes.try_extend_from_slice(bytes).is_err() {
