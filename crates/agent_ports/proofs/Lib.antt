@@ -2,3 +2,4 @@ pub mod Given
 mod Pieces
 pub mod Told
 pub mod Leading
+pub mod Digits

@@ -6,6 +6,7 @@
 #![tactic(auto)]
 
 mod clock;
+mod grip;
 mod host;
 mod link;
 mod mem_clock;
@@ -13,6 +14,7 @@ mod mem_link;
 mod session;
 
 pub use clock::Clock;
+pub use grip::Grip;
 pub use host::Host;
 pub use link::{Got, Link, Sent, Sink, Source};
 pub use mem_clock::{ListClock, MemHost, StepClock};

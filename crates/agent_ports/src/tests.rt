@@ -86,3 +86,23 @@ fn clocks_give_their_readings(rt: HostRuntime) -> Result<(), Fail> {
     assert_eq!(rt; three_readings(&mut host), [9, 9, 9]);
     Ok(())
 }
+
+#[test]
+fn grips_are_read_and_written_as_digits(rt: HostRuntime) -> Result<(), Fail> {
+    let digits = b"00FF0102030405060708090A0B0C0D0E0F101112";
+    let cases: [(&[u8], bool); 5] = [
+        (digits, true),
+        (b"00ff0102030405060708090a0b0c0d0e0f101112", true),
+        (&digits[1..], false),
+        (b"00FF0102030405060708090A0B0C0D0E0F10111G", false),
+        (b"", false),
+    ];
+    for (text, want) in cases {
+        let grip = Grip::of_hex(text);
+        assert_eq!(rt; grip.is_some(), want, "at {text:?}");
+        if let Some(grip) = grip {
+            assert_eq!(rt; grip.text().as_slice(), digits.as_slice());
+        }
+    }
+    Ok(())
+}

@@ -1,0 +1,5 @@
+pub mod ListTests
+pub mod OneName
+pub mod Parts
+pub mod Keys
+pub mod WrittenLists

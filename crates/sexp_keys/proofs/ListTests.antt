@@ -1,0 +1,33 @@
+-- What the tests of parameters compute.
+use Rattle.std.proofs.Common.{◌≡◌, Bool, false, eqb, ◌&&◌, List, [], ◌∷◌, length, refl, sym, ap, ap₂, ◌∙◌, arith}
+use Rattle.std.proofs.lemmas.List.{length-map}
+use Rattle.std.proofs.lemmas.Bool.{lt-ltb}
+use Rattle.std.specs.List.{list_all}
+use Rattle.sexp_canonical.specs.Tree.{Tree}
+use Rattle.sexp_canonical.specs.View.{tree_of, trees}
+use Rattle.sexp_canonical.specs.declared.tree.Sexp.{Sexp}
+use Rattle.sexp_canonical.specs.declared.tree.Sexp.TheVariants.{List as Listed}
+use Rattle.sexp_canonical.proofs.Trees.{items_of-row}
+use Rattle.sexp_keys.specs.Parameters.{items, is_atom, is_parameter, is_parameter_len, is_curve_parameter, are_public}
+use Rattle.sexp_keys.specs.declared.algorithm.Algorithm.{Algorithm}
+use Rattle.sexp_keys.specs.declared.algorithm.Algorithm.TheVariants.{Ecc}
+
+pub list_all-trees : (f : Tree → Bool) (xs : List Sexp) → list_all f (trees xs) ≡ list_all (λ s. f (tree_of s)) xs
+list_all-trees f [] = refl
+list_all-trees f (x ∷ xs) = ap (λ (b : Bool). f (tree_of x) && b) (list_all-trees f xs)
+
+pub items-listed : (tree : Sexp) (ts us : List Tree) → tree ≡ Listed ts → us ≡ ts → us ≡ items (tree_of tree)
+items-listed tree ts us e f = f ∙ sym (items_of-row ts) ∙ ap (λ (t : Sexp). items (tree_of t)) (sym e)
+
+pub parameter_is : (algorithm : Algorithm) (t : Tree) (xs : List Sexp) (a b : Bool) → trees xs ≡ items t → a ≡ is_parameter_len algorithm (length xs)
+    → b ≡ list_all (λ s. is_atom (tree_of s)) xs → (a && b) ≡ is_parameter algorithm t
+parameter_is algorithm t xs a b e f g =
+    let long : length xs ≡ length (items t) = sym (length-map xs tree_of) ∙ ap length e in
+    ap₂ ◌&&◌ (f ∙ ap (is_parameter_len algorithm) long) (g ∙ sym (list_all-trees is_atom xs) ∙ ap (list_all is_atom) e)
+
+pub curve_is : (xs : List Sexp) (b : Bool) → eqb (length xs) 0 ≡ false → b ≡ list_all (λ s. is_curve_parameter (tree_of s)) xs → b ≡ are_public Ecc (trees xs)
+curve_is [] b e h = absurd cc
+curve_is (x ∷ xs) b e h =
+    let all = h ∙ sym (list_all-trees is_curve_parameter (x ∷ xs)) in
+    let some = lt-ltb 0 (length (trees (x ∷ xs))) (omega arith) in
+    rw some all

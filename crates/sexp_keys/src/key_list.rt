@@ -1,0 +1,107 @@
+ghost use Rattle.std.specs.Prelude.{◌≡◌, ◌⊎◌, ◌↔◌, Result, IfOk, IfErr, IsSome, IfSome, IsTrue};
+ghost use Rattle.sexp_canonical.specs.View.{tree_of, trees};
+ghost use Rattle.sexp_keys.specs.Key.{Key, IsKey, clear_with};
+ghost use Rattle.sexp_keys.specs.Parameters.{are_secret};
+ghost use Rattle.sexp_keys.specs.Faults.{Reads, IsFirstFault};
+ghost use Rattle.sexp_keys.specs.declared.fault.KeyFault.{KeyFault};
+
+use crate::algorithm::Algorithm;
+use crate::fault::KeyFault;
+use crate::names::names_of;
+use crate::parameters::{are_lists, are_secret, parts_of};
+use sexp_canonical::{Items, Sexp};
+use std::alloc::{AllocError, Global};
+use std::marker::Model;
+
+/// A private key, clear or protected, with its parameters in the order of its algorithm. Its secret parameters are
+/// overwritten when it is dropped, and it is neither cloned nor printed.
+#[derive(Drop)]
+pub struct KeyList {
+    pub(crate) algorithm: Algorithm,
+    pub(crate) is_clear: bool,
+    pub(crate) public: Items,
+    pub(crate) private: Items,
+    pub(crate) further: Items,
+}
+
+impl Model for KeyList {
+    ghost use Rattle.sexp_keys.specs.Key.{Key, key_code, IsFormed};
+
+    ghost Value = { Key };
+
+    ghost coded = { key_code };
+
+    ghost view = { λ k. record { algorithm = k.algorithm; is_clear = k.is_clear; public = k.public; private = k.private; further = k.further } };
+
+    ghost invariant = { λ k. IsFormed (record { algorithm = k.algorithm; is_clear = k.is_clear; public = k.public; private = k.private; further = k.further }) };
+}
+
+impl KeyList {
+    /// Reads a private key.
+    pub fn of(alloc: Global, tree: &Sexp) -> Result<KeyList, KeyFault>
+        ensures found { IfOk result (IsKey (tree_of tree.now)) }
+
+        // Else the fault is the first one. Only want of memory may come at any time.
+        ensures fault { IfErr result (λ fault. (fault ≡ KeyFault.NoMemory) ⊎ IsFirstFault (tree_of tree.now) fault) }
+
+        // An expression has one answer, so no fault hides a key.
+        ensures only { (answer : Result Key KeyFault) → Reads (tree_of tree.now) answer
+            → (result ≡ Err KeyFault.NoMemory) ⊎ (result ≡ answer) }
+    {
+        read_key(alloc, tree)
+    }
+
+    /// The clear key with these secret parameters, where they are those of its algorithm. It takes no memory.
+    pub fn with_secret(self, secret: Items) -> Option<KeyList>
+        ensures found { IsSome result ↔ IsTrue (are_secret self.algorithm secret) }
+        ensures key { IfSome result (λ key. key ≡ clear_with self secret) }
+    {
+        if !are_secret(self.algorithm, secret.as_slice()) {
+            return None;
+        }
+        let KeyList {
+            algorithm,
+            is_clear: _,
+            public,
+            private: _,
+            further,
+        } = self;
+        Some(KeyList {
+            algorithm,
+            is_clear: true,
+            public,
+            private: secret,
+            further,
+        })
+    }
+}
+
+fn read_key(alloc: Global, tree: &Sexp) -> Result<KeyList, KeyFault>
+    ensures found { IfOk result (IsKey (tree_of tree.now)) }
+    ensures fault { IfErr result (λ fault. (fault ≡ KeyFault.NoMemory) ⊎ IsFirstFault (tree_of tree.now) fault) }
+{
+    let named = names_of(tree)?;
+    let Some((public, private)) = parts_of(named.is_clear, named.algorithm, named.parameters) else {
+        return Err(KeyFault::BadSecKey);
+    };
+    if !are_lists(named.further) {
+        return Err(KeyFault::BadSecKey);
+    }
+    Ok(KeyList {
+        algorithm: named.algorithm,
+        is_clear: named.is_clear,
+        public: copies_of(alloc, public)?,
+        private: copies_of(alloc, private)?,
+        further: copies_of(alloc, named.further)?,
+    })
+}
+
+fn copies_of(alloc: Global, lists: &[Sexp]) -> Result<Items, AllocError>
+    ensures { IfOk result (λ items. items ≡ trees lists.now) }
+{
+    let mut copies = Vec::with_capacity(alloc, lists.len())?;
+    for tree in lists {
+        copies.push(tree.copy(alloc)?)?;
+    }
+    Ok(Items::from(copies))
+}
