@@ -161,7 +161,8 @@ module _ (inner more : OpenLists) (bytes others : List ℕ) (k p q i j : ℕ) (f
       let same-len : length (spelling t) ≡ length (spelling u) = ap (λ (v : Tree). length (spelling v)) cut.0 in
       let t-len : length (flat_map spelling (t ∷ ts)) ≡ length (spelling t) + length (flat_map spelling ts) = ap length (flat_map-cons spelling t ts) ∙ length-append (spelling t) (flat_map spelling ts) in
       let u-len : length (flat_map spelling (u ∷ us)) ≡ length (spelling u) + length (flat_map spelling us) = ap length (flat_map-cons spelling u us) ∙ length-append (spelling u) (flat_map spelling us) in
-      let whole : length (flat_map spelling (t ∷ ts) ++ (opening inner ++ bytes)) ≡ length (spelling t) + length (flat_map spelling ts ++ (opening inner ++ bytes)) = ap length (items_then t ts (opening inner ++ bytes)) ∙ length-append (spelling t) (flat_map spelling ts ++ (opening inner ++ bytes)) in
+      let whole : length (flat_map spelling (t ∷ ts) ++ (opening inner ++ bytes)) ≡ length (spelling t) + length (flat_map spelling ts ++ (opening inner ++ bytes)) =
+      ap length (items_then t ts (opening inner ++ bytes)) ∙ length-append (spelling t) (flat_map spelling ts ++ (opening inner ++ bytes)) in
       one_fault_inside ts us (place + length (spelling t)) cut.1 (omega arith) (omega arith) (omega arith) (omega arith) (omega arith)
 
 pub one_fault : (ls ms : OpenLists) (bytes others : List ℕ) (place k p q i j : ℕ) (f g : SexpFault) → opening ls ++ bytes ≡ opening ms ++ others → length (opening ls ++ bytes) ≤ most_bytes

@@ -192,7 +192,8 @@ bad_end_at text place lists at within byte none =
     let count : length lists ≡ 0 = ap length none in
     fault_at text place lists (BadByte place) at (rw (drop_at_place text place within, byte, count) refl)
 
-pub bad_byte_at : (text : List ℕ) (place : ℕ) (lists : OpenLists) → IsOpenAt text place lists → place < length text → is_ascii_digit (get_or text place 0) ≡ false → (get_or text place 0 ≡ 40 → ⊥) → (get_or text place 0 ≡ 41 → ⊥) → IsFirstFault text (BadByte place)
+pub bad_byte_at : (text : List ℕ) (place : ℕ) (lists : OpenLists) → IsOpenAt text place lists → place < length text
+    → is_ascii_digit (get_or text place 0) ≡ false → (get_or text place 0 ≡ 40 → ⊥) → (get_or text place 0 ≡ 41 → ⊥) → IsFirstFault text (BadByte place)
 unfolding item_fault
 bad_byte_at text place lists at within other no_open no_close =
     let first : eqb (get_or text place 0) 40 ≡ false = ne_eqb (get_or text place 0) 40 no_open in

@@ -1,5 +1,6 @@
 -- Steps of reading.
-use Rattle.std.proofs.Common.{◌≡◌, ℕ, ◌+◌, ◌*◌, ◌-◌, ◌<◌, ◌≤◌, Bool, true, false, eqb, ltb, leb, ◌||◌, ◌&&◌, List, [], ◌∷◌, ◌++◌, length, get_or, take, drop, Some, refl, sym, ap, ◌∙◌, ◌⊎◌, inl, inr, append_assoc, arith, length-append, length-drop, drop-cons, add-one}
+use Rattle.std.proofs.Common.{◌≡◌, ℕ, ◌+◌, ◌*◌, ◌-◌, ◌<◌, ◌≤◌, Bool, true, false, eqb, ltb, leb, ◌||◌, ◌&&◌}
+use Rattle.std.proofs.Common.{List, [], ◌∷◌, ◌++◌, length, get_or, take, drop, Some, refl, sym, ap, ◌∙◌, ◌⊎◌, inl, inr, append_assoc, arith, length-append, length-drop, drop-cons, add-one}
 use Rattle.std.proofs.lemmas.List.{drop_all, drop-drop, take-append-drop, length-take}
 use Rattle.std.proofs.lemmas.Bool.{lt-ltb, ne_eqb, le-leb, lt-leb, eq-eqb}
 use Rattle.std.specs.Char.{is_ascii_digit}

@@ -5,7 +5,7 @@ use Rattle.std.specs.List.{flat_map}
 use Rattle.std.proofs.lemmas.List.Elements.{All-nil, All-cons, All-head, All-tail}
 use Rattle.std.proofs.lemmas.List.Concat.{flat_map-cons}
 use Rattle.std.specs.Char.{is_ascii_digit}
-use Rattle.sexp_canonical.specs.Tree.{Tree, Row, leaf, branch, end, item, row, list_of, items_of}
+use Rattle.sexp_canonical.specs.Tree.{Tree, Row, leaf, branch, end, item, row, list_of, items_of, items}
 use Rattle.sexp_canonical.specs.View.{tree_of}
 use Rattle.sexp_canonical.specs.Spelling.{numeral, spelling, spellings, depth, depths}
 use Rattle.sexp_canonical.specs.declared.tree.Sexp.{Sexp}
@@ -46,6 +46,9 @@ row-items_of (item t more) = ap (item t) (row-items_of more)
 pub items_of-row : (ts : List Tree) → items_of (row ts) ≡ ts
 items_of-row [] = refl
 items_of-row (t ∷ ts) = ap (λ (us : List Tree). t ∷ us) (items_of-row ts)
+
+pub items-listed : (tree : Sexp) (ts us : List Tree) → tree ≡ Listed ts → us ≡ ts → us ≡ items (tree_of tree)
+items-listed tree ts us e f = f ∙ sym (items_of-row ts) ∙ ap (λ (t : Sexp). items (tree_of t)) (sym e)
 
 -- ---- how deep a list is
 

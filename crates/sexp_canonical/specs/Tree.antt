@@ -25,6 +25,11 @@ abbrev pub items_of : Row → List Tree
 items_of end = []
 items_of (item t more) = t ∷ items_of more
 
+-- the items of a tree: none of an atom
+abbrev pub items : Tree → List Tree
+items (leaf bytes) = []
+items (branch row) = items_of row
+
 abbrev mutual
   tree_nodes : Tree → ℕ
   tree_nodes (leaf bytes) = 1

@@ -1,7 +1,7 @@
 ghost use Rattle.std.specs.Prelude.{◌≡◌, ◌<◌, [], ◌∷◌, ◌++◌, IfOk, vec_len, vec_capacity};
-ghost use Rattle.sexp_canonical.specs.Tree.{list_of};
+ghost use Rattle.sexp_canonical.specs.Tree.{list_of, items};
 ghost use Rattle.sexp_canonical.specs.Dropping.{drop_steps};
-ghost use Rattle.sexp_canonical.specs.View.{trees};
+ghost use Rattle.sexp_canonical.specs.View.{tree_of, trees};
 
 use crate::bytes::Bytes;
 use std::alloc::{AllocError, Global};
@@ -109,5 +109,15 @@ impl Sexp {
         ensures { result ≡ Sexp.List (trees items.items) }
     {
         Sexp::List(Items(items))
+    }
+
+    /// The items of a list, and none of an atom.
+    pub fn items(&self) -> &[Sexp]
+        ensures { trees result.now ≡ items (tree_of self.now) }
+    {
+        match self {
+            Sexp::Atom(_) => &[],
+            Sexp::List(items) => items.as_slice(),
+        }
     }
 }

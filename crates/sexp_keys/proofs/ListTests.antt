@@ -3,21 +3,16 @@ use Rattle.std.proofs.Common.{◌≡◌, Bool, false, eqb, ◌&&◌, List, [], �
 use Rattle.std.proofs.lemmas.List.{length-map}
 use Rattle.std.proofs.lemmas.Bool.{lt-ltb}
 use Rattle.std.specs.List.{list_all}
-use Rattle.sexp_canonical.specs.Tree.{Tree}
+use Rattle.sexp_canonical.specs.Tree.{Tree, items}
 use Rattle.sexp_canonical.specs.View.{tree_of, trees}
 use Rattle.sexp_canonical.specs.declared.tree.Sexp.{Sexp}
-use Rattle.sexp_canonical.specs.declared.tree.Sexp.TheVariants.{List as Listed}
-use Rattle.sexp_canonical.proofs.Trees.{items_of-row}
-use Rattle.sexp_keys.specs.Parameters.{items, is_atom, is_parameter, is_parameter_len, is_curve_parameter, are_public}
+use Rattle.sexp_keys.specs.Parameters.{is_atom, is_parameter, is_parameter_len, is_curve_parameter, are_public}
 use Rattle.sexp_keys.specs.declared.algorithm.Algorithm.{Algorithm}
 use Rattle.sexp_keys.specs.declared.algorithm.Algorithm.TheVariants.{Ecc}
 
 pub list_all-trees : (f : Tree → Bool) (xs : List Sexp) → list_all f (trees xs) ≡ list_all (λ s. f (tree_of s)) xs
 list_all-trees f [] = refl
 list_all-trees f (x ∷ xs) = ap (λ (b : Bool). f (tree_of x) && b) (list_all-trees f xs)
-
-pub items-listed : (tree : Sexp) (ts us : List Tree) → tree ≡ Listed ts → us ≡ ts → us ≡ items (tree_of tree)
-items-listed tree ts us e f = f ∙ sym (items_of-row ts) ∙ ap (λ (t : Sexp). items (tree_of t)) (sym e)
 
 pub parameter_is : (algorithm : Algorithm) (t : Tree) (xs : List Sexp) (a b : Bool) → trees xs ≡ items t → a ≡ is_parameter_len algorithm (length xs)
     → b ≡ list_all (λ s. is_atom (tree_of s)) xs → (a && b) ≡ is_parameter algorithm t

@@ -1,10 +1,9 @@
 -- The names of a key are in one place, and no two names are one.
 use Rattle.std.proofs.Common.{◌≡◌, ℕ, Bool, true, false, List, ◌∷◌, Some, None, refl, sym, ap, ◌∙◌}
 use Rattle.std.specs.Prelude.{bytes_eq}
-use Rattle.sexp_canonical.specs.Tree.{Tree, leaf, branch, row, list_of}
+use Rattle.sexp_canonical.specs.Tree.{Tree, leaf, branch, row, list_of, items}
 use Rattle.sexp_canonical.proofs.Trees.{row_injective, row-items_of}
 use Rattle.sexp_keys.specs.Names.{algorithm_name, algorithm_of, form_name}
-use Rattle.sexp_keys.specs.Parameters.{items}
 use Rattle.sexp_keys.specs.Faults.{named_fault}
 use Rattle.sexp_keys.specs.Named.{HasNames}
 use Rattle.sexp_keys.specs.declared.algorithm.Algorithm.{Algorithm}

@@ -4,11 +4,11 @@ use Rattle.std.specs.Cmp.Lexicographic.{as_long}
 use Rattle.std.proofs.lemmas.List.{take_at, drop_at, length-map}
 use Rattle.std.proofs.lemmas.Slice.Eq.{bytes_eq-Decides}
 use Rattle.std.specs.Prelude.{bytes_eq}
-use Rattle.sexp_canonical.specs.Tree.{Tree, leaf, branch}
+use Rattle.sexp_canonical.specs.Tree.{Tree, leaf, branch, items}
 use Rattle.sexp_canonical.specs.View.{tree_of, trees}
 use Rattle.sexp_canonical.specs.declared.tree.Sexp.{Sexp}
 use Rattle.sexp_keys.specs.Names.{secret_names, protected_name, time_name}
-use Rattle.sexp_keys.specs.Parameters.{items, begin_with, has_name, is_named, is_time, are_protection, are_private}
+use Rattle.sexp_keys.specs.Parameters.{begin_with, has_name, is_named, is_time, are_protection, are_private}
 use Rattle.sexp_keys.specs.Named.{ends_with_time, private_count, AreParts}
 use Rattle.sexp_keys.specs.declared.algorithm.Algorithm.{Algorithm}
 use Rattle.sexp_keys.specs.declared.algorithm.Algorithm.TheVariants.{Rsa}

@@ -2,7 +2,7 @@
 use Rattle.std.specs.Prelude.{ℕ, Bool, true, false, not, ◌&&◌, ◌||◌, ◌==◌, nat_le, nat_lt, List, [], ◌∷◌, length, codes, bytes_eq, if◌then◌else◌}
 use Rattle.std.specs.List.{list_all}
 use Rattle.std.specs.Cmp.Lexicographic.{pointwise}
-use Rattle.sexp_canonical.specs.Tree.{Tree, leaf, branch, items_of}
+use Rattle.sexp_canonical.specs.Tree.{Tree, leaf, branch, items}
 use Rattle.sexp_keys.specs.Names.{public_names, secret_names, protected_name, time_name}
 use Rattle.sexp_keys.specs.declared.algorithm.Algorithm.{Algorithm}
 use Rattle.sexp_keys.specs.declared.algorithm.Algorithm.TheVariants.{Rsa, Dsa, Elg, Ecc}
@@ -13,11 +13,6 @@ is_atom (branch row) = false
 
 abbrev pub is_list : Tree → Bool
 is_list t = not (is_atom t)
-
--- the items of a list, and none of an atom
-abbrev pub items : Tree → List Tree
-items (leaf bytes) = []
-items (branch row) = items_of row
 
 -- items of which the first is this atom
 abbrev pub begin_with : List ℕ → List Tree → Bool

@@ -9,7 +9,6 @@ ghost use Rattle.sexp_keys.specs.Named.{HasNames};
 
 use crate::algorithm::Algorithm;
 use crate::fault::KeyFault;
-use crate::parameters::items_of;
 use sexp_canonical::Sexp;
 
 /// A key whose names are right.
@@ -27,11 +26,11 @@ pub(crate) fn names_of(tree: &Sexp) -> Result<Named<'_>, KeyFault>
         (trees named.parameters.now) (trees named.further.now)) }
     ensures fault { IfErr result (λ fault. named_fault (tree_of tree.now) ≡ Some fault) }
 {
-    let (is_clear, others) = form_of(items_of(tree))?;
+    let (is_clear, others) = form_of(tree.items())?;
     let Some((second, further)) = others.split_first() else {
         return Err(KeyFault::BadSecKey);
     };
-    let (algorithm, parameters) = algorithm_of(items_of(second))?;
+    let (algorithm, parameters) = algorithm_of(second.items())?;
     Ok(Named {
         is_clear,
         algorithm,

@@ -5,7 +5,7 @@ ghost use Rattle.std.specs.List.{list_all};
 ghost use Rattle.sexp_canonical.specs.Tree.{Tree};
 ghost use Rattle.sexp_canonical.specs.View.{tree_of, trees};
 ghost use Rattle.sexp_keys.specs.Named.{ends_with_time, private_count, AreParts};
-ghost use Rattle.sexp_keys.specs.Parameters.{is_atom, is_list, items, has_name, is_parameter, is_parameter_len, is_named, are_named, is_curve_parameter, are_public, are_secret, is_time, are_protection, are_private};
+ghost use Rattle.sexp_keys.specs.Parameters.{is_atom, is_list, has_name, is_parameter, is_parameter_len, is_named, are_named, is_curve_parameter, are_public, are_secret, is_time, are_protection, are_private};
 
 use crate::algorithm::Algorithm;
 use sexp_canonical::Sexp;
@@ -15,16 +15,6 @@ pub(crate) const PROTECTED: &[u8] = b"protected";
 
 /// The name of the list that holds the time of a protection.
 pub(crate) const PROTECTED_AT: &[u8] = b"protected-at";
-
-/// The items of a list, and none of an atom.
-pub(crate) fn items_of(tree: &Sexp) -> &[Sexp]
-    ensures { trees result.now ≡ items (tree_of tree.now) }
-{
-    match tree {
-        Sexp::Atom(_) => &[],
-        Sexp::List(items) => items.as_slice(),
-    }
-}
 
 fn is_atom(tree: &Sexp) -> bool
     ensures { result ≡ is_atom (tree_of tree.now) }
@@ -49,7 +39,7 @@ pub(crate) fn are_lists(lists: &[Sexp]) -> bool
 pub(crate) fn has_name(name: &[u8], tree: &Sexp) -> bool
     ensures { result ≡ has_name name.now (tree_of tree.now) }
 {
-    match items_of(tree) {
+    match tree.items() {
         [Sexp::Atom(first), ..] => first.as_slice() == name,
         _ => false,
     }
@@ -67,7 +57,7 @@ fn is_parameter_len(algorithm: Algorithm, len: usize) -> bool
 fn is_parameter(algorithm: Algorithm, tree: &Sexp) -> bool
     ensures { result ≡ is_parameter algorithm (tree_of tree.now) }
 {
-    let items = items_of(tree);
+    let items = tree.items();
     is_parameter_len(algorithm, items.len()) && are_atoms(items)
 }
 

@@ -39,5 +39,6 @@ loop-item-smaller c =
 pub loop-item-preserved : goal.loop-item-preserved
 loop-item-preserved c =
     rw c.new-copied-in-List.ensures.items
-    (list_begun c.loop-item.outer.items c.push-in-List.new.self.items (record { copied = c.loop-item.copied; left = c.in-Some.others }) c.loop-item.copied.items c.loop-item.left.now c.in-Some.others.now c.as_slice-left.result.now c.args.items.now c.in-Some.item.now
+    (list_begun c.loop-item.outer.items c.push-in-List.new.self.items (record { copied = c.loop-item.copied; left = c.in-Some.others })
+    c.loop-item.copied.items c.loop-item.left.now c.in-Some.others.now c.as_slice-left.result.now c.args.items.now c.in-Some.item.now
     c.loop-item.invariant c.in-Some.ensures.cases.0 (c.in-List.is ∙ ap Listed (sym c.as_slice-left.ensures)) refl refl c.in_ok-push-in-List.ensures.items)

@@ -6,4 +6,5 @@ pub returns-then-text-start-clause-fault : goal.returns-then-text-start-clause-f
 returns-then-text-start-clause-fault c = inr (missing_bytes c.args.text.now c.args.place c.in_ok-count.count c.in_ok-count.start c.in_ok-count.ensures.found c.if-text-start.true)
 
 pub returns-clause-found : goal.returns-clause-found
-returns-clause-found c = has_atom c.args.text.now c.args.place c.in_ok-count.count c.in_ok-count.start (c.in_ok-count.start + c.in_ok-count.count) c.in_ok-atom.field-0 c.in_ok-count.ensures.found c.if-text-start.false refl c.in_ok-atom.ensures
+returns-clause-found c =
+    has_atom c.args.text.now c.args.place c.in_ok-count.count c.in_ok-count.start (c.in_ok-count.start + c.in_ok-count.count) c.in_ok-atom.field-0 c.in_ok-count.ensures.found c.if-text-start.false refl c.in_ok-atom.ensures

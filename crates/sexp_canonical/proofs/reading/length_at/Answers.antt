@@ -18,4 +18,5 @@ pub returns-in_default-with_digit-clause-fault : goal.returns-in_default-with_di
 returns-in_default-with_digit-clause-fault c = bad_length c.args.text.now c.args.place c.loop-end.end c.loop-end.count c.loop-end.invariant c.loop-end-test.true (omega arith) (omega arith) c.in_default-with_digit.ensures
 
 pub loop-end-preserved : goal.loop-end-preserved
-loop-end-preserved c = IsNumeralUpTo-more c.args.text.now c.args.place c.loop-end.end c.loop-end.count c.in-Some.more c.loop-end.invariant c.loop-end-test.true (omega arith) (omega arith) c.in-Some.ensures.0 c.in-Some.ensures.1 c.in-Some.ensures.2
+loop-end-preserved c =
+    IsNumeralUpTo-more c.args.text.now c.args.place c.loop-end.end c.loop-end.count c.in-Some.more c.loop-end.invariant c.loop-end-test.true (omega arith) (omega arith) c.in-Some.ensures.0 c.in-Some.ensures.1 c.in-Some.ensures.2

@@ -7,11 +7,13 @@ use Rattle.sexp_keys.proofs.key_list.read_key.Goals as goal
 
 pub returns-in_default-clause-fault : goal.returns-in_default-clause-fault
 returns-in_default-clause-fault c =
-    inr (bad_parameters (tree_of c.args.tree.now) c.in_ok-named.named.is_clear c.in_ok-named.named.algorithm (trees c.in_ok-named.named.parameters.now) (trees c.in_ok-named.named.further.now) c.in_ok-named.ensures.found c.in_default.ensures.none)
+    inr (bad_parameters (tree_of c.args.tree.now) c.in_ok-named.named.is_clear c.in_ok-named.named.algorithm
+    (trees c.in_ok-named.named.parameters.now) (trees c.in_ok-named.named.further.now) c.in_ok-named.ensures.found c.in_default.ensures.none)
 
 pub returns-then-not-are_lists-clause-fault : goal.returns-then-not-are_lists-clause-fault
 returns-then-not-are_lists-clause-fault c =
-    inr (bad_further (tree_of c.args.tree.now) c.in_ok-named.named.is_clear c.in_ok-named.named.algorithm (trees c.in_ok-named.named.parameters.now) (trees c.in_ok-named.named.further.now) c.in_ok-named.ensures.found
+    inr (bad_further (tree_of c.args.tree.now) c.in_ok-named.named.is_clear c.in_ok-named.named.algorithm
+    (trees c.in_ok-named.named.parameters.now) (trees c.in_ok-named.named.further.now) c.in_ok-named.ensures.found
     (list_all-trees is_list c.in_ok-named.named.further.now ∙ sym c.are_lists.ensures ∙ c.if-not-are_lists.true))
 
 pub invariant_of-result : goal.invariant_of-result

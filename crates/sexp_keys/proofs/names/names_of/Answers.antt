@@ -7,4 +7,4 @@ pub returns-clause-found : goal.returns-clause-found
 returns-clause-found c =
     has_names (tree_of c.args.tree.now) (tree_of c.in-Some.second.now) c.in_ok-is_clear.is_clear c.in_ok-algorithm.algorithm
     (trees c.in_ok-is_clear.others.now) (trees c.in_ok-algorithm.parameters.now) (trees c.in-Some.further.now)
-    (sym c.items_of.ensures ∙ c.in_ok-is_clear.ensures.found) (ap trees c.in-Some.ensures.cases.0) (sym c.items_of-2.ensures ∙ c.in_ok-algorithm.ensures.found)
+    (sym c.items.ensures ∙ c.in_ok-is_clear.ensures.found) (ap trees c.in-Some.ensures.cases.0) (sym c.items-2.ensures ∙ c.in_ok-algorithm.ensures.found)

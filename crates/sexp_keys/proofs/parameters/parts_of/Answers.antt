@@ -16,7 +16,8 @@ pub returns-then-not-are_public-clause-none : goal.returns-then-not-are_public-c
 returns-then-not-are_public-clause-none c public private parts =
     let ps = trees c.args.parameters.now in
     let n = counted_parts c.args.is_clear c.args.algorithm ps public private parts in
-    let cut = trees_cut c.args.parameters.now c.split_at.result.0.now c.split_at.result.1.now (private_count c.args.is_clear c.args.algorithm ps) c.private_count-count.result ps public private n refl (sym c.private_count-count.ensures) c.split_at.ensures.front c.split_at.ensures.back in
+    let cut = trees_cut c.args.parameters.now c.split_at.result.0.now c.split_at.result.1.now (private_count c.args.is_clear c.args.algorithm ps) c.private_count-count.result
+    ps public private n refl (sym c.private_count-count.ensures) c.split_at.ensures.front c.split_at.ensures.back in
     let passes : are_public c.args.algorithm (trees c.split_at.result.0.now) ≡ true = ap (are_public c.args.algorithm) cut.0 ∙ parts.are_public in
     cc
 
@@ -24,6 +25,7 @@ pub returns-then-not-are_private-clause-none : goal.returns-then-not-are_private
 returns-then-not-are_private-clause-none c public private parts =
     let ps = trees c.args.parameters.now in
     let n = counted_parts c.args.is_clear c.args.algorithm ps public private parts in
-    let cut = trees_cut c.args.parameters.now c.split_at.result.0.now c.split_at.result.1.now (private_count c.args.is_clear c.args.algorithm ps) c.private_count-count.result ps public private n refl (sym c.private_count-count.ensures) c.split_at.ensures.front c.split_at.ensures.back in
+    let cut = trees_cut c.args.parameters.now c.split_at.result.0.now c.split_at.result.1.now (private_count c.args.is_clear c.args.algorithm ps) c.private_count-count.result
+    ps public private n refl (sym c.private_count-count.ensures) c.split_at.ensures.front c.split_at.ensures.back in
     let passes : are_private c.args.is_clear c.args.algorithm (trees c.split_at.result.1.now) ≡ true = ap (are_private c.args.is_clear c.args.algorithm) cut.1 ∙ parts.are_private in
     cc
