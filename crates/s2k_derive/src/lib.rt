@@ -83,9 +83,7 @@ pub fn count_of(n: u64) -> Option<u64>
     } else {
         n
     };
-    (MIN_COUNT..=MAX_COUNT)
-        .contains(&count)
-        .then_some(count)
+    (MIN_COUNT..=MAX_COUNT).contains(&count).then_some(count)
 }
 
 #[cfg(test)]
