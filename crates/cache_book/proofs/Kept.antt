@@ -1,0 +1,64 @@
+-- Each slot stays within the modes that its entry covers, whatever a shelf does.
+use Rattle.std.specs.Prelude.{◌≡◌, ℕ, ◌==◌, List, [], ◌∷◌, ◌++◌, Bool, true, false, ◌&&◌, not, max, map, filter, cond, refl}
+use Rattle.std.proofs.Common.{ap, sym, ◌∙◌}
+use Rattle.std.specs.List.{AllByRecursion}
+use Rattle.cache_policy.specs.declared.mode.Mode.{Mode}
+use Rattle.cache_policy.specs.declared.mode.Mode.TheVariants.{Normal, User, Ssh, Nonce, Any}
+use Rattle.cache_policy.specs.declared.entry.Entry.{Entry}
+use Rattle.cache_policy.specs.Mode.{covers}
+use Rattle.cache_policy.specs.Entry.{same_id}
+use Rattle.cache_policy.proofs.Lists.{all_append}
+use Rattle.cache_book.specs.declared.modes.Modes.{Modes}
+use Rattle.cache_book.specs.declared.slot.Slot.{Slot}
+use Rattle.cache_book.specs.Modes.{modes_where, holds, has_some, not_covered}
+use Rattle.cache_book.specs.Shelves.{touch_slot, touched, hide, hidden, new_slot, with_entry, IsWithinMode, AreWithinMode}
+
+-- what is kept and what is changed
+module _ {A : Type 0} (P : A → Type 0) where
+  pub all_filter : (test : A → Bool) (xs : List A) → AllByRecursion P xs → AllByRecursion P (filter test xs)
+  all_filter test [] h = tt
+  all_filter test (x ∷ xs) h =
+      elim (test x) as (λ b. AllByRecursion P (cond b (x ∷ filter test xs) (filter test xs))) [ true ↦ (h.0, all_filter test xs h.1) | false ↦ all_filter test xs h.1 ]
+
+  pub all_map : (f : A → A) → ((x : A) → P x → P (f x)) → (xs : List A) → AllByRecursion P xs → AllByRecursion P (map f xs)
+  all_map f keeps [] h = tt
+  all_map f keeps (x ∷ xs) h = (keeps x h.0, all_map f keeps xs h.1)
+
+-- a set holds the modes by whose test it is made
+pub holds-where : (test : Mode → Bool) (mode : Mode) → holds (modes_where test) mode ≡ test mode
+holds-where test Normal = refl
+holds-where test User = refl
+holds-where test Ssh = refl
+holds-where test Nonce = refl
+holds-where test Any = refl
+
+second_of : (a b : Bool) → (a && b) ≡ true → b ≡ true
+second_of true b h = h
+second_of false b h = cc
+
+within-touch : (number now : ℕ) (slot : Slot) → IsWithinMode slot → IsWithinMode (touch_slot number now slot)
+within-touch number now slot h =
+    elim (slot.entry.number == number) as (λ b. IsWithinMode (cond b (record slot { last = max slot.last now }) slot)) [ true ↦ h | false ↦ h ]
+
+pub within-touched : (number now : ℕ) (list : List Slot) → AreWithinMode list → AreWithinMode (touched number now list)
+within-touched number now list h = all_map IsWithinMode (touch_slot number now) (within-touch number now) list h
+
+within-hide : (entry : Entry) (slot : Slot) → IsWithinMode slot → IsWithinMode (hide entry slot)
+within-hide entry slot h =
+    elim (same_id slot.entry.id entry.id) as (λ b. IsWithinMode (cond b (record slot { modes = not_covered entry.mode slot.modes }) slot)) [
+      | true ↦ λ mode held. h mode (second_of (not (covers entry.mode mode)) (holds slot.modes mode)
+          (sym (holds-where (λ other. not (covers entry.mode other) && holds slot.modes other) mode) ∙ held))
+      | false ↦ h
+    ]
+
+within-new_slot : (entry : Entry) → IsWithinMode (new_slot entry)
+within-new_slot entry mode held = sym (holds-where (covers entry.mode) mode) ∙ held
+
+pub within-with_entry : (entry : Entry) (list : List Slot) → AreWithinMode list → AreWithinMode (with_entry entry list)
+within-with_entry entry list h =
+    all_append IsWithinMode (hidden entry list) (new_slot entry ∷ [])
+    (all_filter IsWithinMode (λ slot. has_some slot.modes) (map (hide entry) list) (all_map IsWithinMode (hide entry) (within-hide entry) list h))
+    (within-new_slot entry, tt)
+
+pub within-filter : (test : Slot → Bool) (list : List Slot) → AreWithinMode list → AreWithinMode (filter test list)
+within-filter test list h = all_filter IsWithinMode test list h
