@@ -47,7 +47,7 @@ pub record IsGrantOf (id id_copy : List ℕ) (mode : Mode) (now : ℕ) (slot : S
   pub last : IfSome r (λ (grant : Grant). grant.last ≡ slot.last)
   pub moment : IfSome r (λ (grant : Grant). grant.moment ≡ now)
 
-all_at : (P : Slot → Type 0) (list : List Slot) (slot : Slot) → AllByRecursion P list → IsOneOf slot list → P slot
+pub all_at : (P : Slot → Type 0) (list : List Slot) (slot : Slot) → AllByRecursion P list → IsOneOf slot list → P slot
 all_at P [] slot all on = elim on [ ]
 all_at P (first ∷ later) slot all here = all.0
 all_at P (first ∷ later) slot all (further on) = all_at P later slot all.1 on

@@ -38,14 +38,14 @@ second_of false b h = cc
 
 within-touch : (number now : ℕ) (slot : Slot) → IsWithinMode slot → IsWithinMode (touch_slot number now slot)
 within-touch number now slot h =
-    elim (slot.entry.number == number) as (λ b. IsWithinMode (cond b (record slot { last = max slot.last now }) slot)) [ true ↦ h | false ↦ h ]
+    elim (number == slot.entry.number) as (λ b. IsWithinMode (cond b (record slot { last = max slot.last now }) slot)) [ true ↦ h | false ↦ h ]
 
 pub within-touched : (number now : ℕ) (list : List Slot) → AreWithinMode list → AreWithinMode (touched number now list)
 within-touched number now list h = all_map IsWithinMode (touch_slot number now) (within-touch number now) list h
 
 within-hide : (entry : Entry) (slot : Slot) → IsWithinMode slot → IsWithinMode (hide entry slot)
 within-hide entry slot h =
-    elim (same_id slot.entry.id entry.id) as (λ b. IsWithinMode (cond b (record slot { modes = not_covered entry.mode slot.modes }) slot)) [
+    elim (same_id entry.id slot.entry.id) as (λ b. IsWithinMode (cond b (record slot { modes = not_covered entry.mode slot.modes }) slot)) [
       | true ↦ λ mode held. h mode (second_of (not (covers entry.mode mode)) (holds slot.modes mode)
           (sym (holds-where (λ other. not (covers entry.mode other) && holds slot.modes other) mode) ∙ held))
       | false ↦ h

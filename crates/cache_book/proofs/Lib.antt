@@ -1,3 +1,8 @@
 pub mod Finding
 pub mod Kept
 pub mod Examples
+pub mod Known
+pub mod Slotwise
+pub mod Marking
+pub mod Storing
+pub mod Live

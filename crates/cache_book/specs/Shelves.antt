@@ -40,14 +40,14 @@ ServesNone list id mode moment = AllByRecursion (λ slot. serves_at id mode mome
 
 -- the entry with this number was used now
 abbrev pub touch_slot : ℕ → ℕ → Slot → Slot
-touch_slot number now slot = if slot.entry.number == number then record slot { last = max slot.last now } else slot
+touch_slot number now slot = if number == slot.entry.number then record slot { last = max slot.last now } else slot
 
 abbrev pub touched : ℕ → ℕ → List Slot → List Slot
 touched number now list = map (touch_slot number now) list
 
 -- a later entry of the same id takes the modes that it covers
 abbrev pub hide : Entry → Slot → Slot
-hide entry slot = if same_id slot.entry.id entry.id then record slot { modes = not_covered entry.mode slot.modes } else slot
+hide entry slot = if same_id entry.id slot.entry.id then record slot { modes = not_covered entry.mode slot.modes } else slot
 
 -- what is left of the slots beside a later entry: a slot without a mode is dropped
 abbrev pub hidden : Entry → List Slot → List Slot

@@ -36,7 +36,7 @@ impl Slot {
     pub fn touch(&mut self, number: u64, now: u64)
         ensures { self.new ≡ touch_slot number now self.old }
     {
-        if self.entry.number == number {
+        if number == self.entry.number {
             self.last = self.last.max(now);
         }
     }
@@ -45,7 +45,7 @@ impl Slot {
     pub fn hide(&mut self, later: &Entry)
         ensures { self.new ≡ hide later.now self.old }
     {
-        if self.entry.id == later.id {
+        if later.id == self.entry.id {
             self.modes = self.modes.not_covered(later.mode);
         }
     }
