@@ -1,5 +1,5 @@
 -- Which slot of a history serves a request: that of the live entry, and none where no entry is live.
-use Rattle.std.specs.Prelude.{◌≡◌, ℕ, ◌==◌, List, [], ◌∷◌, ◌++◌, Bool, true, false, not, ◌&&◌, ◌||◌, nat_eq, Option, Some, None, IfSome, IfNone, reverse, refl, cond, if◌then◌else◌}
+use Rattle.std.specs.Prelude.{◌≡◌, ℕ, ◌==◌, List, [], ◌∷◌, ◌++◌, Bool, true, false, not, ◌&&◌, ◌||◌, nat_eq, Option, Some, None, IfSome, IfNone, reverse, filter, refl, cond, if◌then◌else◌}
 use Rattle.std.proofs.Common.{ap, sym, ◌∙◌, subst, arith}
 use Rattle.std.proofs.lemmas.Bool.Decides.{nat_tests}
 use Rattle.std.proofs.Math.Bool.{or-true}
@@ -21,8 +21,8 @@ use Rattle.cache_book.specs.declared.modes.Modes.{Modes}
 use Rattle.cache_book.specs.declared.slot.Slot.{Slot}
 use Rattle.cache_book.specs.Modes.{modes_where, holds, has_some}
 use Rattle.cache_book.specs.Slots.{has_number, still_serves, slot_with, slot_of, slots}
-use Rattle.cache_book.specs.Shelves.{serves_at, IsOneOf, IsGrantFrom, ServesNone}
-use Rattle.cache_book.proofs.Kept.{holds-where}
+use Rattle.cache_book.specs.Shelves.{serves_at, IsOneOf, here, further, IsGrantFrom, ServesNone, swept}
+use Rattle.cache_book.proofs.Kept.{all_filter, holds-where}
 use Rattle.cache_book.proofs.Known.{IsSameAs, IsKnown, all_known, all_newest}
 use Rattle.cache_book.proofs.Finding.{all_at}
 use Rattle.cache_book.proofs.Marking.{both_true}
@@ -164,3 +164,41 @@ none_live limits history id mode moment none =
             ∙ (ap (λ b. b && within entry (last_use history entry) moment) (holds-where (still_serves limits history moment entry) mode ∙ serves_still lives)
             ∙ (both_true (not (gone history entry)) (within entry (last_use history entry) moment) lives).1) in
             let wrong : true ≡ false = sym yes ∙ no.0 in cc
+
+-- what has the number of the live entry is live
+pub live_is_live : (limits : Limits) (history : History) (id : List ℕ) (mode : Mode) (moment : ℕ) (given entry : Entry)
+    → live limits history id mode moment ≡ Some given → IsKnown limits history entry → (given.number == entry.number) ≡ true → is_live history moment entry ≡ true
+live_is_live limits history id mode moment given entry is known same =
+    at (newest limits history id mode) (all_newest (IsSameAs entry) limits history id mode known.only) is
+  where
+    at : (o : Option Entry) → IfSome o (IsSameAs entry) → option_and_then (λ x. if is_live history moment x then Some x else None) o ≡ Some given
+        → is_live history moment entry ≡ true
+    at None h is = cc
+    at (Some x) h is =
+        elim (is_live history moment x) as (λ b. is_live history moment x ≡ b → (if b then Some x else None) ≡ Some given → is_live history moment entry ≡ true) [
+          | true ↦ λ lives e. let this : x ≡ given = cc in
+              subst (λ (y : Entry). is_live history moment y ≡ true) (h (subst (λ (y : Entry). (y.number == entry.number) ≡ true) (sym this) same)) lives
+          | false ↦ λ lives e. cc
+        ] refl is
+
+-- what is found at a moment is among what is left then
+on_filter : (test : Slot → Bool) (slot : Slot) (list : List Slot) → IsOneOf slot list → test slot ≡ true → IsOneOf slot (filter test list)
+on_filter test slot [] on passes = elim on [ ]
+on_filter test slot (first ∷ later) here passes = subst (λ (b : Bool). IsOneOf slot (cond b (slot ∷ filter test later) (filter test later))) (sym passes) here
+on_filter test slot (first ∷ later) (further on) passes =
+    elim (test first) as (λ b. IsOneOf slot (cond b (first ∷ filter test later) (filter test later))) [
+      | true ↦ further (on_filter test slot later on passes)
+      | false ↦ on_filter test slot later on passes
+    ]
+
+pub grant-swept : (list : List Slot) (id : List ℕ) (mode : Mode) (moment : ℕ) (grant : Grant) → IsGrantFrom list id mode moment grant
+    → IsGrantFrom (swept moment list) id mode moment grant
+grant-swept list id mode moment grant from = record {
+  slot = from.slot;
+  on = on_filter (λ (slot : Slot). within slot.entry slot.last moment) from.slot list from.on
+      (both_true (same_id from.slot.entry.id id && holds from.slot.modes mode) (within from.slot.entry from.slot.last moment) from.serves).1;
+  serves = from.serves; id_is = from.id_is; mode_is = from.mode_is; entry = from.entry; last = from.last; moment_is = from.moment_is;
+}
+
+pub none-swept : (list : List Slot) (id : List ℕ) (mode : Mode) (moment : ℕ) → ServesNone list id mode moment → ServesNone (swept moment list) id mode moment
+none-swept list id mode moment none = all_filter (λ (slot : Slot). serves_at id mode moment slot ≡ false) (λ slot. within slot.entry slot.last moment) list none

@@ -1,0 +1,69 @@
+-- What a core stands for, and what its steps do: the policy's reply, and the history with one mark more. This is the project's own.
+use Rattle.std.specs.Prelude.{◌≡◌, ℕ, ◌+◌, ◌<◌, ◌≤◌, List, [], length, Bool, true, false, Option, Some, None, IsSome, IfSome, ⊤}
+use Rattle.agent_ports.specs.declared.session.SessionId.{SessionId}
+use Rattle.cache_policy.specs.declared.bounds.TheConstants.{MAX_MARKS, MAX_MOMENT}
+use Rattle.cache_policy.specs.declared.life.Limits.{Limits}
+use Rattle.cache_policy.specs.declared.mark.Way.TheVariants.{Quiet, Prompt}
+use Rattle.cache_policy.specs.declared.mark.Mark.{Mark}
+use Rattle.cache_policy.specs.declared.mark.MarkStep.{MarkStep}
+use Rattle.cache_policy.specs.declared.mark.MarkStep.TheVariants as asked
+use Rattle.cache_policy.specs.declared.mark.MarkReply.{MarkReply}
+use Rattle.cache_policy.specs.declared.mark.MarkReply.TheVariants as reply
+use Rattle.cache_policy.specs.declared.history.History.{History}
+use Rattle.cache_policy.specs.Histories.{with_mark}
+use Rattle.cache_policy.specs.Seat.{seat, stopped}
+use Rattle.cache_policy.specs.Policy.{Reply, policy}
+use Rattle.cache_policy.specs.Policy as ruling
+use Rattle.cache_policy.specs.Runs.{next_history, is_spent, moment_before}
+use Rattle.cache_policy.specs.Turns.{Turn, Given, Empty, Open, Stand, Done, Held, Stopping, Refused, FitsStep, opens}
+use Rattle.cache_policy.specs.Desks.{Shows}
+use Rattle.cache_book.specs.Slots.{slots}
+use Rattle.agent_core.specs.States.{AtCore, HasRoom}
+
+-- The core stands for a history: it has its base, the number of its marks, the moment of its last mark, its slots at that moment and no
+-- others, its seat, and whether it has stopped. Where the ticket that is out has an `Under`, there is room for its passphrase.
+pub record StandsFor (core : AtCore) (history : History) : Type 0 where
+  pub base : core.base ≡ history.base
+  pub count : core.count ≡ length history.marks
+  pub moment : core.moment ≤ MAX_MOMENT
+  pub latest : 0 < length history.marks → core.moment ≡ moment_before history.marks
+  pub slots_are : core.slots ≡ slots core.limits history core.moment
+  pub seat_is : core.held ≡ seat history
+  pub stopped_is : core.stopped ≡ stopped history
+  pub room : HasRoom core.held core.spare
+
+abbrev pub mark_of : SessionId → MarkStep → MarkReply → ℕ → Mark
+mark_of session step_of reply_is moment = record { session = session; step = step_of; reply = reply_is; moment = moment }
+
+-- the step was replied by the policy, and made its mark, for which the core stands then
+pub record IsMarked (before : AtCore) (next : History) (session : SessionId) (moment : ℕ) (step_of : MarkStep) (turn : Turn) (after : AtCore) : Type 0 where
+  pub reply_is : MarkReply
+  pub rules : policy before.limits next step_of moment ≡ Reply reply_is
+  pub shows : Shows before.limits next (mark_of session step_of reply_is moment) turn
+  pub stands : StandsFor after (with_mark next (mark_of session step_of reply_is moment))
+
+-- Only these steps can find no memory: a Put, and one that opens a prompt whose passphrase is to be kept
+abbrev pub WantsMemory : Limits → History → MarkStep → ℕ → Type 0
+WantsMemory limits next (asked.Put id mode life secret) moment = ⊤
+WantsMemory limits next (asked.Ask id mode way) moment = policy limits next (asked.Ask id mode way) moment ≡ Reply reply.Open
+WantsMemory limits next (asked.Seat under) moment = IsSome under × (policy limits next (asked.Seat under) moment ≡ Reply reply.Open)
+WantsMemory limits next _ moment = ⊥
+
+-- the core is as before, but for its room
+abbrev pub IsAsBefore : AtCore → AtCore → Type 0
+IsAsBefore before after = after ≡ record before { spare = after.spare }
+
+-- What a step at a moment comes to, on the history that is next for the one that the core stands for. Where that is spent, nothing changes.
+pub data IsStep (before : AtCore) (history : History) (session : SessionId) (moment : ℕ) (step_of : MarkStep) : Turn → AtCore → Type 0 where
+  marked : {turn : Turn} {after : AtCore} → is_spent (next_history history) ≡ false
+      → IsMarked before (next_history history) session moment step_of turn after → IsStep before history session moment step_of turn after
+  stood : {after : AtCore} → is_spent (next_history history) ≡ false → policy before.limits (next_history history) step_of moment ≡ ruling.Stand
+      → StandsFor after history → after.moment ≡ before.moment → IsStep before history session moment step_of Stand after
+  refused : {after : AtCore} → is_spent (next_history history) ≡ false → WantsMemory before.limits (next_history history) step_of moment
+      → IsAsBefore before after → IsStep before history session moment step_of Refused after
+  spent : {after : AtCore} → is_spent (next_history history) ≡ true → after ≡ before → IsStep before history session moment step_of Stopping after
+
+-- Which turns a step of a core can come to: as at a desk, but one that wants the prompt may have to stand
+abbrev pub FitsCore : MarkStep → Turn → Type 0
+FitsCore step_of Stand = opens step_of ≡ true
+FitsCore step_of turn = FitsStep step_of turn

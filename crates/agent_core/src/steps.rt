@@ -1,0 +1,222 @@
+ghost use Rattle.std.specs.Prelude.{◌≡◌, ◌≤◌, true, None, Some, IsSome, IfErr};
+ghost use Rattle.std.specs.Option.{is_some};
+ghost use Rattle.cache_policy.specs.declared.grant.Grant.{Grant as OneGrant};
+ghost use Rattle.cache_policy.specs.Turns.{mark_step, turn_of};
+ghost use Rattle.cache_book.specs.Shelves.{cleared, touched};
+
+use crate::state::State;
+use cache_book::Shelf;
+use cache_policy::{CacheId, Entry, Life, Mode, Refused, Reply, Secret, Step, Under, Way};
+use prompt_seat::Ticket;
+
+impl State {
+    ghost use Rattle.std.specs.Prelude.{Option, []};
+    ghost use Rattle.agent_core.specs.States.{Takes};
+    ghost use Rattle.agent_core.specs.States.{IsState, MayMark, HasMarked, HasMarkedAlone, Finds, Prompts, Asks, Puts, Closes, prompt_turn, held_at, next_slots, number_of, slots_at};
+
+    /// Takes a step at a moment.
+    pub(crate) fn take_step(&mut self, moment: u64, step: Step) -> Result<Reply, Refused>
+        requires { MayMark self.old moment }
+        ensures takes { Takes self.old moment (mark_step step) (turn_of result) self.new }
+        ensures back { IfErr result (λ refused. refused.step ≡ step) }
+        ensures state { IsState self.new }
+    {
+        match step {
+            Step::Ask { id, mode, way } => self.ask(moment, id, mode, way),
+            Step::Seat { under } => match self.prompt(moment, under) {
+                Ok(reply) => Ok(reply),
+                Err(under) => Err(Refused {
+                    step: Step::Seat { under },
+                }),
+            },
+            Step::Close { ticket, keep } => {
+                self.close(moment, ticket, keep);
+                Ok(Reply::Done)
+            }
+            Step::Put {
+                id,
+                mode,
+                life,
+                secret,
+            } => self.put(moment, id, mode, life, secret),
+            Step::Clear { id, mode } => {
+                self.clear(moment, &id, mode);
+                Ok(Reply::Done)
+            }
+            Step::Flush => {
+                self.flush(moment);
+                Ok(Reply::Done)
+            }
+            Step::Peek { id, mode } => Ok(Reply::Held(self.peek(moment, &id, mode))),
+            Step::Stop => {
+                self.stop(moment);
+                Ok(Reply::Done)
+            }
+        }
+    }
+
+    /// Asks for a passphrase.
+    fn ask(&mut self, moment: u64, id: CacheId, mode: Mode, way: Way) -> Result<Reply, Refused>
+        requires { MayMark self.old moment }
+        ensures asks { Asks self.old moment id mode way (turn_of result) self.new }
+        ensures back { IfErr result (λ refused. refused.step ≡ Step.Ask id mode way) }
+        ensures state { IsState self.new }
+    {
+        if let Some(grant) = self.live(&id, mode, moment) {
+            self.use_entry(moment, grant.number());
+            return Ok(Reply::Given(grant));
+        }
+        match way {
+            Way::Quiet => {
+                self.begin(moment);
+                Ok(Reply::Empty)
+            }
+            Way::Prompt => match self.prompt(moment, Some(Under { id, mode })) {
+                Ok(reply) => Ok(reply),
+                Err(Some(Under { id, mode })) => Err(Refused {
+                    step: Step::Ask { id, mode, way },
+                }),
+                Err(None) => unreachable!(),
+            },
+        }
+    }
+
+    /// Asks for the seat. What is typed is kept under `under`, and there is room for it from now on.
+    fn prompt(&mut self, moment: u64, under: Option<Under>) -> Result<Reply, Option<Under>>
+        requires { MayMark self.old moment }
+        ensures prompts { Prompts self.old moment under (prompt_turn result) self.new }
+        ensures back { IfErr result (λ back. back ≡ under) }
+        ensures state { IsState self.new }
+    {
+        if self.stopped {
+            self.begin(moment);
+            return Ok(Reply::Stopping);
+        }
+        if self.seat.holder().is_some() {
+            return Ok(Reply::Stand);
+        }
+        if under.is_some() && self.shelf.reserve(1).is_err() {
+            return Err(under);
+        }
+        Ok(Reply::Open(self.open(moment, under)))
+    }
+
+    /// Gives the entry with this number.
+    fn use_entry(&mut self, moment: u64, number: u64)
+        requires { MayMark self.old moment }
+        ensures marked { HasMarked self.old moment (touched number moment (slots_at self.old moment)) (held_at self.old) self.old.stopped self.new }
+        ensures state { IsState self.new }
+    {
+        self.begin(moment);
+        self.shelf.touch(number, moment);
+    }
+
+    /// Gives a ticket. There is room for what is kept under it.
+    fn open(&mut self, moment: u64, under: Option<Under>) -> Ticket
+        requires may { MayMark self.old moment }
+        requires free { self.old.seat ≡ None }
+        requires room { IsSome under → 1 ≤ self.old.shelf.spare }
+        ensures number { result ≡ number_of self.old }
+        ensures marked { HasMarked self.old moment (slots_at self.old moment) (Some (record { ticket = result; under = under })) self.old.stopped self.new }
+        ensures state { IsState self.new }
+    {
+        let number = self.begin(moment);
+        let Some(ticket) = self.seat.take(number) else {
+            unreachable!()
+        };
+        self.under = under;
+        ticket
+    }
+
+    /// Stores a passphrase. There still is room for what is typed at the prompt.
+    fn put(
+        &mut self,
+        moment: u64,
+        id: CacheId,
+        mode: Mode,
+        life: Life,
+        secret: Secret,
+    ) -> Result<Reply, Refused>
+        requires { MayMark self.old moment }
+        ensures puts { Puts self.old moment id mode life secret (turn_of result) self.new }
+        ensures back { IfErr result (λ refused. refused.step ≡ Step.Put id mode life secret) }
+        ensures state { IsState self.new }
+    {
+        if self.shelf.reserve(2).is_err() {
+            return Err(Refused {
+                step: Step::Put {
+                    id,
+                    mode,
+                    life,
+                    secret,
+                },
+            });
+        }
+        let number = self.begin(moment);
+        if let Some(entry) = Entry::of(&self.limits, number, moment, id, mode, life, secret) {
+            self.shelf.store(entry);
+        }
+        Ok(Reply::Done)
+    }
+
+    /// Takes a ticket back, and keeps what was typed where the ticket is the one that is out and names what to keep it under.
+    fn close(&mut self, moment: u64, ticket: Ticket, keep: Option<Secret>)
+        requires { MayMark self.old moment }
+        ensures closes { Closes self.old moment ticket keep self.new }
+        ensures state { IsState self.new }
+    {
+        let number = self.begin(moment);
+        if !self.seat.give(ticket) {
+            return;
+        }
+        let under = self.under.take();
+        if let (Some(Under { id, mode }), Some(secret)) = (under, keep)
+            && let Some(entry) =
+                Entry::of(&self.limits, number, moment, id, mode, Life::Default, secret)
+        {
+            self.shelf.store(entry);
+        }
+    }
+
+    /// Forgets what is stored under an id in the modes that cover the named one.
+    fn clear(&mut self, moment: u64, id: &CacheId, mode: Mode)
+        requires { MayMark self.old moment }
+        ensures marked { HasMarked self.old moment (cleared id.now mode (slots_at self.old moment)) (held_at self.old) self.old.stopped self.new }
+        ensures state { IsState self.new }
+    {
+        self.begin(moment);
+        self.shelf.clear(id, mode);
+    }
+
+    /// Forgets everything.
+    fn flush(&mut self, moment: u64)
+        requires { MayMark self.old moment }
+        ensures marked { HasMarked self.old moment [] (held_at self.old) self.old.stopped self.new }
+        ensures state { IsState self.new }
+    {
+        self.begin(moment);
+        self.shelf.flush();
+    }
+
+    /// Whether a passphrase is there.
+    fn peek(&mut self, moment: u64, id: &CacheId, mode: Mode) -> bool
+        requires { MayMark self.old moment }
+        ensures found { (found : Option OneGrant) × Finds (next_slots self.old) id.now mode moment found × (result ≡ is_some found) }
+        ensures marked { HasMarkedAlone self.old moment self.new }
+        ensures state { IsState self.new }
+    {
+        let found = self.live(id, mode, moment);
+        self.begin(moment);
+        found.is_some()
+    }
+
+    /// Opens no prompt from now on.
+    fn stop(&mut self, moment: u64)
+        requires { MayMark self.old moment }
+        ensures marked { HasMarked self.old moment (slots_at self.old moment) (held_at self.old) true self.new }
+        ensures state { IsState self.new }
+    {
+        self.begin(moment);
+        self.stopped = true;
+    }
+}
