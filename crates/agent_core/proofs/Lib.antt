@@ -1,3 +1,5 @@
 pub mod Kept
 pub mod Standing
 pub mod Stepping
+pub mod Dispatch
+pub mod Whole

@@ -49,7 +49,7 @@ not_full : (count : ℕ) → count ≤ MAX_MARKS → (count == MAX_MARKS) ≡ fa
 not_full count few h = grind (arith, nat_tests)
 
 -- so they are those of the next history, for a core that stands for this one
-next_is : (core : AtCore) (history : History) → IsLegal core.limits history → StandsFor core history
+pub next_is : (core : AtCore) (history : History) → IsLegal core.limits history → StandsFor core history
     → IsOf core.limits (if core.count == MAX_MARKS then core.base + MAX_MARKS else core.base) (if core.count == MAX_MARKS then 0 else core.count)
     (if core.count == MAX_MARKS then [] else core.slots) core.moment core.held core.stopped (next_history history)
 next_is core history legal stands =

@@ -85,7 +85,7 @@ alone before after history mark is marks lone =
     })
 
 -- a step that wants a ticket for a passphrase that is kept under this
-record IsWish (limits : Limits) (next : History) (step_of : MarkStep) (moment : ℕ) (under : Option Under) : Type 0 where
+pub record IsWish (limits : Limits) (next : History) (step_of : MarkStep) (moment : ℕ) (under : Option Under) : Type 0 where
   pub rules : policy limits next step_of moment ≡ prompt_ruling (stopped next) (seat next)
   pub under_is : under_of step_of ≡ under
   pub none : stored limits next step_of moment ≡ []
@@ -97,11 +97,11 @@ record IsWish (limits : Limits) (next : History) (step_of : MarkStep) (moment : 
 number_is : (before : State) (history : History) (moment : ℕ) → IsReady before history moment → number_of before ≡ next_number (next_history history)
 number_is before history moment is = omega (arith, is.next.base_is, is.next.count_is)
 
-as_before : (before after : State) → HasMoreRoom before after → IsAsBefore (seen before) (seen after)
+pub as_before : (before after : State) → HasMoreRoom before after → IsAsBefore (seen before) (seen after)
 as_before before after more =
     ap seen more.same ∙ ap (λ (list : List Slot). record (seen before) { slots = list; spare = after.shelf.spare }) more.slots
 
-prompts-step : (before after : State) (history : History) (session : SessionId) (moment : ℕ) (step_of : MarkStep) (under : Option Under) (turn : Turn)
+pub prompts-step : (before after : State) (history : History) (session : SessionId) (moment : ℕ) (step_of : MarkStep) (under : Option Under) (turn : Turn)
     → IsTaken before after history moment → IsWish before.limits (next_history history) step_of moment under → Prompts before moment under turn after
     → IsStep (seen before) history session moment step_of turn (seen after)
 prompts-step before after history session moment step_of under Stopping is wish does =
@@ -150,7 +150,7 @@ prompts-step before after history session moment step_of under Done is wish does
 prompts-step before after history session moment step_of under (WhetherHeld held) is wish does = absurd does
 
 -- an Ask that is given what is live
-given-step : (before after : State) (history : History) (session : SessionId) (moment : ℕ) (id : List ℕ) (mode : Mode) (way : Way) (grant : Grant)
+pub given-step : (before after : State) (history : History) (session : SessionId) (moment : ℕ) (id : List ℕ) (mode : Mode) (way : Way) (grant : Grant)
     → IsTaken before after history moment → IsGrantFrom (next_slots before) id mode moment grant
     → HasMarked before moment (touched grant.entry.number moment (slots_at before moment)) (held_at before) before.stopped after
     → IsStep (seen before) history session moment (asked.Ask id mode way) (Given grant) (seen after)
@@ -207,7 +207,7 @@ slots-with_stored limits next mark (entry ∷ []) legal stored_is storable keeps
     slots-stored limits next mark entry (record { legal = legal; stored_is = stored_is; number = storable.0; entered = storable.1; keeps = keeps; unused = unused })
 slots-with_stored limits next mark (entry ∷ other ∷ later) legal stored_is storable keeps unused = absurd storable
 
-put-step : (before after : State) (history : History) (session : SessionId) (moment : ℕ) (id : List ℕ) (mode : Mode) (life : Life) (secret : List ℕ) (turn : Turn)
+pub put-step : (before after : State) (history : History) (session : SessionId) (moment : ℕ) (id : List ℕ) (mode : Mode) (life : Life) (secret : List ℕ) (turn : Turn)
     → IsTaken before after history moment → Puts before moment id mode life secret turn after
     → IsStep (seen before) history session moment (asked.Put id mode life secret) turn (seen after)
 put-step before after history session moment id mode life secret Done is does =
@@ -233,7 +233,7 @@ put-step before after history session moment id mode life secret Stand is does =
 put-step before after history session moment id mode life secret (WhetherHeld held) is does = absurd does
 put-step before after history session moment id mode life secret Stopping is does = absurd does
 
-close-step : (before after : State) (history : History) (session : SessionId) (moment ticket : ℕ) (keep : Option (List ℕ))
+pub close-step : (before after : State) (history : History) (session : SessionId) (moment ticket : ℕ) (keep : Option (List ℕ))
     → IsTaken before after history moment → Closes before moment ticket keep after
     → IsStep (seen before) history session moment (asked.Close ticket keep) Done (seen after)
 close-step before after history session moment ticket keep is does =
@@ -256,7 +256,7 @@ close-step before after history session moment ticket keep is does =
     mark : Mark
     mark = mark_of session (asked.Close ticket keep) reply.Done moment
 
-clear-step : (before after : State) (history : History) (session : SessionId) (moment : ℕ) (id : List ℕ) (mode : Mode)
+pub clear-step : (before after : State) (history : History) (session : SessionId) (moment : ℕ) (id : List ℕ) (mode : Mode)
     → IsTaken before after history moment → HasMarked before moment (cleared id mode (slots_at before moment)) (held_at before) before.stopped after
     → IsStep (seen before) history session moment (asked.Clear id mode) Done (seen after)
 clear-step before after history session moment id mode is does =
@@ -273,7 +273,7 @@ clear-step before after history session moment id mode is does =
     mark : Mark
     mark = mark_of session (asked.Clear id mode) reply.Done moment
 
-flush-step : (before after : State) (history : History) (session : SessionId) (moment : ℕ)
+pub flush-step : (before after : State) (history : History) (session : SessionId) (moment : ℕ)
     → IsTaken before after history moment → HasMarked before moment [] (held_at before) before.stopped after
     → IsStep (seen before) history session moment asked.Flush Done (seen after)
 flush-step before after history session moment is does =
@@ -293,7 +293,7 @@ or_true : (b : Bool) → true ≡ (b || true)
 or_true true = refl
 or_true false = refl
 
-stop-step : (before after : State) (history : History) (session : SessionId) (moment : ℕ)
+pub stop-step : (before after : State) (history : History) (session : SessionId) (moment : ℕ)
     → IsTaken before after history moment → HasMarked before moment (slots_at before moment) (held_at before) true after
     → IsStep (seen before) history session moment asked.Stop Done (seen after)
 stop-step before after history session moment is does =
@@ -311,7 +311,7 @@ stop-step before after history session moment is does =
     mark = mark_of session asked.Stop reply.Done moment
 
 -- whether something is live is what was found
-peek-step : (before after : State) (history : History) (session : SessionId) (moment : ℕ) (id : List ℕ) (mode : Mode) (there : Bool) (found : Option Grant)
+pub peek-step : (before after : State) (history : History) (session : SessionId) (moment : ℕ) (id : List ℕ) (mode : Mode) (there : Bool) (found : Option Grant)
     → IsTaken before after history moment → Finds (next_slots before) id mode moment found → there ≡ is_some found → HasMarkedAlone before moment after
     → IsStep (seen before) history session moment (asked.Peek id mode) (WhetherHeld there) (seen after)
 peek-step before after history session moment id mode there found is finds there_is does =
@@ -327,7 +327,7 @@ peek-step before after history session moment id mode there found is finds there
     looked None none = ap is_some (live-none before after history moment id mode is none)
     looked (Some grant) from = ap is_some (live-found before after history moment id mode grant is from).live_is
 
-wish_of_ask : (before after : State) (history : History) (moment : ℕ) (id : List ℕ) (mode : Mode) → IsTaken before after history moment
+pub wish_of_ask : (before after : State) (history : History) (moment : ℕ) (id : List ℕ) (mode : Mode) → IsTaken before after history moment
     → ServesNone (next_slots before) id mode moment
     → IsWish before.limits (next_history history) (asked.Ask id mode Prompt) moment (Some (record { id = id; mode = mode }))
 wish_of_ask before after history moment id mode is none = record {
@@ -337,7 +337,7 @@ wish_of_ask before after history moment id mode is none = record {
   wants = λ some opens. opens;
 }
 
-wish_of_seat : (before after : State) (history : History) (moment : ℕ) (under : Option Under) → IsTaken before after history moment
+pub wish_of_seat : (before after : State) (history : History) (moment : ℕ) (under : Option Under) → IsTaken before after history moment
     → IsWish before.limits (next_history history) (asked.Seat under) moment under
 wish_of_seat before after history moment under is = record {
   rules = refl; under_is = refl;
@@ -345,7 +345,7 @@ wish_of_seat before after history moment under is = record {
   wants = λ some opens. (some, opens);
 }
 
-empty-step : (before after : State) (history : History) (session : SessionId) (moment : ℕ) (id : List ℕ) (mode : Mode)
+pub empty-step : (before after : State) (history : History) (session : SessionId) (moment : ℕ) (id : List ℕ) (mode : Mode)
     → IsTaken before after history moment → ServesNone (next_slots before) id mode moment → HasMarkedAlone before moment after
     → IsStep (seen before) history session moment (asked.Ask id mode Quiet) Empty (seen after)
 empty-step before after history session moment id mode is none does =

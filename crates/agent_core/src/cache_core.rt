@@ -1,13 +1,22 @@
-ghost use Rattle.std.specs.Prelude.{◌≡◌};
+ghost use Rattle.std.specs.Prelude.{◌≡◌, ◌+◌, ◌↔◌, [], false, None, IsTrue, OnErr, IfErr};
+ghost use Rattle.cache_policy.specs.declared.history.History.{History};
+ghost use Rattle.cache_policy.specs.Turns.{mark_step, turn_of};
+ghost use Rattle.cache_policy.specs.Runs.{last_base, moment_of};
+ghost use Rattle.cache_policy.specs.Legal.{IsLegal};
+ghost use Rattle.agent_core.specs.Cores.{StandsFor, IsStep, IsAsBefore, FitsCore};
 
 use crate::state::State;
+use agent_ports::SessionId;
 use cache_book::ListShelf;
-use cache_policy::Limits;
+use cache_policy::{Limits, Refused, Reply, Step};
 use prompt_seat::Seat;
 use std::alloc::Global;
 use std::marker::Model;
 
-/// The cache of an agent, and the seat before its prompt.
+/// The base of a history that can have no mark: an agent that gets there is spent.
+const LAST_BASE: u64 = 1 << 62;
+
+/// The cache of an agent, and the seat before its prompt. It keeps the entries that can still be given, and no past.
 #[derive(Drop)]
 pub struct Core {
     state: State,
@@ -21,4 +30,72 @@ impl Model for Core {
     ghost view = { λ core. seen core.state };
 
     ghost invariant = { λ core. IsState core.state };
+}
+
+impl Core {
+    /// A core without entries, whose seat is free. It takes no memory yet.
+    pub fn new(alloc: Global, limits: Limits) -> Core
+        ensures limits { result.limits ≡ limits }
+        ensures stands { StandsFor result (record { base = 0; held = None; stopped = false; marks = [] }) }
+    {
+        Core {
+            state: State {
+                limits,
+                base: 0,
+                count: 0,
+                moment: 0,
+                shelf: ListShelf::new(alloc),
+                seat: Seat::new(),
+                under: None,
+                stopped: false,
+            },
+        }
+    }
+
+    /// Takes a step of a session, with this reading of the clock. Where the seat is held, it answers `Stand`, and the step is to be
+    /// taken again later. A step that finds no memory is handed back.
+    pub fn step(
+        &mut self,
+        reading: u64,
+        session: SessionId,
+        step: Step,
+    ) -> Result<Reply, Refused>
+        // For every legal history that the core stands for, the reply is the policy's, and the core stands for the history with the
+        // mark of this step then.
+        ensures step { (history : History) → IsLegal self.old.limits history → StandsFor self.old history
+            → IsStep self.old history session (moment_of self.old.moment reading) (mark_step step) (turn_of result) self.new }
+        ensures fits { FitsCore (mark_step step) (turn_of result) }
+        ensures refused { OnErr result (IsAsBefore self.old self.new) }
+        ensures back { IfErr result (λ refused. refused.step ≡ step) }
+        ensures limits { self.new.limits ≡ self.old.limits }
+    {
+        let _ = session;
+        if self.spent() {
+            give_up(step);
+            return Ok(Reply::Stopping);
+        }
+        let moment = self.state.moment_at(reading);
+        self.state.take_step(moment, step)
+    }
+
+    /// Whether there is no number left for a mark. Each step is then replied `Stopping`, and changes nothing.
+    pub fn spent(&self) -> bool
+        ensures { IsTrue result ↔ (self.now.base + self.now.count ≡ last_base) }
+    {
+        self.state.next_base() == LAST_BASE
+    }
+
+    /// The number of the first mark of the history.
+    pub fn base(&self) -> u64
+        ensures { result ≡ self.now.base }
+    {
+        self.state.base
+    }
+}
+
+/// Ends a step that isn't taken, with its ticket.
+fn give_up(step: Step) {
+    if let Some(ticket) = step.into_ticket() {
+        let _ = Seat::new().give(ticket);
+    }
 }
