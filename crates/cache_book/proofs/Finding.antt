@@ -63,8 +63,14 @@ granted_from id id_copy mode now list slot copy None e is = tt
 granted_from id id_copy mode now list slot copy (Some grant) e is =
     let found = found_slot id mode now list slot e in
     record {
-      slot = slot; on = found.on; serves = found.passes; id_is = is.id_is ∙ is.same_id; mode_is = is.mode_is;
-      entry = is.entry ∙ is.same; last = is.last; moment_is = is.moment;
+      slot = slot;
+      on = found.on;
+      serves = found.passes;
+      id_is = is.id_is ∙ is.same_id;
+      mode_is = is.mode_is;
+      entry = is.entry ∙ is.same;
+      last = is.last;
+      moment_is = is.moment;
     }
 
 both : (a b c d : Bool) → (a && b && c) ≡ true → (b ≡ true → d ≡ true) → ((a && d) && c) ≡ true

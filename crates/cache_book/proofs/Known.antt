@@ -47,13 +47,15 @@ differ_too a b h = grind (arith, nat_tests)
 all_only : (low : ℕ) (list : List Entry) (high : ℕ) → AreNumbered low list high → AllByRecursion (λ entry. AllByRecursion (IsSameAs entry) list) list
 all_only low [] high h = tt
 all_only low (entry ∷ later) high h =
-    let above : AllByRecursion (λ (x : Entry). entry.number + 1 ≤ x.number) later = all_from (entry.number + 1) later high h.1 in
-    (
-      ((λ e. refl), all_weaker (λ (x : Entry). entry.number + 1 ≤ x.number) (IsSameAs entry)
-      (λ x is same. let no : (x.number == entry.number) ≡ false = differ entry.number x.number (omega (arith, is)) in cc) later above),
+    let above : AllByRecursion (λ (x : Entry). entry.number + 1 ≤ x.number) later = all_from (entry.number + 1) later high h.1 in (
+      (
+        (λ e. refl),
+        all_weaker (λ (x : Entry). entry.number + 1 ≤ x.number) (IsSameAs entry)
+            (λ x is same. let no : (x.number == entry.number) ≡ false = differ entry.number x.number (omega (arith, is)) in cc) later above,
+      ),
       all_weaker (λ (x : Entry). (entry.number + 1 ≤ x.number) × AllByRecursion (IsSameAs x) later) (λ (x : Entry). AllByRecursion (IsSameAs x) (entry ∷ later))
-      (λ x is. ((λ same. let no : (entry.number == x.number) ≡ false = differ_too entry.number x.number (omega (arith, is.0)) in cc), is.1)) later
-      (all_both (λ (x : Entry). entry.number + 1 ≤ x.number) (λ (x : Entry). AllByRecursion (IsSameAs x) later) later above (all_only (entry.number + 1) later high h.1)),
+          (λ x is. ((λ same. let no : (entry.number == x.number) ≡ false = differ_too entry.number x.number (omega (arith, is.0)) in cc), is.1)) later
+          (all_both (λ (x : Entry). entry.number + 1 ≤ x.number) (λ (x : Entry). AllByRecursion (IsSameAs x) later) later above (all_only (entry.number + 1) later high h.1)),
     )
 
 pub all_known : (limits : Limits) (history : History) → AllByRecursion (IsKnown limits history) (entries limits history)
