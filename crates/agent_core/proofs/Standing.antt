@@ -59,25 +59,25 @@ next_is core history legal stands =
     → IsOf core.limits (if b then core.base + MAX_MARKS else core.base) (if b then 0 else length history.marks)
     (if b then [] else core.slots) core.moment core.held core.stopped (if b then turn_over history else history)) [
       | true ↦ λ e. record {
-          legal = legal-turn_over core.limits history legal (full (length history.marks) e);
-          few = omega arith;
-          base_is = ap (λ (n : ℕ). n + MAX_MARKS) stands.base;
-          count_is = refl;
-          slots_are = refl;
-          seat_is = stands.seat_is ∙ sym (seat-turn_over history);
-          stopped_is = stands.stopped_is ∙ sym (stopped-turn_over history);
-          since = omega arith;
-        }
+        legal = legal-turn_over core.limits history legal (full (length history.marks) e);
+        few = omega arith;
+        base_is = ap (λ (n : ℕ). n + MAX_MARKS) stands.base;
+        count_is = refl;
+        slots_are = refl;
+        seat_is = stands.seat_is ∙ sym (seat-turn_over history);
+        stopped_is = stands.stopped_is ∙ sym (stopped-turn_over history);
+        since = omega arith;
+      }
       | false ↦ λ e. record {
-          legal = legal;
-          few = not_full (length history.marks) legal.few e;
-          base_is = stands.base;
-          count_is = refl;
-          slots_are = stands.slots_are;
-          seat_is = stands.seat_is;
-          stopped_is = stands.stopped_is;
-          since = since_last history.marks core.moment stands.latest;
-        }
+        legal = legal;
+        few = not_full (length history.marks) legal.few e;
+        base_is = stands.base;
+        count_is = refl;
+        slots_are = stands.slots_are;
+        seat_is = stands.seat_is;
+        stopped_is = stands.stopped_is;
+        since = since_last history.marks core.moment stands.latest;
+      }
     ] refl)
 
 -- a state that stands for a history, at the moment of a step

@@ -162,7 +162,7 @@ given-step before after history session moment id mode way grant is from marks =
       shows = (
         refl,
         subst (λ (i : List ℕ). live before.limits (next_history history) i grant.mode moment ≡ Some grant.entry) (sym found.id_is)
-        (subst (λ (m : Mode). live before.limits (next_history history) id m moment ≡ Some grant.entry) (sym found.mode_is) found.live_is),
+            (subst (λ (m : Mode). live before.limits (next_history history) id m moment ≡ Some grant.entry) (sym found.mode_is) found.live_is),
         found.last,
         found.moment_is,
       );
@@ -188,7 +188,13 @@ entry_storable : (limits : Limits) (next : History) (moment : ℕ) (id : List �
     → IsStorable next moment (entry_of limits (next_number next) moment id mode life secret)
 entry_storable limits next moment id mode life secret =
     elim (is_zero (ttl_of limits mode life)) as (λ b. IsStorable next moment (cond b [] (record {
-      number = next_number next; id = id; mode = mode; secret = secret; entered = moment; ttl = ttl_of limits mode life; max = max_of limits mode;
+      number = next_number next;
+      id = id;
+      mode = mode;
+      secret = secret;
+      entered = moment;
+      ttl = ttl_of limits mode life;
+      max = max_of limits mode;
     } ∷ []))) [ true ↦ tt | false ↦ (refl, refl) ]
 
 kept_storable : (limits : Limits) (next : History) (moment : ℕ) (under : Option Under) (keep : Option (List ℕ))
@@ -212,7 +218,9 @@ pub put-step : (before after : State) (history : History) (session : SessionId) 
     → IsStep (seen before) history session moment (asked.Put id mode life secret) turn (seen after)
 put-step before after history session moment id mode life secret Done is does =
     marked is.going (record {
-      reply_is = reply.Done; rules = refl; shows = refl;
+      reply_is = reply.Done;
+      rules = refl;
+      shows = refl;
       stands = stands_then before after history mark _ (held_at before) before.stopped is.ready does is.state (record {
         slots_are = ap (λ (n : ℕ). with_stored (entry_of before.limits n moment id mode life secret) (slots_at before moment)) (number_is before history moment is.ready)
             ∙ (ap (with_stored (entry_of before.limits (next_number (next_history history)) moment id mode life secret)) (slots_at-ready before history moment is.ready)
@@ -238,7 +246,9 @@ pub close-step : (before after : State) (history : History) (session : SessionId
     → IsStep (seen before) history session moment (asked.Close ticket keep) Done (seen after)
 close-step before after history session moment ticket keep is does =
     marked is.going (record {
-      reply_is = reply.Done; rules = refl; shows = refl;
+      reply_is = reply.Done;
+      rules = refl;
+      shows = refl;
       stands = stands_then before after history mark _ _ before.stopped is.ready does is.state (record {
         slots_are = ap (λ (n : ℕ). with_stored (kept before.limits n moment (kept_under (held_at before) ticket) keep) (slots_at before moment)) (number_is before history moment is.ready)
             ∙ (ap (λ (h : Option Held). with_stored (kept before.limits (next_number next) moment (kept_under h ticket) keep) (slots_at before moment)) is.ready.next.seat_is
@@ -261,7 +271,9 @@ pub clear-step : (before after : State) (history : History) (session : SessionId
     → IsStep (seen before) history session moment (asked.Clear id mode) Done (seen after)
 clear-step before after history session moment id mode is does =
     marked is.going (record {
-      reply_is = reply.Done; rules = refl; shows = refl;
+      reply_is = reply.Done;
+      rules = refl;
+      shows = refl;
       stands = stands_then before after history mark _ (held_at before) before.stopped is.ready does is.state (record {
         slots_are = ap (cleared id mode) (slots_at-ready before history moment is.ready)
             ∙ sym (slots-cleared before.limits (next_history history) mark moment id mode refl (λ entry. refl) (λ n. refl));
@@ -278,7 +290,9 @@ pub flush-step : (before after : State) (history : History) (session : SessionId
     → IsStep (seen before) history session moment asked.Flush Done (seen after)
 flush-step before after history session moment is does =
     marked is.going (record {
-      reply_is = reply.Done; rules = refl; shows = refl;
+      reply_is = reply.Done;
+      rules = refl;
+      shows = refl;
       stands = stands_then before after history mark [] (held_at before) before.stopped is.ready does is.state (record {
         slots_are = sym (slots-flushed before.limits (next_history history) mark moment refl (λ entry. refl));
         seat_is = seat-kept before history mark is.ready refl (λ held. refl);
@@ -298,7 +312,9 @@ pub stop-step : (before after : State) (history : History) (session : SessionId)
     → IsStep (seen before) history session moment asked.Stop Done (seen after)
 stop-step before after history session moment is does =
     marked is.going (record {
-      reply_is = reply.Done; rules = refl; shows = refl;
+      reply_is = reply.Done;
+      rules = refl;
+      shows = refl;
       stands = stands_then before after history mark (slots_at before moment) (held_at before) true is.ready does is.state (record {
         slots_are = slots_at-ready before history moment is.ready
             ∙ sym (slots-same before.limits (next_history history) mark moment refl (λ entry. refl) (λ n. refl));
@@ -333,15 +349,22 @@ pub wish_of_ask : (before after : State) (history : History) (moment : ℕ) (id 
 wish_of_ask before after history moment id mode is none = record {
   rules = ap (λ (o : Option Entry). ask_ruling o Prompt (stopped (next_history history)) (seat (next_history history))) (live-none before after history moment id mode is none);
   under_is = refl;
-  none = refl; keeps = λ entry. refl; held = λ held. refl; no_stop = refl;
+  none = refl;
+  keeps = λ entry. refl;
+  held = λ held. refl;
+  no_stop = refl;
   wants = λ some opens. opens;
 }
 
 pub wish_of_seat : (before after : State) (history : History) (moment : ℕ) (under : Option Under) → IsTaken before after history moment
     → IsWish before.limits (next_history history) (asked.Seat under) moment under
 wish_of_seat before after history moment under is = record {
-  rules = refl; under_is = refl;
-  none = refl; keeps = λ entry. refl; held = λ held. refl; no_stop = refl;
+  rules = refl;
+  under_is = refl;
+  none = refl;
+  keeps = λ entry. refl;
+  held = λ held. refl;
+  no_stop = refl;
   wants = λ some opens. (some, opens);
 }
 

@@ -54,12 +54,7 @@ impl Core {
 
     /// Takes a step of a session, with this reading of the clock. Where the seat is held, it answers `Stand`, and the step is to be
     /// taken again later. A step that finds no memory is handed back.
-    pub fn step(
-        &mut self,
-        reading: u64,
-        session: SessionId,
-        step: Step,
-    ) -> Result<Reply, Refused>
+    pub fn step(&mut self, reading: u64, session: SessionId, step: Step) -> Result<Reply, Refused>
         // For every legal history that the core stands for, the reply is the policy's, and the core stands for the history with the
         // mark of this step then.
         ensures step { (history : History) → IsLegal self.old.limits history → StandsFor self.old history
@@ -99,3 +94,6 @@ fn give_up(step: Step) {
         let _ = Seat::new().give(ticket);
     }
 }
+
+#[cfg(test)]
+mod tests;
