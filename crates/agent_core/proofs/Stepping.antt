@@ -48,7 +48,6 @@ use Rattle.agent_core.proofs.Standing.{IsOf, IsReady, Agrees, slots_at-ready, st
 -- a step that is taken: the state before and after, whose it is, on which history, and at which moment
 pub record IsTaken (before after : State) (history : History) (moment : ℕ) : Type 0 where
   pub ready : IsReady before history moment
-  pub stands : StandsFor (seen before) history
   pub state : IsState after
   pub going : is_spent (next_history history) ≡ false
 
@@ -116,7 +115,7 @@ prompts-step before after history session moment step_of under Stand is wish doe
     stood is.going
     (wish.rules ∙ (ap (λ b. prompt_ruling b (seat (next_history history))) (sym is.ready.next.stopped_is ∙ does.0)
     ∙ (ap (prompt_ruling false) (sym is.ready.next.seat_is) ∙ out before.seat does.1)))
-    (subst (λ (state : State). StandsFor (seen state) history) (sym does.2) is.stands) (ap (λ (state : State). state.moment) does.2)
+    (ap seen does.2)
   where
     out : (holder : Option ℕ) → IsSome holder → prompt_ruling false (held_of holder before.under) ≡ ruling.Stand
     out None some = cc

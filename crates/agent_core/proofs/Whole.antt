@@ -66,13 +66,12 @@ taken_step : (before after : State) (history : History) (session : SessionId) (r
     → IsStep (seen before) history session (moment_of before.moment reading) step_of turn (seen after)
 taken_step before after history session reading moment step_of turn is more taken legal stands =
     subst (λ (t : ℕ). IsStep (seen before) history session t step_of turn (seen after)) taken.moment_is
-    (takes-step before after history session moment step_of turn (record {
+    (takes-step before after history session moment (record {
       ready = ready before history moment legal stands taken.later taken.within;
-      stands = stands;
       state = taken.state;
       going = not_last (next_history history).base (subst (λ (n : ℕ). n < last_base) (next_is (seen before) history legal stands).base_is
           (not_at_end before.base before.count is.base is.whole is.few more));
-    }) taken.takes)
+    }) step_of turn taken.takes)
 
 pub whole_step : (core : AtCore) (before after : State) (history : History) (session : SessionId) (reading moment : ℕ) (step_of : MarkStep) (turn : Turn)
     → IsCore core before → core.base + core.count ≢ last_base → IsTakenAt before after reading moment step_of turn
