@@ -1,9 +1,8 @@
 -- Each kind of step is replied by the policy, and the core then stands for the history with its mark.
-use Rattle.std.specs.Prelude.{◌≡◌, ℕ, ◌+◌, ◌<◌, ◌≤◌, ◌==◌, List, [], ◌∷◌, ◌++◌, length, Bool, true, false, ◌&&◌, ◌||◌, Option, Some, None, IsSome, IfSome, refl, cond, if◌then◌else◌}
+use Rattle.std.specs.Prelude.{◌≡◌, ℕ, List, [], ◌∷◌, Bool, true, false, ◌||◌, Option, Some, None, IsSome, refl, cond}
 use Rattle.std.proofs.Common.{ap, sym, ◌∙◌, subst, arith}
 use Rattle.std.specs.Option.{option_and_then, is_some}
 use Rattle.agent_ports.specs.declared.session.SessionId.{SessionId}
-use Rattle.cache_policy.specs.declared.bounds.TheConstants.{MAX_MARKS, MAX_MOMENT}
 use Rattle.cache_policy.specs.declared.mode.Mode.{Mode}
 use Rattle.cache_policy.specs.declared.life.Life.{Life}
 use Rattle.cache_policy.specs.declared.life.Life.TheVariants.{Default}
@@ -14,36 +13,32 @@ use Rattle.cache_policy.specs.declared.mark.Way.TheVariants.{Quiet, Prompt}
 use Rattle.cache_policy.specs.declared.mark.Mark.{Mark}
 use Rattle.cache_policy.specs.declared.mark.MarkStep.{MarkStep}
 use Rattle.cache_policy.specs.declared.mark.MarkStep.TheVariants as asked
-use Rattle.cache_policy.specs.declared.mark.MarkReply.{MarkReply}
 use Rattle.cache_policy.specs.declared.mark.MarkReply.TheVariants as reply
 use Rattle.cache_policy.specs.declared.entry.Entry.{Entry}
 use Rattle.cache_policy.specs.declared.grant.Grant.{Grant}
 use Rattle.cache_policy.specs.declared.history.Held.{Held}
 use Rattle.cache_policy.specs.declared.history.History.{History}
-use Rattle.cache_policy.specs.Mode.{covers}
-use Rattle.cache_policy.specs.Entry.{same_id}
 use Rattle.cache_policy.specs.Lifetimes.{ttl_of, max_of, is_zero}
 use Rattle.cache_policy.specs.Histories.{next_number, with_mark}
 use Rattle.cache_policy.specs.Entries.{entry_of, kept_under, kept, stored}
 use Rattle.cache_policy.specs.Seat.{under_of, is_open, is_stop, unless_given_back, seat, stopped}
-use Rattle.cache_policy.specs.Live.{takes_away, gives, last_use, live}
+use Rattle.cache_policy.specs.Live.{takes_away, gives, live}
 use Rattle.cache_policy.specs.Policy.{Reply, policy, prompt_ruling, ask_ruling}
 use Rattle.cache_policy.specs.Policy as ruling
 use Rattle.cache_policy.specs.Runs.{next_history, is_spent}
 use Rattle.cache_policy.specs.Legal.{IsLegal}
 use Rattle.cache_policy.specs.Turns.{Turn, Given, Empty, Open, Stand, Done, Held as WhetherHeld, Stopping, Refused}
-use Rattle.cache_policy.specs.Desks.{Shows}
 use Rattle.cache_policy.proofs.OneMore.{stopped-with_mark, seat-with_mark}
 use Rattle.cache_book.specs.declared.slot.Slot.{Slot}
 use Rattle.cache_book.specs.Slots.{slots}
-use Rattle.cache_book.specs.Shelves.{touched, with_entry, cleared, swept, IsGrantFrom, ServesNone}
+use Rattle.cache_book.specs.Shelves.{touched, cleared, IsGrantFrom, ServesNone}
 use Rattle.cache_book.proofs.Marking.{slots-same, slots-flushed, slots-cleared}
-use Rattle.cache_book.proofs.Storing.{Stores, slots-given, slots-stored}
+use Rattle.cache_book.proofs.Storing.{slots-given, slots-stored}
 use Rattle.cache_book.proofs.Live.{IsLiveGrant, grant_is_live, none_live, live_is_live, grant-swept, none-swept}
 use Rattle.agent_core.specs.declared.state.State.{State}
-use Rattle.agent_core.specs.States.{AtCore, seen, held_of, held_at, IsState, HasMarked, HasMarkedAlone, HasMoreRoom, Finds, Prompts, Asks, Puts, Closes, Takes, with_stored, next_base, next_count, next_slots, number_of, slots_at}
-use Rattle.agent_core.specs.Cores.{StandsFor, mark_of, IsMarked, WantsMemory, IsAsBefore, IsStep, marked, stood, refused, spent}
-use Rattle.agent_core.proofs.Standing.{IsOf, IsReady, Agrees, slots_at-ready, stands_then, seat-kept, stopped-kept}
+use Rattle.agent_core.specs.States.{seen, held_of, held_at, IsState, HasMarked, HasMarkedAlone, HasMoreRoom, Finds, Prompts, Puts, Closes, with_stored, next_slots, number_of, slots_at}
+use Rattle.agent_core.specs.Cores.{StandsFor, mark_of, WantsMemory, IsAsBefore, IsStep, marked, stood, refused}
+use Rattle.agent_core.proofs.Standing.{IsReady, slots_at-ready, stands_then, seat-kept, stopped-kept}
 
 -- a step that is taken: the state before and after, whose it is, on which history, and at which moment
 pub record IsTaken (before after : State) (history : History) (moment : ℕ) : Type 0 where

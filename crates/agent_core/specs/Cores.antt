@@ -1,9 +1,8 @@
 -- What a core stands for, and what its steps do: the policy's reply, and the history with one mark more. This is the project's own.
-use Rattle.std.specs.Prelude.{◌≡◌, ℕ, ◌+◌, ◌<◌, ◌≤◌, List, [], length, Bool, true, false, Option, Some, None, IsSome, IfSome, ⊤}
+use Rattle.std.specs.Prelude.{◌≡◌, ℕ, ◌<◌, ◌≤◌, length, true, false, IsSome, ⊤}
 use Rattle.agent_ports.specs.declared.session.SessionId.{SessionId}
-use Rattle.cache_policy.specs.declared.bounds.TheConstants.{MAX_MARKS, MAX_MOMENT}
+use Rattle.cache_policy.specs.declared.bounds.TheConstants.{MAX_MOMENT}
 use Rattle.cache_policy.specs.declared.life.Limits.{Limits}
-use Rattle.cache_policy.specs.declared.mark.Way.TheVariants.{Quiet, Prompt}
 use Rattle.cache_policy.specs.declared.mark.Mark.{Mark}
 use Rattle.cache_policy.specs.declared.mark.MarkStep.{MarkStep}
 use Rattle.cache_policy.specs.declared.mark.MarkStep.TheVariants as asked
@@ -15,7 +14,7 @@ use Rattle.cache_policy.specs.Seat.{seat, stopped}
 use Rattle.cache_policy.specs.Policy.{Reply, policy}
 use Rattle.cache_policy.specs.Policy as ruling
 use Rattle.cache_policy.specs.Runs.{next_history, is_spent, moment_before}
-use Rattle.cache_policy.specs.Turns.{Turn, Given, Empty, Open, Stand, Done, Held, Stopping, Refused}
+use Rattle.cache_policy.specs.Turns.{Turn, Stand, Stopping, Refused}
 use Rattle.cache_policy.specs.Desks.{Shows}
 use Rattle.cache_book.specs.Slots.{slots}
 use Rattle.agent_core.specs.States.{AtCore, HasRoom}

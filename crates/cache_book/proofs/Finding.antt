@@ -1,6 +1,6 @@
 -- What is found in a list of slots is one of them and serves the request; and where nothing is found none does.
 use Rattle.std.specs.Prelude.{◌≡◌, ℕ, List, [], ◌∷◌, Bool, true, false, ◌&&◌, ◌↔◌, Option, Some, None, IsSome, IfSome, IfNone, find, cond, refl}
-use Rattle.std.proofs.Common.{ap, sym, ◌∙◌, subst}
+use Rattle.std.proofs.Common.{sym, ◌∙◌, subst}
 use Rattle.std.specs.List.{AllByRecursion}
 use Rattle.cache_policy.specs.declared.mode.Mode.{Mode}
 use Rattle.cache_policy.specs.declared.entry.Entry.{Entry}
@@ -9,7 +9,7 @@ use Rattle.cache_policy.specs.Entry.{same_id, serves, within}
 use Rattle.cache_policy.specs.Mode.{covers}
 use Rattle.cache_book.specs.declared.slot.Slot.{Slot}
 use Rattle.cache_book.specs.Modes.{holds}
-use Rattle.cache_book.specs.Shelves.{serves_at, IsOneOf, here, further, IsWithinMode, AreWithinMode, IsGrantFrom, ServesNone}
+use Rattle.cache_book.specs.Shelves.{serves_at, IsOneOf, here, further, IsWithinMode, AreWithinMode, IsGrantFrom}
 
 -- a slot that is found
 pub record IsFound (test : Slot → Bool) (list : List Slot) (slot : Slot) : Type 0 where

@@ -1,7 +1,7 @@
 -- An entry of a history is older than the next mark, and the only one with its number. So its slot shows whether it is live and for which
 -- modes it is the newest.
-use Rattle.std.specs.Prelude.{◌≡◌, ℕ, ◌+◌, ◌<◌, ◌≤◌, ◌==◌, List, [], ◌∷◌, Bool, true, false, ◌&&◌, Option, Some, None, IfSome, reverse, refl, cond, if◌then◌else◌}
-use Rattle.std.proofs.Common.{ap, sym, ◌∙◌, subst, arith}
+use Rattle.std.specs.Prelude.{◌≡◌, ℕ, ◌+◌, ◌<◌, ◌≤◌, ◌==◌, List, [], ◌∷◌, Bool, true, false, ◌&&◌, Option, Some, None, IfSome, reverse, refl, if◌then◌else◌}
+use Rattle.std.proofs.Common.{ap, ◌∙◌, arith}
 use Rattle.std.proofs.lemmas.Bool.Decides.{nat_tests}
 use Rattle.std.specs.List.{AllByRecursion}
 use Rattle.std.specs.Option.{option_and_then}
@@ -13,7 +13,7 @@ use Rattle.cache_policy.specs.declared.history.History.{History}
 use Rattle.cache_policy.specs.Entry.{serves}
 use Rattle.cache_policy.specs.Histories.{next_number}
 use Rattle.cache_policy.specs.Entries.{entries, AreNumbered}
-use Rattle.cache_policy.specs.Live.{newest, last_use, is_live, live}
+use Rattle.cache_policy.specs.Live.{newest, last_use, is_live}
 use Rattle.cache_policy.proofs.Lists.{all_weaker, all_reverse, all_find}
 use Rattle.cache_policy.proofs.Growing.{entries_numbered, all_below}
 use Rattle.cache_book.specs.declared.modes.Modes.{Modes}

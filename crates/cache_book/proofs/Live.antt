@@ -1,5 +1,5 @@
 -- Which slot of a history serves a request: that of the live entry, and none where no entry is live.
-use Rattle.std.specs.Prelude.{◌≡◌, ℕ, ◌==◌, List, [], ◌∷◌, ◌++◌, Bool, true, false, not, ◌&&◌, ◌||◌, nat_eq, Option, Some, None, IfSome, IfNone, reverse, filter, refl, cond, if◌then◌else◌}
+use Rattle.std.specs.Prelude.{◌≡◌, ℕ, ◌==◌, List, [], ◌∷◌, ◌++◌, Bool, true, false, not, ◌&&◌, ◌||◌, nat_eq, Option, Some, None, IfSome, reverse, filter, refl, cond, if◌then◌else◌}
 use Rattle.std.proofs.Common.{ap, sym, ◌∙◌, subst, arith}
 use Rattle.std.proofs.lemmas.Bool.Decides.{nat_tests}
 use Rattle.std.proofs.Math.Bool.{or-true}
@@ -20,7 +20,7 @@ use Rattle.cache_policy.proofs.Lists.{all_append, find_passes}
 use Rattle.cache_book.specs.declared.modes.Modes.{Modes}
 use Rattle.cache_book.specs.declared.slot.Slot.{Slot}
 use Rattle.cache_book.specs.Modes.{modes_where, holds, has_some}
-use Rattle.cache_book.specs.Slots.{has_number, still_serves, slot_with, slot_of, slots}
+use Rattle.cache_book.specs.Slots.{has_number, still_serves, slot_of, slots}
 use Rattle.cache_book.specs.Shelves.{serves_at, IsOneOf, here, further, IsGrantFrom, ServesNone, swept}
 use Rattle.cache_book.proofs.Kept.{all_filter, holds-where}
 use Rattle.cache_book.proofs.Known.{IsSameAs, IsKnown, all_known, all_newest}

@@ -1,8 +1,7 @@
 use Rattle.std.specs.Prelude.{◌≡◌, ℕ, [], ◌∷◌, false, refl}
-use Rattle.std.proofs.Common.{ap, sym, ◌∙◌, subst}
+use Rattle.std.proofs.Common.{ap}
 use Rattle.cache_policy.specs.declared.mark.MarkStep.{MarkStep}
 use Rattle.cache_policy.specs.declared.mark.MarkStep.TheVariants.{Ask, Seat, Close, Put, Clear, Flush, Peek, Stop}
-use Rattle.cache_policy.specs.declared.mark.MarkReply.{MarkReply}
 use Rattle.cache_policy.specs.declared.life.Limits.{Limits}
 use Rattle.cache_policy.specs.declared.entry.Entry.{Entry}
 use Rattle.cache_policy.specs.declared.history.History.{History}
@@ -55,7 +54,10 @@ keeps limits history Stop moment entry other is = refl
 pub returns-clause-stored : goal.returns-clause-stored
 returns-clause-stored c = λ limits history mark entry legal is number entered done.
     slots-stored limits history mark entry (record {
-      legal = legal; stored_is = is; number = number; entered = entered;
+      legal = legal;
+      stored_is = is;
+      number = number;
+      entered = entered;
       keeps = λ other. keeps limits history mark.step mark.moment entry other is;
       unused = λ n. ap (gives n) done;
     })

@@ -1,7 +1,4 @@
-use Rattle.std.specs.Prelude.{◌≡◌, Option, None, Some, find, IfNone}
-use Rattle.std.proofs.Common.{sym, rules}
-use Rattle.cache_policy.specs.declared.grant.Grant.{Grant}
-use Rattle.cache_book.specs.declared.slot.Slot.{Slot}
+use Rattle.std.proofs.Common.{rules}
 use Rattle.cache_book.specs.Shelves.{serves_at}
 use Rattle.cache_book.proofs.Finding.{IsGrantOf, granted_from, is_granted, none_found, some_is_not_none, none_where}
 use Rattle.cache_book.proofs.list_shelf.grant_from.Goals as goal

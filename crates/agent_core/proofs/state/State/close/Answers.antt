@@ -1,5 +1,5 @@
 use Rattle.std.specs.Prelude.{◌≡◌, None}
-use Rattle.std.proofs.Common.{arith, rules}
+use Rattle.std.proofs.Common.{rules}
 use Rattle.cache_policy.specs.declared.life.Life.TheVariants.{Default}
 use Rattle.agent_core.proofs.Kept.{below-stored, entry-number, room-free}
 use Rattle.agent_core.proofs.state.State.close.Goals as goal

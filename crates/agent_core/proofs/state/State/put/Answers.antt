@@ -1,4 +1,4 @@
-use Rattle.std.specs.Prelude.{◌≡◌, ◌≤◌}
+use Rattle.std.specs.Prelude.{◌≤◌}
 use Rattle.std.proofs.Common.{arith, rules}
 use Rattle.agent_core.specs.States.{held_at}
 use Rattle.agent_core.proofs.Kept.{below-stored, entry-number, room-some, state-with_shelf}
