@@ -1,7 +1,6 @@
 -- What each state keeps: numbers below the next one, and room for the passphrase of a ticket.
-use Rattle.std.specs.Prelude.{◌≡◌, ℕ, ◌+◌, ◌<◌, ◌≤◌, ◌==◌, List, [], ◌∷◌, ◌++◌, Bool, true, false, map, filter, max, Option, Some, None, IfSome, IsSome, cond, refl}
-use Rattle.std.proofs.Common.{ap, sym, ◌∙◌, subst, arith}
-use Rattle.std.specs.List.{AllByRecursion}
+use Rattle.std.specs.Prelude.{◌≡◌, ℕ, ◌+◌, ◌<◌, ◌≤◌, ◌==◌, List, [], ◌∷◌, Bool, true, false, map, filter, max, Option, Some, None, cond}
+use Rattle.std.proofs.Common.{sym, subst, arith}
 use Rattle.cache_policy.specs.declared.mode.Mode.{Mode}
 use Rattle.cache_policy.specs.declared.life.Life.{Life}
 use Rattle.cache_policy.specs.declared.life.Limits.{Limits}
@@ -10,11 +9,11 @@ use Rattle.cache_policy.specs.Lifetimes.{ttl_of, max_of, is_zero}
 use Rattle.cache_policy.specs.Entries.{entry_of}
 use Rattle.cache_policy.specs.declared.entry.Entry.{Entry}
 use Rattle.cache_policy.specs.declared.history.Held.{Held}
-use Rattle.cache_policy.specs.Entry.{same_id, within}
+use Rattle.cache_policy.specs.Entry.{same_id}
 use Rattle.cache_policy.proofs.Lists.{all_weaker, all_append}
 use Rattle.cache_book.specs.declared.slot.Slot.{Slot}
 use Rattle.cache_book.specs.Modes.{not_covered, has_some}
-use Rattle.cache_book.specs.Shelves.{AtShelf, AreBelow, touch_slot, touched, hide, hidden, new_slot, with_entry, swept}
+use Rattle.cache_book.specs.Shelves.{AtShelf, AreBelow, touch_slot, touched, hide, hidden, new_slot, with_entry}
 use Rattle.cache_book.proofs.Kept.{all_filter, all_map}
 use Rattle.agent_core.specs.declared.state.State.{State}
 use Rattle.agent_core.specs.States.{HasRoom, IsState, held_of, held_at}

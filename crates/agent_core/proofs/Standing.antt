@@ -1,21 +1,18 @@
 -- The history that is next for a core, and how the core comes to stand for it with one mark more.
-use Rattle.std.specs.Prelude.{◌≡◌, ℕ, ◌+◌, ◌<◌, ◌≤◌, ◌==◌, List, [], ◌∷◌, ◌++◌, length, fold, Bool, true, false, ◌||◌, Option, Some, None, refl, cond, if◌then◌else◌}
+use Rattle.std.specs.Prelude.{◌≡◌, ℕ, ◌+◌, ◌<◌, ◌≤◌, ◌==◌, List, [], ◌∷◌, length, Bool, true, false, Option, Some, None, refl, if◌then◌else◌}
 use Rattle.std.proofs.Common.{ap, sym, ◌∙◌, subst, arith}
 use Rattle.std.proofs.lemmas.Bool.Decides.{nat_tests}
 use Rattle.std.proofs.lemmas.List.{length_push}
 use Rattle.std.proofs.lemmas.List.Sums.{fold-append}
 use Rattle.std.specs.Option.{option_and_then}
-use Rattle.agent_ports.specs.declared.session.SessionId.{SessionId}
 use Rattle.cache_policy.specs.declared.bounds.TheConstants.{MAX_MARKS, MAX_MOMENT}
 use Rattle.cache_policy.specs.declared.life.Limits.{Limits}
 use Rattle.cache_policy.specs.declared.mark.Mark.{Mark}
-use Rattle.cache_policy.specs.declared.mark.MarkStep.{MarkStep}
-use Rattle.cache_policy.specs.declared.mark.MarkReply.{MarkReply}
 use Rattle.cache_policy.specs.declared.history.Held.{Held}
 use Rattle.cache_policy.specs.declared.history.History.{History}
 use Rattle.cache_policy.specs.Histories.{next_number, with_mark}
 use Rattle.cache_policy.specs.Seat.{under_of, is_open, is_stop, unless_given_back, seat, stopped}
-use Rattle.cache_policy.specs.Runs.{last_base, turn_over, next_history, is_spent, moment_before}
+use Rattle.cache_policy.specs.Runs.{turn_over, next_history, moment_before}
 use Rattle.cache_policy.specs.Legal.{IsLegal}
 use Rattle.cache_policy.proofs.OneMore.{stopped-with_mark, seat-with_mark}
 use Rattle.cache_policy.proofs.Growing.{legal-turn_over, seat-turn_over, stopped-turn_over}
@@ -25,7 +22,7 @@ use Rattle.cache_book.specs.Shelves.{swept}
 use Rattle.cache_book.proofs.Marking.{slots-later, or_false}
 use Rattle.agent_core.specs.declared.state.State.{State}
 use Rattle.agent_core.specs.States.{AtCore, seen, IsState, HasMarked, held_at, next_base, next_count, next_slots, slots_at}
-use Rattle.agent_core.specs.Cores.{StandsFor, mark_of}
+use Rattle.agent_core.specs.Cores.{StandsFor}
 
 -- these are a history's base, count of marks, slots at a moment, seat, and whether it has stopped; and it has room for a mark
 pub record IsOf (limits : Limits) (base count : ℕ) (list : List Slot) (moment : ℕ) (held : Option Held) (stops : Bool) (next : History) : Type 0 where
@@ -59,25 +56,25 @@ next_is core history legal stands =
     → IsOf core.limits (if b then core.base + MAX_MARKS else core.base) (if b then 0 else length history.marks)
     (if b then [] else core.slots) core.moment core.held core.stopped (if b then turn_over history else history)) [
       | true ↦ λ e. record {
-          legal = legal-turn_over core.limits history legal (full (length history.marks) e);
-          few = omega arith;
-          base_is = ap (λ (n : ℕ). n + MAX_MARKS) stands.base;
-          count_is = refl;
-          slots_are = refl;
-          seat_is = stands.seat_is ∙ sym (seat-turn_over history);
-          stopped_is = stands.stopped_is ∙ sym (stopped-turn_over history);
-          since = omega arith;
-        }
+        legal = legal-turn_over core.limits history legal (full (length history.marks) e);
+        few = omega arith;
+        base_is = ap (λ (n : ℕ). n + MAX_MARKS) stands.base;
+        count_is = refl;
+        slots_are = refl;
+        seat_is = stands.seat_is ∙ sym (seat-turn_over history);
+        stopped_is = stands.stopped_is ∙ sym (stopped-turn_over history);
+        since = omega arith;
+      }
       | false ↦ λ e. record {
-          legal = legal;
-          few = not_full (length history.marks) legal.few e;
-          base_is = stands.base;
-          count_is = refl;
-          slots_are = stands.slots_are;
-          seat_is = stands.seat_is;
-          stopped_is = stands.stopped_is;
-          since = since_last history.marks core.moment stands.latest;
-        }
+        legal = legal;
+        few = not_full (length history.marks) legal.few e;
+        base_is = stands.base;
+        count_is = refl;
+        slots_are = stands.slots_are;
+        seat_is = stands.seat_is;
+        stopped_is = stands.stopped_is;
+        since = since_last history.marks core.moment stands.latest;
+      }
     ] refl)
 
 -- a state that stands for a history, at the moment of a step

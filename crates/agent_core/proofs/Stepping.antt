@@ -1,9 +1,8 @@
 -- Each kind of step is replied by the policy, and the core then stands for the history with its mark.
-use Rattle.std.specs.Prelude.{◌≡◌, ℕ, ◌+◌, ◌<◌, ◌≤◌, ◌==◌, List, [], ◌∷◌, ◌++◌, length, Bool, true, false, ◌&&◌, ◌||◌, Option, Some, None, IsSome, IfSome, refl, cond, if◌then◌else◌}
+use Rattle.std.specs.Prelude.{◌≡◌, ℕ, List, [], ◌∷◌, Bool, true, false, ◌||◌, Option, Some, None, IsSome, refl, cond}
 use Rattle.std.proofs.Common.{ap, sym, ◌∙◌, subst, arith}
 use Rattle.std.specs.Option.{option_and_then, is_some}
 use Rattle.agent_ports.specs.declared.session.SessionId.{SessionId}
-use Rattle.cache_policy.specs.declared.bounds.TheConstants.{MAX_MARKS, MAX_MOMENT}
 use Rattle.cache_policy.specs.declared.mode.Mode.{Mode}
 use Rattle.cache_policy.specs.declared.life.Life.{Life}
 use Rattle.cache_policy.specs.declared.life.Life.TheVariants.{Default}
@@ -14,41 +13,36 @@ use Rattle.cache_policy.specs.declared.mark.Way.TheVariants.{Quiet, Prompt}
 use Rattle.cache_policy.specs.declared.mark.Mark.{Mark}
 use Rattle.cache_policy.specs.declared.mark.MarkStep.{MarkStep}
 use Rattle.cache_policy.specs.declared.mark.MarkStep.TheVariants as asked
-use Rattle.cache_policy.specs.declared.mark.MarkReply.{MarkReply}
 use Rattle.cache_policy.specs.declared.mark.MarkReply.TheVariants as reply
 use Rattle.cache_policy.specs.declared.entry.Entry.{Entry}
 use Rattle.cache_policy.specs.declared.grant.Grant.{Grant}
 use Rattle.cache_policy.specs.declared.history.Held.{Held}
 use Rattle.cache_policy.specs.declared.history.History.{History}
-use Rattle.cache_policy.specs.Mode.{covers}
-use Rattle.cache_policy.specs.Entry.{same_id}
 use Rattle.cache_policy.specs.Lifetimes.{ttl_of, max_of, is_zero}
 use Rattle.cache_policy.specs.Histories.{next_number, with_mark}
 use Rattle.cache_policy.specs.Entries.{entry_of, kept_under, kept, stored}
 use Rattle.cache_policy.specs.Seat.{under_of, is_open, is_stop, unless_given_back, seat, stopped}
-use Rattle.cache_policy.specs.Live.{takes_away, gives, last_use, live}
+use Rattle.cache_policy.specs.Live.{takes_away, gives, live}
 use Rattle.cache_policy.specs.Policy.{Reply, policy, prompt_ruling, ask_ruling}
 use Rattle.cache_policy.specs.Policy as ruling
 use Rattle.cache_policy.specs.Runs.{next_history, is_spent}
 use Rattle.cache_policy.specs.Legal.{IsLegal}
 use Rattle.cache_policy.specs.Turns.{Turn, Given, Empty, Open, Stand, Done, Held as WhetherHeld, Stopping, Refused}
-use Rattle.cache_policy.specs.Desks.{Shows}
 use Rattle.cache_policy.proofs.OneMore.{stopped-with_mark, seat-with_mark}
 use Rattle.cache_book.specs.declared.slot.Slot.{Slot}
 use Rattle.cache_book.specs.Slots.{slots}
-use Rattle.cache_book.specs.Shelves.{touched, with_entry, cleared, swept, IsGrantFrom, ServesNone}
+use Rattle.cache_book.specs.Shelves.{touched, cleared, IsGrantFrom, ServesNone}
 use Rattle.cache_book.proofs.Marking.{slots-same, slots-flushed, slots-cleared}
-use Rattle.cache_book.proofs.Storing.{Stores, slots-given, slots-stored}
+use Rattle.cache_book.proofs.Storing.{slots-given, slots-stored}
 use Rattle.cache_book.proofs.Live.{IsLiveGrant, grant_is_live, none_live, live_is_live, grant-swept, none-swept}
 use Rattle.agent_core.specs.declared.state.State.{State}
-use Rattle.agent_core.specs.States.{AtCore, seen, held_of, held_at, IsState, HasMarked, HasMarkedAlone, HasMoreRoom, Finds, Prompts, Asks, Puts, Closes, Takes, with_stored, next_base, next_count, next_slots, number_of, slots_at}
-use Rattle.agent_core.specs.Cores.{StandsFor, mark_of, IsMarked, WantsMemory, IsAsBefore, IsStep, marked, stood, refused, spent}
-use Rattle.agent_core.proofs.Standing.{IsOf, IsReady, Agrees, slots_at-ready, stands_then, seat-kept, stopped-kept}
+use Rattle.agent_core.specs.States.{seen, held_of, held_at, IsState, HasMarked, HasMarkedAlone, HasMoreRoom, Finds, Prompts, Puts, Closes, with_stored, next_slots, number_of, slots_at}
+use Rattle.agent_core.specs.Cores.{StandsFor, mark_of, WantsMemory, IsAsBefore, IsStep, marked, stood, refused}
+use Rattle.agent_core.proofs.Standing.{IsReady, slots_at-ready, stands_then, seat-kept, stopped-kept}
 
 -- a step that is taken: the state before and after, whose it is, on which history, and at which moment
 pub record IsTaken (before after : State) (history : History) (moment : ℕ) : Type 0 where
   pub ready : IsReady before history moment
-  pub stands : StandsFor (seen before) history
   pub state : IsState after
   pub going : is_spent (next_history history) ≡ false
 
@@ -116,7 +110,7 @@ prompts-step before after history session moment step_of under Stand is wish doe
     stood is.going
     (wish.rules ∙ (ap (λ b. prompt_ruling b (seat (next_history history))) (sym is.ready.next.stopped_is ∙ does.0)
     ∙ (ap (prompt_ruling false) (sym is.ready.next.seat_is) ∙ out before.seat does.1)))
-    (subst (λ (state : State). StandsFor (seen state) history) (sym does.2) is.stands) (ap (λ (state : State). state.moment) does.2)
+    (ap seen does.2)
   where
     out : (holder : Option ℕ) → IsSome holder → prompt_ruling false (held_of holder before.under) ≡ ruling.Stand
     out None some = cc
@@ -162,7 +156,7 @@ given-step before after history session moment id mode way grant is from marks =
       shows = (
         refl,
         subst (λ (i : List ℕ). live before.limits (next_history history) i grant.mode moment ≡ Some grant.entry) (sym found.id_is)
-        (subst (λ (m : Mode). live before.limits (next_history history) id m moment ≡ Some grant.entry) (sym found.mode_is) found.live_is),
+            (subst (λ (m : Mode). live before.limits (next_history history) id m moment ≡ Some grant.entry) (sym found.mode_is) found.live_is),
         found.last,
         found.moment_is,
       );
@@ -188,7 +182,13 @@ entry_storable : (limits : Limits) (next : History) (moment : ℕ) (id : List �
     → IsStorable next moment (entry_of limits (next_number next) moment id mode life secret)
 entry_storable limits next moment id mode life secret =
     elim (is_zero (ttl_of limits mode life)) as (λ b. IsStorable next moment (cond b [] (record {
-      number = next_number next; id = id; mode = mode; secret = secret; entered = moment; ttl = ttl_of limits mode life; max = max_of limits mode;
+      number = next_number next;
+      id = id;
+      mode = mode;
+      secret = secret;
+      entered = moment;
+      ttl = ttl_of limits mode life;
+      max = max_of limits mode;
     } ∷ []))) [ true ↦ tt | false ↦ (refl, refl) ]
 
 kept_storable : (limits : Limits) (next : History) (moment : ℕ) (under : Option Under) (keep : Option (List ℕ))
@@ -212,7 +212,9 @@ pub put-step : (before after : State) (history : History) (session : SessionId) 
     → IsStep (seen before) history session moment (asked.Put id mode life secret) turn (seen after)
 put-step before after history session moment id mode life secret Done is does =
     marked is.going (record {
-      reply_is = reply.Done; rules = refl; shows = refl;
+      reply_is = reply.Done;
+      rules = refl;
+      shows = refl;
       stands = stands_then before after history mark _ (held_at before) before.stopped is.ready does is.state (record {
         slots_are = ap (λ (n : ℕ). with_stored (entry_of before.limits n moment id mode life secret) (slots_at before moment)) (number_is before history moment is.ready)
             ∙ (ap (with_stored (entry_of before.limits (next_number (next_history history)) moment id mode life secret)) (slots_at-ready before history moment is.ready)
@@ -238,7 +240,9 @@ pub close-step : (before after : State) (history : History) (session : SessionId
     → IsStep (seen before) history session moment (asked.Close ticket keep) Done (seen after)
 close-step before after history session moment ticket keep is does =
     marked is.going (record {
-      reply_is = reply.Done; rules = refl; shows = refl;
+      reply_is = reply.Done;
+      rules = refl;
+      shows = refl;
       stands = stands_then before after history mark _ _ before.stopped is.ready does is.state (record {
         slots_are = ap (λ (n : ℕ). with_stored (kept before.limits n moment (kept_under (held_at before) ticket) keep) (slots_at before moment)) (number_is before history moment is.ready)
             ∙ (ap (λ (h : Option Held). with_stored (kept before.limits (next_number next) moment (kept_under h ticket) keep) (slots_at before moment)) is.ready.next.seat_is
@@ -261,7 +265,9 @@ pub clear-step : (before after : State) (history : History) (session : SessionId
     → IsStep (seen before) history session moment (asked.Clear id mode) Done (seen after)
 clear-step before after history session moment id mode is does =
     marked is.going (record {
-      reply_is = reply.Done; rules = refl; shows = refl;
+      reply_is = reply.Done;
+      rules = refl;
+      shows = refl;
       stands = stands_then before after history mark _ (held_at before) before.stopped is.ready does is.state (record {
         slots_are = ap (cleared id mode) (slots_at-ready before history moment is.ready)
             ∙ sym (slots-cleared before.limits (next_history history) mark moment id mode refl (λ entry. refl) (λ n. refl));
@@ -278,7 +284,9 @@ pub flush-step : (before after : State) (history : History) (session : SessionId
     → IsStep (seen before) history session moment asked.Flush Done (seen after)
 flush-step before after history session moment is does =
     marked is.going (record {
-      reply_is = reply.Done; rules = refl; shows = refl;
+      reply_is = reply.Done;
+      rules = refl;
+      shows = refl;
       stands = stands_then before after history mark [] (held_at before) before.stopped is.ready does is.state (record {
         slots_are = sym (slots-flushed before.limits (next_history history) mark moment refl (λ entry. refl));
         seat_is = seat-kept before history mark is.ready refl (λ held. refl);
@@ -298,7 +306,9 @@ pub stop-step : (before after : State) (history : History) (session : SessionId)
     → IsStep (seen before) history session moment asked.Stop Done (seen after)
 stop-step before after history session moment is does =
     marked is.going (record {
-      reply_is = reply.Done; rules = refl; shows = refl;
+      reply_is = reply.Done;
+      rules = refl;
+      shows = refl;
       stands = stands_then before after history mark (slots_at before moment) (held_at before) true is.ready does is.state (record {
         slots_are = slots_at-ready before history moment is.ready
             ∙ sym (slots-same before.limits (next_history history) mark moment refl (λ entry. refl) (λ n. refl));
@@ -333,15 +343,22 @@ pub wish_of_ask : (before after : State) (history : History) (moment : ℕ) (id 
 wish_of_ask before after history moment id mode is none = record {
   rules = ap (λ (o : Option Entry). ask_ruling o Prompt (stopped (next_history history)) (seat (next_history history))) (live-none before after history moment id mode is none);
   under_is = refl;
-  none = refl; keeps = λ entry. refl; held = λ held. refl; no_stop = refl;
+  none = refl;
+  keeps = λ entry. refl;
+  held = λ held. refl;
+  no_stop = refl;
   wants = λ some opens. opens;
 }
 
 pub wish_of_seat : (before after : State) (history : History) (moment : ℕ) (under : Option Under) → IsTaken before after history moment
     → IsWish before.limits (next_history history) (asked.Seat under) moment under
 wish_of_seat before after history moment under is = record {
-  rules = refl; under_is = refl;
-  none = refl; keeps = λ entry. refl; held = λ held. refl; no_stop = refl;
+  rules = refl;
+  under_is = refl;
+  none = refl;
+  keeps = λ entry. refl;
+  held = λ held. refl;
+  no_stop = refl;
   wants = λ some opens. (some, opens);
 }
 

@@ -1,16 +1,16 @@
 -- A step of a core that isn't spent, and one of a core that is.
-use Rattle.std.specs.Prelude.{◌≡◌, ◌≢◌, ℕ, ◌+◌, ◌%◌, ◌<◌, ◌≤◌, ◌==◌, Bool, true, false, refl, if◌then◌else◌}
-use Rattle.std.proofs.Common.{ap, sym, ◌∙◌, subst, arith}
+use Rattle.std.specs.Prelude.{◌≡◌, ◌≢◌, ℕ, ◌+◌, ◌%◌, ◌<◌, ◌≤◌, ◌==◌, true, false, refl, if◌then◌else◌}
+use Rattle.std.proofs.Common.{sym, ◌∙◌, subst, arith}
 use Rattle.std.proofs.lemmas.Bool.Decides.{nat_tests}
 use Rattle.agent_ports.specs.declared.session.SessionId.{SessionId}
 use Rattle.cache_policy.specs.declared.bounds.TheConstants.{MAX_MARKS, MAX_MOMENT}
 use Rattle.cache_policy.specs.declared.mark.MarkStep.{MarkStep}
 use Rattle.cache_policy.specs.declared.history.History.{History}
-use Rattle.cache_policy.specs.Runs.{last_base, next_history, is_spent, moment_of}
+use Rattle.cache_policy.specs.Runs.{last_base, next_history, moment_of}
 use Rattle.cache_policy.specs.Legal.{IsLegal}
 use Rattle.cache_policy.specs.Turns.{Turn, Stopping}
 use Rattle.agent_core.specs.declared.state.State.{State}
-use Rattle.agent_core.specs.States.{AtCore, seen, IsState, Takes, next_base}
+use Rattle.agent_core.specs.States.{AtCore, seen, IsState, Takes}
 use Rattle.agent_core.specs.Cores.{StandsFor, IsStep, spent}
 use Rattle.agent_core.proofs.Standing.{next_is, ready}
 use Rattle.agent_core.proofs.Dispatch.{takes-step}
@@ -66,13 +66,12 @@ taken_step : (before after : State) (history : History) (session : SessionId) (r
     → IsStep (seen before) history session (moment_of before.moment reading) step_of turn (seen after)
 taken_step before after history session reading moment step_of turn is more taken legal stands =
     subst (λ (t : ℕ). IsStep (seen before) history session t step_of turn (seen after)) taken.moment_is
-    (takes-step before after history session moment step_of turn (record {
+    (takes-step before after history session moment (record {
       ready = ready before history moment legal stands taken.later taken.within;
-      stands = stands;
       state = taken.state;
       going = not_last (next_history history).base (subst (λ (n : ℕ). n < last_base) (next_is (seen before) history legal stands).base_is
           (not_at_end before.base before.count is.base is.whole is.few more));
-    }) taken.takes)
+    }) step_of turn taken.takes)
 
 pub whole_step : (core : AtCore) (before after : State) (history : History) (session : SessionId) (reading moment : ℕ) (step_of : MarkStep) (turn : Turn)
     → IsCore core before → core.base + core.count ≢ last_base → IsTakenAt before after reading moment step_of turn

@@ -1,9 +1,8 @@
 -- What a core stands for, and what its steps do: the policy's reply, and the history with one mark more. This is the project's own.
-use Rattle.std.specs.Prelude.{◌≡◌, ℕ, ◌+◌, ◌<◌, ◌≤◌, List, [], length, Bool, true, false, Option, Some, None, IsSome, IfSome, ⊤}
+use Rattle.std.specs.Prelude.{◌≡◌, ℕ, ◌<◌, ◌≤◌, length, true, false, IsSome, ⊤}
 use Rattle.agent_ports.specs.declared.session.SessionId.{SessionId}
-use Rattle.cache_policy.specs.declared.bounds.TheConstants.{MAX_MARKS, MAX_MOMENT}
+use Rattle.cache_policy.specs.declared.bounds.TheConstants.{MAX_MOMENT}
 use Rattle.cache_policy.specs.declared.life.Limits.{Limits}
-use Rattle.cache_policy.specs.declared.mark.Way.TheVariants.{Quiet, Prompt}
 use Rattle.cache_policy.specs.declared.mark.Mark.{Mark}
 use Rattle.cache_policy.specs.declared.mark.MarkStep.{MarkStep}
 use Rattle.cache_policy.specs.declared.mark.MarkStep.TheVariants as asked
@@ -15,7 +14,7 @@ use Rattle.cache_policy.specs.Seat.{seat, stopped}
 use Rattle.cache_policy.specs.Policy.{Reply, policy}
 use Rattle.cache_policy.specs.Policy as ruling
 use Rattle.cache_policy.specs.Runs.{next_history, is_spent, moment_before}
-use Rattle.cache_policy.specs.Turns.{Turn, Given, Empty, Open, Stand, Done, Held, Stopping, Refused, FitsStep, opens}
+use Rattle.cache_policy.specs.Turns.{Turn, Stand, Stopping, Refused}
 use Rattle.cache_policy.specs.Desks.{Shows}
 use Rattle.cache_book.specs.Slots.{slots}
 use Rattle.agent_core.specs.States.{AtCore, HasRoom}
@@ -53,17 +52,13 @@ WantsMemory limits next _ moment = ⊥
 abbrev pub IsAsBefore : AtCore → AtCore → Type 0
 IsAsBefore before after = after ≡ record before { spare = after.spare }
 
--- What a step at a moment comes to, on the history that is next for the one that the core stands for. Where that is spent, nothing changes.
+-- What a step at a moment comes to, on the history that is next for the one that the core stands for. Where it has to stand, and where
+-- that history is spent, nothing changes.
 pub data IsStep (before : AtCore) (history : History) (session : SessionId) (moment : ℕ) (step_of : MarkStep) : Turn → AtCore → Type 0 where
   marked : {turn : Turn} {after : AtCore} → is_spent (next_history history) ≡ false
       → IsMarked before (next_history history) session moment step_of turn after → IsStep before history session moment step_of turn after
   stood : {after : AtCore} → is_spent (next_history history) ≡ false → policy before.limits (next_history history) step_of moment ≡ ruling.Stand
-      → StandsFor after history → after.moment ≡ before.moment → IsStep before history session moment step_of Stand after
+      → after ≡ before → IsStep before history session moment step_of Stand after
   refused : {after : AtCore} → is_spent (next_history history) ≡ false → WantsMemory before.limits (next_history history) step_of moment
       → IsAsBefore before after → IsStep before history session moment step_of Refused after
   spent : {after : AtCore} → is_spent (next_history history) ≡ true → after ≡ before → IsStep before history session moment step_of Stopping after
-
--- Which turns a step of a core can come to: as at a desk, but one that wants the prompt may have to stand
-abbrev pub FitsCore : MarkStep → Turn → Type 0
-FitsCore step_of Stand = opens step_of ≡ true
-FitsCore step_of turn = FitsStep step_of turn

@@ -1,13 +1,12 @@
 ghost use Rattle.std.specs.Prelude.{◌≡◌, ◌+◌, ◌↔◌, [], false, None, IsTrue, OnErr, IfErr};
 ghost use Rattle.cache_policy.specs.declared.history.History.{History};
-ghost use Rattle.cache_policy.specs.Turns.{mark_step, turn_of};
+ghost use Rattle.cache_policy.specs.Turns.{mark_step, turn_of, FitsReply};
 ghost use Rattle.cache_policy.specs.Runs.{last_base, moment_of};
 ghost use Rattle.cache_policy.specs.Legal.{IsLegal};
-ghost use Rattle.agent_core.specs.Cores.{StandsFor, IsStep, IsAsBefore, FitsCore};
+ghost use Rattle.agent_core.specs.Cores.{StandsFor, IsStep, IsAsBefore};
 
-use crate::state::State;
+use crate::state::{CacheShelf, State};
 use agent_ports::SessionId;
-use cache_book::ListShelf;
 use cache_policy::{Limits, Refused, Reply, Step};
 use prompt_seat::Seat;
 use std::alloc::Global;
@@ -36,6 +35,7 @@ impl Core {
     /// A core without entries, whose seat is free. It takes no memory yet.
     pub fn new(alloc: Global, limits: Limits) -> Core
         ensures limits { result.limits ≡ limits }
+        ensures moment { result.moment ≡ 0 }
         ensures stands { StandsFor result (record { base = 0; held = None; stopped = false; marks = [] }) }
     {
         Core {
@@ -44,7 +44,7 @@ impl Core {
                 base: 0,
                 count: 0,
                 moment: 0,
-                shelf: ListShelf::new(alloc),
+                shelf: CacheShelf::new(alloc),
                 seat: Seat::new(),
                 under: None,
                 stopped: false,
@@ -54,17 +54,12 @@ impl Core {
 
     /// Takes a step of a session, with this reading of the clock. Where the seat is held, it answers `Stand`, and the step is to be
     /// taken again later. A step that finds no memory is handed back.
-    pub fn step(
-        &mut self,
-        reading: u64,
-        session: SessionId,
-        step: Step,
-    ) -> Result<Reply, Refused>
+    pub fn step(&mut self, reading: u64, session: SessionId, step: Step) -> Result<Reply, Refused>
         // For every legal history that the core stands for, the reply is the policy's, and the core stands for the history with the
         // mark of this step then.
         ensures step { (history : History) → IsLegal self.old.limits history → StandsFor self.old history
             → IsStep self.old history session (moment_of self.old.moment reading) (mark_step step) (turn_of result) self.new }
-        ensures fits { FitsCore (mark_step step) (turn_of result) }
+        ensures fits { FitsReply (mark_step step) (turn_of result) }
         ensures refused { OnErr result (IsAsBefore self.old self.new) }
         ensures back { IfErr result (λ refused. refused.step ≡ step) }
         ensures limits { self.new.limits ≡ self.old.limits }
@@ -99,3 +94,6 @@ fn give_up(step: Step) {
         let _ = Seat::new().give(ticket);
     }
 }
+
+#[cfg(test)]
+mod tests;

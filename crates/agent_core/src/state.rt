@@ -7,6 +7,9 @@ use cache_book::{ListShelf, Shelf};
 use cache_policy::{CacheId, Grant, Limits, MAX_MARKS, MAX_MOMENT, Mode, Under};
 use prompt_seat::Seat;
 
+/// The shelf that the core stands on.
+pub(crate) type CacheShelf = ListShelf;
+
 /// What a core keeps in place of its history.
 #[derive(Drop)]
 pub(crate) struct State {
@@ -16,7 +19,7 @@ pub(crate) struct State {
     pub(crate) count: u64,
     // The moment of the last mark.
     pub(crate) moment: u64,
-    pub(crate) shelf: ListShelf,
+    pub(crate) shelf: CacheShelf,
     pub(crate) seat: Seat,
     // What the passphrase of the ticket that is out is kept under.
     pub(crate) under: Option<Under>,

@@ -171,8 +171,15 @@ impl State {
         }
         let under = self.under.take();
         if let (Some(Under { id, mode }), Some(secret)) = (under, keep)
-            && let Some(entry) =
-                Entry::of(&self.limits, number, moment, id, mode, Life::Default, secret)
+            && let Some(entry) = Entry::of(
+                &self.limits,
+                number,
+                moment,
+                id,
+                mode,
+                Life::Default,
+                secret,
+            )
         {
             self.shelf.store(entry);
         }

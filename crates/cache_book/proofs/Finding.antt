@@ -1,6 +1,6 @@
 -- What is found in a list of slots is one of them and serves the request; and where nothing is found none does.
 use Rattle.std.specs.Prelude.{◌≡◌, ℕ, List, [], ◌∷◌, Bool, true, false, ◌&&◌, ◌↔◌, Option, Some, None, IsSome, IfSome, IfNone, find, cond, refl}
-use Rattle.std.proofs.Common.{ap, sym, ◌∙◌, subst}
+use Rattle.std.proofs.Common.{sym, ◌∙◌, subst}
 use Rattle.std.specs.List.{AllByRecursion}
 use Rattle.cache_policy.specs.declared.mode.Mode.{Mode}
 use Rattle.cache_policy.specs.declared.entry.Entry.{Entry}
@@ -9,7 +9,7 @@ use Rattle.cache_policy.specs.Entry.{same_id, serves, within}
 use Rattle.cache_policy.specs.Mode.{covers}
 use Rattle.cache_book.specs.declared.slot.Slot.{Slot}
 use Rattle.cache_book.specs.Modes.{holds}
-use Rattle.cache_book.specs.Shelves.{serves_at, IsOneOf, here, further, IsWithinMode, AreWithinMode, IsGrantFrom, ServesNone}
+use Rattle.cache_book.specs.Shelves.{serves_at, IsOneOf, here, further, IsWithinMode, AreWithinMode, IsGrantFrom}
 
 -- a slot that is found
 pub record IsFound (test : Slot → Bool) (list : List Slot) (slot : Slot) : Type 0 where
@@ -63,8 +63,14 @@ granted_from id id_copy mode now list slot copy None e is = tt
 granted_from id id_copy mode now list slot copy (Some grant) e is =
     let found = found_slot id mode now list slot e in
     record {
-      slot = slot; on = found.on; serves = found.passes; id_is = is.id_is ∙ is.same_id; mode_is = is.mode_is;
-      entry = is.entry ∙ is.same; last = is.last; moment_is = is.moment;
+      slot = slot;
+      on = found.on;
+      serves = found.passes;
+      id_is = is.id_is ∙ is.same_id;
+      mode_is = is.mode_is;
+      entry = is.entry ∙ is.same;
+      last = is.last;
+      moment_is = is.moment;
     }
 
 both : (a b c d : Bool) → (a && b && c) ≡ true → (b ≡ true → d ≡ true) → ((a && d) && c) ≡ true

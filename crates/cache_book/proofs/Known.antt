@@ -1,7 +1,7 @@
 -- An entry of a history is older than the next mark, and the only one with its number. So its slot shows whether it is live and for which
 -- modes it is the newest.
-use Rattle.std.specs.Prelude.{◌≡◌, ℕ, ◌+◌, ◌<◌, ◌≤◌, ◌==◌, List, [], ◌∷◌, Bool, true, false, ◌&&◌, Option, Some, None, IfSome, reverse, refl, cond, if◌then◌else◌}
-use Rattle.std.proofs.Common.{ap, sym, ◌∙◌, subst, arith}
+use Rattle.std.specs.Prelude.{◌≡◌, ℕ, ◌+◌, ◌<◌, ◌≤◌, ◌==◌, List, [], ◌∷◌, Bool, true, false, ◌&&◌, Option, Some, None, IfSome, reverse, refl, if◌then◌else◌}
+use Rattle.std.proofs.Common.{ap, ◌∙◌, arith}
 use Rattle.std.proofs.lemmas.Bool.Decides.{nat_tests}
 use Rattle.std.specs.List.{AllByRecursion}
 use Rattle.std.specs.Option.{option_and_then}
@@ -13,7 +13,7 @@ use Rattle.cache_policy.specs.declared.history.History.{History}
 use Rattle.cache_policy.specs.Entry.{serves}
 use Rattle.cache_policy.specs.Histories.{next_number}
 use Rattle.cache_policy.specs.Entries.{entries, AreNumbered}
-use Rattle.cache_policy.specs.Live.{newest, last_use, is_live, live}
+use Rattle.cache_policy.specs.Live.{newest, last_use, is_live}
 use Rattle.cache_policy.proofs.Lists.{all_weaker, all_reverse, all_find}
 use Rattle.cache_policy.proofs.Growing.{entries_numbered, all_below}
 use Rattle.cache_book.specs.declared.modes.Modes.{Modes}
@@ -47,13 +47,15 @@ differ_too a b h = grind (arith, nat_tests)
 all_only : (low : ℕ) (list : List Entry) (high : ℕ) → AreNumbered low list high → AllByRecursion (λ entry. AllByRecursion (IsSameAs entry) list) list
 all_only low [] high h = tt
 all_only low (entry ∷ later) high h =
-    let above : AllByRecursion (λ (x : Entry). entry.number + 1 ≤ x.number) later = all_from (entry.number + 1) later high h.1 in
-    (
-      ((λ e. refl), all_weaker (λ (x : Entry). entry.number + 1 ≤ x.number) (IsSameAs entry)
-      (λ x is same. let no : (x.number == entry.number) ≡ false = differ entry.number x.number (omega (arith, is)) in cc) later above),
+    let above : AllByRecursion (λ (x : Entry). entry.number + 1 ≤ x.number) later = all_from (entry.number + 1) later high h.1 in (
+      (
+        (λ e. refl),
+        all_weaker (λ (x : Entry). entry.number + 1 ≤ x.number) (IsSameAs entry)
+            (λ x is same. let no : (x.number == entry.number) ≡ false = differ entry.number x.number (omega (arith, is)) in cc) later above,
+      ),
       all_weaker (λ (x : Entry). (entry.number + 1 ≤ x.number) × AllByRecursion (IsSameAs x) later) (λ (x : Entry). AllByRecursion (IsSameAs x) (entry ∷ later))
-      (λ x is. ((λ same. let no : (entry.number == x.number) ≡ false = differ_too entry.number x.number (omega (arith, is.0)) in cc), is.1)) later
-      (all_both (λ (x : Entry). entry.number + 1 ≤ x.number) (λ (x : Entry). AllByRecursion (IsSameAs x) later) later above (all_only (entry.number + 1) later high h.1)),
+          (λ x is. ((λ same. let no : (entry.number == x.number) ≡ false = differ_too entry.number x.number (omega (arith, is.0)) in cc), is.1)) later
+          (all_both (λ (x : Entry). entry.number + 1 ≤ x.number) (λ (x : Entry). AllByRecursion (IsSameAs x) later) later above (all_only (entry.number + 1) later high h.1)),
     )
 
 pub all_known : (limits : Limits) (history : History) → AllByRecursion (IsKnown limits history) (entries limits history)

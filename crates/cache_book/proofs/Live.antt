@@ -1,5 +1,5 @@
 -- Which slot of a history serves a request: that of the live entry, and none where no entry is live.
-use Rattle.std.specs.Prelude.{◌≡◌, ℕ, ◌==◌, List, [], ◌∷◌, ◌++◌, Bool, true, false, not, ◌&&◌, ◌||◌, nat_eq, Option, Some, None, IfSome, IfNone, reverse, filter, refl, cond, if◌then◌else◌}
+use Rattle.std.specs.Prelude.{◌≡◌, ℕ, ◌==◌, List, [], ◌∷◌, ◌++◌, Bool, true, false, not, ◌&&◌, ◌||◌, nat_eq, Option, Some, None, IfSome, reverse, filter, refl, cond, if◌then◌else◌}
 use Rattle.std.proofs.Common.{ap, sym, ◌∙◌, subst, arith}
 use Rattle.std.proofs.lemmas.Bool.Decides.{nat_tests}
 use Rattle.std.proofs.Math.Bool.{or-true}
@@ -20,7 +20,7 @@ use Rattle.cache_policy.proofs.Lists.{all_append, find_passes}
 use Rattle.cache_book.specs.declared.modes.Modes.{Modes}
 use Rattle.cache_book.specs.declared.slot.Slot.{Slot}
 use Rattle.cache_book.specs.Modes.{modes_where, holds, has_some}
-use Rattle.cache_book.specs.Slots.{has_number, still_serves, slot_with, slot_of, slots}
+use Rattle.cache_book.specs.Slots.{has_number, still_serves, slot_of, slots}
 use Rattle.cache_book.specs.Shelves.{serves_at, IsOneOf, here, further, IsGrantFrom, ServesNone, swept}
 use Rattle.cache_book.proofs.Kept.{all_filter, holds-where}
 use Rattle.cache_book.proofs.Known.{IsSameAs, IsKnown, all_known, all_newest}
@@ -89,7 +89,8 @@ grant_is_live limits history id mode moment grant from =
     let is = all_at (IsSlotOf limits history moment) (slots limits history moment) from.slot (all_slots_of limits history moment) from.on in
     record {
       live_is = live-served limits history moment id mode from.slot is from.serves ∙ ap Some (sym from.entry);
-      id_is = from.id_is; mode_is = from.mode_is;
+      id_is = from.id_is;
+      mode_is = from.mode_is;
       last = from.last ∙ (is.last ∙ ap (last_use history) (sym from.entry));
       moment_is = from.moment_is;
     }
@@ -197,7 +198,12 @@ grant-swept list id mode moment grant from = record {
   slot = from.slot;
   on = on_filter (λ (slot : Slot). within slot.entry slot.last moment) from.slot list from.on
       (both_true (same_id from.slot.entry.id id && holds from.slot.modes mode) (within from.slot.entry from.slot.last moment) from.serves).1;
-  serves = from.serves; id_is = from.id_is; mode_is = from.mode_is; entry = from.entry; last = from.last; moment_is = from.moment_is;
+  serves = from.serves;
+  id_is = from.id_is;
+  mode_is = from.mode_is;
+  entry = from.entry;
+  last = from.last;
+  moment_is = from.moment_is;
 }
 
 pub none-swept : (list : List Slot) (id : List ℕ) (mode : Mode) (moment : ℕ) → ServesNone list id mode moment → ServesNone (swept moment list) id mode moment

@@ -1,35 +1,30 @@
 -- The slots of a history with one mark more, by the kind of its step: what a call of a shelf makes of the slots before.
-use Rattle.std.specs.Prelude.{◌≡◌, ℕ, ◌+◌, ◌<◌, ◌≤◌, ◌==◌, List, [], ◌∷◌, ◌++◌, Bool, true, false, not, ◌&&◌, ◌||◌, max, nat_le, Option, Some, None, IfSome, filter, fold, refl, cond, if◌then◌else◌}
+use Rattle.std.specs.Prelude.{◌≡◌, ℕ, ◌+◌, ◌≤◌, List, [], ◌++◌, Bool, true, false, not, ◌&&◌, ◌||◌, max, nat_le, Option, Some, None, refl, if◌then◌else◌}
 use Rattle.std.proofs.Common.{ap, sym, ◌∙◌, subst, arith}
 use Rattle.std.proofs.lemmas.Bool.Decides.{nat_tests}
 use Rattle.std.proofs.lemmas.List.{append-nil}
-use Rattle.std.proofs.lemmas.Grind.{flat_map-append}
 use Rattle.std.specs.List.{AllByRecursion, flat_map}
 use Rattle.std.specs.Option.{option_or}
 use Rattle.cache_policy.specs.declared.mode.Mode.{Mode}
-use Rattle.cache_policy.specs.declared.mode.Mode.TheVariants.{Normal, User, Ssh, Nonce, Any}
 use Rattle.cache_policy.specs.declared.life.Limits.{Limits}
 use Rattle.cache_policy.specs.declared.mark.Mark.{Mark}
 use Rattle.cache_policy.specs.declared.entry.Entry.{Entry}
 use Rattle.cache_policy.specs.declared.history.History.{History}
 use Rattle.cache_policy.specs.Mode.{covers}
-use Rattle.cache_policy.specs.Entry.{same_id, serves, within_ttl, within}
-use Rattle.cache_policy.specs.Histories.{next_number, with_mark, moments}
+use Rattle.cache_policy.specs.Entry.{same_id, within_ttl, within}
+use Rattle.cache_policy.specs.Histories.{with_mark}
 use Rattle.cache_policy.specs.Entries.{stored, entries}
 use Rattle.cache_policy.specs.Live.{newest_of, newest, takes_away, gone, gives, last_use, is_live}
-use Rattle.cache_policy.specs.Legal.{IsLegal}
-use Rattle.cache_policy.proofs.Lists.{all_weaker, filter_none}
+use Rattle.cache_policy.proofs.Lists.{all_weaker}
 use Rattle.cache_policy.proofs.EntriesLemmas.{entries-with_mark}
-use Rattle.cache_policy.proofs.OneMore.{next_number-with_mark, gone-with_mark, last_use-with_mark, newest-with_mark, is_live-with_mark}
-use Rattle.cache_policy.proofs.Growing.{newest_below, unused_yet, is_live-stored}
+use Rattle.cache_policy.proofs.OneMore.{last_use-with_mark, newest-with_mark, is_live-with_mark}
 use Rattle.cache_book.specs.declared.modes.Modes.{Modes}
 use Rattle.cache_book.specs.declared.slot.Slot.{Slot}
-use Rattle.cache_book.specs.Modes.{modes_where, holds, has_some, not_covered}
-use Rattle.cache_book.specs.Slots.{has_number, slot_with, slot_of, slots}
-use Rattle.cache_book.specs.Shelves.{touched, hidden, new_slot, with_entry, cleared, swept}
-use Rattle.cache_book.proofs.Kept.{holds-where}
-use Rattle.cache_book.proofs.Known.{IsKnown, all_both, all_known, differ, differ_too, is_newest, modes_where-same, slot_where, slot_of-known}
-use Rattle.cache_book.proofs.Slotwise.{IsSlotwise, flat_map-slotwise, same_slotwise, none_slotwise, filter_slotwise, map_slotwise, hidden_slotwise, filter-slot_where, touched-other, touched-this, hidden-slot_with}
+use Rattle.cache_book.specs.Modes.{modes_where}
+use Rattle.cache_book.specs.Slots.{has_number, slot_of, slots}
+use Rattle.cache_book.specs.Shelves.{cleared, swept}
+use Rattle.cache_book.proofs.Known.{IsKnown, all_both, all_known, is_newest, modes_where-same, slot_where, slot_of-known}
+use Rattle.cache_book.proofs.Slotwise.{IsSlotwise, flat_map-slotwise, same_slotwise, none_slotwise, filter_slotwise, filter-slot_where}
 
 -- a moment that is within the lifetimes, and an earlier one
 within_ttl-earlier : (ttl : Option ℕ) (last now later : ℕ) → now ≤ later → within_ttl ttl last later ≡ true → within_ttl ttl last now ≡ true

@@ -5,14 +5,13 @@ use Rattle.std.proofs.lemmas.List.{map-append}
 use Rattle.std.proofs.lemmas.List.Elements.{filter-append}
 use Rattle.std.proofs.Math.Bool.{and-false}
 use Rattle.std.specs.List.{AllByRecursion, flat_map}
-use Rattle.cache_policy.specs.declared.mode.Mode.{Mode}
 use Rattle.cache_policy.specs.declared.mode.Mode.TheVariants.{Normal, User, Ssh, Nonce, Any}
 use Rattle.cache_policy.specs.declared.entry.Entry.{Entry}
 use Rattle.cache_policy.specs.Mode.{covers}
 use Rattle.cache_policy.specs.Entry.{same_id}
 use Rattle.cache_book.specs.declared.modes.Modes.{Modes}
 use Rattle.cache_book.specs.declared.slot.Slot.{Slot}
-use Rattle.cache_book.specs.Modes.{modes_where, holds, has_some, not_covered}
+use Rattle.cache_book.specs.Modes.{has_some, not_covered}
 use Rattle.cache_book.specs.Slots.{slot_with}
 use Rattle.cache_book.specs.Shelves.{touch_slot, touched, hide, hidden}
 use Rattle.cache_book.proofs.Known.{slot_where}

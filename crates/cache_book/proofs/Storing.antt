@@ -1,8 +1,7 @@
 -- The slots of a history with one mark more, where that gives an entry or stores one.
-use Rattle.std.specs.Prelude.{◌≡◌, ℕ, ◌+◌, ◌<◌, ◌≤◌, ◌==◌, List, [], ◌∷◌, ◌++◌, Bool, true, false, not, ◌&&◌, ◌||◌, max, nat_le, nat_eq, Option, Some, None, IfSome, filter, fold, refl, cond, if◌then◌else◌}
+use Rattle.std.specs.Prelude.{◌≡◌, ℕ, ◌+◌, ◌<◌, ◌≤◌, ◌==◌, List, [], ◌∷◌, ◌++◌, Bool, true, false, not, ◌&&◌, max, nat_le, nat_eq, Option, Some, None, IfSome, fold, refl, cond, if◌then◌else◌}
 use Rattle.std.proofs.Common.{ap, sym, ◌∙◌, subst, arith}
 use Rattle.std.proofs.lemmas.Bool.Decides.{nat_tests}
-use Rattle.std.proofs.lemmas.List.{append-nil}
 use Rattle.std.proofs.lemmas.Grind.{flat_map-append}
 use Rattle.std.specs.List.{AllByRecursion, flat_map}
 use Rattle.std.specs.Option.{option_or}
@@ -13,7 +12,7 @@ use Rattle.cache_policy.specs.declared.mark.Mark.{Mark}
 use Rattle.cache_policy.specs.declared.entry.Entry.{Entry}
 use Rattle.cache_policy.specs.declared.history.History.{History}
 use Rattle.cache_policy.specs.Mode.{covers}
-use Rattle.cache_policy.specs.Entry.{same_id, serves, within_ttl, within}
+use Rattle.cache_policy.specs.Entry.{same_id, within_ttl, within}
 use Rattle.cache_policy.specs.Histories.{next_number, with_mark, moments}
 use Rattle.cache_policy.specs.Entries.{stored, entries}
 use Rattle.cache_policy.specs.Live.{newest_of, newest, takes_away, gone, gives, last_use, is_live}
@@ -24,11 +23,11 @@ use Rattle.cache_policy.proofs.OneMore.{last_use-with_mark, newest-with_mark, is
 use Rattle.cache_policy.proofs.Growing.{newest_below, unused_yet, is_live-stored}
 use Rattle.cache_book.specs.declared.modes.Modes.{Modes}
 use Rattle.cache_book.specs.declared.slot.Slot.{Slot}
-use Rattle.cache_book.specs.Modes.{modes_where, holds, has_some, not_covered}
+use Rattle.cache_book.specs.Modes.{modes_where, has_some, not_covered}
 use Rattle.cache_book.specs.Slots.{has_number, slot_with, slot_of, slots}
 use Rattle.cache_book.specs.Shelves.{touched, touch_slot, hidden, new_slot, with_entry}
 use Rattle.cache_book.proofs.Known.{IsKnown, all_both, all_known, differ, differ_too, is_newest, modes_where-same, slot_where, slot_of-known}
-use Rattle.cache_book.proofs.Slotwise.{IsSlotwise, flat_map-slotwise, map_slotwise, hidden_slotwise, touched-other, touched-this, hidden-slot_with}
+use Rattle.cache_book.proofs.Slotwise.{flat_map-slotwise, map_slotwise, hidden_slotwise, touched-other, touched-this, hidden-slot_with}
 use Rattle.cache_book.proofs.Marking.{both_true, IsPlain, slot-with_mark, slots-plain, or_false}
 
 within_ttl-used : (ttl : Option ℕ) (last later moment : ℕ) → last ≤ later → within_ttl ttl last moment ≡ true → within_ttl ttl later moment ≡ true

@@ -62,8 +62,7 @@ impl Shelf for ListShelf {
     }
 
     fn clear(&mut self, id: &CacheId, mode: Mode) {
-        self.slots
-            .retain(|slot| !(slot.entry.id == *id && slot.entry.mode.covers(mode)));
+        self.slots.retain(|slot| !(slot.entry.id == *id && slot.entry.mode.covers(mode)));
     }
 
     fn flush(&mut self) {

@@ -1,15 +1,18 @@
-use Rattle.std.specs.Prelude.{◌≡◌, Option, None, Some, find, IfNone}
-use Rattle.std.proofs.Common.{sym, rules}
-use Rattle.cache_policy.specs.declared.grant.Grant.{Grant}
-use Rattle.cache_book.specs.declared.slot.Slot.{Slot}
+use Rattle.std.proofs.Common.{rules}
 use Rattle.cache_book.specs.Shelves.{serves_at}
 use Rattle.cache_book.proofs.Finding.{IsGrantOf, granted_from, is_granted, none_found, some_is_not_none, none_where}
 use Rattle.cache_book.proofs.list_shelf.grant_from.Goals as goal
 
 made : (c : goal.After-of) → IsGrantOf c.args.id.now c.copy.result c.args.mode c.args.now c.in_ok-slot.slot.now c.copy-2.result c.of.result
 made c = record {
-  same_id = c.copy.ensures; same = c.copy-2.ensures; granted = c.of.ensures.granted; id_is = c.of.ensures.id; mode_is = c.of.ensures.mode;
-  entry = c.of.ensures.entry; last = c.of.ensures.last; moment = c.of.ensures.moment;
+  same_id = c.copy.ensures;
+  same = c.copy-2.ensures;
+  granted = c.of.ensures.granted;
+  id_is = c.of.ensures.id;
+  mode_is = c.of.ensures.mode;
+  entry = c.of.ensures.entry;
+  last = c.of.ensures.last;
+  moment = c.of.ensures.moment;
 }
 
 pub returns-clause-found : goal.returns-clause-found

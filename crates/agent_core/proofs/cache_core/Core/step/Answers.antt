@@ -17,6 +17,9 @@ returns-clause-step c = λ history legal stands.
     whole_step c.args.self.now c.self.inside.state c.take_step.new.self history c.args.session c.args.reading c.moment_at-moment.result
     (mark_step c.args.step) (turn_of c.take_step.result) (record { seen_is = c.self.view_is; state_is = c.self.invariant }) more
     (record {
-      takes = c.take_step.ensures.takes; state = c.take_step.ensures.state;
-      moment_is = c.moment_at-moment.ensures.value; later = c.moment_at-moment.ensures.later; within = c.moment_at-moment.ensures.within;
+      takes = c.take_step.ensures.takes;
+      state = c.take_step.ensures.state;
+      moment_is = c.moment_at-moment.ensures.value;
+      later = c.moment_at-moment.ensures.later;
+      within = c.moment_at-moment.ensures.within;
     }) legal stands

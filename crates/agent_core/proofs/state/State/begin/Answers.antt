@@ -1,4 +1,4 @@
-use Rattle.std.specs.Prelude.{◌≡◌, ◌+◌, ◌≤◌}
+use Rattle.std.specs.Prelude.{◌+◌}
 use Rattle.std.proofs.Common.{sym, subst, arith}
 use Rattle.cache_book.specs.declared.slot.Slot.{Slot}
 use Rattle.cache_policy.specs.Entry.{within}

@@ -1,9 +1,9 @@
-use Rattle.std.specs.Prelude.{◌≡◌, List, [], ◌∷◌, ◌++◌, filter, map}
+use Rattle.std.specs.Prelude.{◌≡◌, List, [], ◌∷◌, ◌++◌, filter}
 use Rattle.std.proofs.Common.{ap, sym, ◌∙◌, subst, rules}
 use Rattle.std.proofs.lemmas.Fn.{filter_same}
 use Rattle.cache_book.specs.declared.slot.Slot.{Slot}
 use Rattle.cache_book.specs.Modes.{has_some}
-use Rattle.cache_book.specs.Shelves.{AtShelf, hide, hidden, with_entry, AreWithinMode}
+use Rattle.cache_book.specs.Shelves.{AtShelf, hidden, with_entry, AreWithinMode}
 use Rattle.cache_book.proofs.Kept.{within-with_entry}
 use Rattle.cache_book.proofs.list_shelf.ListShelfShelf.store.Goals as goal
 
