@@ -1,7 +1,7 @@
-ghost use Rattle.std.specs.Prelude.{◌≡◌, ◌≤◌, ◌<◌, ◌+◌, ◌^◌, ◌-◌, ◌↔◌, IsTrue, [], drop, Some, None, vec_len, Contains, min, refl};
+ghost use Rattle.std.specs.Prelude.{◌≡◌, ◌≤◌, ◌<◌, ◌+◌, ◌^◌, ◌-◌, ◌↔◌, ◌⊎◌, IsTrue, [], length, take, drop, Some, None, IfSome, vec_len, Contains, min, max, refl};
 ghost use Rattle.std.specs.Bool.{OnTrue, OnFalse};
 ghost use Rattle.agent_ports.specs.Counts.{Rose};
-ghost use Rattle.agent_ports.specs.Sides.{Side};
+ghost use Rattle.agent_ports.specs.Sides.{Side, followed_by, with_bytes, taken_by, IfBytes, sent_part, IfCut, IsCut};
 
 use crate::{Got, Link, Sent, Sink, Source};
 use std::alloc::Global;
@@ -16,7 +16,9 @@ struct FaultPlan {
 
 impl FaultPlan {
     fn new(failing: Vec<u64>) -> Self
-        ensures { result.faults ≡ 0 }
+        ensures failing { result.failing ≡ failing }
+        ensures calls { result.calls ≡ 0 }
+        ensures faults { result.faults ≡ 0 }
     {
         FaultPlan {
             failing,
@@ -28,6 +30,8 @@ impl FaultPlan {
     /// Counts a call, and says whether it is one that is to fail.
     fn next_fails(&mut self) -> bool
         ensures planned { IsTrue result ↔ Contains self.old.failing.items self.old.calls }
+        ensures calls { self.new.calls ≡ min (self.old.calls + 1) (2 ^ 64 - 1) }
+        ensures failing { self.new.failing ≡ self.old.failing }
         ensures fails { OnTrue result (Rose self.old.faults self.new.faults) }
         ensures passes { OnFalse result (self.new.faults ≡ self.old.faults) }
         ensures never_falls { self.old.faults ≤ self.new.faults }
@@ -44,6 +48,8 @@ impl FaultPlan {
     fn raise(&mut self)
         ensures rose { Rose self.old.faults self.new.faults }
         ensures never_falls { self.old.faults ≤ self.new.faults }
+        ensures calls { self.new.calls ≡ self.old.calls }
+        ensures failing { self.new.failing ≡ self.old.failing }
     {
         self.faults = self.faults.saturating_add(1);
     }
@@ -61,10 +67,13 @@ pub struct MemSource {
 }
 
 impl MemSource {
+    ghost use Rattle.agent_ports.specs.MemPlans.{source_plan};
+
     /// A source of these bytes. No read gives more of them than `piece`, or than one where that is 0, and the reads of these
     /// numbers, from 0, fail.
     pub fn new(bytes: Vec<u8>, piece: usize, failing: Vec<u64>) -> Self
-        ensures { ⟦<MemSource as Source>⟧.input result ≡ record { bytes = Some bytes.items; faults = 0 } }
+        ensures input { ⟦<MemSource as Source>⟧.input result ≡ record { bytes = Some bytes.items; faults = 0 } }
+        ensures plan { source_plan result ≡ record { failing = failing.items; calls = 0; size = max piece 1 } }
     {
         MemSource {
             bytes,
@@ -76,11 +85,28 @@ impl MemSource {
 }
 
 impl Source for MemSource {
+    ghost use Rattle.agent_ports.specs.Plans.{Fails, after_call};
+    ghost use Rattle.agent_ports.specs.MemPlans.{source_plan};
+
     ghost input = { λ s. record { bytes = Some (drop s.taken s.bytes.items); faults = s.plan.faults } };
 
     ghost beside_input = { λ _. record { bytes = None; faults = 0 } };
 
-    fn read(&mut self, buf: &mut [u8]) -> Got {
+    fn read(&mut self, buf: &mut [u8]) -> Got
+        requires { 0 < length buf.old }
+        ensures count { IfBytes result (λ n. (1 ≤ n) × (n ≤ length buf.old)) }
+        ensures taken { (⟦<MemSource as Source>⟧.input self.old).bytes ≡ followed_by (take (taken_by result) buf.new) (⟦<MemSource as Source>⟧.input self.new).bytes }
+        ensures end { result ≡ Got.End → IfSome (⟦<MemSource as Source>⟧.input self.old).bytes (λ rest. rest ≡ []) }
+        ensures failed { result ≡ Got.Failed → Rose (⟦<MemSource as Source>⟧.input self.old).faults (⟦<MemSource as Source>⟧.input self.new).faults }
+        ensures faults { (⟦<MemSource as Source>⟧.input self.old).faults ≤ (⟦<MemSource as Source>⟧.input self.new).faults }
+        ensures beside { ⟦<MemSource as Source>⟧.beside_input self.new ≡ ⟦<MemSource as Source>⟧.beside_input self.old }
+
+        // What the plan says.
+        ensures planned { (result ≡ Got.Failed) ↔ Fails (source_plan self.old) }
+        ensures piece { IfBytes result (λ n. IfSome (⟦<MemSource as Source>⟧.input self.old).bytes
+            (λ rest. n ≡ min (min (length rest) (length buf.old)) (source_plan self.old).size)) }
+        ensures calls { source_plan self.new ≡ after_call (source_plan self.old) }
+    {
         if self.plan.next_fails() {
             return Got::Failed;
         }
@@ -104,9 +130,12 @@ pub struct MemSink {
 }
 
 impl MemSink {
+    ghost use Rattle.agent_ports.specs.MemPlans.{sink_plan};
+
     /// A sink with no bytes. The writes of these numbers, from 0, fail after at most `kept` bytes.
     pub fn new(alloc: Global, kept: usize, failing: Vec<u64>) -> Self
-        ensures { ⟦<MemSink as Sink>⟧.output result ≡ record { bytes = Some []; faults = 0 } }
+        ensures output { ⟦<MemSink as Sink>⟧.output result ≡ record { bytes = Some []; faults = 0 } }
+        ensures plan { sink_plan result ≡ record { failing = failing.items; calls = 0; size = kept } }
     {
         MemSink {
             bytes: Vec::new(alloc),
@@ -124,12 +153,27 @@ impl MemSink {
 }
 
 impl Sink for MemSink {
+    ghost use Rattle.agent_ports.specs.Plans.{Fails, after_call};
+    ghost use Rattle.agent_ports.specs.MemPlans.{sink_plan};
+
     ghost output = { λ s. record { bytes = Some s.bytes.items; faults = s.plan.faults } };
 
     ghost beside_output = { λ _. record { bytes = None; faults = 0 } };
 
     /// Want of memory is a fault like any other.
-    fn put(&mut self, bytes: &[u8]) -> Sent {
+    fn put(&mut self, bytes: &[u8]) -> Sent
+        ensures cut { IfCut result (λ sent. sent ≤ length bytes.now) }
+        ensures written { (⟦<MemSink as Sink>⟧.output self.new).bytes ≡ with_bytes (⟦<MemSink as Sink>⟧.output self.old).bytes (sent_part bytes.now result) }
+        ensures failed { IsCut result → Rose (⟦<MemSink as Sink>⟧.output self.old).faults (⟦<MemSink as Sink>⟧.output self.new).faults }
+        ensures faults { (⟦<MemSink as Sink>⟧.output self.old).faults ≤ (⟦<MemSink as Sink>⟧.output self.new).faults }
+        ensures beside { ⟦<MemSink as Sink>⟧.beside_output self.new ≡ ⟦<MemSink as Sink>⟧.beside_output self.old }
+
+        // What the plan says, but where memory is wanted.
+        ensures planned { Fails (sink_plan self.old) → IsCut result }
+        ensures kept { IfCut result (λ sent. (sent ≡ 0) ⊎ (Fails (sink_plan self.old)
+            × (sent ≡ min (sink_plan self.old).size (length bytes.now)))) }
+        ensures calls { sink_plan self.new ≡ after_call (sink_plan self.old) }
+    {
         let fails = self.plan.next_fails();
         let part = if fails {
             &bytes[..self.kept.min(bytes.len())]
@@ -155,9 +199,13 @@ pub struct MemLink {
 }
 
 impl MemLink {
+    ghost use Rattle.agent_ports.specs.MemPlans.{source_plan, sink_plan, read_plan, write_plan};
+
     pub fn new(source: MemSource, sink: MemSink) -> Self
         ensures input { ⟦<MemLink as Source>⟧.input result ≡ ⟦<MemSource as Source>⟧.input source }
         ensures output { ⟦<MemLink as Sink>⟧.output result ≡ ⟦<MemSink as Sink>⟧.output sink }
+        ensures reads { read_plan result ≡ source_plan source }
+        ensures writes { write_plan result ≡ sink_plan sink }
     {
         MemLink { source, sink }
     }
@@ -171,21 +219,55 @@ impl MemLink {
 }
 
 impl Source for MemLink {
+    ghost use Rattle.agent_ports.specs.Plans.{Fails, after_call};
+    ghost use Rattle.agent_ports.specs.MemPlans.{read_plan, write_plan};
+
     ghost input = { λ l. ⟦<MemSource as Source>⟧.input l.source };
 
     ghost beside_input = { λ l. ⟦<MemSink as Sink>⟧.output l.sink };
 
-    fn read(&mut self, buf: &mut [u8]) -> Got {
+    fn read(&mut self, buf: &mut [u8]) -> Got
+        requires { 0 < length buf.old }
+        ensures count { IfBytes result (λ n. (1 ≤ n) × (n ≤ length buf.old)) }
+        ensures taken { (⟦<MemLink as Source>⟧.input self.old).bytes ≡ followed_by (take (taken_by result) buf.new) (⟦<MemLink as Source>⟧.input self.new).bytes }
+        ensures end { result ≡ Got.End → IfSome (⟦<MemLink as Source>⟧.input self.old).bytes (λ rest. rest ≡ []) }
+        ensures failed { result ≡ Got.Failed → Rose (⟦<MemLink as Source>⟧.input self.old).faults (⟦<MemLink as Source>⟧.input self.new).faults }
+        ensures faults { (⟦<MemLink as Source>⟧.input self.old).faults ≤ (⟦<MemLink as Source>⟧.input self.new).faults }
+        ensures beside { ⟦<MemLink as Source>⟧.beside_input self.new ≡ ⟦<MemLink as Source>⟧.beside_input self.old }
+
+        // What the plan says.
+        ensures planned { (result ≡ Got.Failed) ↔ Fails (read_plan self.old) }
+        ensures piece { IfBytes result (λ n. IfSome (⟦<MemLink as Source>⟧.input self.old).bytes
+            (λ rest. n ≡ min (min (length rest) (length buf.old)) (read_plan self.old).size)) }
+        ensures calls { read_plan self.new ≡ after_call (read_plan self.old) }
+        ensures writes { write_plan self.new ≡ write_plan self.old }
+    {
         self.source.read(buf)
     }
 }
 
 impl Sink for MemLink {
+    ghost use Rattle.agent_ports.specs.Plans.{Fails, after_call};
+    ghost use Rattle.agent_ports.specs.MemPlans.{read_plan, write_plan};
+
     ghost output = { λ l. ⟦<MemSink as Sink>⟧.output l.sink };
 
     ghost beside_output = { λ l. ⟦<MemSource as Source>⟧.input l.source };
 
-    fn put(&mut self, bytes: &[u8]) -> Sent {
+    fn put(&mut self, bytes: &[u8]) -> Sent
+        ensures cut { IfCut result (λ sent. sent ≤ length bytes.now) }
+        ensures written { (⟦<MemLink as Sink>⟧.output self.new).bytes ≡ with_bytes (⟦<MemLink as Sink>⟧.output self.old).bytes (sent_part bytes.now result) }
+        ensures failed { IsCut result → Rose (⟦<MemLink as Sink>⟧.output self.old).faults (⟦<MemLink as Sink>⟧.output self.new).faults }
+        ensures faults { (⟦<MemLink as Sink>⟧.output self.old).faults ≤ (⟦<MemLink as Sink>⟧.output self.new).faults }
+        ensures beside { ⟦<MemLink as Sink>⟧.beside_output self.new ≡ ⟦<MemLink as Sink>⟧.beside_output self.old }
+
+        // What the plan says, but where memory is wanted.
+        ensures planned { Fails (write_plan self.old) → IsCut result }
+        ensures kept { IfCut result (λ sent. (sent ≡ 0) ⊎ (Fails (write_plan self.old)
+            × (sent ≡ min (write_plan self.old).size (length bytes.now)))) }
+        ensures calls { write_plan self.new ≡ after_call (write_plan self.old) }
+        ensures reads { read_plan self.new ≡ read_plan self.old }
+    {
         self.sink.put(bytes)
     }
 }
