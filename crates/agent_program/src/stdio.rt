@@ -1,5 +1,6 @@
-ghost use Rattle.std.specs.Prelude.{◌≤◌, length, IfSome, None, refl};
-ghost use Rattle.agent_ports.specs.Sides.{Side};
+ghost use Rattle.std.specs.Prelude.{◌≡◌, ◌≤◌, ◌<◌, length, take, IfSome, IfNone, None, refl};
+ghost use Rattle.std.specs.Io.KnownBytes.{Keeps, Appends, Consumes, IsAtEnd};
+ghost use Rattle.agent_ports.specs.Sides.{Side, sent_part, IfCut};
 
 use agent_ports::{Got, Link, Sent, Sink, Source};
 use std::io::{ErrorKind, Read, Write};
@@ -55,12 +56,11 @@ impl<R: Read, W: Write> Sink for StdLink<R, W> {
     ghost beside_output = { λ l. record { bytes = None; faults = l.read_faults } };
 
     fn put(&mut self, bytes: &[u8]) -> Sent {
-        let sent = write_some(&mut self.writer, bytes);
-        if sent == bytes.len() && self.writer.flush().is_ok() {
-            return Sent::All;
+        let sent = write_and_flush(&mut self.writer, bytes);
+        if sent != Sent::All {
+            self.write_faults = self.write_faults.saturating_add(1);
         }
-        self.write_faults = self.write_faults.saturating_add(1);
-        Sent::Failed { sent }
+        sent
     }
 }
 
@@ -70,9 +70,13 @@ impl<R: Read, W: Write> Link for StdLink<R, W> {
     ghost input_beside = { λ _. refl };
 }
 
-/// Reads once, and again where a signal came in between. None: the read failed.
+/// Reads once, and again where a signal came in between. `None`: the read failed.
 fn read_some<R: Read>(reader: &mut R, buf: &mut [u8]) -> Option<usize>
-    ensures { IfSome result (λ count. count ≤ length buf.new) }
+    ensures within { IfSome result (λ count. count ≤ length buf.new) }
+    // What it took from the reader is what it gives, and nothing only at the end.
+    ensures read { IfSome result (λ count. Consumes (R.remaining reader.old) (R.remaining reader.new) (take count buf.new)
+        × (count ≡ 0 → 0 < length buf.new → IsAtEnd (R.remaining reader.new))) }
+    ensures failed { IfNone result (Keeps (R.remaining reader.old) (R.remaining reader.new)) }
 {
     for _ in 0..u64::MAX {
         match reader.read(buf) {
@@ -84,9 +88,22 @@ fn read_some<R: Read>(reader: &mut R, buf: &mut [u8]) -> Option<usize>
     None
 }
 
+/// Writes the bytes, and flushes the writer where it took them all.
+fn write_and_flush<W: Write>(writer: &mut W, bytes: &[u8]) -> Sent
+    ensures cut { IfCut result (λ sent. sent ≤ length bytes.now) }
+    ensures written { Appends (W.contents writer.old) (W.contents writer.new) (sent_part bytes.now result) }
+{
+    let sent = write_some(writer, bytes);
+    if sent == bytes.len() && writer.flush().is_ok() {
+        return Sent::All;
+    }
+    Sent::Failed { sent }
+}
+
 /// Writes as many of the bytes as the writer takes, and says how many that were.
 fn write_some<W: Write>(writer: &mut W, bytes: &[u8]) -> usize
-    ensures { result ≤ length bytes.now }
+    ensures within { result ≤ length bytes.now }
+    ensures written { Appends (W.contents writer.old) (W.contents writer.new) (take result bytes.now) }
 {
     let mut sent = 0;
     for _ in 0..u64::MAX {
@@ -101,4 +118,55 @@ fn write_some<W: Write>(writer: &mut W, bytes: &[u8]) -> usize
         }
     }
     sent
+}
+
+#[cfg(test)]
+mod tests {
+    use super::*;
+    use std::io;
+    use std::test::Fail;
+
+    /// Takes one byte a call, and counts its flushes.
+    #[derive(Drop)]
+    struct OneByteWriter {
+        bytes: Vec<u8>,
+        flushes: u32,
+    }
+
+    impl Write for OneByteWriter {
+        fn write(&mut self, buf: &[u8]) -> io::Result<usize> {
+            match buf.first() {
+                Some(byte) => {
+                    self.bytes.push(*byte)?;
+                    Ok(1)
+                }
+                None => Ok(0),
+            }
+        }
+
+        fn flush(&mut self) -> io::Result<()> {
+            self.flushes = self.flushes.saturating_add(1);
+            Ok(())
+        }
+    }
+
+    #[test]
+    fn a_write_goes_whole_and_is_flushed(rt: HostRuntime) -> Result<(), Fail> {
+        let writer = OneByteWriter {
+            bytes: Vec::new(rt.alloc()),
+            flushes: 0,
+        };
+        let mut link = StdLink::new(b"abc".as_slice(), writer);
+        assert_eq!(rt; link.put(b"hello\n"), Sent::All);
+        assert_eq!(rt; link.put(b""), Sent::All);
+        assert_eq!(rt; link.writer.bytes.as_slice(), b"hello\n".as_slice());
+        assert_eq!(rt; link.writer.flushes, 2);
+        let mut buf = [0u8; 2];
+        assert_eq!(rt; link.read(&mut buf), Got::Bytes(2));
+        assert_eq!(rt; buf, *b"ab");
+        assert_eq!(rt; link.read(&mut buf), Got::Bytes(1));
+        assert_eq!(rt; link.read(&mut buf), Got::End);
+        assert_eq!(rt; link.read(&mut buf), Got::End);
+        Ok(())
+    }
 }
