@@ -1,14 +1,21 @@
-use Rattle.std.proofs.Common.{◌≡◌, refl, sym, arith}
-use Rattle.aes_block.proofs.Words.{round_key-zero, keys_written}
+use Rattle.std.proofs.Common.{◌≡◌, ◌-◌, ◌∙◌, refl, sym, arith}
+use Rattle.aes_block.specs.Aes.{round_key}
+use Rattle.aes_block.proofs.Words.{round_key-zero}
+use Rattle.aes_block.proofs.WordBytes.{written_more}
 use Rattle.aes_block.proofs.schedule.round_keys.Goals as goal
 
 pub loop-round-init : goal.loop-round-init
-loop-round-init c = (
-  refl,
-  λ k lt.
+loop-round-init c = record {
+  len = refl;
+  done = λ k lt.
       let e : k ≡ 0 = omega arith in
-      rw e (sym (round_key-zero c.args.key.now c.told-key)),
-)
+      rw e (c.state_of-keys.ensures ∙ sym (round_key-zero c.args.key.now c.told-key));
+}
+
+pub loop-round-preserved : goal.loop-round-preserved
+loop-round-preserved c =
+    written_more (round_key c.args.key.now) 11 c.loop-round.keys _ c.loop-round.round (omega arith) c.loop-round.invariant
+    (c.next_round_key.ensures c.args.key.now c.told-key (c.loop-round.invariant.done (c.loop-round.round - 1) (omega arith)))
 
 pub returns : goal.returns
-returns c = keys_written c.args.key.now c.loop-round.keys c.loop-round.invariant.0 (λ k lt. c.loop-round.invariant.1 k (omega arith))
+returns c r lt = c.loop-round.invariant.done r (omega arith)
