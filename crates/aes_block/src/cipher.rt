@@ -1,4 +1,4 @@
-ghost use Rattle.std.specs.Prelude.{◌≡◌, ℕ, ◌+◌, ◌<◌, List, map, slice_index_or, []};
+ghost use Rattle.std.specs.Prelude.{◌≡◌, ℕ, ◌+◌, ◌<◌, List, map, replicate, slice_index_or, []};
 ghost use Rattle.std.specs.List.{range_with_len};
 ghost use Rattle.aes_block.specs.Columns.{bytes_of};
 ghost use Rattle.aes_block.specs.Aes.{IsBytes, inv_mix_columns, round_key, encrypted, decrypted};
@@ -10,7 +10,8 @@ use std::{fmt, hint};
 
 /// A key of 128 bits, expanded once for any number of blocks. A contract sees its 16 bytes.
 ///
-/// The expanded key is overwritten when it is dropped.
+/// A move leaves the expanded key where it was, as in Rust, and `drop` is given its value by a move: `clear` overwrites it where
+/// it lies. What the compiler keeps of it in registers while it works isn't overwritten.
 pub struct Aes128 {
     round_keys: [[u32; 4]; 11],
 
@@ -34,11 +35,23 @@ impl Aes128 {
     pub fn new(key: &[u8; 16]) -> Aes128
         ensures { result ≡ key.now }
     {
-        let round_keys = round_keys(key);
-        Aes128 {
+        let mut round_keys = round_keys(key);
+        let mut unmixed_keys = unmixed_keys(&round_keys);
+        let cipher = Aes128 {
             round_keys,
-            unmixed_keys: unmixed_keys(&round_keys),
-        }
+            unmixed_keys,
+        };
+        wipe(&mut round_keys, &mut unmixed_keys);
+        cipher
+    }
+
+    /// Overwrites the expanded key where it lies, by that of a key of zeros.
+    #[inline(never)]
+    pub fn clear(&mut self)
+        ensures { self.new ≡ replicate 16 0 }
+    {
+        *self = Aes128::new(&[0; 16]);
+        hint::spin_loop();
     }
 
     /// The encryption of one block (FIPS 197, 5.1).

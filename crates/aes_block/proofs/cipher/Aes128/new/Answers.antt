@@ -6,11 +6,11 @@ use Rattle.aes_block.proofs.cipher.Aes128.new.Goals as goal
 pub returns : goal.returns
 returns c = c.round_keys-round_keys.ensures 0 (lit< tt) ∙ round_key-zero c.args.key.now c.told-key
 
-pub invariant_of-result : goal.invariant_of-result
-invariant_of-result c =
-    let e = returns c in
+pub invariant_of-cipher : goal.invariant_of-cipher
+invariant_of-cipher c =
+    let e = c.round_keys-round_keys.ensures 0 (lit< tt) ∙ round_key-zero c.args.key.now c.told-key in
     rw e (
       record { len = c.told-key; small = c.fits-key },
       c.round_keys-round_keys.ensures,
-      λ r lt. c.unmixed_keys.ensures r lt ∙ ap inv_mix_columns (c.round_keys-round_keys.ensures (r + 1) (omega arith)),
+      λ r lt. c.unmixed_keys-unmixed_keys.ensures r lt ∙ ap inv_mix_columns (c.round_keys-round_keys.ensures (r + 1) (omega arith)),
     )
