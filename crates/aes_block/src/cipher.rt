@@ -3,7 +3,7 @@ ghost use Rattle.std.specs.List.{range_with_len};
 ghost use Rattle.aes_block.specs.Columns.{bytes_of};
 ghost use Rattle.aes_block.specs.Aes.{IsBytes, inv_mix_columns, round_key, encrypted, decrypted};
 
-use crate::schedule::{round_keys, unmixed_keys};
+use crate::schedule::{write_round_keys, write_unmixed_keys};
 use crate::state::{add, block_of, mix, shift_and_restore, state_of, substitute_and_shift, unmix};
 use std::marker::Model;
 use std::{fmt, hint};
@@ -35,8 +35,10 @@ impl Aes128 {
     pub fn new(key: &[u8; 16]) -> Aes128
         ensures { result ≡ key.now }
     {
-        let mut round_keys = round_keys(key);
-        let mut unmixed_keys = unmixed_keys(&round_keys);
+        let mut round_keys = [[0; 4]; 11];
+        write_round_keys(key, &mut round_keys);
+        let mut unmixed_keys = [[0; 4]; 9];
+        write_unmixed_keys(&round_keys, &mut unmixed_keys);
         let cipher = Aes128 {
             round_keys,
             unmixed_keys,

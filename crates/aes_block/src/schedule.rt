@@ -32,24 +32,22 @@ fn next_round_key(previous: &[u32; 4], round: usize) -> [u32; 4]
     [a, b, c, d]
 }
 
-pub(crate) fn round_keys(key: &[u8; 16]) -> [[u32; 4]; 11]
-    ensures { (r : ℕ) → r < 11 → bytes_of (slice_index_or result r []) ≡ round_key key.now r }
+/// Writes the keys of rounds 0 to 10.
+pub(crate) fn write_round_keys(key: &[u8; 16], keys: &mut [[u32; 4]; 11])
+    ensures { (r : ℕ) → r < 11 → bytes_of (slice_index_or keys.new r []) ≡ round_key key.now r }
 {
-    let mut keys = [state_of(key); 11];
+    keys[0] = state_of(key);
     for round in 1..11 {
         keys[round] = next_round_key(&keys[round - 1], round);
     }
-    keys
 }
 
-/// The keys of rounds 1 to 9, each by the inverse of MixColumns.
-pub(crate) fn unmixed_keys(round_keys: &[[u32; 4]; 11]) -> [[u32; 4]; 9]
+/// Writes the keys of rounds 1 to 9, each by the inverse of MixColumns.
+pub(crate) fn write_unmixed_keys(round_keys: &[[u32; 4]; 11], keys: &mut [[u32; 4]; 9])
     ensures { (r : ℕ) → r < 9
-        → bytes_of (slice_index_or result r []) ≡ inv_mix_columns (bytes_of (slice_index_or round_keys.now (r + 1) [])) }
+        → bytes_of (slice_index_or keys.new r []) ≡ inv_mix_columns (bytes_of (slice_index_or round_keys.now (r + 1) [])) }
 {
-    let mut keys = [[0; 4]; 9];
     for round in 0..9 {
         keys[round] = unmix_columns(&round_keys[round + 1]);
     }
-    keys
 }

@@ -1,11 +1,11 @@
-use Rattle.std.proofs.Common.{refl, arith, ◌+◌, get_or, []}
+use Rattle.std.proofs.Common.{arith, ◌+◌, get_or, []}
 use Rattle.aes_block.specs.Columns.{bytes_of}
 use Rattle.aes_block.specs.Aes.{inv_mix_columns}
 use Rattle.aes_block.proofs.WordBytes.{written_more}
-use Rattle.aes_block.proofs.schedule.unmixed_keys.Goals as goal
+use Rattle.aes_block.proofs.schedule.write_unmixed_keys.Goals as goal
 
 pub loop-round-init : goal.loop-round-init
-loop-round-init c = record { len = refl; done = λ k lt. absurd (omega arith) }
+loop-round-init c = record { len = c.told-keys; done = λ k lt. absurd (omega arith) }
 
 pub loop-round-preserved : goal.loop-round-preserved
 loop-round-preserved c =
