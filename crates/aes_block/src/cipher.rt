@@ -11,7 +11,7 @@ use std::{fmt, hint};
 /// A key of 128 bits, expanded once for any number of blocks. A contract sees its 16 bytes.
 ///
 /// A move leaves the expanded key where it was, as in Rust, and `drop` is given its value by a move: `clear` overwrites it where
-/// it lies. What the compiler keeps of it in registers while it works isn't overwritten.
+/// it lies. What the compiler keeps of it in other places while it works isn't overwritten.
 pub struct Aes128 {
     round_keys: [[u32; 4]; 11],
 
@@ -32,6 +32,7 @@ impl Model for Aes128 {
 
 impl Aes128 {
     /// Expands a key.
+    #[inline(never)]
     pub fn new(key: &[u8; 16]) -> Aes128
         ensures { result ≡ key.now }
     {
@@ -48,11 +49,20 @@ impl Aes128 {
     }
 
     /// Overwrites the expanded key where it lies, by that of a key of zeros.
-    #[inline(never)]
+    // Inlined, so that the frame of this `new` lies where that of the first lay, and overwrites what it left.
+    #[inline(always)]
     pub fn clear(&mut self)
         ensures { self.new ≡ replicate 16 0 }
     {
-        *self = Aes128::new(&[0; 16]);
+        self.replace(Aes128::new(&[0; 16]));
+    }
+
+    // A call that stays, for the reason that stands at `wipe`.
+    #[inline(never)]
+    fn replace(&mut self, other: Aes128)
+        ensures { self.new ≡ other }
+    {
+        *self = other;
         hint::spin_loop();
     }
 
