@@ -1,5 +1,5 @@
 -- MixColumns and its inverse undo each other: both are linear, so it is enough to look at one byte.
-use Rattle.std.proofs.Common.{◌≡◌, ℕ, ◌<◌, List, [], ◌∷◌, length, slice_index, refl, ap₂, ◌∙◌, sym}
+use Rattle.std.proofs.Common.{◌≡◌, ℕ, ◌+◌, ◌<◌, List, [], ◌∷◌, ◌++◌, length, slice_index, refl, ap₂, ◌∙◌, sym}
 use Rattle.std.specs.Prelude.{bit_xor}
 use Rattle.aes_block.specs.Field.{product}
 use Rattle.aes_block.specs.Aes.{xor_of, dot, mix_column, inv_mix_column, mix_columns, inv_mix_columns}
@@ -50,6 +50,27 @@ inv_mix_columns-mix_columns s h small =
       inv_mix_column-mix_column (slice_index s 12) (slice_index s 13) (slice_index s 14) (slice_index s 15) (small 12) (small 13) (small 14) (small 15),
     )
     (sym (literal 16 s h))
+
+abbrev column_of : (ℕ → ℕ) → ℕ → List ℕ
+column_of x i = inv_mix_column (x i) (x (i + 1)) (x (i + 2)) (x (i + 3))
+
+split : (x y : ℕ → ℕ)
+    → xor_of (column_of x 0) (column_of y 0) ++ xor_of (column_of x 4) (column_of y 4)
+    ++ xor_of (column_of x 8) (column_of y 8) ++ xor_of (column_of x 12) (column_of y 12)
+    ≡ xor_of (column_of x 0 ++ column_of x 4 ++ column_of x 8 ++ column_of x 12)
+    (column_of y 0 ++ column_of y 4 ++ column_of y 8 ++ column_of y 12)
+unfolding inv_mix_column
+split x y = refl
+
+-- the same of whole states
+pub inv_mix_columns-xor : (s k : List ℕ) → length s ≡ 16 → length k ≡ 16
+    → inv_mix_columns (xor_of s k) ≡ xor_of (inv_mix_columns s) (inv_mix_columns k)
+unfolding inv_mix_columns
+inv_mix_columns-xor s k hs hk =
+    let x = slice_index s in
+    let y = slice_index k in
+    let column = λ (a b c d : ℕ). inv_mix_column-xor (x a) (x b) (x c) (x d) (y a) (y b) (y c) (y d) in
+    rw (literal 16 s hs) (rw (literal 16 k hk) (rw (column 0 1 2 3, column 4 5 6 7, column 8 9 10 11, column 12 13 14 15) (split x y)))
 
 -- ---- and the other way round
 

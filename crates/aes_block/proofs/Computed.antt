@@ -5,7 +5,7 @@ use Rattle.std.proofs.lemmas.List.FromFn.{get_or-map-range_with_len}
 use Rattle.std.specs.List.{range_with_len}
 use Rattle.aes_block.specs.Field.{product, product_below, remainder, power, inverse, from_bits, sub_byte, inv_sub_byte, substitutes}
 use Rattle.aes_block.specs.Aes.{mix_column, inv_mix_column}
-use Rattle.aes_block.specs.declared.tables.TheConstants.{SUBSTITUTES, ORIGINALS, DOUBLES, ROUND_CONSTANTS}
+use Rattle.aes_block.specs.declared.tables.TheConstants.{SUBSTITUTES, ORIGINALS, ROUND_CONSTANTS}
 
 pub substitutes_are : substitutes ≡ SUBSTITUTES
 unfolding substitutes product product_below remainder power inverse from_bits sub_byte
@@ -34,14 +34,6 @@ original_is b h =
     ∙ get_or-map-range_with_len (place_in SUBSTITUTES) 0 256 b b 0 h (omega arith)
     ∙ sym (inv_sub_byte_is b)
 
-doubles_in : map (product 2) (range_with_len 0 256) ≡ DOUBLES
-unfolding product product_below remainder
-doubles_in = refl
-
-pub double_is : (b : ℕ) → b < 256 → slice_index DOUBLES b ≡ product 2 b
-double_is b h =
-    ap (λ t. slice_index t b) (sym doubles_in) ∙ get_or-map-range_with_len (product 2) 0 256 b b 0 h (omega arith)
-
 -- ---- products with small constants, and the round constants
 
 -- two functions that agree on the list of all bytes
@@ -58,28 +50,6 @@ product_1 = on_bytes (product 1) (λ b. b) refl
 pub product_3 : (b : ℕ) → b < 256 → product 3 b ≡ bit_xor (product 2 b) b
 unfolding product product_below remainder
 product_3 = on_bytes (product 3) (λ b. bit_xor (product 2 b) b) refl
-
-abbrev by_4 : ℕ → ℕ
-by_4 b = product 2 (product 2 b)
-
-abbrev by_8 : ℕ → ℕ
-by_8 b = product 2 (by_4 b)
-
-pub product_9 : (b : ℕ) → b < 256 → product 9 b ≡ bit_xor (by_8 b) b
-unfolding product product_below remainder
-product_9 = on_bytes (product 9) (λ b. bit_xor (by_8 b) b) refl
-
-pub product_11 : (b : ℕ) → b < 256 → product 11 b ≡ bit_xor (bit_xor (by_8 b) (product 2 b)) b
-unfolding product product_below remainder
-product_11 = on_bytes (product 11) (λ b. bit_xor (bit_xor (by_8 b) (product 2 b)) b) refl
-
-pub product_13 : (b : ℕ) → b < 256 → product 13 b ≡ bit_xor (bit_xor (by_8 b) (by_4 b)) b
-unfolding product product_below remainder
-product_13 = on_bytes (product 13) (λ b. bit_xor (bit_xor (by_8 b) (by_4 b)) b) refl
-
-pub product_14 : (b : ℕ) → b < 256 → product 14 b ≡ bit_xor (bit_xor (by_8 b) (by_4 b)) (product 2 b)
-unfolding product product_below remainder
-product_14 = on_bytes (product 14) (λ b. bit_xor (bit_xor (by_8 b) (by_4 b)) (product 2 b)) refl
 
 round_constants_in : map (power 2) (range_with_len 0 10) ≡ ROUND_CONSTANTS
 unfolding power product product_below remainder
@@ -146,16 +116,16 @@ pub sub_byte-lt : (b : ℕ) → b < 256 → sub_byte b < 256
 sub_byte-lt b h = reduced_lt (sub_byte b) (slice_index SUBSTITUTES b)
     (on_bytes (λ b. slice_index SUBSTITUTES b % 256) (slice_index SUBSTITUTES) refl b h ∙ substitute_is b h)
 
-pub product_2-lt : (b : ℕ) → b < 256 → product 2 b < 256
-product_2-lt b h = reduced_lt (product 2 b) (slice_index DOUBLES b)
-    (on_bytes (λ b. slice_index DOUBLES b % 256) (slice_index DOUBLES) refl b h ∙ double_is b h)
-
 pub inv_sub_byte-lt : (b : ℕ) → b < 256 → inv_sub_byte b < 256
 inv_sub_byte-lt b h = reduced_lt (inv_sub_byte b) (slice_index ORIGINALS b)
     (on_bytes (λ b. slice_index ORIGINALS b % 256) (slice_index ORIGINALS) refl b h ∙ original_is b h)
 
 product_lt : (a : ℕ) → map (λ b. product a b % 256) (range_with_len 0 256) ≡ map (product a) (range_with_len 0 256) → (b : ℕ) → b < 256 → product a b < 256
 product_lt a e b h = reduced_lt (product a b) (product a b) (on_bytes (λ b. product a b % 256) (product a) e b h)
+
+pub product_2-lt : (b : ℕ) → b < 256 → product 2 b < 256
+unfolding product product_below remainder
+product_2-lt = product_lt 2 refl
 
 pub product_9-lt : (b : ℕ) → b < 256 → product 9 b < 256
 unfolding product product_below remainder

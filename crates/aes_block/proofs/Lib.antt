@@ -1,6 +1,9 @@
 pub mod Computed
+pub mod MixedWords
+pub mod UnmixedWords
 pub mod Lists
 pub mod XorLemmas
+pub mod WordBytes
 pub mod Products
 pub mod Words
 pub mod Rounds

@@ -1,7 +1,5 @@
 -- The words of the key schedule, and the keys of the rounds.
-use Rattle.std.proofs.Common.{◌≡◌, ℕ, zero, suc, ◌+◌, ◌-◌, ◌*◌, ◌/◌, ◌%◌, ◌<◌, ◌≤◌, List, [], ◌∷◌, ◌++◌, length, slice_index, drop, refl, ap, ◌∙◌, sym, subst, arith, Bool, true, false, get_or, map, length-take, length-drop}
-use Rattle.std.specs.List.{range_with_len}
-use Rattle.std.proofs.lemmas.List.FromFn.{fill_by_all}
+use Rattle.std.proofs.Common.{◌≡◌, ℕ, zero, suc, ◌+◌, ◌-◌, ◌*◌, ◌/◌, ◌%◌, ◌≤◌, List, [], ◌∷◌, ◌++◌, length, slice_index, drop, refl, ap, ◌∙◌, sym, subst, arith, Bool, true, false, length-take, length-drop}
 use Rattle.std.proofs.lemmas.Bool.{ne_eqb}
 use Rattle.std.specs.Prelude.{◌==◌, if◌then◌else◌}
 use Rattle.aes_block.specs.Aes.{xor_of, turned_word, added_word, word, round_key}
@@ -91,8 +89,3 @@ round_key_from key p (suc n) h low e =
     (length-word key h (4 * n)) (length-word key h (4 * n + 1)) (length-word key h (4 * n + 2)) (length-word key h (4 * n + 3)) in
     let m : suc n - 1 ≡ n = omega arith in
     rw (e ∙ ap (round_key key) m) (rw (q.0, q.1, q.2, q.3) (round_key-suc key n))
-
--- the keys of all rounds, from the key of each
-pub keys_written : (key : List ℕ) (keys : List (List ℕ)) → length keys ≡ 11
-    → ((k : ℕ) → k < 11 → get_or keys k [] ≡ round_key key k) → keys ≡ map (round_key key) (range_with_len 0 11)
-keys_written key keys h each = fill_by_all (round_key key) keys 11 [] h each

@@ -8,11 +8,13 @@ ghost use Rattle.aes_block.specs.Aes.{xor_of};
 
 mod cipher;
 mod laws;
+mod mixed;
 mod schedule;
 mod state;
 mod tables;
 #[cfg(test)]
 mod tests;
+mod unmixed;
 
 pub use cipher::Aes128;
 pub use laws::decryption_undoes_encryption;

@@ -1,49 +1,53 @@
 //! The key schedule (FIPS 197, 5.2).
 
-ghost use Rattle.std.specs.Prelude.{◌≡◌, ℕ, ◌-◌, ◌<◌, ◌≤◌, List, length, map};
-ghost use Rattle.std.specs.List.{range_with_len};
-ghost use Rattle.aes_block.specs.Aes.{turned_word, round_key};
+ghost use Rattle.std.specs.Prelude.{◌≡◌, ℕ, ◌+◌, ◌-◌, ◌<◌, ◌≤◌, List, [], length, slice_index_or};
+ghost use Rattle.std.specs.Int.{w32, to_le_bytes};
+ghost use Rattle.aes_block.specs.Columns.{bytes_of};
+ghost use Rattle.aes_block.specs.Aes.{inv_mix_columns, turned_word, round_key};
 
-use crate::state::joined;
-use crate::tables::{round_constant, substitute};
-use crate::xor;
+use crate::state::{state_of, substituted_word, unmix_columns};
+use crate::tables::round_constant;
 
 // The word turned left by one byte and substituted, with the constant of the round added.
-fn turned_word(word: &[u8; 4], round: usize) -> [u8; 4]
+fn turned_word(word: u32, round: usize) -> u32
     requires first { 1 ≤ round }
     requires last { round ≤ 10 }
-    ensures { result ≡ turned_word word.now round }
+    ensures { to_le_bytes w32 result ≡ turned_word (to_le_bytes w32 word) round }
 {
-    [
-        substitute(word[1]) ^ round_constant(round),
-        substitute(word[2]),
-        substitute(word[3]),
-        substitute(word[0]),
-    ]
+    let [a, b, c, d] = word.to_le_bytes();
+    substituted_word(b, c, d, a) ^ u32::from(round_constant(round))
 }
 
 // The key of a round from the key of the round before.
-fn next_round_key(previous: &[u8; 16], round: usize) -> [u8; 16]
+fn next_round_key(previous: &[u32; 4], round: usize) -> [u32; 4]
     requires first { 1 ≤ round }
     requires last { round ≤ 10 }
-    ensures { (key : List ℕ) → length key ≡ 16 → previous.now ≡ round_key key (round - 1)
-        → result ≡ round_key key round }
+    ensures { (key : List ℕ) → length key ≡ 16 → bytes_of previous.now ≡ round_key key (round - 1)
+        → bytes_of result ≡ round_key key round }
 {
-    let p = previous;
-    let turned = turned_word(&[p[12], p[13], p[14], p[15]], round);
-    let a = xor(&[p[0], p[1], p[2], p[3]], &turned);
-    let b = xor(&[p[4], p[5], p[6], p[7]], &a);
-    let c = xor(&[p[8], p[9], p[10], p[11]], &b);
-    let d = xor(&[p[12], p[13], p[14], p[15]], &c);
-    joined(&a, &b, &c, &d)
+    let a = previous[0] ^ turned_word(previous[3], round);
+    let b = previous[1] ^ a;
+    let c = previous[2] ^ b;
+    let d = previous[3] ^ c;
+    [a, b, c, d]
 }
 
-pub(crate) fn round_keys(key: &[u8; 16]) -> [[u8; 16]; 11]
-    ensures { result ≡ map (round_key key.now) (range_with_len 0 11) }
+/// Writes the keys of rounds 0 to 10.
+pub(crate) fn write_round_keys(key: &[u8; 16], keys: &mut [[u32; 4]; 11])
+    ensures { (r : ℕ) → r < 11 → bytes_of (slice_index_or keys.new r []) ≡ round_key key.now r }
 {
-    let mut keys = [*key; 11];
+    keys[0] = state_of(key);
     for round in 1..11 {
         keys[round] = next_round_key(&keys[round - 1], round);
     }
-    keys
+}
+
+/// Writes the keys of rounds 1 to 9, each by the inverse of MixColumns.
+pub(crate) fn write_unmixed_keys(round_keys: &[[u32; 4]; 11], keys: &mut [[u32; 4]; 9])
+    ensures { (r : ℕ) → r < 9
+        → bytes_of (slice_index_or keys.new r []) ≡ inv_mix_columns (bytes_of (slice_index_or round_keys.now (r + 1) [])) }
+{
+    for round in 0..9 {
+        keys[round] = unmix_columns(&round_keys[round + 1]);
+    }
 }

@@ -33,12 +33,19 @@ const EXAMPLES: [[[u8; 16]; 3]; 2] = [
     ],
 ];
 
+// AES-128 of a block of zeros under a key of zeros.
+const OF_ZEROS: [u8; 16] = [
+    0x66, 0xE9, 0x4B, 0xD4, 0xEF, 0x8A, 0x2C, 0x3B, 0x88, 0x4C, 0xFA, 0x59, 0xCA, 0x34, 0x2B, 0x2E,
+];
+
 #[test]
 fn known_blocks(rt: HostRuntime) {
     for [key, block, encrypted] in EXAMPLES {
-        let cipher = Aes128::new(&key);
+        let mut cipher = Aes128::new(&key);
         assert_eq!(rt; cipher.encrypt(&block).as_slice(), encrypted.as_slice());
         assert_eq!(rt; cipher.decrypt(&encrypted).as_slice(), block.as_slice());
+        cipher.clear();
+        assert_eq!(rt; cipher.encrypt(&[0; 16]).as_slice(), OF_ZEROS.as_slice());
     }
 }
 

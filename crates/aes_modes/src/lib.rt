@@ -18,13 +18,14 @@ pub fn cbc_encrypt(key: &[u8; 16], iv: &[u8; 16], bytes: &mut [u8])
     requires { length bytes.old % 16 ≡ 0 }
     ensures { bytes.new ≡ cbc_encrypted key.now iv.now bytes.old }
 {
-    let cipher = Aes128::new(key);
+    let mut cipher = Aes128::new(key);
     let mut previous = *iv;
     for i in 0..bytes.len() / BLOCK_LEN {
         let plain = block_at(bytes, BLOCK_LEN * i);
         previous = cipher.encrypt(&xor(&plain, &previous));
         put_block(bytes, BLOCK_LEN * i, &previous);
     }
+    cipher.clear();
 }
 
 /// Decrypts whole blocks under a key and an initialization vector.
@@ -36,7 +37,7 @@ pub fn cbc_decrypt(key: &[u8; 16], iv: &[u8; 16], bytes: &mut [u8])
     ensures undoes { (plain : List ℕ) → IsBytes (length bytes.old) plain
         → bytes.old ≡ cbc_encrypted key.now iv.now plain → bytes.new ≡ plain }
 {
-    let cipher = Aes128::new(key);
+    let mut cipher = Aes128::new(key);
     let mut previous = *iv;
     for i in 0..bytes.len() / BLOCK_LEN {
         let encrypted = block_at(bytes, BLOCK_LEN * i);
@@ -44,6 +45,7 @@ pub fn cbc_decrypt(key: &[u8; 16], iv: &[u8; 16], bytes: &mut [u8])
         put_block(bytes, BLOCK_LEN * i, &plain);
         previous = encrypted;
     }
+    cipher.clear();
 }
 
 fn block_at(bytes: &[u8], start: usize) -> [u8; 16]

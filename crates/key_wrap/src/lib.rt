@@ -57,10 +57,11 @@ pub fn wrap(alloc: Global, key: &[u8; 16], bytes: &[u8]) -> Result<Vec<u8>, Allo
     ensures wrapped { IfOk result (λ wrapped. wrapped.items ≡ wrapped_of key.now bytes.now) }
     ensures len { IfOk result (λ wrapped. length wrapped.items ≡ length bytes.now + 8) }
 {
-    let cipher = Aes128::new(key);
     let (blocks, _) = bytes.as_chunks::<8>();
     let mut blocks = Vec::from_slice(alloc, blocks)?;
+    let mut cipher = Aes128::new(key);
     let check = wrap_passes(&cipher, &mut blocks);
+    cipher.clear();
     joined_registers(alloc, &check, &blocks)
 }
 
@@ -118,11 +119,12 @@ fn unwrapped_registers(alloc: Global, key: &[u8; 16], bytes: &[u8]) -> Result<Un
         unwrapped_of key.now bytes.now ≡ record { check = registers.check; blocks = registers.blocks.items }) }
     ensures count { IfOk result (λ registers. length registers.blocks.items ≡ length bytes.now / 8 - 1) }
 {
-    let cipher = Aes128::new(key);
     let (blocks, _) = bytes.as_chunks::<8>();
     let first = blocks[0];
     let mut blocks = Vec::from_slice(alloc, &blocks[1..])?;
+    let mut cipher = Aes128::new(key);
     let check = unwrap_passes(&cipher, first, &mut blocks);
+    cipher.clear();
     Ok(Unwrapped { check, blocks })
 }
 

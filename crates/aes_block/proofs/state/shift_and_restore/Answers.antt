@@ -1,6 +1,14 @@
-use Rattle.aes_block.specs.Aes.{inv_shift_rows}
+use Rattle.std.proofs.Common.{ℕ, List, ap, ◌∙◌}
+use Rattle.aes_block.specs.Aes.{inv_sub_bytes, inv_shift_rows}
+use Rattle.aes_block.proofs.WordBytes.{four_words, state_bytes}
 use Rattle.aes_block.proofs.state.shift_and_restore.Goals as goal
 
 pub returns : goal.returns
 unfolding inv_shift_rows
-returns c = cc
+returns c =
+    four_words _ _ _ _ _ _ _ _
+    (rw (c.to_le_bytes.ensures, c.to_le_bytes-2.ensures, c.to_le_bytes-3.ensures, c.to_le_bytes-4.ensures) at c.restored_word.ensures)
+    (rw (c.to_le_bytes.ensures, c.to_le_bytes-2.ensures, c.to_le_bytes-3.ensures, c.to_le_bytes-4.ensures) at c.restored_word-2.ensures)
+    (rw (c.to_le_bytes.ensures, c.to_le_bytes-2.ensures, c.to_le_bytes-3.ensures, c.to_le_bytes-4.ensures) at c.restored_word-3.ensures)
+    (rw (c.to_le_bytes.ensures, c.to_le_bytes-2.ensures, c.to_le_bytes-3.ensures, c.to_le_bytes-4.ensures) at c.restored_word-4.ensures)
+    ∙ ap (λ (s : List ℕ). inv_sub_bytes (inv_shift_rows s)) (state_bytes c.args.state.now c.told-state)

@@ -1,11 +1,12 @@
-use Rattle.std.proofs.Common.{◌≡◌, ◌-◌, arith, lit<}
-use Rattle.aes_block.specs.Aes.{rounds, encrypted}
+use Rattle.std.proofs.Common.{◌≡◌, ◌-◌, ap₂, ◌∙◌, arith, lit<}
+use Rattle.aes_block.specs.Aes.{xor_of, rounds, encrypted}
 use Rattle.aes_block.proofs.Rounds.{key_at, rounds_more}
 use Rattle.aes_block.proofs.cipher.Aes128.encrypt.Goals as goal
 
 pub loop-round-init : goal.loop-round-init
 unfolding rounds
-loop-round-init c = cc (key_at c.self.inside.round_keys c.args.self.now 0 c.self.invariant.1 c.self.view_is (lit< tt))
+loop-round-init c =
+    c.add-state.ensures ∙ ap₂ xor_of c.state_of.ensures (key_at c.self.inside.round_keys c.args.self.now 0 c.self.invariant.1 c.self.view_is (lit< tt))
 
 pub loop-round-preserved : goal.loop-round-preserved
 loop-round-preserved c =

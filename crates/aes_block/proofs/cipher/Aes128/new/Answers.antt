@@ -1,11 +1,16 @@
-use Rattle.std.proofs.Common.{refl}
+use Rattle.std.proofs.Common.{◌+◌, ap, ◌∙◌, lit<, arith}
+use Rattle.aes_block.specs.Aes.{inv_mix_columns}
 use Rattle.aes_block.proofs.Words.{round_key-zero}
 use Rattle.aes_block.proofs.cipher.Aes128.new.Goals as goal
 
-pub invariant_of-result : goal.invariant_of-result
-invariant_of-result c =
-    let e = round_key-zero c.args.key.now c.told-key in
-    (rw (c.round_keys.ensures, e) (record { len = c.told-key; small = c.fits-key }), rw (c.round_keys.ensures, e, e) refl)
-
 pub returns : goal.returns
-returns c = rw c.round_keys.ensures (round_key-zero c.args.key.now c.told-key)
+returns c = c.write_round_keys.ensures 0 (lit< tt) ∙ round_key-zero c.args.key.now c.told-key
+
+pub invariant_of-cipher : goal.invariant_of-cipher
+invariant_of-cipher c =
+    let e = c.write_round_keys.ensures 0 (lit< tt) ∙ round_key-zero c.args.key.now c.told-key in
+    rw e (
+      record { len = c.told-key; small = c.fits-key },
+      c.write_round_keys.ensures,
+      λ r lt. c.write_unmixed_keys.ensures r lt ∙ ap inv_mix_columns (c.write_round_keys.ensures (r + 1) (omega arith)),
+    )

@@ -1,0 +1,14 @@
+use Rattle.std.proofs.Common.{ℕ, List, ap, ◌∙◌}
+use Rattle.aes_block.specs.Aes.{inv_sub_bytes, inv_shift_rows, inv_mix_column, inv_mix_columns}
+use Rattle.aes_block.proofs.WordBytes.{four_words, state_bytes}
+use Rattle.aes_block.proofs.state.unmix.Goals as goal
+
+pub returns : goal.returns
+unfolding inv_mix_columns inv_shift_rows inv_mix_column
+returns c =
+    four_words _ _ _ _ _ _ _ _
+    (rw (c.to_le_bytes.ensures, c.to_le_bytes-2.ensures, c.to_le_bytes-3.ensures, c.to_le_bytes-4.ensures) at c.unmixed_column.ensures)
+    (rw (c.to_le_bytes.ensures, c.to_le_bytes-2.ensures, c.to_le_bytes-3.ensures, c.to_le_bytes-4.ensures) at c.unmixed_column-2.ensures)
+    (rw (c.to_le_bytes.ensures, c.to_le_bytes-2.ensures, c.to_le_bytes-3.ensures, c.to_le_bytes-4.ensures) at c.unmixed_column-3.ensures)
+    (rw (c.to_le_bytes.ensures, c.to_le_bytes-2.ensures, c.to_le_bytes-3.ensures, c.to_le_bytes-4.ensures) at c.unmixed_column-4.ensures)
+    ∙ ap (λ (s : List ℕ). inv_mix_columns (inv_sub_bytes (inv_shift_rows s))) (state_bytes c.args.state.now c.told-state)
