@@ -5,7 +5,7 @@ use Rattle.std.specs.Result.{IsErr}
 use Rattle.std.proofs.lemmas.Bool.{false≢true}
 use Rattle.std.proofs.lemmas.List.Concat.{flat_map-append}
 use Rattle.agent_ports.specs.Sides.{Side, with_bytes}
-use Rattle.agent_ports.proofs.Told.{with_bytes-append}
+use Rattle.agent_ports.proofs.Known.{with_bytes-append}
 use Rattle.assuan_escape.specs.DataLines.{data_line, AreData, data_text}
 use Rattle.assuan_text.specs.LineEnds.{line_of}
 use Rattle.assuan_client.specs.Writing.{HasPut, IsCutOff}
