@@ -17,7 +17,9 @@ use Rattle.agent_top.specs.declared.reply.WriteFault.{WriteFault}
 use Rattle.agent_top.proofs.Doing.{done_none, done_then, done_wrote, done_stopped}
 
 -- nothing is written
-pub answered_silently : (rules : Rules) (before : Choices) (request : Request) (start : SessionState) (answer : Answer) (after : Choices) (now : SessionState) → CarriesOut rules before request start answer after now → answer.reply ≡ None → AnswersRequest rules before request start answer.went after now
+pub answered_silently : (rules : Rules) (before : Choices) (request : Request) (start : SessionState) (answer : Answer) (after : Choices) (now : SessionState)
+    → CarriesOut rules before request start answer after now → answer.reply ≡ None
+    → AnswersRequest rules before request start answer.went after now
 answered_silently rules before request start answer after now prepared none = record {
   events = prepared.events ++ [];
   exchange = prepared.exchange [] (rw none refl);

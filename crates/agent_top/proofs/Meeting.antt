@@ -60,7 +60,11 @@ met_cut rules start now clock why said =
     }
 
 -- and what followed it
-pub met : (rules : Rules) (start mid : Connection) (clock : Readings) (cache : Cache) (last : SessionState) (end : SessionEnd) → start.reader ≡ fresh → IsKept empty_cache cache → cache.limits ≡ limits_of rules → WritesText (line_of greeting) start (Ok tt) mid → ServesRequests rules (at_start rules.s2k_count rules.allow_loopback) (record { conn = mid; clock = clock; cache = cache }) end last → ServesConn rules start clock end last.conn last.clock
+pub met : (rules : Rules) (start mid : Connection) (clock : Readings) (cache : Cache) (last : SessionState) (end : SessionEnd)
+    → start.reader ≡ fresh → IsKept empty_cache cache → cache.limits ≡ limits_of rules
+    → WritesText (line_of greeting) start (Ok tt) mid
+    → ServesRequests rules (at_start rules.s2k_count rules.allow_loopback) (record { conn = mid; clock = clock; cache = cache }) end last
+    → ServesConn rules start clock end last.conn last.clock
 met rules start mid clock cache last end new kept limits said talked =
     let done = done_then (done_wrote (line_of greeting) start mid clock cache said) talked.done in
     let turned = done.turns empty_cache kept in

@@ -49,7 +49,11 @@ module _ (rules : Rules) (before : Choices) (request : Request) (start : Session
       })
 
 -- one turn of the cache is taken before the answer, and the session goes on
-pub prepared_turned : (rules : Rules) (before : Choices) (request : Request) (asked : MarkStep) (came : CacheAnswer) (start now : SessionState) (answer : Answer) (reply : Reply) → start.conn.reader.ended ≡ None → now.conn ≡ start.conn → answer.reply ≡ Some reply → answer.went ≡ On → EventsLead (CacheTurn asked came ∷ []) start now → ((text : List ℕ) → IsText reply text → Exchange rules before request (CacheTurn asked came ∷ Sent text ∷ []) before On) → CarriesOut rules before request start answer before now
+pub prepared_turned : (rules : Rules) (before : Choices) (request : Request) (asked : MarkStep) (came : CacheAnswer) (start now : SessionState) (answer : Answer) (reply : Reply)
+    → start.conn.reader.ended ≡ None → now.conn ≡ start.conn → answer.reply ≡ Some reply → answer.went ≡ On
+    → EventsLead (CacheTurn asked came ∷ []) start now
+    → ((text : List ℕ) → IsText reply text → Exchange rules before request (CacheTurn asked came ∷ Sent text ∷ []) before On)
+    → CarriesOut rules before request start answer before now
 prepared_turned rules before request asked came start now answer reply going same reply_is went_is done exchange =
     subst (λ a. CarriesOut rules before request start a before now) (sym (answer_is answer (Some reply) On reply_is went_is)) (record {
       events = CacheTurn asked came ∷ [];

@@ -19,7 +19,12 @@ use Rattle.agent_top.proofs.Preparing.{answer_is, replied}
 
 module _ (rules : Rules) (before : Choices) (allowed : rules.allow_preset ≡ true) (id : List ℕ) (start now : SessionState) where
   -- what the client brought was stored
-  pub stored_brought : (mid : SessionState) (secret : List ℕ) (came : CacheAnswer) (answer : Answer) (reply : Reply) → answer.reply ≡ Some reply → answer.went ≡ On → now.conn ≡ mid.conn → EventsLead (question ++ (Inquiry MAX_SECRET_LEN (Data secret) ∷ [])) start mid → ReaderAfter On start.conn.reader mid.conn.reader → EventsLead (CacheTurn (put id Endless secret) came ∷ []) mid now → ((text : List ℕ) → IsText reply text → Stores id Endless secret (CacheTurn (put id Endless secret) came ∷ Sent text ∷ [])) → CarriesOut rules before (Cache (PresetPassphrase id Endless None)) start answer before now
+  pub stored_brought : (mid : SessionState) (secret : List ℕ) (came : CacheAnswer) (answer : Answer) (reply : Reply)
+      → answer.reply ≡ Some reply → answer.went ≡ On → now.conn ≡ mid.conn
+      → EventsLead (question ++ (Inquiry MAX_SECRET_LEN (Data secret) ∷ [])) start mid
+      → ReaderAfter On start.conn.reader mid.conn.reader → EventsLead (CacheTurn (put id Endless secret) came ∷ []) mid now
+      → ((text : List ℕ) → IsText reply text → Stores id Endless secret (CacheTurn (put id Endless secret) came ∷ Sent text ∷ []))
+      → CarriesOut rules before (Cache (PresetPassphrase id Endless None)) start answer before now
   stored_brought mid secret came answer reply reply_is went_is same asked fits stored stores =
       subst (λ a. CarriesOut rules before (Cache (PresetPassphrase id Endless None)) start a before now) (sym (answer_is answer (Some reply) On reply_is went_is)) (record {
         events = question ++ (Inquiry MAX_SECRET_LEN (Data secret) ∷ CacheTurn (put id Endless secret) came ∷ []);

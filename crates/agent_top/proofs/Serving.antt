@@ -53,7 +53,11 @@ module _ (rules : Rules) (before : Choices) (start : SessionState) where
 
   module _ (now : SessionState) (choices : Choices) (serving : IsServing now choices) where
     -- the session's end, after these events more
-    finishes : (last : SessionState) (more : List Event) (end : SessionEnd) → EventsLead more now last → Talk rules choices more end → ((left : List ℕ) → Leaves end (unread last.conn.reader left) left) → (end ≡ ReadFault → Rose now.conn.input.faults last.conn.input.faults) → (end ≡ ends.WriteFault → Rose now.conn.output.faults last.conn.output.faults) → ServesRequests rules before start end last
+    finishes : (last : SessionState) (more : List Event) (end : SessionEnd) → EventsLead more now last
+        → Talk rules choices more end → ((left : List ℕ) → Leaves end (unread last.conn.reader left) left)
+        → (end ≡ ReadFault → Rose now.conn.input.faults last.conn.input.faults)
+        → (end ≡ ends.WriteFault → Rose now.conn.output.faults last.conn.output.faults)
+        → ServesRequests rules before start end last
     finishes last more end done talk leaves_so reads_fault writes_fault = record {
       events = serving.events ++ more;
       talk = serving.continues more end talk;

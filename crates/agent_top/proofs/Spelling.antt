@@ -73,7 +73,9 @@ spelled (word ∷ next ∷ words) =
     (λ _. alone_spells word (settings (next ∷ words)) (next ∷ words) (spelled (next ∷ words)))
 
 -- the row of a name that begins with a dash
-row_begins : (name : List ℕ) (row : List ℕ × Form) (rows : List (List ℕ × Form)) (form : Form) (same : Bool) → bytes_eq row.0 name ≡ same → cond same (Some row.1) (found name rows) ≡ Some form → begins_with_dash row.0 ≡ true → (found name rows ≡ Some form → begins_with_dash name ≡ true) → begins_with_dash name ≡ true
+row_begins : (name : List ℕ) (row : List ℕ × Form) (rows : List (List ℕ × Form)) (form : Form) (same : Bool)
+    → bytes_eq row.0 name ≡ same → cond same (Some row.1) (found name rows) ≡ Some form → begins_with_dash row.0 ≡ true
+    → (found name rows ≡ Some form → begins_with_dash name ≡ true) → begins_with_dash name ≡ true
 row_begins name row rows form true same is dash later =
     let names : row.0 ≡ name = (bytes_eq-Decides row.0 name).0 same in
     subst (λ (n : List ℕ). begins_with_dash n ≡ true) names dash

@@ -52,7 +52,9 @@ pub record IsBy (behind after : Tally) (t : Took) (answer : Answer) : Type 0 whe
   pub ended : ended_by t ≡ ended_of answer
   pub no_write : answer ≢ WriteFault
 
-answers_by : (tally behind after : Tally) (t : Took) (answer : Answer) → IsBy behind after t answer → (bytes left : List ℕ) (reader : Reader) → ReadsOn passes_behind (coded tally ∷ []) (IsBehind behind) bytes t reader left → Answers tally bytes t answer after reader left
+answers_by : (tally behind after : Tally) (t : Took) (answer : Answer) → IsBy behind after t answer
+    → (bytes left : List ℕ) (reader : Reader) → ReadsOn passes_behind (coded tally ∷ []) (IsBehind behind) bytes t reader left
+    → Answers tally bytes t answer after reader left
 answers_by tally behind after t answer by bytes left reader on =
     let lines = on.0 in
     let stops = stops_after tally lines t on.1.stops in
@@ -64,7 +66,10 @@ answers_by tally behind after t answer by bytes left reader on =
       asked = λ word text is. by.asked word text is ∙ ap with_inquiry same;
     }
 
-pub answered : (tally behind : Tally) (t : Took) (answer : Answer) (before after : Connection) → HasRead (ReadsOn passes_behind (coded tally ∷ []) (IsBehind behind)) before.reader before.input t after.reader after.input → IsBy behind after.tally t answer → after.output ≡ before.output → after.state ≡ state_after answer → (state_after answer ≢ state.Asked → after.tally ≡ nothing) → HasAnswered tally answer before after
+pub answered : (tally behind : Tally) (t : Took) (answer : Answer) (before after : Connection)
+    → HasRead (ReadsOn passes_behind (coded tally ∷ []) (IsBehind behind)) before.reader before.input t after.reader after.input
+    → IsBy behind after.tally t answer → after.output ≡ before.output → after.state ≡ state_after answer
+    → (state_after answer ≢ state.Asked → after.tally ≡ nothing) → HasAnswered tally answer before after
 answered tally behind t answer before after read by output stands cleared = record {
   took = t;
   read = read_so (λ bytes left on. answers_by tally behind after.tally t answer by bytes left after.reader on) read;
