@@ -3,10 +3,11 @@
 use Rattle.std.specs.Prelude.{◌≡◌, ◌==◌, ◌-◌, ◌≤◌, ℕ, false, List, [], length, map, take, get_or, slice_index, if◌then◌else◌}
 use Rattle.std.specs.List.{before_first, after_first, slice_split}
 use Rattle.assuan_text.specs.LineEnds.{is_lf, has_lf}
+use Rattle.assuan_text.specs.declared.TheConstants.{MAX_LINE_LEN}
 
 -- what can be a line: at most 1,000 bytes, none of them a line feed
 pub record IsLine (bytes : List ℕ) : Type 0 where
-  pub short : length bytes ≤ 1000
+  pub short : length bytes ≤ MAX_LINE_LEN
   pub whole : has_lf bytes ≡ false
 
 -- without the carriage return at the end, where there is one

@@ -2,8 +2,9 @@
 -- this project's own rule.
 use Rattle.std.specs.Prelude.{◌≡◌, ℕ, ◌+◌, ◌<◌, ◌≤◌, ◌⊎◌, List, [], ◌++◌, length, take, nat_le, Option, Some, None, if◌then◌else◌}
 use Rattle.assuan_text.specs.LineEnds.{has_lf}
+use Rattle.assuan_text.specs.declared.TheConstants.{MAX_LINE_LEN}
 use Rattle.assuan_line.specs.Lines.{first_line, after_line}
-use Rattle.assuan_line.specs.declared.buffer.TheConstants.{MAX_AHEAD}
+use Rattle.assuan_line.specs.declared.buffer.TheConstants.{MAX_AHEAD, MAX_UNDECIDED}
 use Rattle.assuan_line.specs.declared.reader.Took.{Took}
 use Rattle.assuan_line.specs.declared.reader.Took.TheVariants.{Line, TooLong, End, Spent, ReadFault}
 
@@ -11,9 +12,9 @@ use Rattle.assuan_line.specs.declared.reader.Took.TheVariants.{Line, TooLong, En
 -- long, where 1,002 bytes have no line feed, or the line is longer; the end in all other cases
 unfoldable pub next_of : List ℕ → Took
 next_of bytes =
-    if has_lf (take 1002 bytes)
-    then (if nat_le (length (first_line bytes)) 1000 then Line (first_line bytes) else TooLong)
-    else (if nat_le 1002 (length bytes) then TooLong else End)
+    if has_lf (take MAX_UNDECIDED bytes)
+    then (if nat_le (length (first_line bytes)) MAX_LINE_LEN then Line (first_line bytes) else TooLong)
+    else (if nat_le MAX_UNDECIDED (length bytes) then TooLong else End)
 
 -- a reader as contracts see it
 pub record Reader : Type 0 where

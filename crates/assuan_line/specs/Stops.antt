@@ -2,6 +2,7 @@
 use Rattle.std.specs.Prelude.{◌≡◌, ℕ, ◌+◌, ◌<◌, ◌≤◌, List, [], ◌++◌, length, nat_le, if◌then◌else◌, None, IfSome}
 use Rattle.agent_ports.specs.Counts.{Rose}
 use Rattle.agent_ports.specs.Sides.{Side, followed_by}
+use Rattle.assuan_text.specs.declared.TheConstants.{MAX_LINE_LEN}
 use Rattle.assuan_line.specs.Ahead.{bytes_ahead}
 use Rattle.assuan_line.specs.Lines.{after_line}
 use Rattle.assuan_line.specs.Next.{Reader, next_of, TakesWhatItNeeds}
@@ -19,7 +20,7 @@ took_of ReadFault = took.ReadFault
 
 -- the line, or that it is too long
 abbrev pub judged : List ℕ → Took
-judged line = if nat_le (length line) 1000 then took.Line line else took.TooLong
+judged line = if nat_le (length line) MAX_LINE_LEN then took.Line line else took.TooLong
 
 -- a reader that holds these bytes, may take so many more, and hasn't ended
 abbrev pub reader_at : Ahead → ℕ → Reader

@@ -5,6 +5,7 @@ ghost use Rattle.assuan_line.specs.Written.{HasSent};
 ghost use Rattle.assuan_text.specs.LineEnds.{line_of};
 
 use crate::line::LF;
+use crate::writer::MAX_WRITTEN_LEN;
 use agent_ports::{Sent, Sink};
 use wiping::Wiped;
 
@@ -15,7 +16,7 @@ pub fn write_text<K: Sink>(sink: &mut K, parts: &[&[u8]]) -> Sent
     ensures faults { (K.output sink.old).faults ≤ (K.output sink.new).faults }
     ensures beside { K.beside_output sink.new ≡ K.beside_output sink.old }
 {
-    let mut line: Wiped<1001> = Wiped::new();
+    let mut line: Wiped<MAX_WRITTEN_LEN> = Wiped::new();
     for part in parts {
         line.try_extend_from_slice(part).unwrap();
     }

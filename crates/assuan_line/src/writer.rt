@@ -7,6 +7,9 @@ use crate::line::LF;
 use agent_ports::{Sent, Sink};
 use wiping::Wiped;
 
+/// The most bytes that a line is written as: its own, and a line feed.
+pub(crate) const MAX_WRITTEN_LEN: usize = 1001;
+
 /// Writes the line and a line feed. Where the write fails, some first bytes of these went.
 pub fn write_line<K: Sink>(sink: &mut K, line: &Line) -> Sent
     ensures cut { IfCut result (λ sent. sent ≤ length line.now + 1) }
@@ -15,7 +18,7 @@ pub fn write_line<K: Sink>(sink: &mut K, line: &Line) -> Sent
     ensures faults { (K.output sink.old).faults ≤ (K.output sink.new).faults }
     ensures beside { K.beside_output sink.new ≡ K.beside_output sink.old }
 {
-    let mut text: Wiped<1001> = Wiped::new();
+    let mut text: Wiped<MAX_WRITTEN_LEN> = Wiped::new();
     text.try_extend_from_slice(line.bytes()).unwrap();
     text.push(LF);
     let sent = sink.put(text.bytes());
