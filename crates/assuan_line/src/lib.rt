@@ -1,6 +1,7 @@
 //! Lines of the Assuan protocol: read from bytes in whatever pieces they come, and written whole.
 #![tactic(auto)]
 
+mod breach;
 mod buffer;
 mod filter;
 mod line;
@@ -8,6 +9,7 @@ mod reader;
 mod text;
 mod writer;
 
+pub use breach::Breach;
 pub use buffer::MAX_AHEAD;
 pub use filter::{LineFilter, next_after_skipped};
 pub use line::Line;

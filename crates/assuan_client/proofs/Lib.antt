@@ -1,0 +1,5 @@
+mod Answering
+mod OnlyAnswer
+mod Passing
+mod Sending
+mod WorkedExamples

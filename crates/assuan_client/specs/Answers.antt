@@ -1,0 +1,83 @@
+-- The one answer to a command: what the child's lines up to the next end come to.
+use Rattle.std.specs.Prelude.{◌≡◌, ◌≢◌, ◌≤◌, ◌<◌, ◌+◌, ℕ, List, [], false, length, nat_le, ◌==◌, if◌then◌else◌, Option, Some, None}
+use Rattle.agent_ports.specs.Counts.{Rose}
+use Rattle.assuan_escape.specs.DataLines.{carried}
+use Rattle.assuan_line.specs.Next.{Reader}
+use Rattle.assuan_line.specs.Reading.{HasRead}
+use Rattle.assuan_line.specs.Skipping.{IsUndecided, ReadsAfter}
+use Rattle.assuan_line.specs.declared.breach.Breach.TheVariants as breach
+use Rattle.assuan_line.specs.declared.reader.Took.{Took}
+use Rattle.assuan_line.specs.declared.reader.Took.TheVariants as took
+use Rattle.assuan_client.specs.Connections.{Connection}
+use Rattle.assuan_client.specs.Forms as form
+use Rattle.assuan_client.specs.Forms.{form_of}
+use Rattle.assuan_client.specs.Passing.{Tally, nothing, with_lines, with_inquiry, passes, passes_after}
+use Rattle.assuan_client.specs.declared.answer.Answer.{Answer}
+use Rattle.assuan_client.specs.declared.answer.Answer.TheVariants.{Ok, Got, Err, Asked, Broken, ReadFault, WriteFault}
+use Rattle.assuan_client.specs.declared.answer.State.{State}
+use Rattle.assuan_client.specs.declared.answer.State.TheVariants as turn
+
+-- the answer by the line that isn't passed over, or by the end of the lines, where this came before it
+pub data Says (tally : Tally) : Took → Answer → Type 0 where
+  ok : {line : List ℕ} → form_of line ≡ form.Ok → length tally.bytes ≡ 0 → Says tally (took.Line line) Ok
+  got : {line : List ℕ} → form_of line ≡ form.Ok → 0 < length tally.bytes → Says tally (took.Line line) (Got tally.bytes)
+  err : {line : List ℕ} {number : ℕ} → form_of line ≡ form.Err number → Says tally (took.Line line) (Err number)
+  asked : {line word text : List ℕ} → form_of line ≡ form.Inquiry word text → tally.notes < 10000 → Says tally (took.Line line) (Asked word text)
+  -- it is the 10,001st comment, status line or inquiry
+  many_notes : {line : List ℕ} → form_of line ≡ form.Note → 10000 ≤ tally.notes → Says tally (took.Line line) (Broken breach.Many)
+  many_inquiries : {line word text : List ℕ} → form_of line ≡ form.Inquiry word text → 10000 ≤ tally.notes → Says tally (took.Line line) (Broken breach.Many)
+  -- it has the 256th byte
+  too_much : {line : List ℕ} → form_of line ≡ form.Data → 255 < length tally.bytes + length (carried line) → Says tally (took.Line line) (Broken breach.TooMuch)
+  foreign : {line : List ℕ} → form_of line ≡ form.Foreign → Says tally (took.Line line) (Broken (breach.Line line))
+  ended : Says tally took.End (Broken breach.Ended)
+  too_long : Says tally took.TooLong (Broken breach.TooLong)
+  spent : Says tally took.Spent (Broken breach.Spent)
+  read_fault : Says tally took.ReadFault ReadFault
+
+-- the answer by OK, and by an inquiry
+abbrev pub success_of : List ℕ → Answer
+success_of bytes = if length bytes == 0 then Ok else Got bytes
+
+abbrev pub inquiry_after : Tally → List ℕ → List ℕ → Answer
+inquiry_after tally word text = if nat_le (tally.notes + 1) 10000 then Asked word text else Broken breach.Many
+
+-- it is no line that is passed over
+abbrev pub IsStop : Tally → Took → Type 0
+IsStop tally (took.Line line) = passes tally (form_of line) (length (carried line)) ≡ false
+IsStop tally _ = Unit {0}
+
+-- an answer over these bytes, where this came before them in the command, with what has come then and how the reader stands
+pub record Answers (tally : Tally) (bytes : List ℕ) (took : Took) (answer : Answer) (after : Tally) (reader : Reader) (left : List ℕ) : Type 0 where
+  pub lines : List (List ℕ)
+  pub reads : ReadsAfter (passes_after tally) [] lines bytes took reader left
+  pub says : Says (with_lines tally lines) took answer
+  pub asked : (word text : List ℕ) → answer ≡ Asked word text → after ≡ with_inquiry (with_lines tally lines)
+
+-- how a connection stands after an answer
+abbrev pub state_after : Answer → State
+state_after Ok = turn.Ready
+state_after (Got secret) = turn.Ready
+state_after (Err number) = turn.Ready
+state_after (Asked word text) = turn.Asked
+state_after (Broken why) = turn.Broken
+state_after ReadFault = turn.Broken
+state_after WriteFault = turn.Broken
+
+-- how the reader has ended by an answer
+abbrev pub ended_of : Answer → Option Took
+ended_of (Broken breach.Ended) = Some took.End
+ended_of (Broken breach.TooLong) = Some took.TooLong
+ended_of (Broken breach.Spent) = Some took.Spent
+ended_of ReadFault = Some took.ReadFault
+ended_of _ = None
+
+-- Lines were read up to an answer, where this came before them in the command.
+pub record HasAnswered (tally : Tally) (answer : Answer) (before after : Connection) : Type 0 where
+  pub took : Took
+  pub read : HasRead (IsUndecided (passes_after tally) []) (λ bytes took reader left. Answers tally bytes took answer after.tally reader left) before.reader before.input took after.reader after.input
+  pub ended : after.reader.ended ≡ ended_of answer
+  pub fault : answer ≡ ReadFault → Rose before.input.faults after.input.faults
+  pub no_write : answer ≢ WriteFault
+  pub output : after.output ≡ before.output
+  pub state : after.state ≡ state_after answer
+  pub cleared : after.state ≢ turn.Asked → after.tally ≡ nothing

@@ -1,0 +1,5 @@
+pub mod Answers
+pub mod Connections
+pub mod Forms
+pub mod Passing
+pub mod Writing

@@ -1,0 +1,58 @@
+-- The lines of a command that are passed over before its end: data, comments and status lines. How many there may be is this
+-- project's own rule.
+use Rattle.std.specs.Prelude.{◌≡◌, ℕ, ◌+◌, Bool, true, false, List, [], ◌∷◌, ◌++◌, length, nat_le}
+use Rattle.std.specs.List.{flat_map, count_by}
+use Rattle.assuan_escape.specs.DataLines.{carried}
+use Rattle.assuan_client.specs.Forms.{Form, Data, Note, form_of}
+
+-- what came in a command so far
+pub record Tally : Type 0 where
+  -- how many comments, status lines and inquiries
+  pub notes : ℕ
+  -- the bytes of its data lines
+  pub bytes : List ℕ
+
+abbrev pub is_note : Form → Bool
+is_note Note = true
+is_note _ = false
+
+-- nothing, as a command begins
+abbrev pub nothing : Tally
+nothing = record { notes = 0; bytes = [] }
+
+-- what came, with these lines after it
+abbrev pub with_lines : Tally → List (List ℕ) → Tally
+with_lines tally lines = record {
+  notes = tally.notes + count_by (λ line. is_note (form_of line)) lines;
+  bytes = tally.bytes ++ flat_map carried lines;
+}
+
+-- what came, with one inquiry after it
+abbrev pub with_inquiry : Tally → Tally
+with_inquiry tally = record { notes = tally.notes + 1; bytes = tally.bytes }
+
+-- A line of this form, that carries so many bytes, is passed over: up to 10,000 comments, status lines and inquiries, and 255 bytes.
+abbrev pub passes : Tally → Form → ℕ → Bool
+passes tally Note count = nat_le (tally.notes + 1) 10000
+passes tally Data count = nat_le (length tally.bytes + count) 255
+passes tally _ count = false
+
+-- a line is passed over, where this came before the lines before it
+abbrev pub passes_after : Tally → List (List ℕ) → List ℕ → Bool
+passes_after tally before line = passes (with_lines tally before) (form_of line) (length (carried line))
+
+-- The same, where the first of the lines before stands for what came before them: its count, and then its bytes.
+abbrev pub coded : Tally → List ℕ
+coded tally = tally.notes ∷ tally.bytes
+
+abbrev pub decoded : List ℕ → Tally
+decoded [] = nothing
+decoded (notes ∷ bytes) = record { notes = notes; bytes = bytes }
+
+abbrev pub passes_behind : List (List ℕ) → List ℕ → Bool
+passes_behind [] line = false
+passes_behind (start ∷ lines) line = passes_after (decoded start) lines line
+
+abbrev pub IsBehind : Tally → List (List ℕ) → Type 0
+IsBehind tally [] = ⊥
+IsBehind tally (start ∷ lines) = tally ≡ with_lines (decoded start) lines
