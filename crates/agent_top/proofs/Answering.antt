@@ -28,7 +28,9 @@ answered_silently rules before request start answer after now prepared none = re
   fault = prepared.fault;
 }
 
-module _ (rules : Rules) (before : Choices) (request : Request) (start : SessionState) (answer : Answer) (after : Choices) (mid now : Connection) (clock : Readings) (cache : Cache) (prepared : CarriesOut rules before request start answer after (record { conn = mid; clock = clock; cache = cache })) (reply : Reply) (reply_is : answer.reply ≡ Some reply) (text : List ℕ) (is : IsText reply text) where
+module _ (rules : Rules) (before : Choices) (request : Request) (start : SessionState) (answer : Answer) (after : Choices) (mid now : Connection) (clock : Readings) (cache : Cache)
+    (prepared : CarriesOut rules before request start answer after (record { conn = mid; clock = clock; cache = cache }))
+    (reply : Reply) (reply_is : answer.reply ≡ Some reply) (text : List ℕ) (is : IsText reply text) where
   exchange : Exchange rules before request (prepared.events ++ (Sent text ∷ [])) after answer.went
   exchange = prepared.exchange (Sent text ∷ []) (rw reply_is (text, is, refl))
 

@@ -1,8 +1,9 @@
 -- From the lines that were read to the answer.
-use Rattle.std.proofs.Common.{◌≡◌, ◌≢◌, ℕ, List, [], ◌∷◌, Some, None, refl, ap, sym, ◌∙◌, subst}
+use Rattle.std.proofs.Common.{◌≡◌, ◌≢◌, ℕ, List, [], ◌∷◌, Option, Some, None, ◌⊎◌, inl, inr, refl, ap, sym, ◌∙◌, subst}
+use Rattle.agent_ports.specs.Sides.{Side, WhereKnown}
 use Rattle.assuan_line.specs.Next.{Reader, ended_by}
-use Rattle.assuan_line.specs.Reading.{HasRead}
-use Rattle.assuan_line.specs.Skipping.{Stops, ReadsOn}
+use Rattle.assuan_line.specs.Reading.{HasRead, WereNeededBy}
+use Rattle.assuan_line.specs.Skipping.{IsUndecided, Stops, ReadsOn}
 use Rattle.assuan_line.specs.declared.reader.Took.{Took}
 use Rattle.assuan_line.specs.declared.reader.Took.TheVariants as took
 use Rattle.assuan_line.proofs.ReadingOn.{read_so}
@@ -53,8 +54,7 @@ pub record IsBy (behind after : Tally) (t : Took) (answer : Answer) : Type 0 whe
   pub no_write : answer ≢ WriteFault
 
 answers_by : (tally behind after : Tally) (t : Took) (answer : Answer) → IsBy behind after t answer
-    → (bytes left : List ℕ) (reader : Reader) → ReadsOn passes_behind (coded tally ∷ []) (IsBehind behind) bytes t reader left
-    → Answers tally bytes t answer after reader left
+    → (bytes left : List ℕ) (reader : Reader) → ReadsOn passes_behind (coded tally ∷ []) (IsBehind behind) bytes t reader left → Answers tally bytes t answer after reader left
 answers_by tally behind after t answer by bytes left reader on =
     let lines = on.0 in
     let stops = stops_after tally lines t on.1.stops in
@@ -66,13 +66,37 @@ answers_by tally behind after t answer by bytes left reader on =
       asked = λ word text is. by.asked word text is ∙ ap with_inquiry same;
     }
 
+where_known : (before after : Option (List ℕ)) (P Q : List ℕ → List ℕ → Type 0) → WhereKnown before after P → ((rest left : List ℕ) → P rest left → Q rest left) → WhereKnown before after Q
+where_known None None P Q known each = tt
+where_known None (Some left) P Q known each = known
+where_known (Some rest) None P Q known each = known
+where_known (Some rest) (Some left) P Q known each = each rest left known
+
+-- what decides nothing, seen otherwise
+undecided_by : {Some Other : List ℕ → Type 0} {ahead rest left : List ℕ} → ((bytes : List ℕ) → Some bytes → Other bytes) → (rest ≡ left) ⊎ WereNeededBy Some ahead rest left
+    → (rest ≡ left) ⊎ WereNeededBy Other ahead rest left
+undecided_by each (inl none) = inl none
+undecided_by each (inr were) = inr (record { early = were.early; late = were.late; split = were.split; undecided = each _ were.undecided; few = were.few })
+
+undecided_so : {Some Other : List ℕ → Type 0} {P : List ℕ → Took → Reader → List ℕ → Type 0} {before after : Reader} {input input_after : Side} {t : Took}
+    → ((bytes : List ℕ) → Some bytes → Other bytes) → HasRead Some P before input t after input_after → HasRead Other P before input t after input_after
+undecided_so {before = before} {input = input} {input_after = input_after} each read = record {
+  known = read.known;
+  budget = read.budget;
+  needed = where_known input.bytes input_after.bytes _ _ read.needed (λ rest left. undecided_by each);
+  progress = read.progress;
+  spent = read.spent;
+  fault = read.fault;
+  faults = read.faults;
+  ended = read.ended;
+}
+
 pub answered : (tally behind : Tally) (t : Took) (answer : Answer) (before after : Connection)
-    → HasRead (ReadsOn passes_behind (coded tally ∷ []) (IsBehind behind)) before.reader before.input t after.reader after.input
-    → IsBy behind after.tally t answer → after.output ≡ before.output → after.state ≡ state_after answer
-    → (state_after answer ≢ state.Asked → after.tally ≡ nothing) → HasAnswered tally answer before after
+    → HasRead (IsUndecided passes_behind (coded tally ∷ [])) (ReadsOn passes_behind (coded tally ∷ []) (IsBehind behind)) before.reader before.input t after.reader after.input
+    → IsBy behind after.tally t answer → after.output ≡ before.output → after.state ≡ state_after answer → (state_after answer ≢ state.Asked → after.tally ≡ nothing) → HasAnswered tally answer before after
 answered tally behind t answer before after read by output stands cleared = record {
   took = t;
-  read = read_so (λ bytes left on. answers_by tally behind after.tally t answer by bytes left after.reader on) read;
+  read = undecided_so (λ bytes is. record { lines = is.lines; later = is.later; skipped = skipped_after tally is.skipped; undecided = is.undecided }) (read_so (λ bytes left on. answers_by tally behind after.tally t answer by bytes left after.reader on) read);
   ended = read.ended ∙ by.ended;
   fault = λ is. read.fault (is_fault t (by.ended ∙ ap ended_of is));
   no_write = by.no_write;

@@ -33,8 +33,8 @@ is_by_form (Says.too_much is more) = rw is refl
 is_by_form (Says.foreign is) = rw is refl
 
 pub only_answer : (tally after later : Tally) (bytes line other : List ℕ) (first second : Answer) (reader reader_later : Reader) (left rest : List ℕ)
-    → Answers tally bytes (Line line) first after reader left → Answers tally bytes (Line other) second later reader_later rest
-    → (first ≡ second) × (reader.ahead ++ left ≡ reader_later.ahead ++ rest)
+    → Answers tally bytes (Line line) first after reader left
+    → Answers tally bytes (Line other) second later reader_later rest → (first ≡ second) × (reader.ahead ++ left ≡ reader_later.ahead ++ rest)
 only_answer tally after later bytes line other first second reader reader_later left rest one two =
     let same = only_reading (passes_after tally) [] one.lines two.lines bytes line other reader reader_later left rest one.reads two.reads in
     let says : first ≡ by_form (with_lines tally one.lines) line (form_of line) = is_by_form one.says in

@@ -80,8 +80,10 @@ behind_more tally now line [] is behind = absurd behind
 behind_more tally now line (start ∷ lines) is behind =
     is ∙ ap (λ (t : Tally). with_lines t (line ∷ [])) behind ∙ sym (with_more (decoded start) lines line)
 
-pub note_behind : (tally now : Tally) (line : List ℕ) → form_of line ≡ Note → now ≡ with_inquiry tally → (before : List (List ℕ)) → IsBehind tally before → IsBehind now (before ++ line ∷ [])
+pub note_behind : (tally now : Tally) (line : List ℕ) → form_of line ≡ Note → now ≡ with_inquiry tally
+    → (before : List (List ℕ)) → IsBehind tally before → IsBehind now (before ++ line ∷ [])
 note_behind tally now line is same before behind = behind_more tally now line before (same ∙ note_more tally line is) behind
 
-pub data_behind : (tally now : Tally) (line : List ℕ) → form_of line ≡ Data → now ≡ record { notes = tally.notes; bytes = tally.bytes ++ carried line } → (before : List (List ℕ)) → IsBehind tally before → IsBehind now (before ++ line ∷ [])
+pub data_behind : (tally now : Tally) (line : List ℕ) → form_of line ≡ Data → now ≡ record { notes = tally.notes; bytes = tally.bytes ++ carried line }
+    → (before : List (List ℕ)) → IsBehind tally before → IsBehind now (before ++ line ∷ [])
 data_behind tally now line is same before behind = behind_more tally now line before (same ∙ data_more tally line is) behind

@@ -92,7 +92,8 @@ module _ (bytes : List ℕ) (before now : Side) (rest : List ℕ) (putting : IsP
         }
 
     -- the line was cut
-    pub put_cut : (others : (later : List (List ℕ)) × AreData (drop count rest) later) → IsCutOff (line_of (data_line (take count rest))) now after → (pieces : List (List ℕ)) × AreData bytes pieces × IsCutOff (data_text pieces) before after
+    pub put_cut : (others : (later : List (List ℕ)) × AreData (drop count rest) later) → IsCutOff (line_of (data_line (take count rest))) now after
+        → (pieces : List (List ℕ)) × AreData bytes pieces × IsCutOff (data_text pieces) before after
     put_cut others cut = (
       putting.done ++ take count rest ∷ others.0,
       putting.completes (take count rest ∷ others.0) (first others.0 others.1),

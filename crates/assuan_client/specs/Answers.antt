@@ -4,7 +4,7 @@ use Rattle.agent_ports.specs.Counts.{Rose}
 use Rattle.assuan_escape.specs.DataLines.{carried}
 use Rattle.assuan_line.specs.Next.{Reader}
 use Rattle.assuan_line.specs.Reading.{HasRead}
-use Rattle.assuan_line.specs.Skipping.{ReadsAfter}
+use Rattle.assuan_line.specs.Skipping.{IsUndecided, ReadsAfter}
 use Rattle.assuan_line.specs.declared.breach.Breach.TheVariants as breach
 use Rattle.assuan_line.specs.declared.reader.Took.{Took}
 use Rattle.assuan_line.specs.declared.reader.Took.TheVariants as took
@@ -74,7 +74,7 @@ ended_of _ = None
 -- Lines were read up to an answer, where this came before them in the command.
 pub record HasAnswered (tally : Tally) (answer : Answer) (before after : Connection) : Type 0 where
   pub took : Took
-  pub read : HasRead (λ bytes took reader left. Answers tally bytes took answer after.tally reader left) before.reader before.input took after.reader after.input
+  pub read : HasRead (IsUndecided (passes_after tally) []) (λ bytes took reader left. Answers tally bytes took answer after.tally reader left) before.reader before.input took after.reader after.input
   pub ended : after.reader.ended ≡ ended_of answer
   pub fault : answer ≡ ReadFault → Rose before.input.faults after.input.faults
   pub no_write : answer ≢ WriteFault

@@ -14,7 +14,8 @@ pub returns-in_err-sent-clause-put : goal.returns-in_err-sent-clause-put
 returns-in_err-sent-clause-put g c =
     let line = c.full_line-line.ensures in
     let was : IsCutOff (line_of c.bytes.result.now) (g.K.Sink.output c.loop-rest.sink) (g.K.Sink.output c.send_line-sent.new.sink) = c.in_err-sent.ensures.put in
-    let cut = put_cut c.args.bytes.now (g.K.Sink.output c.args.sink.now) (g.K.Sink.output c.loop-rest.sink) c.loop-rest.rest.now c.loop-rest.invariant.putting c.full_line-line.result.1 line.first (g.K.Sink.output c.send_line-sent.new.sink) line.others
+    let cut = put_cut c.args.bytes.now (g.K.Sink.output c.args.sink.now) (g.K.Sink.output c.loop-rest.sink) c.loop-rest.rest.now c.loop-rest.invariant.putting
+    c.full_line-line.result.1 line.first (g.K.Sink.output c.send_line-sent.new.sink) line.others
     (rw (c.bytes.ensures.value, line.text) at was) in
     (cut.0, cut.1, put_failed {bytes = data_text cut.0} c.from_residual.result c.from_residual.ensures.0 cut.2)
 
@@ -23,7 +24,8 @@ loop-rest-preserved g c =
     let line = c.full_line-line.ensures in
     record {
       putting = rw c.split_at.ensures.back
-          (putting_more c.args.bytes.now (g.K.Sink.output c.args.sink.now) (g.K.Sink.output c.loop-rest.sink) c.loop-rest.rest.now c.loop-rest.invariant.putting c.full_line-line.result.1 line.first (g.K.Sink.output c.send_line-sent.new.sink)
+          (putting_more c.args.bytes.now (g.K.Sink.output c.args.sink.now) (g.K.Sink.output c.loop-rest.sink) c.loop-rest.rest.now c.loop-rest.invariant.putting
+          c.full_line-line.result.1 line.first (g.K.Sink.output c.send_line-sent.new.sink)
           (rw (c.bytes.ensures.value, line.text) at c.in_ok-sent.ensures.put));
       beside = c.in_ok-sent.ensures.beside ∙ c.loop-rest.invariant.beside;
     }
