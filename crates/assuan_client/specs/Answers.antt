@@ -1,6 +1,8 @@
 -- The one answer to a command: what the child's lines up to the next end come to.
 use Rattle.std.specs.Prelude.{◌≡◌, ◌≢◌, ◌≤◌, ◌<◌, ◌+◌, ℕ, List, [], false, length, nat_le, ◌==◌, if◌then◌else◌, Option, Some, None}
 use Rattle.agent_ports.specs.Counts.{Rose}
+use Rattle.cache_policy.specs.declared.secret.TheConstants.{MAX_SECRET_LEN}
+use Rattle.assuan_client.specs.declared.tally.TheConstants.{MAX_NOTES}
 use Rattle.assuan_escape.specs.DataLines.{carried}
 use Rattle.assuan_line.specs.Next.{Reader}
 use Rattle.assuan_line.specs.Reading.{HasRead}
@@ -22,12 +24,12 @@ pub data Says (tally : Tally) : Took → Answer → Type 0 where
   ok : {line : List ℕ} → form_of line ≡ form.Ok → length tally.bytes ≡ 0 → Says tally (took.Line line) Ok
   got : {line : List ℕ} → form_of line ≡ form.Ok → 0 < length tally.bytes → Says tally (took.Line line) (Got tally.bytes)
   err : {line : List ℕ} {number : ℕ} → form_of line ≡ form.Err number → Says tally (took.Line line) (Err number)
-  asked : {line word text : List ℕ} → form_of line ≡ form.Inquiry word text → tally.notes < 10000 → Says tally (took.Line line) (Asked word text)
+  asked : {line word text : List ℕ} → form_of line ≡ form.Inquiry word text → tally.notes < MAX_NOTES → Says tally (took.Line line) (Asked word text)
   -- it is the 10,001st comment, status line or inquiry
-  many_notes : {line : List ℕ} → form_of line ≡ form.Note → 10000 ≤ tally.notes → Says tally (took.Line line) (Broken breach.Many)
-  many_inquiries : {line word text : List ℕ} → form_of line ≡ form.Inquiry word text → 10000 ≤ tally.notes → Says tally (took.Line line) (Broken breach.Many)
+  many_notes : {line : List ℕ} → form_of line ≡ form.Note → MAX_NOTES ≤ tally.notes → Says tally (took.Line line) (Broken breach.Many)
+  many_inquiries : {line word text : List ℕ} → form_of line ≡ form.Inquiry word text → MAX_NOTES ≤ tally.notes → Says tally (took.Line line) (Broken breach.Many)
   -- it has the 256th byte
-  too_much : {line : List ℕ} → form_of line ≡ form.Data → 255 < length tally.bytes + length (carried line) → Says tally (took.Line line) (Broken breach.TooMuch)
+  too_much : {line : List ℕ} → form_of line ≡ form.Data → MAX_SECRET_LEN < length tally.bytes + length (carried line) → Says tally (took.Line line) (Broken breach.TooMuch)
   foreign : {line : List ℕ} → form_of line ≡ form.Foreign → Says tally (took.Line line) (Broken (breach.Line line))
   ended : Says tally took.End (Broken breach.Ended)
   too_long : Says tally took.TooLong (Broken breach.TooLong)
@@ -39,7 +41,7 @@ abbrev pub success_of : List ℕ → Answer
 success_of bytes = if length bytes == 0 then Ok else Got bytes
 
 abbrev pub inquiry_after : Tally → List ℕ → List ℕ → Answer
-inquiry_after tally word text = if nat_le (tally.notes + 1) 10000 then Asked word text else Broken breach.Many
+inquiry_after tally word text = if nat_le (tally.notes + 1) MAX_NOTES then Asked word text else Broken breach.Many
 
 -- it is no line that is passed over
 abbrev pub IsStop : Tally → Took → Type 0

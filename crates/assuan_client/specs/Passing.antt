@@ -2,6 +2,8 @@
 -- project's own rule.
 use Rattle.std.specs.Prelude.{◌≡◌, ℕ, ◌+◌, Bool, true, false, List, [], ◌∷◌, ◌++◌, length, nat_le}
 use Rattle.std.specs.List.{flat_map, count_by}
+use Rattle.cache_policy.specs.declared.secret.TheConstants.{MAX_SECRET_LEN}
+use Rattle.assuan_client.specs.declared.tally.TheConstants.{MAX_NOTES}
 use Rattle.assuan_escape.specs.DataLines.{carried}
 use Rattle.assuan_client.specs.Forms.{Form, Data, Note, form_of}
 
@@ -33,8 +35,8 @@ with_inquiry tally = record { notes = tally.notes + 1; bytes = tally.bytes }
 
 -- A line of this form, that carries so many bytes, is passed over: up to 10,000 comments, status lines and inquiries, and 255 bytes.
 abbrev pub passes : Tally → Form → ℕ → Bool
-passes tally Note count = nat_le (tally.notes + 1) 10000
-passes tally Data count = nat_le (length tally.bytes + count) 255
+passes tally Note count = nat_le (tally.notes + 1) MAX_NOTES
+passes tally Data count = nat_le (length tally.bytes + count) MAX_SECRET_LEN
 passes tally _ count = false
 
 -- a line is passed over, where this came before the lines before it

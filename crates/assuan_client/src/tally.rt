@@ -1,40 +1,42 @@
 ghost use Rattle.std.specs.Prelude.{◌≡◌, ◌≢◌, ◌≤◌, ◌+◌, ◌++◌, [], ◌∷◌, length, nat_le, List, ℕ, None};
 ghost use Rattle.std.specs.Bool.{OnTrue, OnFalse};
 ghost use Rattle.assuan_line.specs.Next.{ended_by};
+ghost use Rattle.assuan_text.specs.declared.TheConstants.{MAX_LINE_LEN};
 ghost use Rattle.assuan_escape.specs.DataLines.{carried};
 ghost use Rattle.assuan_client.specs.Answers.{Says, IsStop, ended_of, state_after, success_of, inquiry_after};
+ghost use Rattle.cache_policy.specs.declared.secret.TheConstants.{MAX_SECRET_LEN};
+ghost use Rattle.assuan_client.specs.declared.tally.TheConstants.{MAX_NOTES};
 ghost use Rattle.assuan_client.specs.Passing.{nothing, with_inquiry, passes_behind, IsBehind};
 
 use crate::form::{Form, form_of};
 use crate::{Answer, State};
 use assuan_escape::data_of;
 use assuan_line::{Breach, Line, LineFilter, Took};
-use cache_policy::Secret;
+use cache_policy::{MAX_SECRET_LEN, Secret};
 use std::marker::Model;
 use wiping::Wiped;
 
 /// How many comments, status lines and inquiries a command may have.
-const MAX_NOTES: u16 = 10_000;
-
-/// How many bytes of data a command may have.
-const MAX_BYTES: usize = 255;
+pub const MAX_NOTES: u16 = 10_000;
 
 /// What came in a command so far, of the lines that are passed over and of inquiries.
 #[derive(Drop)]
 pub(crate) struct Tally {
     notes: u16,
-    bytes: Wiped<MAX_BYTES>,
+    bytes: Wiped<MAX_SECRET_LEN>,
 }
 
 impl Model for Tally {
     ghost use Rattle.std.specs.Prelude.{◌≤◌, length};
     ghost use Rattle.assuan_client.specs.Passing.{Tally as Passed};
+    ghost use Rattle.assuan_client.specs.declared.tally.TheConstants.{MAX_NOTES};
+    ghost use Rattle.cache_policy.specs.declared.secret.TheConstants.{MAX_SECRET_LEN};
 
     ghost Value = { Passed };
 
     ghost view = { λ t. record { notes = t.notes; bytes = t.bytes } };
 
-    ghost invariant = { λ t. (t.notes ≤ 10000) × (length t.bytes ≤ 255) };
+    ghost invariant = { λ t. (t.notes ≤ MAX_NOTES) × (length t.bytes ≤ MAX_SECRET_LEN) };
 }
 
 impl Tally {
@@ -67,7 +69,7 @@ impl Tally {
 
     /// Counts a comment, a status line or an inquiry, if there may be one more.
     fn count(&mut self) -> bool
-        ensures may { result ≡ nat_le (self.old.notes + 1) 10000 }
+        ensures may { result ≡ nat_le (self.old.notes + 1) MAX_NOTES }
         ensures counted { OnTrue result (self.new ≡ with_inquiry self.old) }
         ensures stays { OnFalse result (self.new ≡ self.old) }
     {
@@ -80,8 +82,8 @@ impl Tally {
 
     /// Keeps what a data line carries, if there may be so much more.
     fn keep(&mut self, line: &[u8]) -> bool
-        requires short { length line.now ≤ 1000 }
-        ensures may { result ≡ nat_le (length self.old.bytes + length (carried line.now)) 255 }
+        requires short { length line.now ≤ MAX_LINE_LEN }
+        ensures may { result ≡ nat_le (length self.old.bytes + length (carried line.now)) MAX_SECRET_LEN }
         ensures kept { OnTrue result (self.new ≡ record { notes = self.old.notes; bytes = self.old.bytes ++ carried line.now }) }
         ensures stays { OnFalse result (self.new ≡ self.old) }
     {
@@ -140,7 +142,7 @@ impl Tally {
 
     /// The answer by an inquiry, which is counted.
     fn inquiry(&mut self, word: &[u8], text: &[u8]) -> Answer
-        requires short { (length word.now ≤ 1000) × (length text.now ≤ 1000) }
+        requires short { (length word.now ≤ MAX_LINE_LEN) × (length text.now ≤ MAX_LINE_LEN) }
         ensures answer { result ≡ inquiry_after self.old word.now text.now }
         ensures asked { (word text : List ℕ) → result ≡ Answer.Asked word text → self.new ≡ with_inquiry self.old }
     {
@@ -159,7 +161,7 @@ impl LineFilter for Tally {
 
     ghost keeps = { λ tally before. IsBehind tally before };
 
-    ghost limit = { λ _. 255 };
+    ghost limit = { λ _. MAX_SECRET_LEN };
 
     fn skip(&mut self, line: &Line) -> bool {
         match form_of(line.bytes()) {
