@@ -94,13 +94,15 @@ undecided_so {before = before} {input = input} {input_after = input_after} each 
 pub answered : (tally behind : Tally) (t : Took) (answer : Answer) (before after : Connection)
     → HasRead (IsUndecided passes_behind (coded tally ∷ [])) (ReadsOn passes_behind (coded tally ∷ []) (IsBehind behind)) before.reader before.input t after.reader after.input
     → IsBy behind after.tally t answer → after.output ≡ before.output → after.state ≡ state_after answer → (state_after answer ≢ state.Asked → after.tally ≡ nothing) → HasAnswered tally answer before after
-answered tally behind t answer before after read by output stands cleared = record {
-  took = t;
-  read = undecided_so (λ bytes is. record { lines = is.lines; later = is.later; skipped = skipped_after tally is.skipped; undecided = is.undecided }) (read_so (λ bytes left on. answers_by tally behind after.tally t answer by bytes left after.reader on) read);
-  ended = read.ended ∙ by.ended;
-  fault = λ is. read.fault (is_fault t (by.ended ∙ ap ended_of is));
-  no_write = by.no_write;
-  output = output;
-  state = stands;
-  cleared = λ is. cleared (λ asked. is (stands ∙ asked));
-}
+answered tally behind t answer before after read by output stands cleared =
+    let answers = read_so (λ bytes left on. answers_by tally behind after.tally t answer by bytes left after.reader on) read in
+    record {
+      took = t;
+      read = undecided_so (λ bytes is. record { lines = is.lines; later = is.later; skipped = skipped_after tally is.skipped; undecided = is.undecided }) answers;
+      ended = read.ended ∙ by.ended;
+      fault = λ is. read.fault (is_fault t (by.ended ∙ ap ended_of is));
+      no_write = by.no_write;
+      output = output;
+      state = stands;
+      cleared = λ is. cleared (λ asked. is (stands ∙ asked));
+    }
