@@ -1,7 +1,8 @@
 ghost use Rattle.std.specs.Prelude.{◌≡◌, ◌++◌, ℕ, List};
 ghost use Rattle.std.specs.List.{flat_map};
 ghost use Rattle.assuan_text.specs.LineEnds.{line_of};
-ghost use Rattle.assuan_server.specs.Written.{comment_text, HasWritten};
+ghost use Rattle.assuan_escape.specs.Escapes.{hex_text};
+ghost use Rattle.assuan_server.specs.Written.{comment_text, ok_text, HasWritten};
 ghost use Rattle.agent_commands.specs.Names.{command_names};
 ghost use Rattle.agent_top.specs.Exchanges.{IsData, help};
 ghost use Rattle.agent_top.specs.Steps.{IsText, WritesText};
@@ -10,8 +11,9 @@ use agent_commands::COMMANDS;
 use agent_ports::{Link, Sent};
 use assuan_escape::upper_hex;
 use assuan_server::{Code, Conn, Origin};
-use cache_policy::Grant;
+use cache_policy::{Grant, Secret};
 use itoa::Buffer;
+use wiping::wipe;
 
 /// The version that GETINFO gives.
 const VERSION: &[u8] = b"2.4.0";
@@ -49,7 +51,7 @@ pub(crate) fn write_reply<L: Link>(conn: &mut Conn<'_, L>, reply: &Reply) -> Res
         Reply::Given {
             grant,
             plain: false,
-        } => whole(conn.ok(&upper_hex(grant.secret().bytes()))),
+        } => write_digits(conn, grant.secret()),
         Reply::Failed(code) => whole(conn.err(*code, Origin::Agent)),
     }
 }
@@ -60,6 +62,16 @@ fn write_data<L: Link>(conn: &mut Conn<'_, L>, bytes: &[u8]) -> Result<(), Write
 {
     whole(conn.data(bytes))?;
     whole(conn.ok(b""))
+}
+
+/// Writes that all is well, with a secret in hexadecimal digits, which are overwritten.
+fn write_digits<L: Link>(conn: &mut Conn<'_, L>, secret: &Secret) -> Result<(), WriteFault>
+    ensures { WritesText (line_of (ok_text (hex_text secret.now))) conn.old result conn.new }
+{
+    let mut digits = upper_hex(secret.bytes());
+    let sent = conn.ok(&digits);
+    wipe(&mut digits);
+    whole(sent)
 }
 
 /// Writes a comment for each command, and that this is all.
