@@ -1,3 +1,3 @@
 mod Meeting
 mod Serving
-mod Turning
+pub mod Turning
