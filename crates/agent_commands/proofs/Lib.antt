@@ -1,1 +1,8 @@
+pub mod Answering
+pub mod Doing
+mod Helping
+mod Inquiring
+mod Preparing
+mod Presetting
+pub mod Saying
 mod WorkedExamples

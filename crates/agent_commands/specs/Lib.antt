@@ -1,3 +1,11 @@
-pub mod Names
+pub mod Answers
+pub mod Events
+pub mod Exchanges
 pub mod Fields
+pub mod Names
+pub mod Outside
+pub mod Reading
 pub mod Requests
+pub mod States
+pub mod Steps
+pub mod Talks

@@ -1,14 +1,21 @@
-//! The commands on the agent's cache: a line of the client read as a request, or refused by a code.
+//! The commands on the agent's cache: a line of the client read as a request, or refused by a code, and carried out and answered
+//! over any link and any desk.
 #![tactic(auto)]
 
+mod command;
 mod fields;
 mod names;
 mod read;
 mod request;
+mod response;
 #[cfg(test)]
 mod tests;
+mod went;
 
+pub use command::run_cache;
 pub use fields::MAX_REPEAT;
 pub use names::{COMMANDS, CommandName, commands_are_as_defined};
 pub use read::read_request;
 pub use request::{CacheCommand, Info, Request, Texts};
+pub use response::{WriteFault, whole};
+pub use went::{BUDGET, SessionEnd, Went};

@@ -1,14 +1,5 @@
-mod Answering
-mod Asking
-mod Doing
-mod Helping
-mod Inquiring
-mod Lacking
-mod Meeting
-mod Preparing
-mod Presetting
-mod Saying
-mod Serving
+mod Lifting
 mod SettingLemmas
 mod Spelling
+mod Turning
 mod WorkedExamples

@@ -1,11 +1,7 @@
 pub mod Cache
-pub mod Events
-pub mod Exchanges
+pub mod Desk
 pub mod Forms
-pub mod Reading
-pub mod Session
 pub mod Settings
-pub mod Steps
 pub mod Top
 pub mod Within
 pub mod Words

@@ -1,12 +1,19 @@
 -- What a run of the agent leaves, and its status. The statuses are this project's own.
-use Rattle.std.specs.Prelude.{◌≡◌, ◌≤◌, ℕ}
-use Rattle.agent_ports.specs.Counts.{Rose}
+use Rattle.std.specs.Prelude.{◌≡◌, ℕ, List, [], ◌∷◌}
+use Rattle.agent_ports.specs.Readings.{Readings}
+use Rattle.agent_ports.specs.Sides.{Side}
+use Rattle.cache_policy.specs.declared.history.History.{History}
+use Rattle.cache_policy.specs.Extending.{IsExtended}
+use Rattle.cache_policy.specs.Legal.{IsLegalRun}
 use Rattle.session_options.specs.declared.rules.Rules.{Rules}
-use Rattle.agent_top.specs.declared.session.SessionEnd.{SessionEnd}
-use Rattle.agent_top.specs.declared.session.SessionEnd.TheVariants.{Bye, Ended, TooLong, Spent, ReadFault, WriteFault}
+use Rattle.agent_commands.specs.Events.{turns_in}
+use Rattle.agent_commands.specs.Outside.{world}
+use Rattle.agent_commands.specs.declared.went.SessionEnd.{SessionEnd}
+use Rattle.agent_commands.specs.declared.went.SessionEnd.TheVariants.{Bye, Ended, TooLong, Spent, ReadFault, WriteFault}
+use Rattle.agent_session.specs.Sessions.{Surroundings, surroundings, ServesSession}
+use Rattle.agent_top.specs.Cache.{limits_of, session, at_start, cache_state, TakesTurn}
 use Rattle.agent_top.specs.declared.status.Status.{Status}
 use Rattle.agent_top.specs.declared.status.Status.TheVariants as status
-use Rattle.agent_top.specs.Session.{Outside, ServesSession}
 
 -- the number that the process ends with
 abbrev pub number_of : Status → ℕ
@@ -27,13 +34,25 @@ status_of WriteFault = status.WriteFault
 status_of Spent = status.Spent
 status_of TooLong = status.TooLong
 
--- a session was served, and the number is that of its end; a fault is given only where its count has risen
+-- what a run of the agent has to do with: both sides of its link, and its clock
+pub record Outside : Type 0 where
+  pub input : Side
+  pub output : Side
+  pub clock : Readings
+
+abbrev pub outside : Side → Side → Readings → Outside
+outside input output clock = record { input = input; output = output; clock = clock }
+
+-- the same with the run of a cache
+abbrev pub with_cache : (rules : Rules) → List History → Outside → Surroundings (world (TakesTurn (limits_of rules)))
+with_cache rules run around = surroundings (TakesTurn (limits_of rules)) around.input around.output (cache_state run around.clock)
+
+-- A session was served, and the number is that of its end. The cache began empty. Its run is legal, and has the marks of the session's
+-- turns in their order, each at the moment that the clock's reading says.
 pub record RunsServer (rules : Rules) (before : Outside) (number : ℕ) (after : Outside) : Type 0 where
   pub end : SessionEnd
   pub number_is : number ≡ number_of (status_of end)
-  pub served : ServesSession rules before end after
-  pub read_fault : end ≡ ReadFault → Rose before.input.faults after.input.faults
-  pub write_fault : end ≡ WriteFault → Rose before.output.faults after.output.faults
-  -- the counts never fall
-  pub input_faults : before.input.faults ≤ after.input.faults
-  pub output_faults : before.output.faults ≤ after.output.faults
+  pub run : List History
+  pub served : ServesSession rules (with_cache rules (at_start ∷ []) before) end (with_cache rules run after)
+  pub extended : IsExtended (limits_of rules) session (at_start ∷ []) (turns_in served.events) run
+  pub legal : IsLegalRun (limits_of rules) run

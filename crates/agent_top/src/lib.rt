@@ -1,10 +1,7 @@
 //! The agent from bytes to bytes: it reads its words and serves a session on standard input and output.
 #![tactic(auto)]
 
-mod cache;
-mod command;
-mod reply;
-mod session;
+mod desk;
 mod status;
 mod top;
 mod words;

@@ -1,5 +1,7 @@
 ghost use Rattle.std.specs.Prelude.{◌≡◌};
 
+use agent_commands::SessionEnd;
+
 /// With what status the agent's process ends.
 #[derive(Clone, Copy, Debug, PartialEq, Eq)]
 pub enum Status {
@@ -20,7 +22,20 @@ pub enum Status {
 }
 
 impl Status {
-    ghost use Rattle.agent_top.specs.Top.{number_of};
+    ghost use Rattle.agent_top.specs.Top.{number_of, status_of};
+
+    /// The status of a process whose session ended so.
+    pub(crate) fn of(end: SessionEnd) -> Status
+        ensures { result ≡ status_of end }
+    {
+        match end {
+            SessionEnd::Bye | SessionEnd::Ended => Status::Success,
+            SessionEnd::ReadFault => Status::ReadFault,
+            SessionEnd::WriteFault => Status::WriteFault,
+            SessionEnd::Spent => Status::Spent,
+            SessionEnd::TooLong => Status::TooLong,
+        }
+    }
 
     /// The number that the process ends with.
     pub fn number(self) -> u8

@@ -1,12 +1,15 @@
 ghost use Rattle.std.specs.Prelude.{◌≡◌, map, string_bytes, IfSome, IfNone};
+ghost use Rattle.agent_top.specs.Cache.{limits_of};
+ghost use Rattle.agent_top.specs.Desk.{IsFresh};
 ghost use Rattle.agent_top.specs.Words.{rules_of};
-ghost use Rattle.agent_top.specs.Session.{outside};
-ghost use Rattle.agent_top.specs.Top.{number_of, RunsServer};
+ghost use Rattle.agent_top.specs.Top.{number_of, outside, RunsServer};
 
 use crate::Status;
-use crate::session::serve;
+use crate::desk::LentDesk;
 use crate::words::{WordsFault, read_words};
-use agent_ports::{Host, Link};
+use agent_ports::{Clock, Host, Link};
+use agent_session::serve_session;
+use cache_policy::Limits;
 use session_options::Rules;
 use std::alloc::Global;
 use std::rt;
@@ -15,8 +18,8 @@ use std::thread::Threads;
 
 /// The agent. It reads its words, which leave out the program's name, and serves a session on standard input and output.
 ///
-/// Its answer is the status of the process: 0 at BYE or the end of the input, 2 for words that it doesn't take, 3 and 4 where
-/// a read or a write failed, 6 after 2^40 bytes, and 7 at a line of more than 1,000 bytes. The runtime isn't used yet.
+/// Its answer is the status of the process: 0 at BYE or the end of the input, 2 for words that it doesn't take, 3 and 4 where a read or a write failed, 6 after 2^40 bytes, and 7 at a line of more than 1,000 bytes. The
+/// runtime isn't used yet.
 pub fn run_agent<W: Threads + Wait + rt::Clock + Sync, S: Link, H: Host>(
     _rt: &W,
     alloc: Global,
@@ -44,5 +47,37 @@ pub fn run_server<S: Link, H: Host>(alloc: Global, rules: &Rules, stdio: &mut S,
         (outside (S.input stdio.old) (S.output stdio.old) (H.readings host.old)) result
         (outside (S.input stdio.new) (S.output stdio.new) (H.readings host.new)) }
 {
-    serve(alloc, rules, stdio, host).status().number()
+    let mut desk = LentDesk::new(alloc, limits_of(rules), host);
+    let status = serve(alloc, rules, stdio, &mut desk);
+    // So what the desk read is known of the clock.
+    desk.into_clock();
+    status.number()
+}
+
+/// Serves one session at a desk whose cache is empty.
+fn serve<S: Link, C: Clock>(
+    alloc: Global,
+    rules: &Rules,
+    stdio: &mut S,
+    desk: &mut LentDesk<'_, C>,
+) -> Status
+    requires { IsFresh (limits_of rules.now) desk.old }
+    ensures runs { RunsServer rules.now
+        (outside (S.input stdio.old) (S.output stdio.old) (C.readings desk.old.clock)) (number_of result)
+        (outside (S.input stdio.new) (S.output stdio.new) (C.readings desk.new.clock)) }
+    ensures lent { desk.new.lent ≡ desk.old.lent }
+{
+    Status::of(serve_session(alloc, rules, stdio, desk))
+}
+
+/// The lifetimes that the rules say.
+fn limits_of(rules: &Rules) -> Limits
+    ensures { result ≡ limits_of rules.now }
+{
+    Limits {
+        ttl: rules.default_ttl,
+        max: rules.max_ttl,
+        ttl_ssh: rules.default_ttl_ssh,
+        max_ssh: rules.max_ttl_ssh,
+    }
 }

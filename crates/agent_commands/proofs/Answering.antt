@@ -1,0 +1,84 @@
+-- Responses that are written, whole or in part, after all else was done for their requests.
+use Rattle.std.proofs.Common.{◌≡◌, ℕ, List, [], ◌∷◌, ◌++◌, None, Some, Ok, Err, refl, ap, sym, ◌∙◌, subst, arith}
+use Rattle.agent_ports.specs.Sides.{Side}
+use Rattle.assuan_line.specs.Next.{Reader, held}
+use Rattle.assuan_server.specs.Connections.{Connection}
+use Rattle.session_options.specs.Choices.{Choices}
+use Rattle.agent_commands.specs.Events.{Event, Sent, Cut}
+use Rattle.agent_commands.specs.Outside.{World}
+use Rattle.agent_commands.specs.States.{WritesText, StopsWriting, SessionState, AnswersRequest, ReaderAfter}
+use Rattle.agent_commands.specs.Steps.{RespondsTo, silent, written, cut as stopped, CarriesOut}
+use Rattle.agent_commands.specs.Talks.{whole, cut}
+use Rattle.agent_commands.specs.declared.command.Answer.{Answer}
+use Rattle.agent_commands.specs.declared.response.WriteFault.{WriteFault}
+use Rattle.agent_commands.specs.declared.went.SessionEnd.TheVariants.{WriteFault as CutOff}
+use Rattle.agent_commands.specs.declared.went.Went.{Went}
+use Rattle.agent_commands.specs.declared.went.Went.TheVariants.{On, End}
+use Rattle.agent_commands.proofs.Doing.{done_none, done_then, done_wrote, done_stopped}
+
+module _ {w : World} (exchange : Choices → List (Event w.Further) → Choices → Went → Type 0) (before after : Choices) (desk : w.Desk) (ends : w.Ends) where
+  abbrev at_conn : Connection → SessionState w
+  at_conn conn = record { conn = conn; desk = desk; ends = ends }
+
+  pub answered : (start : SessionState w) (answer : Answer) (mid now : Connection) (went : Went) → CarriesOut (exchange before) start answer after (at_conn mid)
+      → RespondsTo answer mid went now → AnswersRequest exchange before start went after (at_conn now)
+  answered start answer mid now went prepared (silent none) = record {
+    events = prepared.events ++ [];
+    exchanges = whole (prepared.exchanges [] (rw none refl));
+    done = done_then prepared.done (done_none (at_conn mid));
+    fits = prepared.fits;
+    faults = prepared.faults;
+  }
+  answered start answer mid now went prepared (written response text is text_is said) = record {
+    events = prepared.events ++ (Sent text ∷ []);
+    exchanges = whole (prepared.exchanges (Sent text ∷ []) (rw is (text, text_is, refl)));
+    done = done_then prepared.done (done_wrote desk ends text mid now said);
+    fits = subst (λ (r : Reader). ReaderAfter answer.went start.conn.reader r) (sym said.reader) prepared.fits;
+    faults = record {
+      read = λ e. omega (arith, prepared.faults.read e, ap (λ (s : Side). s.faults) said.input);
+      write = λ e. omega (arith, prepared.faults.write e, said.faults);
+    };
+  }
+  answered start answer mid now went prepared (stopped response text fault is text_is said) =
+      let stops : StopsWriting text mid.output now.output = said.output in
+      record {
+        events = prepared.events ++ (Cut stops.sent ∷ []);
+        exchanges = cut (prepared.exchanges (Sent text ∷ []) (rw is (text, text_is, refl))) (record {
+          before = prepared.events;
+          sent = stops.sent;
+          unsent = stops.unsent;
+          whole = ap (λ (x : List ℕ). prepared.events ++ (Sent x ∷ [])) stops.split;
+          done_is = refl;
+        });
+        done = done_then prepared.done (done_stopped desk ends text mid now fault stops said);
+        fits = tt;
+        faults = record { read = λ e. absurd (cc e); write = λ e. omega (arith, prepared.done.output_faults, stops.rose) };
+      }
+
+module _ {w : World} (exchange : Choices → List (Event w.Further) → Choices → Went → Type 0) (before after : Choices) (start : SessionState w) (now : Connection) (text : List ℕ) (on : exchange before (Sent text ∷ []) after On) where
+  -- nothing is done but to write one text, and the session goes on
+  pub answered_text : start.conn.reader.ended ≡ None → WritesText text start.conn (Ok tt) now → AnswersRequest exchange before start On after (record start { conn = now })
+  answered_text going said = record {
+    events = Sent text ∷ [];
+    exchanges = whole on;
+    done = done_wrote start.desk start.ends text start.conn now said;
+    fits = (ap (λ (r : Reader). r.ended) said.reader ∙ going, omega (arith, ap held said.reader));
+    faults = record { read = λ e. absurd (cc e); write = λ e. absurd (cc e) };
+  }
+
+  pub cut_text : (why : WriteFault) → WritesText text start.conn (Err why) now → AnswersRequest exchange before start (End CutOff) after (record start { conn = now })
+  cut_text why said =
+      let stops : StopsWriting text start.conn.output now.output = said.output in
+      record {
+        events = Cut stops.sent ∷ [];
+        exchanges = cut on (record {
+          before = [];
+          sent = stops.sent;
+          unsent = stops.unsent;
+          whole = ap (λ (x : List ℕ). Sent x ∷ []) stops.split;
+          done_is = refl;
+        });
+        done = done_stopped start.desk start.ends text start.conn now why stops said;
+        fits = tt;
+        faults = record { read = λ e. absurd (cc e); write = λ e. stops.rose };
+      }

@@ -1,0 +1,193 @@
+-- An inquiry for a passphrase, from what is told before it to what it came to.
+use Rattle.std.proofs.Common.{◌≡◌, ◌≢◌, ◌≤◌, ℕ, List, [], ◌∷◌, ◌++◌, codes, None, Some, Result, Ok, Err, refl, ap, sym, ◌∙◌, subst, arith}
+use Rattle.std.specs.List.{flat_map}
+use Rattle.agent_ports.specs.Counts.{Rose}
+use Rattle.agent_ports.specs.Leads.{none, one}
+use Rattle.agent_ports.specs.declared.link.Sent.TheVariants.{All, Failed}
+use Rattle.assuan_escape.specs.DataLines.{carried}
+use Rattle.assuan_line.specs.Next.{Reader, held}
+use Rattle.assuan_line.specs.Written.{HasCut}
+use Rattle.assuan_line.specs.declared.reader.Took.{Took}
+use Rattle.assuan_line.proofs.ReadingOn.{fewer_so, fault_so}
+use Rattle.assuan_server.specs.Asking.{Gather, Inquire, IsNotAsked, ReadsAnswer as AnswerSays}
+use Rattle.assuan_server.specs.Connections.{Connection}
+use Rattle.assuan_server.specs.Inquiries.{Outcome, Data, Inquiry as Inquires, ComesTo, is_skipped, outcome_of_secret, ended_of}
+use Rattle.assuan_server.specs.Inquiries as outcome
+use Rattle.assuan_server.specs.declared.inquiry.InquiredSecret.{InquiredSecret}
+use Rattle.assuan_server.specs.declared.inquiry.InquiredSecret.TheVariants as inquired
+use Rattle.assuan_server.specs.Written.{HasWritten}
+use Rattle.assuan_text.specs.LineEnds.{line_of}
+use Rattle.cache_policy.specs.declared.secret.TheConstants.{MAX_SECRET_LEN}
+use Rattle.agent_commands.specs.Events.{Event, Sent, Cut, Asked, NotAsked}
+use Rattle.agent_commands.specs.Exchanges.{BringsNone, not_brought, limit_cut, cancelled, too_much, unexpected, too_long, ended, spent, read_fault, write_fault, limit_line, inquiry}
+use Rattle.agent_commands.specs.Outside.{World, asked, not_asked}
+use Rattle.agent_commands.specs.Reading.{ReadsAnswer}
+use Rattle.agent_commands.specs.States.{WritesText, SessionState, unread, IsTotal, EventsLead, ReaderAfter, FaultsRise}
+use Rattle.agent_commands.specs.Steps.{secret_text, Responds, InquiresSecret, AsksSecret, limit_cut as limit_stopped, asked as asked_for, answer_of}
+use Rattle.agent_commands.specs.declared.command.Answer.{Answer}
+use Rattle.agent_commands.specs.declared.went.Went.TheVariants.{On}
+use Rattle.agent_commands.proofs.Doing.{done_then, done_wrote, done_cut, read_known, reads_past, here_going, unread_same, total_same}
+use Rattle.agent_commands.proofs.Saying.{said_whole}
+
+-- what was done where the client gave no passphrase that it was asked for, and how that is answered
+pub record InquiresInVain {w : World} (start : SessionState w) (answer : Answer) (now : SessionState w) : Type 0 where
+  pub events : List (Event w.Further)
+  pub brings : (more : List (Event w.Further)) → Responds answer.response more → BringsNone (events ++ more) answer.went
+  pub done : EventsLead events start now
+  pub fits : ReaderAfter answer.went start.conn.reader now.conn.reader
+  pub faults : FaultsRise answer.went start now
+
+-- the client was asked for a passphrase
+abbrev pub InquiresPassphrase : {w : World} → SessionState w → Result (List ℕ) Answer → SessionState w → Type 0
+InquiresPassphrase start (Ok secret) now =
+    EventsLead (Sent limit_line ∷ inquiry (Asked (Data secret)) ∷ []) start now × ReaderAfter On start.conn.reader now.conn.reader
+InquiresPassphrase start (Err answer) now = InquiresInVain start answer now
+
+module _ (w : World) (desk : w.Desk) (ends : w.Ends) where
+  abbrev at_conn : Connection → SessionState w
+  at_conn conn = record { conn = conn; desk = desk; ends = ends }
+
+  -- the line that asks wasn't written whole
+  done_not_asked : (start now : Connection) (count : ℕ) (part : HasWritten (line_of secret_text) start (Failed count) now)
+      → EventsLead {w = w} (inquiry (NotAsked part.output.sent) ∷ []) (at_conn start) (at_conn now)
+  done_not_asked start now count part =
+      let cut : HasCut (line_of secret_text) start.output count now.output = part.output in
+      record {
+        leads = λ total is. (rw (unread_same start now part.input part.reader, cut.written) (one (not_asked cut.unsent cut.split) none), total_same total start now part.input part.reader is);
+        input_faults = omega (arith, ap (λ s. s.faults) part.input);
+        output_faults = part.faults;
+        link = part.link;
+      }
+
+  -- `mid` is the connection after the limit was told
+  module _ (start mid now : Connection) (said : WritesText limit_line start (Ok tt) mid) where
+    -- the client answered
+    module _ (going : mid.reader.ended ≡ None) (what : Outcome) (answer : Took) (gathered : Gather (AnswerSays MAX_SECRET_LEN (Some what)) secret_text mid answer now) where
+      answer_read : (total : ℕ) (rest left : List ℕ) → IsTotal total now.reader left → AnswerSays MAX_SECRET_LEN (Some what) (mid.reader.ahead ++ rest) answer now.reader left → ReadsAnswer total MAX_SECRET_LEN (mid.reader.ahead ++ rest) what (unread now.reader left)
+      answer_read total rest left is read =
+          let inquiry : Inquires MAX_SECRET_LEN (mid.reader.ahead ++ rest) answer read.0 now.reader left = read.1 in
+          record {
+            lines = inquiry.lines;
+            took = answer;
+            past = reads_past (λ before line. is_skipped line) total (mid.reader.ahead ++ rest) inquiry.lines answer now.reader left gathered.read.ended is inquiry.reads;
+            comes_to = subst (λ o. ComesTo 255 (flat_map carried inquiry.lines) answer o) (sym read.2) inquiry.comes_to;
+          }
+
+      done_asked : EventsLead {w = w} (inquiry (Asked what) ∷ []) (at_conn mid) (at_conn now)
+      done_asked = record {
+        leads = λ total is.
+            let read = read_known total mid.reader now.reader mid.input.bytes now.input.bytes _ (λ bytes rest. ReadsAnswer total MAX_SECRET_LEN bytes what rest)
+            gathered.read.known gathered.read.budget is
+            (λ rest left is_now known.
+            subst (λ (b : List ℕ). ReadsAnswer total MAX_SECRET_LEN b what (unread now.reader left)) (sym (here_going mid.reader rest going)) (answer_read total rest left is_now known)) in
+            (rw gathered.written (one (asked read.0) none), read.1);
+        input_faults = gathered.read.faults;
+        output_faults = gathered.output_faults;
+        link = gathered.link;
+      }
+
+    module _ (going : mid.reader.ended ≡ None) (inquired_what : InquiredSecret) (inquires : InquiresSecret mid inquired_what now) where
+      -- the client was asked where something came of it
+      inquire_so : (what : Outcome) → outcome_of_secret inquired_what ≡ Some what → Inquire MAX_SECRET_LEN secret_text (Some what) mid now
+      inquire_so what says =
+          subst (λ o. Inquire MAX_SECRET_LEN secret_text o mid now) says
+          (inquires.inquiry (λ e. absurd (cc (sym says ∙ ap outcome_of_secret e))))
+
+      module _ (what : Outcome) (says : outcome_of_secret inquired_what ≡ Some what) where
+        asked_so : EventsLead {w = w} (Sent limit_line ∷ inquiry (Asked what) ∷ []) (at_conn start) (at_conn now)
+        asked_so =
+            let inquire = inquire_so what says in
+            done_then (done_wrote desk ends limit_line start mid said) (done_asked going what inquire.took inquire.gathered)
+
+        ended_as : now.reader.ended ≡ ended_of what
+        ended_as = let inquire = inquire_so what says in inquire.gathered.read.ended ∙ inquire.ended what refl
+
+        fewer : now.reader.ended ≡ None → held now.reader ≤ held start.reader
+        fewer is = let inquire = inquire_so what says in omega (arith, fewer_so inquire.gathered.read is, ap held said.reader)
+
+        goes_on : ended_of what ≡ None → ReaderAfter On start.reader now.reader
+        goes_on is = let open_still = ended_as ∙ is in (open_still, fewer open_still)
+
+        read_fault_so : what ≡ outcome.ReadFault → Rose start.input.faults now.input.faults
+        read_fault_so is =
+            let inquire = inquire_so what says in
+            let rose : Rose mid.input.faults now.input.faults = fault_so inquire.gathered.read (ended_as ∙ ap ended_of is) in
+            omega (arith, rose, ap (λ s. s.faults) said.input)
+
+    -- what is made of an inquiry
+    inquired_so : mid.reader.ended ≡ None → (what : InquiredSecret) → InquiresSecret mid what now → InquiresPassphrase {w = w} (at_conn start) (answer_of what) (at_conn now)
+    inquired_so going (inquired.Secret secret) inquires = (asked_so going _ inquires (Data secret) refl, goes_on going _ inquires (Data secret) refl refl)
+    inquired_so going inquired.Cancelled inquires = record {
+      events = Sent limit_line ∷ inquiry (Asked outcome.Cancelled) ∷ [];
+      brings = λ more is. rw (is.2, is.1) (not_brought cancelled);
+      done = asked_so going _ inquires outcome.Cancelled refl;
+      fits = goes_on going _ inquires outcome.Cancelled refl refl;
+      faults = record { read = λ e. absurd (cc e); write = λ e. absurd (cc e) };
+    }
+    inquired_so going inquired.TooMuch inquires = record {
+      events = Sent limit_line ∷ inquiry (Asked outcome.TooMuch) ∷ [];
+      brings = λ more is. rw (is.2, is.1) (not_brought too_much);
+      done = asked_so going _ inquires outcome.TooMuch refl;
+      fits = goes_on going _ inquires outcome.TooMuch refl refl;
+      faults = record { read = λ e. absurd (cc e); write = λ e. absurd (cc e) };
+    }
+    inquired_so going inquired.Unexpected inquires = record {
+      events = Sent limit_line ∷ inquiry (Asked outcome.Unexpected) ∷ [];
+      brings = λ more is. rw (is.2, is.1) (not_brought unexpected);
+      done = asked_so going _ inquires outcome.Unexpected refl;
+      fits = goes_on going _ inquires outcome.Unexpected refl refl;
+      faults = record { read = λ e. absurd (cc e); write = λ e. absurd (cc e) };
+    }
+    inquired_so going inquired.TooLong inquires = record {
+      events = Sent limit_line ∷ inquiry (Asked outcome.TooLong) ∷ [];
+      brings = λ more is. rw (is.2, is.1) (not_brought too_long);
+      done = asked_so going _ inquires outcome.TooLong refl;
+      fits = ended_as going _ inquires outcome.TooLong refl;
+      faults = record { read = λ e. absurd (cc e); write = λ e. absurd (cc e) };
+    }
+    inquired_so going inquired.Ended inquires = record {
+      events = Sent limit_line ∷ inquiry (Asked outcome.Ended) ∷ [];
+      brings = λ more is. rw is (not_brought ended);
+      done = asked_so going _ inquires outcome.Ended refl;
+      fits = ended_as going _ inquires outcome.Ended refl;
+      faults = record { read = λ e. absurd (cc e); write = λ e. absurd (cc e) };
+    }
+    inquired_so going inquired.Spent inquires = record {
+      events = Sent limit_line ∷ inquiry (Asked outcome.Spent) ∷ [];
+      brings = λ more is. rw is (not_brought spent);
+      done = asked_so going _ inquires outcome.Spent refl;
+      fits = ended_as going _ inquires outcome.Spent refl;
+      faults = record { read = λ e. absurd (cc e); write = λ e. absurd (cc e) };
+    }
+    inquired_so going inquired.ReadFault inquires = record {
+      events = Sent limit_line ∷ inquiry (Asked outcome.ReadFault) ∷ [];
+      brings = λ more is. rw is (not_brought read_fault);
+      done = asked_so going _ inquires outcome.ReadFault refl;
+      fits = ended_as going _ inquires outcome.ReadFault refl;
+      faults = record { read = λ e. read_fault_so going _ inquires outcome.ReadFault refl refl; write = λ e. absurd (cc e) };
+    }
+    inquired_so going inquired.WriteFault inquires =
+        let part = inquires.cut refl in
+        let cut : HasCut (line_of secret_text) mid.output part.0 now.output = part.1.output in
+        record {
+          events = Sent limit_line ∷ inquiry (NotAsked cut.sent) ∷ [];
+          brings = λ more is. rw is (not_brought write_fault);
+          done = done_then (done_wrote desk ends limit_line start mid said) (done_not_asked mid now part.0 part.1);
+          fits = tt;
+          faults = record { read = λ e. absurd (cc e); write = λ e. omega (arith, said.faults, cut.rose) };
+        }
+
+  -- the whole of it
+  pub asks_secret : (start now : Connection) (result : Result (List ℕ) Answer) → start.reader.ended ≡ None → AsksSecret start result now
+      → InquiresPassphrase {w = w} (at_conn start) result (at_conn now)
+  asks_secret start now result going (limit_stopped count part) =
+      let cut : HasCut limit_line start.output count now.output = part.output in
+      record {
+        events = Cut cut.sent ∷ [];
+        brings = λ more is. rw is (limit_cut cut.unsent cut.split);
+        done = done_cut desk ends limit_line start now count part;
+        fits = tt;
+        faults = record { read = λ e. absurd (cc e); write = λ e. cut.rose };
+      }
+  asks_secret start now result going (asked_for mid what told inquires) =
+      inquired_so start mid now (said_whole limit_line start mid told) (ap (λ (r : Reader). r.ended) told.reader ∙ going) what inquires

@@ -1,0 +1,35 @@
+use Rattle.agent_commands.specs.Exchanges.{nop, reset, bye, help_given, option_judged, info}
+use Rattle.agent_commands.specs.Outside.{world}
+use Rattle.agent_commands.specs.declared.response.Response.TheVariants.{Ok, Closing, Help}
+use Rattle.agent_commands.proofs.Preparing.{prepared_on, prepared_last}
+use Rattle.agent_commands.proofs.command.carry_out.Goals as goal
+
+pub returns-in-Nop : goal.returns-in-Nop
+returns-in-Nop g c =
+    prepared_on {w = world g.D.Desk.turned} _ _ c.on.result Ok _ c.requires c.on.ensures
+    (λ text is. rw (is, c.in-Nop.is) nop)
+
+pub returns-in-Reset : goal.returns-in-Reset
+returns-in-Reset g c =
+    prepared_on {w = world g.D.Desk.turned} _ _ c.on-in-Reset.result Ok _ c.requires c.on-in-Reset.ensures
+    (λ text is. rw (is, c.in-Reset.is, c.reset.ensures) reset)
+
+pub returns-in-Bye : goal.returns-in-Bye
+returns-in-Bye g c =
+    prepared_last {w = world g.D.Desk.turned} _ _ c.last.result Closing _ c.requires c.last.ensures
+    (λ text is. rw (is, c.in-Bye.is) bye)
+
+pub returns-in-Help : goal.returns-in-Help
+returns-in-Help g c =
+    prepared_on {w = world g.D.Desk.turned} _ _ c.on-in-Help.result Help _ c.requires c.on-in-Help.ensures
+    (λ text is. rw (is, c.in-Help.is) help_given)
+
+pub returns-in-SetOption : goal.returns-in-SetOption
+returns-in-SetOption g c =
+    prepared_on {w = world g.D.Desk.turned} _ _ c.on-in-SetOption.result c.option_response.result _ c.requires c.on-in-SetOption.ensures
+    (λ text is. rw (c.option_response.ensures text is, c.set.ensures.answer, c.set.ensures.after, c.deref.ensures.0, c.in-SetOption.is) option_judged)
+
+pub returns-in-GetInfo : goal.returns-in-GetInfo
+returns-in-GetInfo g c =
+    prepared_on {w = world g.D.Desk.turned} _ _ c.on-in-GetInfo.result c.info_response.result _ c.requires c.on-in-GetInfo.ensures
+    (λ text is. rw c.in-GetInfo.is (info (c.info_response.ensures text is)))

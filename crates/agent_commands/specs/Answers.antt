@@ -1,0 +1,46 @@
+-- What requests are answered, as the GnuPG manual has it ("Agent's Assuan protocol"). The codes are this project's own.
+use Rattle.std.specs.Prelude.{◌≡◌, ℕ, Bool, true, false, List, [], ◌++◌, codes, decimal}
+use Rattle.std.specs.List.{flat_map}
+use Rattle.assuan_escape.specs.Escapes.{hex_text}
+use Rattle.assuan_escape.specs.DataLines.{AreData, data_text}
+use Rattle.assuan_server.specs.Errors.{error_text}
+use Rattle.assuan_server.specs.Written.{ok_text, comment_text}
+use Rattle.assuan_server.specs.declared.errors.Code.{Code}
+use Rattle.assuan_server.specs.declared.errors.Origin.TheVariants.{Agent}
+use Rattle.assuan_text.specs.LineEnds.{line_of}
+use Rattle.session_options.specs.declared.rules.Rules.{Rules}
+use Rattle.agent_commands.specs.Names.{command_names}
+use Rattle.agent_commands.specs.declared.request.Info.{Info}
+use Rattle.agent_commands.specs.declared.request.Info.TheVariants.{Version, Pid, S2kCount, Listed}
+
+abbrev pub ok : List ℕ
+ok = line_of (ok_text [])
+
+abbrev pub closing : List ℕ
+closing = line_of (ok_text (codes "closing connection"))
+
+-- the line of an error, which is the agent's own
+abbrev pub failed : Code → List ℕ
+failed code = line_of (error_text code Agent)
+
+-- a comment for each command
+abbrev pub help : List ℕ
+help = flat_map (λ name. line_of (comment_text name)) command_names ++ ok
+
+-- these bytes as data lines
+pub record IsData (bytes text : List ℕ) : Type 0 where
+  pub pieces : List (List ℕ)
+  pub are_data : AreData bytes pieces
+  pub text_is : text ≡ data_text pieces ++ ok
+
+-- a passphrase: with `--data` as data lines, and otherwise by its uppercase hexadecimal digits
+abbrev pub IsPassphrase : Bool → List ℕ → List ℕ → Type 0
+IsPassphrase true secret text = IsData secret text
+IsPassphrase false secret text = text ≡ line_of (ok_text (hex_text secret))
+
+-- what GETINFO is answered
+abbrev pub IsInfo : Rules → Info → List ℕ → Type 0
+IsInfo rules Version text = IsData (codes "2.4.0") text
+IsInfo rules Pid text = IsData (decimal rules.pid) text
+IsInfo rules S2kCount text = IsData (decimal rules.s2k_count) text
+IsInfo rules Listed text = text ≡ ok

@@ -1,0 +1,54 @@
+-- The ends of a session to the outside, and what each event does to them: it leaves the other ends as they are. This is the project's
+-- own.
+use Rattle.std.specs.Prelude.{◌≡◌, ℕ, List, ◌++◌, Option}
+use Rattle.agent_ports.specs.Sides.{with_bytes, WhereKnown}
+use Rattle.assuan_line.specs.declared.reader.Took.{Took}
+use Rattle.assuan_server.specs.Inquiries.{Outcome, inquire_text}
+use Rattle.assuan_text.specs.LineEnds.{line_of}
+use Rattle.cache_policy.specs.declared.mark.MarkStep.{MarkStep}
+use Rattle.cache_policy.specs.Extending.{Taken}
+use Rattle.cache_policy.specs.Turns.{Turn}
+use Rattle.agent_commands.specs.Events.{Event, Received, Sent, Cut, Inquiry, Asked, NotAsked, CacheTurn, Further}
+use Rattle.agent_commands.specs.Reading.{ReadsRequest, ReadsAnswer}
+
+-- what a session stands on beside its link: a desk that shows its turns so, and the further ends, with what their events do to them
+pub record World : Type 1 where
+  pub Desk : Type 0
+  pub turned : Desk → MarkStep → Turn → Desk → Type 0
+  pub Ends : Type 0
+  pub Further : Type 0
+  pub does : Ends → Further → Ends → Type 0
+
+-- a desk alone
+abbrev pub world : {D : Type 0} → (D → MarkStep → Turn → D → Type 0) → World
+world {D} turned = record { Desk = D; turned = turned; Ends = Unit {0}; Further = ⊥; does = λ before what after. ⊥ }
+
+-- the ends at some point of a session
+pub record Outside (w : World) : Type 0 where
+  -- the bytes that come next, where they are known
+  pub input : Option (List ℕ)
+  -- the bytes that were written, where they are known
+  pub output : Option (List ℕ)
+  pub desk : w.Desk
+  pub ends : w.Ends
+
+-- what an event does. `total` is how many bytes there were at the start of the session, where they are known.
+pub data Does (w : World) (total : ℕ) : Outside w → Event w.Further → Outside w → Type 0 where
+  received : {before : Outside w} {took : Took} {input : Option (List ℕ)}
+      → WhereKnown before.input input (λ bytes rest. ReadsRequest total bytes took rest)
+      → Does w total before (Received took) (record before { input = input })
+  sent : {before : Outside w} {text : List ℕ}
+      → Does w total before (Sent text) (record before { output = with_bytes before.output text })
+  cut : {before : Outside w} {text : List ℕ}
+      → Does w total before (Cut text) (record before { output = with_bytes before.output text })
+  asked : {before : Outside w} {word params : List ℕ} {limit : ℕ} {outcome : Outcome} {input : Option (List ℕ)}
+      → WhereKnown before.input input (λ bytes rest. ReadsAnswer total limit bytes outcome rest)
+      → Does w total before (Inquiry word params limit (Asked outcome))
+      (record before { input = input; output = with_bytes before.output (line_of (inquire_text word params)) })
+  not_asked : {before : Outside w} {word params text : List ℕ} {limit : ℕ} (unsent : List ℕ)
+      → line_of (inquire_text word params) ≡ text ++ unsent
+      → Does w total before (Inquiry word params limit (NotAsked text)) (record before { output = with_bytes before.output text })
+  turned : {before : Outside w} {taken : Taken} {desk : w.Desk} → w.turned before.desk taken.asked taken.turn desk
+      → Does w total before (CacheTurn taken) (record before { desk = desk })
+  further : {before : Outside w} {what : w.Further} {ends : w.Ends} → w.does before.ends what ends
+      → Does w total before (Further what) (record before { ends = ends })

@@ -1,0 +1,42 @@
+-- A session's talk over any kind of events, any relation of exchanges, and any state between them: the Assuan manual's ("client
+-- requests", "server responses"). How it ends is this project's own.
+use Rattle.std.specs.Prelude.{ℕ, List, [], ◌∷◌, ◌++◌}
+use Rattle.assuan_line.specs.declared.reader.Took.TheVariants as took
+use Rattle.assuan_server.specs.Written.{greeting}
+use Rattle.assuan_server.specs.declared.errors.Code.TheVariants.{LineTooLong}
+use Rattle.assuan_text.specs.LineEnds.{line_of}
+use Rattle.agent_commands.specs.Answers.{failed}
+use Rattle.agent_commands.specs.Events.{Event, Received, Sent, IsCut}
+use Rattle.agent_commands.specs.declared.went.SessionEnd.{SessionEnd}
+use Rattle.agent_commands.specs.declared.went.SessionEnd.TheVariants.{Ended, TooLong, Spent, ReadFault, WriteFault}
+use Rattle.agent_commands.specs.declared.went.Went.{Went}
+use Rattle.agent_commands.specs.declared.went.Went.TheVariants.{On, End}
+
+-- an exchange whose reply was written, or was cut by a write that failed
+pub data WholeOrCut {S F : Type 0} (exchange : S → List (Event F) → S → Went → Type 0) (before : S) : List (Event F) → S → Went → Type 0 where
+  whole : {events : List (Event F)} {after : S} {went : Went} → exchange before events after went → WholeOrCut exchange before events after went
+  cut : {events done : List (Event F)} {after : S} {went : Went} → exchange before events after went → IsCut events done
+      → WholeOrCut exchange before done after (End WriteFault)
+
+module _ {S F : Type 0} (exchange : S → List ℕ → List (Event F) → S → Went → Type 0) where
+  -- from some request on: what was kept before it, what the session does, and how it ends
+  pub data Talk : S → List (Event F) → SessionEnd → Type 0 where
+    -- the request is answered, and the session goes on
+    goes_on : {before after : S} {events more : List (Event F)} {end : SessionEnd} (line : List ℕ)
+        → WholeOrCut (λ kept. exchange kept line) before events after On → Talk after more end
+        → Talk before (Received (took.Line line) ∷ (events ++ more)) end
+    -- the request is the last one
+    over : {before after : S} {events : List (Event F)} {end : SessionEnd} (line : List ℕ)
+        → WholeOrCut (λ kept. exchange kept line) before events after (End end) → Talk before (Received (took.Line line) ∷ events) end
+    -- no request comes
+    ended : {before : S} → Talk before (Received took.End ∷ []) Ended
+    spent : {before : S} → Talk before (Received took.Spent ∷ []) Spent
+    read_fault : {before : S} → Talk before (Received took.ReadFault ∷ []) ReadFault
+    too_long : {before : S} → Talk before (Received took.TooLong ∷ Sent (failed LineTooLong) ∷ []) TooLong
+    cut_too_long : {before : S} {done : List (Event F)} → IsCut (Sent (failed LineTooLong) ∷ []) done
+        → Talk before (Received took.TooLong ∷ done) WriteFault
+
+  -- a whole session: the greeting, and what follows
+  pub data Session (start : S) : List (Event F) → SessionEnd → Type 0 where
+    greeted : {events : List (Event F)} {end : SessionEnd} → Talk start events end → Session start (Sent (line_of greeting) ∷ events) end
+    cut_greeting : {done : List (Event F)} → IsCut (Sent (line_of greeting) ∷ []) done → Session start done WriteFault

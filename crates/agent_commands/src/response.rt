@@ -1,0 +1,99 @@
+ghost use Rattle.std.specs.Prelude.{◌≡◌, ◌++◌, ℕ, List};
+ghost use Rattle.std.specs.List.{flat_map};
+ghost use Rattle.assuan_text.specs.LineEnds.{line_of};
+ghost use Rattle.assuan_escape.specs.Escapes.{hex_text};
+ghost use Rattle.assuan_server.specs.Written.{comment_text, ok_text, HasWritten};
+ghost use Rattle.agent_commands.specs.Names.{command_names};
+ghost use Rattle.agent_commands.specs.Answers.{IsData, help};
+ghost use Rattle.agent_commands.specs.States.{WritesText};
+ghost use Rattle.agent_commands.specs.Steps.{IsText};
+
+use crate::COMMANDS;
+use agent_ports::{Link, Sent};
+use assuan_escape::upper_hex;
+use assuan_server::{Code, Conn, Origin};
+use cache_policy::{Grant, Secret};
+use itoa::Buffer;
+use wiping::wipe;
+
+/// The version that GETINFO gives.
+const VERSION: &[u8] = b"2.4.0";
+
+/// What a request is answered, once all else is done for it.
+#[derive(Drop)]
+pub(crate) enum Response {
+    Ok,
+    Closing,
+    Help,
+    Version,
+    Number(u64),
+    Given {
+        grant: Grant,
+        /// By data lines, and else in hexadecimal digits.
+        plain: bool,
+    },
+    Failed(Code),
+}
+
+/// A write failed.
+pub struct WriteFault;
+
+/// Writes a response.
+pub(crate) fn write_response<L: Link>(
+    conn: &mut Conn<'_, L>,
+    response: &Response,
+) -> Result<(), WriteFault>
+    ensures { (text : List ℕ) × IsText response.now text × WritesText text conn.old result conn.new }
+{
+    match response {
+        Response::Ok => whole(conn.ok(b"")),
+        Response::Closing => whole(conn.ok(b"closing connection")),
+        Response::Help => write_help(conn),
+        Response::Version => write_data(conn, VERSION),
+        Response::Number(number) => write_data(conn, Buffer::new().format(*number).as_bytes()),
+        Response::Given { grant, plain: true } => write_data(conn, grant.secret().bytes()),
+        Response::Given {
+            grant,
+            plain: false,
+        } => whole(conn.ok(&upper_hex(grant.secret().bytes()))),
+        Response::Failed(code) => whole(conn.err(*code, Origin::Agent)),
+    }
+}
+
+/// Writes these bytes as data lines, and that this is all.
+fn write_data<L: Link>(conn: &mut Conn<'_, L>, bytes: &[u8]) -> Result<(), WriteFault>
+    ensures { (text : List ℕ) × IsData bytes.now text × WritesText text conn.old result conn.new }
+{
+    whole(conn.data(bytes))?;
+    whole(conn.ok(b""))
+}
+
+/// Writes that all is well, with a secret in hexadecimal digits, which are overwritten.
+fn write_digits<L: Link>(conn: &mut Conn<'_, L>, secret: &Secret) -> Result<(), WriteFault>
+    ensures { WritesText (line_of (ok_text (hex_text secret.now))) conn.old result conn.new }
+{
+    let mut digits = upper_hex(secret.bytes());
+    let sent = conn.ok(&digits);
+    wipe(&mut digits);
+    whole(sent)
+}
+
+/// Writes a comment for each command, and that this is all.
+fn write_help<L: Link>(conn: &mut Conn<'_, L>) -> Result<(), WriteFault>
+    ensures { WritesText help conn.old result conn.new }
+{
+    for (name, _) in COMMANDS {
+        whole(conn.comment(name))?;
+    }
+    whole(conn.ok(b""))
+}
+
+/// Whether a write went whole.
+pub fn whole(sent: Sent) -> Result<(), WriteFault>
+    ensures { (text : List ℕ) (before after : _) → HasWritten text before sent after → WritesText text before result after }
+{
+    match sent {
+        Sent::All => Ok(()),
+        Sent::Failed { .. } => Err(WriteFault),
+    }
+}

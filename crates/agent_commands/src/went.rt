@@ -1,0 +1,23 @@
+/// How many bytes a session may take.
+pub const BUDGET: u64 = 1 << 40;
+
+/// How a session ended.
+#[derive(Clone, Copy, Debug, PartialEq, Eq)]
+pub enum SessionEnd {
+    Bye,
+    /// The source gave its end.
+    Ended,
+    /// A line was too long.
+    TooLong,
+    /// As many bytes were taken as a session may take.
+    Spent,
+    ReadFault,
+    WriteFault,
+}
+
+/// How a session goes on after a request.
+#[derive(Clone, Copy, Debug, PartialEq, Eq)]
+pub enum Went {
+    On,
+    End(SessionEnd),
+}

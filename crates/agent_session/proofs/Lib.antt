@@ -1,0 +1,3 @@
+mod Meeting
+mod Serving
+pub mod Turning

@@ -1,0 +1,138 @@
+-- A session that is under way, and what each way out of its loop makes of it.
+use Rattle.std.proofs.Common.{◌≡◌, ℕ, List, [], ◌∷◌, ◌++◌, Option, Some, None, Ok, Err, refl, ap, sym, ◌∙◌, subst, arith, append_assoc}
+use Rattle.agent_ports.specs.Counts.{Rose}
+use Rattle.agent_ports.specs.Sides.{Side}
+use Rattle.assuan_line.specs.Next.{Reader}
+use Rattle.assuan_line.specs.declared.reader.Took.{Took}
+use Rattle.assuan_line.specs.declared.reader.Took.TheVariants as took
+use Rattle.assuan_server.specs.Connections.{Connection}
+use Rattle.assuan_server.specs.declared.errors.Code.TheVariants.{LineTooLong}
+use Rattle.session_options.specs.Choices.{Choices}
+use Rattle.session_options.specs.declared.rules.Rules.{Rules}
+use Rattle.agent_commands.specs.Answers.{failed}
+use Rattle.agent_commands.specs.Events.{Event, Received, Sent, Cut}
+use Rattle.agent_commands.specs.Exchanges.{LineExchange}
+use Rattle.agent_commands.specs.Outside.{World}
+use Rattle.agent_commands.specs.States.{WritesText, StopsWriting, SessionState, unread, EventsLead, ReaderAfter, FaultsRise, AnswersRequest}
+use Rattle.agent_commands.specs.Talks.{Talk, goes_on, over, ended, spent, read_fault, too_long, cut_too_long}
+use Rattle.agent_commands.specs.declared.response.WriteFault.{WriteFault}
+use Rattle.agent_commands.specs.declared.went.SessionEnd.{SessionEnd}
+use Rattle.agent_commands.specs.declared.went.SessionEnd.TheVariants.{Bye, Ended, TooLong, Spent, ReadFault}
+use Rattle.agent_commands.specs.declared.went.SessionEnd.TheVariants as ends
+use Rattle.agent_commands.specs.declared.went.Went.TheVariants.{On, End}
+use Rattle.agent_commands.proofs.Doing.{done_none, done_then, done_wrote, done_stopped, here_going}
+use Rattle.agent_session.specs.Sessions.{Leaves}
+use Rattle.agent_session.specs.Serving.{ServesRequests}
+
+leaves_part_of : (reader : Reader) (left : List ℕ) (o : Option Took) → reader.ended ≡ o → (ahead : List ℕ) × (unread reader left ≡ ahead ++ left)
+leaves_part_of reader left None is = (reader.ahead, here_going reader left is)
+leaves_part_of reader left (Some took) is = ([], rw is refl)
+
+-- what the source holds after a write that failed
+leaves_part : (reader : Reader) (left : List ℕ) → (ahead : List ℕ) × (unread reader left ≡ ahead ++ left)
+leaves_part reader left = leaves_part_of reader left reader.ended refl
+
+-- and after an exchange that ended the session
+leaves : (end : SessionEnd) (before after : Reader) (left : List ℕ) → ReaderAfter (End end) before after → Leaves end (unread after left) left
+leaves Bye before after left going = (after.ahead, here_going after left going)
+leaves Ended before after left is = rw is refl
+leaves TooLong before after left is = rw is refl
+leaves Spent before after left is = rw is refl
+leaves ReadFault before after left is = rw is refl
+leaves ends.WriteFault before after left is = leaves_part after left
+
+-- a reader that gave no line has ended so
+leaves_all : (reader : Reader) (took : Took) → reader.ended ≡ Some took → (left : List ℕ) → unread reader left ≡ left
+leaves_all reader took is left = rw is refl
+
+module _ {w : World} (rules : Rules) (before : Choices) (start : SessionState w) where
+  -- How a session stands between two requests: whatever it does from there on completes what it did so far.
+  pub record IsServing (now : SessionState w) (choices : Choices) : Type 0 where
+    pub events : List (Event w.Further)
+    pub done : EventsLead events start now
+    pub continues : (more : List (Event w.Further)) (end : SessionEnd) → Talk (LineExchange rules) choices more end → Talk (LineExchange rules) before (events ++ more) end
+
+  pub serves_none : IsServing start before
+  serves_none = record { events = []; done = done_none start; continues = λ more end talk. talk }
+
+  module _ (now : SessionState w) (choices : Choices) (serving : IsServing now choices) where
+    -- the session's end, after these events more
+    finishes : (last : SessionState w) (more : List (Event w.Further)) (end : SessionEnd) → EventsLead more now last → Talk (LineExchange rules) choices more end → ((left : List ℕ) → Leaves end (unread last.conn.reader left) left) → FaultsRise (End end) now last → ServesRequests rules before start end last
+    finishes last more end done talk leaves_so faults = record {
+      events = serving.events ++ more;
+      talk = serving.continues more end talk;
+      done = done_then serving.done done;
+      leaves = leaves_so;
+      faults = record {
+        read = λ e. omega (arith, serving.done.input_faults, faults.read e);
+        write = λ e. omega (arith, serving.done.output_faults, faults.write e);
+      };
+    }
+
+    -- `read` is the state after the next request was read
+    module _ (read : SessionState w) (answer : Took) (received : EventsLead (Received answer ∷ []) now read) where
+      module _ (line : List ℕ) (is : answer ≡ took.Line line) (after : Choices) (last : SessionState w) where
+        received_line : EventsLead {w = w} (Received (took.Line line) ∷ []) now read
+        received_line = subst (λ t. EventsLead {w = w} (Received t ∷ []) now read) is received
+
+        pub serves_on : AnswersRequest {w = w} (λ kept. LineExchange rules kept line) choices read On after last → IsServing last after
+        serves_on answered = record {
+          events = serving.events ++ (Received (took.Line line) ∷ answered.events);
+          done = done_then serving.done (done_then received_line answered.done);
+          continues = λ more end talk.
+              subst (λ (d : List (Event w.Further)). Talk (LineExchange rules) before d end) (sym (append_assoc serving.events (Received (took.Line line) ∷ answered.events) more))
+              (serving.continues (Received (took.Line line) ∷ (answered.events ++ more)) end (goes_on line answered.exchanges talk));
+        }
+
+        pub is_over : (end : SessionEnd) → AnswersRequest {w = w} (λ kept. LineExchange rules kept line) choices read (End end) after last → ServesRequests rules before start end last
+        is_over end answered =
+            finishes last (Received (took.Line line) ∷ answered.events) end (done_then received_line answered.done) (over line answered.exchanges)
+            (λ left. leaves end read.conn.reader last.conn.reader left answered.fits)
+            (record {
+              read = λ e. omega (arith, received.input_faults, answered.faults.read e);
+              write = λ e. omega (arith, received.output_faults, answered.faults.write e);
+            })
+
+      -- no request came
+      pub at_end : answer ≡ took.End → read.conn.reader.ended ≡ Some took.End → ServesRequests rules before start Ended read
+      at_end is ended_so =
+          finishes read (Received took.End ∷ []) Ended (subst (λ t. EventsLead {w = w} (Received t ∷ []) now read) is received) ended (leaves_all read.conn.reader took.End ended_so)
+          (record { read = λ e. absurd (cc e); write = λ e. absurd (cc e) })
+
+      pub at_spent : answer ≡ took.Spent → read.conn.reader.ended ≡ Some took.Spent → ServesRequests rules before start Spent read
+      at_spent is ended_so =
+          finishes read (Received took.Spent ∷ []) Spent (subst (λ t. EventsLead {w = w} (Received t ∷ []) now read) is received) spent (leaves_all read.conn.reader took.Spent ended_so)
+          (record { read = λ e. absurd (cc e); write = λ e. absurd (cc e) })
+
+      pub at_read_fault : answer ≡ took.ReadFault → read.conn.reader.ended ≡ Some took.ReadFault → Rose now.conn.input.faults read.conn.input.faults → ServesRequests rules before start ReadFault read
+      at_read_fault is ended_so rose =
+          finishes read (Received took.ReadFault ∷ []) ReadFault (subst (λ t. EventsLead {w = w} (Received t ∷ []) now read) is received) read_fault (leaves_all read.conn.reader took.ReadFault ended_so)
+          (record { read = λ e. rose; write = λ e. absurd (cc e) })
+
+      module _ (is : answer ≡ took.TooLong) (last : Connection) where
+        received_long : EventsLead {w = w} (Received took.TooLong ∷ []) now read
+        received_long = subst (λ t. EventsLead {w = w} (Received t ∷ []) now read) is received
+
+        abbrev after_it : SessionState w
+        after_it = record { conn = last; desk = read.desk; ends = read.ends }
+
+        pub at_too_long : read.conn.reader.ended ≡ Some took.TooLong → WritesText (failed LineTooLong) read.conn (Ok tt) last → ServesRequests rules before start TooLong after_it
+        at_too_long ended_so said =
+            finishes after_it (Received took.TooLong ∷ Sent (failed LineTooLong) ∷ []) TooLong
+            (done_then received_long (done_wrote read.desk read.ends (failed LineTooLong) read.conn last said)) too_long
+            (leaves_all last.reader took.TooLong (ap (λ (r : Reader). r.ended) said.reader ∙ ended_so))
+            (record { read = λ e. absurd (cc e); write = λ e. absurd (cc e) })
+
+        pub cut_at_too_long : (why : WriteFault) → WritesText (failed LineTooLong) read.conn (Err why) last → ServesRequests rules before start ends.WriteFault after_it
+        cut_at_too_long why said =
+            let stopped : StopsWriting (failed LineTooLong) read.conn.output last.output = said.output in
+            finishes after_it (Received took.TooLong ∷ Cut stopped.sent ∷ []) ends.WriteFault
+            (done_then received_long (done_stopped read.desk read.ends (failed LineTooLong) read.conn last why stopped said))
+            (cut_too_long (record {
+              before = [];
+              sent = stopped.sent;
+              unsent = stopped.unsent;
+              whole = ap (λ (x : List ℕ). Sent x ∷ []) stopped.split;
+              done_is = refl;
+            }))
+            (leaves_part last.reader) (record { read = λ e. absurd (cc e); write = λ e. omega (arith, received.output_faults, stopped.rose) })

@@ -1,0 +1,8 @@
+//! A session from bytes to bytes, over any link and any desk.
+#![tactic(auto)]
+
+mod laws;
+mod session;
+
+pub use laws::a_session_extends_a_run;
+pub use session::serve_session;
