@@ -1,7 +1,7 @@
 ghost use Rattle.std.specs.Prelude.{◌≤◌};
 
 use super::*;
-use agent_ports::{ListClock, MemHost, MemLink, MemSink, MemSource};
+use agent_ports::{Got, Link, ListClock, MemHost, MemLink, MemSink, MemSource, Sent, Sink, Source};
 use session_options::Rules;
 use std::alloc::{AllocError, Global};
 use std::test::Fail;
@@ -380,5 +380,100 @@ fn the_words_decide(rt: HostRuntime) -> Result<(), Fail> {
         assert_eq!(rt; found, status == 0);
         assert_eq!(rt; stdio.written().is_empty(), status == 2);
     }
+    Ok(())
+}
+
+/// A link that gives each byte only once so many were written, and else fails: a client that waits for its answers.
+#[derive(Drop)]
+struct WaitingLink {
+    /// Each byte, behind how many must have been written before it.
+    input: Vec<(usize, u8)>,
+    next: usize,
+    written: Vec<u8>,
+    read_faults: u64,
+    write_faults: u64,
+}
+
+impl Source for WaitingLink {
+    ghost use Rattle.std.specs.Prelude.{None};
+
+    ghost input = { λ link. record { bytes = None; faults = link.read_faults } };
+
+    ghost beside_input = { λ link. record { bytes = None; faults = link.write_faults } };
+
+    fn read(&mut self, buf: &mut [u8]) -> Got {
+        match self.input.get(self.next) {
+            None => Got::End,
+            Some((needed, byte)) if *needed <= self.written.len() => {
+                buf[0] = *byte;
+                self.next += 1;
+                Got::Bytes(1)
+            }
+            Some(_) => {
+                self.read_faults = self.read_faults.saturating_add(1);
+                Got::Failed
+            }
+        }
+    }
+}
+
+impl Sink for WaitingLink {
+    ghost use Rattle.std.specs.Prelude.{None};
+
+    ghost output = { λ link. record { bytes = None; faults = link.write_faults } };
+
+    ghost beside_output = { λ link. record { bytes = None; faults = link.read_faults } };
+
+    fn put(&mut self, bytes: &[u8]) -> Sent {
+        match self.written.extend_from_slice(bytes) {
+            Ok(()) => Sent::All,
+            Err(_) => {
+                self.write_faults = self.write_faults.saturating_add(1);
+                Sent::Failed { sent: 0 }
+            }
+        }
+    }
+}
+
+impl Link for WaitingLink {
+    ghost use Rattle.std.specs.Prelude.{refl};
+
+    ghost output_beside = { λ link. refl };
+
+    ghost input_beside = { λ link. refl };
+}
+
+/// What a client sends, line by line, and what it waits for behind each.
+const TURNS: [(&str, &str); 4] = [
+    ("", "OK Pleased to meet you\n"),
+    (
+        "PRESET_PASSPHRASE --inquire id1 -1\n",
+        "S INQUIRE_MAXLEN 255\nINQUIRE PASSPHRASE\n",
+    ),
+    ("D secret\nEND\n", "OK\n"),
+    ("GET_PASSPHRASE --data id1\n", "D secret\nOK\n"),
+];
+
+#[test]
+fn each_answer_is_written_before_more_is_read(rt: HostRuntime) -> Result<(), Fail> {
+    let alloc = rt.alloc();
+    let mut input = Vec::new(alloc);
+    let mut all = String::new(alloc);
+    for (sent, answer) in TURNS {
+        for byte in sent.as_bytes() {
+            input.push((all.len(), *byte))?;
+        }
+        all.push_str(answer)?;
+    }
+    let mut stdio = WaitingLink {
+        input,
+        next: 0,
+        written: Vec::new(alloc),
+        read_faults: 0,
+        write_faults: 0,
+    };
+    let mut host = MemHost::new(ListClock::new(Vec::new(alloc)));
+    assert_eq!(rt; run_server(alloc, &rules(true), &mut stdio, &mut host), 0);
+    assert!(rt; stdio.written.as_slice() == all.as_bytes());
     Ok(())
 }
