@@ -1,0 +1,4 @@
+pub mod Protection
+pub mod Opens
+pub mod Answers
+pub mod Steps
