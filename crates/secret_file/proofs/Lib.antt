@@ -4,3 +4,6 @@ pub mod Decrypted
 pub mod Within
 pub mod Openings
 pub mod OneAnswer
+pub mod Fits
+pub mod Locking
+pub mod Texts

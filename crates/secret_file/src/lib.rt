@@ -4,11 +4,13 @@
 
 mod laws;
 mod parts;
+mod protecting;
 mod protection;
 mod secrets;
 mod unlocked;
 
 pub use laws::one_answer;
+pub use protecting::protect;
 pub use unlocked::{Unlocked, unprotect};
 
 #[cfg(test)]

@@ -14,9 +14,9 @@ use s2k_derive::count_of;
 use sexp_canonical::Sexp;
 use sexp_keys::KeyFault;
 
-const PROTECTED: &[u8] = b"protected";
+pub(crate) const PROTECTED: &[u8] = b"protected";
 
-const CBC_NAME: &[u8] = b"openpgp-s2k3-sha1-aes-cbc";
+pub(crate) const CBC_NAME: &[u8] = b"openpgp-s2k3-sha1-aes-cbc";
 
 pub(crate) const HASH_NAME: &[u8] = b"sha1";
 

@@ -87,7 +87,8 @@ pub(crate) fn digest_of(
     time: Option<&[u8]>,
 ) -> Result<[u8; 20], AllocError>
     requires { IsTrue key.now.is_clear }
-    ensures { IfOk result (λ digest. digest ≡ sha1 (hashed_list_of key.now (option_copied time.entry))) }
+    ensures digest { IfOk result (λ digest. digest ≡ sha1 (hashed_list_of key.now (option_copied time.entry))) }
+    ensures len { IfOk result (λ digest. length digest ≡ 20) }
 {
     let text = Bytes::from(key.hashed_list(alloc, time)?);
     Ok(Sha1::digest(text.as_slice()))

@@ -1,4 +1,6 @@
 use super::*;
+use sexp_canonical::read;
+use sexp_keys::KeyList;
 use std::test::*;
 
 // What `openssl enc -aes-128-cbc -nopad` makes of `(((1:d1:D))(4:hash4:sha120:..))` and 15 bytes more, under the key of the
@@ -95,6 +97,32 @@ fn a_protected_file_opens_exactly_by_its_passphrase(rt: HostRuntime) -> Result<(
     let answer = unprotect(rt.alloc(), &file, b"abc");
     assert_eq!(rt; name_of(&answer), "no expression");
     one_answer();
+    Ok(())
+}
+
+#[test]
+fn a_clear_key_is_protected_as_openssl_does(rt: HostRuntime) -> Result<(), Fail> {
+    let text = b"(11:private-key(3:ecc(1:q1:Q)(1:d1:D)))";
+    let (tree, _len) = read(rt.alloc(), text)?;
+    let key = KeyList::of(rt.alloc(), &tree)?;
+    let list = key.whole_list(rt.alloc())?;
+    assert!(rt; key.is_clear());
+    if key.is_clear() && list.len() <= 65_000 {
+        let file = protect(
+            rt.alloc(),
+            &key,
+            b"abc",
+            b"saltsalt",
+            b"0123456789abcdef",
+            &[16; 16],
+            65_536,
+            Some(b"20240101T000000"),
+        )?;
+        let derivation =
+            b"25:openpgp-s2k3-sha1-aes-cbc((4:sha18:saltsalt5:65536)16:0123456789abcdef)";
+        let want = file_of(&rt, derivation, &OCTETS, TIME)?;
+        assert_eq!(rt; file.as_slice(), want.as_slice());
+    }
     Ok(())
 }
 

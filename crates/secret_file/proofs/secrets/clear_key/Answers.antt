@@ -18,5 +18,5 @@ pub returns-then-not-is_hash-clause-none : goal.returns-then-not-is_hash-clause-
 returns-then-not-is_hash-clause-none c = λ key h.
     other_digest c.args.locked key c.in-Some-with_secret.key c.args.bytes.now c.in-Some.secrets.secret (tree_of c.in-Some.secrets.hash) c.in_ok-digest.digest (rw c.in-Some.is at c.in_ok-secrets.ensures.found)
     c.in-Some-with_secret.ensures.key
-    (c.in_ok-digest.ensures ∙ ap (λ t. sha1 (hashed_list_of c.in-Some-with_secret.key t)) (c.slice_of.ensures ∙ c.in_ok-time.ensures ∙ ap time_of c.private.ensures))
+    (c.in_ok-digest.ensures.digest ∙ ap (λ t. sha1 (hashed_list_of c.in-Some-with_secret.key t)) (c.slice_of.ensures ∙ c.in_ok-time.ensures ∙ ap time_of c.private.ensures))
     (λ e. let yes = c.is_hash.ensures.1 e in cc) h
