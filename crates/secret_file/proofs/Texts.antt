@@ -18,8 +18,8 @@ two_written t0 t1 t2 a b e f =
     f ∙ ap (λ (s : List ℕ). s ++ spelling b) e ∙ append_assoc t0 (spelling a) (spelling b)
     ∙ ap (λ (s : List ℕ). t0 ++ s) (sym (flat_map-cons spelling a (b ∷ []) ∙ ap (λ (s : List ℕ). spelling a ++ s) (flat_map-cons spelling b [] ∙ append-nil (spelling b))))
 
-pub text_written : (key : Key) (time : Option (List ℕ)) (digest : List ℕ) (t0 t1 t2 t3 t4 : List ℕ) (ts : List Tree) → digest ≡ sha1 (hashed_list_of key time) → t0 ≡ [] → t1 ≡ t0 ++ 40 ∷ [] → t2 ≡ t1 ++ spelling (list_of ts) → ts ≡ key.private
-    → t3 ≡ t2 ++ spelling (hash_tree digest) → t4 ≡ t3 ++ 41 ∷ [] → t4 ≡ secret_text key time
+pub text_written : (key : Key) (time : Option (List ℕ)) (digest : List ℕ) (t0 t1 t2 t3 t4 : List ℕ) (ts : List Tree) → digest ≡ sha1 (hashed_list_of key time) → t0 ≡ []
+    → t1 ≡ t0 ++ 40 ∷ [] → t2 ≡ t1 ++ spelling (list_of ts) → ts ≡ key.private → t3 ≡ t2 ++ spelling (hash_tree digest) → t4 ≡ t3 ++ 41 ∷ [] → t4 ≡ secret_text key time
 text_written key time digest t0 t1 t2 t3 t4 ts d e0 e1 e2 p e3 e4 =
     list_written t0 t1 t3 t4 (list_of ts ∷ hash_tree digest ∷ []) e1 (two_written t1 t2 t3 (list_of ts) (hash_tree digest) e2 e3) e4
     ∙ ap (λ (s : List ℕ). s ++ spelling (secret_tree ts (hash_tree digest))) e0

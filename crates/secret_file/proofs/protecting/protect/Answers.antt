@@ -23,5 +23,6 @@ returns-clause-opens c =
     ok_more c.protected_list.result (λ file. file.items ≡ key_list_of (protected_with key (trees c.as_slice-2.result.now))) (λ file. Opens file.items c.args.pass.now key)
     (λ file e. file_opens key (record { salt = salt; count = c.args.count; iv = iv; encrypted = encrypted }) time c.args.pass.now c.in_ok-text.text c.pad.new.text c.args.padding.now file.items (trees c.as_slice-2.result.now)
     c.is_clear-is_clear.ensures.formed c.requires.clear c.requires.short c.requires.shallow c.told-salt c.told-iv c.requires.least c.requires.greatest c.slice_of-time.ensures.len
-    c.in_ok-text.ensures.text c.in_ok-text.ensures.len c.in_ok-pad.ensures.padded c.in_ok-pad.ensures.whole c.encrypted_by-encrypted.ensures.len (ap (cbc_decrypted (derived_key c.args.pass.now salt c.args.count) iv) c.encrypted_by-encrypted.ensures.value ∙ c.encrypted_by-encrypted.ensures.undone) lists e)
+    c.in_ok-text.ensures.text c.in_ok-text.ensures.len c.in_ok-pad.ensures.padded c.in_ok-pad.ensures.whole c.encrypted_by-encrypted.ensures.len
+    (ap (cbc_decrypted (derived_key c.args.pass.now salt c.args.count) iv) c.encrypted_by-encrypted.ensures.value ∙ c.encrypted_by-encrypted.ensures.undone) lists e)
     c.protected_list.ensures
