@@ -1,0 +1,9 @@
+pub mod Counts
+pub mod Shapes
+pub mod Decrypted
+pub mod Within
+pub mod Openings
+pub mod OneAnswer
+pub mod Fits
+pub mod Locking
+pub mod Texts

@@ -1,0 +1,6 @@
+use Rattle.sexp_keys.proofs.WrittenLists.{all_more}
+use Rattle.secret_file.proofs.protecting.append_all.Goals as goal
+
+pub loop-tree-preserved : goal.loop-tree-preserved
+loop-tree-preserved c =
+    all_more c.args.text.now c.loop-tree.text c.append.new.text c.args.items.now c.tree-item.result c.loop-tree.tree-index c.loop-tree-test.true c.loop-tree.invariant (cc (c.in_ok-append.ensures))

@@ -1,0 +1,8 @@
+use Rattle.sexp_canonical.specs.View.{trees}
+use Rattle.sexp_keys.proofs.WrittenLists.{list_written}
+use Rattle.secret_file.proofs.protecting.append_list.Goals as goal
+
+pub returns : goal.returns
+returns c =
+    list_written c.args.text.now c.extend_from_slice.new.self c.append_all.new.text c.extend_from_slice-2.new.self (trees c.args.items.now)
+    c.in_ok-extend_from_slice.ensures.ok c.in_ok-append_all.ensures c.in_ok-extend_from_slice-2.ensures.ok

@@ -1,0 +1,51 @@
+-- What is answered for a file and a passphrase: the key, or else the first fault in this order.
+use Rattle.std.specs.Prelude.{◌≡◌, ℕ, ◌⊎◌, List, true, false}
+use Rattle.sexp_canonical.specs.View.{tree_of}
+use Rattle.sexp_canonical.specs.Spelling.{IsReadable}
+use Rattle.sexp_canonical.specs.declared.tree.Sexp.{Sexp}
+use Rattle.sexp_keys.specs.Key.{Key}
+use Rattle.sexp_keys.specs.Faults.{IsFirstFault}
+use Rattle.sexp_keys.specs.declared.fault.KeyFault.{KeyFault}
+use Rattle.sexp_keys.specs.declared.fault.KeyFault.TheVariants as faults
+use Rattle.secret_file.specs.Protection.{Protection, IsProtection, IsProtectionFault}
+use Rattle.secret_file.specs.Opens.{first_of, opened, IsFile, AreSecrets}
+use Rattle.secret_file.specs.declared.unlocked.Unlocked.{Unlocked}
+use Rattle.secret_file.specs.declared.unlocked.Unlocked.TheVariants as answers
+
+-- the answer that a fault of a key is
+abbrev pub refused : KeyFault → Unlocked
+refused faults.InvSexp = answers.InvSexp
+refused faults.BadSecKey = answers.BadSecKey
+refused faults.Shadowed = answers.Shadowed
+refused faults.NotSupported = answers.NotSupported
+refused faults.NoMemory = answers.NoMemory
+
+-- the file isn't one expression to its last byte, or the expression is no key
+abbrev pub IsFileFault : List ℕ → KeyFault → Type 0
+IsFileFault file fault =
+    (((tree : Sexp) → IsReadable file tree → ⊥) × (fault ≡ faults.InvSexp))
+    ⊎ ((tree : Sexp) × IsReadable file tree × IsFirstFault (tree_of tree) fault)
+
+-- what is decrypted opens the key, or the passphrase is bad
+abbrev pub AnswersBytes : Key → List ℕ → Unlocked → Type 0
+AnswersBytes locked bytes answer =
+    ((key : Key) × AreSecrets locked bytes key × (answer ≡ answers.Key key))
+    ⊎ (((key : Key) → AreSecrets locked bytes key → ⊥) × (answer ≡ answers.BadPassphrase))
+
+-- the protection has a fault, or it stands and is opened
+abbrev pub AnswersLocked : Key → List ℕ → Unlocked → Type 0
+AnswersLocked locked pass answer =
+    ((fault : KeyFault) × IsProtectionFault (first_of locked.private) fault × (answer ≡ refused fault))
+    ⊎ ((p : Protection) × IsProtection (first_of locked.private) p × AnswersBytes locked (opened pass p) answer)
+
+-- the key is clear, or it is protected
+abbrev pub AnswersKey : Key → List ℕ → Unlocked → Type 0
+AnswersKey key pass answer =
+    ((key.is_clear ≡ true) × (answer ≡ answers.NotProtected))
+    ⊎ ((key.is_clear ≡ false) × AnswersLocked key pass answer)
+
+-- the file has a fault, or it is a key
+abbrev pub Answers : (file pass : List ℕ) → Unlocked → Type 0
+Answers file pass answer =
+    ((fault : KeyFault) × IsFileFault file fault × (answer ≡ refused fault))
+    ⊎ ((key : Key) × IsFile file key × AnswersKey key pass answer)

@@ -1,0 +1,5 @@
+pub mod Protection
+pub mod Opens
+pub mod Answers
+pub mod Steps
+pub mod Protects

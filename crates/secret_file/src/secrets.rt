@@ -1,0 +1,159 @@
+//! What is decrypted: the secret parameters of a key, and the digest of the clear key.
+
+ghost use Rattle.std.specs.Prelude.{◌≡◌, ◌↔◌, ◌≤◌, ℕ, List, length, IfOk, IfErr, IfSome, IfNone, IsTrue};
+ghost use Rattle.std.specs.Option.{option_copied};
+ghost use Rattle.sha1.specs.Sha1.{sha1};
+ghost use Rattle.sexp_canonical.specs.Tree.{Tree};
+ghost use Rattle.sexp_canonical.specs.View.{tree_of, trees};
+ghost use Rattle.sexp_canonical.specs.Spelling.{most_bytes, most_depth, depth};
+ghost use Rattle.sexp_keys.specs.Key.{Key};
+ghost use Rattle.sexp_keys.specs.Lists.{hashed_list_of};
+ghost use Rattle.sexp_keys.specs.declared.fault.KeyFault.{KeyFault};
+ghost use Rattle.secret_file.specs.Opens.{hash_tree, secret_tree, time_in, time_of, AreSpelled, AreSecrets};
+
+use crate::parts::{behind_name, both, front_of, only_atom};
+use crate::protection::HASH_NAME;
+use sexp_canonical::{Bytes, Items, Sexp};
+use sexp_keys::{KeyFault, KeyList};
+use sha1::Sha1;
+use std::alloc::{AllocError, Global};
+
+// The most bytes behind the expression: one less than a block.
+const MAX_PADDING: usize = 15;
+
+/// The two lists that are decrypted.
+#[derive(Drop)]
+pub(crate) struct Secrets {
+    pub(crate) secret: Items,
+    pub(crate) hash: Sexp,
+}
+
+/// The lists that these bytes are, with some padding.
+fn secrets_of(alloc: Global, bytes: &[u8]) -> Result<Option<Secrets>, KeyFault>
+    requires { length bytes.now ≤ most_bytes }
+    ensures found { IfOk result (λ found. IfSome found (λ s. AreSpelled bytes.now (secret_tree s.secret (tree_of s.hash)))) }
+    ensures none { IfOk result (λ found. IfNone found ((secret : List Tree) (hash : Tree)
+        → depth (secret_tree secret hash) ≤ most_depth → AreSpelled bytes.now (secret_tree secret hash) → ⊥)) }
+    ensures fault { IfErr result (λ fault. fault ≡ KeyFault.NoMemory) }
+{
+    let read = front_of(alloc, bytes)?;
+    let Some((tree, len)) = read else {
+        return Ok(None);
+    };
+    if bytes.len() - len > MAX_PADDING {
+        return Ok(None);
+    }
+    Ok(two_lists(tree))
+}
+
+fn two_lists(tree: Sexp) -> Option<Secrets>
+    ensures found { IfSome result (λ s. tree_of tree ≡ secret_tree s.secret (tree_of s.hash)) }
+    ensures none { IfNone result ((secret : List Tree) (hash : Tree) → tree_of tree ≡ secret_tree secret hash → ⊥) }
+{
+    let Sexp::List(items) = tree else {
+        return None;
+    };
+    let (first, hash) = both(items.into_vec())?;
+    let Sexp::List(secret) = first else {
+        return None;
+    };
+    Some(Secrets { secret, hash })
+}
+
+// Whether this is `(hash sha1 digest)`.
+fn is_hash(tree: &Sexp, digest: &[u8]) -> bool
+    ensures { IsTrue result ↔ (tree_of tree.now ≡ hash_tree digest.now) }
+{
+    match hash_in(tree) {
+        Some(found) => found == digest,
+        None => false,
+    }
+}
+
+fn hash_in(tree: &Sexp) -> Option<&[u8]>
+    ensures found { IfSome result (λ digest. tree_of tree.now ≡ hash_tree digest.now) }
+    ensures none { IfNone result ((digest : List ℕ) → tree_of tree.now ≡ hash_tree digest → ⊥) }
+{
+    let behind = behind_name(b"hash", tree.items())?;
+    let behind = behind_name(HASH_NAME, behind)?;
+    let digest = only_atom(behind)?;
+    Some(digest)
+}
+
+/// The digest of a clear key and the time of its protection.
+pub(crate) fn digest_of(
+    alloc: Global,
+    key: &KeyList,
+    time: Option<&[u8]>,
+) -> Result<[u8; 20], AllocError>
+    requires { IsTrue key.now.is_clear }
+    ensures digest { IfOk result (λ digest. digest ≡ sha1 (hashed_list_of key.now (option_copied time.entry))) }
+    ensures len { IfOk result (λ digest. length digest ≡ 20) }
+{
+    let text = Bytes::from(key.hashed_list(alloc, time)?);
+    Ok(Sha1::digest(text.as_slice()))
+}
+
+/// The clear key, where these bytes are its secret parameters and its digest.
+pub(crate) fn clear_key(
+    alloc: Global,
+    locked: KeyList,
+    bytes: &[u8],
+) -> Result<Option<KeyList>, KeyFault>
+    requires { length bytes.now ≤ most_bytes }
+    ensures found { IfOk result (λ found. IfSome found (AreSecrets locked bytes.now)) }
+    ensures none { IfOk result (λ found. IfNone found ((key : Key) → AreSecrets locked bytes.now key → ⊥)) }
+    ensures fault { IfErr result (λ fault. fault ≡ KeyFault.NoMemory) }
+{
+    let secrets = secrets_of(alloc, bytes)?;
+    let Some(secrets) = secrets else {
+        return Ok(None);
+    };
+    let Secrets { secret, hash } = secrets;
+    let time = time_copied(alloc, locked.private())?;
+    let Some(key) = locked.with_secret(secret) else {
+        return Ok(None);
+    };
+    let digest = digest_of(alloc, &key, slice_of(&time))?;
+    if !is_hash(&hash, &digest) {
+        return Ok(None);
+    }
+    Ok(Some(key))
+}
+
+fn time_copied(alloc: Global, lists: &[Sexp]) -> Result<Option<Bytes>, AllocError>
+    ensures { IfOk result (λ time. time ≡ time_of (trees lists.now)) }
+{
+    match time_of(lists) {
+        Some(time) => Ok(Some(Bytes(Vec::from_slice(alloc, time)?))),
+        None => Ok(None),
+    }
+}
+
+fn slice_of(bytes: &Option<Bytes>) -> Option<&[u8]>
+    ensures { option_copied result ≡ bytes.now }
+{
+    match bytes {
+        Some(bytes) => Some(bytes.as_slice()),
+        None => None,
+    }
+}
+
+// The time of a protection, where there is one.
+fn time_of(lists: &[Sexp]) -> Option<&[u8]>
+    ensures { option_copied result ≡ time_of (trees lists.now) }
+{
+    match lists {
+        [_, list, ..] => time_in(list.items()),
+        _ => None,
+    }
+}
+
+fn time_in(items: &[Sexp]) -> Option<&[u8]>
+    ensures { option_copied result ≡ time_in (trees items.now) }
+{
+    match items {
+        [_, Sexp::Atom(time), ..] => Some(time.as_slice()),
+        _ => None,
+    }
+}
