@@ -1,5 +1,5 @@
 -- Events one after another: each does to the outside what its kind does.
-use Rattle.std.proofs.Common.{◌≡◌, ℕ, ◌+◌, Bool, List, [], ◌∷◌, ◌++◌, length, Option, None, Some, Ok, Err, refl, ap, sym, ◌∙◌, subst, arith}
+use Rattle.std.proofs.Common.{◌≡◌, ℕ, ◌+◌, Bool, List, [], ◌∷◌, ◌++◌, ◌⊎◌, inl, inr, length, Option, None, Some, Ok, Err, refl, ap, sym, ◌∙◌, subst, arith}
 use Rattle.std.specs.Option.{option_map}
 use Rattle.std.specs.Prelude.{IfSome}
 use Rattle.agent_ports.specs.Leads.{none, one}
@@ -7,6 +7,7 @@ use Rattle.agent_ports.specs.Sides.{Side, WhereKnown}
 use Rattle.agent_ports.specs.declared.link.Sent.TheVariants.{Failed}
 use Rattle.agent_ports.proofs.Leading.{leads_then}
 use Rattle.assuan_line.specs.Next.{Reader, ended_by}
+use Rattle.assuan_line.specs.Reading.{WereNeededBy}
 use Rattle.assuan_line.specs.Skipping.{ReadsNext, ReadsAfter}
 use Rattle.assuan_line.specs.Written.{HasCut}
 use Rattle.assuan_line.specs.declared.reader.Took.{Took}
@@ -18,8 +19,8 @@ use Rattle.assuan_text.specs.Forms.{is_ignored}
 use Rattle.cache_policy.specs.declared.mark.MarkStep.{MarkStep}
 use Rattle.cache_policy.specs.Turns.{Turn}
 use Rattle.agent_commands.specs.Events.{Event, Received, Sent, Cut, cache_turn}
-use Rattle.agent_commands.specs.Outside.{World, received, sent, cut, turned}
-use Rattle.agent_commands.specs.Reading.{budget, Reads, line, too_long, end, spent, fault, ReadsPast, ReadsRequest}
+use Rattle.agent_commands.specs.Outside.{World, TakesNeeded, received, sent, cut, turned}
+use Rattle.agent_commands.specs.Reading.{Reads, line, too_long, end, spent, fault, ReadsPast, ReadsRequest}
 use Rattle.agent_commands.specs.States.{StopsWriting, WritesText, SessionState, unread, IsTotal, HasTotal, EventsLead}
 use Rattle.agent_commands.specs.declared.response.WriteFault.{WriteFault}
 
@@ -74,6 +75,16 @@ module _ (skips : List (List ℕ) → List ℕ → Bool) (total : ℕ) (bytes : 
 pub here_going : (reader : Reader) (left : List ℕ) → reader.ended ≡ None → unread reader left ≡ reader.ahead ++ left
 here_going reader left going = rw going refl
 
+-- what a read took
+pub needed_known : (Undecided : List ℕ → Type 0) (reader : Reader) (before after : Option (List ℕ)) → reader.ended ≡ None
+    → WhereKnown before after (λ rest left. (rest ≡ left) ⊎ WereNeededBy Undecided reader.ahead rest left)
+    → TakesNeeded Undecided (option_map (unread reader) before) before after
+needed_known Undecided reader None None going needed = tt
+needed_known Undecided reader None (Some left) going needed = needed
+needed_known Undecided reader (Some rest) None going needed = needed
+needed_known Undecided reader (Some rest) (Some left) going (inl same) = inl same
+needed_known Undecided reader (Some rest) (Some left) going (inr needs) = inr (reader.ahead, ap (λ (x : List ℕ). Some x) (here_going reader rest going), needs)
+
 module _ {w : World} where
   pub done_none : (now : SessionState w) → EventsLead [] now now
   done_none now = record { leads = λ total is. (none, is); input_faults = omega arith; output_faults = omega arith; link = refl }
@@ -107,7 +118,7 @@ module _ {w : World} where
     -- a text was written
     pub done_wrote : (text : List ℕ) (start now : Connection) → WritesText text start (Ok tt) now → EventsLead {w = w} (Sent text ∷ []) (at_conn start) (at_conn now)
     done_wrote text start now said = record {
-      leads = λ total is. (rw (unread_same start now said.input said.reader, said.output) (one sent none), total_same total start now said.input said.reader is);
+      leads = λ total is. (rw (unread_same start now said.input said.reader, ap (λ (s : Side). s.bytes) said.input, said.output) (one sent none), total_same total start now said.input said.reader is);
       input_faults = omega (arith, ap (λ (s : Side). s.faults) said.input);
       output_faults = said.faults;
       link = said.link;
@@ -117,7 +128,7 @@ module _ {w : World} where
     pub done_stopped : (text : List ℕ) (start now : Connection) (why : WriteFault) (stopped : StopsWriting text start.output now.output) → WritesText text start (Err why) now
         → EventsLead {w = w} (Cut stopped.sent ∷ []) (at_conn start) (at_conn now)
     done_stopped text start now why stopped said = record {
-      leads = λ total is. (rw (unread_same start now said.input said.reader, stopped.written) (one cut none), total_same total start now said.input said.reader is);
+      leads = λ total is. (rw (unread_same start now said.input said.reader, ap (λ (s : Side). s.bytes) said.input, stopped.written) (one cut none), total_same total start now said.input said.reader is);
       input_faults = omega (arith, ap (λ (s : Side). s.faults) said.input);
       output_faults = said.faults;
       link = said.link;
@@ -128,7 +139,7 @@ module _ {w : World} where
     done_cut text start now count part =
         let stopped : HasCut text start.output count now.output = part.output in
         record {
-          leads = λ total is. (rw (unread_same start now part.input part.reader, stopped.written) (one cut none), total_same total start now part.input part.reader is);
+          leads = λ total is. (rw (unread_same start now part.input part.reader, ap (λ (s : Side). s.bytes) part.input, stopped.written) (one cut none), total_same total start now part.input part.reader is);
           input_faults = omega (arith, ap (λ (s : Side). s.faults) part.input);
           output_faults = part.faults;
           link = part.link;
@@ -144,7 +155,7 @@ module _ {w : World} where
           (λ rest left is_now known.
           subst (λ (b : List ℕ). ReadsRequest total b answer (unread now.reader left)) (sym (here_going start.reader rest going))
           (known.0, reads_past (λ before line. is_ignored line) total (start.reader.ahead ++ rest) known.0 answer now.reader left next.read.ended is_now known.1)) in
-          (rw (ap (λ (s : Side). s.bytes) next.output) (one (received read.0) none), read.1);
+          (rw (ap (λ (s : Side). s.bytes) next.output) (one (received read.0 (needed_known _ start.reader start.input.bytes now.input.bytes going next.read.needed)) none), read.1);
       input_faults = next.read.faults;
       output_faults = omega (arith, ap (λ (s : Side). s.faults) next.output);
       link = next.link;

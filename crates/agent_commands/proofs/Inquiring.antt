@@ -1,15 +1,15 @@
 -- An inquiry for a passphrase, from what is told before it to what it came to.
-use Rattle.std.proofs.Common.{◌≡◌, ◌≢◌, ◌≤◌, ℕ, List, [], ◌∷◌, ◌++◌, codes, None, Some, Result, Ok, Err, refl, ap, sym, ◌∙◌, subst, arith}
+use Rattle.std.proofs.Common.{◌≡◌, ◌≤◌, ℕ, List, [], ◌∷◌, ◌++◌, None, Some, Result, Ok, Err, refl, ap, sym, ◌∙◌, subst, arith}
 use Rattle.std.specs.List.{flat_map}
 use Rattle.agent_ports.specs.Counts.{Rose}
 use Rattle.agent_ports.specs.Leads.{none, one}
-use Rattle.agent_ports.specs.declared.link.Sent.TheVariants.{All, Failed}
+use Rattle.agent_ports.specs.declared.link.Sent.TheVariants.{Failed}
 use Rattle.assuan_escape.specs.DataLines.{carried}
 use Rattle.assuan_line.specs.Next.{Reader, held}
 use Rattle.assuan_line.specs.Written.{HasCut}
 use Rattle.assuan_line.specs.declared.reader.Took.{Took}
 use Rattle.assuan_line.proofs.ReadingOn.{fewer_so, fault_so}
-use Rattle.assuan_server.specs.Asking.{Gather, Inquire, IsNotAsked, ReadsAnswer as AnswerSays}
+use Rattle.assuan_server.specs.Asking.{Gather, Inquire, ReadsAnswer as AnswerSays}
 use Rattle.assuan_server.specs.Connections.{Connection}
 use Rattle.assuan_server.specs.Inquiries.{Outcome, Data, Inquiry as Inquires, ComesTo, is_skipped, outcome_of_secret, ended_of}
 use Rattle.assuan_server.specs.Inquiries as outcome
@@ -26,7 +26,7 @@ use Rattle.agent_commands.specs.States.{WritesText, SessionState, unread, IsTota
 use Rattle.agent_commands.specs.Steps.{secret_text, Responds, InquiresSecret, AsksSecret, limit_cut as limit_stopped, asked as asked_for, answer_of}
 use Rattle.agent_commands.specs.declared.command.Answer.{Answer}
 use Rattle.agent_commands.specs.declared.went.Went.TheVariants.{On}
-use Rattle.agent_commands.proofs.Doing.{done_then, done_wrote, done_cut, read_known, reads_past, here_going, unread_same, total_same}
+use Rattle.agent_commands.proofs.Doing.{done_then, done_wrote, done_cut, read_known, reads_past, here_going, needed_known, unread_same, total_same}
 use Rattle.agent_commands.proofs.Saying.{said_whole}
 
 -- what was done where the client gave no passphrase that it was asked for, and how that is answered
@@ -53,7 +53,7 @@ module _ (w : World) (desk : w.Desk) (ends : w.Ends) where
   done_not_asked start now count part =
       let cut : HasCut (line_of secret_text) start.output count now.output = part.output in
       record {
-        leads = λ total is. (rw (unread_same start now part.input part.reader, cut.written) (one (not_asked cut.unsent cut.split) none), total_same total start now part.input part.reader is);
+        leads = λ total is. (rw (unread_same start now part.input part.reader, ap (λ s. s.bytes) part.input, cut.written) (one (not_asked cut.unsent cut.split) none), total_same total start now part.input part.reader is);
         input_faults = omega (arith, ap (λ s. s.faults) part.input);
         output_faults = part.faults;
         link = part.link;
@@ -80,7 +80,7 @@ module _ (w : World) (desk : w.Desk) (ends : w.Ends) where
             gathered.read.known gathered.read.budget is
             (λ rest left is_now known.
             subst (λ (b : List ℕ). ReadsAnswer total MAX_SECRET_LEN b what (unread now.reader left)) (sym (here_going mid.reader rest going)) (answer_read total rest left is_now known)) in
-            (rw gathered.written (one (asked read.0) none), read.1);
+            (rw gathered.written (one (asked read.0 (needed_known _ mid.reader mid.input.bytes now.input.bytes going gathered.read.needed)) none), read.1);
         input_faults = gathered.read.faults;
         output_faults = gathered.output_faults;
         link = gathered.link;

@@ -65,6 +65,7 @@ session_state turned conn desk = record { conn = conn; desk = desk; ends = tt }
 abbrev pub outside_at : {w : World} → SessionState w → Outside w
 outside_at state = record {
   input = option_map (unread state.conn.reader) state.conn.input.bytes;
+  source = state.conn.input.bytes;
   output = state.conn.output.bytes;
   desk = state.desk;
   ends = state.ends;

@@ -1,5 +1,5 @@
 -- A session from its greeting on.
-use Rattle.std.proofs.Common.{◌≡◌, ◌≤◌, ◌+◌, ℕ, List, [], ◌∷◌, ◌++◌, length, Option, None, Some, Ok, Err, refl, ap, sym, ◌∙◌, subst, arith}
+use Rattle.std.proofs.Common.{◌≡◌, ◌≤◌, ◌+◌, ℕ, List, [], ◌∷◌, length, Option, None, Some, Ok, Err, refl, ap, ◌∙◌, subst, arith}
 use Rattle.std.specs.Option.{option_map}
 use Rattle.std.specs.Prelude.{IfSome, ⊤}
 use Rattle.agent_ports.specs.Leads.{Leads, none, one}
@@ -46,11 +46,11 @@ known_each (Some bytes) (Some rest) P known = tt
 known_leads : {w : World} {total : ℕ} {before after : Outside w} {events : List (Event w.Further)} → Leads (Does w total) before events after
     → WhereKnown before.input after.input (λ bytes rest. ⊤)
 known_leads {before} none = known_same before.input _ (λ bytes. tt)
-known_leads {before} {after} (one {mid} (received known) later) =
+known_leads {before} {after} (one {mid} (received known needed) later) =
     known_then before.input mid.input after.input _ _ _ (known_each before.input mid.input _ known) (known_leads later) (λ bytes rest more p q. tt)
 known_leads (one sent later) = known_leads later
 known_leads (one cut later) = known_leads later
-known_leads {before} {after} (one {mid} (asked known) later) =
+known_leads {before} {after} (one {mid} (asked known needed) later) =
     known_then before.input mid.input after.input _ _ _ (known_each before.input mid.input _ known) (known_leads later) (λ bytes rest more p q. tt)
 known_leads (one (not_asked unsent split) later) = known_leads later
 known_leads (one (turned does) later) = known_leads later

@@ -1,7 +1,6 @@
 -- A session that is under way, and what each way out of its loop makes of it.
 use Rattle.std.proofs.Common.{◌≡◌, ℕ, List, [], ◌∷◌, ◌++◌, Option, Some, None, Ok, Err, refl, ap, sym, ◌∙◌, subst, arith, append_assoc}
 use Rattle.agent_ports.specs.Counts.{Rose}
-use Rattle.agent_ports.specs.Sides.{Side}
 use Rattle.assuan_line.specs.Next.{Reader}
 use Rattle.assuan_line.specs.declared.reader.Took.{Took}
 use Rattle.assuan_line.specs.declared.reader.Took.TheVariants as took

@@ -1,5 +1,5 @@
 -- The turns among a session's events.
-use Rattle.std.proofs.Common.{ℕ, List, [], ◌∷◌}
+use Rattle.std.proofs.Common.{ℕ, List}
 use Rattle.agent_ports.specs.Leads.{Leads, none, one}
 use Rattle.cache_policy.specs.Extending.{TakesTurn}
 use Rattle.agent_commands.specs.Events.{Event, turns_in}
@@ -8,10 +8,10 @@ use Rattle.agent_commands.specs.Outside.{World, Outside, Does, received, sent, c
 pub turns_lead : {w : World} {total : ℕ} {before after : Outside w} {events : List (Event w.Further)} → Leads (Does w total) before events after
     → Leads (TakesTurn w.turned) before.desk (turns_in events) after.desk
 turns_lead none = none
-turns_lead (one (received known) later) = turns_lead later
+turns_lead (one (received known needed) later) = turns_lead later
 turns_lead (one sent later) = turns_lead later
 turns_lead (one cut later) = turns_lead later
-turns_lead (one (asked known) later) = turns_lead later
+turns_lead (one (asked known needed) later) = turns_lead later
 turns_lead (one (not_asked unsent split) later) = turns_lead later
 turns_lead (one (turned does) later) = one does (turns_lead later)
 turns_lead (one (further does) later) = turns_lead later

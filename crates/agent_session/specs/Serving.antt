@@ -1,6 +1,5 @@
 -- How far a session has come at some state of its code.
 use Rattle.std.specs.Prelude.{◌≡◌, ℕ, List}
-use Rattle.agent_ports.specs.Counts.{Rose}
 use Rattle.session_options.specs.Choices.{Choices}
 use Rattle.session_options.specs.declared.rules.Rules.{Rules}
 use Rattle.agent_commands.specs.Events.{Event}

@@ -29,7 +29,7 @@ surroundings turned input output desk = record { input = input; output = output;
 
 -- its ends, where these bytes come next
 abbrev pub ends_with : {w : World} → Option (List ℕ) → Surroundings w → Outside w
-ends_with input around = record { input = input; output = around.output.bytes; desk = around.desk; ends = around.ends }
+ends_with input around = record { input = input; source = around.input.bytes; output = around.output.bytes; desk = around.desk; ends = around.ends }
 
 -- how many bytes come, where they are known
 abbrev pub total_of : Option (List ℕ) → ℕ
@@ -47,7 +47,7 @@ Leaves ReadFault rest left = rest ≡ left
 
 -- What a session did to what it has to do with. Its events are a session's, and lead its ends from before to after: the bytes that
 -- were written are theirs, their turns are the desk's, and their requests and inquiries are those of the bytes that were read, of
--- which no more were taken than the budget allows.
+-- which each took no more than it may, and all together no more than the budget allows.
 pub record ServesSession {w : World} (rules : Rules) (before : Surroundings w) (end : SessionEnd) (after : Surroundings w) : Type 0 where
   pub events : List (Event w.Further)
   pub session : Session (LineExchange rules) (at_start rules.s2k_count rules.allow_loopback) events end

@@ -10,7 +10,7 @@ use Rattle.cache_policy.specs.Extending.{IsExtended}
 use Rattle.cache_policy.specs.Turns.{Turn}
 use Rattle.cache_policy.proofs.Extending.{extends}
 use Rattle.agent_commands.specs.Events.{Event, turns_in}
-use Rattle.agent_commands.specs.Outside.{World, world, Outside, Does, received, sent, cut, asked, not_asked, turned, further}
+use Rattle.agent_commands.specs.Outside.{world, Outside, Does, received, sent, cut, asked, not_asked, turned, further}
 use Rattle.agent_session.proofs.Turning.{turns_lead}
 use Rattle.agent_commands.specs.declared.went.SessionEnd.{SessionEnd}
 use Rattle.agent_ports.specs.Sides.{Side}
@@ -23,7 +23,7 @@ use Rattle.agent_top.specs.Top.{outside, RunsServer, number_of, status_of}
 module _ {C : Type 0} (readings : C → Readings) (limits : Limits) (total : ℕ) where
   -- the ends with a run in place of the desk
   abbrev pub with_run : List History → Outside (world (DeskTurn readings)) → Outside (world (TakesTurn limits))
-  with_run run ends = record { input = ends.input; output = ends.output; desk = cache_state run (readings ends.desk.clock); ends = tt }
+  with_run run ends = record { input = ends.input; source = ends.source; output = ends.output; desk = cache_state run (readings ends.desk.clock); ends = tt }
 
   pub record Lifts (before after : Outside (world (DeskTurn readings))) (events : List (Event (world (DeskTurn readings)).Further)) (run : List History) : Type 0 where
     pub later : List History
@@ -34,10 +34,10 @@ module _ {C : Type 0} (readings : C → Readings) (limits : Limits) (total : ℕ
   pub lifts : {before after : Outside (world (DeskTurn readings))} {events : List (Event (world (DeskTurn readings)).Further)} (run : List History) → KeepsRun limits before.desk.core run
       → Leads (Does (world (DeskTurn readings)) total) before events after → Lifts before after events run
   lifts run keeps none = record { later = run; leads = none; keeps = keeps; lent = refl }
-  lifts run keeps (one (received known) more) = let r = lifts run keeps more in record { later = r.later; leads = one (received known) r.leads; keeps = r.keeps; lent = r.lent }
+  lifts run keeps (one (received known needed) more) = let r = lifts run keeps more in record { later = r.later; leads = one (received known needed) r.leads; keeps = r.keeps; lent = r.lent }
   lifts run keeps (one sent more) = let r = lifts run keeps more in record { later = r.later; leads = one sent r.leads; keeps = r.keeps; lent = r.lent }
   lifts run keeps (one cut more) = let r = lifts run keeps more in record { later = r.later; leads = one cut r.leads; keeps = r.keeps; lent = r.lent }
-  lifts run keeps (one (asked known) more) = let r = lifts run keeps more in record { later = r.later; leads = one (asked known) r.leads; keeps = r.keeps; lent = r.lent }
+  lifts run keeps (one (asked known needed) more) = let r = lifts run keeps more in record { later = r.later; leads = one (asked known needed) r.leads; keeps = r.keeps; lent = r.lent }
   lifts run keeps (one (not_asked unsent split) more) = let r = lifts run keeps more in record { later = r.later; leads = one (not_asked unsent split) r.leads; keeps = r.keeps; lent = r.lent }
   lifts {before} run keeps (one (turned {taken} {desk} does) more) =
       let now = does.runs run (subst (λ (l : Limits). KeepsRun l before.desk.core run) (sym keeps.limits_are) keeps) in

@@ -1,5 +1,5 @@
 -- A step of the core makes a turn of each run that it stands for.
-use Rattle.std.proofs.Common.{◌≡◌, ◌≢◌, ◌≤◌, ◌<◌, ◌+◌, ◌%◌, ◌==◌, ◌||◌, ℕ, List, [], ◌∷◌, ◌++◌, length, Bool, true, false, max, min, Option, Some, None, fold, append-nil, length-append, refl, ap, sym, ◌∙◌, subst, arith, if◌then◌else◌}
+use Rattle.std.proofs.Common.{◌≡◌, ◌≢◌, ◌≤◌, ◌<◌, ◌+◌, ◌%◌, ◌==◌, ◌||◌, ℕ, List, [], ◌∷◌, ◌++◌, length, Bool, true, false, Option, Some, None, fold, append-nil, length-append, refl, ap, sym, ◌∙◌, subst, arith, if◌then◌else◌}
 use Rattle.std.specs.Option.{option_and_then, is_some}
 use Rattle.std.specs.List.{AllByRecursion}
 use Rattle.std.proofs.lemmas.Bool.Decides.{nat_tests}
@@ -19,7 +19,7 @@ use Rattle.cache_policy.specs.declared.mark.MarkStep.{MarkStep}
 use Rattle.cache_policy.specs.declared.mark.MarkStep.TheVariants.{Ask, Seat, Close, Put, Clear, Flush, Peek, Stop}
 use Rattle.cache_policy.specs.declared.mark.Way.TheVariants.{Quiet, Prompt}
 use Rattle.cache_policy.specs.Book.{is_put}
-use Rattle.cache_policy.specs.Desks.{Shows, GoesOn, MakesMarks, marked as makes_mark, refused as makes_none, spent as is_spent_run, IsOwnMark, IsSpentRun}
+use Rattle.cache_policy.specs.Desks.{Shows, MakesMarks, marked as makes_mark, refused as makes_none, spent as is_spent_run}
 use Rattle.cache_policy.specs.Histories.{next_number, with_mark}
 use Rattle.cache_policy.specs.Legal.{IsLegal, IsLegalRun}
 use Rattle.cache_policy.specs.Live.{live}

@@ -1,6 +1,6 @@
 -- The cache of the one session that is served, as a run of histories that goes on by its turns at the readings of a clock. This is this
 -- project's own.
-use Rattle.std.specs.Prelude.{◌≡◌, ◌||◌, ℕ, List, [], ◌∷◌, true, false, Some, None}
+use Rattle.std.specs.Prelude.{◌≡◌, ◌||◌, ℕ, List, [], true, false, Some, None}
 use Rattle.std.specs.List.{AllByRecursion}
 use Rattle.agent_ports.specs.Readings.{Readings, IsRead}
 use Rattle.agent_ports.specs.declared.session.SessionId.{SessionId}

@@ -1,8 +1,8 @@
 -- The desk of the one session: which runs its core stands for, and what its turns do.
-use Rattle.std.specs.Prelude.{◌≡◌, ◌<◌, ℕ, List, Option, Some, None}
+use Rattle.std.specs.Prelude.{◌≡◌, ◌<◌, List, Some, None}
 use Rattle.std.specs.Borrow.{GName}
 use Rattle.std.proofs.Common.{refl, sym}
-use Rattle.agent_ports.specs.Readings.{Readings, IsRead}
+use Rattle.agent_ports.specs.Readings.{Readings}
 use Rattle.agent_core.specs.Cores.{StandsFor}
 use Rattle.agent_core.specs.States.{AtCore}
 use Rattle.cache_policy.specs.declared.life.Limits.{Limits}

@@ -3,7 +3,7 @@ use Rattle.assuan_server.specs.declared.errors.Code.TheVariants.{NoData, NotSupp
 use Rattle.cache_policy.specs.Turns.{Given, Empty, Stopping, Refused}
 use Rattle.agent_commands.specs.Exchanges.{ask, not_quiet, no_id, given, empty, interrupted, stopping, refused}
 use Rattle.agent_commands.specs.Outside.{world}
-use Rattle.agent_commands.specs.declared.response.Response.TheVariants.{Given as Gives, Failed}
+use Rattle.agent_commands.specs.declared.response.Response.TheVariants.{Failed}
 use Rattle.agent_commands.proofs.Preparing.{prepared_on, prepared_turned}
 use Rattle.agent_commands.proofs.command.get_passphrase.Goals as goal
 

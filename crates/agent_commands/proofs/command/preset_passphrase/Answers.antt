@@ -1,6 +1,6 @@
 use Rattle.cache_policy.specs.declared.life.Life.TheVariants.{Endless}
 use Rattle.assuan_server.specs.declared.errors.Code.TheVariants.{NotSupported}
-use Rattle.agent_commands.specs.Exchanges.{Exchange, put, other_life, not_allowed, preset}
+use Rattle.agent_commands.specs.Exchanges.{put, other_life, not_allowed, preset}
 use Rattle.agent_commands.specs.Outside.{world}
 use Rattle.agent_commands.specs.declared.response.Response.TheVariants.{Failed}
 use Rattle.agent_commands.proofs.Preparing.{prepared_on, prepared_turned}
