@@ -63,7 +63,9 @@ module _ (w : World) (desk : w.Desk) (ends : w.Ends) where
   module _ (start mid now : Connection) (said : WritesText limit_line start (Ok tt) mid) where
     -- the client answered
     module _ (going : mid.reader.ended ≡ None) (what : Outcome) (answer : Took) (gathered : Gather (AnswerSays MAX_SECRET_LEN (Some what)) secret_text mid answer now) where
-      answer_read : (total : ℕ) (rest left : List ℕ) → IsTotal total now.reader left → AnswerSays MAX_SECRET_LEN (Some what) (mid.reader.ahead ++ rest) answer now.reader left → ReadsAnswer total MAX_SECRET_LEN (mid.reader.ahead ++ rest) what (unread now.reader left)
+      answer_read : (total : ℕ) (rest left : List ℕ) → IsTotal total now.reader left
+          → AnswerSays MAX_SECRET_LEN (Some what) (mid.reader.ahead ++ rest) answer now.reader left
+          → ReadsAnswer total MAX_SECRET_LEN (mid.reader.ahead ++ rest) what (unread now.reader left)
       answer_read total rest left is read =
           let inquiry : Inquires MAX_SECRET_LEN (mid.reader.ahead ++ rest) answer read.0 now.reader left = read.1 in
           record {

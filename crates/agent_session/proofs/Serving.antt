@@ -56,7 +56,9 @@ module _ {w : World} (rules : Rules) (before : Choices) (start : SessionState w)
 
   module _ (now : SessionState w) (choices : Choices) (serving : IsServing now choices) where
     -- the session's end, after these events more
-    finishes : (last : SessionState w) (more : List (Event w.Further)) (end : SessionEnd) → EventsLead more now last → Talk (LineExchange rules) choices more end → ((left : List ℕ) → Leaves end (unread last.conn.reader left) left) → FaultsRise (End end) now last → ServesRequests rules before start end last
+    finishes : (last : SessionState w) (more : List (Event w.Further)) (end : SessionEnd) → EventsLead more now last
+        → Talk (LineExchange rules) choices more end → ((left : List ℕ) → Leaves end (unread last.conn.reader left) left)
+        → FaultsRise (End end) now last → ServesRequests rules before start end last
     finishes last more end done talk leaves_so faults = record {
       events = serving.events ++ more;
       talk = serving.continues more end talk;

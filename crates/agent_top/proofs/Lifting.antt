@@ -75,8 +75,11 @@ fresh_keeps limits desk fresh = record {
 }
 
 -- what a session at the desk is for the agent
-module _ {C : Type 0} (readings : C → Readings) (rules : Rules) (input output input_now output_now : Side) (desk desk_now : DeskState C) (end : SessionEnd) (fresh : IsFresh (limits_of rules) desk) (served : ServesSession {w = world (DeskTurn readings)} rules (surroundings (DeskTurn readings) input output desk) end (surroundings (DeskTurn readings) input_now output_now desk_now)) where
-  lifted : Lifts readings (limits_of rules) (total_of input.bytes) (ends_with input.bytes (surroundings (DeskTurn readings) input output desk)) (ends_with served.rest (surroundings (DeskTurn readings) input_now output_now desk_now)) served.events (at_start ∷ [])
+module _ {C : Type 0} (readings : C → Readings) (rules : Rules) (input output input_now output_now : Side) (desk desk_now : DeskState C) (end : SessionEnd)
+    (fresh : IsFresh (limits_of rules) desk)
+    (served : ServesSession {w = world (DeskTurn readings)} rules (surroundings (DeskTurn readings) input output desk) end (surroundings (DeskTurn readings) input_now output_now desk_now)) where
+  lifted : Lifts readings (limits_of rules) (total_of input.bytes) (ends_with input.bytes (surroundings (DeskTurn readings) input output desk))
+      (ends_with served.rest (surroundings (DeskTurn readings) input_now output_now desk_now)) served.events (at_start ∷ [])
   lifted = lifts readings (limits_of rules) (total_of input.bytes) (at_start ∷ []) (fresh_keeps (limits_of rules) desk fresh) served.leads
 
   pub ran_so : (number : ℕ) → number ≡ number_of (status_of end) → RunsServer rules (outside input output (readings desk.clock)) number (outside input_now output_now (readings desk_now.clock))
