@@ -66,6 +66,8 @@ impl Answer {
 }
 
 /// Does what a command asks for, answers it, and says how the session goes on.
+// Apart from the session's loop, as `read_request` is.
+#[inline(never)]
 pub fn run_cache<L: Link, D: Desk>(
     command: &CacheCommand,
     rules: &Rules,

@@ -14,6 +14,8 @@ use assuan_text::{Text, arguments, command_and_rest, has_option, next_word};
 /// Reads a line as what it asks for.
 ///
 /// A line that a session passes over, an empty one or a comment, has no command, and is refused here.
+// Its texts' places are filled anew at each request where it is part of the session's loop.
+#[inline(never)]
 #[tactic(auto, unfolding(crate::specs::Requests::request_of))]
 pub fn read_request(line: &Line) -> Request
     ensures { result ≡ request_of line.now }
