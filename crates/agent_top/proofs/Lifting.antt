@@ -18,7 +18,7 @@ use Rattle.agent_session.specs.Sessions.{surroundings, ends_with, total_of, Serv
 use Rattle.session_options.specs.declared.rules.Rules.{Rules}
 use Rattle.agent_top.specs.Cache.{CacheState, cache_state, TakesTurn, at_cache, at_start, limits_of, session}
 use Rattle.agent_top.specs.Desk.{DeskState, DeskTurn, KeepsRun, IsFresh}
-use Rattle.agent_top.specs.Top.{outside, RunsServer, number_of, status_of}
+use Rattle.agent_top.specs.Top.{outside, RunsServer, ran, number_of, status_of}
 
 module _ {C : Type 0} (readings : C → Readings) (limits : Limits) (total : ℕ) where
   -- the ends with a run in place of the desk
@@ -83,7 +83,7 @@ module _ {C : Type 0} (readings : C → Readings) (rules : Rules) (input output 
   lifted = lifts readings (limits_of rules) (total_of input.bytes) (at_start ∷ []) (fresh_keeps (limits_of rules) desk fresh) served.leads
 
   pub ran_so : (number : ℕ) → number ≡ number_of (status_of end) → RunsServer rules (outside input output (readings desk.clock)) number (outside input_now output_now (readings desk_now.clock))
-  ran_so number is = record {
+  ran_so number is = ran (record {
     end = end;
     number_is = is;
     run = lifted.later;
@@ -102,7 +102,7 @@ module _ {C : Type 0} (readings : C → Readings) (rules : Rules) (input output 
     };
     extended = extended (limits_of rules) (total_of input.bytes) _ _ served.events lifted.leads;
     legal = lifted.keeps.legal;
-  }
+  })
 
   pub lent_so : desk_now.lent ≡ desk.lent
   lent_so = lifted.lent

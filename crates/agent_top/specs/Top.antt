@@ -49,10 +49,15 @@ with_cache rules run around = surroundings (TakesTurn (limits_of rules)) around.
 
 -- A session was served, and the number is that of its end. The cache began empty. Its run is legal, and has the marks of the session's
 -- turns in their order, each at the moment that the clock's reading says.
-pub record RunsServer (rules : Rules) (before : Outside) (number : ℕ) (after : Outside) : Type 0 where
+pub record RunsSession (rules : Rules) (before : Outside) (number : ℕ) (after : Outside) : Type 0 where
   pub end : SessionEnd
   pub number_is : number ≡ number_of (status_of end)
   pub run : List History
   pub served : ServesSession rules (with_cache rules (at_start ∷ []) before) end (with_cache rules run after)
   pub extended : IsExtended (limits_of rules) session (at_start ∷ []) (turns_in served.events) run
   pub legal : IsLegalRun (limits_of rules) run
+
+-- That was done, or there was no memory before the first line: then nothing is read or written.
+pub data RunsServer (rules : Rules) (before : Outside) : ℕ → Outside → Type 0 where
+  ran : {number : ℕ} {after : Outside} → RunsSession rules before number after → RunsServer rules before number after
+  no_memory : RunsServer rules before (number_of status.NoMemory) before

@@ -7,7 +7,7 @@ use agent_commands::SessionEnd;
 pub enum Status {
     /// The client said BYE, or its input ended.
     Success,
-    /// There was no memory for the words of the command line.
+    /// There was no memory for the words of the command line, or for a session.
     NoMemory,
     /// The words of the command line are none that the agent takes.
     BadWords,
