@@ -55,7 +55,8 @@ module _ {w : World} (exchange : Choices → List (Event w.Further) → Choices 
         faults = record { read = λ e. absurd (cc e); write = λ e. omega (arith, prepared.done.output_faults, stops.rose) };
       }
 
-module _ {w : World} (exchange : Choices → List (Event w.Further) → Choices → Went → Type 0) (before after : Choices) (start : SessionState w) (now : Connection) (text : List ℕ) (on : exchange before (Sent text ∷ []) after On) where
+module _ {w : World} (exchange : Choices → List (Event w.Further) → Choices → Went → Type 0) (before after : Choices) (start : SessionState w) (now : Connection) (text : List ℕ)
+    (on : exchange before (Sent text ∷ []) after On) where
   -- nothing is done but to write one text, and the session goes on
   pub answered_text : start.conn.reader.ended ≡ None → WritesText text start.conn (Ok tt) now → AnswersRequest exchange before start On after (record start { conn = now })
   answered_text going said = record {

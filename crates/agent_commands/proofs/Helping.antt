@@ -17,13 +17,15 @@ use Rattle.agent_commands.proofs.Saying.{said_then, said_first}
 abbrev pub comments : List (Bor (List ℕ) × CommandName) → List ℕ
 comments rows = flat_map (λ row. line_of (comment_text row.0.now)) rows
 
-comments_more : (rows : List (Bor (List ℕ) × CommandName)) (at : ℕ) (other : Bor (List ℕ) × CommandName) → at < length rows → comments (take (at + 1) rows) ≡ comments (take at rows) ++ line_of (comment_text (get_or rows at other).0.now)
+comments_more : (rows : List (Bor (List ℕ) × CommandName)) (at : ℕ) (other : Bor (List ℕ) × CommandName) → at < length rows
+    → comments (take (at + 1) rows) ≡ comments (take at rows) ++ line_of (comment_text (get_or rows at other).0.now)
 comments_more rows at other within =
     ap comments (take_more rows at other within)
     ∙ flat_map-append (λ row. line_of (comment_text row.0.now)) (take at rows) (get_or rows at other ∷ [])
     ∙ ap (λ (x : List ℕ). comments (take at rows) ++ x) (append-nil (line_of (comment_text (get_or rows at other).0.now)))
 
-module _ (rows : List (Bor (List ℕ) × CommandName)) (at : ℕ) (other : Bor (List ℕ) × CommandName) (within : at < length rows) (start before after : Connection) (so_far : WritesText (comments (take at rows)) start (Ok tt) before) where
+module _ (rows : List (Bor (List ℕ) × CommandName)) (at : ℕ) (other : Bor (List ℕ) × CommandName) (within : at < length rows) (start before after : Connection)
+    (so_far : WritesText (comments (take at rows)) start (Ok tt) before) where
   pub one_more : WritesText (line_of (comment_text (get_or rows at other).0.now)) before (Ok tt) after → WritesText (comments (take (at + 1) rows)) start (Ok tt) after
   one_more said =
       subst (λ (x : List ℕ). WritesText x start (Ok tt) after) (sym (comments_more rows at other within))

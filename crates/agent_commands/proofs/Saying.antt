@@ -56,7 +56,8 @@ then_said first second before mid after (Err fault) is faults stopped = record {
   rose = omega (arith, stopped.rose, faults);
 }
 
-pub said_then : (first second : List ℕ) (before mid after : Connection) (result : Result (Unit {0}) WriteFault) → WritesText first before (Ok tt) mid → WritesText second mid result after → WritesText (first ++ second) before result after
+pub said_then : (first second : List ℕ) (before mid after : Connection) (result : Result (Unit {0}) WriteFault)
+    → WritesText first before (Ok tt) mid → WritesText second mid result after → WritesText (first ++ second) before result after
 said_then first second before mid after result one two = record {
   output = then_said first second before.output mid.output after.output result one.output one.faults two.output;
   faults = omega (arith, one.faults, two.faults);

@@ -4,7 +4,8 @@ use Rattle.std.proofs.Common.{sym, subst, ap, append_assoc}
 use Rattle.agent_ports.specs.Sides.{followed_by, with_bytes, WhereKnown}
 
 -- a fact of what stood before and after holds where it holds of the bytes taken and of what is left
-pub known_by : (taken : List ℕ) (before after : Option (List ℕ)) (P : List ℕ → List ℕ → Type 0) → before ≡ followed_by taken after → ((left : List ℕ) → after ≡ Some left → P (taken ++ left) left) → WhereKnown before after P
+pub known_by : (taken : List ℕ) (before after : Option (List ℕ)) (P : List ℕ → List ℕ → Type 0) → before ≡ followed_by taken after
+    → ((left : List ℕ) → after ≡ Some left → P (taken ++ left) left) → WhereKnown before after P
 known_by taken before None P split each = subst (λ b. WhereKnown b None P) (sym split) tt
 known_by taken before (Some left) P split each = subst (λ b. WhereKnown b (Some left) P) (sym split) (each left refl)
 
@@ -14,7 +15,8 @@ known_same None P each = tt
 known_same (Some rest) P each = each rest
 
 -- one call after another
-pub known_then : (before mid after : Option (List ℕ)) (P Q R : List ℕ → List ℕ → Type 0) → WhereKnown before mid P → WhereKnown mid after Q → ((rest left more : List ℕ) → P rest left → Q left more → R rest more) → WhereKnown before after R
+pub known_then : (before mid after : Option (List ℕ)) (P Q R : List ℕ → List ℕ → Type 0) → WhereKnown before mid P
+    → WhereKnown mid after Q → ((rest left more : List ℕ) → P rest left → Q left more → R rest more) → WhereKnown before after R
 known_then None None None P Q R first second each = tt
 known_then None None (Some more) P Q R first second each = second
 known_then None (Some left) after P Q R first second each = absurd first
