@@ -1,4 +1,4 @@
--- What a request takes, step by step: what is done for it, and then its response.
+-- Private: what a request takes, step by step: what is done for it, and then its response.
 use Rattle.std.specs.Prelude.{◌≡◌, ◌≢◌, ℕ, List, [], ◌∷◌, ◌++◌, codes, decimal, Option, Some, None, Result, Ok as Whole, Err as Part}
 use Rattle.agent_ports.specs.declared.link.Sent.TheVariants.{All, Failed as SentPart}
 use Rattle.assuan_server.specs.Connections.{Connection}

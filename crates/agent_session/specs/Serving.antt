@@ -1,4 +1,4 @@
--- How far a session has come at some state of its code.
+-- Private: how far a session has come at some state of its code.
 use Rattle.std.specs.Prelude.{◌≡◌, ℕ, List}
 use Rattle.session_options.specs.Choices.{Choices}
 use Rattle.session_options.specs.declared.rules.Rules.{Rules}

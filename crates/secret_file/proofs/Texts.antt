@@ -8,7 +8,7 @@ use Rattle.sexp_canonical.specs.Tree.{Tree, list_of}
 use Rattle.sexp_canonical.specs.Spelling.{spelling}
 use Rattle.sexp_keys.specs.Key.{Key}
 use Rattle.sexp_keys.specs.Lists.{hashed_list_of}
-use Rattle.sexp_keys.proofs.WrittenLists.{list_written}
+use Rattle.sexp_canonical.proofs.WrittenLists.{list_written}
 use Rattle.secret_file.specs.Opens.{hash_tree, secret_tree}
 use Rattle.secret_file.specs.Protects.{secret_text}
 use Rattle.secret_file.proofs.Fits.{secret_len}

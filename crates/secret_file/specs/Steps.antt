@@ -1,4 +1,4 @@
--- What the steps of opening know.
+-- Private: what the steps of opening know.
 use Rattle.std.specs.Prelude.{◌≡◌, ℕ, List, length}
 use Rattle.sexp_canonical.specs.Tree.{Tree}
 use Rattle.secret_file.specs.Protection.{Protection, IsProtection}

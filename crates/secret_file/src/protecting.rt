@@ -22,7 +22,7 @@ use crate::secrets::digest_of;
 use aes_modes::{cbc_encrypt, decryption_undoes_encryption};
 use itoa::Buffer;
 use s2k_derive::derive;
-use sexp_canonical::{Bytes, Sexp, append, append_atom};
+use sexp_canonical::{Bytes, Sexp, append_atom, append_list};
 use sexp_keys::KeyList;
 use std::alloc::{AllocError, Global};
 use wiping::wipe;
@@ -42,24 +42,6 @@ fn secret_text(alloc: Global, key: &KeyList, time: Option<&[u8]>) -> Result<Byte
     append_hash(&mut text, &digest)?;
     text.extend_from_slice(b")")?;
     Ok(text)
-}
-
-fn append_list(text: &mut Bytes, items: &[Sexp]) -> Result<(), AllocError>
-    ensures { OnOk result (text.new ≡ text.old ++ spelling (list_of (trees items.now))) }
-{
-    text.extend_from_slice(b"(")?;
-    append_all(text, items)?;
-    text.extend_from_slice(b")")?;
-    Ok(())
-}
-
-fn append_all(text: &mut Bytes, items: &[Sexp]) -> Result<(), AllocError>
-    ensures { OnOk result (text.new ≡ text.old ++ flat_map spelling (trees items.now)) }
-{
-    for tree in items {
-        append(text, tree)?;
-    }
-    Ok(())
 }
 
 fn append_hash(text: &mut Bytes, digest: &[u8]) -> Result<(), AllocError>

@@ -5,5 +5,6 @@ pub mod OneAnswer
 pub mod Steps
 pub mod Open
 pub mod Written
+pub mod WrittenLists
 pub mod Dropped
 pub mod Copied

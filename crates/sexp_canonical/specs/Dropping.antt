@@ -1,4 +1,4 @@
--- How long it takes to take trees apart in place.
+-- Private: how long it takes to take trees apart in place.
 use Rattle.std.specs.Prelude.{ℕ, ◌+◌, ◌*◌, ◌-◌, List, [], ◌∷◌}
 use Rattle.sexp_canonical.specs.Tree.{Tree, node_count}
 

@@ -1,4 +1,4 @@
--- What the steps of reading know of a text.
+-- Private: what the steps of reading know of a text.
 use Rattle.std.specs.Prelude.{◌≡◌, ℕ, ◌<◌, ◌≤◌, List, [], ◌∷◌, ◌++◌, length, take, drop, map, slice_index, Option, Some, None}
 use Rattle.std.specs.Global.{Vec}
 use Rattle.sexp_canonical.specs.Tree.{Tree}

@@ -17,7 +17,7 @@ pub use laws::{
 };
 pub use reading::read;
 pub use tree::{Items, Sexp};
-pub use writing::{append, append_atom, write};
+pub use writing::{append, append_all, append_atom, append_list, write};
 
 /// The most bytes that an expression may have where it is read. No atom of more bytes is begun either.
 pub const MAX_BYTES: usize = 65_536;

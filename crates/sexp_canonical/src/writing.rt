@@ -1,6 +1,6 @@
 ghost use Rattle.std.specs.Prelude.{◌≡◌, ◌+◌, ◌*◌, ◌<◌, ◌≤◌, [], ◌∷◌, ◌++◌, IfOk, OnOk};
 ghost use Rattle.std.specs.List.{flat_map};
-ghost use Rattle.sexp_canonical.specs.Tree.{leaf, node_count};
+ghost use Rattle.sexp_canonical.specs.Tree.{leaf, list_of, node_count};
 ghost use Rattle.sexp_canonical.specs.View.{tree_of, trees};
 ghost use Rattle.sexp_canonical.specs.Spelling.{right_paren, spelling, spelling_of};
 ghost use Rattle.sexp_canonical.specs.Writing.{rest_of, steps_of, begun_lists};
@@ -40,6 +40,26 @@ pub fn append_atom(text: &mut Bytes, bytes: &[u8]) -> Result<(), AllocError>
     text.extend_from_slice(buffer.format(bytes.len()).as_bytes())?;
     text.extend_from_slice(b":")?;
     text.extend_from_slice(bytes)?;
+    Ok(())
+}
+
+/// Appends the canonical forms of these expressions, one after another, or a part of them where the memory isn't enough.
+pub fn append_all(text: &mut Bytes, items: &[Sexp]) -> Result<(), AllocError>
+    ensures { OnOk result (text.new ≡ text.old ++ flat_map spelling (trees items.now)) }
+{
+    for tree in items {
+        append(text, tree)?;
+    }
+    Ok(())
+}
+
+/// Appends the canonical form of the list of these expressions, or a part of it where the memory isn't enough.
+pub fn append_list(text: &mut Bytes, items: &[Sexp]) -> Result<(), AllocError>
+    ensures { OnOk result (text.new ≡ text.old ++ spelling (list_of (trees items.now))) }
+{
+    text.extend_from_slice(b"(")?;
+    append_all(text, items)?;
+    text.extend_from_slice(b")")?;
     Ok(())
 }
 

@@ -1,4 +1,4 @@
--- What the steps of reading know of a key.
+-- Private: what the steps of reading know of a key.
 use Rattle.std.specs.Prelude.{◌≡◌, ℕ, Bool, true, false, List, [], ◌∷◌, ◌++◌, length, IsTrue, if◌then◌else◌}
 use Rattle.sexp_canonical.specs.Tree.{Tree, leaf, list_of}
 use Rattle.sexp_keys.specs.Names.{algorithm_name, form_name, secret_names, time_name}

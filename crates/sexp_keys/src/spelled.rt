@@ -14,7 +14,7 @@ use crate::algorithm::Algorithm;
 use crate::key_list::KeyList;
 use crate::parameters::PROTECTED_AT;
 use agent_ports::Grip;
-use sexp_canonical::{Bytes, Sexp, append, append_atom};
+use sexp_canonical::{Bytes, Sexp, append_all, append_atom};
 use sha1::Sha1;
 use std::alloc::{AllocError, Global};
 
@@ -166,14 +166,5 @@ fn append_time(text: &mut Bytes, time: Option<&[u8]>) -> Result<(), AllocError>
     append_atom(text, PROTECTED_AT)?;
     append_atom(text, time)?;
     text.extend_from_slice(b")")?;
-    Ok(())
-}
-
-fn append_all(text: &mut Bytes, lists: &[Sexp]) -> Result<(), AllocError>
-    ensures { OnOk result (text.new ≡ text.old ++ flat_map spelling (trees lists.now)) }
-{
-    for tree in lists {
-        append(text, tree)?;
-    }
     Ok(())
 }

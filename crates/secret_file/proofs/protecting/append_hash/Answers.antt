@@ -1,7 +1,8 @@
 use Rattle.std.proofs.Common.{[], ◌∷◌}
 use Rattle.std.specs.Prelude.{codes}
 use Rattle.sexp_canonical.specs.Tree.{leaf}
-use Rattle.sexp_keys.proofs.WrittenLists.{key_written, written_one}
+use Rattle.sexp_canonical.proofs.WrittenLists.{written_one}
+use Rattle.sexp_keys.proofs.WrittenLists.{key_written}
 use Rattle.secret_file.specs.Protection.{hash_name}
 use Rattle.secret_file.proofs.protecting.append_hash.Goals as goal
 

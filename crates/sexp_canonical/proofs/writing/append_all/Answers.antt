@@ -1,5 +1,5 @@
-use Rattle.sexp_keys.proofs.WrittenLists.{all_more}
-use Rattle.secret_file.proofs.protecting.append_all.Goals as goal
+use Rattle.sexp_canonical.proofs.WrittenLists.{all_more}
+use Rattle.sexp_canonical.proofs.writing.append_all.Goals as goal
 
 pub loop-tree-preserved : goal.loop-tree-preserved
 loop-tree-preserved c =

@@ -1,6 +1,6 @@
 use Rattle.sexp_canonical.specs.View.{trees}
-use Rattle.sexp_keys.proofs.WrittenLists.{list_written}
-use Rattle.secret_file.proofs.protecting.append_list.Goals as goal
+use Rattle.sexp_canonical.proofs.WrittenLists.{list_written}
+use Rattle.sexp_canonical.proofs.writing.append_list.Goals as goal
 
 pub returns : goal.returns
 returns c =

@@ -1,8 +1,0 @@
-use Rattle.std.proofs.Common.{◌≡◌, ◌++◌, take}
-use Rattle.std.specs.List.{flat_map}
-use Rattle.sexp_canonical.specs.View.{trees}
-use Rattle.sexp_canonical.specs.Spelling.{spelling}
-use Rattle.sexp_keys.proofs.spelled.append_all.Given as goal
-
-abbrev pub invariant-loop-tree : goal.invariant-loop-tree
-invariant-loop-tree l = l.text ≡ l.fn.text ++ flat_map spelling (trees (take l.tree-index l.lists))
