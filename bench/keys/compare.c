@@ -11,6 +11,8 @@
 void dogwood_cbc_encrypt(const uint8_t *key, size_t, const uint8_t *iv, size_t, uint8_t *bytes, size_t);
 void dogwood_cbc_decrypt(const uint8_t *key, size_t, const uint8_t *iv, size_t, uint8_t *bytes, size_t);
 void dogwood_derive(const uint8_t *pass, size_t, const uint8_t *salt, size_t, uint64_t count, uint8_t *key, size_t);
+int64_t dogwood_protect(const uint8_t *clear, size_t, const uint8_t *pass, size_t, uint64_t count, uint8_t *out, size_t);
+int64_t dogwood_unprotect(const uint8_t *file, size_t, const uint8_t *pass, size_t, uint8_t *out, size_t);
 
 #define LEN 65536
 #define RUNS 61
@@ -97,6 +99,36 @@ static void derivation(uint64_t n, int runs) {
     printf("\n");
 }
 
+/* A clear key of small atoms, of about so many bytes. */
+static size_t clear_key(uint8_t *out, size_t most) {
+    size_t len = (size_t)sprintf((char *)out, "(11:private-key(3:ecc(1:q1:Q)");
+    while (len + 24 < most) len += (size_t)sprintf((char *)out + len, "(1:a1:b)");
+    return len + (size_t)sprintf((char *)out + len, "(1:d1:D)))");
+}
+
+/* Opening a file beside its S2K alone. The status is 1 where it takes more than `bound` seconds beside 1.1 times that. */
+static int opening(const char *what, size_t most, uint64_t n, int runs, double bound) {
+    static uint8_t clear[LEN], file[LEN], out[LEN];
+    double best[2] = {1e9, 1e9};
+    size_t len = clear_key(clear, most);
+    int64_t file_len = dogwood_protect(clear, len, pass, sizeof pass - 1, n, file, LEN);
+    if (file_len < 0) fprintf(stderr, "no file\n"), exit(1);
+    count = n;
+    for (int i = 0; i < runs; i++) {
+        double t = seconds();
+        int64_t opened = dogwood_unprotect(file, (size_t)file_len, pass, sizeof pass - 1, out, LEN);
+        t = seconds() - t;
+        if (t < best[0]) best[0] = t;
+        if (opened != (int64_t)len || memcmp(out, clear, len)) fprintf(stderr, "another key\n"), exit(1);
+        t = seconds();
+        our_derivation();
+        t = seconds() - t;
+        if (t < best[1]) best[1] = t;
+    }
+    printf("%-24s ours %9.1f us   its S2K %9.1f us, %9.1f us more\n", what, 1e6 * best[0], 1e6 * best[1], 1e6 * (best[0] - best[1]));
+    return best[0] > 1.1 * best[1] + bound;
+}
+
 int main(void) {
     void (*encryptions[3])(void) = {our_encryption, table_encryption, NULL};
     void (*decryptions[3])(void) = {our_decryption, table_decryption, NULL};
@@ -115,5 +147,7 @@ int main(void) {
     slow |= row("CBC decryption, 64 KiB", decryptions, encrypted, text, 1.5);
     derivation(65536, 31);
     derivation(65011712, 5);
+    slow |= opening("opening, count 65011712", 64, 65011712, 5, 0);
+    slow |= opening("opening, 60 KiB", 61440, 65536, 31, 0.010);
     return slow;
 }
