@@ -3,3 +3,4 @@ pub mod Given
 pub mod Known
 pub mod Leading
 mod Pieces
+mod Places

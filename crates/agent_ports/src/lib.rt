@@ -8,16 +8,20 @@
 mod clock;
 mod grip;
 mod host;
+mod launcher;
 mod link;
 mod mem_clock;
+mod mem_launcher;
 mod mem_link;
 mod session;
 
 pub use clock::Clock;
 pub use grip::Grip;
 pub use host::Host;
+pub use launcher::Launcher;
 pub use link::{Got, Link, Sent, Sink, Source};
 pub use mem_clock::{ListClock, MemHost, StepClock};
+pub use mem_launcher::{MemChild, MemLauncher, PlannedChild};
 pub use mem_link::{MemLink, MemSink, MemSource};
 pub use session::SessionId;
 

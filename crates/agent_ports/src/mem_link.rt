@@ -1,6 +1,6 @@
 ghost use Rattle.std.specs.Prelude.{◌≡◌, ◌≤◌, ◌<◌, ◌+◌, ◌^◌, ◌-◌, ◌↔◌, ◌⊎◌, IsTrue, [], length, take, drop, Some, None, IfSome, vec_len, Contains, min, max, refl};
 ghost use Rattle.std.specs.Bool.{OnTrue, OnFalse};
-ghost use Rattle.agent_ports.specs.Counts.{Rose};
+ghost use Rattle.agent_ports.specs.Counts.{Rose, RoseBy};
 ghost use Rattle.agent_ports.specs.Sides.{Side, followed_by, with_bytes, taken_by, IfBytes, sent_part, IfCut, IsCut};
 
 use crate::{Got, Link, Sent, Sink, Source};
@@ -8,14 +8,14 @@ use std::alloc::Global;
 
 /// The calls that are to fail, by their number from 0, and how many failed so far.
 #[derive(Debug, Drop)]
-struct FaultPlan {
+pub(crate) struct FaultPlan {
     failing: Vec<u64>,
     calls: u64,
     faults: u64,
 }
 
 impl FaultPlan {
-    fn new(failing: Vec<u64>) -> Self
+    pub(crate) fn new(failing: Vec<u64>) -> Self
         ensures failing { result.failing ≡ failing }
         ensures calls { result.calls ≡ 0 }
         ensures faults { result.faults ≡ 0 }
@@ -28,7 +28,7 @@ impl FaultPlan {
     }
 
     /// Counts a call, and says whether it is one that is to fail.
-    fn next_fails(&mut self) -> bool
+    pub(crate) fn next_fails(&mut self) -> bool
         ensures planned { IsTrue result ↔ Contains self.old.failing.items self.old.calls }
         ensures calls { self.new.calls ≡ min (self.old.calls + 1) (2 ^ 64 - 1) }
         ensures failing { self.new.failing ≡ self.old.failing }
@@ -45,13 +45,29 @@ impl FaultPlan {
     }
 
     /// Counts a fault. The count stands still at the end of its type.
-    fn raise(&mut self)
+    pub(crate) fn raise(&mut self)
         ensures rose { Rose self.old.faults self.new.faults }
         ensures never_falls { self.old.faults ≤ self.new.faults }
         ensures calls { self.new.calls ≡ self.old.calls }
         ensures failing { self.new.failing ≡ self.old.failing }
     {
-        self.faults = self.faults.saturating_add(1);
+        self.raise_by(1);
+    }
+
+    /// Counts so many faults.
+    pub(crate) fn raise_by(&mut self, faults: u64)
+        ensures rose { RoseBy faults self.old.faults self.new.faults }
+        ensures never_falls { self.old.faults ≤ self.new.faults }
+        ensures calls { self.new.calls ≡ self.old.calls }
+        ensures failing { self.new.failing ≡ self.old.failing }
+    {
+        self.faults = self.faults.saturating_add(faults);
+    }
+
+    pub(crate) fn faults(&self) -> u64
+        ensures { result ≡ self.now.faults }
+    {
+        self.faults
     }
 }
 
@@ -215,6 +231,14 @@ impl MemLink {
         ensures { (⟦<MemLink as Sink>⟧.output self.now).bytes ≡ Some result.now }
     {
         self.sink.written()
+    }
+
+    /// How many reads failed, and how many writes.
+    pub(crate) fn faults(&self) -> (u64, u64)
+        ensures reads { result.0 ≡ (⟦<MemLink as Source>⟧.input self.now).faults }
+        ensures writes { result.1 ≡ (⟦<MemLink as Sink>⟧.output self.now).faults }
+    {
+        (self.source.plan.faults(), self.sink.plan.faults())
     }
 }
 

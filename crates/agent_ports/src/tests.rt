@@ -106,3 +106,66 @@ fn grips_are_read_and_written_as_digits(rt: HostRuntime) -> Result<(), Fail> {
     }
     Ok(())
 }
+
+/// What the children of so many launches give in two reads each, and what becomes of `text` written to them.
+fn run_children<L: Launcher>(
+    alloc: Global,
+    launcher: &mut L,
+    launches: usize,
+    text: &[u8],
+) -> Result<Vec<String>, AllocError> {
+    let mut all = Vec::new(alloc);
+    for _ in 0..launches {
+        match launcher.launch(b"pinentry") {
+            Some(mut child) => {
+                let sent = child.put(text);
+                let gave = reads(alloc, &mut child, 2);
+                launcher.finish(child);
+                for got in gave? {
+                    all.push(got)?;
+                }
+                all.push(format!(in alloc; "{sent:?}")?)?;
+            }
+            None => all.push(format!(in alloc; "none")?)?,
+        }
+    }
+    Ok(all)
+}
+
+fn planned(alloc: Global, gives: &[u8]) -> Result<PlannedChild, AllocError> {
+    Ok(PlannedChild {
+        gives: Vec::from_slice(alloc, gives)?,
+        piece: 3,
+        failing_reads: vec![in alloc; 1u64]?,
+        failing_writes: Vec::new(alloc),
+    })
+}
+
+#[test]
+fn a_launcher_gives_its_children_in_order_and_keeps_what_they_were_written(
+    rt: HostRuntime,
+) -> Result<(), Fail> {
+    let alloc = rt.alloc();
+    let children = vec![in alloc; planned(alloc, b"abcdef")?, planned(alloc, b"g")?]?;
+    let mut launcher = MemLauncher::new(alloc, children, vec![in alloc; 1u64]?);
+    let got = run_children(alloc, &mut launcher, 4, b"BYE")?;
+    let want = [
+        "[97, 98, 99]",
+        "failed",
+        "All",
+        "none",
+        "[103]",
+        "failed",
+        "All",
+        "none",
+    ];
+    assert_eq!(rt; got.len(), want.len());
+    for (one, other) in got.iter().zip(&want) {
+        assert_eq!(rt; one.as_str(), *other);
+    }
+    for back in 0..2 {
+        assert_eq!(rt; launcher.written(back), Some(b"BYE".as_slice()));
+    }
+    assert_eq!(rt; launcher.written(2), None);
+    Ok(())
+}

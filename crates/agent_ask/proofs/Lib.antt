@@ -1,0 +1,4 @@
+pub mod Making
+pub mod Trying
+pub mod OnlyAnswer
+pub mod Counting

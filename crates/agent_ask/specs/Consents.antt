@@ -1,0 +1,33 @@
+-- One prompt for consent, from its start to its end (GnuPG manual, "Agent GET_CONFIRMATION"; pinentry manual, "protocol").
+use Rattle.std.specs.Prelude.{◌≡◌, Bool, List, [], ◌∷◌, ◌++◌}
+use Rattle.agent_ask.specs.Events.{Confirm, Shut, PromptEvent, Called}
+use Rattle.agent_ask.specs.Prompts.{Opens}
+use Rattle.agent_ask.specs.declared.caller.Heard.{Heard}
+use Rattle.agent_ask.specs.declared.consent.Agreed.{Agreed}
+use Rattle.agent_ask.specs.declared.consent.Agreed.TheVariants as agreed
+use Rattle.agent_ask.specs.declared.opening.Opening.TheVariants.{Ready, NoPinentry, Unheard}
+use Rattle.agent_ask.specs.declared.prompter.Consent.{Consent}
+use Rattle.agent_ask.specs.declared.prompter.Consent.TheVariants.{Yes, No, Cancelled, TimedOut, Failed, Broken}
+use Rattle.agent_ask.specs.declared.spec.PromptSpec.{PromptSpec}
+
+-- the answer by the one question
+abbrev pub agreed_of : Consent → Agreed
+agreed_of Yes = agreed.Yes
+agreed_of No = agreed.No
+agreed_of Cancelled = agreed.Cancelled
+agreed_of TimedOut = agreed.TimedOut
+agreed_of Failed = agreed.NoPinentry
+agreed_of (Broken breach) = agreed.NoPinentry
+
+-- what is done before the prompter is shut
+pub data ConsentBefore (spec : PromptSpec) (notify : Bool) : List PromptEvent → Agreed → Type 0 where
+  unopened : {events : List PromptEvent} → Opens spec notify events NoPinentry → ConsentBefore spec notify events agreed.NoPinentry
+  unheard : {events : List PromptEvent} {heard : Heard} → Opens spec notify events (Unheard heard) → ConsentBefore spec notify events (agreed.Heard heard)
+  asked : {events : List PromptEvent} (consent : Consent) → Opens spec notify events Ready
+      → ConsentBefore spec notify (events ++ Called (Confirm consent) ∷ []) (agreed_of consent)
+
+-- one prompt for consent: its events, and the answer
+pub record AsksConsent (spec : PromptSpec) (notify : Bool) (events : List PromptEvent) (end : Agreed) : Type 0 where
+  pub before : List PromptEvent
+  pub whole : events ≡ before ++ Called Shut ∷ []
+  pub asks : ConsentBefore spec notify before end

@@ -1,0 +1,9 @@
+pub mod Events
+pub mod Prompters
+pub mod Callers
+pub mod Tests
+pub mod Doing
+pub mod Prompts
+pub mod Consents
+pub mod Trying
+pub mod Listening

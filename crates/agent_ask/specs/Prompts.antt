@@ -1,0 +1,111 @@
+-- One prompt for a passphrase, from its start to its end (GnuPG manual, "Agent GET_PASSPHRASE"; pinentry manual, "protocol"). How many
+-- tries there are, their order and their texts are this project's own.
+use Rattle.std.specs.Prelude.{◌≡◌, ◌≢◌, ◌≤◌, ◌<◌, ◌+◌, ℕ, Bool, true, false, not, List, [], ◌∷◌, ◌++◌, length, count_by, replicate, codes, Option, Some, None, Result, Ok, Err, ⊤}
+use Rattle.std.specs.Char.{is_ascii_alphabetic}
+use Rattle.agent_ask.specs.Events.{Start, GetPin, Shut, PromptEvent, Called, Notified, OutOfMemory}
+use Rattle.agent_ask.specs.declared.ask.Asked.{Asked}
+use Rattle.agent_ask.specs.declared.ask.Asked.TheVariants as asked
+use Rattle.agent_ask.specs.declared.caller.Heard.{Heard}
+use Rattle.agent_ask.specs.declared.caller.Heard.TheVariants.{Fine}
+use Rattle.agent_ask.specs.declared.opening.Opening.{Opening}
+use Rattle.agent_ask.specs.declared.opening.Opening.TheVariants.{Ready, NoPinentry, Unheard}
+use Rattle.agent_ask.specs.declared.prompter.Opened.TheVariants as opened
+use Rattle.agent_ask.specs.declared.prompter.Outcome.{Outcome}
+use Rattle.agent_ask.specs.declared.prompter.Outcome.TheVariants.{Pin, Cancelled, TimedOut, Failed, Broken}
+use Rattle.agent_ask.specs.declared.spec.AskPlan.{AskPlan}
+use Rattle.agent_ask.specs.declared.spec.PromptSpec.{PromptSpec}
+use Rattle.agent_ask.specs.declared.tries.Failure.{Failure}
+use Rattle.agent_ask.specs.declared.tries.Failure.TheVariants.{BadPassphrase, TooWeak, Differ}
+use Rattle.agent_ask.specs.declared.tries.Stop.{Stop}
+use Rattle.agent_ask.specs.declared.tries.Stop.TheVariants as stop
+use Rattle.agent_ask.specs.declared.tries.TheConstants.{MAX_TRIES}
+
+-- a new passphrase meets the check, where there is one: so many bytes, and so many of them that are no ASCII letters
+abbrev pub MeetsCheck : Option (ℕ × ℕ) → List ℕ → Type 0
+MeetsCheck None pin = ⊤
+MeetsCheck (Some least) pin = (least.0 ≤ length pin) × (least.1 ≤ count_by (λ byte. not (is_ascii_alphabetic byte)) pin)
+
+-- what failed a try, as it is told to the user
+abbrev pub failure_words : Failure → List ℕ
+failure_words BadPassphrase = codes "Bad passphrase"
+failure_words TooWeak = codes "This passphrase is too weak"
+failure_words Differ = codes "Passphrases differ"
+
+-- what the try of this number shows as an error, where this failed the try before it
+abbrev pub error_text : AskPlan → Option Failure → ℕ → List ℕ
+error_text plan None number = plan.first_error.items
+error_text plan (Some failure) number = failure_words failure ++ codes " (try " ++ (48 + number) ∷ codes " of 3)"
+
+abbrev pub repeat_text : List ℕ
+repeat_text = codes "Please repeat the passphrase"
+
+-- what a question came to: a passphrase, or the end of the prompt
+abbrev pub pin_or_stop : Outcome → Result (List ℕ) Stop
+pin_or_stop (Pin pin) = Ok pin
+pin_or_stop Cancelled = Err (stop.Over asked.Cancelled)
+pin_or_stop TimedOut = Err (stop.Over asked.TimedOut)
+pin_or_stop Failed = Err (stop.Over asked.NoPinentry)
+pin_or_stop (Broken breach) = Err (stop.Over asked.NoPinentry)
+
+-- a passphrase was typed, where this was shown as an error
+abbrev pub typed : List ℕ → List ℕ → PromptEvent
+typed error pin = Called (GetPin error (Pin pin))
+
+-- it was repeated so many times
+abbrev pub repeated : ℕ → List ℕ → List PromptEvent
+repeated count pin = replicate count (typed repeat_text pin)
+
+-- The repeats of a passphrase: all are the same, or another one comes, or the end of the prompt, where some are still to come.
+pub data Repeats (count : ℕ) (pin : List ℕ) : List PromptEvent → Result (List ℕ) Stop → Type 0 where
+  same : Repeats count pin (repeated count pin) (Ok pin)
+  differs : {before : ℕ} {other : List ℕ} → before < count → other ≢ pin
+      → Repeats count pin (repeated before pin ++ typed repeat_text other ∷ []) (Err (stop.Failed Differ))
+  ended : {before : ℕ} (outcome : Outcome) {end : Stop} → before < count → pin_or_stop outcome ≡ Err end
+      → Repeats count pin (repeated before pin ++ Called (GetPin repeat_text outcome) ∷ []) (Err end)
+
+-- A try: the passphrase that it comes to, what failed it, or what ended the prompt.
+pub data IsTry (plan : AskPlan) (Rule : List ℕ → Type 0) (error : List ℕ) : List PromptEvent → Result (List ℕ) Stop → Type 0 where
+  -- the prompt ended in place of a passphrase
+  ended : (outcome : Outcome) {end : Stop} → pin_or_stop outcome ≡ Err end
+      → IsTry plan Rule error (Called (GetPin error outcome) ∷ []) (Err end)
+  -- the check comes before the test
+  weak : {pin : List ℕ} → ¬ MeetsCheck plan.check pin → IsTry plan Rule error (typed error pin ∷ []) (Err (stop.Failed TooWeak))
+  bad : {pin : List ℕ} → MeetsCheck plan.check pin → ¬ Rule pin → IsTry plan Rule error (typed error pin ∷ []) (Err (stop.Failed BadPassphrase))
+  untested : {pin : List ℕ} → MeetsCheck plan.check pin → IsTry plan Rule error (typed error pin ∷ OutOfMemory ∷ []) (Err (stop.Over asked.NoMemory))
+  -- an accepted passphrase, and its repeats
+  accepted : {pin : List ℕ} {events : List PromptEvent} {end : Result (List ℕ) Stop} → MeetsCheck plan.check pin → Rule pin
+      → Repeats plan.repeat pin events end → IsTry plan Rule error (typed error pin ∷ events) end
+
+-- The tries from the one of this number on, where this failed the one before: the passphrase of the first try that doesn't fail, what
+-- ended the prompt earlier, or a bad passphrase after three tries that failed.
+pub data Tries (plan : AskPlan) (Rule : List ℕ → Type 0) : ℕ → Option Failure → List PromptEvent → Asked → Type 0 where
+  good : {number : ℕ} {before : Option Failure} {events : List PromptEvent} {pin : List ℕ} → number ≤ MAX_TRIES
+      → IsTry plan Rule (error_text plan before number) events (Ok pin) → Tries plan Rule number before events (asked.Pin pin)
+  over : {number : ℕ} {before : Option Failure} {events : List PromptEvent} {end : Asked} → number ≤ MAX_TRIES
+      → IsTry plan Rule (error_text plan before number) events (Err (stop.Over end)) → Tries plan Rule number before events end
+  again : {number : ℕ} {before : Option Failure} {events more : List PromptEvent} {failure : Failure} {end : Asked} → number ≤ MAX_TRIES
+      → IsTry plan Rule (error_text plan before number) events (Err (stop.Failed failure))
+      → Tries plan Rule (number + 1) (Some failure) more end → Tries plan Rule number before (events ++ more) end
+  bad : {number : ℕ} {before : Option Failure} → MAX_TRIES < number → Tries plan Rule number before [] asked.Bad
+
+-- a prompt is opened, and the client is told of it where it wants to be
+pub data Opens (spec : PromptSpec) (notify : Bool) : List PromptEvent → Opening → Type 0 where
+  failed : Opens spec notify (Called (Start spec opened.Failed) ∷ []) NoPinentry
+  broken : {breach : _} → Opens spec notify (Called (Start spec (opened.Broken breach)) ∷ []) NoPinentry
+  quiet : {pid : ℕ} → notify ≡ false → Opens spec notify (Called (Start spec (opened.Pid pid)) ∷ []) Ready
+  told : {pid : ℕ} → notify ≡ true → Opens spec notify (Called (Start spec (opened.Pid pid)) ∷ Notified pid Fine ∷ []) Ready
+  unheard : {pid : ℕ} {heard : Heard} → notify ≡ true → heard ≢ Fine
+      → Opens spec notify (Called (Start spec (opened.Pid pid)) ∷ Notified pid heard ∷ []) (Unheard heard)
+
+-- what is done before the prompter is shut
+pub data AsksBefore (spec : PromptSpec) (plan : AskPlan) (Rule : List ℕ → Type 0) : List PromptEvent → Asked → Type 0 where
+  unopened : {events : List PromptEvent} → Opens spec plan.notify events NoPinentry → AsksBefore spec plan Rule events asked.NoPinentry
+  unheard : {events : List PromptEvent} {heard : Heard} → Opens spec plan.notify events (Unheard heard) → AsksBefore spec plan Rule events (asked.Heard heard)
+  tried : {events more : List PromptEvent} {end : Asked} → Opens spec plan.notify events Ready → Tries plan Rule 1 None more end
+      → AsksBefore spec plan Rule (events ++ more) end
+
+-- one prompt for a passphrase that is right by this rule: its events, and the answer
+pub record AsksPin (spec : PromptSpec) (plan : AskPlan) (Rule : List ℕ → Type 0) (events : List PromptEvent) (end : Asked) : Type 0 where
+  pub before : List PromptEvent
+  pub whole : events ≡ before ++ Called Shut ∷ []
+  pub asks : AsksBefore spec plan Rule before end

@@ -1,0 +1,10 @@
+-- What the code's tries leave. This is the project's own.
+use Rattle.std.specs.Prelude.{ℕ, List, Result, Ok, Err, ⊤}
+use Rattle.agent_ask.specs.declared.tries.Stop.{Stop}
+use Rattle.agent_ask.specs.declared.tries.Stop.TheVariants.{Failed, Over}
+
+-- the prompt isn't over
+abbrev pub GoesOn : Result (List ℕ) Stop → Type 0
+GoesOn (Ok pin) = ⊤
+GoesOn (Err (Failed failure)) = ⊤
+GoesOn (Err (Over end)) = ⊥

@@ -1,0 +1,81 @@
+ghost use Rattle.std.specs.Prelude.{◌≡◌};
+ghost use Rattle.agent_ask.specs.Listening.{ListensAfterPin};
+ghost use Rattle.agent_ask.specs.Doing.{HasEvents, DoesPrompt, ends};
+ghost use Rattle.agent_ask.specs.Prompters.{IsShut};
+ghost use Rattle.agent_ask.specs.Prompts.{AsksPin, AsksBefore};
+ghost use Rattle.agent_ask.specs.Tests.{Reaches, EndsOutOfMemory};
+
+use crate::opening::{Opening, open_prompt};
+use crate::tries::ask_tries;
+use crate::{AskPlan, Caller, Heard, PromptSpec, Prompter, Test};
+use cache_policy::Secret;
+use prompt_seat::Ticket;
+
+/// What asking for a passphrase came to. It may hold one, so it isn't printed.
+#[derive(Drop)]
+pub enum Asked {
+    /// The passphrase was accepted, and repeated as often as is wanted.
+    Pin(Secret),
+    /// The user cancelled.
+    Cancelled,
+    /// The user didn't answer in time.
+    TimedOut,
+    /// The prompter failed, or was broken.
+    NoPinentry,
+    /// Three tries failed.
+    Bad,
+    /// The client didn't take note of the prompt, but answered so.
+    Heard(Heard),
+    /// The test found no memory.
+    NoMemory,
+}
+
+/// Asks for a passphrase by one prompt, and has shut the prompter when it returns.
+///
+/// The client is told of the prompt where `plan` says so. A try is one passphrase and, where the check and then the test accept it, its
+/// repeats. What failed a try is shown by the next one; there are three.
+pub fn ask_pin<P: Prompter, C: Caller, T: Test>(
+    ticket: &Ticket,
+    spec: &PromptSpec,
+    plan: &AskPlan,
+    test: &mut T,
+    prompter: &mut P,
+    caller: &mut C,
+) -> Asked
+    requires shut { IsShut (P.at prompter.old) }
+    requires listens { C.listens caller.old }
+    ensures asked { HasEvents (DoesPrompt P.prompted C.heard) (λ events. AsksPin spec.now plan.now (T.rule test.old) events result)
+        (ends prompter.old caller.old) (ends prompter.new caller.new) }
+    ensures shut { IsShut (P.at prompter.new) }
+    ensures listens { ListensAfterPin result (C.listens caller.new) }
+    ensures reaches { Reaches T.tested test.old test.new }
+    ensures no_memory { result ≡ Asked.NoMemory → EndsOutOfMemory T.tested test.old test.new }
+{
+    let asked = ask_before_shut(ticket, spec, plan, test, prompter, caller);
+    prompter.shut(ticket);
+    asked
+}
+
+/// All of the prompt but its end.
+fn ask_before_shut<P: Prompter, C: Caller, T: Test>(
+    ticket: &Ticket,
+    spec: &PromptSpec,
+    plan: &AskPlan,
+    test: &mut T,
+    prompter: &mut P,
+    caller: &mut C,
+) -> Asked
+    requires shut { IsShut (P.at prompter.old) }
+    requires listens { C.listens caller.old }
+    ensures asked { HasEvents (DoesPrompt P.prompted C.heard) (λ events. AsksBefore spec.now plan.now (T.rule test.old) events result)
+        (ends prompter.old caller.old) (ends prompter.new caller.new) }
+    ensures listens { ListensAfterPin result (C.listens caller.new) }
+    ensures reaches { Reaches T.tested test.old test.new }
+    ensures no_memory { result ≡ Asked.NoMemory → EndsOutOfMemory T.tested test.old test.new }
+{
+    match open_prompt(ticket, spec, plan.notify, prompter, caller) {
+        Opening::Ready => ask_tries(ticket, plan, test, prompter),
+        Opening::NoPinentry => Asked::NoPinentry,
+        Opening::Unheard(heard) => Asked::Heard(heard),
+    }
+}

@@ -1,0 +1,78 @@
+ghost use Rattle.std.specs.Prelude.{◌≡◌};
+ghost use Rattle.agent_ask.specs.Listening.{ListensAfterConsent};
+ghost use Rattle.agent_ask.specs.Consents.{AsksConsent, ConsentBefore, agreed_of};
+ghost use Rattle.agent_ask.specs.Doing.{HasEvents, DoesPrompt, ends};
+ghost use Rattle.agent_ask.specs.Prompters.{IsShut};
+
+use crate::opening::{Opening, open_prompt};
+use crate::{Caller, Consent, Heard, PromptSpec, Prompter};
+use prompt_seat::Ticket;
+
+/// What asking for consent came to.
+#[derive(Drop)]
+pub enum Agreed {
+    Yes,
+    No,
+    /// The user cancelled.
+    Cancelled,
+    /// The user didn't answer in time.
+    TimedOut,
+    /// The prompter failed, or was broken.
+    NoPinentry,
+    /// The client didn't take note of the prompt, but answered so.
+    Heard(Heard),
+}
+
+/// Asks for consent by one prompt, and has shut the prompter when it returns. The user is asked once.
+pub fn ask_consent<P: Prompter, C: Caller>(
+    ticket: &Ticket,
+    spec: &PromptSpec,
+    notify: bool,
+    prompter: &mut P,
+    caller: &mut C,
+) -> Agreed
+    requires shut { IsShut (P.at prompter.old) }
+    requires listens { C.listens caller.old }
+    ensures asked { HasEvents (DoesPrompt P.prompted C.heard) (λ events. AsksConsent spec.now notify events result)
+        (ends prompter.old caller.old) (ends prompter.new caller.new) }
+    ensures shut { IsShut (P.at prompter.new) }
+    ensures listens { ListensAfterConsent result (C.listens caller.new) }
+{
+    let agreed = ask_before_shut(ticket, spec, notify, prompter, caller);
+    prompter.shut(ticket);
+    agreed
+}
+
+/// All of the prompt but its end.
+fn ask_before_shut<P: Prompter, C: Caller>(
+    ticket: &Ticket,
+    spec: &PromptSpec,
+    notify: bool,
+    prompter: &mut P,
+    caller: &mut C,
+) -> Agreed
+    requires shut { IsShut (P.at prompter.old) }
+    requires listens { C.listens caller.old }
+    ensures asked { HasEvents (DoesPrompt P.prompted C.heard) (λ events. ConsentBefore spec.now notify events result)
+        (ends prompter.old caller.old) (ends prompter.new caller.new) }
+    ensures listens { ListensAfterConsent result (C.listens caller.new) }
+{
+    match open_prompt(ticket, spec, notify, prompter, caller) {
+        Opening::Ready => agreed_of(prompter.confirm(ticket)),
+        Opening::NoPinentry => Agreed::NoPinentry,
+        Opening::Unheard(heard) => Agreed::Heard(heard),
+    }
+}
+
+/// The answer by what the question came to.
+fn agreed_of(consent: Consent) -> Agreed
+    ensures { result ≡ agreed_of consent }
+{
+    match consent {
+        Consent::Yes => Agreed::Yes,
+        Consent::No => Agreed::No,
+        Consent::Cancelled => Agreed::Cancelled,
+        Consent::TimedOut => Agreed::TimedOut,
+        Consent::Failed | Consent::Broken(_) => Agreed::NoPinentry,
+    }
+}

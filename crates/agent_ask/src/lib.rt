@@ -1,0 +1,23 @@
+//! One prompt under a ticket: what is asked of a pinentry, of the client and of the test of a passphrase, and what comes of it.
+#![tactic(auto)]
+
+mod ask;
+mod caller;
+mod consent;
+mod laws;
+mod opening;
+mod prompter;
+mod spec;
+mod test;
+#[cfg(test)]
+mod tests;
+mod tries;
+
+pub use ask::{Asked, ask_pin};
+pub use caller::{Caller, Gone, Heard};
+pub use consent::{Agreed, ask_consent};
+pub use laws::{a_consent_has_one_answer, a_prompt_has_one_answer, failures_are_counted};
+pub use prompter::{Consent, Opened, Outcome, Prompter};
+pub use spec::{AskPlan, PromptSpec};
+pub use test::{Test, Tested};
+pub use tries::MAX_TRIES;

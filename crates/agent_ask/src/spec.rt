@@ -1,0 +1,33 @@
+use assuan_text::Text;
+use session_options::Env;
+
+/// What a prompt shows, and where (pinentry manual, "protocol"). An empty text is not shown.
+#[derive(Debug, Drop)]
+pub struct PromptSpec {
+    pub title: Text,
+    pub description: Text,
+    /// What stands before the field of the passphrase.
+    pub prompt: Text,
+    /// What stands on the button that accepts, and on the one that cancels.
+    pub ok: Text,
+    pub cancel: Text,
+    /// A bar shows how good the passphrase is.
+    pub quality: bool,
+    /// The terminal and the locale of the client.
+    pub env: Env,
+    /// After so many seconds the prompt is given up. 0 means never.
+    pub timeout: u32,
+}
+
+/// How a passphrase is asked for.
+#[derive(Debug, Drop)]
+pub struct AskPlan {
+    /// The client is told that the prompt is open.
+    pub notify: bool,
+    /// What the first try shows as an error. An empty text is not shown.
+    pub first_error: Text,
+    /// How many bytes a new passphrase has at least, and how many of them that are no ASCII letters.
+    pub check: Option<(u8, u8)>,
+    /// How often an accepted passphrase is asked for again.
+    pub repeat: u8,
+}

@@ -1,0 +1,31 @@
+ghost use Rattle.std.specs.Prelude.{ℕ, List};
+ghost use Rattle.agent_ask.specs.Tests.{IsTest};
+
+use cache_policy::Secret;
+
+/// What a test says of a passphrase.
+#[derive(Clone, Copy, Debug, PartialEq, Eq)]
+pub enum Tested {
+    Yes,
+    No,
+    NoMemory,
+}
+
+/// The test of a passphrase. It means a rule, which no call changes.
+pub trait Test {
+    ghost use Rattle.agent_ask.specs.declared.test.Tested.{Tested};
+
+    /// Which passphrases are right.
+    ghost rule: { Self → List ℕ → Type 0 };
+
+    /// A test shows its answers by this relation between itself before a call, the passphrase, the answer, and itself after.
+    ghost tested: { Self → List ℕ → Tested → Self → Type 0 };
+
+    /// Whether the passphrase is right.
+    fn accepts(&mut self, pin: &Secret) -> Tested
+        ensures { tested self.old pin.now result self.new };
+
+    /// What every answer means.
+    ghost promise: { (before : Self) (pin : List ℕ) (answer : Tested) (after : Self) → tested before pin answer after
+        → IsTest (rule before) pin answer (rule after) };
+}

@@ -1,0 +1,162 @@
+ghost use Rattle.std.specs.Prelude.{◌≡◌, ◌≢◌, ◌≤◌, ◌↔◌, true, None, Err, IsTrue, length};
+ghost use Rattle.agent_ask.specs.Doing.{HasEvents, DoesCall};
+ghost use Rattle.agent_ask.specs.Prompts.{MeetsCheck, IsTry, Repeats, Tries, failure_words, error_text, pin_or_stop};
+ghost use Rattle.agent_ask.specs.Tests.{Reaches, EndsOutOfMemory};
+ghost use Rattle.agent_ask.specs.Trying.{GoesOn};
+
+use crate::{AskPlan, Asked, Outcome, Prompter, Test, Tested};
+use assuan_text::Text;
+use cache_policy::Secret;
+use pass_checks::meets;
+use prompt_seat::Ticket;
+
+/// How many tries one prompt has.
+pub const MAX_TRIES: u8 = 3;
+
+const REPEAT: &[u8] = b"Please repeat the passphrase";
+
+/// What failed a try.
+#[derive(Clone, Copy, Debug, PartialEq, Eq)]
+pub(crate) enum Failure {
+    BadPassphrase,
+    TooWeak,
+    /// A repeat isn't the same.
+    Differ,
+}
+
+/// Why a try has no passphrase.
+#[derive(Drop)]
+pub(crate) enum Stop {
+    /// The try failed.
+    Failed(Failure),
+    /// The prompt is over.
+    Over(Asked),
+}
+
+/// Asks for a passphrase, until one is accepted or three tries failed.
+pub(crate) fn ask_tries<P: Prompter, T: Test>(
+    ticket: &Ticket,
+    plan: &AskPlan,
+    test: &mut T,
+    prompter: &mut P,
+) -> Asked
+    requires { (P.at prompter.old).ready ≡ true }
+    ensures tried { HasEvents (DoesCall P.prompted) (λ events. Tries plan.now (T.rule test.old) 1 None events result) prompter.old prompter.new }
+    ensures reaches { Reaches T.tested test.old test.new }
+    ensures no_memory { result ≡ Asked.NoMemory → EndsOutOfMemory T.tested test.old test.new }
+{
+    let mut failure = None;
+    for number in 1..=MAX_TRIES {
+        let error = error_text(plan, failure, number);
+        match ask_once(ticket, &error, plan, test, prompter) {
+            Ok(pin) => return Asked::Pin(pin),
+            Err(Stop::Over(asked)) => return asked,
+            Err(Stop::Failed(why)) => failure = Some(why),
+        }
+    }
+    Asked::Bad
+}
+
+/// What the try of this number shows as an error, where this failed the try before it.
+fn error_text(plan: &AskPlan, failure: Option<Failure>, number: u8) -> Text
+    requires { number ≤ MAX_TRIES }
+    ensures { result.items ≡ error_text plan.now failure number }
+{
+    let mut text = Text::new();
+    match failure {
+        None => text.try_extend_from_slice(&plan.first_error).unwrap(),
+        Some(failure) => {
+            text.try_extend_from_slice(words(failure)).unwrap();
+            text.try_extend_from_slice(b" (try ").unwrap();
+            text.push(b'0' + number);
+            text.try_extend_from_slice(b" of 3)").unwrap();
+        }
+    }
+    text
+}
+
+/// How a failure is told to the user.
+fn words(failure: Failure) -> &'static [u8]
+    ensures words { result.now ≡ failure_words failure }
+    ensures short { length result.now ≤ 40 }
+{
+    match failure {
+        Failure::BadPassphrase => b"Bad passphrase",
+        Failure::TooWeak => b"This passphrase is too weak",
+        Failure::Differ => b"Passphrases differ",
+    }
+}
+
+/// One try: a passphrase, and its repeats where it is accepted.
+fn ask_once<P: Prompter, T: Test>(
+    ticket: &Ticket,
+    error: &[u8],
+    plan: &AskPlan,
+    test: &mut T,
+    prompter: &mut P,
+) -> Result<Secret, Stop>
+    requires { (P.at prompter.old).ready ≡ true }
+    ensures tried { HasEvents (DoesCall P.prompted) (λ events. IsTry plan.now (T.rule test.old) error.now events result) prompter.old prompter.new }
+    ensures ready { GoesOn result → (P.at prompter.new).ready ≡ true }
+    ensures reaches { Reaches T.tested test.old test.new }
+    ensures no_memory { result ≡ Err (Stop.Over Asked.NoMemory) → EndsOutOfMemory T.tested test.old test.new }
+{
+    let pin = pin_or_stop(prompter.getpin(ticket, error))?;
+    if !meets_check(plan.check, pin.bytes()) {
+        return Err(Stop::Failed(Failure::TooWeak));
+    }
+    match test.accepts(&pin) {
+        Tested::Yes => ask_repeats(ticket, plan.repeat, pin, prompter),
+        Tested::No => Err(Stop::Failed(Failure::BadPassphrase)),
+        Tested::NoMemory => Err(Stop::Over(Asked::NoMemory)),
+    }
+}
+
+/// Whether a passphrase meets the check, where there is one.
+fn meets_check(check: Option<(u8, u8)>, pin: &[u8]) -> bool
+    ensures { IsTrue result ↔ MeetsCheck check pin.now }
+{
+    match check {
+        None => true,
+        Some((min_len, min_nonalpha)) => meets(pin, min_len, min_nonalpha),
+    }
+}
+
+/// Asks for the passphrase again so many times.
+fn ask_repeats<P: Prompter>(
+    ticket: &Ticket,
+    repeat: u8,
+    pin: Secret,
+    prompter: &mut P,
+) -> Result<Secret, Stop>
+    requires { (P.at prompter.old).ready ≡ true }
+    ensures repeated { HasEvents (DoesCall P.prompted) (λ events. Repeats repeat pin events result) prompter.old prompter.new }
+    ensures ready { GoesOn result → (P.at prompter.new).ready ≡ true }
+    ensures memory { result ≢ Err (Stop.Over Asked.NoMemory) }
+{
+    for _ in 0..repeat {
+        let again = pin_or_stop(prompter.getpin(ticket, REPEAT))?;
+        if !is_same(&again, &pin) {
+            return Err(Stop::Failed(Failure::Differ));
+        }
+    }
+    Ok(pin)
+}
+
+fn is_same(pin: &Secret, other: &Secret) -> bool
+    ensures { IsTrue result ↔ (pin.now ≡ other.now) }
+{
+    pin.bytes() == other.bytes()
+}
+
+/// What a question came to: a passphrase, or the end of the prompt.
+fn pin_or_stop(outcome: Outcome) -> Result<Secret, Stop>
+    ensures { result ≡ pin_or_stop outcome }
+{
+    match outcome {
+        Outcome::Pin(pin) => Ok(pin),
+        Outcome::Cancelled => Err(Stop::Over(Asked::Cancelled)),
+        Outcome::TimedOut => Err(Stop::Over(Asked::TimedOut)),
+        Outcome::Failed | Outcome::Broken(_) => Err(Stop::Over(Asked::NoPinentry)),
+    }
+}
