@@ -1,4 +1,4 @@
--- What the code's tries leave. This is the project's own.
+-- Private: what the code's tries leave.
 use Rattle.std.specs.Prelude.{ℕ, List, Result, Ok, Err, ⊤}
 use Rattle.agent_ask.specs.declared.tries.Stop.{Stop}
 use Rattle.agent_ask.specs.declared.tries.Stop.TheVariants.{Failed, Over}
