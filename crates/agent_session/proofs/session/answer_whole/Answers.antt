@@ -3,7 +3,7 @@ use Rattle.agent_commands.specs.Exchanges.{Exchange, LineExchange, refused}
 use Rattle.agent_commands.specs.Outside.{world}
 use Rattle.agent_commands.specs.States.{session_state, AnswersRequest}
 use Rattle.agent_commands.proofs.Answering.{answered_text, cut_text}
-use Rattle.agent_session.proofs.session.answer.Goals as goal
+use Rattle.agent_session.proofs.session.answer_whole.Goals as goal
 
 pub returns-in-Cache : goal.returns-in-Cache
 returns-in-Cache g c =
