@@ -324,10 +324,15 @@ const CLEARS: [(&[u8], &[u8], Mode); 6] = [
 #[test]
 fn clears_are_read(rt: HostRuntime) -> Result<(), Fail> {
     for (line, name, of) in CLEARS {
-        let Request::Cache(CacheCommand::ClearPassphrase { id, mode }) = request(line)? else {
-            return Err("no clear".into());
-        };
-        assert_eq!(rt; (id.bytes(), mode), (name, of), "at {line:?}");
+        let answer = request(line)?;
+        assert!(rt;
+            matches!(
+                &answer,
+                Request::Cache(CacheCommand::ClearPassphrase { id, mode })
+                    if id.bytes() == name && *mode == of
+            ),
+            "at {line:?}"
+        );
     }
     Ok(())
 }
