@@ -4,5 +4,6 @@ mod Helping
 mod Inquiring
 mod Preparing
 mod Presetting
+mod Quieting
 pub mod Saying
 mod WorkedExamples

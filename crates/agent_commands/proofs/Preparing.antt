@@ -1,15 +1,22 @@
 -- Requests that are prepared to be answered.
-use Rattle.std.proofs.Common.{◌≡◌, ℕ, List, [], ◌∷◌, None, Some, sym, subst, arith}
+use Rattle.std.proofs.Common.{◌≡◌, ℕ, List, [], ◌∷◌, None, Some, refl, sym, subst, arith}
+use Rattle.assuan_line.specs.Next.{Reader}
 use Rattle.assuan_server.specs.Connections.{Connection}
+use Rattle.assuan_server.specs.declared.errors.Code.{Code}
 use Rattle.cache_policy.specs.declared.mark.MarkStep.{MarkStep}
-use Rattle.cache_policy.specs.Turns.{Turn}
+use Rattle.cache_policy.specs.Turns.{Turn, Done}
 use Rattle.session_options.specs.Choices.{Choices}
+use Rattle.session_options.specs.declared.rules.Rules.{Rules}
 use Rattle.agent_commands.specs.Events.{Event, Sent, cache_turn}
+use Rattle.agent_commands.specs.Exchanges.{Exchange, one_turn, IsOneTurn, preset, clear, reload, kill, done, interrupted}
 use Rattle.agent_commands.specs.Outside.{World}
-use Rattle.agent_commands.specs.States.{SessionState}
-use Rattle.agent_commands.specs.Steps.{IsText, Responds, CarriesOut}
+use Rattle.agent_commands.specs.States.{SessionState, ReaderAfter, FaultsRise}
+use Rattle.agent_commands.specs.Steps.{IsText, Responds, CarriesOut, AnswersTurn, is_done, is_interrupted, TakesTurn}
 use Rattle.agent_commands.specs.declared.command.Answer.{Answer}
+use Rattle.agent_commands.specs.declared.request.CacheCommand.{CacheCommand}
+use Rattle.agent_commands.specs.declared.request.Request.TheVariants.{Cache}
 use Rattle.agent_commands.specs.declared.response.Response.{Response}
+use Rattle.agent_commands.specs.declared.response.Response.TheVariants.{Failed}
 use Rattle.agent_commands.specs.declared.went.SessionEnd.TheVariants.{Bye}
 use Rattle.agent_commands.specs.declared.went.Went.{Went}
 use Rattle.agent_commands.specs.declared.went.Went.TheVariants.{On, End}
@@ -59,3 +66,41 @@ module _ {w : World} (exchange : List (Event w.Further) → Choices → Went →
         fits = (going, omega arith);
         faults = record { read = λ e. absurd (cc e); write = λ e. absurd (cc e) };
       })
+
+-- a command of one turn leaves the reader open, and ends in no fault
+reader_stays : {rules : Rules} {command : CacheCommand} {step : MarkStep} {text : List ℕ} {went : Went} → IsOneTurn rules command step text went
+    → (reader : Reader) → reader.ended ≡ None → ReaderAfter went reader reader
+reader_stays (preset allowed) reader going = (going, omega arith)
+reader_stays clear reader going = (going, omega arith)
+reader_stays reload reader going = (going, omega arith)
+reader_stays kill reader going = going
+
+no_fault : {w : World} {rules : Rules} {command : CacheCommand} {step : MarkStep} {text : List ℕ} {went : Went} → IsOneTurn rules command step text went
+    → (start now : SessionState w) → FaultsRise went start now
+no_fault (preset allowed) start now = record { read = λ e. absurd (cc e); write = λ e. absurd (cc e) }
+no_fault clear start now = record { read = λ e. absurd (cc e); write = λ e. absurd (cc e) }
+no_fault reload start now = record { read = λ e. absurd (cc e); write = λ e. absurd (cc e) }
+no_fault kill start now = record { read = λ e. absurd (cc e); write = λ e. absurd (cc e) }
+
+-- a command that is one turn was carried out
+module _ (w : World) (rules : Rules) (before : Choices) (conn : Connection) (going : conn.reader.ended ≡ None) (desk desk_now : w.Desk) (ends : w.Ends)
+    {command : CacheCommand} {step : MarkStep} {text : List ℕ} {went : Went} (one : IsOneTurn rules command step text went)
+    (response : Response) (says : (said : List ℕ) → IsText response said → said ≡ text) where
+  abbrev at_desk : w.Desk → SessionState w
+  at_desk desk = record { conn = conn; desk = desk; ends = ends }
+
+  answered_so : (turn : Turn) (answer : Answer) → w.turned desk step turn desk_now → AnswersTurn (record { response = Some response; went = went }) turn answer
+      → CarriesOut {w = w} (Exchange rules before (Cache command)) (at_desk desk) answer before (at_desk desk_now)
+  answered_so turn answer turned is_done = record {
+    events = cache_turn step Done ∷ [];
+    exchanges = responds (λ more. Exchange rules before (Cache command) (cache_turn step Done ∷ more) before went) response (λ said is. rw (says said is) (one_turn one done));
+    done = done_turned step Done conn desk desk_now ends turned;
+    fits = reader_stays one conn.reader going;
+    faults = no_fault one (at_desk desk) (at_desk desk_now);
+  }
+  answered_so turn answer turned (is_interrupted {code} why) =
+      prepared_turned {w = w} _ before _ (Failed code) step turn conn desk desk_now ends going refl turned (λ said is. rw is (one_turn one (interrupted why)))
+
+  pub turn_taken : {answer : Answer} → TakesTurn w.turned step (record { response = Some response; went = went }) desk answer desk_now
+      → CarriesOut {w = w} (Exchange rules before (Cache command)) (at_desk desk) answer before (at_desk desk_now)
+  turn_taken taken = answered_so taken.turn _ taken.turned_so taken.answers

@@ -5,12 +5,13 @@ use Rattle.hex.proofs.OnLiterals.{hex_on_literals}
 use Rattle.session_options.specs.Defaults.{default_rules}
 use Rattle.cache_policy.specs.Lifetimes.{default_limits}
 use Rattle.cache_policy.specs.declared.life.Life.TheVariants.{Default, Endless, Seconds}
+use Rattle.cache_policy.specs.declared.mode.Mode.TheVariants.{User, Normal, Ssh}
 use Rattle.agent_commands.specs.Names.{command_named, info_named, is_listed}
 use Rattle.agent_commands.specs.Fields.{text}
 use Rattle.agent_commands.specs.Requests.{GetFields, request_of, get_passphrase}
 use Rattle.assuan_server.specs.declared.errors.Code.TheVariants.{NotSupported, UnknownCommand, Parameter}
 use Rattle.agent_commands.specs.declared.request.Info.TheVariants.{Version, Listed}
-use Rattle.agent_commands.specs.declared.request.CacheCommand.TheVariants.{Nop, Bye, SetOption, GetInfo, PresetPassphrase}
+use Rattle.agent_commands.specs.declared.request.CacheCommand.TheVariants.{Nop, Bye, SetOption, GetInfo, PresetPassphrase, ClearPassphrase, KillAgent}
 use Rattle.agent_commands.specs.declared.request.Request.TheVariants.{Cache, Bad}
 
 -- GET_PASSPHRASE with no option and no texts
@@ -144,6 +145,27 @@ id_of_50 = refl
 id_of_51 : request_of (codes "GET_PASSPHRASE " ++ replicate 51 97) ≡ Bad Parameter
 unfolding request_of command_named
 id_of_51 = refl
+
+clear : request_of (codes "clear_passphrase id1 more") ≡ Cache (ClearPassphrase (codes "id1") User)
+unfolding request_of command_named
+clear = refl
+
+clear_normal : request_of (codes "CLEAR_PASSPHRASE --mode=ssh --mode=normal id1") ≡ Cache (ClearPassphrase (codes "id1") Normal)
+unfolding request_of command_named
+clear_normal = refl
+
+-- `--mode` without a value is another option
+clear_ssh : request_of (codes "CLEAR_PASSPHRASE --mode=ssh --mode id1") ≡ Cache (ClearPassphrase (codes "id1") Ssh)
+unfolding request_of command_named
+clear_ssh = refl
+
+other_mode : request_of (codes "CLEAR_PASSPHRASE --mode=any id1") ≡ Bad Parameter
+unfolding request_of command_named
+other_mode = refl
+
+kill : request_of (codes "KILLAGENT") ≡ Cache KillAgent
+unfolding request_of command_named
+kill = refl
 
 -- the lifetimes by default are those of the cache
 same_lifetimes : default_limits ≡ record {

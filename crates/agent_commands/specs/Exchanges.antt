@@ -1,6 +1,6 @@
 -- Requests and what is done for them, as the GnuPG manual has them ("Agent's Assuan protocol"). The codes, the texts and the order of
 -- what is done are this project's own.
-use Rattle.std.specs.Prelude.{◌≡◌, ◌≢◌, ◌++◌, ℕ, Bool, true, false, List, [], ◌∷◌, codes, Option, Some, None}
+use Rattle.std.specs.Prelude.{◌≡◌, ◌++◌, ℕ, Bool, true, false, List, [], ◌∷◌, codes, Option, Some, None, Result, Ok}
 use Rattle.assuan_server.specs.Inquiries.{Data}
 use Rattle.assuan_server.specs.Inquiries as outcome
 use Rattle.assuan_server.specs.Written.{status_text}
@@ -9,10 +9,10 @@ use Rattle.assuan_server.specs.declared.errors.Code.TheVariants as code
 use Rattle.assuan_text.specs.LineEnds.{line_of}
 use Rattle.cache_policy.specs.declared.grant.Grant.{Grant}
 use Rattle.cache_policy.specs.declared.life.Life.{Life}
-use Rattle.cache_policy.specs.declared.life.Life.TheVariants.{Endless}
 use Rattle.cache_policy.specs.declared.mark.MarkStep.{MarkStep}
-use Rattle.cache_policy.specs.declared.mark.MarkStep.TheVariants.{Ask, Put}
+use Rattle.cache_policy.specs.declared.mark.MarkStep.TheVariants.{Ask, Put, Clear, Flush, Stop}
 use Rattle.cache_policy.specs.declared.mark.Way.TheVariants.{Quiet}
+use Rattle.cache_policy.specs.declared.mode.Mode.{Mode}
 use Rattle.cache_policy.specs.declared.mode.Mode.TheVariants.{Any, User}
 use Rattle.cache_policy.specs.declared.secret.TheConstants.{MAX_SECRET_LEN}
 use Rattle.cache_policy.specs.Turns.{Turn, Given, Empty, Done, Stopping, Refused}
@@ -22,9 +22,11 @@ use Rattle.session_options.specs.declared.options.OptionAnswer.TheVariants.{Set,
 use Rattle.session_options.specs.declared.rules.Rules.{Rules}
 use Rattle.agent_commands.specs.Answers.{ok, closing, failed, help, IsInfo, IsPassphrase}
 use Rattle.agent_commands.specs.Events.{Event, Sent, Cut, Inquiry, Inquired, Asked, NotAsked, cache_turn}
-use Rattle.agent_commands.specs.Requests.{request_of}
-use Rattle.agent_commands.specs.declared.request.CacheCommand.TheVariants.{Nop, Reset, Bye, Help, SetOption, GetInfo, GetPassphrase, PresetPassphrase}
+use Rattle.agent_commands.specs.Requests.{request_of, get_of}
+use Rattle.agent_commands.specs.declared.request.CacheCommand.{CacheCommand}
+use Rattle.agent_commands.specs.declared.request.CacheCommand.TheVariants.{Nop, Reset, Bye, Help, SetOption, GetInfo, GetPassphrase, PresetPassphrase, ClearPassphrase, ReloadAgent, KillAgent}
 use Rattle.agent_commands.specs.declared.request.Info.{Info}
+use Rattle.agent_commands.specs.declared.request.QuietRequest.{QuietRequest}
 use Rattle.agent_commands.specs.declared.request.Request.{Request}
 use Rattle.agent_commands.specs.declared.request.Request.TheVariants.{Cache, Bad}
 use Rattle.agent_commands.specs.declared.request.Texts.{Texts}
@@ -82,10 +84,18 @@ pub data BringsNone {F : Type 0} : List (Event F) → Went → Type 0 where
   -- the write of the limit failed
   limit_cut : {sent : List ℕ} (unsent : List ℕ) → limit_line ≡ sent ++ unsent → BringsNone (Cut sent ∷ []) (End ends.WriteFault)
 
--- how the turn that stores a passphrase is answered
-pub data StoresAs : Turn → List ℕ → Type 0 where
-  stored : StoresAs Done ok
-  interrupted : {turn : Turn} {code : Code} → Interrupts turn code → StoresAs turn (failed code)
+-- A command that is one turn: its step, its line once that is done, and how the session goes on then.
+pub data IsOneTurn (rules : Rules) : CacheCommand → MarkStep → List ℕ → Went → Type 0 where
+  preset : {id secret : List ℕ} {life : Life} → rules.allow_preset ≡ true
+      → IsOneTurn rules (PresetPassphrase id life (Some secret)) (put id life secret) ok On
+  clear : {id : List ℕ} {mode : Mode} → IsOneTurn rules (ClearPassphrase id mode) (Clear id mode) ok On
+  reload : IsOneTurn rules ReloadAgent Flush ok On
+  kill : IsOneTurn rules KillAgent Stop closing (End ends.Killed)
+
+-- how such a turn is answered, and how the session goes on: it is done, or it interrupts its command
+pub data ComesOut (text : List ℕ) (went : Went) : Turn → List ℕ → Went → Type 0 where
+  done : ComesOut text went Done text went
+  interrupted : {turn : Turn} {code : Code} → Interrupts turn code → ComesOut text went turn (failed code) On
 
 -- A request: what the client had chosen before it, what the session does for it, what is chosen after it, and how the session
 -- goes on.
@@ -115,19 +125,36 @@ pub data Exchange {F : Type 0} (rules : Rules) (before : Choices) : Request → 
       → Interrupts turn code
       → Exchange rules before (Cache (GetPassphrase plain check no_ask repeat quality (Some id) texts))
       (cache_turn (ask id) turn ∷ Sent (failed code) ∷ []) before On
-  -- another lifetime isn't served yet
-  other_life : {id : List ℕ} {life : Life} {secret : Option (List ℕ)} → life ≢ Endless
-      → Exchange rules before (Cache (PresetPassphrase id life secret)) (Sent (failed code.NotSupported) ∷ []) before On
   not_allowed : {id : List ℕ} {life : Life} {secret : Option (List ℕ)} → rules.allow_preset ≡ false
       → Exchange rules before (Cache (PresetPassphrase id life secret)) (Sent (failed code.NotSupported) ∷ []) before On
-  preset : {id secret text : List ℕ} {turn : Turn} → rules.allow_preset ≡ true → StoresAs turn text
-      → Exchange rules before (Cache (PresetPassphrase id Endless (Some secret)))
-      (cache_turn (put id Endless secret) turn ∷ Sent text ∷ []) before On
-  brought : {id secret text : List ℕ} {turn : Turn} → rules.allow_preset ≡ true → StoresAs turn text
-      → Exchange rules before (Cache (PresetPassphrase id Endless None))
-      (Sent limit_line ∷ inquiry (Asked (Data secret)) ∷ cache_turn (put id Endless secret) turn ∷ Sent text ∷ []) before On
-  none_brought : {id : List ℕ} {events : List (Event F)} {went : Went} → rules.allow_preset ≡ true → BringsNone events went
-      → Exchange rules before (Cache (PresetPassphrase id Endless None)) events before went
+  brought : {id secret text : List ℕ} {life : Life} {turn : Turn} {went : Went} → rules.allow_preset ≡ true → ComesOut ok On turn text went
+      → Exchange rules before (Cache (PresetPassphrase id life None))
+      (Sent limit_line ∷ inquiry (Asked (Data secret)) ∷ cache_turn (put id life secret) turn ∷ Sent text ∷ []) before went
+  none_brought : {id : List ℕ} {life : Life} {events : List (Event F)} {went : Went} → rules.allow_preset ≡ true → BringsNone events went
+      → Exchange rules before (Cache (PresetPassphrase id life None)) events before went
+  one_turn : {command : CacheCommand} {step : MarkStep} {text answer : List ℕ} {turn : Turn} {done went : Went} → IsOneTurn rules command step text done
+      → ComesOut text done turn answer went
+      → Exchange rules before (Cache command) (cache_turn step turn ∷ Sent answer ∷ []) before went
+
+-- the options and arguments of a GET_PASSPHRASE that asks the cache alone, by what is needed of it to answer it
+pub record IsQuietGet (options arguments : List (List ℕ)) (request : QuietRequest) : Type 0 where
+  pub check : Bool
+  pub no_ask : Bool
+  pub repeat : ℕ
+  pub quality : Bool
+  pub texts : Option Texts
+  pub get_is : get_of options arguments ≡ Ok (GetPassphrase request.plain check no_ask repeat quality request.id texts)
+  pub quiet : is_quiet no_ask texts ≡ true
+
+-- a line that is one
+pub record IsQuiet (line : List ℕ) (request : QuietRequest) : Type 0 where
+  pub check : Bool
+  pub no_ask : Bool
+  pub repeat : ℕ
+  pub quality : Bool
+  pub texts : Option Texts
+  pub line_is : request_of line ≡ Cache (GetPassphrase request.plain check no_ask repeat quality request.id texts)
+  pub quiet : is_quiet no_ask texts ≡ true
 
 -- the exchange of a line
 abbrev pub LineExchange : {F : Type 0} → Rules → Choices → List ℕ → List (Event F) → Choices → Went → Type 0

@@ -1,6 +1,6 @@
--- The arguments of requests (GnuPG manual, "Agent GET_PASSPHRASE", "Agent PRESET_PASSPHRASE"). Their bounds, and the texts that
--- `X` stands for, are this project's own.
-use Rattle.std.specs.Prelude.{ℕ, ◌==◌, ◌&&◌, nat_le, Bool, true, List, [], ◌∷◌, length, drop, codes, Option, Some, None, Result, Ok, Err, if◌then◌else◌}
+-- The arguments of requests (GnuPG manual, "Agent GET_PASSPHRASE", "Agent PRESET_PASSPHRASE", "Agent CLEAR_PASSPHRASE"). Their
+-- bounds, the names of modes, and the texts that `X` stands for, are this project's own.
+use Rattle.std.specs.Prelude.{ℕ, ◌==◌, ◌&&◌, nat_le, Bool, true, false, List, [], ◌∷◌, length, drop, codes, Option, Some, None, Result, Ok, Err, if◌then◌else◌}
 use Rattle.std.specs.Option.{option_and_then}
 use Rattle.std.specs.Str.{bytes_eq}
 use Rattle.arrayvec.specs.ArrayVec.{ArrayVec}
@@ -12,6 +12,8 @@ use Rattle.cache_policy.specs.declared.life.TheConstants.{MAX_SECONDS}
 use Rattle.cache_policy.specs.declared.secret.TheConstants.{MAX_SECRET_LEN}
 use Rattle.cache_policy.specs.declared.life.Life.{Life}
 use Rattle.cache_policy.specs.declared.life.Life.TheVariants.{Default, Endless, Seconds}
+use Rattle.cache_policy.specs.declared.mode.Mode.{Mode}
+use Rattle.cache_policy.specs.declared.mode.Mode.TheVariants.{Normal, User, Ssh}
 use Rattle.assuan_text.specs.Numbers.{number_of}
 use Rattle.agent_commands.specs.declared.fields.TheConstants.{MAX_REPEAT}
 use Rattle.agent_commands.specs.declared.request.Texts.{Texts}
@@ -47,6 +49,12 @@ texts (error ∷ prompt ∷ description ∷ more) = Some (Some (record {
 }))
 texts _ = None
 
+-- whether there are words for what a prompt says. `None` where there are one or two.
+abbrev pub has_texts : List (List ℕ) → Option Bool
+has_texts [] = Some false
+has_texts (error ∷ prompt ∷ description ∷ more) = Some true
+has_texts _ = None
+
 -- how often a new passphrase is asked for again
 abbrev pub repeat_of : ℕ → Option ℕ
 repeat_of number = if nat_le number MAX_REPEAT then Some number else None
@@ -74,6 +82,14 @@ abbrev pub life : List ℕ → Option Life
 life word =
     if bytes_eq word (codes "-1") then Some Endless
     else option_and_then life_of_seconds (number_of word)
+
+-- the mode that is cleared, by what the option says: where it isn't there, the mode of GET_PASSPHRASE
+abbrev pub mode_of : Option (List ℕ) → Option Mode
+mode_of None = Some User
+mode_of (Some value) =
+    if bytes_eq value (codes "normal") then Some Normal
+    else if bytes_eq value (codes "ssh") then Some Ssh
+    else None
 
 -- a passphrase isn't too long
 abbrev pub passphrase : Result (List ℕ) FromHexError → Option (List ℕ)

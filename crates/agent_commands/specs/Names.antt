@@ -3,7 +3,7 @@
 use Rattle.std.specs.Prelude.{ℕ, Bool, List, [], ◌∷◌, codes, map, Option}
 use Rattle.assuan_text.specs.Rows.{found, found_in_any_case, has_pair}
 use Rattle.agent_commands.specs.declared.names.CommandName.{CommandName}
-use Rattle.agent_commands.specs.declared.names.CommandName.TheVariants.{Nop, Reset, Bye, Help, SetOption, GetInfo, GetPassphrase, PresetPassphrase}
+use Rattle.agent_commands.specs.declared.names.CommandName.TheVariants.{Nop, Reset, Bye, Help, SetOption, GetInfo, GetPassphrase, PresetPassphrase, ClearPassphrase, ReloadAgent, KillAgent}
 use Rattle.agent_commands.specs.declared.request.Info.{Info}
 use Rattle.agent_commands.specs.declared.request.Info.TheVariants.{Version, Pid, S2kCount}
 
@@ -17,6 +17,9 @@ commands =
     ∷ (codes "GETINFO", GetInfo)
     ∷ (codes "GET_PASSPHRASE", GetPassphrase)
     ∷ (codes "PRESET_PASSPHRASE", PresetPassphrase)
+    ∷ (codes "CLEAR_PASSPHRASE", ClearPassphrase)
+    ∷ (codes "RELOADAGENT", ReloadAgent)
+    ∷ (codes "KILLAGENT", KillAgent)
     ∷ []
 
 -- their names, in this order
@@ -47,6 +50,7 @@ listed =
     ∷ (codes "GET_PASSPHRASE", codes "repeat")
     ∷ (codes "GET_PASSPHRASE", codes "qualitybar")
     ∷ (codes "PRESET_PASSPHRASE", codes "inquire")
+    ∷ (codes "CLEAR_PASSPHRASE", codes "mode")
     ∷ []
 
 -- both are listed so, byte for byte

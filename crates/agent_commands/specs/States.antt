@@ -15,7 +15,7 @@ use Rattle.agent_commands.specs.Outside.{World, world, Outside, Does}
 use Rattle.agent_commands.specs.Reading.{budget}
 use Rattle.agent_commands.specs.Talks.{WholeOrCut}
 use Rattle.agent_commands.specs.declared.response.WriteFault.{WriteFault as Fault}
-use Rattle.agent_commands.specs.declared.went.SessionEnd.TheVariants.{Bye, Ended, TooLong, Spent, ReadFault, WriteFault}
+use Rattle.agent_commands.specs.declared.went.SessionEnd.TheVariants.{Bye, Killed, Ended, TooLong, Spent, ReadFault, WriteFault}
 use Rattle.agent_commands.specs.declared.went.Went.{Went}
 use Rattle.agent_commands.specs.declared.went.Went.TheVariants.{On, End}
 
@@ -82,6 +82,7 @@ pub record EventsLead {w : World} (events : List (Event w.Further)) (start now :
 abbrev pub ReaderAfter : Went → Reader → Reader → Type 0
 ReaderAfter On before after = (after.ended ≡ None) × (held after ≤ held before)
 ReaderAfter (End Bye) before after = after.ended ≡ None
+ReaderAfter (End Killed) before after = after.ended ≡ None
 ReaderAfter (End Ended) before after = after.ended ≡ Some took.End
 ReaderAfter (End TooLong) before after = after.ended ≡ Some took.TooLong
 ReaderAfter (End Spent) before after = after.ended ≡ Some took.Spent

@@ -5,17 +5,18 @@ use Rattle.assuan_server.specs.Connections.{Connection}
 use Rattle.assuan_server.specs.Asking.{Inquire, IsNotAsked}
 use Rattle.assuan_server.specs.Inquiries.{outcome_of_secret, inquire_text}
 use Rattle.assuan_server.specs.Written.{HasWritten}
+use Rattle.assuan_server.specs.declared.errors.Code.{Code}
 use Rattle.assuan_server.specs.declared.errors.Code.TheVariants as code
 use Rattle.assuan_server.specs.declared.inquiry.InquiredSecret.{InquiredSecret}
 use Rattle.assuan_server.specs.declared.inquiry.InquiredSecret.TheVariants as secret_inquired
-use Rattle.cache_policy.specs.declared.life.Life.TheVariants.{Endless}
 use Rattle.cache_policy.specs.declared.mark.MarkStep.{MarkStep}
+use Rattle.cache_policy.specs.declared.mark.MarkStep.TheVariants.{Put, Clear, Flush, Stop}
 use Rattle.cache_policy.specs.declared.secret.TheConstants.{MAX_SECRET_LEN}
-use Rattle.cache_policy.specs.Turns.{Turn}
+use Rattle.cache_policy.specs.Turns.{Turn, Done}
 use Rattle.session_options.specs.Choices.{Choices}
 use Rattle.agent_commands.specs.Answers.{ok, closing, help, failed, IsData, IsPassphrase}
 use Rattle.agent_commands.specs.Events.{Event, Sent}
-use Rattle.agent_commands.specs.Exchanges.{StoresAs, put, limit_line}
+use Rattle.agent_commands.specs.Exchanges.{Interrupts, limit_line}
 use Rattle.agent_commands.specs.Outside.{World}
 use Rattle.agent_commands.specs.declared.command.Answer.{Answer}
 use Rattle.agent_commands.specs.declared.response.Response.{Response}
@@ -61,11 +62,24 @@ pub data RespondsTo (answer : Answer) (before : Connection) : Went → Connectio
   cut : {after : Connection} (response : Response) (text : List ℕ) (fault : Fault) → answer.response ≡ Some response → IsText response text
       → WritesText text before (Part fault) after → RespondsTo answer before (End WriteFault) after
 
--- the turn for a preset was taken, and this is how it is answered
-pub record StoresSecret {D : Type 0} (turned : D → MarkStep → Turn → D → Type 0) (id secret : List ℕ) (before : D) (response : Response) (after : D) : Type 0 where
+-- a step that changes the cache, and gives no ticket back
+abbrev pub IsChange : MarkStep → Type 0
+IsChange (Put id mode life secret) = Unit {0}
+IsChange (Clear id mode) = Unit {0}
+IsChange Flush = Unit {0}
+IsChange Stop = Unit {0}
+IsChange _ = ⊥
+
+-- how the turn of such a step is answered, which is so once it is done
+pub data AnswersTurn (done : Answer) : Turn → Answer → Type 0 where
+  is_done : AnswersTurn done Done done
+  is_interrupted : {turn : Turn} {code : Code} → Interrupts turn code → AnswersTurn done turn (record { response = Some (Failed code); went = On })
+
+-- the turn was taken, and this is its answer
+pub record TakesTurn {D : Type 0} (turned : D → MarkStep → Turn → D → Type 0) (step : MarkStep) (done : Answer) (before : D) (answer : Answer) (after : D) : Type 0 where
   pub turn : Turn
-  pub stores : (text : List ℕ) → IsText response text → StoresAs turn text
-  pub turned_so : turned before (put id Endless secret) turn after
+  pub turned_so : turned before step turn after
+  pub answers : AnswersTurn done turn answer
 
 -- how an inquiry for a passphrase is answered, where it brought none
 abbrev pub answer_of : InquiredSecret → Result (List ℕ) Answer

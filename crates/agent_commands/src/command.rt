@@ -1,19 +1,21 @@
-ghost use Rattle.std.specs.Prelude.{◌≡◌, ℕ, Bool, true, List, None, Some};
+ghost use Rattle.std.specs.Prelude.{◌≡◌, ℕ, Bool, true, List, None, Some, Option};
+ghost use Rattle.agent_commands.specs.declared.request.Texts.{Texts as TheTexts};
 ghost use Rattle.assuan_server.specs.Connections.{Connection, IsOpen};
+ghost use Rattle.cache_policy.specs.declared.mark.MarkStep.TheVariants.{Clear};
 ghost use Rattle.cache_policy.specs.Turns.{mark_step, closes};
 ghost use Rattle.session_options.specs.Choices.{Choices};
 ghost use Rattle.session_options.specs.declared.rules.Rules.{Rules as TheRules};
 ghost use Rattle.agent_commands.specs.Answers.{IsInfo};
-ghost use Rattle.agent_commands.specs.Exchanges.{Exchange, is_quiet, option_text};
+ghost use Rattle.agent_commands.specs.Exchanges.{Exchange, LineExchange, IsQuiet, is_quiet, option_text, put};
 ghost use Rattle.agent_commands.specs.Outside.{world};
 ghost use Rattle.agent_commands.specs.States.{session_state, AnswersRequest};
-ghost use Rattle.agent_commands.specs.Steps.{CarriesOut, RespondsTo, StoresSecret, AsksSecret, IsText, answer_of};
+ghost use Rattle.agent_commands.specs.Steps.{CarriesOut, RespondsTo, IsChange, TakesTurn, AsksSecret, IsText, answer_of};
 ghost use Rattle.agent_commands.specs.declared.request.CacheCommand.TheVariants as command;
 ghost use Rattle.agent_commands.specs.declared.request.Request.TheVariants as request;
 ghost use Rattle.agent_commands.specs.declared.went.Went.TheVariants as went;
 
 use crate::response::{Response, WriteFault, whole, write_response};
-use crate::{CacheCommand, Info, SessionEnd, Texts, Went};
+use crate::{CacheCommand, Info, QuietRequest, SessionEnd, Texts, Went};
 use agent_ports::{Link, Sent};
 use assuan_server::{Code, Conn, InquiredSecret};
 use cache_policy::{CacheId, Desk, Life, Mode, Refused, Reply, Secret, Step, Way};
@@ -83,6 +85,21 @@ pub fn run_cache<L: Link, D: Desk>(
     respond(&answer, conn)
 }
 
+/// Answers a request that asks the cache alone, and says how the session goes on.
+pub fn run_quiet<L: Link, D: Desk>(
+    request: &QuietRequest,
+    conn: &mut Conn<'_, L>,
+    desk: &mut D,
+) -> Went
+    requires { IsOpen conn.old }
+    ensures { (rules : TheRules) (options : Choices) (line : List ℕ) → IsQuiet line request.now
+        → AnswersRequest {w = world D.turned} (λ before. LineExchange rules before line) options (session_state D.turned conn.old desk.old)
+        result options (session_state D.turned conn.new desk.new) }
+{
+    let answer = ask_cache(request.plain, &request.id, desk);
+    respond(&answer, conn)
+}
+
 /// Writes the response of an answer, where there is one.
 fn respond<L: Link>(answer: &Answer, conn: &mut Conn<'_, L>) -> Went
     ensures { RespondsTo answer.now conn.old result conn.new }
@@ -128,6 +145,13 @@ fn carry_out<L: Link, D: Desk>(
         CacheCommand::PresetPassphrase { id, life, secret } => {
             preset_passphrase(id, *life, secret, rules, conn, desk)
         }
+        CacheCommand::ClearPassphrase { id, mode } => clear_passphrase(id, *mode, desk),
+        CacheCommand::ReloadAgent => take_turn(Step::Flush, Answer::on(Response::Ok), desk),
+        CacheCommand::KillAgent => take_turn(
+            Step::Stop,
+            Answer::last(Response::Closing, SessionEnd::Killed),
+            desk,
+        ),
     }
 }
 
@@ -153,7 +177,7 @@ fn info_response(info: Info, rules: &Rules) -> Response
     }
 }
 
-/// GET_PASSPHRASE, which asks the cache alone. One that may prompt isn't served yet.
+/// GET_PASSPHRASE. One that may prompt isn't served yet.
 fn get_passphrase<D: Desk>(
     plain: bool,
     no_ask: bool,
@@ -168,6 +192,16 @@ fn get_passphrase<D: Desk>(
     if !is_quiet(no_ask, texts) {
         return Answer::failed(Code::NotSupported);
     }
+    ask_cache(plain, id, desk)
+}
+
+/// Asks the cache alone for a passphrase.
+fn ask_cache<D: Desk>(plain: bool, id: &Option<CacheId>, desk: &mut D) -> Answer
+    ensures { (rules : TheRules) (before : Choices) (check no_ask quality : Bool) (repeat : ℕ) (texts : Option TheTexts) (conn : Connection)
+        → is_quiet no_ask texts ≡ true → conn.reader.ended ≡ None
+        → CarriesOut {w = world D.turned} (Exchange rules before (request.Cache (command.GetPassphrase plain check no_ask repeat quality id.now texts)))
+        (session_state D.turned conn desk.old) result before (session_state D.turned conn desk.new) }
+{
     let Some(id) = id else {
         return Answer::failed(Code::NoData);
     };
@@ -180,10 +214,7 @@ fn get_passphrase<D: Desk>(
         Ok(Reply::Empty) => Answer::failed(Code::NoData),
         Ok(Reply::Stopping) => Answer::failed(Code::Cancelled),
         Ok(_) => unreachable!(),
-        Err(Refused { step }) => {
-            let_go(step);
-            Answer::failed(Code::NoMemory)
-        }
+        Err(Refused { step }) => without_memory(step),
     }
 }
 
@@ -194,7 +225,7 @@ fn is_quiet(no_ask: bool, texts: &Option<Texts>) -> bool
     no_ask || texts.is_none()
 }
 
-/// PRESET_PASSPHRASE. Another lifetime than one without end isn't served yet.
+/// PRESET_PASSPHRASE.
 fn preset_passphrase<L: Link, D: Desk>(
     id: &CacheId,
     life: Life,
@@ -207,48 +238,67 @@ fn preset_passphrase<L: Link, D: Desk>(
     ensures { (before : Choices) → CarriesOut {w = world D.turned} (Exchange rules.now before (request.Cache (command.PresetPassphrase id.now life secret.now)))
         (session_state D.turned conn.old desk.old) result before (session_state D.turned conn.new desk.new) }
 {
-    let Life::Endless = life else {
-        return Answer::failed(Code::NotSupported);
-    };
     if !rules.allow_preset {
         return Answer::failed(Code::NotSupported);
     }
     match secret {
-        Some(secret) => Answer::on(store(id, secret.copy(), desk)),
-        None => preset_inquired(id, conn, desk),
+        Some(secret) => store(id, life, secret.copy(), desk),
+        None => preset_inquired(id, life, conn, desk),
     }
 }
 
 /// Asks the client for the passphrase that it presets.
-fn preset_inquired<L: Link, D: Desk>(id: &CacheId, conn: &mut Conn<'_, L>, desk: &mut D) -> Answer
+fn preset_inquired<L: Link, D: Desk>(
+    id: &CacheId,
+    life: Life,
+    conn: &mut Conn<'_, L>,
+    desk: &mut D,
+) -> Answer
     requires { IsOpen conn.old }
     ensures { (rules : TheRules) (before : Choices) → rules.allow_preset ≡ true
-        → CarriesOut {w = world D.turned} (Exchange rules before (request.Cache (command.PresetPassphrase id.now Life.Endless None)))
+        → CarriesOut {w = world D.turned} (Exchange rules before (request.Cache (command.PresetPassphrase id.now life None)))
         (session_state D.turned conn.old desk.old) result before (session_state D.turned conn.new desk.new) }
 {
     match inquire_passphrase(conn) {
-        Ok(secret) => Answer::on(store(id, secret, desk)),
+        Ok(secret) => store(id, life, secret, desk),
         Err(answer) => answer,
     }
 }
 
-/// Stores a passphrase for every mode, without a ttl.
-fn store<D: Desk>(id: &CacheId, secret: Secret, desk: &mut D) -> Response
-    ensures { StoresSecret D.turned id.now secret desk.old result desk.new }
+/// Stores a passphrase for every mode.
+fn store<D: Desk>(id: &CacheId, life: Life, secret: Secret, desk: &mut D) -> Answer
+    ensures { TakesTurn D.turned (put id.now life secret) (record { response = Some Response.Ok; went = went.On }) desk.old result desk.new }
 {
-    match desk.turn(Step::Put {
+    let step = Step::Put {
         id: id.copy(),
         mode: Mode::Any,
-        life: Life::Endless,
+        life,
         secret,
-    }) {
-        Ok(Reply::Done) => Response::Ok,
-        Ok(Reply::Stopping) => Response::Failed(Code::Cancelled),
+    };
+    take_turn(step, Answer::on(Response::Ok), desk)
+}
+
+/// CLEAR_PASSPHRASE.
+fn clear_passphrase<D: Desk>(id: &CacheId, mode: Mode, desk: &mut D) -> Answer
+    ensures { TakesTurn D.turned (Clear id.now mode) (record { response = Some Response.Ok; went = went.On }) desk.old result desk.new }
+{
+    let step = Step::Clear {
+        id: id.copy(),
+        mode,
+    };
+    take_turn(step, Answer::on(Response::Ok), desk)
+}
+
+/// Takes a turn that changes the cache. It is answered so once it is done.
+fn take_turn<D: Desk>(step: Step, done: Answer, desk: &mut D) -> Answer
+    requires { IsChange (mark_step step) }
+    ensures { TakesTurn D.turned (mark_step step) done desk.old result desk.new }
+{
+    match desk.turn(step) {
+        Ok(Reply::Done) => done,
+        Ok(Reply::Stopping) => Answer::failed(Code::Cancelled),
         Ok(_) => unreachable!(),
-        Err(Refused { step }) => {
-            let_go(step);
-            Response::Failed(Code::NoMemory)
-        }
+        Err(Refused { step }) => without_memory(step),
     }
 }
 
@@ -282,12 +332,13 @@ fn passphrase_of(inquired: InquiredSecret) -> Result<Secret, Answer>
     })
 }
 
-/// Ends a step that has no ticket.
-fn let_go(step: Step)
+/// How a command is answered whose step found no memory. The step has no ticket.
+fn without_memory(step: Step) -> Answer
     requires { closes (mark_step step) ≡ None }
+    ensures { result ≡ record { response = Some (Response.Failed Code.NoMemory); went = went.On } }
 {
     match step.into_ticket() {
-        None => {}
+        None => Answer::failed(Code::NoMemory),
         Some(_) => unreachable!(),
     }
 }

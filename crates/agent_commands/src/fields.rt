@@ -1,15 +1,15 @@
-ghost use Rattle.std.specs.Prelude.{◌≡◌, ◌≤◌, ◌++◌, length, codes, [], MatchOption};
+ghost use Rattle.std.specs.Prelude.{◌≡◌, ◌≤◌, ◌++◌, length, codes, [], MatchOption, Some};
 ghost use Rattle.std.specs.Option.{option_and_then, option_map};
 ghost use Rattle.hex.specs.Hex.{decode_of};
 ghost use Rattle.assuan_text.specs.Words.{words};
-ghost use Rattle.assuan_text.specs.Options.{options_of, last_option};
+ghost use Rattle.assuan_text.specs.Options.{options_of, last_option, last_value};
 ghost use Rattle.assuan_text.specs.declared.TheConstants.{MAX_LINE_LEN};
-ghost use Rattle.agent_commands.specs.Fields.{cache_id, unless_placeholder, text_or, texts, repeats, life, life_of_seconds, passphrase, given_passphrase};
+ghost use Rattle.agent_commands.specs.Fields.{cache_id, unless_placeholder, text_or, texts, has_texts, repeats, life, life_of_seconds, mode_of, passphrase, given_passphrase};
 
 use crate::Texts;
 use assuan_escape::unescape;
-use assuan_text::{Text, last_option, next_word, number_of};
-use cache_policy::{CacheId, Life, MAX_SECONDS, MAX_SECRET_LEN, Secret};
+use assuan_text::{Text, last_option, last_value, next_word, number_of};
+use cache_policy::{CacheId, Life, MAX_SECONDS, MAX_SECRET_LEN, Mode, Secret};
 use wiping::wipe;
 
 /// The word that stands for none.
@@ -21,6 +21,12 @@ pub const MAX_REPEAT: u64 = 16;
 const REPEAT: &[u8] = b"--repeat";
 
 const ENDLESS: &[u8] = b"-1";
+
+const MODE: &[u8] = b"--mode";
+
+const NORMAL: &[u8] = b"normal";
+
+const SSH: &[u8] = b"ssh";
 
 pub(crate) fn cache_id(word: &[u8]) -> Option<CacheId>
     ensures { result ≡ cache_id word.now }
@@ -54,6 +60,18 @@ pub(crate) fn texts(text: &[u8]) -> Option<Option<Texts>>
         prompt: text_or(b"Passphrase:", prompt),
         description: text_or(b"Please enter the passphrase", description),
     }))
+}
+
+/// Whether the text has words for what a prompt says. `None` where there are one or two.
+pub(crate) fn has_texts(text: &[u8]) -> Option<bool>
+    ensures { result ≡ has_texts (words text.now) }
+{
+    let Some((_, rest)) = next_word(text) else {
+        return Some(false);
+    };
+    let (_, rest) = next_word(rest)?;
+    next_word(rest)?;
+    Some(true)
 }
 
 /// The text that a word means, or the usual one where it stands for none.
@@ -107,6 +125,29 @@ fn life_of_seconds(seconds: u64) -> Option<Life>
         _ if seconds <= u64::from(MAX_SECONDS) => Some(Life::Seconds(seconds as u32)),
         _ => None,
     }
+}
+
+/// The mode of this name.
+fn mode_named(name: &[u8]) -> Option<Mode>
+    ensures { result ≡ mode_of (Some name.now) }
+{
+    if name == NORMAL {
+        Some(Mode::Normal)
+    } else if name == SSH {
+        Some(Mode::Ssh)
+    } else {
+        None
+    }
+}
+
+/// The mode that is cleared, by the options of the text.
+pub(crate) fn cleared_mode(text: &[u8]) -> Option<Mode>
+    ensures { result ≡ mode_of (last_value (codes "--mode") (options_of (words text.now))) }
+{
+    let Some(name) = last_value(text, MODE) else {
+        return Some(Mode::User);
+    };
+    mode_named(name)
 }
 
 /// The passphrase that the first word of the text spells, or none where it comes by an inquiry.

@@ -16,10 +16,13 @@ pub enum CommandName {
     GetInfo,
     GetPassphrase,
     PresetPassphrase,
+    ClearPassphrase,
+    ReloadAgent,
+    KillAgent,
 }
 
 /// The commands by their names, in the order in which HELP tells them.
-pub const COMMANDS: [(&[u8], CommandName); 8] = [
+pub const COMMANDS: [(&[u8], CommandName); 11] = [
     (b"NOP", CommandName::Nop),
     (b"RESET", CommandName::Reset),
     (b"BYE", CommandName::Bye),
@@ -28,6 +31,9 @@ pub const COMMANDS: [(&[u8], CommandName); 8] = [
     (b"GETINFO", CommandName::GetInfo),
     (b"GET_PASSPHRASE", CommandName::GetPassphrase),
     (b"PRESET_PASSPHRASE", CommandName::PresetPassphrase),
+    (b"CLEAR_PASSPHRASE", CommandName::ClearPassphrase),
+    (b"RELOADAGENT", CommandName::ReloadAgent),
+    (b"KILLAGENT", CommandName::KillAgent),
 ];
 
 /// A law: `COMMANDS` has the names as they are defined, in this order.
@@ -45,13 +51,14 @@ const INFOS: [(&[u8], Info); 3] = [
 /// The word of GETINFO before a command and an option.
 pub(crate) const HAS_OPTION: &[u8] = b"cmd_has_option";
 
-const LISTED: [(&[u8], &[u8]); 6] = [
+const LISTED: [(&[u8], &[u8]); 7] = [
     (b"GET_PASSPHRASE", b"data"),
     (b"GET_PASSPHRASE", b"check"),
     (b"GET_PASSPHRASE", b"no-ask"),
     (b"GET_PASSPHRASE", b"repeat"),
     (b"GET_PASSPHRASE", b"qualitybar"),
     (b"PRESET_PASSPHRASE", b"inquire"),
+    (b"CLEAR_PASSPHRASE", b"mode"),
 ];
 
 /// The command of this name, whatever the case of its letters.

@@ -1,12 +1,15 @@
-ghost use Rattle.std.specs.Prelude.{◌≡◌, ◌≤◌, length};
+ghost use Rattle.std.specs.Prelude.{◌≡◌, ◌≤◌, length, IfSome};
 ghost use Rattle.assuan_text.specs.declared.TheConstants.{MAX_LINE_LEN};
 ghost use Rattle.assuan_text.specs.Options.{options_of, arguments_of};
 ghost use Rattle.assuan_text.specs.Words.{words};
-ghost use Rattle.agent_commands.specs.Requests.{request_of, command_in, info_of, listed_info, get_of, preset_of};
+ghost use Rattle.agent_commands.specs.Exchanges.{IsQuiet, IsQuietGet};
+ghost use Rattle.agent_commands.specs.Requests.{request_of, command_in, info_of, listed_info, get_of, preset_of, clear_of};
 
-use crate::fields::{cache_id, given_passphrase, life, repeats, texts, unless_placeholder};
+use crate::fields::{
+    cache_id, cleared_mode, given_passphrase, has_texts, life, repeats, texts, unless_placeholder,
+};
 use crate::names::{CommandName, HAS_OPTION, command_named, info_named, is_listed};
-use crate::{CacheCommand, Info, Request};
+use crate::{CacheCommand, Info, QuietRequest, Request};
 use assuan_line::Line;
 use assuan_server::Code;
 use assuan_text::{Text, arguments, command_and_rest, has_option, next_word};
@@ -41,6 +44,9 @@ fn read_command(line: &Line) -> Result<CacheCommand, Code>
         CommandName::GetInfo => Ok(CacheCommand::GetInfo(read_info(arguments(rest))?)),
         CommandName::GetPassphrase => read_get(rest),
         CommandName::PresetPassphrase => read_preset(rest),
+        CommandName::ClearPassphrase => read_clear(rest),
+        CommandName::ReloadAgent => Ok(CacheCommand::ReloadAgent),
+        CommandName::KillAgent => Ok(CacheCommand::KillAgent),
     }
 }
 
@@ -97,6 +103,35 @@ fn read_get(text: &[u8]) -> Result<CacheCommand, Code>
     })
 }
 
+/// Reads a line that asks the cache alone for a passphrase, as GET_PASSPHRASE does with `--no-ask` or without texts. `None` for any
+/// other line, which `read_request` reads.
+// The texts of a line are long, and most requests are quiet: so no text is made for these.
+pub fn read_quiet(line: &Line) -> Option<QuietRequest>
+    ensures { IfSome result (IsQuiet line.now) }
+{
+    let (word, rest) = command_and_rest(line.bytes());
+    match command_named(word) {
+        Some(CommandName::GetPassphrase) => read_quiet_get(rest),
+        _ => None,
+    }
+}
+
+/// What comes after GET_PASSPHRASE, where it asks the cache alone.
+fn read_quiet_get(text: &[u8]) -> Option<QuietRequest>
+    ensures { IfSome result (IsQuietGet (options_of (words text.now)) (arguments_of (words text.now))) }
+{
+    let (word, rest) = next_word(arguments(text))?;
+    repeats(text)?;
+    let id = cache_id(word)?;
+    if has_texts(rest)? && !has_option(text, b"--no-ask") {
+        return None;
+    }
+    Some(QuietRequest {
+        plain: has_option(text, b"--data"),
+        id: unless_placeholder(id),
+    })
+}
+
 /// What comes after PRESET_PASSPHRASE.
 fn read_preset(text: &[u8]) -> Result<CacheCommand, Code>
     ensures { result ≡ preset_of (options_of (words text.now)) (arguments_of (words text.now)) }
@@ -107,4 +142,14 @@ fn read_preset(text: &[u8]) -> Result<CacheCommand, Code>
     let life = life(timeout).ok_or(Code::Parameter)?;
     let secret = given_passphrase(has_option(text, b"--inquire"), rest).ok_or(Code::Parameter)?;
     Ok(CacheCommand::PresetPassphrase { id, life, secret })
+}
+
+/// What comes after CLEAR_PASSPHRASE.
+fn read_clear(text: &[u8]) -> Result<CacheCommand, Code>
+    ensures { result ≡ clear_of (options_of (words text.now)) (arguments_of (words text.now)) }
+{
+    let (word, _) = next_word(arguments(text)).ok_or(Code::Parameter)?;
+    let mode = cleared_mode(text).ok_or(Code::Parameter)?;
+    let id = cache_id(word).ok_or(Code::Parameter)?;
+    Ok(CacheCommand::ClearPassphrase { id, mode })
 }

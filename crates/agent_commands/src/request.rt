@@ -1,6 +1,6 @@
 use assuan_server::Code;
 use assuan_text::Text;
-use cache_policy::{CacheId, Life, Secret};
+use cache_policy::{CacheId, Life, Mode, Secret};
 
 /// What a line asks for.
 #[derive(Drop)]
@@ -44,6 +44,23 @@ pub enum CacheCommand {
         /// `None` where the client is asked for it.
         secret: Option<Secret>,
     },
+    ClearPassphrase {
+        id: CacheId,
+        mode: Mode,
+    },
+    /// Forgets all passphrases.
+    ReloadAgent,
+    /// Ends the session, and opens no prompt any more.
+    KillAgent,
+}
+
+/// A GET_PASSPHRASE that asks the cache alone, without the texts that its line may have: no prompt shows them.
+#[derive(Drop)]
+pub struct QuietRequest {
+    /// The passphrase is answered by data lines, and else in hexadecimal digits.
+    pub plain: bool,
+    /// `None` leaves the cache out.
+    pub id: Option<CacheId>,
 }
 
 /// What GETINFO is asked for.

@@ -55,7 +55,7 @@ pub(crate) fn write_response<L: Link>(
         Response::Given {
             grant,
             plain: false,
-        } => whole(conn.ok(&upper_hex(grant.secret().bytes()))),
+        } => write_digits(conn, grant.secret()),
         Response::Failed(code) => whole(conn.err(*code, Origin::Agent)),
     }
 }
@@ -64,8 +64,7 @@ pub(crate) fn write_response<L: Link>(
 fn write_data<L: Link>(conn: &mut Conn<'_, L>, bytes: &[u8]) -> Result<(), WriteFault>
     ensures { (text : List ℕ) × IsData bytes.now text × WritesText text conn.old result conn.new }
 {
-    whole(conn.data(bytes))?;
-    whole(conn.ok(b""))
+    whole(conn.last_data(bytes))
 }
 
 /// Writes that all is well, with a secret in hexadecimal digits, which are overwritten.

@@ -2,7 +2,7 @@ use super::*;
 use arrayvec::ArrayVec;
 use assuan_line::Line;
 use assuan_server::Code;
-use cache_policy::Life;
+use cache_policy::{Life, Mode};
 use std::test::Fail;
 
 fn request(bytes: &[u8]) -> Result<Request, Fail> {
@@ -20,7 +20,7 @@ fn long_line(front: &[u8], byte: u8, count: usize) -> Result<ArrayVec<u8, 1001>,
     Ok(line)
 }
 
-const REFUSALS: [(&[u8], Code); 36] = [
+const REFUSALS: [(&[u8], Code); 40] = [
     (b"", Code::UnknownCommand),
     (b" \t", Code::UnknownCommand),
     (b"# comment", Code::UnknownCommand),
@@ -66,14 +66,20 @@ const REFUSALS: [(&[u8], Code); 36] = [
     (b"PRESET_PASSPHRASE id1 -1 255", Code::Parameter),
     (b"PRESET_PASSPHRASE id1 -1 2g", Code::Parameter),
     (b"PRESET_PASSPHRASE id1 --inquire 25", Code::Parameter),
+    (b"CLEAR_PASSPHRASE", Code::Parameter),
+    (b"CLEAR_PASSPHRASE --mode=user id1", Code::Parameter),
+    (b"CLEAR_PASSPHRASE --mode=ssh --mode= id1", Code::Parameter),
+    (b"GET_CONFIRMATION x", Code::UnknownCommand),
 ];
 
 /// A line, and whether it is refused with so many of one byte after it.
-const LONG_LINES: [(&[u8], u8, usize, bool); 6] = [
+const LONG_LINES: [(&[u8], u8, usize, bool); 8] = [
     (b"NOP", b' ', 997, false),
     (b"GET_PASSPHRASE ", b'a', 50, false),
     (b"GET_PASSPHRASE ", b'a', 51, true),
     (b"PRESET_PASSPHRASE --inquire ", b'a', 51, true),
+    (b"CLEAR_PASSPHRASE ", b'a', 50, false),
+    (b"CLEAR_PASSPHRASE ", b'a', 51, true),
     (b"PRESET_PASSPHRASE id1 -1 ", b'6', 510, false),
     (b"PRESET_PASSPHRASE id1 -1 ", b'6', 512, true),
 ];
@@ -98,7 +104,7 @@ fn refusals_have_their_codes(rt: HostRuntime) -> Result<(), Fail> {
     Ok(())
 }
 
-const INFOS: [(&[u8], Info); 10] = [
+const INFOS: [(&[u8], Info); 11] = [
     (b"getinfo version", Info::Version),
     (b"GETINFO\tpid more", Info::Pid),
     (b"GETINFO --frob s2k_count", Info::S2kCount),
@@ -121,6 +127,10 @@ const INFOS: [(&[u8], Info); 10] = [
         b"GETINFO cmd_has_option PRESET_PASSPHRASE inquire x",
         Info::Listed,
     ),
+    (
+        b"GETINFO cmd_has_option CLEAR_PASSPHRASE mode",
+        Info::Listed,
+    ),
 ];
 
 const OPTION_TEXTS: [(&[u8], &[u8]); 4] = [
@@ -132,11 +142,13 @@ const OPTION_TEXTS: [(&[u8], &[u8]); 4] = [
 
 #[test]
 fn commands_are_known_in_any_case(rt: HostRuntime) -> Result<(), Fail> {
-    use CacheCommand::{Bye, GetInfo, Help, Nop, Reset, SetOption};
+    use CacheCommand::{Bye, GetInfo, Help, KillAgent, Nop, ReloadAgent, Reset, SetOption};
     assert!(rt; matches!(request(b"nop")?, Request::Cache(Nop)));
     assert!(rt; matches!(request(b" \tReSeT and more")?, Request::Cache(Reset)));
     assert!(rt; matches!(request(b"BYE")?, Request::Cache(Bye)));
     assert!(rt; matches!(request(b"help GETINFO")?, Request::Cache(Help)));
+    assert!(rt; matches!(request(b"reloadagent now")?, Request::Cache(ReloadAgent)));
+    assert!(rt; matches!(request(b"KillAgent")?, Request::Cache(KillAgent)));
     for (line, info) in INFOS {
         let answer = request(line)?;
         assert!(rt;
@@ -292,6 +304,70 @@ fn presets_are_read(rt: HostRuntime) -> Result<(), Fail> {
             None => None,
         };
         assert_eq!(rt; given, bytes, "at {line:?}");
+    }
+    Ok(())
+}
+
+const CLEARS: [(&[u8], &[u8], Mode); 6] = [
+    (b"CLEAR_PASSPHRASE id1", b"id1", Mode::User),
+    (b"clear_passphrase --mode id1 more", b"id1", Mode::User),
+    (b"CLEAR_PASSPHRASE --mode=normal X", b"X", Mode::Normal),
+    (b"CLEAR_PASSPHRASE --mode=ssh --mode id1", b"id1", Mode::Ssh),
+    (
+        b"CLEAR_PASSPHRASE --mode=x --mode=ssh -- --id",
+        b"--id",
+        Mode::Ssh,
+    ),
+    (b"CLEAR_PASSPHRASE id1 --mode=ssh", b"id1", Mode::User),
+];
+
+#[test]
+fn clears_are_read(rt: HostRuntime) -> Result<(), Fail> {
+    for (line, name, of) in CLEARS {
+        let answer = request(line)?;
+        assert!(rt;
+            matches!(
+                &answer,
+                Request::Cache(CacheCommand::ClearPassphrase { id, mode })
+                    if id.bytes() == name && *mode == of
+            ),
+            "at {line:?}"
+        );
+    }
+    Ok(())
+}
+
+/// A line, and whether it asks the cache alone: then by data lines or not, and for which id.
+const QUIETS: [(&[u8], Option<(bool, Option<&[u8]>)>); 8] = [
+    (
+        b"GET_PASSPHRASE --no-ask --data id1 X X X",
+        Some((true, Some(b"id1"))),
+    ),
+    (b"get_passphrase id1", Some((false, Some(b"id1")))),
+    (b"GET_PASSPHRASE --no-ask X", Some((false, None))),
+    (b"GET_PASSPHRASE --data id1 X X X", None),
+    (b"GET_PASSPHRASE --no-ask id1 X X", None),
+    (b"GET_PASSPHRASE --repeat=17 id1", None),
+    (b"GET_PASSPHRASE", None),
+    (b"NOP", None),
+];
+
+#[test]
+fn quiet_requests_are_read_without_their_texts(rt: HostRuntime) -> Result<(), Fail> {
+    for (bytes, quiet) in QUIETS {
+        let line = Line::of(bytes).ok_or("no line")?;
+        let read = read_quiet(&line);
+        let given = match &read {
+            Some(request) => Some((
+                request.plain,
+                match &request.id {
+                    Some(id) => Some(id.bytes()),
+                    None => None,
+                },
+            )),
+            None => None,
+        };
+        assert_eq!(rt; given, quiet, "at {bytes:?}");
     }
     Ok(())
 }

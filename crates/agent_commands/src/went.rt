@@ -4,7 +4,10 @@ pub const BUDGET: u64 = 1 << 40;
 /// How a session ended.
 #[derive(Clone, Copy, Debug, PartialEq, Eq)]
 pub enum SessionEnd {
+    /// The client said BYE.
     Bye,
+    /// The client stopped the agent.
+    Killed,
     /// The source gave its end.
     Ended,
     /// A line was too long.

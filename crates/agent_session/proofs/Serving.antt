@@ -16,7 +16,7 @@ use Rattle.agent_commands.specs.States.{WritesText, StopsWriting, SessionState, 
 use Rattle.agent_commands.specs.Talks.{Talk, goes_on, over, ended, spent, read_fault, too_long, cut_too_long}
 use Rattle.agent_commands.specs.declared.response.WriteFault.{WriteFault}
 use Rattle.agent_commands.specs.declared.went.SessionEnd.{SessionEnd}
-use Rattle.agent_commands.specs.declared.went.SessionEnd.TheVariants.{Bye, Ended, TooLong, Spent, ReadFault}
+use Rattle.agent_commands.specs.declared.went.SessionEnd.TheVariants.{Bye, Killed, Ended, TooLong, Spent, ReadFault}
 use Rattle.agent_commands.specs.declared.went.SessionEnd.TheVariants as ends
 use Rattle.agent_commands.specs.declared.went.Went.TheVariants.{On, End}
 use Rattle.agent_commands.proofs.Doing.{done_none, done_then, done_wrote, done_stopped, here_going}
@@ -34,6 +34,7 @@ leaves_part reader left = leaves_part_of reader left reader.ended refl
 -- and after an exchange that ended the session
 leaves : (end : SessionEnd) (before after : Reader) (left : List ℕ) → ReaderAfter (End end) before after → Leaves end (unread after left) left
 leaves Bye before after left going = (after.ahead, here_going after left going)
+leaves Killed before after left going = (after.ahead, here_going after left going)
 leaves Ended before after left is = rw is refl
 leaves TooLong before after left is = rw is refl
 leaves Spent before after left is = rw is refl

@@ -14,7 +14,7 @@ use Rattle.agent_commands.specs.Outside.{World, world, Outside, Does}
 use Rattle.agent_commands.specs.Reading.{budget}
 use Rattle.agent_commands.specs.Talks.{Session}
 use Rattle.agent_commands.specs.declared.went.SessionEnd.{SessionEnd}
-use Rattle.agent_commands.specs.declared.went.SessionEnd.TheVariants.{Bye, Ended, TooLong, Spent, ReadFault, WriteFault}
+use Rattle.agent_commands.specs.declared.went.SessionEnd.TheVariants.{Bye, Killed, Ended, TooLong, Spent, ReadFault, WriteFault}
 
 -- what a session has to do with: both sides of its link, its desk, and the further ends
 pub record Surroundings (w : World) : Type 0 where
@@ -39,6 +39,7 @@ total_of bytes = option_map_or (λ known. length known) bytes 0
 -- lines that it gave.
 abbrev pub Leaves : SessionEnd → List ℕ → List ℕ → Type 0
 Leaves Bye rest left = (ahead : List ℕ) × (rest ≡ ahead ++ left)
+Leaves Killed rest left = (ahead : List ℕ) × (rest ≡ ahead ++ left)
 Leaves WriteFault rest left = (ahead : List ℕ) × (rest ≡ ahead ++ left)
 Leaves Ended rest left = rest ≡ left
 Leaves TooLong rest left = rest ≡ left

@@ -8,7 +8,8 @@ ghost use Rattle.agent_session.specs.Sessions.{surroundings, ServesSession};
 ghost use Rattle.agent_session.specs.Serving.{ServesConn, ServesRequests};
 
 use agent_commands::{
-    BUDGET, Request, SessionEnd, Went, WriteFault, read_request, run_cache, whole,
+    BUDGET, Request, SessionEnd, Went, WriteFault, read_quiet, read_request, run_cache, run_quiet,
+    whole,
 };
 use agent_ports::Link;
 use assuan_line::{Line, Took};
@@ -77,8 +78,28 @@ fn serve_requests<L: Link, D: Desk>(
     }
 }
 
-/// Answers one request.
+/// Answers one request. One that asks the cache alone is read without its texts, which are long.
 fn answer<L: Link, D: Desk>(
+    line: &Line,
+    rules: &Rules,
+    options: &mut Options,
+    conn: &mut Conn<'_, L>,
+    desk: &mut D,
+) -> Went
+    requires { IsOpen conn.old }
+    ensures { AnswersRequest {w = world D.turned} (λ before. LineExchange rules.now before line.now) options.old
+        (session_state D.turned conn.old desk.old) result options.new (session_state D.turned conn.new desk.new) }
+{
+    match read_quiet(line) {
+        Some(request) => run_quiet(&request, conn, desk),
+        None => answer_whole(line, rules, options, conn, desk),
+    }
+}
+
+/// Answers one request, of which all is read.
+// Apart from the session's loop, where a place for the request would be filled anew for each line.
+#[inline(never)]
+fn answer_whole<L: Link, D: Desk>(
     line: &Line,
     rules: &Rules,
     options: &mut Options,

@@ -9,7 +9,7 @@ use Rattle.session_options.specs.declared.rules.Rules.{Rules}
 use Rattle.agent_commands.specs.Events.{turns_in}
 use Rattle.agent_commands.specs.Outside.{world}
 use Rattle.agent_commands.specs.declared.went.SessionEnd.{SessionEnd}
-use Rattle.agent_commands.specs.declared.went.SessionEnd.TheVariants.{Bye, Ended, TooLong, Spent, ReadFault, WriteFault}
+use Rattle.agent_commands.specs.declared.went.SessionEnd.TheVariants.{Bye, Killed, Ended, TooLong, Spent, ReadFault, WriteFault}
 use Rattle.agent_session.specs.Sessions.{Surroundings, surroundings, ServesSession}
 use Rattle.agent_top.specs.Cache.{limits_of, session, at_start, cache_state, TakesTurn}
 use Rattle.agent_top.specs.declared.status.Status.{Status}
@@ -28,6 +28,7 @@ number_of status.TooLong = 7
 -- the status after a session that ended so
 abbrev pub status_of : SessionEnd → Status
 status_of Bye = status.Success
+status_of Killed = status.Success
 status_of Ended = status.Success
 status_of ReadFault = status.ReadFault
 status_of WriteFault = status.WriteFault

@@ -5,7 +5,7 @@ use agent_commands::SessionEnd;
 /// With what status the agent's process ends.
 #[derive(Clone, Copy, Debug, PartialEq, Eq)]
 pub enum Status {
-    /// The client said BYE, or its input ended.
+    /// The client said BYE or stopped the agent, or its input ended.
     Success,
     /// There was no memory for the words of the command line, or for a session.
     NoMemory,
@@ -29,7 +29,7 @@ impl Status {
         ensures { result ≡ status_of end }
     {
         match end {
-            SessionEnd::Bye | SessionEnd::Ended => Status::Success,
+            SessionEnd::Bye | SessionEnd::Killed | SessionEnd::Ended => Status::Success,
             SessionEnd::ReadFault => Status::ReadFault,
             SessionEnd::WriteFault => Status::WriteFault,
             SessionEnd::Spent => Status::Spent,

@@ -49,7 +49,7 @@ fn meets_in_any_pieces(alloc: Global, case: &Case) -> Result<bool, AllocError> {
 }
 
 /// What is sent, and what is written for it. Presets are allowed.
-const ANSWERS: [(&str, &str); 27] = [
+const ANSWERS: [(&str, &str); 33] = [
     (
         "PRESET_PASSPHRASE id1 -1 736563726574\nGET_PASSPHRASE --no-ask --data id1\nBYE\nNOP\n",
         "OK\nD secret\nOK\nOK closing connection\n",
@@ -79,12 +79,29 @@ const ANSWERS: [(&str, &str); 27] = [
     ),
     ("FOO\n", "ERR 67109139 Unknown IPC command <GPG Agent>\n"),
     (
-        "CLEAR_PASSPHRASE id1\n",
-        "ERR 67109139 Unknown IPC command <GPG Agent>\n",
+        "PRESET_PASSPHRASE id1 -1 61\nCLEAR_PASSPHRASE id1\nGET_PASSPHRASE --no-ask id1\nCLEAR_PASSPHRASE id1\n",
+        "OK\nOK\nERR 67108922 No data <GPG Agent>\nOK\n",
     ),
     (
+        "PRESET_PASSPHRASE id1 0 61\nCLEAR_PASSPHRASE --mode=ssh id1\nGET_PASSPHRASE --no-ask id1\n",
+        "OK\nOK\nERR 67108922 No data <GPG Agent>\n",
+    ),
+    (
+        "PRESET_PASSPHRASE id1 0 61\nCLEAR_PASSPHRASE id2\nGET_PASSPHRASE --no-ask id1\n",
+        "OK\nOK\nOK 61\n",
+    ),
+    (
+        "CLEAR_PASSPHRASE --mode=x id1\nCLEAR_PASSPHRASE --mode= id1\nCLEAR_PASSPHRASE\n",
+        "ERR 67109144 IPC parameter error <GPG Agent>\nERR 67109144 IPC parameter error <GPG Agent>\nERR 67109144 IPC parameter error <GPG Agent>\n",
+    ),
+    (
+        "PRESET_PASSPHRASE id1 -1 61\nPRESET_PASSPHRASE id2 60 62\nRELOADAGENT\nGET_PASSPHRASE id1\nGET_PASSPHRASE id2\n",
+        "OK\nOK\nOK\nERR 67108922 No data <GPG Agent>\nERR 67108922 No data <GPG Agent>\n",
+    ),
+    ("KILLAGENT\nNOP\n", "OK closing connection\n"),
+    (
         "HELP\n",
-        "# NOP\n# RESET\n# BYE\n# HELP\n# OPTION\n# GETINFO\n# GET_PASSPHRASE\n# PRESET_PASSPHRASE\nOK\n",
+        "# NOP\n# RESET\n# BYE\n# HELP\n# OPTION\n# GETINFO\n# GET_PASSPHRASE\n# PRESET_PASSPHRASE\n# CLEAR_PASSPHRASE\n# RELOADAGENT\n# KILLAGENT\nOK\n",
     ),
     (
         "GETINFO pid\nGETINFO s2k_count\n",
@@ -95,8 +112,9 @@ const ANSWERS: [(&str, &str); 27] = [
         "OK\nD 4194304\nOK\n",
     ),
     ("GETINFO cmd_has_option GET_PASSPHRASE repeat\n", "OK\n"),
+    ("GETINFO cmd_has_option CLEAR_PASSPHRASE mode\n", "OK\n"),
     (
-        "GETINFO cmd_has_option CLEAR_PASSPHRASE mode\n",
+        "GETINFO cmd_has_option KEYINFO list\n",
         "ERR 67108924 Not supported <GPG Agent>\n",
     ),
     (
@@ -112,8 +130,8 @@ const ANSWERS: [(&str, &str); 27] = [
         "ERR 67109144 IPC parameter error <GPG Agent>\n",
     ),
     (
-        "PRESET_PASSPHRASE id1 0 61\nPRESET_PASSPHRASE --inquire id1 60\n",
-        "ERR 67108924 Not supported <GPG Agent>\nERR 67108924 Not supported <GPG Agent>\n",
+        "PRESET_PASSPHRASE --inquire id1 60\nD a\nEND\nGET_PASSPHRASE id1\n",
+        "S INQUIRE_MAXLEN 255\nINQUIRE PASSPHRASE\nOK\nOK 61\n",
     ),
     (
         "PRESET_PASSPHRASE id1 0 6\n",
@@ -158,16 +176,46 @@ fn a_preset_needs_the_word_that_allows_it(rt: HostRuntime) -> Result<(), Fail> {
     Ok(())
 }
 
+/// The timeout of a preset and the moments at which it is asked for from then on, at moment 1. The last one finds it gone.
+const LIFETIMES: [(&str, &[u64]); 5] = [
+    ("-1", &[7201, 7202]),
+    ("0", &[601, 1201, 1802]),
+    (
+        "0",
+        &[
+            501, 1001, 1501, 2001, 2501, 3001, 3501, 4001, 4501, 5001, 5501, 6001, 6501, 7001,
+            7201, 7202,
+        ],
+    ),
+    ("10", &[11, 21, 32]),
+    ("0", &[602]),
+];
+
 #[test]
-fn a_passphrase_is_given_up_to_its_greatest_age(rt: HostRuntime) -> Result<(), Fail> {
-    let case = Case {
-        allow_preset: true,
-        input: "PRESET_PASSPHRASE a -1 7E20\nGET_PASSPHRASE --no-ask --data a\nGET_PASSPHRASE --no-ask --data a\n",
-        readings: &[1, 7201, 7202],
-        output: "OK\nD ~ \nOK\nERR 67108922 No data <GPG Agent>\n",
-        status: 0,
-    };
-    assert!(rt; meets_in_any_pieces(rt.alloc(), &case)?);
+fn a_passphrase_is_given_up_to_its_lifetimes(rt: HostRuntime) -> Result<(), Fail> {
+    let alloc = rt.alloc();
+    for (timeout, moments) in LIFETIMES {
+        let mut input = format!(in alloc; "PRESET_PASSPHRASE a {timeout} 7E20\n")?;
+        let mut output = String::from_str(alloc, "OK\n")?;
+        let mut readings = vec![in alloc; 1u64]?;
+        for (place, moment) in moments.iter().enumerate() {
+            input.push_str("GET_PASSPHRASE --no-ask --data a\n")?;
+            output.push_str(if place + 1 < moments.len() {
+                "D ~ \nOK\n"
+            } else {
+                NO_DATA
+            })?;
+            readings.push(*moment)?;
+        }
+        let case = Case {
+            allow_preset: true,
+            input: &input,
+            readings: &readings,
+            output: &output,
+            status: 0,
+        };
+        assert!(rt; meets_in_any_pieces(alloc, &case)?, "{timeout}");
+    }
     Ok(())
 }
 
@@ -277,8 +325,13 @@ fn a_passphrase_of_255_bytes_is_given(rt: HostRuntime) -> Result<(), Fail> {
 fn an_id_has_up_to_50_bytes(rt: HostRuntime) -> Result<(), Fail> {
     let alloc = rt.alloc();
     let refused = "ERR 67109144 IPC parameter error <GPG Agent>\n";
-    for (count, output) in [(50usize, NO_DATA), (51, refused)] {
-        let input = long_text(alloc, "GET_PASSPHRASE --no-ask ", "a", count, "\n")?;
+    for (command, count, output) in [
+        ("GET_PASSPHRASE --no-ask ", 50usize, NO_DATA),
+        ("GET_PASSPHRASE --no-ask ", 51, refused),
+        ("CLEAR_PASSPHRASE ", 50, "OK\n"),
+        ("CLEAR_PASSPHRASE ", 51, refused),
+    ] {
+        let input = long_text(alloc, command, "a", count, "\n")?;
         let case = Case {
             allow_preset: true,
             input: &input,

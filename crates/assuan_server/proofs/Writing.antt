@@ -1,16 +1,17 @@
 -- A write of data lines that is under way.
-use Rattle.std.proofs.Common.{◌≡◌, ℕ, ◌+◌, ◌-◌, ◌^◌, ◌≤◌, min, List, [], ◌∷◌, ◌++◌, length, take, drop, Option, Some, None, refl, ap, sym, ◌∙◌, subst, arith, append_assoc, append-nil, length-append}
-use Rattle.std.proofs.lemmas.List.{length_push}
+use Rattle.std.proofs.Common.{◌≡◌, ℕ, ◌+◌, ◌-◌, ◌^◌, ◌≤◌, min, List, [], ◌∷◌, ◌++◌, length, take, drop, Option, Some, None, Ok, Err, refl, ap, sym, ◌∙◌, subst, arith, append_assoc, append-nil, length-append}
+use Rattle.std.proofs.lemmas.List.{length_push, take-append-drop, length-take-le}
 use Rattle.std.proofs.lemmas.List.Concat.{flat_map-append}
-use Rattle.agent_ports.specs.Sides.{with_bytes}
+use Rattle.agent_ports.specs.Counts.{Rose}
+use Rattle.agent_ports.specs.Sides.{Side, with_bytes, sent_part, IfCut, IsCut}
 use Rattle.agent_ports.proofs.Known.{with_bytes-append}
 use Rattle.agent_ports.specs.declared.link.Sent.{Sent}
 use Rattle.agent_ports.specs.declared.link.Sent.TheVariants.{All as Whole, Failed}
 use Rattle.assuan_server.specs.Connections.{Connection}
 use Rattle.assuan_escape.specs.DataLines.{data_line, AreData, data_text}
 use Rattle.assuan_text.specs.LineEnds.{line_of}
-use Rattle.assuan_line.specs.Written.{HasCut}
-use Rattle.assuan_server.specs.Written.{HasWritten}
+use Rattle.assuan_line.specs.Written.{HasCut, HasSent}
+use Rattle.assuan_server.specs.Written.{HasWritten, WritesData}
 
 -- the lines so far: whatever pieces the rest is sent in, they complete these
 pub record IsWriting (bytes : List ℕ) (before now : Connection) (rest : List ℕ) (sent : ℕ) : Type 0 where
@@ -45,13 +46,14 @@ writing_none bytes before = record {
 
 module _ (bytes : List ℕ) (before now : Connection) (rest : List ℕ) (sent : ℕ) (writing : IsWriting bytes before now rest sent) where
   -- nothing is left
-  pub written_all : rest ≡ [] → (pieces : List (List ℕ)) × AreData bytes pieces × HasWritten (data_text pieces) before Whole now
-  written_all nothing = (
-    writing.done,
-    subst (λ (x : List (List ℕ)). AreData bytes x) (append-nil writing.done)
-        (writing.completes [] (subst (λ (x : List ℕ). AreData x []) (sym nothing) (record { joined = refl; each = λ k d h. absurd (omega arith); full = tt }))),
-    record { output = writing.output; faults = writing.faults; input = writing.input; reader = writing.reader; link = writing.link },
-  )
+  pub written_all : rest ≡ [] → WritesData bytes before (Ok sent) now
+  written_all nothing = record {
+    pieces = writing.done;
+    are_data = subst (λ (x : List (List ℕ)). AreData bytes x) (append-nil writing.done)
+        (writing.completes [] (subst (λ (x : List ℕ). AreData x []) (sym nothing) (record { joined = refl; each = λ k d h. absurd (omega arith); full = tt })));
+    written = record { output = writing.output; faults = writing.faults; input = writing.input; reader = writing.reader; link = writing.link };
+    counted = writing.counted;
+  }
 
   module _ (count : ℕ) (first : (later : List (List ℕ)) → AreData (drop count rest) later → AreData rest (take count rest ∷ later)) (after : Connection) where
     text_more : data_text (writing.done ++ take count rest ∷ []) ≡ data_text writing.done ++ line_of (data_line (take count rest))
@@ -77,17 +79,17 @@ module _ (bytes : List ℕ) (before now : Connection) (rest : List ℕ) (sent : 
     -- the line was cut
     pub written_cut : (part : ℕ) → (others : (later : List (List ℕ)) × AreData (drop count rest) later)
         → HasWritten (line_of (data_line (take count rest))) now (Failed part) after
-        → (pieces : List (List ℕ)) × AreData bytes pieces × HasWritten (data_text pieces) before (Failed (min (sent + part) (2 ^ 64 - 1))) after
+        → WritesData bytes before (Err (min (sent + part) (2 ^ 64 - 1))) after
     written_cut part later wrote =
         let cut : HasCut (line_of (data_line (take count rest))) now.output part after.output = wrote.output in
         let whole : data_text (writing.done ++ take count rest ∷ later.0) ≡ (data_text writing.done ++ cut.sent) ++ (cut.unsent ++ data_text later.0) =
         flat_map-append (λ (piece : List ℕ). line_of (data_line piece)) writing.done (take count rest ∷ later.0)
         ∙ ap (λ (x : List ℕ). data_text writing.done ++ (x ++ data_text later.0)) cut.split
         ∙ ap (λ (x : List ℕ). data_text writing.done ++ x) (append_assoc cut.sent cut.unsent (data_text later.0))
-        ∙ sym (append_assoc (data_text writing.done) cut.sent (cut.unsent ++ data_text later.0)) in (
-          writing.done ++ take count rest ∷ later.0,
-          writing.completes (take count rest ∷ later.0) (first later.0 later.1),
-          record {
+        ∙ sym (append_assoc (data_text writing.done) cut.sent (cut.unsent ++ data_text later.0)) in record {
+          pieces = writing.done ++ take count rest ∷ later.0;
+          are_data = writing.completes (take count rest ∷ later.0) (first later.0 later.1);
+          written = record {
             output = record {
               sent = data_text writing.done ++ cut.sent;
               unsent = cut.unsent ++ data_text later.0;
@@ -100,5 +102,39 @@ module _ (bytes : List ℕ) (before now : Connection) (rest : List ℕ) (sent : 
             input = wrote.input ∙ writing.input;
             reader = wrote.reader ∙ writing.reader;
             link = wrote.link ∙ writing.link;
-          },
-        )
+          };
+          counted = tt;
+        }
+
+-- what a write in one piece leaves
+pub has_sent : (bytes : List ℕ) (before after : Side) (sent : Sent) → length bytes ≤ 1000 → IfCut sent (λ count. count ≤ length bytes)
+    → after.bytes ≡ with_bytes before.bytes (sent_part bytes sent) → (IsCut sent → Rose before.faults after.faults) → HasSent bytes before sent after
+has_sent bytes before after Whole short cut written failed = written
+has_sent bytes before after (Failed count) short cut written failed = record {
+  sent = take count bytes;
+  unsent = drop count bytes;
+  split = sym (take-append-drop count bytes);
+  written = written;
+  counted = omega (arith, length-take-le count bytes cut);
+  rose = failed tt;
+}
+
+-- a first text was written, and the write of a second one stopped
+pub cut_after : (first second : List ℕ) (before mid after : Connection) (count part : ℕ) → HasWritten first before Whole mid → count ≡ min (length first) (2 ^ 64 - 1)
+    → HasWritten second mid (Failed part) after → HasWritten (first ++ second) before (Failed (min (count + part) (2 ^ 64 - 1))) after
+cut_after first second before mid after count part one counts two =
+    let cut : HasCut second mid.output part after.output = two.output in
+    record {
+      output = record {
+        sent = first ++ cut.sent;
+        unsent = cut.unsent;
+        split = ap (λ (x : List ℕ). first ++ x) cut.split ∙ sym (append_assoc first cut.sent cut.unsent);
+        written = cut.written ∙ ap (λ (o : Option (List ℕ)). with_bytes o cut.sent) one.output ∙ with_bytes-append before.output.bytes first cut.sent;
+        counted = omega (arith, counts, cut.counted, length-append first cut.sent);
+        rose = omega (arith, cut.rose, one.faults);
+      };
+      faults = omega (arith, one.faults, two.faults);
+      input = two.input ∙ one.input;
+      reader = two.reader ∙ one.reader;
+      link = two.link ∙ one.link;
+    }

@@ -1,6 +1,8 @@
 -- The lines that a server writes, as the Assuan manual has them ("server responses"), and what a write of them leaves.
-use Rattle.std.specs.Prelude.{◌≡◌, ◌≤◌, ◌==◌, List, ℕ, ◌++◌, length, codes, if◌then◌else◌}
+use Rattle.std.specs.Prelude.{◌≡◌, ◌≤◌, ◌==◌, ◌^◌, ◌-◌, min, List, ℕ, ◌++◌, length, codes, if◌then◌else◌, Result, Ok, Err, ⊤}
 use Rattle.agent_ports.specs.declared.link.Sent.{Sent}
+use Rattle.agent_ports.specs.declared.link.Sent.TheVariants.{All, Failed}
+use Rattle.assuan_escape.specs.DataLines.{AreData, data_text}
 use Rattle.assuan_line.specs.Written.{HasSent}
 use Rattle.assuan_server.specs.Connections.{Connection}
 
@@ -23,3 +25,20 @@ pub record HasWritten (bytes : List ℕ) (before : Connection) (sent : Sent) (af
   pub input : after.input ≡ before.input
   pub reader : after.reader ≡ before.reader
   pub link : after.link ≡ before.link
+
+-- what became of bytes of which so many were written, or only so many
+abbrev pub sent_of : Result ℕ ℕ → Sent
+sent_of (Ok count) = All
+sent_of (Err count) = Failed count
+
+-- so many bytes are counted
+abbrev pub IfCounts : Result ℕ ℕ → List ℕ → Type 0
+IfCounts (Ok count) bytes = count ≡ min (length bytes) (2 ^ 64 - 1)
+IfCounts (Err count) bytes = ⊤
+
+-- a call wrote data lines to a connection, and counted their bytes
+pub record WritesData (bytes : List ℕ) (before : Connection) (result : Result ℕ ℕ) (after : Connection) : Type 0 where
+  pub pieces : List (List ℕ)
+  pub are_data : AreData bytes pieces
+  pub written : HasWritten (data_text pieces) before (sent_of result) after
+  pub counted : IfCounts result (data_text pieces)

@@ -5,6 +5,7 @@ ghost use Rattle.assuan_text.specs.LineEnds.{has_lf};
 ghost use Rattle.assuan_line.specs.Reading.{HasRead};
 ghost use Rattle.assuan_line.specs.Skipping.{IsUndecided, ReadsOn};
 ghost use Rattle.assuan_text.specs.LineEnds.{line_of};
+ghost use Rattle.assuan_text.specs.declared.TheConstants.{MAX_LINE_LEN};
 ghost use Rattle.assuan_server.specs.Connections.{IsOpen};
 ghost use Rattle.assuan_server.specs.Requests.{NextRequest};
 ghost use Rattle.assuan_server.specs.Errors.{error_text};
@@ -141,5 +142,13 @@ impl<'a, L: Link> Conn<'a, L> {
         ensures { HasWritten (line_of (flat_map (λ part. part.now) parts.now)) self.old result self.new }
     {
         write_text(self.link, parts)
+    }
+    /// Writes these bytes in one piece.
+    #[tactic(auto, using(crate::proofs::Writing::has_sent))]
+    pub(crate) fn put(&mut self, bytes: &[u8]) -> Sent
+        requires { length bytes.now ≤ MAX_LINE_LEN }
+        ensures { HasWritten bytes.now self.old result self.new }
+    {
+        self.link.put(bytes)
     }
 }

@@ -43,6 +43,18 @@ ERR 67109144 IPC parameter error <GPG Agent>\n\
 ERR 67141667 File exists <GPG Agent>\n\
 ERR 67141718 Cannot allocate memory <GPG Agent>\n";
 
+/// 400 escaped line feeds, in two data lines.
+fn push_400_escapes(text: &mut Vec<u8>) -> Result<(), AllocError> {
+    for _ in 0..332 {
+        text.extend_from_slice(b"%0A")?;
+    }
+    text.extend_from_slice(b"\nD ")?;
+    for _ in 0..68 {
+        text.extend_from_slice(b"%0A")?;
+    }
+    Ok(())
+}
+
 #[test]
 fn lines_are_written(rt: HostRuntime) -> Result<(), Fail> {
     let alloc = rt.alloc();
@@ -56,6 +68,9 @@ fn lines_are_written(rt: HostRuntime) -> Result<(), Fail> {
     assert_eq!(rt; conn.data(b""), Sent::All);
     assert_eq!(rt; conn.data(b"\xC3\xA9"), Sent::All);
     assert_eq!(rt; conn.data(&[b'\n'; 400]), Sent::All);
+    assert_eq!(rt; conn.last_data(b""), Sent::All);
+    assert_eq!(rt; conn.last_data(b"ab%"), Sent::All);
+    assert_eq!(rt; conn.last_data(&[b'\n'; 400]), Sent::All);
     let errors = [
         (Code::General, Origin::Agent),
         (Code::BadSecKey, Origin::Agent),
@@ -92,14 +107,10 @@ fn lines_are_written(rt: HostRuntime) -> Result<(), Fail> {
         alloc,
         b"OK Pleased to meet you\nOK\nOK closing connection\nS INQUIRE_MAXLEN 255\n# NOP\nD %C3%A9\nD ",
     )?;
-    for _ in 0..332 {
-        want.extend_from_slice(b"%0A")?;
-    }
-    want.extend_from_slice(b"\nD ")?;
-    for _ in 0..68 {
-        want.extend_from_slice(b"%0A")?;
-    }
-    want.push(b'\n')?;
+    push_400_escapes(&mut want)?;
+    want.extend_from_slice(b"\nOK\nD ab%25\nOK\nD ")?;
+    push_400_escapes(&mut want)?;
+    want.extend_from_slice(b"\nOK\n")?;
     want.extend_from_slice(ERROR_LINES)?;
     assert_eq!(rt; link.written(), want.as_slice());
     Ok(())
@@ -116,6 +127,12 @@ fn a_write_that_fails_is_counted_and_reads_nothing(rt: HostRuntime) -> Result<()
     assert_eq!(rt; conn.ok(b""), Sent::All);
     conn.into_link();
     assert_eq!(rt; link.written().len(), 1009);
+    let source = MemSource::new(Vec::new(alloc), 1, Vec::new(alloc));
+    let mut link = MemLink::new(source, MemSink::new(alloc, 2, vec![in alloc; 0u64, 3]?));
+    let mut conn = Conn::new(alloc, &mut link, 1 << 40);
+    assert_eq!(rt; conn.last_data(b"ab"), Sent::Failed { sent: 2 });
+    assert_eq!(rt; conn.last_data(&[b'a'; 1000]), Sent::Failed { sent: 1008 });
+    conn.into_link();
     let source = MemSource::new(Vec::from_slice(alloc, b"NOP\n")?, 1, Vec::new(alloc));
     let mut link = MemLink::new(source, MemSink::new(alloc, 3, vec![in alloc; 0u64]?));
     let mut conn = Conn::new(alloc, &mut link, 1 << 40);

@@ -1,7 +1,7 @@
-use Rattle.agent_commands.specs.Exchanges.{nop, reset, bye, help_given, option_judged, info}
+use Rattle.agent_commands.specs.Exchanges.{nop, reset, bye, help_given, option_judged, info, clear, reload, kill}
 use Rattle.agent_commands.specs.Outside.{world}
 use Rattle.agent_commands.specs.declared.response.Response.TheVariants.{Ok, Closing, Help}
-use Rattle.agent_commands.proofs.Preparing.{prepared_on, prepared_last}
+use Rattle.agent_commands.proofs.Preparing.{prepared_on, prepared_last, turn_taken}
 use Rattle.agent_commands.proofs.command.carry_out.Goals as goal
 
 pub returns-in-Nop : goal.returns-in-Nop
@@ -33,3 +33,18 @@ pub returns-in-GetInfo : goal.returns-in-GetInfo
 returns-in-GetInfo g c =
     prepared_on {w = world g.D.Desk.turned} _ _ c.on-in-GetInfo.result c.info_response.result _ c.requires c.on-in-GetInfo.ensures
     (λ text is. rw c.in-GetInfo.is (info (c.info_response.ensures text is)))
+
+pub returns-in-ClearPassphrase : goal.returns-in-ClearPassphrase
+returns-in-ClearPassphrase g c =
+    rw c.in-ClearPassphrase.is
+    (turn_taken (world g.D.Desk.turned) c.args.rules.now _ c.args.conn.now c.requires c.args.desk.now c.clear_passphrase.new.desk tt clear Ok (λ text is. is) c.clear_passphrase.ensures)
+
+pub returns-in-ReloadAgent : goal.returns-in-ReloadAgent
+returns-in-ReloadAgent g c =
+    rw c.in-ReloadAgent.is
+    (turn_taken (world g.D.Desk.turned) c.args.rules.now _ c.args.conn.now c.requires c.args.desk.now c.take_turn.new.desk tt reload Ok (λ text is. is) (rw c.on-in-ReloadAgent.ensures at c.take_turn.ensures))
+
+pub returns-in-KillAgent : goal.returns-in-KillAgent
+returns-in-KillAgent g c =
+    rw c.in-KillAgent.is
+    (turn_taken (world g.D.Desk.turned) c.args.rules.now _ c.args.conn.now c.requires c.args.desk.now c.take_turn-in-KillAgent.new.desk tt kill Closing (λ text is. is) (rw c.last-in-KillAgent.ensures at c.take_turn-in-KillAgent.ensures))

@@ -1,10 +1,9 @@
 use Rattle.std.proofs.Common.{◌∙◌, sym}
-use Rattle.assuan_server.specs.declared.errors.Code.TheVariants.{NoData, NotSupported, NoMemory, Cancelled}
-use Rattle.cache_policy.specs.Turns.{Given, Empty, Stopping, Refused}
-use Rattle.agent_commands.specs.Exchanges.{ask, not_quiet, no_id, given, empty, interrupted, stopping, refused}
+use Rattle.assuan_server.specs.declared.errors.Code.TheVariants.{NotSupported}
+use Rattle.agent_commands.specs.Exchanges.{not_quiet}
 use Rattle.agent_commands.specs.Outside.{world}
 use Rattle.agent_commands.specs.declared.response.Response.TheVariants.{Failed}
-use Rattle.agent_commands.proofs.Preparing.{prepared_on, prepared_turned}
+use Rattle.agent_commands.proofs.Preparing.{prepared_on}
 use Rattle.agent_commands.proofs.command.get_passphrase.Goals as goal
 
 pub returns-then-not-is_quiet : goal.returns-then-not-is_quiet
@@ -12,31 +11,6 @@ returns-then-not-is_quiet g c = λ rules before check quality repeat conn going.
     prepared_on {w = world g.D.Desk.turned} _ before c.failed.result (Failed NotSupported) _ going c.failed.ensures
     (λ text is. rw is (not_quiet (sym c.is_quiet.ensures ∙ c.if-not-is_quiet.true)))
 
-pub returns-in_default : goal.returns-in_default
-returns-in_default g c = λ rules before check quality repeat conn going.
-    prepared_on {w = world g.D.Desk.turned} _ before c.failed-in_default.result (Failed NoData) _ going c.failed-in_default.ensures
-    (λ text is. rw (is, c.in_default.is) (no_id (sym c.is_quiet.ensures ∙ c.if-not-is_quiet.false)))
-
-pub returns-in-Ok-Given : goal.returns-in-Ok-Given
-returns-in-Ok-Given g c = λ rules before check quality repeat conn going.
-    prepared_turned {w = world g.D.Desk.turned} _ before c.on.result _ (ask c.in-Some.id) (Given c.in-Ok-Given.grant) conn c.args.desk.now _ tt going c.on.ensures
-    (rw (c.in-Ok-Given.field-0-is, c.copy.ensures) at c.in-Ok-Given.ensures.turned)
-    (λ text is. rw c.in-Some.is (given (sym c.is_quiet.ensures ∙ c.if-not-is_quiet.false) is))
-
-pub returns-in-Ok-Empty : goal.returns-in-Ok-Empty
-returns-in-Ok-Empty g c = λ rules before check quality repeat conn going.
-    prepared_turned {w = world g.D.Desk.turned} _ before c.failed-in-Ok-Empty.result (Failed NoData) (ask c.in-Some.id) Empty conn c.args.desk.now _ tt going c.failed-in-Ok-Empty.ensures
-    (rw (c.in-Ok-Empty.field-0-is, c.copy.ensures) at c.in-Ok-Empty.ensures.turned)
-    (λ text is. rw (c.in-Some.is, is) (empty (sym c.is_quiet.ensures ∙ c.if-not-is_quiet.false)))
-
-pub returns-in-Ok-Stopping : goal.returns-in-Ok-Stopping
-returns-in-Ok-Stopping g c = λ rules before check quality repeat conn going.
-    prepared_turned {w = world g.D.Desk.turned} _ before c.failed-in-Ok-Stopping.result (Failed Cancelled) (ask c.in-Some.id) Stopping conn c.args.desk.now _ tt going c.failed-in-Ok-Stopping.ensures
-    (rw (c.in-Ok-Stopping.field-0-is, c.copy.ensures) at c.in-Ok-Stopping.ensures.turned)
-    (λ text is. rw (c.in-Some.is, is) (interrupted (sym c.is_quiet.ensures ∙ c.if-not-is_quiet.false) stopping))
-
-pub returns-in-Err : goal.returns-in-Err
-returns-in-Err g c = λ rules before check quality repeat conn going.
-    prepared_turned {w = world g.D.Desk.turned} _ before c.failed-in-Err.result (Failed NoMemory) (ask c.in-Some.id) Refused conn c.args.desk.now _ tt going c.failed-in-Err.ensures
-    (rw c.copy.ensures at c.in-Err.ensures.turned)
-    (λ text is. rw (c.in-Some.is, is) (interrupted (sym c.is_quiet.ensures ∙ c.if-not-is_quiet.false) refused))
+pub returns : goal.returns
+returns g c = λ rules before check quality repeat conn going.
+    c.ask_cache.ensures rules before check _ quality repeat _ conn (sym c.is_quiet.ensures ∙ c.if-not-is_quiet.false) going

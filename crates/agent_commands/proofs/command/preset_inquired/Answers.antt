@@ -7,11 +7,9 @@ use Rattle.agent_commands.proofs.command.preset_inquired.Goals as goal
 pub returns-in-Ok : goal.returns-in-Ok
 returns-in-Ok g c = λ rules before allowed.
     let asked = asks_secret (world g.D.Desk.turned) c.args.desk.now tt c.args.conn.now c.inquire_passphrase.new.conn (Ok c.in-Ok.secret) c.requires c.in-Ok.ensures in
-    let stores = c.store.ensures in
-    brought_so (world g.D.Desk.turned) rules before allowed c.args.id.now _ c.on.result _ c.store.new.desk c.in-Ok.secret stores.turn c.store.result c.on.ensures
-    asked.0 asked.1 stores.turned_so stores.stores
+    brought_so (world g.D.Desk.turned) rules before allowed c.args.id.now c.args.life _ _ c.store.new.desk c.in-Ok.secret asked.0 asked.1 c.store.ensures
 
 pub returns-in-Err : goal.returns-in-Err
 returns-in-Err g c = λ rules before allowed.
-    vain_so (world g.D.Desk.turned) rules before allowed c.args.id.now _ c.in-Err.answer _
+    vain_so (world g.D.Desk.turned) rules before allowed c.args.id.now c.args.life _ c.in-Err.answer _
     (asks_secret (world g.D.Desk.turned) c.args.desk.now tt c.args.conn.now c.inquire_passphrase.new.conn (Err c.in-Err.answer) c.requires c.in-Err.ensures)

@@ -3,7 +3,7 @@ use Rattle.std.proofs.lemmas.Bool.{eqb-true}
 use Rattle.std.proofs.lemmas.List.{nil_from_length}
 use Rattle.assuan_escape.specs.DataLines.{data_line}
 use Rattle.assuan_server.proofs.Writing.{written_alone, writing_more, written_all, written_cut}
-use Rattle.assuan_server.proofs.conn.Conn.data.Goals as goal
+use Rattle.assuan_server.proofs.conn.Conn.data_lines.Goals as goal
 
 pub returns-in-Failed : goal.returns-in-Failed
 returns-in-Failed g c =
