@@ -2,14 +2,13 @@
 #![tactic(auto)]
 
 mod clock;
-mod stdio;
 
 use agent_top::{Status, run_agent};
 use clock::SystemClock;
 use std::env;
 use std::io::ErrorKind;
 use std::process::ExitCode;
-use stdio::StdLink;
+use std_link::StdLink;
 
 fn main(rt: HostRuntime) -> ExitCode {
     let words = match words_of(&rt) {

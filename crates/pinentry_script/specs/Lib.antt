@@ -1,0 +1,7 @@
+pub mod Entries
+pub mod Responses
+pub mod Turns
+pub mod Writing
+pub mod Parsing
+pub mod Steps
+pub mod Sessions

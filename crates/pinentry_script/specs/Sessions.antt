@@ -1,0 +1,96 @@
+-- A session of a scripted pinentry, from its file and the bytes that it reads to the bytes that it writes. How it ends is this
+-- project's own.
+use Rattle.std.specs.Prelude.{◌≡◌, ◌≢◌, ◌≤◌, ◌<◌, ◌+◌, ℕ, List, [], ◌∷◌, ◌++◌, length}
+use Rattle.std.specs.List.{flat_map, fold}
+use Rattle.agent_ports.specs.Counts.{Rose}
+use Rattle.agent_ports.specs.Sides.{Side, with_bytes, WhereKnown}
+use Rattle.assuan_line.specs.Lines.{after_line, lines_of}
+use Rattle.assuan_line.specs.Next.{next_of, IsCutShort, IsTooLong}
+use Rattle.assuan_line.specs.declared.reader.Took.TheVariants as took
+use Rattle.assuan_text.specs.LineEnds.{line_of}
+use Rattle.pinentry_script.specs.declared.end.TheConstants.{BUDGET}
+use Rattle.pinentry_script.specs.declared.end.ScriptEnd.{ScriptEnd}
+use Rattle.pinentry_script.specs.declared.end.ScriptEnd.TheVariants.{Bye, Ended, TooLong, Spent, ReadFault, WriteFault}
+use Rattle.pinentry_script.specs.declared.response.Phrase.TheVariants.{Greeting}
+use Rattle.pinentry_script.specs.declared.session.Stage.{Stage}
+use Rattle.pinentry_script.specs.declared.session.Stage.TheVariants.{Request, Closed}
+use Rattle.pinentry_script.specs.Entries.{Entry, entries_of, pid_of, answers_of}
+use Rattle.pinentry_script.specs.Responses.{phrase_text}
+use Rattle.pinentry_script.specs.Turns.{Turn, turn_of}
+
+-- what was said so far, and how the session stands
+pub record Session : Type 0 where
+  pub said : List (List ℕ)
+  pub stage : Stage
+  pub answers : List Entry
+
+-- with what this turn brings
+abbrev pub with_turn : List (List ℕ) → Turn → Session
+with_turn said turn = record { said = said ++ turn.says; stage = turn.stage; answers = turn.answers }
+
+-- after one more line
+abbrev pub after_one : List ℕ → Session → List ℕ → Session
+after_one number session line = with_turn session.said (turn_of number session.stage session.answers line)
+
+-- the session that this file makes of these lines
+abbrev pub session_of : List ℕ → List (List ℕ) → Session
+session_of file lines =
+    fold (after_one (pid_of (entries_of (lines_of file))))
+    (record { said = phrase_text Greeting ∷ []; stage = Request; answers = answers_of (entries_of (lines_of file)) }) lines
+
+-- these lines, each with its end
+abbrev pub text_of : List (List ℕ) → List ℕ
+text_of lines = flat_map line_of lines
+
+-- the first lines of the bytes, one after another, and the bytes from there on
+pub data AreLines (bytes : List ℕ) : List (List ℕ) → List ℕ → Type 0 where
+  none : AreLines bytes [] bytes
+  more : {lines : List (List ℕ)} {later line : List ℕ} → AreLines bytes lines later → next_of later ≡ took.Line line
+      → AreLines bytes (lines ++ line ∷ []) (after_line later)
+
+-- Why a session ended, where `later` are the bytes behind its lines, the source holds `left` of them, and held `total` at first.
+abbrev pub Leaves : ℕ → ScriptEnd → List ℕ → List ℕ → Type 0
+Leaves total Bye later left = (ahead : List ℕ) × (later ≡ ahead ++ left) × (total ≤ BUDGET + length left)
+Leaves total WriteFault later left = (ahead : List ℕ) × (later ≡ ahead ++ left) × (total ≤ BUDGET + length left)
+Leaves total Ended later left = (next_of later ≡ took.End) × (left ≡ []) × (total < BUDGET + length left)
+Leaves total TooLong later left = IsTooLong [] later left × (total ≤ BUDGET + length left)
+Leaves total Spent later left = IsCutShort [] later left × (total ≡ BUDGET + length left)
+Leaves total ReadFault later left = IsCutShort [] later left × (total < BUDGET + length left)
+
+-- what went of the session's text where a write failed: the last that it says, in answer to its last line or as its greeting, was cut
+pub data IsCut (file : List ℕ) : List (List ℕ) → List ℕ → Type 0 where
+  greeting : {sent : List ℕ} (unsent : List ℕ) → line_of (phrase_text Greeting) ≡ sent ++ unsent → IsCut file [] sent
+  answer : (lines : List (List ℕ)) (line part unsent : List ℕ) → (session_of file lines).stage ≢ Closed
+      → text_of (session_of file (lines ++ line ∷ [])).said ≡ (text_of (session_of file lines).said ++ part) ++ unsent
+      → IsCut file (lines ++ line ∷ []) (text_of (session_of file lines).said ++ part)
+
+-- what was written of the session's text
+abbrev pub Writes : List ℕ → List (List ℕ) → ScriptEnd → List ℕ → Type 0
+Writes file lines Bye sent = (sent ≡ text_of (session_of file lines).said) × ((session_of file lines).stage ≡ Closed)
+Writes file lines WriteFault sent = IsCut file lines sent
+Writes file lines Ended sent = (sent ≡ text_of (session_of file lines).said) × ((session_of file lines).stage ≢ Closed)
+Writes file lines TooLong sent = (sent ≡ text_of (session_of file lines).said) × ((session_of file lines).stage ≢ Closed)
+Writes file lines Spent sent = (sent ≡ text_of (session_of file lines).said) × ((session_of file lines).stage ≢ Closed)
+Writes file lines ReadFault sent = (sent ≡ text_of (session_of file lines).said) × ((session_of file lines).stage ≢ Closed)
+
+-- a session over a link, from its greeting to its end
+pub record RunsSession (file : List ℕ) (input output : Side) (end : ScriptEnd) (input_after output_after : Side) : Type 0 where
+  pub lines : List (List ℕ)
+  pub sent : List ℕ
+  pub writes : Writes file lines end sent
+  pub written : output_after.bytes ≡ with_bytes output.bytes sent
+  pub read : WhereKnown input.bytes input_after.bytes (λ bytes left. (later : List ℕ) × AreLines bytes lines later × Leaves (length bytes) end later left)
+  -- a fault is given only where its count has risen
+  pub read_fault : end ≡ ReadFault → Rose input.faults input_after.faults
+  pub write_fault : end ≡ WriteFault → Rose output.faults output_after.faults
+  -- the counts never fall
+  pub input_faults : input.faults ≤ input_after.faults
+  pub output_faults : output.faults ≤ output_after.faults
+
+abbrev pub status_of : ScriptEnd → ℕ
+status_of Bye = 0
+status_of Ended = 0
+status_of ReadFault = 3
+status_of WriteFault = 4
+status_of Spent = 6
+status_of TooLong = 7

@@ -1,0 +1,34 @@
+ghost use Rattle.std.specs.Prelude.{◌≡◌};
+ghost use Rattle.pinentry_script.specs.Sessions.{status_of};
+
+/// How many bytes a session may take.
+pub const BUDGET: u64 = 1 << 40;
+
+/// How a session ended.
+#[derive(Clone, Copy, Debug, PartialEq, Eq)]
+pub enum ScriptEnd {
+    Bye,
+    /// The input ended.
+    Ended,
+    /// A line was too long. It isn't answered.
+    TooLong,
+    /// As many bytes were taken as a session may take.
+    Spent,
+    ReadFault,
+    WriteFault,
+}
+
+impl ScriptEnd {
+    /// The exit status.
+    pub fn status(self) -> u8
+        ensures { result ≡ status_of self }
+    {
+        match self {
+            ScriptEnd::Bye | ScriptEnd::Ended => 0,
+            ScriptEnd::ReadFault => 3,
+            ScriptEnd::WriteFault => 4,
+            ScriptEnd::Spent => 6,
+            ScriptEnd::TooLong => 7,
+        }
+    }
+}

@@ -1,0 +1,15 @@
+//! A pinentry without a user: it answers each prompt as the lines of a file say (pinentry manual, "protocol").
+#![tactic(auto)]
+
+mod end;
+mod entries;
+mod response;
+mod run;
+mod session;
+
+pub use end::{BUDGET, ScriptEnd};
+pub use entries::MAX_ENTRY_LEN;
+pub use run::{BAD_SCRIPT, run_script};
+
+#[cfg(test)]
+mod tests;

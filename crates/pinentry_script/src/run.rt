@@ -1,0 +1,64 @@
+ghost use Rattle.std.specs.Prelude.{◌≡◌, true, false, [], None};
+ghost use Rattle.assuan_line.specs.Next.{next_of};
+ghost use Rattle.assuan_line.specs.Reading.{HasRead};
+ghost use Rattle.assuan_line.specs.Skipping.{ReadsNext};
+ghost use Rattle.pinentry_script.specs.Entries.{is_script};
+ghost use Rattle.pinentry_script.specs.Sessions.{RunsSession, status_of};
+
+use crate::entries::is_script;
+use crate::response::{Phrase, Response, Unsent, write_response};
+use crate::session::{Session, Stage};
+use crate::{BUDGET, ScriptEnd};
+use agent_ports::Link;
+use assuan_line::{LineReader, Took};
+use std::alloc::Global;
+
+/// The status where the file is no script. Nothing is read or written then.
+pub const BAD_SCRIPT: u8 = 2;
+
+/// Answers as a pinentry, by the lines of a file, and gives the exit status. The lines are `pid N`, `quality TEXT`, `pin TEXT`,
+/// `cancel`, `timeout`, `yes` and `no`, of at most 900 bytes each; a text is written as it stands, escapes and all.
+pub fn run_script<S: Link>(alloc: Global, answers: &[u8], stdio: &mut S) -> u8
+    ensures refused { is_script answers.now ≡ false → (result ≡ BAD_SCRIPT) × (stdio.new ≡ stdio.old) }
+    ensures served { is_script answers.now ≡ true → (end : ScriptEnd) × (result ≡ status_of end)
+        × RunsSession answers.now (S.input stdio.old) (S.output stdio.old) end (S.input stdio.new) (S.output stdio.new) }
+{
+    if !is_script(answers) {
+        return BAD_SCRIPT;
+    }
+    serve(alloc, answers, stdio).status()
+}
+
+/// Greets, and answers line after line up to the end.
+fn serve<S: Link>(alloc: Global, file: &[u8], link: &mut S) -> ScriptEnd
+    ensures { RunsSession file.now (S.input link.old) (S.output link.old) result (S.input link.new) (S.output link.new) }
+{
+    if let Err(Unsent) = write_response(link, Response::Say(Phrase::Greeting)) {
+        return ScriptEnd::WriteFault;
+    }
+    let mut reader = LineReader::new(alloc, BUDGET);
+    let mut session = Session::new(file);
+    while session.stage != Stage::Closed {
+        let line = match next_line(&mut reader, link) {
+            Took::Line(line) => line,
+            Took::TooLong => return ScriptEnd::TooLong,
+            Took::End => return ScriptEnd::Ended,
+            Took::Spent => return ScriptEnd::Spent,
+            Took::ReadFault => return ScriptEnd::ReadFault,
+        };
+        let response = session.turn(line.bytes());
+        if let Err(Unsent) = write_response(link, response) {
+            return ScriptEnd::WriteFault;
+        }
+    }
+    ScriptEnd::Bye
+}
+
+/// Reads the next line.
+fn next_line<S: Link>(reader: &mut LineReader, link: &mut S) -> Took
+    requires { reader.old.ended ≡ None }
+    ensures read { HasRead (λ bytes. next_of bytes ≡ Took.End) ReadsNext reader.old (S.input link.old) result reader.new (S.input link.new) }
+    ensures output { S.output link.new ≡ S.output link.old }
+{
+    reader.next(link)
+}
