@@ -1,4 +1,4 @@
--- What the code knows of an entry beside what it stands for.
+-- Private: what the code knows of an entry beside what it stands for.
 use Rattle.pinentry_script.specs.declared.entries.Entry.{Entry}
 use Rattle.pinentry_script.specs.declared.entries.Entry.TheVariants.{Pid, Quality, Pin, Phrase}
 use Rattle.pinentry_script.specs.Writing.{IsShortText}

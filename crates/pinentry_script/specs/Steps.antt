@@ -1,4 +1,4 @@
--- A turn, as the code takes it.
+-- Private: a turn, as the code takes it.
 use Rattle.std.specs.Prelude.{◌≡◌}
 use Rattle.pinentry_script.specs.declared.response.Response.{Response}
 use Rattle.pinentry_script.specs.declared.session.Session.{Session}

@@ -1,4 +1,4 @@
--- What a write of a session's lines leaves.
+-- Private: what a write of a session's lines leaves.
 use Rattle.std.specs.Prelude.{◌≡◌, ◌≤◌, ℕ, List, ◌++◌, length, false, Result, Ok, Err}
 use Rattle.agent_ports.specs.Counts.{Rose}
 use Rattle.agent_ports.specs.Sides.{Side, with_bytes}
