@@ -2,7 +2,10 @@
 #![tactic(auto)]
 
 mod cache_core;
+mod known_core;
 mod state;
+mod stepped;
 mod steps;
 
 pub use cache_core::Core;
+pub use known_core::KnownCore;

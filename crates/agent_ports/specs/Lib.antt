@@ -4,3 +4,4 @@ pub mod Sides
 pub mod Leads
 pub mod Plans
 pub mod MemPlans
+pub mod Lent

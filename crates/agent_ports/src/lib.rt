@@ -8,6 +8,7 @@
 mod clock;
 mod grip;
 mod host;
+mod lent_clock;
 mod link;
 mod mem_clock;
 mod mem_link;
@@ -16,6 +17,7 @@ mod session;
 pub use clock::Clock;
 pub use grip::Grip;
 pub use host::Host;
+pub use lent_clock::LentClock;
 pub use link::{Got, Link, Sent, Sink, Source};
 pub use mem_clock::{ListClock, MemHost, StepClock};
 pub use mem_link::{MemLink, MemSink, MemSource};
