@@ -43,7 +43,7 @@ moment_at_end since [] mark = refl
 moment_at_end since (first ∷ later) mark = moment_at_end first.moment later mark
 
 -- a legal run's last history is legal
-last_of_all : (limits : Limits) (run : List History) (history : History) → last_history run ≡ Some history
+pub last_of_all : (limits : Limits) (run : List History) (history : History) → last_history run ≡ Some history
     → AllByRecursion (IsLegal limits) run → IsLegal limits history
 last_of_all limits [] history last each = absurd (cc)
 last_of_all limits (first ∷ []) history last each = let same : first ≡ history = cc in subst (IsLegal limits) same each.0
@@ -58,7 +58,7 @@ below_next history below whole more =
     ] more
 
 -- a mark's reply, and whether it opens
-shows_reply : (limits : Limits) (history : History) (mark : Mark) (turn : Turn) → Shows limits history mark turn → mark.reply ≡ reply_of turn
+pub shows_reply : (limits : Limits) (history : History) (mark : Mark) (turn : Turn) → Shows limits history mark turn → mark.reply ≡ reply_of turn
 shows_reply limits history mark (Given grant) shows = shows.0
 shows_reply limits history mark Empty shows = shows
 shows_reply limits history mark (Open number) shows = shows.0
@@ -68,7 +68,7 @@ shows_reply limits history mark (Held held) shows = shows
 shows_reply limits history mark Stopping shows = shows
 shows_reply limits history mark Refused shows = absurd shows
 
-opens_fits : (asked : MarkStep) (number : ℕ) → FitsReply asked (Open number) → opens asked ≡ true
+pub opens_fits : (asked : MarkStep) (number : ℕ) → FitsReply asked (Open number) → opens asked ≡ true
 opens_fits (Ask id mode Quiet) number fits = absurd fits
 opens_fits (Ask id mode Prompt) number fits = refl
 opens_fits (Seat under) number fits = refl
@@ -256,7 +256,7 @@ pub record Marks (before after : AtCore) (run : List History) (session : Session
   pub counts : before.count ≢ MAX_MARKS → after.count ≡ before.count + 1
   pub opened : IsSome after.held → (is_open (reply_of turn) ≡ true) ⊎ IsSome (option_and_then (unless_given_back asked) before.held)
 
-seat_next : (history : History) → seat (next_history history) ≡ seat history
+pub seat_next : (history : History) → seat (next_history history) ≡ seat history
 seat_next history = elim (length history.marks == MAX_MARKS) as (λ b. seat (if b then turn_over history else history) ≡ seat history) [ true ↦ seat-turn_over history | false ↦ refl ]
 
 count_next : (history : History) (mark : Mark) → (length history.marks ≡ MAX_MARKS → length (with_mark (next_history history) mark).marks ≡ 1)
@@ -336,7 +336,7 @@ module _ (before after : AtCore) (run : List History) (keeps : KeepsRun before r
       is_so ∙ (ap (λ (r : MarkReply). mark_of session asked r after.moment) (sym made_reply) ∙ ap (mark_of session asked is.reply_is) made_moment) in
       subst (Marks before after run session moment asked turn) (sym same) makes
 
-closes_none : (asked : MarkStep) → opens asked ≡ true → closes asked ≡ None
+pub closes_none : (asked : MarkStep) → opens asked ≡ true → closes asked ≡ None
 closes_none (Ask id mode way) is = refl
 closes_none (Seat under) is = refl
 closes_none (Close ticket keep) is = absurd (cc is)
@@ -439,10 +439,10 @@ pub record Stands (before after : AtCore) (run : List History) (session : Sessio
   pub same : after ≡ before
 
 pub took_stood : (before after : AtCore) (run : List History) (keeps : KeepsRun before run) (session : SessionId) (moment : ℕ) (asked : MarkStep)
-    → IsStep before keeps.last session moment asked Stand after → Stands before after run session moment asked
-took_stood before after run keeps session moment asked (step_marked more is) = absurd is.shows
-took_stood before after run keeps session moment asked (step_stood more rules same) =
-    record { takes = stood keeps.last keeps.last_is rules refl; same = same }
+    → before.base + before.count ≢ last_base → IsStep before keeps.last session moment asked Stand after → Stands before after run session moment asked
+took_stood before after run keeps session moment asked some (step_marked more is) = absurd is.shows
+took_stood before after run keeps session moment asked some (step_stood more rules same) =
+    record { takes = stood keeps.last keeps.last_is (not_spent_run before run keeps some) rules refl; same = same }
 
 -- a step's moment by the run
 pub moment_is : (core : AtCore) (run : List History) (reading : ℕ) → KeepsRun core run → moment_of core.moment reading ≡ next_moment run reading

@@ -5,3 +5,7 @@ pub mod Dispatch
 pub mod Whole
 pub mod Adding
 pub mod Knowing
+pub mod Seating
+pub mod Scripts
+pub mod Playing
+pub mod Promise

@@ -49,8 +49,8 @@ pub data TakesStep (limits : Limits) (run : List History) (session : SessionId) 
       → policy limits (next_history last) step_of moment ≡ Reply answer
       → Shows limits (next_history last) (mark_of session step_of answer moment) turn
       → after ≡ run_with_mark run (mark_of session step_of answer moment) → TakesStep limits run session moment step_of turn after
-  stood : {after : List History} (last : History) → last_history run ≡ Some last → policy limits (next_history last) step_of moment ≡ ruling.Stand
-      → after ≡ run → TakesStep limits run session moment step_of Stand after
+  stood : {after : List History} (last : History) → last_history run ≡ Some last → (IsSpentRun run → ⊥)
+      → policy limits (next_history last) step_of moment ≡ ruling.Stand → after ≡ run → TakesStep limits run session moment step_of Stand after
   refused : {after : List History} (last : History) → last_history run ≡ Some last → MayRefuse limits last step_of moment
       → after ≡ run → TakesStep limits run session moment step_of Refused after
   spent : {after : List History} → IsSpentRun run → after ≡ run → TakesStep limits run session moment step_of Stopping after

@@ -4,3 +4,7 @@ pub mod Known
 pub mod Recording
 pub mod Stepped
 pub mod Adding
+pub mod Foreigners
+pub mod Seating
+pub mod Solos
+pub mod SoloInside

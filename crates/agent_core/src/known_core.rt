@@ -79,6 +79,7 @@ impl KnownCore {
         ensures fits { FitsReply (mark_step step) (turn_of_stepped result) }
         ensures back { HandsBack step result }
         ensures limits { self.new.limits ≡ self.old.limits }
+        ensures was_legal { IsLegalRun self.old.limits self.old.run }
         ensures legal { IsLegalRun self.new.limits self.new.run }
     {
         if self.core.spent() {
@@ -252,7 +253,7 @@ fn needs_room(core: &Core, step: &Step) -> bool
     count == MAX_MARKS || count + 1 == MAX_MARKS && (core.is_held() || opens_prompt(step))
 }
 
-fn is_close(step: &Step) -> bool
+pub(crate) fn is_close(step: &Step) -> bool
     ensures { result ≡ is_some (closes (mark_step step.now)) }
 {
     matches!(step, Step::Close { .. })

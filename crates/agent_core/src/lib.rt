@@ -2,10 +2,15 @@
 #![tactic(auto)]
 
 mod cache_core;
+mod foreign;
+mod holder;
 mod known_core;
+mod solo;
 mod state;
 mod stepped;
 mod steps;
 
 pub use cache_core::Core;
+pub use foreign::{Foreign, ForeignStep};
 pub use known_core::KnownCore;
+pub use solo::Solo;

@@ -37,7 +37,8 @@ stands_so c =
     let keeps = c.self.invariant.keeps in
     let step : IsStep c.self.inside.core keeps.last c.args.session (moment_of c.self.inside.core.moment c.args.reading) (mark_step c.args.step) (turn_of (Ok c.in-Ok.reply)) c.step.new.self =
     c.in-Ok.ensures.step keeps.last (legal_last c.self.inside.core c.self.inside.histories.items keeps) keeps.stands in
-    took_stood c.self.inside.core c.step.new.self c.self.inside.histories.items keeps c.args.session _ (mark_step c.args.step)
+    let more : c.self.inside.core.base + c.self.inside.core.count ≢ last_base = search rules in
+    took_stood c.self.inside.core c.step.new.self c.self.inside.histories.items keeps c.args.session _ (mark_step c.args.step) more
     (subst (λ (r : Told). IsStep c.self.inside.core keeps.last c.args.session (moment_of c.self.inside.core.moment c.args.reading) (mark_step c.args.step) (turn_of (Ok r)) c.step.new.self) c.in-Stand.is step)
 
 pub invariant_of-self-in-Stand : goal.invariant_of-self-in-Stand
