@@ -38,7 +38,7 @@ use Rattle.agent_core.specs.States.{AtCore, HasRoom}
 use Rattle.agent_core.proofs.Adding.{add-full}
 
 -- the moment of a mark at the end
-moment_at_end : (since : ℕ) (marks : List Mark) (mark : Mark) → fold (λ _ (m : Mark). m.moment) since (marks ++ mark ∷ []) ≡ mark.moment
+pub moment_at_end : (since : ℕ) (marks : List Mark) (mark : Mark) → fold (λ _ (m : Mark). m.moment) since (marks ++ mark ∷ []) ≡ mark.moment
 moment_at_end since [] mark = refl
 moment_at_end since (first ∷ later) mark = moment_at_end first.moment later mark
 

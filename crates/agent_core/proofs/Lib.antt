@@ -9,3 +9,4 @@ pub mod Seating
 pub mod Scripts
 pub mod Playing
 pub mod Promise
+pub mod Alone

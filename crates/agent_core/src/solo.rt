@@ -140,7 +140,6 @@ impl<'a, C: Clock> Solo<'a, C> {
 
     /// Ends the desk, and gives its clock back. A ticket that another session still has is given up without a mark.
     pub fn end(self) -> &'a mut C
-        requires free { self.out ≡ None }
         ensures clock { result.now ≡ self.entry.clock }
         ensures lent { result.ghost_name ≡ self.entry.lent }
     {

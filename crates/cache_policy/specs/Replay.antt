@@ -1,5 +1,5 @@
 -- Replays: the run that these steps make, one after another, at these readings. This is the project's own.
-use Rattle.std.specs.Prelude.{◌≡◌, ◌≢◌, ℕ, List, [], ◌∷◌, false, Some, None, map, ⊤}
+use Rattle.std.specs.Prelude.{◌≡◌, ◌≢◌, ◌⊎◌, ℕ, List, [], ◌∷◌, false, Some, None, map, ⊤}
 use Rattle.std.specs.List.{AllByRecursion}
 use Rattle.agent_ports.specs.declared.session.SessionId.{SessionId}
 use Rattle.cache_policy.specs.declared.life.Limits.{Limits}
@@ -8,7 +8,9 @@ use Rattle.cache_policy.specs.declared.mark.MarkStep.{MarkStep}
 use Rattle.cache_policy.specs.declared.history.History.{History}
 use Rattle.cache_policy.specs.Histories.{moments}
 use Rattle.cache_policy.specs.Legal.{IsLegalRun}
+use Rattle.cache_policy.specs.Extending.{Taken}
 use Rattle.cache_policy.specs.Runs.{joined, start_of_run, moment_of}
+use Rattle.cache_policy.specs.Turns.{Refused, Stopping}
 
 -- no marks yet, no ticket out, and not stopped
 abbrev pub first_history : History
@@ -33,3 +35,13 @@ pub record Replays (limits : Limits) (session : SessionId) (steps : List MarkSte
   pub steps_are : map (λ mark. mark.step) (joined run) ≡ steps
   pub moments_are : moments (joined run) ≡ moments_at 0 readings
   pub none_empty : NoneEmpty run
+
+-- The turns that made a mark, each with its reading: each turn took one, but one that was refused, and one that a spent agent replied,
+-- made none.
+pub data Marked : List Taken → List ℕ → List MarkStep → List ℕ → Type 0 where
+  none : Marked [] [] [] []
+  made : {taken : Taken} {turns : List Taken} {readings : List ℕ} {steps : List MarkStep} {read : List ℕ} (reading : ℕ) → (taken.turn ≡ Refused → ⊥)
+      → Marked turns readings steps read → Marked (taken ∷ turns) (reading ∷ readings) (taken.asked ∷ steps) (reading ∷ read)
+  unmade : {taken : Taken} {turns : List Taken} {readings : List ℕ} {steps : List MarkStep} {read : List ℕ} (reading : ℕ)
+      → (taken.turn ≡ Refused) ⊎ (taken.turn ≡ Stopping)
+      → Marked turns readings steps read → Marked (taken ∷ turns) (reading ∷ readings) steps read
