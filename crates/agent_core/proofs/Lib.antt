@@ -3,3 +3,10 @@ pub mod Standing
 pub mod Stepping
 pub mod Dispatch
 pub mod Whole
+pub mod Adding
+pub mod Knowing
+pub mod Seating
+pub mod Scripts
+pub mod Playing
+pub mod Promise
+pub mod Alone

@@ -1,2 +1,10 @@
 pub mod States
 pub mod Cores
+pub mod Known
+pub mod Recording
+pub mod Stepped
+pub mod Adding
+pub mod Foreigners
+pub mod Seating
+pub mod Solos
+pub mod SoloInside

@@ -1,4 +1,6 @@
-ghost use Rattle.std.specs.Prelude.{◌≡◌, ◌+◌, ◌↔◌, [], false, None, IsTrue, OnErr, IfErr};
+ghost use Rattle.std.specs.Prelude.{◌≡◌, ◌+◌, ◌≤◌, ◌↔◌, [], false, None, IsTrue, OnErr, IfErr};
+ghost use Rattle.std.specs.Option.{is_some};
+ghost use Rattle.cache_policy.specs.declared.bounds.TheConstants.{MAX_MARKS};
 ghost use Rattle.cache_policy.specs.declared.history.History.{History};
 ghost use Rattle.cache_policy.specs.Turns.{mark_step, turn_of, FitsReply};
 ghost use Rattle.cache_policy.specs.Runs.{last_base, moment_of};
@@ -6,8 +8,9 @@ ghost use Rattle.cache_policy.specs.Legal.{IsLegal};
 ghost use Rattle.agent_core.specs.Cores.{StandsFor, IsStep, IsAsBefore};
 
 use crate::state::{CacheShelf, State};
+use crate::stepped::copy_under;
 use agent_ports::SessionId;
-use cache_policy::{Limits, Refused, Reply, Step};
+use cache_policy::{Held, Limits, Refused, Reply, Step};
 use prompt_seat::Seat;
 use std::alloc::Global;
 use std::marker::Model;
@@ -80,6 +83,48 @@ impl Core {
         self.state.next_base() == LAST_BASE
     }
 
+    /// The moment of the last mark, in seconds.
+    pub(crate) fn moment(&self) -> u64
+        ensures { result ≡ self.now.moment }
+    {
+        self.state.moment
+    }
+
+    /// How many marks the history has.
+    pub(crate) fn count(&self) -> u64
+        ensures value { result ≡ self.now.count }
+        ensures few { result ≤ MAX_MARKS }
+    {
+        self.state.count
+    }
+
+    /// The ticket that is out, and what its passphrase is kept under.
+    pub(crate) fn held(&self) -> Option<Held>
+        ensures { result ≡ self.now.held }
+    {
+        match self.state.seat.holder() {
+            Some(ticket) => Some(Held {
+                ticket,
+                under: copy_under(&self.state.under),
+            }),
+            None => None,
+        }
+    }
+
+    /// Whether a ticket is out.
+    pub(crate) fn is_held(&self) -> bool
+        ensures { result ≡ is_some self.now.held }
+    {
+        self.state.seat.holder().is_some()
+    }
+
+    /// Whether it has stopped opening prompts.
+    pub(crate) fn stopped(&self) -> bool
+        ensures { result ≡ self.now.stopped }
+    {
+        self.state.stopped
+    }
+
     /// The number of the first mark of the history.
     pub fn base(&self) -> u64
         ensures { result ≡ self.now.base }
@@ -89,7 +134,7 @@ impl Core {
 }
 
 /// Ends a step that isn't taken, with its ticket.
-fn give_up(step: Step) {
+pub(crate) fn give_up(step: Step) {
     if let Some(ticket) = step.into_ticket() {
         let _ = Seat::new().give(ticket);
     }

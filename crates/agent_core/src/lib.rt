@@ -2,7 +2,17 @@
 #![tactic(auto)]
 
 mod cache_core;
+mod foreign;
+mod holder;
+mod known_core;
+mod laws;
+mod solo;
 mod state;
+mod stepped;
 mod steps;
 
 pub use cache_core::Core;
+pub use foreign::{Foreign, ForeignStep};
+pub use known_core::KnownCore;
+pub use laws::turns_extend_a_known_run;
+pub use solo::Solo;

@@ -6,3 +6,4 @@ pub mod Leads
 pub mod Plans
 pub mod MemPlans
 pub mod MemLaunches
+pub mod Lent

@@ -169,3 +169,18 @@ fn a_launcher_gives_its_children_in_order_and_keeps_what_they_were_written(
     assert_eq!(rt; launcher.written(2), None);
     Ok(())
 }
+
+fn read_twice<C: Clock>(clock: &mut C) -> (u64, u64) {
+    let mut lent = LentClock::new(clock);
+    let readings = (lent.now(), lent.now());
+    lent.into_clock();
+    readings
+}
+
+#[test]
+fn a_clock_that_was_lent_goes_on_where_it_stood(rt: HostRuntime) -> Result<(), Fail> {
+    let mut clock = StepClock::new(5, 2);
+    assert_eq!(rt; read_twice(&mut clock), (5, 7));
+    assert_eq!(rt; clock.now(), 9);
+    Ok(())
+}

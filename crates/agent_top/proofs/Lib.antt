@@ -1,5 +1,4 @@
 mod Lifting
 mod SettingLemmas
 mod Spelling
-mod Turning
 mod WorkedExamples

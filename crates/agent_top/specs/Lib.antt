@@ -1,5 +1,4 @@
 pub mod Cache
-pub mod Desk
 pub mod Forms
 pub mod Settings
 pub mod Top

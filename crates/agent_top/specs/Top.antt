@@ -1,17 +1,21 @@
 -- What a run of the agent leaves, and its status. The statuses are this project's own.
 use Rattle.std.specs.Prelude.{◌≡◌, ℕ, List, [], ◌∷◌}
-use Rattle.agent_ports.specs.Readings.{Readings}
+use Rattle.agent_core.specs.Solos.{AtSolo, TurnsSolo}
+use Rattle.agent_ports.specs.Readings.{Readings, HasGiven}
 use Rattle.agent_ports.specs.Sides.{Side}
 use Rattle.cache_policy.specs.declared.history.History.{History}
-use Rattle.cache_policy.specs.Extending.{IsExtended}
+use Rattle.cache_policy.specs.declared.life.Limits.{Limits}
+use Rattle.cache_policy.specs.declared.mark.MarkStep.{MarkStep}
+use Rattle.cache_policy.specs.Extending.{Taken, IsExtended}
 use Rattle.cache_policy.specs.Legal.{IsLegalRun}
+use Rattle.cache_policy.specs.Replay.{first_history, Replays, Marked}
 use Rattle.session_options.specs.declared.rules.Rules.{Rules}
 use Rattle.agent_commands.specs.Events.{turns_in}
 use Rattle.agent_commands.specs.Outside.{world}
 use Rattle.agent_commands.specs.declared.went.SessionEnd.{SessionEnd}
 use Rattle.agent_commands.specs.declared.went.SessionEnd.TheVariants.{Bye, Killed, Ended, TooLong, Spent, ReadFault, WriteFault}
 use Rattle.agent_session.specs.Sessions.{Surroundings, surroundings, ServesSession}
-use Rattle.agent_top.specs.Cache.{limits_of, session, at_start, cache_state, TakesTurn}
+use Rattle.agent_top.specs.Cache.{limits_of, session, fresh_desk}
 use Rattle.agent_top.specs.declared.status.Status.{Status}
 use Rattle.agent_top.specs.declared.status.Status.TheVariants as status
 
@@ -44,19 +48,30 @@ pub record Outside : Type 0 where
 abbrev pub outside : Side → Side → Readings → Outside
 outside input output clock = record { input = input; output = output; clock = clock }
 
--- the same with the run of a cache
-abbrev pub with_cache : (rules : Rules) → List History → Outside → Surroundings (world (TakesTurn (limits_of rules)))
-with_cache rules run around = surroundings (TakesTurn (limits_of rules)) around.input around.output (cache_state run around.clock)
+-- the same with the desk of a cache
+abbrev pub with_desk : AtSolo → Outside → Surroundings (world TurnsSolo)
+with_desk desk around = surroundings TurnsSolo around.input around.output desk
+
+-- The run is the replay of the turns that made a mark. Each turn took one reading of the clock, and nothing else did.
+pub record ReplaysTurns (limits : Limits) (before : Readings) (turns : List Taken) (run : List History) (after : Readings) : Type 0 where
+  pub readings : List ℕ
+  pub given : HasGiven before readings after
+  pub steps : List MarkStep
+  pub read : List ℕ
+  pub marked : Marked turns readings steps read
+  pub replays : Replays limits session steps read run
 
 -- A session was served, and the number is that of its end. The cache began empty. Its run is legal, and has the marks of the session's
 -- turns in their order, each at the moment that the clock's reading says.
 pub record RunsSession (rules : Rules) (before : Outside) (number : ℕ) (after : Outside) : Type 0 where
   pub end : SessionEnd
   pub number_is : number ≡ number_of (status_of end)
-  pub run : List History
-  pub served : ServesSession rules (with_cache rules (at_start ∷ []) before) end (with_cache rules run after)
-  pub extended : IsExtended (limits_of rules) session (at_start ∷ []) (turns_in served.events) run
-  pub legal : IsLegalRun (limits_of rules) run
+  pub desk : AtSolo
+  pub clock : desk.clock ≡ after.clock
+  pub served : ServesSession rules (with_desk (fresh_desk (limits_of rules) before.clock) before) end (with_desk desk after)
+  pub extended : IsExtended (limits_of rules) session (first_history ∷ []) (turns_in served.events) desk.run
+  pub legal : IsLegalRun (limits_of rules) desk.run
+  pub replays : ReplaysTurns (limits_of rules) before.clock (turns_in served.events) desk.run after.clock
 
 -- That was done, or there was no memory before the first line: then nothing is read or written.
 pub data RunsServer (rules : Rules) (before : Outside) : ℕ → Outside → Type 0 where

@@ -1,7 +1,6 @@
 //! The agent from bytes to bytes: it reads its words and serves a session on standard input and output.
 #![tactic(auto)]
 
-mod desk;
 mod status;
 mod top;
 mod words;

@@ -1,13 +1,13 @@
 ghost use Rattle.std.specs.Prelude.{◌≡◌, map, string_bytes, IfSome, IfNone};
-ghost use Rattle.agent_top.specs.Cache.{limits_of};
-ghost use Rattle.agent_top.specs.Desk.{IsFresh};
+ghost use Rattle.agent_core.specs.Solos.{seen};
+ghost use Rattle.agent_top.specs.Cache.{limits_of, fresh_desk};
 ghost use Rattle.agent_top.specs.Words.{rules_of};
 ghost use Rattle.agent_top.specs.Top.{number_of, outside, RunsServer};
 
 use crate::Status;
-use crate::desk::LentDesk;
 use crate::words::{WordsFault, read_words};
-use agent_ports::{Clock, Host, Link};
+use agent_core::{KnownCore, Solo};
+use agent_ports::{Clock, Host, Link, SessionId};
 use agent_session::serve_session;
 use cache_policy::Limits;
 use session_options::Rules;
@@ -15,6 +15,9 @@ use std::alloc::Global;
 use std::rt;
 use std::sync::Wait;
 use std::thread::Threads;
+
+/// The session that is served on standard input and output.
+const SESSION: SessionId = SessionId { pass: 0, count: 0 };
 
 /// The agent. It reads its words, which leave out the program's name, and serves a session on standard input and output.
 ///
@@ -48,10 +51,13 @@ pub fn run_server<S: Link, H: Host>(alloc: Global, rules: &Rules, stdio: &mut S,
         (outside (S.input stdio.old) (S.output stdio.old) (H.readings host.old)) result
         (outside (S.input stdio.new) (S.output stdio.new) (H.readings host.new)) }
 {
-    let mut desk = LentDesk::new(alloc, limits_of(rules), host);
+    let Ok(core) = KnownCore::new(alloc, limits_of(rules)) else {
+        return Status::NoMemory.number();
+    };
+    let mut desk = Solo::over(core, host, SESSION, Vec::new(alloc));
     let status = serve(alloc, rules, stdio, &mut desk);
     // So what the desk read is known of the clock.
-    desk.into_clock();
+    desk.end();
     status.number()
 }
 
@@ -60,9 +66,9 @@ fn serve<S: Link, C: Clock>(
     alloc: Global,
     rules: &Rules,
     stdio: &mut S,
-    desk: &mut LentDesk<'_, C>,
+    desk: &mut Solo<'_, C>,
 ) -> Status
-    requires { IsFresh (limits_of rules.now) desk.old }
+    requires { seen C.readings desk.old ≡ fresh_desk (limits_of rules.now) (C.readings desk.old.clock) }
     ensures runs { RunsServer rules.now
         (outside (S.input stdio.old) (S.output stdio.old) (C.readings desk.old.clock)) (number_of result)
         (outside (S.input stdio.new) (S.output stdio.new) (C.readings desk.new.clock)) }

@@ -14,3 +14,4 @@ pub mod Bare
 pub mod Turns
 pub mod Desks
 pub mod Extending
+pub mod Replay

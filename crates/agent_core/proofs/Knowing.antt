@@ -1,0 +1,463 @@
+-- A core that keeps its run: what becomes of the run by a step.
+use Rattle.std.specs.Prelude.{◌≡◌, ◌≢◌, ℕ, ◌+◌, ◌%◌, ◌<◌, ◌≤◌, ◌==◌, ◌&&◌, ◌||◌, List, [], ◌∷◌, ◌++◌, length, fold, Bool, true, false, Option, Some, None, IsSome, IfSome, refl, vec_len, vec_capacity, ◌⊎◌, if◌then◌else◌}
+use Rattle.std.proofs.Common.{ap, sym, ◌∙◌, subst, arith, length-append, inl, inr, Ok}
+use Rattle.std.specs.Option.{is_some, option_and_then}
+use Rattle.std.specs.Global.{Vec}
+use Rattle.std.specs.List.{AllByRecursion}
+use Rattle.std.proofs.lemmas.Bool.Decides.{nat_tests}
+use Rattle.agent_ports.specs.declared.session.SessionId.{SessionId}
+use Rattle.cache_policy.specs.declared.bounds.TheConstants.{MAX_MARKS, MAX_MOMENT}
+use Rattle.cache_policy.specs.declared.life.Limits.{Limits}
+use Rattle.cache_policy.specs.declared.mark.Mark.{Mark}
+use Rattle.cache_policy.specs.declared.mark.MarkStep.{MarkStep}
+use Rattle.cache_policy.specs.declared.mark.MarkStep.TheVariants.{Ask, Seat, Close, Put, Clear, Flush, Peek, Stop}
+use Rattle.cache_policy.specs.declared.mark.MarkReply.{MarkReply}
+use Rattle.cache_policy.specs.declared.mark.MarkReply.TheVariants as reply
+use Rattle.cache_policy.specs.declared.mark.Way.TheVariants.{Quiet, Prompt}
+use Rattle.cache_policy.specs.declared.history.Held.{Held as Ticket}
+use Rattle.cache_policy.specs.declared.history.History.{History}
+use Rattle.cache_policy.specs.declared.step.Reply.{Reply as SteppedReply}
+use Rattle.cache_policy.specs.declared.step.Reply.TheVariants as told
+use Rattle.cache_policy.specs.Desks.{Shows, IsSpentRun}
+use Rattle.cache_policy.specs.Histories.{next_number, with_mark}
+use Rattle.cache_policy.specs.Legal.{IsLegal, IsLegalRun}
+use Rattle.cache_policy.specs.Policy.{Reply, policy}
+use Rattle.cache_policy.specs.Runs.{last_base, is_spent, turn_over, next_history, last_history, run_with_mark, joined, moment_before, moment_of}
+use Rattle.cache_policy.specs.Seat.{seat, is_open, under_of, unless_given_back}
+use Rattle.cache_policy.specs.Turns.{Turn, Given, Empty, Open, Stand, Done, Held, Refused, Stopping, FitsReply, opens, closes, turn_of}
+use Rattle.cache_policy.proofs.GrowingRuns.{joined-run_with_mark, legal-run_with_mark, last-run_with_mark, spent-all}
+use Rattle.cache_policy.proofs.OneMore.{seat-with_mark}
+use Rattle.cache_policy.proofs.Growing.{seat-turn_over}
+use Rattle.cache_book.specs.Slots.{slots}
+use Rattle.agent_core.specs.declared.known_core.Start.{Start}
+use Rattle.agent_core.specs.Adding.{CanAdd, added, next_start}
+use Rattle.agent_core.specs.Cores.{StandsFor, IsStep, marked as step_marked, stood as step_stood, refused as step_refused, spent as step_spent, IsMarked, mark_of, IsAsBefore}
+use Rattle.agent_core.specs.Known.{run_seat, IsOut, held as held_out, given_up, next_moment, MayRefuse, wants, begins, leaves, may_open, TakesStep, marked, stood, refused, spent}
+use Rattle.agent_core.specs.Recording.{KeepsRun, IsRoom, HasPlace, Records, needs_room, reply_of}
+use Rattle.agent_core.specs.States.{AtCore, HasRoom}
+use Rattle.agent_core.proofs.Adding.{add-full}
+
+-- the moment of a mark at the end
+pub moment_at_end : (since : ℕ) (marks : List Mark) (mark : Mark) → fold (λ _ (m : Mark). m.moment) since (marks ++ mark ∷ []) ≡ mark.moment
+moment_at_end since [] mark = refl
+moment_at_end since (first ∷ later) mark = moment_at_end first.moment later mark
+
+-- a legal run's last history is legal
+pub last_of_all : (limits : Limits) (run : List History) (history : History) → last_history run ≡ Some history
+    → AllByRecursion (IsLegal limits) run → IsLegal limits history
+last_of_all limits [] history last each = absurd (cc)
+last_of_all limits (first ∷ []) history last each = let same : first ≡ history = cc in subst (IsLegal limits) same each.0
+last_of_all limits (first ∷ next ∷ later) history last each = last_of_all limits (next ∷ later) history last each.1
+
+-- a history that isn't spent stays below the last base
+below_next : (history : History) → history.base < last_base → history.base % MAX_MARKS ≡ 0 → is_spent (next_history history) ≡ false → (next_history history).base < last_base
+below_next history below whole more =
+    elim (length history.marks == MAX_MARKS) as (λ b. is_spent (if b then turn_over history else history) ≡ false → (if b then turn_over history else history).base < last_base) [
+      | true ↦ λ e. let other : history.base + MAX_MARKS ≢ last_base = grind (arith, nat_tests) in omega (arith, other, below, whole)
+      | false ↦ λ e. below
+    ] more
+
+-- a mark's reply, and whether it opens
+pub shows_reply : (limits : Limits) (history : History) (mark : Mark) (turn : Turn) → Shows limits history mark turn → mark.reply ≡ reply_of turn
+shows_reply limits history mark (Given grant) shows = shows.0
+shows_reply limits history mark Empty shows = shows
+shows_reply limits history mark (Open number) shows = shows.0
+shows_reply limits history mark Stand shows = absurd shows
+shows_reply limits history mark Done shows = shows
+shows_reply limits history mark (Held held) shows = shows
+shows_reply limits history mark Stopping shows = shows
+shows_reply limits history mark Refused shows = absurd shows
+
+pub opens_fits : (asked : MarkStep) (number : ℕ) → FitsReply asked (Open number) → opens asked ≡ true
+opens_fits (Ask id mode Quiet) number fits = absurd fits
+opens_fits (Ask id mode Prompt) number fits = refl
+opens_fits (Seat under) number fits = refl
+opens_fits (Close ticket keep) number fits = absurd fits
+opens_fits (Put id mode life secret) number fits = absurd fits
+opens_fits (Clear id mode) number fits = absurd fits
+opens_fits Flush number fits = absurd fits
+opens_fits (Peek id mode) number fits = absurd fits
+opens_fits Stop number fits = absurd fits
+
+reply_opens : (asked : MarkStep) (turn : Turn) → FitsReply asked turn → is_open (reply_of turn) ≡ true → opens asked ≡ true
+reply_opens asked (Given grant) fits is = absurd (cc is)
+reply_opens asked Empty fits is = absurd (cc is)
+reply_opens asked (Open number) fits is = opens_fits asked number fits
+reply_opens asked Stand fits is = absurd (cc is)
+reply_opens asked Done fits is = absurd (cc is)
+reply_opens asked (Held held) fits is = absurd (cc is)
+reply_opens asked Stopping fits is = absurd (cc is)
+reply_opens asked Refused fits is = absurd (cc is)
+
+module _ (core : AtCore) (run : List History) (keeps : KeepsRun core run) where
+  pub legal_last : IsLegal core.limits keeps.last
+  legal_last = last_of_all core.limits run keeps.last keeps.last_is keeps.legal.each
+
+  -- all marks are made
+  pub spent_run : core.base + core.count ≡ last_base → IsSpentRun run
+  spent_run all = record { last = keeps.last; last_is = keeps.last_is; all = omega (arith, all, keeps.stands.base, keeps.stands.count) }
+
+  -- a run isn't spent where the core isn't
+  pub not_spent_run : core.base + core.count ≢ last_base → IsSpentRun run → ⊥
+  not_spent_run more is =
+      let e : Some is.last ≡ Some keeps.last = sym is.last_is ∙ keeps.last_is in
+      let same : is.last ≡ keeps.last = cc in
+      let all : keeps.last.base + length keeps.last.marks ≡ last_base = subst (λ (h : History). h.base + length h.marks ≡ last_base) same is.all in
+      more (omega (arith, all, keeps.stands.base, keeps.stands.count))
+
+  pub going : core.base + core.count ≢ last_base → is_spent (next_history keeps.last) ≡ false
+  going more =
+      elim (is_spent (next_history keeps.last)) as (λ b. is_spent (next_history keeps.last) ≡ b → b ≡ false) [
+        | true ↦ λ e. absurd (more (omega (arith, spent-all core.limits keeps.last legal_last e, keeps.stands.base, keeps.stands.count)))
+        | false ↦ λ e. refl
+      ] refl
+
+  -- the run's ticket is the core's
+  pub seat_is : run_seat run ≡ core.held
+  seat_is = ap (option_and_then seat) keeps.last_is ∙ sym keeps.stands.seat_is
+
+  pub held_out_is : core.base + core.count ≢ last_base → (number : ℕ) → IsOut run number → (ticket : Ticket) × (core.held ≡ Some ticket) × (ticket.ticket ≡ number)
+  held_out_is more number (held_out ticket is same) = (ticket, sym seat_is ∙ is, same)
+  held_out_is more number (given_up is) = absurd (not_spent_run more is)
+
+  -- the next mark's place
+  pub has_place : core.count ≢ MAX_MARKS → HasPlace run
+  has_place some = record { last = keeps.last; last_is = keeps.last_is; few = omega (arith, some, legal_last.few, keeps.stands.count) }
+
+  pub added_is : (mark : Mark) → added (next_start core) run mark ≡ run_with_mark run mark
+  added_is mark =
+      elim (core.count == MAX_MARKS) as (λ b. (core.count == MAX_MARKS) ≡ b
+      → added (if b then Some (record { base = core.base + MAX_MARKS; held = core.held; stopped = core.stopped }) else None) run mark ≡ run_with_mark run mark) [
+        | true ↦ λ e.
+            let full : core.count ≡ MAX_MARKS = grind (arith, nat_tests) in
+            let next : record { base = core.base + MAX_MARKS; held = core.held; stopped = core.stopped; marks = mark ∷ [] } ≡ with_mark (turn_over keeps.last) mark =
+            ap (λ (n : ℕ). record { base = n + MAX_MARKS; held = core.held; stopped = core.stopped; marks = mark ∷ [] }) keeps.stands.base
+            ∙ (ap (λ (h : Option Ticket). record { base = keeps.last.base + MAX_MARKS; held = h; stopped = core.stopped; marks = mark ∷ [] }) keeps.stands.seat_is
+            ∙ ap (λ (b : Bool). record { base = keeps.last.base + MAX_MARKS; held = seat keeps.last; stopped = b; marks = mark ∷ [] }) keeps.stands.stopped_is) in
+            ap (λ (h : History). run ++ h ∷ []) next ∙ sym (add-full run keeps.last mark keeps.last_is (omega (arith, full, keeps.stands.count)))
+        | false ↦ λ e. refl
+      ] refl
+
+-- the room for the next history is there where this one is full
+pub has_next : (core : AtCore) (histories : Vec History) (next later : Option (List Mark)) (asked : MarkStep) → Records core histories next
+    → core.base + core.count ≢ last_base → IfSome (closes asked) (IsOut histories.items) → (IsSome next → IsSome later)
+    → (needs_room core asked ≡ true → IsSome later) → core.count ≡ MAX_MARKS → IsSome later
+has_next core histories next later asked records more own kept room full =
+    by (closes asked) own room
+  where
+    by : (closed : Option ℕ) → IfSome closed (IsOut histories.items)
+        → ((if is_some closed then false else core.count == MAX_MARKS || (core.count + 1 == MAX_MARKS && (is_some core.held || opens asked))) ≡ true → IsSome later) → IsSome later
+    by None own room =
+        let is : (core.count == MAX_MARKS) ≡ true = grind (arith, nat_tests) in
+        room (ap (λ (b : Bool). b || (core.count + 1 == MAX_MARKS && (is_some core.held || opens asked))) is)
+    by (Some number) own room =
+        let out = held_out_is core histories.items records.keeps more number own in
+        kept (records.ready full (subst (λ (h : Option Ticket). IsSome h) (sym out.1) refl))
+
+pub can_add : (core : AtCore) (histories : Vec History) (next : Option (List Mark)) → KeepsRun core histories.items → IsRoom histories next
+    → (core.count ≡ MAX_MARKS → IsSome next) → CanAdd (next_start core) histories next
+can_add core histories next keeps room some =
+    elim (core.count == MAX_MARKS) as (λ b. (core.count == MAX_MARKS) ≡ b
+    → CanAdd (if b then Some (record { base = core.base + MAX_MARKS; held = core.held; stopped = core.stopped }) else None) histories next) [
+      | true ↦ λ e. (some (grind (arith, nat_tests)), room)
+      | false ↦ λ e. (has_place core histories.items keeps (grind (arith, nat_tests)), room)
+    ] refl
+
+-- why a step needs room
+needs_why : (limits : Limits) (last : History) (asked : MarkStep) (moment count : ℕ) (held : Option Ticket) → count ≡ length last.marks → held ≡ seat last → closes asked ≡ None
+    → (a b : Bool) → (count == MAX_MARKS) ≡ a → (count + 1 == MAX_MARKS) ≡ b → (a || (b && (is_some held || opens asked))) ≡ true → MayRefuse limits last asked moment
+needs_why limits last asked moment count held counts seat_of none true b full ends needs = begins none (grind (arith, nat_tests))
+needs_why limits last asked moment count held counts seat_of none false false full ends needs = absurd (cc needs)
+needs_why limits last asked moment count held counts seat_of none false true full ends needs = by held seat_of needs
+  where
+    ends_is : length last.marks + 1 ≡ MAX_MARKS
+    ends_is = grind (arith, nat_tests)
+
+    by : (h : Option Ticket) → h ≡ seat last → (is_some h || opens asked) ≡ true → MayRefuse limits last asked moment
+    by (Some ticket) is h = leaves none ends_is (subst (λ (o : Option Ticket). IsSome o) is refl)
+    by None is h = may_open h ends_is
+
+-- where there is no memory for a step's history
+pub no_room : (core : AtCore) (run : List History) (session : SessionId) (moment : ℕ) (asked : MarkStep) → KeepsRun core run
+    → needs_room core asked ≡ true → TakesStep core.limits run session moment asked Refused run
+no_room core run session moment asked keeps needs = refused keeps.last keeps.last_is (by (closes asked) refl needs) refl
+  where
+    by : (closed : Option ℕ) → closes asked ≡ closed
+        → (if is_some closed then false else core.count == MAX_MARKS || (core.count + 1 == MAX_MARKS && (is_some core.held || opens asked))) ≡ true
+        → MayRefuse core.limits keeps.last asked moment
+    by (Some number) is needs = absurd (cc needs)
+    by None is needs =
+        needs_why core.limits keeps.last asked moment core.count core.held keeps.stands.count keeps.stands.seat_is is
+        (core.count == MAX_MARKS) (core.count + 1 == MAX_MARKS) refl refl needs
+
+-- a core that is as it was keeps the same run
+pub keeps_same : (before after : AtCore) (run : List History) → KeepsRun before run → after ≡ before → KeepsRun after run
+keeps_same before after run keeps same = subst (λ (c : AtCore). KeepsRun c run) (sym same) keeps
+
+more_room : (held : Option Ticket) (before after : ℕ) → before ≤ after → HasRoom held before → HasRoom held after
+more_room None before after more room = tt
+more_room (Some ticket) before after more room = λ some. omega (arith, room some, more)
+
+pub keeps_refused : (before after : AtCore) (run : List History) → KeepsRun before run → IsAsBefore before after → KeepsRun after run
+keeps_refused before after run keeps is =
+    keeps_same (record before { spare = after.spare }) after run (record {
+      legal = keeps.legal;
+      last = keeps.last;
+      last_is = keeps.last_is;
+      stands = record {
+        base = keeps.stands.base;
+        count = keeps.stands.count;
+        moment = keeps.stands.moment;
+        latest = keeps.stands.latest;
+        slots_are = keeps.stands.slots_are;
+        seat_is = keeps.stands.seat_is;
+        stopped_is = keeps.stands.stopped_is;
+        room = more_room before.held before.spare after.spare is.room keeps.stands.room;
+      };
+      moment = keeps.moment;
+      below = keeps.below;
+    }) is.same
+
+-- what a core has beside its run
+pub record IsLike (before after : AtCore) : Type 0 where
+  pub count : after.count ≡ before.count
+  pub held : after.held ≡ before.held
+
+pub like_same : (before after : AtCore) → after ≡ before → IsLike before after
+like_same before after same = record { count = ap (λ (c : AtCore). c.count) same; held = ap (λ (c : AtCore). c.held) same }
+
+pub like_refused : (before after : AtCore) → IsAsBefore before after → IsLike before after
+like_refused before after is = record { count = ap (λ (c : AtCore). c.count) is.same; held = ap (λ (c : AtCore). c.held) is.same }
+
+-- a core whose run stays has the room that it needs
+pub records_stay : (before after : AtCore) (histories later : Vec History) (next there : Option (List Mark)) → Records before histories next
+    → later.items ≡ histories.items → IsRoom later there → (IsSome next → IsSome there) → IsLike before after → KeepsRun after histories.items
+    → Records after later there
+records_stay before after histories later next there records items room kept like keeps = record {
+  keeps = subst (KeepsRun after) (sym items) keeps;
+  room = room;
+  ready = λ full held. kept (records.ready (omega (arith, full, like.count)) (subst (λ (h : Option Ticket). IsSome h) like.held held));
+}
+
+-- a step that is neither left to stand nor refused makes its mark
+pub is_marked : (before after : AtCore) (history : History) (session : SessionId) (moment : ℕ) (asked : MarkStep) (turn : Turn) → (turn ≡ Stand → ⊥) → (turn ≡ Refused → ⊥)
+    → is_spent (next_history history) ≡ false → IsStep before history session moment asked turn after → IsMarked before (next_history history) session moment asked turn after
+is_marked before after history session moment asked turn goes taken more (step_marked _ is) = is
+is_marked before after history session moment asked turn goes taken more (step_stood _ rules same) = absurd (goes refl)
+is_marked before after history session moment asked turn goes taken more (step_refused _ why same) = absurd (taken refl)
+is_marked before after history session moment asked turn goes taken more (step_spent is same) = absurd (cc (is, more))
+
+-- what a step that made a mark leaves
+pub record Marks (before after : AtCore) (run : List History) (session : SessionId) (moment : ℕ) (asked : MarkStep) (turn : Turn) (mark : Mark) : Type 0 where
+  pub takes : TakesStep before.limits run session moment asked turn (run_with_mark run mark)
+  pub keeps : KeepsRun after (run_with_mark run mark)
+  -- how many marks there are, and whether a ticket is out
+  pub fresh : before.count ≡ MAX_MARKS → after.count ≡ 1
+  pub counts : before.count ≢ MAX_MARKS → after.count ≡ before.count + 1
+  pub opened : IsSome after.held → (is_open (reply_of turn) ≡ true) ⊎ IsSome (option_and_then (unless_given_back asked) before.held)
+
+pub seat_next : (history : History) → seat (next_history history) ≡ seat history
+seat_next history = elim (length history.marks == MAX_MARKS) as (λ b. seat (if b then turn_over history else history) ≡ seat history) [ true ↦ seat-turn_over history | false ↦ refl ]
+
+count_next : (history : History) (mark : Mark) → (length history.marks ≡ MAX_MARKS → length (with_mark (next_history history) mark).marks ≡ 1)
+    × (length history.marks ≢ MAX_MARKS → length (with_mark (next_history history) mark).marks ≡ length history.marks + 1)
+count_next history mark =
+    elim (length history.marks == MAX_MARKS) as (λ b. (length history.marks == MAX_MARKS) ≡ b
+    → (length history.marks ≡ MAX_MARKS → length (with_mark (if b then turn_over history else history) mark).marks ≡ 1)
+    × (length history.marks ≢ MAX_MARKS → length (with_mark (if b then turn_over history else history) mark).marks ≡ length history.marks + 1)) [
+      | true ↦ λ e. let full : length history.marks ≡ MAX_MARKS = grind (arith, nat_tests) in (λ _. refl, λ other. absurd (other full))
+      | false ↦ λ e. let some : length history.marks ≢ MAX_MARKS = grind (arith, nat_tests) in
+          (λ all. absurd (some all), λ _. length-append history.marks (mark ∷ []))
+    ] refl
+
+opened_so : (reply_is : MarkReply) (ticket : Ticket) (still : Option Ticket) → IsSome (if is_open reply_is then Some ticket else still)
+    → (is_open reply_is ≡ true) ⊎ IsSome still
+opened_so reply.Open ticket still some = inl refl
+opened_so (reply.Given number) ticket still some = inr some
+opened_so reply.Empty ticket still some = inr some
+opened_so reply.Done ticket still some = inr some
+opened_so (reply.Held held) ticket still some = inr some
+opened_so reply.Stopping ticket still some = inr some
+
+module _ (before after : AtCore) (run : List History) (keeps : KeepsRun before run) (session : SessionId) (asked : MarkStep) (turn : Turn) (moment : ℕ)
+    (more : is_spent (next_history keeps.last) ≡ false) (limits : after.limits ≡ before.limits)
+    (later : moment_before (joined run) ≤ moment) (within : moment ≤ MAX_MOMENT)
+    (is : IsMarked before (next_history keeps.last) session moment asked turn after) where
+  made_mark : Mark
+  made_mark = mark_of session asked is.reply_is moment
+
+  made_reply : is.reply_is ≡ reply_of turn
+  unfolding made_mark
+  made_reply = shows_reply before.limits (next_history keeps.last) made_mark turn is.shows
+
+  made_moment : after.moment ≡ moment
+  unfolding made_mark
+  made_moment =
+      is.stands.latest (omega (arith, length-append (next_history keeps.last).marks (made_mark ∷ [])))
+      ∙ moment_at_end 0 (next_history keeps.last).marks made_mark
+
+  makes : Marks before after run session moment asked turn made_mark
+  unfolding made_mark
+  makes =
+      let legal = legal_last before run keeps in
+      let below = below_next keeps.last keeps.below legal.base more in
+      let now_last = last-run_with_mark run keeps.last made_mark keeps.last_is in
+      let all = joined-run_with_mark run made_mark keeps.legal.turns_over in
+      let counted = count_next keeps.last made_mark in
+      record {
+        takes = marked keeps.last is.reply_is keeps.last_is below is.rules is.shows refl;
+        keeps = record {
+          legal = subst (λ (l : Limits). IsLegalRun l (run_with_mark run made_mark)) (sym limits)
+              (legal-run_with_mark before.limits run keeps.last made_mark keeps.legal keeps.last_is is.rules later within below);
+          last = with_mark (next_history keeps.last) made_mark;
+          last_is = now_last;
+          stands = is.stands;
+          moment = made_moment ∙ sym (ap moment_before all ∙ moment_at_end 0 (joined run) made_mark);
+          below = below;
+        };
+        fresh = λ full. is.stands.count ∙ counted.0 (omega (arith, full, keeps.stands.count));
+        counts = λ some. let n = counted.1 (omega (arith, some, keeps.stands.count)) in omega (arith, is.stands.count, n, keeps.stands.count);
+        opened = λ some.
+            let seat_now : after.held ≡ (if is_open is.reply_is then Some (record { ticket = next_number (next_history keeps.last); under = under_of asked })
+            else option_and_then (unless_given_back asked) before.held) =
+            is.stands.seat_is ∙ (seat-with_mark (next_history keeps.last) made_mark
+            ∙ ap (λ (h : Option Ticket). if is_open is.reply_is then Some (record { ticket = next_number (next_history keeps.last); under = under_of asked })
+            else option_and_then (unless_given_back asked) h) (seat_next keeps.last ∙ sym keeps.stands.seat_is)) in
+            subst (λ (r : MarkReply). (is_open r ≡ true) ⊎ IsSome (option_and_then (unless_given_back asked) before.held)) made_reply
+            (opened_so is.reply_is (record { ticket = next_number (next_history keeps.last); under = under_of asked }) (option_and_then (unless_given_back asked) before.held)
+            (subst (λ (h : Option Ticket). IsSome h) seat_now some));
+      }
+
+  -- the same of the mark as the code has it
+  pub made : (mark : Mark) → mark ≡ mark_of session asked (reply_of turn) after.moment → Marks before after run session moment asked turn mark
+  unfolding made_mark
+  made mark is_so =
+      let same : mark ≡ made_mark =
+      is_so ∙ (ap (λ (r : MarkReply). mark_of session asked r after.moment) (sym made_reply) ∙ ap (mark_of session asked is.reply_is) made_moment) in
+      subst (Marks before after run session moment asked turn) (sym same) makes
+
+pub closes_none : (asked : MarkStep) → opens asked ≡ true → closes asked ≡ None
+closes_none (Ask id mode way) is = refl
+closes_none (Seat under) is = refl
+closes_none (Close ticket keep) is = absurd (cc is)
+closes_none (Put id mode life secret) is = refl
+closes_none (Clear id mode) is = refl
+closes_none Flush is = refl
+closes_none (Peek id mode) is = refl
+closes_none Stop is = refl
+
+-- a step that isn't a Close needs room where it makes the last mark and a ticket is out, or it may open
+needs : (core : AtCore) (asked : MarkStep) → closes asked ≡ None → core.count + 1 ≡ MAX_MARKS → (is_some core.held || opens asked) ≡ true → needs_room core asked ≡ true
+needs core asked none ends held =
+    let last : (core.count + 1 == MAX_MARKS) ≡ true = grind (arith, nat_tests) in
+    let some : (core.count == MAX_MARKS) ≡ false = grind (arith, nat_tests) in
+    rw (none, some, last, held) refl
+
+held_or : (b : Bool) → (b || true) ≡ true
+held_or true = refl
+held_or false = refl
+
+some_held : (held : Option Ticket) → IsSome held → is_some held ≡ true
+some_held (Some ticket) is = refl
+some_held None is = absurd (cc is)
+
+still_held : (asked : MarkStep) (held : Option Ticket) → IsSome (option_and_then (unless_given_back asked) held) → IsSome held
+still_held asked None is = is
+still_held asked (Some ticket) is = refl
+
+-- a Close of the ticket that is out leaves none
+none_still : (asked : MarkStep) (number : ℕ) (ticket : Ticket) → closes asked ≡ Some number → ticket.ticket ≡ number
+    → IsSome (option_and_then (unless_given_back asked) (Some ticket)) → ⊥
+none_still (Close other keep) number ticket is same some =
+    let e : other ≡ number = cc is in
+    let back : (other == ticket.ticket) ≡ true = grind (arith, nat_tests) in
+    absurd (cc (subst (λ (b : Bool). IsSome {T = Ticket} (if b then None else Some ticket)) back some))
+none_still (Ask id mode way) number ticket is same some = absurd (cc is)
+none_still (Seat under) number ticket is same some = absurd (cc is)
+none_still (Put id mode life secret) number ticket is same some = absurd (cc is)
+none_still (Clear id mode) number ticket is same some = absurd (cc is)
+none_still Flush number ticket is same some = absurd (cc is)
+none_still (Peek id mode) number ticket is same some = absurd (cc is)
+none_still Stop number ticket is same some = absurd (cc is)
+
+-- what the room was made for
+pub record HasRoomFor (core : AtCore) (histories : Vec History) (next there : Option (List Mark)) (asked : MarkStep) : Type 0 where
+  pub records : Records core histories next
+  pub more : core.base + core.count ≢ last_base
+  pub own : IfSome (closes asked) (IsOut histories.items)
+  pub kept : IsSome next → IsSome there
+  pub room : needs_room core asked ≡ true → IsSome there
+
+-- a core that made a mark has the room that it needs
+pub records_marked : (before after : AtCore) (histories later : Vec History) (next there ending : Option (List Mark)) (session : SessionId) (moment : ℕ) (asked : MarkStep) (turn : Turn) (mark : Mark)
+    → HasRoomFor before histories next there asked → FitsReply asked turn → Marks before after histories.items session moment asked turn mark
+    → later.items ≡ run_with_mark histories.items mark → IsRoom later ending → (next_start before ≡ None → ending ≡ there) → Records after later ending
+records_marked before after histories later next there ending session moment asked turn mark has fits marks items room same = record {
+  keeps = subst (KeepsRun after) (sym items) marks.keeps;
+  room = room;
+  ready = λ full held.
+      elim (before.count == MAX_MARKS) as (λ b. (before.count == MAX_MARKS) ≡ b → IsSome ending) [
+        | true ↦ λ e. let all : before.count ≡ MAX_MARKS = grind (arith, nat_tests) in let one = marks.fresh all in absurd (omega (arith, one, full))
+        | false ↦ λ e.
+            let some : before.count ≢ MAX_MARKS = grind (arith, nat_tests) in
+            let counted = marks.counts some in
+            let none : next_start before ≡ None =
+            ap (λ (b : Bool). if b then Some (record { base = before.base + MAX_MARKS; held = before.held; stopped = before.stopped }) else None) e in
+            subst (λ (o : Option (List Mark)). IsSome o) (sym (same none)) (by (omega (arith, counted, full)) (closes asked) refl (marks.opened held))
+      ] refl;
+}
+  where
+    by : before.count + 1 ≡ MAX_MARKS → (closed : Option ℕ) → closes asked ≡ closed
+        → (is_open (reply_of turn) ≡ true) ⊎ IsSome (option_and_then (unless_given_back asked) before.held) → IsSome there
+    by ends closed is (inl opened) =
+        let wants = reply_opens asked turn fits opened in
+        has.room (needs before asked (closes_none asked wants) ends (ap (λ (b : Bool). is_some before.held || b) wants ∙ held_or (is_some before.held)))
+    by ends None is (inr still) =
+        has.room (needs before asked is ends (ap (λ (b : Bool). b || opens asked) (some_held before.held (still_held asked before.held still))))
+    by ends (Some number) is (inr still) =
+        let out = held_out_is before histories.items has.records.keeps has.more number
+        (subst (λ (o : Option ℕ). IfSome o (IsOut histories.items)) is has.own) in
+        absurd (none_still asked number out.0 is out.2 (subst (λ (h : Option Ticket). IsSome (option_and_then (unless_given_back asked) h)) out.1 still))
+
+pub not_refused : (reply : SteppedReply) → turn_of (Ok reply) ≡ Refused → ⊥
+not_refused (told.Given grant) is = cc is
+not_refused told.Empty is = cc is
+not_refused (told.Open ticket) is = cc is
+not_refused told.Stand is = cc is
+not_refused told.Done is = cc is
+not_refused (told.Held held) is = cc is
+not_refused told.Stopping is = cc is
+
+-- a step that found no memory, and one that has to stand, leave the run
+pub took_refused : (before after : AtCore) (run : List History) (keeps : KeepsRun before run) (session : SessionId) (moment : ℕ) (asked : MarkStep)
+    → IsStep before keeps.last session moment asked Refused after → TakesStep before.limits run session moment asked Refused run
+took_refused before after run keeps session moment asked (step_marked more is) = absurd is.shows
+took_refused before after run keeps session moment asked (step_refused more why same) = refused keeps.last keeps.last_is (wants why) refl
+
+pub record Stands (before after : AtCore) (run : List History) (session : SessionId) (moment : ℕ) (asked : MarkStep) : Type 0 where
+  pub takes : TakesStep before.limits run session moment asked Stand run
+  pub same : after ≡ before
+
+pub took_stood : (before after : AtCore) (run : List History) (keeps : KeepsRun before run) (session : SessionId) (moment : ℕ) (asked : MarkStep)
+    → before.base + before.count ≢ last_base → IsStep before keeps.last session moment asked Stand after → Stands before after run session moment asked
+took_stood before after run keeps session moment asked some (step_marked more is) = absurd is.shows
+took_stood before after run keeps session moment asked some (step_stood more rules same) =
+    record { takes = stood keeps.last keeps.last_is (not_spent_run before run keeps some) rules refl; same = same }
+
+-- a step's moment by the run
+pub moment_is : (core : AtCore) (run : List History) (reading : ℕ) → KeepsRun core run → moment_of core.moment reading ≡ next_moment run reading
+moment_is core run reading keeps = ap (λ (m : ℕ). moment_of m reading) keeps.moment
+
+pub added_later : (core : AtCore) (run items later : List History) (start : Option Start) (mark : Mark) → KeepsRun core run → start ≡ next_start core
+    → items ≡ run → later ≡ added start items mark → later ≡ run_with_mark run mark
+added_later core run items later start mark keeps starts same is =
+    is ∙ (ap (λ (s : Option Start). added s items mark) starts ∙ (ap (λ (l : List History). added (next_start core) l mark) same ∙ added_is core run keeps mark))
+
+pub not_stand : (reply : SteppedReply) → (reply ≡ told.Stand → ⊥) → turn_of (Ok reply) ≡ Stand → ⊥
+not_stand (told.Given grant) other is = cc is
+not_stand told.Empty other is = cc is
+not_stand (told.Open ticket) other is = cc is
+not_stand told.Stand other is = other refl
+not_stand told.Done other is = cc is
+not_stand (told.Held held) other is = cc is
+not_stand told.Stopping other is = cc is

@@ -1,0 +1,143 @@
+use Rattle.std.specs.Prelude.{◌≡◌, ◌≢◌, ℕ, ◌+◌, List, true, Option, IsSome, IfSome, Ok}
+use Rattle.std.proofs.Common.{ap, sym, ◌∙◌, subst, refl, rules, arith}
+use Rattle.cache_policy.specs.declared.mark.Mark.{Mark}
+use Rattle.cache_policy.specs.declared.mark.MarkStep.{MarkStep}
+use Rattle.cache_policy.specs.declared.mark.MarkReply.{MarkReply}
+use Rattle.cache_policy.specs.declared.history.History.{History}
+use Rattle.cache_policy.specs.declared.step.Reply.{Reply as Told}
+use Rattle.cache_policy.specs.Legal.{IsLegalRun}
+use Rattle.cache_policy.specs.Runs.{last_base, moment_of, run_with_mark}
+use Rattle.cache_policy.specs.Turns.{Turn, Stand, Refused, mark_step, closes, turn_of}
+use Rattle.agent_core.specs.Cores.{IsStep, mark_of}
+use Rattle.agent_core.specs.Known.{AtKnown, IsOut, next_moment, TakesStep, spent}
+use Rattle.agent_core.specs.Recording.{KeepsRun, needs_room, reply_of}
+use Rattle.agent_core.specs.Adding.{next_start}
+use Rattle.agent_core.proofs.Knowing.{legal_last, spent_run, going, no_room, has_next, can_add, keeps_same, keeps_refused, like_same, like_refused, records_stay, is_marked, Marks, made, HasRoomFor, records_marked, not_refused, not_stand, took_refused, Stands, took_stood, moment_is, added_later}
+use Rattle.agent_core.proofs.known_core.KnownCore.step.Goals as goal
+
+pub returns-then-spent-clause-takes : goal.returns-then-spent-clause-takes
+returns-then-spent-clause-takes c =
+    let all : c.self.inside.core.base + c.self.inside.core.count ≡ last_base = search rules in
+    rw (sym c.self.view_is) (spent (spent_run c.self.inside.core c.self.inside.histories.items c.self.invariant.keeps all) refl)
+
+pub returns-then-is_err-clause-takes : goal.returns-then-is_err-clause-takes
+returns-then-is_err-clause-takes c =
+    let needs : needs_room c.self.inside.core (mark_step c.args.step) ≡ true = search rules in
+    rw (sym c.self.view_is, c.room_for.ensures.items)
+    (no_room c.self.inside.core c.self.inside.histories.items c.args.session _ (mark_step c.args.step) c.self.invariant.keeps needs)
+
+-- what is known of the core before the step
+keeps_so : (c : goal.After-into_step) → KeepsRun c.self.inside.core c.self.inside.histories.items
+keeps_so c = c.self.invariant.keeps
+
+-- a step that has to stand
+stands_so : (c : goal.After-into_step) → Stands c.self.inside.core c.step.new.self c.self.inside.histories.items c.args.session
+    (moment_of c.self.inside.core.moment c.args.reading) (mark_step c.args.step)
+stands_so c =
+    let keeps = c.self.invariant.keeps in
+    let step : IsStep c.self.inside.core keeps.last c.args.session (moment_of c.self.inside.core.moment c.args.reading) (mark_step c.args.step) (turn_of (Ok c.in-Ok.reply)) c.step.new.self =
+    c.in-Ok.ensures.step keeps.last (legal_last c.self.inside.core c.self.inside.histories.items keeps) keeps.stands in
+    let more : c.self.inside.core.base + c.self.inside.core.count ≢ last_base = search rules in
+    took_stood c.self.inside.core c.step.new.self c.self.inside.histories.items keeps c.args.session _ (mark_step c.args.step) more
+    (subst (λ (r : Told). IsStep c.self.inside.core keeps.last c.args.session (moment_of c.self.inside.core.moment c.args.reading) (mark_step c.args.step) (turn_of (Ok r)) c.step.new.self) c.in-Stand.is step)
+
+pub invariant_of-self-in-Stand : goal.invariant_of-self-in-Stand
+invariant_of-self-in-Stand c =
+    let stands = stands_so c in
+    records_stay c.self.inside.core c.step.new.self c.self.inside.histories c.room_for.new.histories c.self.inside.next c.room_for.new.next
+    c.self.invariant c.room_for.ensures.items c.room_for.ensures.room c.room_for.ensures.kept
+    (like_same c.self.inside.core c.step.new.self stands.same)
+    (keeps_same c.self.inside.core c.step.new.self c.self.inside.histories.items c.self.invariant.keeps stands.same)
+
+pub returns-in-Some-clause-takes : goal.returns-in-Some-clause-takes
+returns-in-Some-clause-takes c =
+    rw (sym c.self.view_is, c.room_for.ensures.items)
+    (subst (λ (m : ℕ). TakesStep c.self.inside.core.limits c.self.inside.histories.items c.args.session m (mark_step c.args.step) Stand c.self.inside.histories.items)
+    (moment_is c.self.inside.core c.self.inside.histories.items c.args.reading c.self.invariant.keeps) (stands_so c).takes)
+
+-- the room that the step needs is there
+room_so : (c : goal.After-add-arg-in_default-1) → HasRoomFor c.self.inside.core c.self.inside.histories c.self.inside.next c.room_for.new.next (mark_step c.args.step)
+room_so c =
+    let more : c.self.inside.core.base + c.self.inside.core.count ≢ last_base = search rules in
+    let room : needs_room c.self.inside.core (mark_step c.args.step) ≡ true → IsSome c.room_for.new.next = search rules in
+    record {
+      records = c.self.invariant;
+      more = more;
+      own = subst (λ (k : AtKnown). IfSome (closes (mark_step c.args.step)) (IsOut k.run)) (sym c.self.view_is) c.requires.own;
+      kept = c.room_for.ensures.kept;
+      room = room;
+    }
+
+pub add-requires : goal.add-requires
+add-requires c =
+    let has = room_so c in
+    rw c.start_after-start.ensures
+    (can_add c.self.inside.core c.room_for.new.histories c.room_for.new.next
+    (subst (KeepsRun c.self.inside.core) (sym c.room_for.ensures.items) c.self.invariant.keeps) c.room_for.ensures.room
+    (has_next c.self.inside.core c.self.inside.histories c.self.inside.next c.room_for.new.next (mark_step c.args.step)
+    has.records has.more has.own has.kept has.room))
+
+-- a step that makes its mark
+marks_so : (c : goal.After-add) → Marks c.self.inside.core c.step.new.self c.self.inside.histories.items c.args.session
+    (moment_of c.self.inside.core.moment c.args.reading) (mark_step c.args.step) (turn_of (Ok c.in-Ok.reply))
+    (record { session = c.args.session; step = c.mark_step_of-asked.result; reply = c.mark_reply_of.result; moment = c.moment.result })
+marks_so c =
+    let keeps = c.self.invariant.keeps in
+    let more : c.self.inside.core.base + c.self.inside.core.count ≢ last_base = search rules in
+    let gone = going c.self.inside.core c.self.inside.histories.items keeps more in
+    let step : IsStep c.self.inside.core keeps.last c.args.session (moment_of c.self.inside.core.moment c.args.reading) (mark_step c.args.step) (turn_of (Ok c.in-Ok.reply)) c.step.new.self =
+    c.in-Ok.ensures.step keeps.last (legal_last c.self.inside.core c.self.inside.histories.items keeps) keeps.stands in
+    let is = is_marked c.self.inside.core c.step.new.self keeps.last c.args.session _ (mark_step c.args.step) (turn_of (Ok c.in-Ok.reply))
+    (not_stand c.in-Ok.reply c.in_default.not-Stand) (not_refused c.in-Ok.reply) gone step in
+    made c.self.inside.core c.step.new.self c.self.inside.histories.items keeps c.args.session (mark_step c.args.step) (turn_of (Ok c.in-Ok.reply)) _
+    gone c.in-Ok.ensures.limits (omega (arith, keeps.moment)) (omega (arith, keeps.stands.moment)) is _
+    (ap (λ (s : MarkStep). mark_of c.args.session s c.mark_reply_of.result c.moment.result) c.mark_step_of-asked.ensures
+    ∙ (ap (λ (r : MarkReply). mark_of c.args.session (mark_step c.args.step) r c.moment.result) c.mark_reply_of.ensures
+    ∙ ap (mark_of c.args.session (mark_step c.args.step) (reply_of (turn_of (Ok c.in-Ok.reply)))) c.moment.ensures))
+
+-- the run has it
+items_so : (c : goal.After-add) → c.add.new.histories.items ≡ run_with_mark c.self.inside.histories.items
+    (record { session = c.args.session; step = c.mark_step_of-asked.result; reply = c.mark_reply_of.result; moment = c.moment.result })
+items_so c =
+    added_later c.self.inside.core c.self.inside.histories.items c.room_for.new.histories.items c.add.new.histories.items c.start_after-start.result _
+    c.self.invariant.keeps c.start_after-start.ensures c.room_for.ensures.items c.add.ensures.items
+
+pub invariant_of-self-in_default : goal.invariant_of-self-in_default
+invariant_of-self-in_default c =
+    let more : c.self.inside.core.base + c.self.inside.core.count ≢ last_base = search rules in
+    let room : needs_room c.self.inside.core (mark_step c.args.step) ≡ true → IsSome c.room_for.new.next = search rules in
+    records_marked c.self.inside.core c.step.new.self c.self.inside.histories c.add.new.histories c.self.inside.next c.room_for.new.next c.add.new.next
+    c.args.session _ (mark_step c.args.step) (turn_of (Ok c.in-Ok.reply)) _
+    (record {
+      records = c.self.invariant;
+      more = more;
+      own = subst (λ (k : AtKnown). IfSome (closes (mark_step c.args.step)) (IsOut k.run)) (sym c.self.view_is) c.requires.own;
+      kept = c.room_for.ensures.kept;
+      room = room;
+    }) c.in-Ok.ensures.fits (marks_so c) (items_so c) c.add.ensures.room
+    (λ none. c.add.ensures.kept (c.start_after-start.ensures ∙ none))
+
+pub returns-in_default-clause-takes : goal.returns-in_default-clause-takes
+returns-in_default-clause-takes c =
+    rw (sym c.self.view_is, items_so c)
+    (subst (λ (m : ℕ). TakesStep c.self.inside.core.limits c.self.inside.histories.items c.args.session m (mark_step c.args.step) (turn_of (Ok c.in-Ok.reply))
+    (run_with_mark c.self.inside.histories.items
+    (record { session = c.args.session; step = c.mark_step_of-asked.result; reply = c.mark_reply_of.result; moment = c.moment.result })))
+    (moment_is c.self.inside.core c.self.inside.histories.items c.args.reading c.self.invariant.keeps) (marks_so c).takes)
+
+pub returns-in_default-clause-back : goal.returns-in_default-clause-back
+returns-in_default-clause-back c = not_stand c.in-Ok.reply c.in_default.not-Stand
+
+pub returns-in_default-clause-legal : goal.returns-in_default-clause-legal
+returns-in_default-clause-legal c =
+    subst (IsLegalRun c.step.new.self.limits) (sym (items_so c)) (marks_so c).keeps.legal
+
+pub returns-in-Err-clause-takes : goal.returns-in-Err-clause-takes
+returns-in-Err-clause-takes c =
+    let keeps = c.self.invariant.keeps in
+    let step : IsStep c.self.inside.core keeps.last c.args.session (moment_of c.self.inside.core.moment c.args.reading) (mark_step c.args.step) Refused c.step.new.self =
+    c.in-Err.ensures.step keeps.last (legal_last c.self.inside.core c.self.inside.histories.items keeps) keeps.stands in
+    rw (sym c.self.view_is, c.room_for.ensures.items)
+    (subst (λ (m : ℕ). TakesStep c.self.inside.core.limits c.self.inside.histories.items c.args.session m (mark_step c.args.step) Refused c.self.inside.histories.items)
+    (moment_is c.self.inside.core c.self.inside.histories.items c.args.reading keeps)
+    (took_refused c.self.inside.core c.step.new.self c.self.inside.histories.items keeps c.args.session _ (mark_step c.args.step) step))

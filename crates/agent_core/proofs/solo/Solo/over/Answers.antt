@@ -1,0 +1,17 @@
+use Rattle.std.specs.Prelude.{List, ◌≡◌}
+use Rattle.std.proofs.Common.{refl, sym, subst, ap, ◌∙◌}
+use Rattle.cache_policy.specs.declared.history.History.{History}
+use Rattle.agent_core.specs.declared.foreign.Foreign.{Foreign}
+use Rattle.agent_core.specs.Foreigners.{AllForeign}
+use Rattle.agent_core.specs.Known.{run_seat}
+use Rattle.agent_core.specs.Seating.{free}
+use Rattle.agent_core.specs.SoloInside.{lists_of}
+use Rattle.agent_core.proofs.Scripts.{lists_reversed}
+use Rattle.agent_core.proofs.solo.Solo.over.Goals as goal
+
+pub invariant_of-result : goal.invariant_of-result
+invariant_of-result g c = record {
+  seated = free (ap run_seat c.requires.fresh);
+  script_is = subst (AllForeign c.args.session) (sym (ap lists_of c.reverse.ensures.items ∙ lists_reversed c.args.script.items)) c.requires.foreign;
+  holder_is = tt;
+}

@@ -1,0 +1,138 @@
+-- A desk in memory, whose run is known, and at which other sessions take the steps of a script. This is the project's own.
+use Rattle.std.specs.Prelude.{◌≡◌, ℕ, List, [], ◌∷◌, Bool, true, false, Option, Some, None, IsSome, IfSome, ⊤}
+use Rattle.std.specs.Borrow.{GName}
+use Rattle.agent_ports.specs.Leads.{Leads}
+use Rattle.agent_ports.specs.Readings.{Readings, IsRead}
+use Rattle.agent_ports.specs.declared.session.SessionId.{SessionId}
+use Rattle.cache_policy.specs.declared.life.Limits.{Limits}
+use Rattle.cache_policy.specs.declared.mark.Mark.{Mark}
+use Rattle.cache_policy.specs.declared.mark.MarkStep.{MarkStep}
+use Rattle.cache_policy.specs.declared.history.History.{History}
+use Rattle.cache_policy.specs.Desks.{AtDesk, IsTurn}
+use Rattle.cache_policy.specs.Histories.{with_mark}
+use Rattle.cache_policy.specs.Legal.{IsLegalRun}
+use Rattle.cache_policy.specs.Return.{IsGivenRightly}
+use Rattle.cache_policy.specs.Runs.{last_history}
+use Rattle.cache_policy.specs.Turns.{Turn, Given, Stand, FitsReply, out_after}
+use Rattle.agent_core.specs.declared.foreign.Foreign.{Foreign}
+use Rattle.agent_core.specs.declared.foreign.ForeignStep.TheVariants.{CloseHeld}
+use Rattle.agent_core.specs.declared.holder.Holder.{Holder}
+use Rattle.agent_core.specs.Foreigners.{IsForeign, foreign_step, holder_after}
+use Rattle.agent_core.specs.Known.{next_moment, TakesStep}
+
+-- the desk as contracts see it: the lists of the script that are still to come among the rest, its clock, and which clock that is
+pub record SoloState (C : Type 0) : Type 0 where
+  pub limits : Limits
+  pub session : SessionId
+  pub run : List History
+  -- the number of the ticket that the session has
+  pub out : Option ℕ
+  -- the other session that has a ticket
+  pub holder : Option Holder
+  pub script : List (List Foreign)
+  pub clock : C
+  pub lent : GName
+
+-- the same by the readings of its clock
+pub record AtSolo : Type 0 where
+  pub limits : Limits
+  pub session : SessionId
+  pub run : List History
+  pub out : Option ℕ
+  pub holder : Option Holder
+  pub script : List (List Foreign)
+  pub clock : Readings
+
+abbrev pub seen : {C : Type 0} → (C → Readings) → SoloState C → AtSolo
+seen readings solo = record {
+  limits = solo.limits;
+  session = solo.session;
+  run = solo.run;
+  out = solo.out;
+  holder = solo.holder;
+  script = solo.script;
+  clock = readings solo.clock;
+}
+
+-- what it shows as a desk
+abbrev pub at_desk : AtSolo → AtDesk
+at_desk solo = record { limits = solo.limits; session = solo.session; run = Some solo.run; out = solo.out }
+
+-- A step of a session takes one reading of the clock, also where it stands or is refused, and the run goes on by it.
+pub record TakesReading (before : AtSolo) (session : SessionId) (asked : MarkStep) (turn : Turn) (after : AtSolo) : Type 0 where
+  pub reading : ℕ
+  pub read : IsRead before.clock reading after.clock
+  pub takes : TakesStep before.limits before.run session (next_moment before.run reading) asked turn after.run
+  pub fits : FitsReply asked turn
+  pub was_legal : IsLegalRun before.limits before.run
+  pub legal : IsLegalRun before.limits after.run
+
+-- a step of the desk's own session
+pub record OwnStep (before : AtSolo) (asked : MarkStep) (turn : Turn) (after : AtSolo) : Type 0 where
+  pub takes : TakesReading before before.session asked turn after
+  pub same : after ≡ record before { run = after.run; clock = after.clock; out = out_after before.out asked turn }
+
+-- A step of another session. One that stands or is refused is dropped, and a Close of a session without a ticket is passed over.
+pub data PlaysStep (before : AtSolo) (foreign : Foreign) (after : AtSolo) : Type 0 where
+  played : (asked : MarkStep) (turn : Turn) → IsForeign before.session foreign → foreign_step before.holder foreign ≡ Some asked
+      → TakesReading before foreign.session asked turn after
+      → after ≡ record before { run = after.run; clock = after.clock; holder = holder_after before.holder foreign.session asked turn }
+      → PlaysStep before foreign after
+  passed_over : foreign_step before.holder foreign ≡ None → after ≡ before → PlaysStep before foreign after
+
+-- the next list of the script, if there is one
+pub data PlaysNext (before : AtSolo) : Bool → AtSolo → Type 0 where
+  next_list : {after : AtSolo} (list : List Foreign) (later : List (List Foreign)) → before.script ≡ list ∷ later
+      → Leads PlaysStep (record before { script = later }) list after → PlaysNext before true after
+  at_end : {after : AtSolo} → before.script ≡ [] → after ≡ before → PlaysNext before false after
+
+-- the step that ends a session's prompt, and keeps nothing
+abbrev pub closing : SessionId → Foreign
+closing session = record { session = session; step = CloseHeld None }
+
+-- the other session that has a ticket gives it back, and keeps nothing
+pub record ClosesHolder (before after : AtSolo) : Type 0 where
+  pub holder : Holder
+  pub holder_is : before.holder ≡ Some holder
+  pub plays : PlaysStep before (closing holder.session) after
+
+-- A step that stood is taken again behind the next list of the script, as long as it stands; and behind the last one when the ticket that
+-- is out was given back.
+pub data Waits (asked : MarkStep) : AtSolo → Turn → AtSolo → Type 0 where
+  again : {before there mid after : AtSolo} {turn : Turn} → PlaysNext before true there → OwnStep there asked Stand mid → Waits asked mid turn after
+      → Waits asked before turn after
+  goes : {before there after : AtSolo} {turn : Turn} → PlaysNext before true there → OwnStep there asked turn after → Waits asked before turn after
+  gives_back : {before there after : AtSolo} {turn : Turn} → before.script ≡ [] → ClosesHolder before there → OwnStep there asked turn after
+      → Waits asked before turn after
+
+-- the own step, and what it waits for
+pub data TakesOwn (asked : MarkStep) : AtSolo → Turn → AtSolo → Type 0 where
+  at_once : {before after : AtSolo} {turn : Turn} → OwnStep before asked turn after → TakesOwn asked before turn after
+  waiting : {before mid after : AtSolo} {turn : Turn} → OwnStep before asked Stand mid → Waits asked mid turn after → TakesOwn asked before turn after
+
+-- Nothing comes back: the mark that was replied Given is the last one of the run, and names the newest entry for its request, which was
+-- neither taken away nor is past a lifetime.
+pub record EndsGiven (limits : Limits) (run : List History) (number : ℕ) : Type 0 where
+  pub before : History
+  pub mark : Mark
+  pub last_is : last_history run ≡ Some (with_mark before mark)
+  pub rightly : IsGivenRightly limits before mark number
+
+abbrev pub IsRightly : Limits → List History → Turn → Type 0
+IsRightly limits run (Given grant) = EndsGiven limits run grant.entry.number
+IsRightly limits run turn = ⊤
+
+-- A turn: the next list of the script, and then the own step, whose mark is the last one. What each step's reading is, and which mark it
+-- makes, is said by `TakesReading`.
+pub record TurnsSolo (before : AtSolo) (asked : MarkStep) (turn : Turn) (after : AtSolo) : Type 0 where
+  pub there : AtSolo
+  pub listed : Bool
+  pub plays : PlaysNext before listed there
+  pub own : TakesOwn asked there turn after
+  pub rightly : IsRightly before.limits after.run turn
+  pub is : IsTurn (at_desk before) asked turn (at_desk after)
+
+-- the same at the desk, which keeps its clock
+pub record SoloTurn {C : Type 0} (readings : C → Readings) (before : SoloState C) (asked : MarkStep) (turn : Turn) (after : SoloState C) : Type 0 where
+  pub turns : TurnsSolo (seen readings before) asked turn (seen readings after)
+  pub lent : after.lent ≡ before.lent

@@ -1,0 +1,49 @@
+use agent_ports::SessionId;
+use cache_policy::{CacheId, Life, Mode, Secret, Under, Way};
+
+/// A step that another session takes at a desk.
+#[derive(Drop)]
+pub struct Foreign {
+    pub session: SessionId,
+    pub step: ForeignStep,
+}
+
+/// A step that is told before it is taken, and so without a ticket.
+#[derive(Drop)]
+pub enum ForeignStep {
+    /// Asks for a passphrase. Where it opens a prompt, the passphrase can be kept under its id and mode.
+    Ask {
+        id: CacheId,
+        mode: Mode,
+        way: Way,
+    },
+    /// Asks for the seat at the prompt, whatever the cache has.
+    Seat {
+        under: Option<Under>,
+    },
+    /// Gives back the ticket that its session has, and may keep what was typed. It is passed over where that session has none.
+    CloseHeld {
+        keep: Option<Secret>,
+    },
+    /// Stores a passphrase.
+    Put {
+        id: CacheId,
+        mode: Mode,
+        life: Life,
+        secret: Secret,
+    },
+    /// Forgets what is stored under an id, in the modes that cover the named one.
+    Clear {
+        id: CacheId,
+        mode: Mode,
+    },
+    /// Forgets everything.
+    Flush,
+    /// Looks whether a passphrase is there, without using it.
+    Peek {
+        id: CacheId,
+        mode: Mode,
+    },
+    /// Opens no prompt from now on.
+    Stop,
+}

@@ -1,0 +1,275 @@
+ghost use Rattle.std.specs.Prelude.{◌≡◌, ◌+◌, ◌<◌, ◌∷◌, [], true, None, IsSome, IfSome, OnOk, OnErr, IfOk, vec_len, vec_capacity};
+ghost use Rattle.std.specs.Option.{is_some};
+ghost use Rattle.cache_policy.specs.declared.bounds.TheConstants.{MAX_MARKS};
+ghost use Rattle.cache_policy.specs.Legal.{IsLegalRun};
+ghost use Rattle.cache_policy.specs.Replay.{first_history};
+ghost use Rattle.cache_policy.specs.Runs.{last_base, run_with_mark};
+ghost use Rattle.cache_policy.specs.Turns.{mark_step, opens, closes, FitsReply};
+ghost use Rattle.agent_core.specs.Recording.{IsRoom, HasPlace, needs_room};
+ghost use Rattle.agent_core.specs.Adding.{CanAdd, begun, added, next_start};
+
+use crate::Core;
+use crate::cache_core::give_up;
+use crate::stepped::{Opening, Stepped, mark_reply_of, mark_step_of};
+use agent_ports::SessionId;
+use cache_policy::{
+    Held, History, Limits, MAX_MARKS, Mark, MarkStep, Marks, NoMemory, Refused, Reply, Step, Way,
+};
+use std::alloc::Global;
+use std::marker::Model;
+
+/// A core that keeps its run. The room for the marks of a history is reserved when that begins, and not touched.
+#[derive(Drop)]
+pub struct KnownCore {
+    core: Core,
+    histories: Vec<History>,
+    // The room for the next history, where it had to be reserved already.
+    next: Option<Marks>,
+    alloc: Global,
+}
+
+impl Model for KnownCore {
+    ghost use Rattle.agent_core.specs.Known.{AtKnown};
+
+    ghost Value = { AtKnown };
+
+    ghost use Rattle.agent_core.specs.Recording.{Records};
+
+    ghost view = { λ known. record { limits = known.core.limits; run = known.histories.items } };
+
+    ghost invariant = { λ known. Records known.core known.histories known.next };
+}
+
+/// How the next history begins.
+#[derive(Drop)]
+pub(crate) struct Start {
+    pub(crate) base: u64,
+    pub(crate) held: Option<Held>,
+    pub(crate) stopped: bool,
+}
+
+impl KnownCore {
+    ghost use Rattle.agent_core.specs.Known.{IsOut, next_moment, TakesStep};
+    ghost use Rattle.agent_core.specs.Stepped.{turn_of_stepped, HandsBack};
+
+    /// A core without entries, whose run has one history without marks. It reserves the room for them.
+    pub fn new(alloc: Global, limits: Limits) -> Result<KnownCore, NoMemory>
+        ensures { IfOk result (λ known. known ≡ record { limits = limits; run = first_history ∷ [] }) }
+    {
+        let mut histories = Vec::with_capacity(alloc, 1)?;
+        let marks = Marks::with_room(alloc)?;
+        histories.push_reserved(History {
+            base: 0,
+            held: None,
+            stopped: false,
+            marks,
+        });
+        Ok(KnownCore {
+            core: Core::new(alloc, limits),
+            histories,
+            next: None,
+            alloc,
+        })
+    }
+
+    /// Takes a step of a session, with this reading of the clock.
+    pub(crate) fn step(&mut self, reading: u64, session: SessionId, step: Step) -> Stepped
+        requires own { IfSome (closes (mark_step step)) (IsOut self.old.run) }
+        ensures takes { TakesStep self.old.limits self.old.run session (next_moment self.old.run reading) (mark_step step) (turn_of_stepped result) self.new.run }
+        ensures fits { FitsReply (mark_step step) (turn_of_stepped result) }
+        ensures back { HandsBack step result }
+        ensures limits { self.new.limits ≡ self.old.limits }
+        ensures was_legal { IsLegalRun self.old.limits self.old.run }
+        ensures legal { IsLegalRun self.new.limits self.new.run }
+    {
+        if self.core.spent() {
+            give_up(step);
+            return Stepped::Replied(Reply::Stopping);
+        }
+        if room_for(
+            &self.core,
+            &mut self.histories,
+            &mut self.next,
+            self.alloc,
+            &step,
+        )
+        .is_err()
+        {
+            return Stepped::Refused(step);
+        }
+        let start = start_after(&self.core);
+        let opening = Opening::of(&step);
+        let asked = mark_step_of(&step);
+        match self.core.step(reading, session, step) {
+            Ok(reply) => match reply {
+                Reply::Stand => {
+                    let_go(asked);
+                    match opening {
+                        Some(opening) => Stepped::Stood(opening.into_step()),
+                        None => unreachable!(),
+                    }
+                }
+                reply => {
+                    let mark = Mark {
+                        session,
+                        step: asked,
+                        reply: mark_reply_of(&reply),
+                        moment: self.core.moment(),
+                    };
+                    add(&mut self.histories, &mut self.next, start, mark);
+                    Stepped::Replied(reply)
+                }
+            },
+            Err(Refused { step }) => {
+                let_go(asked);
+                Stepped::Refused(step)
+            }
+        }
+    }
+
+    /// The run, the present history last.
+    pub fn histories(&self) -> &[History]
+        ensures { result.now ≡ self.now.run }
+    {
+        self.histories.as_slice()
+    }
+}
+
+/// Ends a step that made no mark.
+fn let_go(_asked: MarkStep) {}
+
+/// How the next history begins, where this one is full.
+fn start_after(core: &Core) -> Option<Start>
+    requires { core.now.base < last_base }
+    ensures { result ≡ next_start core.now }
+{
+    if core.count() == MAX_MARKS {
+        Some(Start {
+            base: core.base() + MAX_MARKS,
+            held: core.held(),
+            stopped: core.stopped(),
+        })
+    } else {
+        None
+    }
+}
+
+/// Adds a mark to the last history, or to one that begins so.
+fn add(histories: &mut Vec<History>, next: &mut Option<Marks>, start: Option<Start>, mark: Mark)
+    requires { CanAdd start histories.old next.old }
+    ensures items { histories.new.items ≡ added start histories.old.items mark }
+    ensures room { IsRoom histories.new next.new }
+    ensures kept { start ≡ None → next.new ≡ next.old }
+{
+    match start {
+        Some(start) => begin_history(histories, next, start, mark),
+        None => add_mark(histories, mark),
+    }
+}
+
+fn begin_history(histories: &mut Vec<History>, next: &mut Option<Marks>, start: Start, mark: Mark)
+    requires some { IsSome next.old }
+    requires room { IsRoom histories.old next.old }
+    ensures items { histories.new.items ≡ begun start histories.old.items mark }
+    ensures taken { next.new ≡ None }
+{
+    let Some(mut marks) = next.take() else {
+        unreachable!()
+    };
+    marks.push(mark);
+    let Start {
+        base,
+        held,
+        stopped,
+    } = start;
+    histories.push_reserved(History {
+        base,
+        held,
+        stopped,
+        marks,
+    });
+}
+
+fn add_mark(histories: &mut Vec<History>, mark: Mark)
+    requires { HasPlace histories.old.items }
+    ensures items { histories.new.items ≡ run_with_mark histories.old.items mark }
+    ensures len { vec_len histories.new ≡ vec_len histories.old }
+    ensures capacity { vec_capacity histories.new ≡ vec_capacity histories.old }
+{
+    let Some(mut last) = histories.pop() else {
+        unreachable!()
+    };
+    last.marks.push(mark);
+    histories.push_reserved(last);
+}
+
+/// Reserves the room for the next history, where a step needs it.
+fn room_for(
+    core: &Core,
+    histories: &mut Vec<History>,
+    next: &mut Option<Marks>,
+    alloc: Global,
+    step: &Step,
+) -> Result<(), NoMemory>
+    requires { IsRoom histories.old next.old }
+    ensures ok { OnOk result (needs_room core.now (mark_step step.now) ≡ true → IsSome next.new) }
+    ensures err { OnErr result (needs_room core.now (mark_step step.now) ≡ true) }
+    ensures items { histories.new.items ≡ histories.old.items }
+    ensures room { IsRoom histories.new next.new }
+    ensures kept { IsSome next.old → IsSome next.new }
+{
+    if !needs_room(core, step) {
+        return Ok(());
+    }
+    reserve_next(histories, next, alloc)
+}
+
+fn reserve_next(
+    histories: &mut Vec<History>,
+    next: &mut Option<Marks>,
+    alloc: Global,
+) -> Result<(), NoMemory>
+    requires { IsRoom histories.old next.old }
+    ensures ok { OnOk result (IsSome next.new) }
+    ensures items { histories.new.items ≡ histories.old.items }
+    ensures room { IsRoom histories.new next.new }
+    ensures kept { IsSome next.old → IsSome next.new }
+{
+    if next.is_none() {
+        histories.reserve(1)?;
+        *next = Some(Marks::with_room(alloc)?);
+    }
+    Ok(())
+}
+
+/// Whether a step begins a history, or makes the last mark of one and may leave a ticket out. A Close does neither.
+fn needs_room(core: &Core, step: &Step) -> bool
+    ensures { result ≡ needs_room core.now (mark_step step.now) }
+{
+    if is_close(step) {
+        return false;
+    }
+    let count = core.count();
+    count == MAX_MARKS || count + 1 == MAX_MARKS && (core.is_held() || opens_prompt(step))
+}
+
+pub(crate) fn is_close(step: &Step) -> bool
+    ensures { result ≡ is_some (closes (mark_step step.now)) }
+{
+    matches!(step, Step::Close { .. })
+}
+
+/// Whether a step wants the prompt.
+fn opens_prompt(step: &Step) -> bool
+    ensures { result ≡ opens (mark_step step.now) }
+{
+    match step {
+        Step::Seat { under: _ } => true,
+        Step::Ask {
+            id: _,
+            mode: _,
+            way,
+        } => *way == Way::Prompt,
+        _ => false,
+    }
+}

@@ -1,0 +1,128 @@
+ghost use Rattle.std.specs.Prelude.{◌≡◌, false, IfSome, IsNone, Ok};
+ghost use Rattle.cache_policy.specs.Turns.{mark_step, turn_of, opens, Stand};
+ghost use Rattle.agent_core.specs.Recording.{reply_of};
+ghost use Rattle.agent_core.specs.Stepped.{opening_step};
+
+use cache_policy::{CacheId, MarkReply, MarkStep, Mode, Reply, Step, Under, Way};
+
+/// How a step came out.
+pub(crate) enum Stepped {
+    Replied(Reply),
+    /// Another session has the seat. The step is to be taken again later.
+    Stood(Step),
+    /// There was no memory for it.
+    Refused(Step),
+}
+
+/// A step that wants the prompt. It may have to wait, and is taken again then.
+#[derive(Drop)]
+pub(crate) enum Opening {
+    Ask { id: CacheId, mode: Mode },
+    Seat { under: Option<Under> },
+}
+
+impl Opening {
+    /// The step once more, if it wants the prompt.
+    pub(crate) fn of(step: &Step) -> Option<Opening>
+        ensures same { IfSome result (λ opening. opening_step opening ≡ step.now) }
+        ensures none { IsNone result → opens (mark_step step.now) ≡ false }
+    {
+        match step {
+            Step::Ask {
+                id,
+                mode,
+                way: Way::Prompt,
+            } => Some(Opening::Ask {
+                id: id.copy(),
+                mode: *mode,
+            }),
+            Step::Seat { under } => Some(Opening::Seat {
+                under: copy_under(under),
+            }),
+            _ => None,
+        }
+    }
+
+    pub(crate) fn into_step(self) -> Step
+        ensures { result ≡ opening_step self }
+    {
+        match self {
+            Opening::Ask { id, mode } => Step::Ask {
+                id,
+                mode,
+                way: Way::Prompt,
+            },
+            Opening::Seat { under } => Step::Seat { under },
+        }
+    }
+}
+
+pub(crate) fn copy_under(under: &Option<Under>) -> Option<Under>
+    ensures { result ≡ under.now }
+{
+    match under {
+        Some(Under { id, mode }) => Some(Under {
+            id: id.copy(),
+            mode: *mode,
+        }),
+        None => None,
+    }
+}
+
+/// The step as a mark has it.
+pub(crate) fn mark_step_of(step: &Step) -> MarkStep
+    ensures { result ≡ mark_step step.now }
+{
+    match step {
+        Step::Ask { id, mode, way } => MarkStep::Ask {
+            id: id.copy(),
+            mode: *mode,
+            way: *way,
+        },
+        Step::Seat { under } => MarkStep::Seat {
+            under: copy_under(under),
+        },
+        Step::Close { ticket, keep } => MarkStep::Close {
+            ticket: ticket.number(),
+            keep: match keep {
+                Some(secret) => Some(secret.copy()),
+                None => None,
+            },
+        },
+        Step::Put {
+            id,
+            mode,
+            life,
+            secret,
+        } => MarkStep::Put {
+            id: id.copy(),
+            mode: *mode,
+            life: *life,
+            secret: secret.copy(),
+        },
+        Step::Clear { id, mode } => MarkStep::Clear {
+            id: id.copy(),
+            mode: *mode,
+        },
+        Step::Flush => MarkStep::Flush,
+        Step::Peek { id, mode } => MarkStep::Peek {
+            id: id.copy(),
+            mode: *mode,
+        },
+        Step::Stop => MarkStep::Stop,
+    }
+}
+
+/// The reply as a mark has it.
+pub(crate) fn mark_reply_of(reply: &Reply) -> MarkReply
+    ensures { result ≡ reply_of (turn_of (Ok reply.now)) }
+{
+    match reply {
+        Reply::Given(grant) => MarkReply::Given(grant.number()),
+        Reply::Empty => MarkReply::Empty,
+        Reply::Open(_) => MarkReply::Open,
+        Reply::Stand | Reply::Done => MarkReply::Done,
+        Reply::Held(held) => MarkReply::Held(*held),
+        Reply::Stopping => MarkReply::Stopping,
+    }
+}
