@@ -11,7 +11,7 @@ use Rattle.assuan_line.specs.declared.reader.Took.{Took}
 use Rattle.assuan_line.proofs.ReadingOn.{fewer_so, fault_so}
 use Rattle.assuan_server.specs.Asking.{Gather, Inquire, ReadsAnswer as AnswerSays}
 use Rattle.assuan_server.specs.Connections.{Connection}
-use Rattle.assuan_server.specs.Inquiries.{Outcome, Data, Inquiry as Inquires, ComesTo, is_skipped, outcome_of_secret, ended_of}
+use Rattle.assuan_server.specs.Inquiries.{Outcome, Data, Inquiry as Inquires, ComesTo, is_skipped, Answers, outcome_of_secret, ended_of}
 use Rattle.assuan_server.specs.Inquiries as outcome
 use Rattle.assuan_server.specs.declared.inquiry.InquiredSecret.{InquiredSecret}
 use Rattle.assuan_server.specs.declared.inquiry.InquiredSecret.TheVariants as inquired
@@ -62,9 +62,9 @@ module _ (w : World) (desk : w.Desk) (ends : w.Ends) where
   -- `mid` is the connection after the limit was told
   module _ (start mid now : Connection) (said : WritesText limit_line start (Ok tt) mid) where
     -- the client answered
-    module _ (going : mid.reader.ended ≡ None) (what : Outcome) (answer : Took) (gathered : Gather (AnswerSays MAX_SECRET_LEN (Some what)) secret_text mid answer now) where
+    module _ (going : mid.reader.ended ≡ None) (what : Outcome) (answer : Took) (gathered : Gather (AnswerSays MAX_SECRET_LEN (Answers (Some what))) secret_text mid answer now) where
       answer_read : (total : ℕ) (rest left : List ℕ) → IsTotal total now.reader left
-          → AnswerSays MAX_SECRET_LEN (Some what) (mid.reader.ahead ++ rest) answer now.reader left
+          → AnswerSays MAX_SECRET_LEN (Answers (Some what)) (mid.reader.ahead ++ rest) answer now.reader left
           → ReadsAnswer total MAX_SECRET_LEN (mid.reader.ahead ++ rest) what (unread now.reader left)
       answer_read total rest left is read =
           let inquiry : Inquires MAX_SECRET_LEN (mid.reader.ahead ++ rest) answer read.0 now.reader left = read.1 in
@@ -90,9 +90,9 @@ module _ (w : World) (desk : w.Desk) (ends : w.Ends) where
 
     module _ (going : mid.reader.ended ≡ None) (inquired_what : InquiredSecret) (inquires : InquiresSecret mid inquired_what now) where
       -- the client was asked where something came of it
-      inquire_so : (what : Outcome) → outcome_of_secret inquired_what ≡ Some what → Inquire MAX_SECRET_LEN secret_text (Some what) mid now
+      inquire_so : (what : Outcome) → outcome_of_secret inquired_what ≡ Some what → Inquire MAX_SECRET_LEN secret_text (Answers (Some what)) mid now
       inquire_so what says =
-          subst (λ o. Inquire MAX_SECRET_LEN secret_text o mid now) says
+          subst (λ o. Inquire MAX_SECRET_LEN secret_text (Answers o) mid now) says
           (inquires.inquiry (λ e. absurd (cc (sym says ∙ ap outcome_of_secret e))))
 
       module _ (what : Outcome) (says : outcome_of_secret inquired_what ≡ Some what) where

@@ -11,7 +11,7 @@ use Rattle.agent_commands.specs.Fields.{text}
 use Rattle.agent_commands.specs.Requests.{GetFields, request_of, get_passphrase}
 use Rattle.assuan_server.specs.declared.errors.Code.TheVariants.{NotSupported, UnknownCommand, Parameter}
 use Rattle.agent_commands.specs.declared.request.Info.TheVariants.{Version, Listed}
-use Rattle.agent_commands.specs.declared.request.CacheCommand.TheVariants.{Nop, Bye, SetOption, GetInfo, PresetPassphrase, ClearPassphrase, KillAgent}
+use Rattle.agent_commands.specs.declared.request.CacheCommand.TheVariants.{Nop, Bye, SetOption, GetInfo, PresetPassphrase, ClearPassphrase, GetConfirmation, KillAgent}
 use Rattle.agent_commands.specs.declared.request.Request.TheVariants.{Cache, Bad}
 
 -- GET_PASSPHRASE with no option and no texts
@@ -162,6 +162,14 @@ clear_ssh = refl
 other_mode : request_of (codes "CLEAR_PASSPHRASE --mode=any id1") ≡ Bad Parameter
 unfolding request_of command_named
 other_mode = refl
+
+confirmation : request_of (codes "GET_CONFIRMATION Really+send now") ≡ Cache (GetConfirmation (text (codes "Really send")))
+unfolding request_of command_named percent_encoding_on_literals
+confirmation = refl
+
+usual_confirmation : request_of (codes "get_confirmation X") ≡ Cache (GetConfirmation (text (codes "Please confirm")))
+unfolding request_of command_named
+usual_confirmation = refl
 
 kill : request_of (codes "KILLAGENT") ≡ Cache KillAgent
 unfolding request_of command_named

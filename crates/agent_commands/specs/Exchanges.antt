@@ -1,6 +1,6 @@
 -- Requests and what is done for them, as the GnuPG manual has them ("Agent's Assuan protocol"). The codes, the texts and the order of
 -- what is done are this project's own.
-use Rattle.std.specs.Prelude.{◌≡◌, ◌++◌, ℕ, Bool, true, false, List, [], ◌∷◌, codes, Option, Some, None, Result, Ok}
+use Rattle.std.specs.Prelude.{◌≡◌, ◌++◌, ℕ, Bool, true, false, List, [], ◌∷◌, codes, Option, Some, None, if◌then◌else◌}
 use Rattle.assuan_server.specs.Inquiries.{Data}
 use Rattle.assuan_server.specs.Inquiries as outcome
 use Rattle.assuan_server.specs.Written.{status_text}
@@ -22,9 +22,9 @@ use Rattle.session_options.specs.declared.options.OptionAnswer.TheVariants.{Set,
 use Rattle.session_options.specs.declared.rules.Rules.{Rules}
 use Rattle.agent_commands.specs.Answers.{ok, closing, failed, help, IsInfo, IsPassphrase}
 use Rattle.agent_commands.specs.Events.{Event, Sent, Cut, Inquiry, Inquired, Asked, NotAsked, cache_turn}
-use Rattle.agent_commands.specs.Requests.{request_of, get_of}
+use Rattle.agent_commands.specs.Requests.{request_of}
 use Rattle.agent_commands.specs.declared.request.CacheCommand.{CacheCommand}
-use Rattle.agent_commands.specs.declared.request.CacheCommand.TheVariants.{Nop, Reset, Bye, Help, SetOption, GetInfo, GetPassphrase, PresetPassphrase, ClearPassphrase, ReloadAgent, KillAgent}
+use Rattle.agent_commands.specs.declared.request.CacheCommand.TheVariants.{Nop, Reset, Bye, Help, SetOption, GetInfo, GetPassphrase, PresetPassphrase, ClearPassphrase, GetConfirmation, ReloadAgent, KillAgent}
 use Rattle.agent_commands.specs.declared.request.Info.{Info}
 use Rattle.agent_commands.specs.declared.request.QuietRequest.{QuietRequest}
 use Rattle.agent_commands.specs.declared.request.Request.{Request}
@@ -132,29 +132,17 @@ pub data Exchange {F : Type 0} (rules : Rules) (before : Choices) : Request → 
       (Sent limit_line ∷ inquiry (Asked (Data secret)) ∷ cache_turn (put id life secret) turn ∷ Sent text ∷ []) before went
   none_brought : {id : List ℕ} {life : Life} {events : List (Event F)} {went : Went} → rules.allow_preset ≡ true → BringsNone events went
       → Exchange rules before (Cache (PresetPassphrase id life None)) events before went
+  -- it isn't served yet
+  unserved : {description : _} → Exchange rules before (Cache (GetConfirmation description)) (Sent (failed code.UnknownCommand) ∷ []) before On
   one_turn : {command : CacheCommand} {step : MarkStep} {text answer : List ℕ} {turn : Turn} {done went : Went} → IsOneTurn rules command step text done
       → ComesOut text done turn answer went
       → Exchange rules before (Cache command) (cache_turn step turn ∷ Sent answer ∷ []) before went
 
--- the options and arguments of a GET_PASSPHRASE that asks the cache alone, by what is needed of it to answer it
-pub record IsQuietGet (options arguments : List (List ℕ)) (request : QuietRequest) : Type 0 where
-  pub check : Bool
-  pub no_ask : Bool
-  pub repeat : ℕ
-  pub quality : Bool
-  pub texts : Option Texts
-  pub get_is : get_of options arguments ≡ Ok (GetPassphrase request.plain check no_ask repeat quality request.id texts)
-  pub quiet : is_quiet no_ask texts ≡ true
-
--- a line that is one
-pub record IsQuiet (line : List ℕ) (request : QuietRequest) : Type 0 where
-  pub check : Bool
-  pub no_ask : Bool
-  pub repeat : ℕ
-  pub quality : Bool
-  pub texts : Option Texts
-  pub line_is : request_of line ≡ Cache (GetPassphrase request.plain check no_ask repeat quality request.id texts)
-  pub quiet : is_quiet no_ask texts ≡ true
+-- what is needed of a request that asks the cache alone, to answer it
+abbrev pub quiet_of : Request → Option QuietRequest
+quiet_of (Cache (GetPassphrase plain check no_ask repeat quality id texts)) =
+    if is_quiet no_ask texts then Some (record { plain = plain; id = id }) else None
+quiet_of _ = None
 
 -- the exchange of a line
 abbrev pub LineExchange : {F : Type 0} → Rules → Choices → List ℕ → List (Event F) → Choices → Went → Type 0

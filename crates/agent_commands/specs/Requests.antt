@@ -5,7 +5,7 @@ use Rattle.std.specs.Str.{bytes_eq}
 use Rattle.assuan_text.specs.Options.{options_of, arguments_of, has_option, last_option, last_value}
 use Rattle.assuan_text.specs.Words.{command_of, rest_of, words}
 use Rattle.agent_commands.specs.Names.{command_named, info_named, is_listed}
-use Rattle.agent_commands.specs.Fields.{cache_id, unless_placeholder, text, texts, repeats, life, mode_of, given_passphrase}
+use Rattle.agent_commands.specs.Fields.{cache_id, unless_placeholder, text, text_or, texts, repeats, life, mode_of, given_passphrase}
 use Rattle.assuan_server.specs.declared.errors.Code.{Code}
 use Rattle.assuan_server.specs.declared.errors.Code.TheVariants.{NotSupported, UnknownCommand, Parameter}
 use Rattle.agent_commands.specs.declared.names.CommandName.{CommandName}
@@ -14,7 +14,7 @@ use Rattle.agent_commands.specs.declared.request.Texts.{Texts}
 use Rattle.agent_commands.specs.declared.request.Info.{Info}
 use Rattle.agent_commands.specs.declared.request.Info.TheVariants.{Listed}
 use Rattle.agent_commands.specs.declared.request.CacheCommand.{CacheCommand}
-use Rattle.agent_commands.specs.declared.request.CacheCommand.TheVariants.{Nop, Reset, Bye, Help, SetOption, GetInfo, GetPassphrase, PresetPassphrase, ClearPassphrase, ReloadAgent, KillAgent}
+use Rattle.agent_commands.specs.declared.request.CacheCommand.TheVariants.{Nop, Reset, Bye, Help, SetOption, GetInfo, GetPassphrase, PresetPassphrase, ClearPassphrase, GetConfirmation, ReloadAgent, KillAgent}
 use Rattle.agent_commands.specs.declared.request.Request.{Request}
 use Rattle.agent_commands.specs.declared.request.Request.TheVariants.{Cache, Bad}
 
@@ -87,6 +87,11 @@ clear_of options (word ∷ more) = do
   id ← needed (cache_id word)
   Ok (ClearPassphrase id mode)
 
+-- GET_CONFIRMATION DESCRIPTION
+abbrev pub confirmation_of : List (List ℕ) → Result CacheCommand Code
+confirmation_of [] = Err Parameter
+confirmation_of (word ∷ more) = Ok (GetConfirmation (text_or (codes "Please confirm") word))
+
 -- a command, and what comes after it. OPTION's text is kept as it is.
 abbrev pub asked_by : CommandName → List ℕ → Result CacheCommand Code
 asked_by name.Nop rest = Ok Nop
@@ -100,6 +105,7 @@ asked_by name.GetInfo rest = do
 asked_by name.GetPassphrase rest = get_of (options_of (words rest)) (arguments_of (words rest))
 asked_by name.PresetPassphrase rest = preset_of (options_of (words rest)) (arguments_of (words rest))
 asked_by name.ClearPassphrase rest = clear_of (options_of (words rest)) (arguments_of (words rest))
+asked_by name.GetConfirmation rest = confirmation_of (arguments_of (words rest))
 asked_by name.ReloadAgent rest = Ok ReloadAgent
 asked_by name.KillAgent rest = Ok KillAgent
 

@@ -3,7 +3,7 @@ use Rattle.std.specs.Prelude.{◌≡◌, ◌≢◌, ℕ, List, [], ◌∷◌, �
 use Rattle.agent_ports.specs.declared.link.Sent.TheVariants.{All, Failed as SentPart}
 use Rattle.assuan_server.specs.Connections.{Connection}
 use Rattle.assuan_server.specs.Asking.{Inquire, IsNotAsked}
-use Rattle.assuan_server.specs.Inquiries.{outcome_of_secret, inquire_text}
+use Rattle.assuan_server.specs.Inquiries.{Answers, outcome_of_secret, inquire_text}
 use Rattle.assuan_server.specs.Written.{HasWritten}
 use Rattle.assuan_server.specs.declared.errors.Code.{Code}
 use Rattle.assuan_server.specs.declared.errors.Code.TheVariants as code
@@ -95,7 +95,7 @@ answer_of secret_inquired.WriteFault = Part (record { response = None; went = En
 
 -- what an inquiry for a passphrase did to its connection
 pub record InquiresSecret (before : Connection) (inquired : InquiredSecret) (after : Connection) : Type 0 where
-  pub inquiry : inquired ≢ secret_inquired.WriteFault → Inquire MAX_SECRET_LEN secret_text (outcome_of_secret inquired) before after
+  pub inquiry : inquired ≢ secret_inquired.WriteFault → Inquire MAX_SECRET_LEN secret_text (Answers (outcome_of_secret inquired)) before after
   pub cut : inquired ≡ secret_inquired.WriteFault → IsNotAsked secret_text before after
 
 -- the client was asked for a passphrase, unless the limit couldn't be told

@@ -6,8 +6,9 @@ ghost use Rattle.cache_policy.specs.Turns.{mark_step, closes};
 ghost use Rattle.session_options.specs.Choices.{Choices};
 ghost use Rattle.session_options.specs.declared.rules.Rules.{Rules as TheRules};
 ghost use Rattle.agent_commands.specs.Answers.{IsInfo};
-ghost use Rattle.agent_commands.specs.Exchanges.{Exchange, LineExchange, IsQuiet, is_quiet, option_text, put};
+ghost use Rattle.agent_commands.specs.Exchanges.{Exchange, LineExchange, quiet_of, is_quiet, option_text, put};
 ghost use Rattle.agent_commands.specs.Outside.{world};
+ghost use Rattle.agent_commands.specs.Requests.{request_of};
 ghost use Rattle.agent_commands.specs.States.{session_state, AnswersRequest};
 ghost use Rattle.agent_commands.specs.Steps.{CarriesOut, RespondsTo, IsChange, TakesTurn, AsksSecret, IsText, answer_of};
 ghost use Rattle.agent_commands.specs.declared.request.CacheCommand.TheVariants as command;
@@ -92,7 +93,7 @@ pub fn run_quiet<L: Link, D: Desk>(
     desk: &mut D,
 ) -> Went
     requires { IsOpen conn.old }
-    ensures { (rules : TheRules) (options : Choices) (line : List ℕ) → IsQuiet line request.now
+    ensures { (rules : TheRules) (options : Choices) (line : List ℕ) → quiet_of (request_of line) ≡ Some request.now
         → AnswersRequest {w = world D.turned} (λ before. LineExchange rules before line) options (session_state D.turned conn.old desk.old)
         result options (session_state D.turned conn.new desk.new) }
 {
@@ -146,6 +147,8 @@ fn carry_out<L: Link, D: Desk>(
             preset_passphrase(id, *life, secret, rules, conn, desk)
         }
         CacheCommand::ClearPassphrase { id, mode } => clear_passphrase(id, *mode, desk),
+        // Prompts aren't served yet.
+        CacheCommand::GetConfirmation { description: _ } => Answer::failed(Code::UnknownCommand),
         CacheCommand::ReloadAgent => take_turn(Step::Flush, Answer::on(Response::Ok), desk),
         CacheCommand::KillAgent => take_turn(
             Step::Stop,

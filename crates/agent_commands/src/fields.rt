@@ -75,7 +75,7 @@ pub(crate) fn has_texts(text: &[u8]) -> Option<bool>
 }
 
 /// The text that a word means, or the usual one where it stands for none.
-fn text_or(usual: &[u8], word: &[u8]) -> Text
+pub(crate) fn text_or(usual: &[u8], word: &[u8]) -> Text
     requires usual { length usual.now ≤ MAX_LINE_LEN }
     requires word { length word.now ≤ MAX_LINE_LEN }
     ensures { result ≡ text_or usual.now word.now }

@@ -5,7 +5,7 @@ ghost use Rattle.agent_commands.specs.Names.{commands, command_named, info_named
 use crate::Info;
 use assuan_text::{found, found_in_any_case, has_pair};
 
-/// The commands that are served.
+/// The commands that are known.
 #[derive(Clone, Copy, Debug, PartialEq, Eq)]
 pub enum CommandName {
     Nop,
@@ -17,11 +17,13 @@ pub enum CommandName {
     GetPassphrase,
     PresetPassphrase,
     ClearPassphrase,
+    /// It is read, but not served yet.
+    GetConfirmation,
     ReloadAgent,
     KillAgent,
 }
 
-/// The commands by their names, in the order in which HELP tells them.
+/// The commands that are served by their names, in the order in which HELP tells them.
 pub const COMMANDS: [(&[u8], CommandName); 11] = [
     (b"NOP", CommandName::Nop),
     (b"RESET", CommandName::Reset),
@@ -35,6 +37,9 @@ pub const COMMANDS: [(&[u8], CommandName); 11] = [
     (b"RELOADAGENT", CommandName::ReloadAgent),
     (b"KILLAGENT", CommandName::KillAgent),
 ];
+
+/// What is read, but not served yet.
+const UNSERVED: [(&[u8], CommandName); 1] = [(b"GET_CONFIRMATION", CommandName::GetConfirmation)];
 
 /// A law: `COMMANDS` has the names as they are defined, in this order.
 pub fn commands_are_as_defined()
@@ -66,7 +71,10 @@ const LISTED: [(&[u8], &[u8]); 7] = [
 pub(crate) fn command_named(word: &[u8]) -> Option<CommandName>
     ensures { result ≡ command_named word.now }
 {
-    found_in_any_case(word, &COMMANDS)
+    match found_in_any_case(word, &COMMANDS) {
+        None => found_in_any_case(word, &UNSERVED),
+        served => served,
+    }
 }
 
 #[tactic(auto, unfolding(crate::specs::Names::info_named))]

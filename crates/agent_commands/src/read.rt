@@ -1,12 +1,13 @@
-ghost use Rattle.std.specs.Prelude.{◌≡◌, ◌≤◌, length, IfSome};
+ghost use Rattle.std.specs.Prelude.{◌≡◌, ◌≤◌, length};
 ghost use Rattle.assuan_text.specs.declared.TheConstants.{MAX_LINE_LEN};
 ghost use Rattle.assuan_text.specs.Options.{options_of, arguments_of};
 ghost use Rattle.assuan_text.specs.Words.{words};
-ghost use Rattle.agent_commands.specs.Exchanges.{IsQuiet, IsQuietGet};
-ghost use Rattle.agent_commands.specs.Requests.{request_of, command_in, info_of, listed_info, get_of, preset_of, clear_of};
+ghost use Rattle.agent_commands.specs.Exchanges.{quiet_of};
+ghost use Rattle.agent_commands.specs.Requests.{request_of, command_in, either, info_of, listed_info, get_of, preset_of, clear_of, confirmation_of};
 
 use crate::fields::{
-    cache_id, cleared_mode, given_passphrase, has_texts, life, repeats, texts, unless_placeholder,
+    cache_id, cleared_mode, given_passphrase, has_texts, life, repeats, text_or, texts,
+    unless_placeholder,
 };
 use crate::names::{CommandName, HAS_OPTION, command_named, info_named, is_listed};
 use crate::{CacheCommand, Info, QuietRequest, Request};
@@ -45,6 +46,7 @@ fn read_command(line: &Line) -> Result<CacheCommand, Code>
         CommandName::GetPassphrase => read_get(rest),
         CommandName::PresetPassphrase => read_preset(rest),
         CommandName::ClearPassphrase => read_clear(rest),
+        CommandName::GetConfirmation => read_confirmation(rest),
         CommandName::ReloadAgent => Ok(CacheCommand::ReloadAgent),
         CommandName::KillAgent => Ok(CacheCommand::KillAgent),
     }
@@ -107,18 +109,21 @@ fn read_get(text: &[u8]) -> Result<CacheCommand, Code>
 /// other line, which `read_request` reads.
 // The texts of a line are long, and most requests are quiet: so no text is made for these.
 pub fn read_quiet(line: &Line) -> Option<QuietRequest>
-    ensures { IfSome result (IsQuiet line.now) }
+    ensures { result ≡ quiet_of (request_of line.now) }
 {
     let (word, rest) = command_and_rest(line.bytes());
-    match command_named(word) {
-        Some(CommandName::GetPassphrase) => read_quiet_get(rest),
+    let Some(name) = command_named(word) else {
+        return None;
+    };
+    match name {
+        CommandName::GetPassphrase => read_quiet_get(rest),
         _ => None,
     }
 }
 
 /// What comes after GET_PASSPHRASE, where it asks the cache alone.
 fn read_quiet_get(text: &[u8]) -> Option<QuietRequest>
-    ensures { IfSome result (IsQuietGet (options_of (words text.now)) (arguments_of (words text.now))) }
+    ensures { result ≡ quiet_of (either (get_of (options_of (words text.now)) (arguments_of (words text.now)))) }
 {
     let (word, rest) = next_word(arguments(text))?;
     repeats(text)?;
@@ -152,4 +157,15 @@ fn read_clear(text: &[u8]) -> Result<CacheCommand, Code>
     let mode = cleared_mode(text).ok_or(Code::Parameter)?;
     let id = cache_id(word).ok_or(Code::Parameter)?;
     Ok(CacheCommand::ClearPassphrase { id, mode })
+}
+
+/// What comes after GET_CONFIRMATION.
+fn read_confirmation(text: &[u8]) -> Result<CacheCommand, Code>
+    requires { length text.now ≤ MAX_LINE_LEN }
+    ensures { result ≡ confirmation_of (arguments_of (words text.now)) }
+{
+    let (word, _) = next_word(arguments(text)).ok_or(Code::Parameter)?;
+    Ok(CacheCommand::GetConfirmation {
+        description: text_or(b"Please confirm", word),
+    })
 }

@@ -48,6 +48,9 @@ pub enum CacheCommand {
         id: CacheId,
         mode: Mode,
     },
+    GetConfirmation {
+        description: Text,
+    },
     /// Forgets all passphrases.
     ReloadAgent,
     /// Ends the session, and opens no prompt any more.

@@ -20,7 +20,7 @@ fn long_line(front: &[u8], byte: u8, count: usize) -> Result<ArrayVec<u8, 1001>,
     Ok(line)
 }
 
-const REFUSALS: [(&[u8], Code); 40] = [
+const REFUSALS: [(&[u8], Code); 41] = [
     (b"", Code::UnknownCommand),
     (b" \t", Code::UnknownCommand),
     (b"# comment", Code::UnknownCommand),
@@ -69,7 +69,8 @@ const REFUSALS: [(&[u8], Code); 40] = [
     (b"CLEAR_PASSPHRASE", Code::Parameter),
     (b"CLEAR_PASSPHRASE --mode=user id1", Code::Parameter),
     (b"CLEAR_PASSPHRASE --mode=ssh --mode= id1", Code::Parameter),
-    (b"GET_CONFIRMATION x", Code::UnknownCommand),
+    (b"GET_CONFIRMATION", Code::Parameter),
+    (b"GET_CONFIRMATION --frob --", Code::Parameter),
 ];
 
 /// A line, and whether it is refused with so many of one byte after it.
@@ -368,6 +369,29 @@ fn quiet_requests_are_read_without_their_texts(rt: HostRuntime) -> Result<(), Fa
             None => None,
         };
         assert_eq!(rt; given, quiet, "at {bytes:?}");
+    }
+    Ok(())
+}
+
+const CONFIRMATIONS: [(&[u8], &[u8]); 4] = [
+    (b"GET_CONFIRMATION Really+send", b"Really send"),
+    (b"get_confirmation X", b"Please confirm"),
+    (b"GET_CONFIRMATION --frob -- --x%21 more", b"--x!"),
+    (b"GET_CONFIRMATION x", b"x"),
+];
+
+#[test]
+fn confirmations_are_read(rt: HostRuntime) -> Result<(), Fail> {
+    for (line, text) in CONFIRMATIONS {
+        let answer = request(line)?;
+        assert!(rt;
+            matches!(
+                &answer,
+                Request::Cache(CacheCommand::GetConfirmation { description })
+                    if description.as_slice() == text
+            ),
+            "at {line:?}"
+        );
     }
     Ok(())
 }

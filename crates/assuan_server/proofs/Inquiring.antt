@@ -16,7 +16,7 @@ use Rattle.assuan_line.proofs.ReadingOn.{read_so}
 use Rattle.assuan_server.specs.Asking.{Gather, Inquire}
 use Rattle.assuan_server.specs.Connections.{Connection}
 use Rattle.assuan_server.specs.Failures.{IsAnswer}
-use Rattle.assuan_server.specs.Inquiries.{Outcome, Data, TooMuch, Cancelled, Unexpected, Ended, TooLong, Spent, ReadFault, IsAtEnd, IsWord, Answers, ComesTo, can, end, past, foreign, ended, too_long, spent, read_fault, ended_of, is_skipped}
+use Rattle.assuan_server.specs.Inquiries.{Outcome, Data, TooMuch, Cancelled, Unexpected, Ended, TooLong, Spent, ReadFault, IsAtEnd, IsData, IsWord, Names, Answers, AnswersDropped, ComesTo, can, end, past, foreign, ended, too_long, spent, read_fault, ended_of, is_skipped}
 use Rattle.assuan_server.specs.Written.{HasWritten}
 
 abbrev Undecided : List ℕ → Type 0
@@ -47,14 +47,15 @@ ended_by_outcome spent = refl
 ended_by_outcome read_fault = refl
 
 -- the inquiry came to this, whatever its bytes are
-pub failed : {limit : ℕ} {keeps : List ℕ → Type 0} {took : Took} {outcome : Outcome} → ((limit : ℕ) (bytes : List ℕ) → ComesTo limit bytes took outcome) → IsAnswer limit keeps took (Some outcome)
-failed {limit} {outcome = outcome} comes_to = record {
+pub failed : {limit : ℕ} {keeps : List ℕ → Type 0} {took : Took} {outcome : Outcome} (Else : Outcome → Type 0) → ((limit : ℕ) (bytes : List ℕ) → ComesTo limit bytes took outcome)
+    → IsAnswer limit keeps took (Names Else (Some outcome))
+failed {limit} {outcome = outcome} Else comes_to = record {
   answers = λ bytes kept. (outcome, comes_to limit bytes, refl);
   ended = λ other is. ended_by_outcome (comes_to 0 []) ∙ ap ended_of is;
 }
 
-pub inquired : {limit : ℕ} {keeps : List ℕ → Type 0} {line : List ℕ} {before after : Connection} {took : Took} {says : Option Outcome}
-    → Gather (ReadsOn (λ before line. is_skipped line) [] (λ lines. keeps (flat_map carried lines))) line before took after → IsAnswer limit keeps took says → Inquire limit line says before after
+pub inquired : {limit : ℕ} {keeps : List ℕ → Type 0} {line : List ℕ} {before after : Connection} {took : Took} {Says : Outcome → Type 0}
+    → Gather (ReadsOn (λ before line. is_skipped line) [] (λ lines. keeps (flat_map carried lines))) line before took after → IsAnswer limit keeps took Says → Inquire limit line Says before after
 inquired {took = took} gather answer = record {
   took = took;
   gathered = record {
@@ -79,21 +80,34 @@ closed TooLong is = absurd is
 closed Spent is = absurd is
 closed ReadFault is = absurd is
 
-at_end : {limit : ℕ} {keeps : List ℕ → Type 0} {took : Took} {says : Option Outcome} (line : List ℕ) → took ≡ Line line
-    → ((outcome : Outcome) → Answers says outcome → IsAtEnd outcome)
-    → ((bytes : List ℕ) → keeps bytes → (outcome : Outcome) × ComesTo limit bytes (Line line) outcome × Answers says outcome) → IsAnswer limit keeps took says
-at_end {limit} {keeps} {says = says} line is at comes_to =
-    subst (λ t. IsAnswer limit keeps t says) (sym is) (record { answers = comes_to; ended = λ outcome answers. sym (closed outcome (at outcome answers)) })
+at_end : {limit : ℕ} {keeps : List ℕ → Type 0} {took : Took} {Says : Outcome → Type 0} (line : List ℕ) → took ≡ Line line
+    → ((outcome : Outcome) → Says outcome → IsAtEnd outcome)
+    → ((bytes : List ℕ) → keeps bytes → (outcome : Outcome) × ComesTo limit bytes (Line line) outcome × Says outcome) → IsAnswer limit keeps took Says
+at_end {limit} {keeps} {Says = Says} line is at comes_to =
+    subst (λ t. IsAnswer limit keeps t Says) (sym is) (record { answers = comes_to; ended = λ outcome answers. sym (closed outcome (at outcome answers)) })
+
+data_at_end : (outcome : Outcome) → IsData outcome → IsAtEnd outcome
+data_at_end (Data bytes) is = tt
+data_at_end TooMuch is = absurd is
+data_at_end Cancelled is = absurd is
+data_at_end Unexpected is = absurd is
+data_at_end Ended is = absurd is
+data_at_end TooLong is = absurd is
+data_at_end Spent is = absurd is
+data_at_end ReadFault is = absurd is
 
 module _ {limit : ℕ} {keeps : List ℕ → Type 0} {took : Took} (line : List ℕ) (is : took ≡ Line line) (word : IsWord (codes "end") line) where
-  pub brought : (bytes : List ℕ) → ((other : List ℕ) → keeps other → (bytes ≡ other) × (length other ≤ limit)) → IsAnswer limit keeps took (Some (Data bytes))
+  pub brought : (bytes : List ℕ) → ((other : List ℕ) → keeps other → (bytes ≡ other) × (length other ≤ limit)) → IsAnswer limit keeps took (Answers (Some (Data bytes)))
   brought bytes kept = at_end line is (λ outcome same. subst IsAtEnd same tt) (λ other keeps.
       let so = kept other keeps in (Data other, end word so.1, ap (λ (b : List ℕ). Data b) so.0))
 
-  pub beyond : ((bytes : List ℕ) → keeps bytes → limit < length bytes) → IsAnswer limit keeps took (Some TooMuch)
-  beyond kept = at_end line is (λ outcome same. subst IsAtEnd same tt) (λ bytes keeps. (TooMuch, past word (kept bytes keeps), refl))
+  pub beyond : (Else : Outcome → Type 0) → ((bytes : List ℕ) → keeps bytes → limit < length bytes) → IsAnswer limit keeps took (Names Else (Some TooMuch))
+  beyond Else kept = at_end line is (λ outcome same. subst IsAtEnd same tt) (λ bytes keeps. (TooMuch, past word (kept bytes keeps), refl))
 
-  pub without_memory : IsAnswer limit keeps took None
+  pub dropped : ((bytes : List ℕ) → keeps bytes → length bytes ≤ limit) → IsAnswer limit keeps took (AnswersDropped None)
+  dropped kept = at_end line is data_at_end (λ bytes keeps. (Data bytes, end word (kept bytes keeps), tt))
+
+  pub without_memory : IsAnswer limit keeps took (Answers None)
   without_memory = at_end line is (λ outcome at. at) (λ bytes keeps. elim (cases_lt limit (length bytes)) [
     | inl long ↦ (TooMuch, past word long, tt)
     | inr short ↦ (Data bytes, end word short, tt)

@@ -1,5 +1,5 @@
 -- What asking the client does to a connection.
-use Rattle.std.specs.Prelude.{◌≡◌, ◌≤◌, ℕ, List, [], Option}
+use Rattle.std.specs.Prelude.{◌≡◌, ◌≤◌, ℕ, List, []}
 use Rattle.agent_ports.specs.Sides.{with_bytes}
 use Rattle.agent_ports.specs.declared.link.Sent.TheVariants.{Failed}
 use Rattle.assuan_line.specs.Next.{Reader, ended_by}
@@ -8,7 +8,7 @@ use Rattle.assuan_line.specs.Skipping.{IsUndecided}
 use Rattle.assuan_text.specs.LineEnds.{line_of}
 use Rattle.assuan_line.specs.declared.reader.Took.{Took}
 use Rattle.assuan_server.specs.Connections.{Connection}
-use Rattle.assuan_server.specs.Inquiries.{Outcome, Inquiry, Answers, ended_of, is_skipped}
+use Rattle.assuan_server.specs.Inquiries.{Outcome, Inquiry, ended_of, is_skipped}
 use Rattle.assuan_server.specs.Written.{HasWritten}
 
 -- a line was written, and lines were read up to the first answer that an inquiry doesn't skip
@@ -19,14 +19,14 @@ pub record Gather (Reads : List ℕ → Took → Reader → List ℕ → Type 0)
   pub link : after.link ≡ before.link
 
 -- what an inquiry comes to, of which an answer says so much
-abbrev pub ReadsAnswer : ℕ → Option Outcome → List ℕ → Took → Reader → List ℕ → Type 0
-ReadsAnswer limit says bytes took after left = (outcome : Outcome) × Inquiry limit bytes took outcome after left × Answers says outcome
+abbrev pub ReadsAnswer : ℕ → (Outcome → Type 0) → List ℕ → Took → Reader → List ℕ → Type 0
+ReadsAnswer limit Says bytes took after left = (outcome : Outcome) × Inquiry limit bytes took outcome after left × Says outcome
 
 -- The client was asked by this line, and answered within this limit, or its input ended.
-pub record Inquire (limit : ℕ) (line : List ℕ) (says : Option Outcome) (before after : Connection) : Type 0 where
+pub record Inquire (limit : ℕ) (line : List ℕ) (Says : Outcome → Type 0) (before after : Connection) : Type 0 where
   pub took : Took
-  pub gathered : Gather (ReadsAnswer limit says) line before took after
-  pub ended : (outcome : Outcome) → Answers says outcome → ended_by took ≡ ended_of outcome
+  pub gathered : Gather (ReadsAnswer limit Says) line before took after
+  pub ended : (outcome : Outcome) → Says outcome → ended_by took ≡ ended_of outcome
 
 -- The line wasn't written whole, and nothing was read.
 abbrev pub IsNotAsked : List ℕ → Connection → Connection → Type 0

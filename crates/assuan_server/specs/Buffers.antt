@@ -1,5 +1,5 @@
 -- What a buffer keeps of the bytes that an inquiry's data lines carried so far.
-use Rattle.std.specs.Prelude.{◌≡◌, ◌<◌, Bool, true, false, ℕ, List, length}
+use Rattle.std.specs.Prelude.{◌≡◌, ◌<◌, ◌+◌, Bool, true, false, ℕ, List, length}
 use Rattle.cache_policy.specs.declared.secret.TheConstants.{MAX_SECRET_LEN}
 use Rattle.assuan_server.specs.declared.inquiry.buffer.Overflow.{Overflow}
 use Rattle.assuan_server.specs.declared.inquiry.buffer.Overflow.TheVariants.{None, TooMuch, NoMemory}
@@ -14,3 +14,8 @@ IsVecOf limit kept NoMemory bytes = Unit {0}
 abbrev pub IsSecretOf : List ℕ → Bool → List ℕ → Type 0
 IsSecretOf kept false bytes = kept ≡ bytes
 IsSecretOf kept true bytes = MAX_SECRET_LEN < length bytes
+
+-- as a count of how many more may come within a limit, or that they are past it
+abbrev pub IsCountOf : ℕ → ℕ → Bool → List ℕ → Type 0
+IsCountOf limit left false bytes = length bytes + left ≡ limit
+IsCountOf limit left true bytes = limit < length bytes

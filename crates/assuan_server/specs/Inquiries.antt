@@ -10,6 +10,8 @@ use Rattle.assuan_line.specs.Skipping.{ReadsAfter}
 use Rattle.assuan_line.specs.declared.reader.Took.{Took}
 use Rattle.assuan_line.specs.declared.reader.Took.TheVariants as took
 use Rattle.assuan_text.specs.Blanks.{is_blank}
+use Rattle.assuan_server.specs.declared.inquiry.Dropped.{Dropped}
+use Rattle.assuan_server.specs.declared.inquiry.Dropped.TheVariants as dropped
 use Rattle.assuan_server.specs.declared.inquiry.Inquired.{Inquired}
 use Rattle.assuan_server.specs.declared.inquiry.Inquired.TheVariants as inquired
 use Rattle.assuan_server.specs.declared.inquiry.InquiredSecret.{InquiredSecret}
@@ -78,7 +80,13 @@ IsAtEnd (Data bytes) = Unit {0}
 IsAtEnd TooMuch = Unit {0}
 IsAtEnd _ = ⊥
 
--- What an answer says that the inquiry came to. It says nothing where there was no memory for the bytes, or nothing was read.
+-- END was read within the limit
+abbrev pub IsData : Outcome → Type 0
+IsData (Data bytes) = Unit {0}
+IsData _ = ⊥
+
+-- What an answer says that the inquiry came to. It names nothing where there was no memory for the bytes, where they were dropped, or
+-- where nothing was read.
 abbrev pub outcome_of : Inquired → Option Outcome
 outcome_of (inquired.Data bytes) = Some (Data bytes.items)
 outcome_of inquired.Cancelled = Some Cancelled
@@ -102,10 +110,29 @@ outcome_of_secret inquired_secret.Spent = Some Spent
 outcome_of_secret inquired_secret.ReadFault = Some ReadFault
 outcome_of_secret inquired_secret.WriteFault = None
 
--- the answer of an inquiry that was read says so. Where there was no memory for the bytes, END was read.
+abbrev pub outcome_of_dropped : Dropped → Option Outcome
+outcome_of_dropped dropped.Done = None
+outcome_of_dropped dropped.Cancelled = Some Cancelled
+outcome_of_dropped dropped.TooMuch = Some TooMuch
+outcome_of_dropped dropped.Unexpected = Some Unexpected
+outcome_of_dropped dropped.Ended = Some Ended
+outcome_of_dropped dropped.TooLong = Some TooLong
+outcome_of_dropped dropped.Spent = Some Spent
+outcome_of_dropped dropped.ReadFault = Some ReadFault
+outcome_of_dropped dropped.WriteFault = None
+
+-- an inquiry came to what is named, or else to something of this kind
+abbrev pub Names : (Outcome → Type 0) → Option Outcome → Outcome → Type 0
+Names Else (Some says) outcome = says ≡ outcome
+Names Else None outcome = Else outcome
+
+-- the answer of an inquiry that was read says so: where there was no memory for the bytes, END was read
 abbrev pub Answers : Option Outcome → Outcome → Type 0
-Answers (Some says) outcome = says ≡ outcome
-Answers None outcome = IsAtEnd outcome
+Answers says outcome = Names IsAtEnd says outcome
+
+-- and where the bytes were dropped, END was read within the limit
+abbrev pub AnswersDropped : Option Outcome → Outcome → Type 0
+AnswersDropped says outcome = Names IsData says outcome
 
 -- a fact of the bytes, where an answer has them
 abbrev pub IfData : Inquired → (List ℕ → Type 0) → Type 0

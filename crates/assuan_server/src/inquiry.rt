@@ -7,9 +7,9 @@ ghost use Rattle.assuan_text.specs.LineEnds.{line_of};
 ghost use Rattle.assuan_escape.specs.DataLines.{carried};
 ghost use Rattle.cache_policy.specs.declared.secret.TheConstants.{MAX_SECRET_LEN};
 ghost use Rattle.assuan_server.specs.Asking.{Gather, Inquire, IsNotAsked};
-ghost use Rattle.assuan_server.specs.Buffers.{IsVecOf, IsSecretOf};
+ghost use Rattle.assuan_server.specs.Buffers.{IsVecOf, IsSecretOf, IsCountOf};
 ghost use Rattle.assuan_server.specs.Connections.{IsOpen};
-ghost use Rattle.assuan_server.specs.Inquiries.{inquire_text, Inquiry, Outcome, ComesTo, IsWord, IfData, IsClosed, outcome_of, outcome_of_secret, is_skipped};
+ghost use Rattle.assuan_server.specs.Inquiries.{inquire_text, Inquiry, Outcome, ComesTo, IsWord, IfData, IsClosed, Answers, AnswersDropped, outcome_of, outcome_of_secret, outcome_of_dropped, is_skipped};
 ghost use Rattle.assuan_server.specs.Failures.{IsAnswer};
 ghost use Rattle.assuan_server.specs.Written.{HasWritten};
 
@@ -19,7 +19,7 @@ mod failure;
 use crate::conn::Conn;
 use agent_ports::{Link, Sent};
 use assuan_line::Took;
-use buffer::{Buffer, InquiryLines, Overflow, SecretBuffer, VecBuffer};
+use buffer::{Buffer, ByteCounter, InquiryLines, Overflow, SecretBuffer, VecBuffer};
 use cache_policy::{MAX_SECRET_LEN, Secret};
 use failure::end_of;
 use std::alloc::Global;
@@ -63,6 +63,21 @@ pub enum InquiredSecret {
     WriteFault,
 }
 
+/// What an inquiry came to whose bytes are dropped, as `Inquired`.
+#[derive(Clone, Copy, Debug, PartialEq, Eq)]
+pub enum Dropped {
+    /// The client sent `END` behind no more bytes than the limit.
+    Done,
+    Cancelled,
+    TooMuch,
+    Unexpected,
+    Ended,
+    TooLong,
+    Spent,
+    ReadFault,
+    WriteFault,
+}
+
 impl<'a, L: Link> Conn<'a, L> {
     /// Asks the client for bytes (Assuan manual, INQUIRE), by `INQUIRE`, the word, and the parameters where there are some.
     /// Then it reads data lines up to `END` or `CAN`, or to a line that is neither, nor empty, nor blank, nor a comment.
@@ -72,7 +87,7 @@ impl<'a, L: Link> Conn<'a, L> {
         requires going { IsOpen self.old }
         requires one_line { IsLine (inquire_text word.now params.now) }
         ensures inquiry { result ≢ Inquired.WriteFault
-            → Inquire limit (inquire_text word.now params.now) (outcome_of result) self.old self.new }
+            → Inquire limit (inquire_text word.now params.now) (Answers (outcome_of result)) self.old self.new }
         ensures cut { result ≡ Inquired.WriteFault → IsNotAsked (inquire_text word.now params.now) self.old self.new }
         ensures within { IfData result (λ bytes. length bytes ≤ limit) }
     {
@@ -90,7 +105,7 @@ impl<'a, L: Link> Conn<'a, L> {
         requires going { IsOpen self.old }
         requires one_line { IsLine (inquire_text word.now params.now) }
         ensures inquiry { result ≢ InquiredSecret.WriteFault
-            → Inquire MAX_SECRET_LEN (inquire_text word.now params.now) (outcome_of_secret result) self.old self.new }
+            → Inquire MAX_SECRET_LEN (inquire_text word.now params.now) (Answers (outcome_of_secret result)) self.old self.new }
         ensures cut { result ≡ InquiredSecret.WriteFault
             → IsNotAsked (inquire_text word.now params.now) self.old self.new }
     {
@@ -100,6 +115,23 @@ impl<'a, L: Link> Conn<'a, L> {
         match self.gather(word, params, &mut lines) {
             Some(took) => buffered(took, lines.buffer),
             None => InquiredSecret::WriteFault,
+        }
+    }
+
+    /// Asks the client as `inquire` does, for bytes that nobody needs: they are counted and dropped. It takes no memory.
+    pub fn inquire_drop(&mut self, word: &[u8], params: &[u8], limit: usize) -> Dropped
+        requires going { IsOpen self.old }
+        requires one_line { IsLine (inquire_text word.now params.now) }
+        ensures inquiry { result ≢ Dropped.WriteFault
+            → Inquire limit (inquire_text word.now params.now) (AnswersDropped (outcome_of_dropped result)) self.old self.new }
+        ensures cut { result ≡ Dropped.WriteFault → IsNotAsked (inquire_text word.now params.now) self.old self.new }
+    {
+        let mut lines = InquiryLines {
+            buffer: ByteCounter::new(limit),
+        };
+        match self.gather(word, params, &mut lines) {
+            Some(took) => counted(took, lines.buffer),
+            None => Dropped::WriteFault,
         }
     }
 
@@ -146,7 +178,7 @@ pub fn inquiries_come_to_one_outcome()
 
 /// What an inquiry comes to whose bytes are kept so, by the answer after its data lines.
 fn collected(took: Took, buffer: VecBuffer) -> Inquired
-    ensures answer { IsAnswer buffer.limit (IsVecOf buffer.limit buffer.bytes.items buffer.overflow) took (outcome_of result) }
+    ensures answer { IsAnswer buffer.limit (IsVecOf buffer.limit buffer.bytes.items buffer.overflow) took (Answers (outcome_of result)) }
     ensures within { IfData result (λ bytes. length bytes ≤ buffer.limit) }
     ensures others { result ≢ Inquired.WriteFault }
 {
@@ -162,7 +194,7 @@ fn collected(took: Took, buffer: VecBuffer) -> Inquired
 
 /// What an inquiry for a secret comes to whose bytes are kept so, by the answer after its data lines.
 fn buffered(took: Took, buffer: SecretBuffer) -> InquiredSecret
-    ensures answer { IsAnswer MAX_SECRET_LEN (IsSecretOf buffer.bytes buffer.too_much) took (outcome_of_secret result) }
+    ensures answer { IsAnswer MAX_SECRET_LEN (IsSecretOf buffer.bytes buffer.too_much) took (Answers (outcome_of_secret result)) }
     ensures others { result ≢ InquiredSecret.WriteFault }
 {
     if let Err(failure) = end_of(took) {
@@ -171,5 +203,20 @@ fn buffered(took: Took, buffer: SecretBuffer) -> InquiredSecret
     match buffer.secret() {
         Some(secret) => InquiredSecret::Secret(secret),
         None => InquiredSecret::TooMuch,
+    }
+}
+
+/// What an inquiry comes to whose bytes are counted so, by the answer after its data lines.
+fn counted(took: Took, counter: ByteCounter) -> Dropped
+    ensures answer { IsAnswer counter.limit (IsCountOf counter.limit counter.left counter.past) took (AnswersDropped (outcome_of_dropped result)) }
+    ensures others { result ≢ Dropped.WriteFault }
+{
+    if let Err(failure) = end_of(took) {
+        return failure.into();
+    }
+    if counter.past {
+        Dropped::TooMuch
+    } else {
+        Dropped::Done
     }
 }

@@ -9,7 +9,7 @@ mod request;
 
 pub use conn::Conn;
 pub use errors::{Code, Origin};
-pub use inquiry::{Inquired, InquiredSecret, inquiries_come_to_one_outcome};
+pub use inquiry::{Dropped, Inquired, InquiredSecret, inquiries_come_to_one_outcome};
 pub use request::requests_are_the_only_ones;
 
 #[cfg(test)]

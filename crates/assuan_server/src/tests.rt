@@ -225,6 +225,40 @@ fn secret_of(alloc: Global, len: usize, end: &[u8]) -> Result<String, Fail> {
     Ok(text)
 }
 
+/// What an inquiry of 3 bytes comes to whose bytes are dropped.
+fn dropped(alloc: Global, bytes: &[u8], piece: usize) -> Result<Dropped, Fail>
+    requires { 1 ≤ piece }
+{
+    let mut link = link(alloc, bytes, piece)?;
+    let mut conn = Conn::new(alloc, &mut link, 1 << 40);
+    let came = conn.inquire_drop(b"PINENTRY_LAUNCHED", b"9", 3);
+    conn.into_link();
+    assert_bytes(link.written(), b"INQUIRE PINENTRY_LAUNCHED 9\n")?;
+    Ok(came)
+}
+
+const DROPPED: [(&[u8], Dropped); 8] = [
+    (b"END\n", Dropped::Done),
+    (b"D a%0A\n# x\nD b\nend x\n", Dropped::Done),
+    (b"D abc\nD d\nEND\n", Dropped::TooMuch),
+    (b"D abcd\nCAN\n", Dropped::Cancelled),
+    (b"D abcd\nNOP\n", Dropped::Unexpected),
+    (b"D a\n", Dropped::Ended),
+    (b"D abcd\nD abcd\nD a\nD\nEND\n", Dropped::TooMuch),
+    (b"\n \nEND", Dropped::Ended),
+];
+
+#[test]
+fn an_inquiry_is_dropped_in_any_pieces(rt: HostRuntime) -> Result<(), Fail> {
+    for (bytes, want) in DROPPED {
+        for piece in [1, 7, 4096] {
+            let came = dropped(rt.alloc(), bytes, piece)?;
+            assert_eq!(rt; came, want, "at {bytes:?} in pieces of {piece}");
+        }
+    }
+    Ok(())
+}
+
 #[test]
 fn an_inquiry_is_read_in_any_pieces(rt: HostRuntime) -> Result<(), Fail> {
     let alloc = rt.alloc();

@@ -1,6 +1,6 @@
 ghost use Rattle.std.specs.Prelude.{◌≡◌, ◌≤◌, ◌<◌, ◌+◌, ◌++◌, [], false, ℕ, List, length, vec_len, OnOk, OnErr, MatchOption};
 ghost use Rattle.cache_policy.specs.declared.secret.TheConstants.{MAX_SECRET_LEN};
-ghost use Rattle.assuan_server.specs.Buffers.{IsVecOf, IsSecretOf};
+ghost use Rattle.assuan_server.specs.Buffers.{IsVecOf, IsSecretOf, IsCountOf};
 
 use assuan_escape::data_of;
 use assuan_line::{Line, LineFilter};
@@ -190,6 +190,43 @@ impl Buffer for SecretBuffer {
     fn add(&mut self, bytes: &[u8]) {
         if !self.too_much && self.bytes.try_extend_from_slice(bytes).is_err() {
             self.too_much = true;
+        }
+    }
+}
+
+/// Counts bytes up to a limit, and keeps none.
+#[derive(Drop)]
+pub(crate) struct ByteCounter {
+    pub(crate) limit: usize,
+    /// How many more may come.
+    pub(crate) left: usize,
+    pub(crate) past: bool,
+}
+
+impl ByteCounter {
+    pub(crate) fn new(limit: usize) -> ByteCounter
+        ensures limit { result.limit ≡ limit }
+        ensures left { result.left ≡ limit }
+        ensures past { result.past ≡ false }
+    {
+        ByteCounter {
+            limit,
+            left: limit,
+            past: false,
+        }
+    }
+}
+
+impl Buffer for ByteCounter {
+    ghost keeps = { λ counter bytes. IsCountOf counter.limit counter.left counter.past bytes };
+
+    ghost limit = { λ counter. counter.limit };
+
+    fn add(&mut self, bytes: &[u8]) {
+        if bytes.len() > self.left {
+            self.past = true;
+        } else {
+            self.left -= bytes.len();
         }
     }
 }

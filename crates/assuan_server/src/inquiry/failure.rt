@@ -2,7 +2,7 @@ ghost use Rattle.std.specs.Prelude.{◌≡◌, ℕ, List, codes, OnOk, IfErr, Ma
 ghost use Rattle.assuan_server.specs.Failures.{without};
 ghost use Rattle.assuan_server.specs.Inquiries.{ComesTo, IsWord};
 
-use crate::{Inquired, InquiredSecret};
+use crate::{Dropped, Inquired, InquiredSecret};
 use assuan_line::Took;
 use assuan_text::first_word;
 
@@ -51,6 +51,25 @@ impl From<Failure> for InquiredSecret {
             Failure::TooLong => InquiredSecret::TooLong,
             Failure::Spent => InquiredSecret::Spent,
             Failure::ReadFault => InquiredSecret::ReadFault,
+        }
+    }
+}
+
+impl From<Failure> for Dropped {
+    ghost use Rattle.std.specs.Prelude.{◌≡◌, Some};
+    ghost use Rattle.assuan_server.specs.Inquiries.{outcome_of_dropped};
+    ghost use Rattle.assuan_server.specs.Failures.{without};
+
+    ghost from_gives = { λ failure answer. outcome_of_dropped answer ≡ Some (without failure) };
+
+    fn from(failure: Failure) -> Dropped {
+        match failure {
+            Failure::Cancelled => Dropped::Cancelled,
+            Failure::Unexpected => Dropped::Unexpected,
+            Failure::Ended => Dropped::Ended,
+            Failure::TooLong => Dropped::TooLong,
+            Failure::Spent => Dropped::Spent,
+            Failure::ReadFault => Dropped::ReadFault,
         }
     }
 }

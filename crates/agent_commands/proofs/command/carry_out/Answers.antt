@@ -1,6 +1,7 @@
-use Rattle.agent_commands.specs.Exchanges.{nop, reset, bye, help_given, option_judged, info, clear, reload, kill}
+use Rattle.agent_commands.specs.Exchanges.{nop, reset, bye, help_given, option_judged, info, clear, unserved, reload, kill}
 use Rattle.agent_commands.specs.Outside.{world}
-use Rattle.agent_commands.specs.declared.response.Response.TheVariants.{Ok, Closing, Help}
+use Rattle.assuan_server.specs.declared.errors.Code.TheVariants.{UnknownCommand}
+use Rattle.agent_commands.specs.declared.response.Response.TheVariants.{Ok, Closing, Help, Failed}
 use Rattle.agent_commands.proofs.Preparing.{prepared_on, prepared_last, turn_taken}
 use Rattle.agent_commands.proofs.command.carry_out.Goals as goal
 
@@ -48,3 +49,8 @@ pub returns-in-KillAgent : goal.returns-in-KillAgent
 returns-in-KillAgent g c =
     rw c.in-KillAgent.is
     (turn_taken (world g.D.Desk.turned) c.args.rules.now _ c.args.conn.now c.requires c.args.desk.now c.take_turn-in-KillAgent.new.desk tt kill Closing (λ text is. is) (rw c.last-in-KillAgent.ensures at c.take_turn-in-KillAgent.ensures))
+
+pub returns-in-GetConfirmation : goal.returns-in-GetConfirmation
+returns-in-GetConfirmation g c =
+    prepared_on {w = world g.D.Desk.turned} _ _ c.failed.result (Failed UnknownCommand) _ c.requires c.failed.ensures
+    (λ text is. rw (is, c.in-GetConfirmation.is) unserved)

@@ -1,17 +1,18 @@
-use Rattle.std.proofs.Common.{sym, subst}
 use Rattle.agent_commands.specs.Exchanges.{Exchange, LineExchange}
 use Rattle.agent_commands.specs.Outside.{world}
+use Rattle.agent_commands.specs.Requests.{request_of}
 use Rattle.agent_commands.specs.States.{session_state}
 use Rattle.agent_commands.specs.Steps.{CarriesOut}
 use Rattle.agent_commands.specs.declared.request.Request.{Request}
 use Rattle.agent_commands.proofs.Answering.{answered}
+use Rattle.agent_commands.proofs.Quieting.{of_quiet}
 use Rattle.agent_commands.proofs.command.run_quiet.Goals as goal
 
 pub returns : goal.returns
 returns g c = λ rules options line quiet.
     let conn = c.args.conn.now in
     answered {w = world g.D.Desk.turned} (λ before. LineExchange rules before line) options _ _ tt _ c.ask_cache-answer.result _ _ _
-    (subst (λ (request : Request). CarriesOut {w = world g.D.Desk.turned} (Exchange rules options request) (session_state g.D.Desk.turned conn c.args.desk.now)
-    c.ask_cache-answer.result options (session_state g.D.Desk.turned conn c.ask_cache-answer.new.desk)) (sym quiet.line_is)
-    (c.ask_cache-answer.ensures rules options quiet.check quiet.no_ask quiet.quality quiet.repeat quiet.texts conn quiet.quiet c.requires))
+    (of_quiet (λ (asked : Request). CarriesOut {w = world g.D.Desk.turned} (Exchange rules options asked) (session_state g.D.Desk.turned conn c.args.desk.now)
+    c.ask_cache-answer.result options (session_state g.D.Desk.turned conn c.ask_cache-answer.new.desk)) c.args.request.now
+    (λ check no_ask quality repeat texts asks. c.ask_cache-answer.ensures rules options check no_ask quality repeat texts conn asks c.requires) (request_of line) quiet)
     c.respond.ensures

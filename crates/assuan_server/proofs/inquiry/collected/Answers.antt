@@ -1,9 +1,10 @@
 use Rattle.std.proofs.Common.{◌≡◌, ◌≤◌, List, ℕ, rules, subst, length}
+use Rattle.assuan_server.specs.Inquiries.{IsAtEnd}
 use Rattle.assuan_server.proofs.Inquiring.{failed, brought, beyond, without_memory}
 use Rattle.assuan_server.proofs.inquiry.collected.Goals as goal
 
 pub returns-in-Err-clause-answer : goal.returns-in-Err-clause-answer
-returns-in-Err-clause-answer c = rw c.into.ensures (failed c.in-Err.ensures.failure)
+returns-in-Err-clause-answer c = rw c.into.ensures (failed IsAtEnd c.in-Err.ensures.failure)
 
 pub returns-in-None-clause-answer : goal.returns-in-None-clause-answer
 returns-in-None-clause-answer c =
@@ -16,7 +17,7 @@ returns-in-None-clause-answer c =
 pub returns-in-TooMuch-clause-answer : goal.returns-in-TooMuch-clause-answer
 returns-in-TooMuch-clause-answer c =
     let end = c.in_default.ensures.end in
-    beyond end.0 end.1 end.2 (λ bytes kept. rw c.in-TooMuch.is at kept)
+    beyond end.0 end.1 end.2 IsAtEnd (λ bytes kept. rw c.in-TooMuch.is at kept)
 
 pub returns-in-NoMemory-clause-answer : goal.returns-in-NoMemory-clause-answer
 returns-in-NoMemory-clause-answer c =

@@ -1,0 +1,9 @@
+use Rattle.assuan_server.specs.Buffers.{IsSecretOf}
+use Rattle.assuan_server.proofs.Inquiring.{inquired}
+use Rattle.assuan_server.proofs.conn.Conn.inquire_secret.Goals as goal
+
+pub returns-in-Some-clause-inquiry : goal.returns-in-Some-clause-inquiry
+returns-in-Some-clause-inquiry g c = λ written.
+    let new = c.new.ensures in
+    let buffer = c.gather.new.lines.buffer in
+    inquired {keeps = IsSecretOf buffer.bytes buffer.too_much} (c.in-Some.ensures.gathered (rw new.too_much new.bytes)) c.buffered.ensures.answer
