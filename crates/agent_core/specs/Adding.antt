@@ -1,4 +1,4 @@
--- Marks are added to the histories of a run.
+-- Private: marks are added to the histories of a run.
 use Rattle.std.specs.Prelude.{◌≡◌, ◌+◌, ◌==◌, List, [], ◌∷◌, ◌++◌, Option, Some, None, IsSome, if◌then◌else◌}
 use Rattle.std.specs.Global.{Vec}
 use Rattle.cache_policy.specs.declared.bounds.TheConstants.{MAX_MARKS}
