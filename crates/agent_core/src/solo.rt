@@ -322,3 +322,6 @@ fn into_ticket(outcome: Stepped) -> Option<Ticket>
         }
     }
 }
+
+#[cfg(test)]
+mod tests;
