@@ -1,0 +1,5 @@
+mod NoLines
+mod Talks
+mod Readiness
+mod Faults
+mod Calling

@@ -1,0 +1,5 @@
+pub mod Settings
+pub mod Answers
+pub mod Talking
+pub mod States
+pub mod Dialogues

@@ -1,0 +1,44 @@
+-- A pinentry as contracts see it: its launcher, and its child.
+use Rattle.std.specs.Prelude.{◌≡◌, ◌+◌, ◌-◌, ◌^◌, ℕ, Bool, true, false, min, is_some, Option, Some, None, ⊤}
+use Rattle.std.specs.Borrow.{GName}
+use Rattle.agent_ask.specs.Prompters.{AtPrompter}
+use Rattle.agent_ports.specs.Launches.{Launches}
+use Rattle.assuan_client.specs.Connections.{Connection}
+use Rattle.assuan_client.specs.declared.answer.State.TheVariants.{Ready}
+
+pub record PinentryState (La : Type 0) : Type 0 where
+  -- the launcher, and which one that is
+  pub launcher : La
+  pub lent : GName
+  -- the connection to the child, while one stands
+  pub child : Option Connection
+  -- whether the child can be asked
+  pub ready : Bool
+
+-- what has to do with children
+pub record AtPinentry : Type 0 where
+  pub launches : Launches
+  pub child : Option Connection
+  pub ready : Bool
+
+abbrev pub seen : {La : Type 0} → (La → Launches) → PinentryState La → AtPinentry
+seen launches pinentry = record { launches = launches pinentry.launcher; child = pinentry.child; ready = pinentry.ready }
+
+-- how many reads and writes of a child failed
+abbrev pub child_faults : Option Connection → ℕ
+child_faults None = 0
+child_faults (Some conn) = conn.input.faults + conn.output.faults
+
+-- The count of faults is that of the launcher and the two of its child, added, and cut at the last count.
+abbrev pub at_prompter : AtPinentry → AtPrompter
+at_prompter pinentry = record {
+  ready = pinentry.ready;
+  child = is_some pinentry.child;
+  faults = min (pinentry.launches.faults + child_faults pinentry.child) (2 ^ 64 - 1);
+}
+
+-- a child that can be asked waits for a command
+abbrev pub Waits : Bool → Option Connection → Type 0
+Waits true (Some conn) = conn.state ≡ Ready
+Waits true None = ⊥
+Waits false child = ⊤

@@ -1,0 +1,17 @@
+//! A pinentry as a child program: the prompts of an agent, in its words (pinentry manual, "protocol").
+#![tactic(auto)]
+
+mod answers;
+mod pinentry;
+mod settings;
+mod talk;
+#[cfg(test)]
+mod tests;
+
+use arrayvec::ArrayVec;
+use session_options::MAX_VALUE_LEN;
+
+/// The path of a program.
+pub type Word = ArrayVec<u8, MAX_VALUE_LEN>;
+
+pub use pinentry::{BUDGET, Pinentry};
