@@ -10,3 +10,4 @@ pub mod Scripts
 pub mod Playing
 pub mod Promise
 pub mod Alone
+pub mod Counting

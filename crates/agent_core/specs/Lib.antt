@@ -8,3 +8,5 @@ pub mod Foreigners
 pub mod Seating
 pub mod Solos
 pub mod SoloInside
+pub mod Tallies
+pub mod Keeping

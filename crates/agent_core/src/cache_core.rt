@@ -83,6 +83,13 @@ impl Core {
         self.state.next_base() == LAST_BASE
     }
 
+    /// Its lifetimes.
+    pub(crate) fn limits(&self) -> &Limits
+        ensures { result.now ≡ self.now.limits }
+    {
+        &self.state.limits
+    }
+
     /// The moment of the last mark, in seconds.
     pub(crate) fn moment(&self) -> u64
         ensures { result ≡ self.now.moment }

@@ -11,6 +11,7 @@ ghost use Rattle.agent_core.specs.Adding.{CanAdd, begun, added, next_start};
 use crate::Core;
 use crate::cache_core::give_up;
 use crate::stepped::{Opening, Stepped, mark_reply_of, mark_step_of};
+use crate::tally::{NO_MARKS, Tally, counted, stores};
 use agent_ports::SessionId;
 use cache_policy::{
     Held, History, Limits, MAX_MARKS, Mark, MarkStep, Marks, NoMemory, Refused, Reply, Step, Way,
@@ -25,6 +26,8 @@ pub struct KnownCore {
     histories: Vec<History>,
     // The room for the next history, where it had to be reserved already.
     next: Option<Marks>,
+    // What the marks come to, but for whether the core has stopped.
+    tally: Tally,
     alloc: Global,
 }
 
@@ -33,11 +36,11 @@ impl Model for KnownCore {
 
     ghost Value = { AtKnown };
 
-    ghost use Rattle.agent_core.specs.Recording.{Records};
+    ghost use Rattle.agent_core.specs.Keeping.{IsKnown};
 
     ghost view = { λ known. record { limits = known.core.limits; run = known.histories.items } };
 
-    ghost invariant = { λ known. Records known.core known.histories known.next };
+    ghost invariant = { λ known. IsKnown known.core known.histories known.next known.tally };
 }
 
 /// How the next history begins.
@@ -51,6 +54,7 @@ pub(crate) struct Start {
 impl KnownCore {
     ghost use Rattle.agent_core.specs.Known.{IsOut, next_moment, TakesStep};
     ghost use Rattle.agent_core.specs.Stepped.{turn_of_stepped, HandsBack};
+    ghost use Rattle.agent_core.specs.Tallies.{tally_of};
 
     /// A core without entries, whose run has one history without marks. It reserves the room for them.
     pub fn new(alloc: Global, limits: Limits) -> Result<KnownCore, NoMemory>
@@ -68,6 +72,7 @@ impl KnownCore {
             core: Core::new(alloc, limits),
             histories,
             next: None,
+            tally: NO_MARKS,
             alloc,
         })
     }
@@ -100,6 +105,7 @@ impl KnownCore {
         let start = start_after(&self.core);
         let opening = Opening::of(&step);
         let asked = mark_step_of(&step);
+        let stores = stores(&self.core, &asked);
         match self.core.step(reading, session, step) {
             Ok(reply) => match reply {
                 Reply::Stand => {
@@ -116,6 +122,7 @@ impl KnownCore {
                         reply: mark_reply_of(&reply),
                         moment: self.core.moment(),
                     };
+                    self.tally = counted(self.tally, &mark, stores);
                     add(&mut self.histories, &mut self.next, start, mark);
                     Stepped::Replied(reply)
                 }
@@ -132,6 +139,17 @@ impl KnownCore {
         ensures { result.now ≡ self.now.run }
     {
         self.histories.as_slice()
+    }
+
+    /// What the marks of the run come to.
+    pub fn tally(&self) -> Tally
+        ensures { result ≡ tally_of self.now.limits self.now.run }
+    {
+        let stopped = self.core.stopped();
+        Tally {
+            stopped,
+            ..self.tally
+        }
     }
 }
 

@@ -10,9 +10,11 @@ mod solo;
 mod state;
 mod stepped;
 mod steps;
+mod tally;
 
 pub use cache_core::Core;
 pub use foreign::{Foreign, ForeignStep};
 pub use known_core::KnownCore;
 pub use laws::turns_extend_a_known_run;
 pub use solo::Solo;
+pub use tally::Tally;

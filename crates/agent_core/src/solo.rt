@@ -11,6 +11,7 @@ use crate::foreign::{Foreign, ForeignStep};
 use crate::holder::{Holder, told_step};
 use crate::known_core::{KnownCore, is_close};
 use crate::stepped::Stepped;
+use crate::tally::Tally;
 use agent_ports::{Clock, LentClock, SessionId};
 use cache_policy::{Desk, History, Limits, NoMemory, Refused, Reply, Step};
 use prompt_seat::{Seat, Ticket};
@@ -64,6 +65,7 @@ impl<'a, C: Clock> Solo<'a, C> {
     ghost use Rattle.cache_policy.specs.Runs.{joined};
     ghost use Rattle.agent_core.specs.Foreigners.{AllForeign, IsForeign, is_session};
     ghost use Rattle.agent_core.specs.Seating.{Seated};
+    ghost use Rattle.agent_core.specs.Tallies.{tally_of};
     ghost use Rattle.agent_core.specs.Solos.{seen, OwnStep, PlaysStep, PlaysNext, ClosesHolder, Waits};
 
     /// A desk whose cache is empty. It takes the memory for the marks of its first history.
@@ -136,6 +138,13 @@ impl<'a, C: Clock> Solo<'a, C> {
         ensures { result.now ≡ self.now.run }
     {
         self.known.histories()
+    }
+
+    /// What the marks of the run come to.
+    pub fn tally(&self) -> Tally
+        ensures { result ≡ tally_of self.now.limits self.now.run }
+    {
+        self.known.tally()
     }
 
     /// Ends the desk, and gives its clock back. A ticket that another session still has is given up without a mark.

@@ -19,6 +19,8 @@ ghost use Rattle.cache_policy.specs.Legal.{IsLegal, IsLegalRun};
 ghost use Rattle.cache_policy.specs.Return.{IsGivenRightly};
 ghost use Rattle.cache_policy.specs.Bare.{bare_step, bare, bare_entry};
 ghost use Rattle.agent_ports.specs.Leads.{Leads};
+ghost use Rattle.agent_ports.specs.declared.session.SessionId.{SessionId as Session};
+ghost use Rattle.cache_policy.specs.Replay.{Replays};
 ghost use Rattle.cache_policy.specs.Extending.{Taken, TakesTurn, ExtendsDesk};
 
 use crate::Desk;
@@ -107,6 +109,12 @@ pub fn no_secret_is_read()
     ensures policy { (limits : Limits) (history : History) (asked : MarkStep) (moment : ℕ)
         → policy limits (bare history) (bare_step asked) moment ≡ policy limits history asked moment }
     ensures legal { (limits : Limits) (history : History) → IsLegal limits history → IsLegal limits (bare history) }
+{}
+
+/// There is one replay at most of these steps at these readings: two runs that are it are one.
+pub fn a_replay_is_the_only_one()
+    ensures { (limits : Limits) (session : Session) (steps : List MarkStep) (readings : List ℕ) (run other : List History)
+        → Replays limits session steps readings run → Replays limits session steps readings other → run ≡ other }
 {}
 
 /// Turns at a desk extend its run where that is known: the marks of the desk's session in it are theirs, in their order, and it stays

@@ -25,8 +25,8 @@ pub use grant::Grant;
 pub use history::{Held, History, Marks};
 pub use id::{CacheId, MAX_ID_LEN};
 pub use laws::{
-    a_history_turns_over, a_run_goes_on, no_secret_is_read, nothing_comes_back, one_more_mark,
-    turns_extend_a_run,
+    a_history_turns_over, a_replay_is_the_only_one, a_run_goes_on, no_secret_is_read,
+    nothing_comes_back, one_more_mark, turns_extend_a_run,
 };
 pub use life::{Life, Limits, MAX_SECONDS};
 pub use list_book::{ListBook, NoMemory};

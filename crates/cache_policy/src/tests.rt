@@ -25,6 +25,7 @@ fn a_step_gives_its_ticket_back(rt: HostRuntime) -> Result<(), Fail> {
     one_more_mark();
     a_history_turns_over();
     a_run_goes_on();
+    a_replay_is_the_only_one();
     no_secret_is_read();
     nothing_comes_back();
     Ok(())

@@ -3,7 +3,7 @@ ghost use Rattle.std.specs.List.{AllByRecursion};
 ghost use Rattle.cache_policy.specs.Turns.{mark_step, opens, closes};
 ghost use Rattle.agent_core.specs.Foreigners.{IsForeign, AllForeign};
 
-use crate::{Foreign, ForeignStep, Solo, turns_extend_a_known_run};
+use crate::{Foreign, ForeignStep, Solo, Tally, turns_extend_a_known_run};
 use agent_ports::{Clock, SessionId, StepClock};
 use cache_policy::{
     CacheId, Desk, Grant, Life, Limits, Mode, Refused, Reply, Secret, Step, Under, Way,
@@ -182,10 +182,21 @@ fn others_take_their_steps_between_the_turns(rt: HostRuntime) -> Result<(), Fail
     let second = take(&mut desk, ask(b));
     let third = take(&mut desk, ask(c));
     let fourth = prompt(&mut desk, d);
-    let (marks, _) = seen(&desk);
+    let tally = desk.tally();
     desk.end();
     assert_eq!(rt; (first, second, third), ("given new", "empty", "empty"));
-    assert_eq!(rt; (fourth, marks), ("stopping", 10));
+    assert_eq!(rt; fourth, "stopping");
+    let want = Tally {
+        marks: 10,
+        given: 1,
+        empty: 2,
+        opened: 0,
+        stored: 3,
+        cleared: 1,
+        flushed: 1,
+        stopped: true,
+    };
+    assert_eq!(rt; tally, want);
     Ok(())
 }
 

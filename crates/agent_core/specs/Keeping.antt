@@ -1,0 +1,14 @@
+-- What a core with its run keeps.
+use Rattle.std.specs.Prelude.{List, Option}
+use Rattle.std.specs.Global.{Vec}
+use Rattle.cache_policy.specs.declared.mark.Mark.{Mark}
+use Rattle.cache_policy.specs.declared.history.History.{History}
+use Rattle.agent_core.specs.declared.tally.Tally.{Tally}
+use Rattle.agent_core.specs.Recording.{Records}
+use Rattle.agent_core.specs.States.{AtCore}
+use Rattle.agent_core.specs.Tallies.{Tallied}
+
+-- its run, the room for the marks to come, and their tally
+pub record IsKnown (core : AtCore) (histories : Vec History) (next : Option (List Mark)) (tally : Tally) : Type 0 where
+  pub records : Records core histories next
+  pub tally_is : Tallied core.limits histories.items tally
