@@ -92,8 +92,10 @@ number_is : (before : State) (history : History) (moment : ℕ) → IsReady befo
 number_is before history moment is = omega (arith, is.next.base_is, is.next.count_is)
 
 pub as_before : (before after : State) → HasMoreRoom before after → IsAsBefore (seen before) (seen after)
-as_before before after more =
-    ap seen more.same ∙ ap (λ (list : List Slot). record (seen before) { slots = list; spare = after.shelf.spare }) more.slots
+as_before before after more = record {
+  same = ap seen more.same ∙ ap (λ (list : List Slot). record (seen before) { slots = list; spare = after.shelf.spare }) more.slots;
+  room = more.spare;
+}
 
 pub prompts-step : (before after : State) (history : History) (session : SessionId) (moment : ℕ) (step_of : MarkStep) (under : Option Under) (turn : Turn)
     → IsTaken before after history moment → IsWish before.limits (next_history history) step_of moment under → Prompts before moment under turn after

@@ -48,9 +48,10 @@ WantsMemory limits next (asked.Ask id mode way) moment = policy limits next (ask
 WantsMemory limits next (asked.Seat under) moment = IsSome under × (policy limits next (asked.Seat under) moment ≡ Reply reply.Open)
 WantsMemory limits next _ moment = ⊥
 
--- the core is as before, but for its room
-abbrev pub IsAsBefore : AtCore → AtCore → Type 0
-IsAsBefore before after = after ≡ record before { spare = after.spare }
+-- the core is as before, but for its room, which isn't less
+pub record IsAsBefore (before after : AtCore) : Type 0 where
+  pub same : after ≡ record before { spare = after.spare }
+  pub room : before.spare ≤ after.spare
 
 -- What a step at a moment comes to, on the history that is next for the one that the core stands for. Where it has to stand, and where
 -- that history is spent, nothing changes.

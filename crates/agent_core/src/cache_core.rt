@@ -1,4 +1,4 @@
-ghost use Rattle.std.specs.Prelude.{◌≡◌, ◌+◌, ◌↔◌, [], false, None, IsTrue, OnErr, IfErr};
+ghost use Rattle.std.specs.Prelude.{◌≡◌, ◌+◌, ◌<◌, ◌↔◌, [], false, None, IsTrue, OnErr, IfErr};
 ghost use Rattle.cache_policy.specs.declared.history.History.{History};
 ghost use Rattle.cache_policy.specs.Turns.{mark_step, turn_of, FitsReply};
 ghost use Rattle.cache_policy.specs.Runs.{last_base, moment_of};
@@ -7,7 +7,7 @@ ghost use Rattle.agent_core.specs.Cores.{StandsFor, IsStep, IsAsBefore};
 
 use crate::state::{CacheShelf, State};
 use agent_ports::SessionId;
-use cache_policy::{Limits, Refused, Reply, Step};
+use cache_policy::{Held, Limits, Refused, Reply, Step};
 use prompt_seat::Seat;
 use std::alloc::Global;
 use std::marker::Model;
@@ -80,9 +80,47 @@ impl Core {
         self.state.next_base() == LAST_BASE
     }
 
+    /// The moment of the last mark, in seconds.
+    pub fn moment(&self) -> u64
+        ensures { result ≡ self.now.moment }
+    {
+        self.state.moment
+    }
+
+    /// The ticket that is out, and what its passphrase is kept under.
+    pub fn held(&self) -> Option<Held>
+        ensures { result ≡ self.now.held }
+    {
+        match self.state.seat.holder() {
+            Some(ticket) => Some(Held {
+                ticket,
+                under: match &self.state.under {
+                    Some(under) => Some(under.copy()),
+                    None => None,
+                },
+            }),
+            None => None,
+        }
+    }
+
+    /// Whether it has stopped opening prompts.
+    pub fn stopped(&self) -> bool
+        ensures { result ≡ self.now.stopped }
+    {
+        self.state.stopped
+    }
+
+    /// The lifetimes that it goes by.
+    pub fn limits(&self) -> Limits
+        ensures { result ≡ self.now.limits }
+    {
+        self.state.limits
+    }
+
     /// The number of the first mark of the history.
     pub fn base(&self) -> u64
-        ensures { result ≡ self.now.base }
+        ensures value { result ≡ self.now.base }
+        ensures below { result < last_base }
     {
         self.state.base
     }

@@ -8,3 +8,4 @@ pub mod Growing
 pub mod GrowingRuns
 pub mod BareLemmas
 pub mod Extending
+pub mod Tallying

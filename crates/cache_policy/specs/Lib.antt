@@ -14,3 +14,5 @@ pub mod Bare
 pub mod Turns
 pub mod Desks
 pub mod Extending
+pub mod Traces
+pub mod Tallies
