@@ -38,6 +38,7 @@ use Rattle.agent_lock.specs.declared.pass.Counts.{Counts}
 use Rattle.agent_lock.specs.declared.state.Start.{Start}
 use Rattle.agent_lock.specs.declared.state.State.{State}
 use Rattle.std.specs.Prelude.{IsTrue, ◌↔◌}
+use Rattle.agent_lock.specs.Attempts.{IfGiven}
 use Rattle.agent_lock.specs.Counting.{counted, totals, AreSmall}
 use Rattle.agent_lock.specs.Journals.{AtLock, StandsAsBare, IsJournaled, marked, stood, refused, spent, IsLocked, tally_at, carried_on}
 use Rattle.agent_lock.specs.Keeping.{journal_of, next_start, started, carried_to, seen, IsKept}
@@ -424,3 +425,15 @@ is_locked state kept = record {
   legal = subst (λ (h : History). IsLegal state.core.limits h) kept.stands.bare_is (legal-bare state.core.limits kept.stands.history kept.stands.legal);
   stands = kept.stands;
 }
+
+-- a passphrase is given at the moment of the step
+pub given_at : {core : AtCore} {history : History} {session : SessionId} {moment : ℕ} {asked : MarkStep} {after : AtCore} (turn : Turn)
+    → IsStep core history session moment asked turn after → IfGiven turn (λ grant. grant.moment ≡ moment)
+given_at (Given grant) (step.marked going made) = made.shows.3
+given_at Empty taken = tt
+given_at (Open number) taken = tt
+given_at Stand taken = tt
+given_at Done taken = tt
+given_at (WhetherHeld there) taken = tt
+given_at Stopping taken = tt
+given_at Refused taken = tt

@@ -4,3 +4,5 @@ pub mod Counting
 pub mod Booking
 pub mod Shares
 pub mod Closings
+pub mod Openings
+pub mod Attempts

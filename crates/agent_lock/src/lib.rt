@@ -3,11 +3,17 @@
 
 mod books;
 mod locked;
+mod opening;
 mod pass;
 mod shared;
+mod shared_desk;
 mod state;
 
 pub use books::Books;
 pub use locked::Locked;
 pub use pass::{Counts, Pass};
 pub use shared::{Blanks, Closing, Shared};
+pub use shared_desk::SharedDesk;
+
+#[cfg(test)]
+mod tests;

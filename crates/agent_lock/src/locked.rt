@@ -7,6 +7,7 @@ ghost use Rattle.cache_policy.specs.Tallies.{nothing_yet};
 ghost use Rattle.cache_policy.specs.Turns.{mark_step, turn_of, FitsReply};
 ghost use Rattle.agent_core.specs.Cores.{StandsFor, IsStep};
 ghost use Rattle.agent_lock.specs.Booking.{book_counts};
+ghost use Rattle.agent_lock.specs.Attempts.{IfGiven};
 ghost use Rattle.agent_lock.specs.Counting.{counted, no_counts};
 ghost use Rattle.agent_lock.specs.Journals.{IsJournaled, IsLocked, tally_at};
 
@@ -77,6 +78,7 @@ impl<M: Ledger, G: Ledger, E: Ledger, O: Ledger> Locked<M, G, E, O> {
         ensures core { (history : History) → IsLegal self.old.core.limits history → StandsFor self.old.core history
             → IsStep self.old.core history session (moment_of self.old.core.moment reading) (mark_step step) (turn_of result) self.new.core }
         ensures counts { pass.new.counts ≡ counted (is_spent (next_history self.old.journal)) pass.old.counts (turn_of result) }
+        ensures grant { IfGiven (turn_of result) (λ grant. grant.moment ≡ moment_of self.old.core.moment reading) }
         ensures fits { FitsReply (mark_step step) (turn_of result) }
         ensures back { IfErr result (λ refused. refused.step ≡ step) }
     {

@@ -9,6 +9,7 @@ ghost use Rattle.cache_policy.specs.Tallies.{with_one, one_if, nothing_yet, IsSo
 ghost use Rattle.cache_policy.specs.Traces.{trace_mark};
 ghost use Rattle.cache_policy.specs.Turns.{mark_step, turn_of, FitsReply};
 ghost use Rattle.agent_core.specs.Cores.{StandsFor, IsStep};
+ghost use Rattle.agent_lock.specs.Attempts.{IfGiven};
 ghost use Rattle.agent_lock.specs.Counting.{counted, totals, AreSmall};
 
 use agent_core::Core;
@@ -74,6 +75,7 @@ impl State {
         ensures core { (history : History) → IsLegal self.old.core.limits history → StandsFor self.old.core history
             → IsStep self.old.core history session (moment_of self.old.core.moment reading) (mark_step step) (turn_of result) self.new.core }
         ensures totals { totals self.new.total ≡ counted (is_spent (next_history (seen self.old).journal)) (totals self.old.total) (turn_of result) }
+        ensures grant { IfGiven (turn_of result) (λ grant. grant.moment ≡ moment_of self.old.core.moment reading) }
         ensures fits { FitsReply (mark_step step) (turn_of result) }
         ensures back { IfErr result (λ refused. refused.step ≡ step) }
     {

@@ -1,7 +1,7 @@
 use Rattle.std.proofs.Common.{rules, ◌≡◌, ◌≢◌, ◌+◌, sym, ◌∙◌, refl}
 use Rattle.cache_policy.specs.Runs.{last_base, moment_of}
 use Rattle.cache_policy.specs.Turns.{mark_step, turn_of}
-use Rattle.agent_lock.proofs.Stepping.{marked_kept, marked_journaled, unmarked_kept, unmade, given_up, marks_few, totals_given_up}
+use Rattle.agent_lock.proofs.Stepping.{marked_kept, marked_journaled, unmarked_kept, unmade, given_up, marks_few, totals_given_up, given_at}
 use Rattle.agent_lock.proofs.state.State.step.Goals as goal
 
 pub add-requires-clause-small : goal.add-requires-clause-small
@@ -81,3 +81,9 @@ returns-then-spent-clause-totals c =
     let all : c.args.self.now.core.base + c.args.self.now.core.count ≡ last_base = search rules in
     let taken = c.step-outcome.ensures.step k.stands.history k.stands.legal k.stands.stands in
     totals_given_up c.args.self.now k c.next_start-next.ensures.below all taken
+
+pub returns-then-spent-clause-grant : goal.returns-then-spent-clause-grant
+returns-then-spent-clause-grant c = let k = c.requires in given_at _ (c.step-outcome.ensures.step k.stands.history k.stands.legal k.stands.stands)
+
+pub returns-in-Some-clause-grant : goal.returns-in-Some-clause-grant
+returns-in-Some-clause-grant c = let k = c.requires in given_at _ (c.in-Ok.ensures.step k.stands.history k.stands.legal k.stands.stands)
