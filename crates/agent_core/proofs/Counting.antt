@@ -26,17 +26,18 @@ use Rattle.cache_policy.specs.Runs.{last_base, turn_over, next_history, IsRun, j
 use Rattle.cache_policy.specs.Seat.{seat, stopped, is_open}
 use Rattle.cache_policy.proofs.EntriesLemmas.{entries-with_mark}
 use Rattle.cache_policy.proofs.GrowingRuns.{joined-run_with_mark}
-use Rattle.agent_core.specs.declared.tally.Tally.{Tally}
-use Rattle.agent_core.specs.Tallies.{is_given, is_empty, is_clear, is_flush, count, tally_of, one, counted, CanCount, keeps_under, keeps, stores, Tallied}
+use Rattle.cache_policy.specs.declared.tally.Tally.{Tally}
+use Rattle.cache_policy.specs.Tallies.{is_given, is_empty, is_clear, is_flush, how_many}
+use Rattle.agent_core.specs.Tallies.{tally_of, one, counted, CanCount, keeps_under, keeps, stores, Tallied}
 
 -- one mark more that is counted or not
-count_push : (test : Mark → Bool) (marks : List Mark) (mark : Mark) → count test (marks ++ mark ∷ []) ≡ count test marks + one (test mark)
+count_push : (test : Mark → Bool) (marks : List Mark) (mark : Mark) → how_many test (marks ++ mark ∷ []) ≡ how_many test marks + one (test mark)
 count_push test marks mark =
     ap (λ (l : List Mark). length l) (filter-append test marks (mark ∷ []))
     ∙ (length-append (filter test marks) (filter test (mark ∷ []))
-    ∙ ap (λ (n : ℕ). count test marks + n) (elim (test mark) as (λ b. length (if b then mark ∷ [] else []) ≡ one b) [ true ↦ refl | false ↦ refl ]))
+    ∙ ap (λ (n : ℕ). how_many test marks + n) (elim (test mark) as (λ b. length (if b then mark ∷ [] else []) ≡ one b) [ true ↦ refl | false ↦ refl ]))
 
-count_less : (test : Mark → Bool) (marks : List Mark) → count test marks ≤ length marks
+count_less : (test : Mark → Bool) (marks : List Mark) → how_many test marks ≤ length marks
 count_less test [] = omega arith
 count_less test (mark ∷ later) =
     elim (test mark) as (λ b. length (if b then mark ∷ filter test later else filter test later) ≤ length (mark ∷ later)) [
@@ -163,10 +164,10 @@ can_count limits run last tally legal last_is below few is =
       flushed = omega (arith, all, below, few, is.flushed, flushed);
     }
 
-added : (test : Mark → Bool) (run : List History) (mark : Mark) (before : ℕ) → IsRun run → before ≡ count test (joined run)
-    → before + one (test mark) ≡ count test (joined (run_with_mark run mark))
+added : (test : Mark → Bool) (run : List History) (mark : Mark) (before : ℕ) → IsRun run → before ≡ how_many test (joined run)
+    → before + one (test mark) ≡ how_many test (joined (run_with_mark run mark))
 added test run mark before is same =
-    ap (λ (n : ℕ). n + one (test mark)) same ∙ (sym (count_push test (joined run) mark) ∙ ap (count test) (sym (joined-run_with_mark run mark is)))
+    ap (λ (n : ℕ). n + one (test mark)) same ∙ (sym (count_push test (joined run) mark) ∙ ap (how_many test) (sym (joined-run_with_mark run mark is)))
 
 pub tally_counted : (limits : Limits) (run : List History) (last : History) (mark : Mark) (tally : Tally) (stored_now : Bool) → IsRun run → last_history run ≡ Some last
     → Tallied limits run tally → stored_now ≡ stores limits (seat (next_history last)) mark.step → Tallied limits (run_with_mark run mark) (counted tally mark stored_now)

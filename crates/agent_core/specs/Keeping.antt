@@ -3,7 +3,7 @@ use Rattle.std.specs.Prelude.{List, Option}
 use Rattle.std.specs.Global.{Vec}
 use Rattle.cache_policy.specs.declared.mark.Mark.{Mark}
 use Rattle.cache_policy.specs.declared.history.History.{History}
-use Rattle.agent_core.specs.declared.tally.Tally.{Tally}
+use Rattle.cache_policy.specs.declared.tally.Tally.{Tally}
 use Rattle.agent_core.specs.Recording.{Records}
 use Rattle.agent_core.specs.States.{AtCore}
 use Rattle.agent_core.specs.Tallies.{Tallied}

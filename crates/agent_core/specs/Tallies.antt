@@ -1,53 +1,32 @@
 -- Tallies: what the marks of a run come to. This is the project's own.
-use Rattle.std.specs.Prelude.{◌≡◌, ℕ, ◌+◌, ◌<◌, ◌≤◌, ◌^◌, ◌==◌, List, length, filter, Bool, true, false, ◌&&◌, not, Option, Some, None, if◌then◌else◌}
+use Rattle.std.specs.Prelude.{◌≡◌, ℕ, ◌+◌, ◌<◌, ◌≤◌, ◌^◌, ◌==◌, List, length, Bool, true, false, ◌&&◌, not, Option, Some, None, if◌then◌else◌}
 use Rattle.std.specs.Option.{is_some, option_map_or, option_and_then}
 use Rattle.std.specs.List.{flat_map}
 use Rattle.cache_policy.specs.declared.life.Life.TheVariants.{Default}
 use Rattle.cache_policy.specs.declared.life.Limits.{Limits}
 use Rattle.cache_policy.specs.declared.mark.Under.{Under}
 use Rattle.cache_policy.specs.declared.mark.Mark.{Mark}
-use Rattle.cache_policy.specs.declared.mark.MarkReply.{MarkReply}
-use Rattle.cache_policy.specs.declared.mark.MarkReply.TheVariants.{Given, Empty}
 use Rattle.cache_policy.specs.declared.mark.MarkStep.{MarkStep}
-use Rattle.cache_policy.specs.declared.mark.MarkStep.TheVariants.{Clear, Flush, Put, Close}
+use Rattle.cache_policy.specs.declared.mark.MarkStep.TheVariants.{Put, Close}
 use Rattle.cache_policy.specs.declared.history.Held.{Held}
 use Rattle.cache_policy.specs.declared.history.History.{History}
 use Rattle.cache_policy.specs.Entries.{entries, kept_under}
 use Rattle.cache_policy.specs.Lifetimes.{ttl_of, is_zero}
 use Rattle.cache_policy.specs.Runs.{joined, last_history}
 use Rattle.cache_policy.specs.Seat.{is_open, stopped}
-use Rattle.agent_core.specs.declared.tally.Tally.{Tally}
-
-abbrev pub is_given : MarkReply → Bool
-is_given (Given number) = true
-is_given reply = false
-
-abbrev pub is_empty : MarkReply → Bool
-is_empty Empty = true
-is_empty reply = false
-
-abbrev pub is_clear : MarkStep → Bool
-is_clear (Clear id mode) = true
-is_clear asked = false
-
-abbrev pub is_flush : MarkStep → Bool
-is_flush Flush = true
-is_flush asked = false
-
--- how many of the marks pass a test
-abbrev pub count : (Mark → Bool) → List Mark → ℕ
-count test marks = length (filter test marks)
+use Rattle.cache_policy.specs.Tallies.{is_given, is_empty, is_clear, is_flush, how_many}
+use Rattle.cache_policy.specs.declared.tally.Tally.{Tally}
 
 -- the tally of a run: its marks, those that were replied so, the entries that were stored, those steps, and whether it has stopped
 abbrev pub tally_of : Limits → List History → Tally
 tally_of limits run = record {
   marks = length (joined run);
-  given = count (λ mark. is_given mark.reply) (joined run);
-  empty = count (λ mark. is_empty mark.reply) (joined run);
-  opened = count (λ mark. is_open mark.reply) (joined run);
+  given = how_many (λ mark. is_given mark.reply) (joined run);
+  empty = how_many (λ mark. is_empty mark.reply) (joined run);
+  opened = how_many (λ mark. is_open mark.reply) (joined run);
   stored = length (flat_map (entries limits) run);
-  cleared = count (λ mark. is_clear mark.step) (joined run);
-  flushed = count (λ mark. is_flush mark.step) (joined run);
+  cleared = how_many (λ mark. is_clear mark.step) (joined run);
+  flushed = how_many (λ mark. is_flush mark.step) (joined run);
   stopped = option_map_or stopped (last_history run) false;
 }
 
@@ -93,9 +72,9 @@ stores limits held asked = false
 -- the tally of a run, but for whether it has stopped
 pub record Tallied (limits : Limits) (run : List History) (tally : Tally) : Type 0 where
   pub marks : tally.marks ≡ length (joined run)
-  pub given : tally.given ≡ count (λ mark. is_given mark.reply) (joined run)
-  pub empty : tally.empty ≡ count (λ mark. is_empty mark.reply) (joined run)
-  pub opened : tally.opened ≡ count (λ mark. is_open mark.reply) (joined run)
+  pub given : tally.given ≡ how_many (λ mark. is_given mark.reply) (joined run)
+  pub empty : tally.empty ≡ how_many (λ mark. is_empty mark.reply) (joined run)
+  pub opened : tally.opened ≡ how_many (λ mark. is_open mark.reply) (joined run)
   pub stored : tally.stored ≡ length (flat_map (entries limits) run)
-  pub cleared : tally.cleared ≡ count (λ mark. is_clear mark.step) (joined run)
-  pub flushed : tally.flushed ≡ count (λ mark. is_flush mark.step) (joined run)
+  pub cleared : tally.cleared ≡ how_many (λ mark. is_clear mark.step) (joined run)
+  pub flushed : tally.flushed ≡ how_many (λ mark. is_flush mark.step) (joined run)

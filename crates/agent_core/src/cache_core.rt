@@ -1,4 +1,4 @@
-ghost use Rattle.std.specs.Prelude.{◌≡◌, ◌+◌, ◌≤◌, ◌↔◌, [], false, None, IsTrue, OnErr, IfErr};
+ghost use Rattle.std.specs.Prelude.{◌≡◌, ◌+◌, ◌<◌, ◌≤◌, ◌↔◌, [], false, None, IsTrue, OnErr, IfErr};
 ghost use Rattle.std.specs.Option.{is_some};
 ghost use Rattle.cache_policy.specs.declared.bounds.TheConstants.{MAX_MARKS};
 ghost use Rattle.cache_policy.specs.declared.history.History.{History};
@@ -83,15 +83,15 @@ impl Core {
         self.state.next_base() == LAST_BASE
     }
 
-    /// Its lifetimes.
-    pub(crate) fn limits(&self) -> &Limits
-        ensures { result.now ≡ self.now.limits }
+    /// The lifetimes that it goes by.
+    pub fn limits(&self) -> Limits
+        ensures { result ≡ self.now.limits }
     {
-        &self.state.limits
+        self.state.limits
     }
 
     /// The moment of the last mark, in seconds.
-    pub(crate) fn moment(&self) -> u64
+    pub fn moment(&self) -> u64
         ensures { result ≡ self.now.moment }
     {
         self.state.moment
@@ -106,7 +106,7 @@ impl Core {
     }
 
     /// The ticket that is out, and what its passphrase is kept under.
-    pub(crate) fn held(&self) -> Option<Held>
+    pub fn held(&self) -> Option<Held>
         ensures { result ≡ self.now.held }
     {
         match self.state.seat.holder() {
@@ -126,7 +126,7 @@ impl Core {
     }
 
     /// Whether it has stopped opening prompts.
-    pub(crate) fn stopped(&self) -> bool
+    pub fn stopped(&self) -> bool
         ensures { result ≡ self.now.stopped }
     {
         self.state.stopped
@@ -134,7 +134,8 @@ impl Core {
 
     /// The number of the first mark of the history.
     pub fn base(&self) -> u64
-        ensures { result ≡ self.now.base }
+        ensures value { result ≡ self.now.base }
+        ensures below { result < last_base }
     {
         self.state.base
     }

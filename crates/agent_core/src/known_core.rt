@@ -11,10 +11,11 @@ ghost use Rattle.agent_core.specs.Adding.{CanAdd, begun, added, next_start};
 use crate::Core;
 use crate::cache_core::give_up;
 use crate::stepped::{Opening, Stepped, mark_reply_of, mark_step_of};
-use crate::tally::{NO_MARKS, Tally, counted, stores};
+use crate::tally::{counted, stores};
 use agent_ports::SessionId;
 use cache_policy::{
-    Held, History, Limits, MAX_MARKS, Mark, MarkStep, Marks, NoMemory, Refused, Reply, Step, Way,
+    Held, History, Limits, MAX_MARKS, Mark, MarkStep, Marks, NoMemory, Refused, Reply, Step, Tally,
+    Way,
 };
 use std::alloc::Global;
 use std::marker::Model;
@@ -72,7 +73,7 @@ impl KnownCore {
             core: Core::new(alloc, limits),
             histories,
             next: None,
-            tally: NO_MARKS,
+            tally: Tally::new(),
             alloc,
         })
     }

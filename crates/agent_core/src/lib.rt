@@ -17,4 +17,3 @@ pub use foreign::{Foreign, ForeignStep};
 pub use known_core::KnownCore;
 pub use laws::turns_extend_a_known_run;
 pub use solo::Solo;
-pub use tally::Tally;

@@ -2,39 +2,7 @@ ghost use Rattle.std.specs.Prelude.{◌≡◌, if◌then◌else◌};
 ghost use Rattle.agent_core.specs.Tallies.{counted, stores, keeps, CanCount};
 
 use crate::Core;
-use cache_policy::{Held, Life, Mark, MarkReply, MarkStep, Under};
-
-/// What the marks of a run come to.
-#[derive(Clone, Copy, Debug, PartialEq, Eq)]
-pub struct Tally {
-    pub marks: u64,
-    /// How many marks were replied with a passphrase.
-    pub given: u64,
-    /// How many were replied that nothing is cached.
-    pub empty: u64,
-    /// How many opened a prompt.
-    pub opened: u64,
-    /// How many passphrases were stored.
-    pub stored: u64,
-    /// How many marks were to forget what is stored under an id.
-    pub cleared: u64,
-    /// How many were to forget everything.
-    pub flushed: u64,
-    /// Whether no prompt is opened any more.
-    pub stopped: bool,
-}
-
-/// The tally of a run without marks.
-pub(crate) const NO_MARKS: Tally = Tally {
-    marks: 0,
-    given: 0,
-    empty: 0,
-    opened: 0,
-    stored: 0,
-    cleared: 0,
-    flushed: 0,
-    stopped: false,
-};
+use cache_policy::{Held, Life, Mark, MarkReply, MarkStep, Tally, Under};
 
 /// The tally with one mark more.
 pub(crate) fn counted(tally: Tally, mark: &Mark, stores: bool) -> Tally

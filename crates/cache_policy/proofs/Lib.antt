@@ -9,3 +9,4 @@ pub mod GrowingRuns
 pub mod BareLemmas
 pub mod Extending
 pub mod Replaying
+pub mod Tallying

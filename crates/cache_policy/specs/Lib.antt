@@ -15,3 +15,5 @@ pub mod Turns
 pub mod Desks
 pub mod Extending
 pub mod Replay
+pub mod Traces
+pub mod Tallies

@@ -17,6 +17,8 @@ mod mark;
 mod mode;
 mod secret;
 mod step;
+mod tally;
+mod trace;
 
 pub use bounds::{MAX_MARKS, MAX_MOMENT};
 pub use desk::Desk;
@@ -34,6 +36,8 @@ pub use mark::{Mark, MarkReply, MarkStep, Under, Way};
 pub use mode::Mode;
 pub use secret::{MAX_SECRET_LEN, Secret};
 pub use step::{Refused, Reply, Step};
+pub use tally::{Tally, a_tally_goes_on};
+pub use trace::{Trace, TraceStep};
 
 #[cfg(test)]
 mod tests;

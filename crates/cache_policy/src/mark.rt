@@ -1,3 +1,5 @@
+ghost use Rattle.std.specs.Prelude.{◌≡◌};
+
 use crate::{CacheId, Life, Mode, Secret};
 use agent_ports::SessionId;
 
@@ -6,6 +8,18 @@ use agent_ports::SessionId;
 pub struct Under {
     pub id: CacheId,
     pub mode: Mode,
+}
+
+impl Under {
+    /// The same once more, without taking memory.
+    pub fn copy(&self) -> Under
+        ensures { result ≡ self.now }
+    {
+        Under {
+            id: self.id.copy(),
+            mode: self.mode,
+        }
+    }
 }
 
 /// Whether a request may open a prompt.

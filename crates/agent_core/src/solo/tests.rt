@@ -3,10 +3,10 @@ ghost use Rattle.std.specs.List.{AllByRecursion};
 ghost use Rattle.cache_policy.specs.Turns.{mark_step, opens, closes};
 ghost use Rattle.agent_core.specs.Foreigners.{IsForeign, AllForeign};
 
-use crate::{Foreign, ForeignStep, Solo, Tally, turns_extend_a_known_run};
+use crate::{Foreign, ForeignStep, Solo, turns_extend_a_known_run};
 use agent_ports::{Clock, SessionId, StepClock};
 use cache_policy::{
-    CacheId, Desk, Grant, Life, Limits, Mode, Refused, Reply, Secret, Step, Under, Way,
+    CacheId, Desk, Grant, Life, Limits, Mode, Refused, Reply, Secret, Step, Tally, Under, Way,
 };
 use prompt_seat::Ticket;
 use std::alloc::{AllocError, Global};

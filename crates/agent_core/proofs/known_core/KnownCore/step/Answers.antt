@@ -12,7 +12,7 @@ use Rattle.agent_core.specs.Cores.{IsStep, mark_of}
 use Rattle.agent_core.specs.Known.{AtKnown, IsOut, next_moment, TakesStep, spent}
 use Rattle.agent_core.specs.Recording.{KeepsRun, needs_room, reply_of}
 use Rattle.agent_core.specs.Adding.{next_start}
-use Rattle.agent_core.specs.declared.tally.Tally.{Tally}
+use Rattle.cache_policy.specs.declared.tally.Tally.{Tally}
 use Rattle.cache_policy.specs.declared.history.Held.{Held as Ticket}
 use Rattle.cache_policy.specs.Seat.{seat}
 use Rattle.agent_core.specs.States.{AtCore}

@@ -1,0 +1,8 @@
+pub mod Journals
+pub mod Keeping
+pub mod Counting
+pub mod Booking
+pub mod Shares
+pub mod Closings
+pub mod Openings
+pub mod Attempts

@@ -1,0 +1,55 @@
+ghost use Rattle.std.specs.Prelude.{◌≡◌};
+
+use std::sync::ledger::{Ledger, Share};
+
+/// What one worker's turns came to.
+#[derive(Clone, Copy, Debug, PartialEq, Eq)]
+pub struct Counts {
+    /// How many of them made a mark.
+    pub calls: u64,
+    pub given: u64,
+    pub empty: u64,
+    pub opened: u64,
+}
+
+/// A worker's right to take turns, with its counts: one part of each ledger.
+#[derive(Drop)]
+pub struct Pass<M: Ledger, G: Ledger, E: Ledger, O: Ledger> {
+    pub(crate) counts: Counts,
+    pub(crate) calls: Share<M>,
+    pub(crate) given: Share<G>,
+    pub(crate) empty: Share<E>,
+    pub(crate) opened: Share<O>,
+    ghost parts: { (calls.parts ≡ 1) × (given.parts ≡ 1) × (empty.parts ≡ 1) × (opened.parts ≡ 1) },
+    ghost amounts: { (calls.amount ≡ counts.calls) × (given.amount ≡ counts.given) × (empty.amount ≡ counts.empty) × (opened.amount ≡ counts.opened) },
+}
+
+impl<M: Ledger, G: Ledger, E: Ledger, O: Ledger> Pass<M, G, E, O> {
+    /// How many marks it made.
+    pub fn calls(&self) -> u64
+        ensures { result ≡ self.now.counts.calls }
+    {
+        self.counts.calls
+    }
+
+    /// How many of its turns were answered Given.
+    pub fn given(&self) -> u64
+        ensures { result ≡ self.now.counts.given }
+    {
+        self.counts.given
+    }
+
+    /// How many of its turns were answered Empty.
+    pub fn empty(&self) -> u64
+        ensures { result ≡ self.now.counts.empty }
+    {
+        self.counts.empty
+    }
+
+    /// How many of its turns were answered Open.
+    pub fn opened(&self) -> u64
+        ensures { result ≡ self.now.counts.opened }
+    {
+        self.counts.opened
+    }
+}

@@ -1,0 +1,139 @@
+ghost use Rattle.std.specs.Prelude.{◌≡◌, ◌<◌, ℕ, true, false, All, IfOk, vec_len};
+ghost use Rattle.cache_policy.specs.Seat.{stopped};
+ghost use Rattle.agent_lock.specs.Closings.{IfStopped, IfOpen, AreSums};
+ghost use Rattle.agent_lock.specs.Counting.{no_counts};
+ghost use Rattle.agent_lock.specs.Journals.{tally_at};
+
+use crate::books::Books;
+use crate::locked::{Locked, Shares};
+use crate::{Counts, Pass};
+use cache_policy::{Limits, Tally};
+use std::alloc::{AllocError, Global};
+use std::sync::ledger::{Blank, Ledger};
+use std::sync::{Condvar, Mutex};
+
+/// A new ledger for each of the four counts, with as many parts as there are passes.
+#[derive(Drop)]
+pub struct Blanks {
+    pub calls: Blank,
+    pub given: Blank,
+    pub empty: Blank,
+    pub opened: Blank,
+}
+
+/// The locked value, and where threads wait for the seat.
+#[derive(Drop)]
+pub struct Shared<M: Ledger, G: Ledger, E: Ledger, O: Ledger> {
+    pub(crate) lock: Mutex<Locked<M, G, E, O>>,
+    pub(crate) changed: Condvar,
+}
+
+/// What a look at the end found.
+#[derive(Drop)]
+pub enum Closing<M: Ledger, G: Ledger, E: Ledger, O: Ledger> {
+    /// The agent has stopped. This was done.
+    Stopped(Tally),
+    /// It hasn't, and all goes on with the same passes and journal.
+    Open(Shared<M, G, E, O>, Vec<Pass<M, G, E, O>>),
+}
+
+impl<M: Ledger, G: Ledger, E: Ledger, O: Ledger> Shared<M, G, E, O> {
+    /// A core without entries under a lock, and as many passes.
+    pub fn new(
+        alloc: Global,
+        limits: Limits,
+        blanks: Blanks,
+        passes: u32,
+    ) -> Result<(Self, Vec<Pass<M, G, E, O>>), AllocError>
+        requires calls { (blanks.calls.name ≡ M.name) × (blanks.calls.parts ≡ M.parts) × (passes ≡ M.parts) }
+        requires given { (blanks.given.name ≡ G.name) × (blanks.given.parts ≡ G.parts) × (passes ≡ G.parts) }
+        requires empty { (blanks.empty.name ≡ E.name) × (blanks.empty.parts ≡ E.parts) × (passes ≡ E.parts) }
+        requires opened { (blanks.opened.name ≡ O.name) × (blanks.opened.parts ≡ O.parts) × (passes ≡ O.parts) }
+        ensures all { IfOk result (λ made. vec_len made.1 ≡ passes) }
+        ensures new { IfOk result (λ made. All (λ pass. pass.counts ≡ no_counts) made.1.items) }
+    {
+        let (calls, mut calls_left) = blanks.calls.open::<M>();
+        let (given, mut given_left) = blanks.given.open::<G>();
+        let (empty, mut empty_left) = blanks.empty.open::<E>();
+        let (opened, mut opened_left) = blanks.opened.open::<O>();
+        let mut all = Vec::new(alloc);
+        for _i in 0..passes {
+            let pass = Pass {
+                counts: Counts {
+                    calls: 0,
+                    given: 0,
+                    empty: 0,
+                    opened: 0,
+                },
+                calls: calls_left.split_off(1, 0),
+                given: given_left.split_off(1, 0),
+                empty: empty_left.split_off(1, 0),
+                opened: opened_left.split_off(1, 0),
+            };
+            all.push(pass)?;
+        }
+        let books = Books {
+            calls,
+            given,
+            empty,
+            opened,
+        };
+        let locked = Locked::new(alloc, limits, books)?;
+        Ok((Shared::over(locked), all))
+    }
+
+    fn over(locked: Locked<M, G, E, O>) -> Self {
+        Shared {
+            lock: Mutex::new(locked),
+            changed: Condvar::new(),
+        }
+    }
+
+    /// Closes with all its passes, and gives what was done. Its sums are the passes' own.
+    pub fn close(self, passes: Vec<Pass<M, G, E, O>>) -> Tally
+        requires all { (vec_len passes ≡ M.parts) × (vec_len passes ≡ G.parts) × (vec_len passes ≡ E.parts) × (vec_len passes ≡ O.parts) }
+        requires some { 0 < vec_len passes }
+        ensures { AreSums result passes.items }
+    {
+        let Shared { lock, changed: _ } = self;
+        lock.into_inner().close(passes)
+    }
+
+    /// Closes as `close` does where the agent has stopped, and else gives all back.
+    pub fn close_if_stopped(self, passes: Vec<Pass<M, G, E, O>>) -> Closing<M, G, E, O>
+        requires all { (vec_len passes ≡ M.parts) × (vec_len passes ≡ G.parts) × (vec_len passes ≡ E.parts) × (vec_len passes ≡ O.parts) }
+        requires some { 0 < vec_len passes }
+        ensures stopped { IfStopped result (λ tally. AreSums tally passes.items × (tally.stopped ≡ true)) }
+        ensures open { IfOpen result (λ back. back ≡ passes.items) }
+    {
+        let Shared { lock, changed: _ } = self;
+        lock.into_inner().close_if_stopped(passes)
+    }
+}
+
+impl<M: Ledger, G: Ledger, E: Ledger, O: Ledger> Locked<M, G, E, O> {
+    /// Closes what was taken out of the lock, with all its passes: what was done, by the journal and what was done before it.
+    pub fn close(self, passes: Vec<Pass<M, G, E, O>>) -> Tally
+        requires all { (vec_len passes ≡ M.parts) × (vec_len passes ≡ G.parts) × (vec_len passes ≡ E.parts) × (vec_len passes ≡ O.parts) }
+        requires some { 0 < vec_len passes }
+        ensures tally { result ≡ tally_at self }
+        ensures sums { AreSums result passes.items }
+    {
+        let mut locked = self;
+        let mut all = Shares::gather(passes);
+        locked.audit(&mut all)
+    }
+
+    /// Closes where the agent has stopped, by the journal, and else locks all up anew.
+    pub fn close_if_stopped(self, passes: Vec<Pass<M, G, E, O>>) -> Closing<M, G, E, O>
+        requires all { (vec_len passes ≡ M.parts) × (vec_len passes ≡ G.parts) × (vec_len passes ≡ E.parts) × (vec_len passes ≡ O.parts) }
+        requires some { 0 < vec_len passes }
+        ensures stopped { IfStopped result (λ tally. (tally ≡ tally_at self) × AreSums tally passes.items × (stopped self.journal ≡ true) × (tally.stopped ≡ true)) }
+        ensures open { IfOpen result (λ back. (back ≡ passes.items) × (stopped self.journal ≡ false)) }
+    {
+        if !self.stopped() {
+            return Closing::Open(Shared::over(self), passes);
+        }
+        Closing::Stopped(self.close(passes))
+    }
+}

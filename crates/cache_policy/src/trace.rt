@@ -1,0 +1,93 @@
+ghost use Rattle.std.specs.Prelude.{◌≡◌, Ok};
+ghost use Rattle.cache_policy.specs.Bare.{bare_step};
+ghost use Rattle.cache_policy.specs.Traces.{trace_step, reply_of};
+ghost use Rattle.cache_policy.specs.Turns.{mark_step, turn_of};
+
+use crate::{CacheId, Life, MarkReply, Mode, Reply, Step, Under, Way};
+use agent_ports::SessionId;
+
+/// One step of a session, with the number of its ticket in place of a ticket and without the bytes of a secret.
+#[derive(Debug, PartialEq, Eq, Drop)]
+pub enum TraceStep {
+    Ask { id: CacheId, mode: Mode, way: Way },
+    Seat { under: Option<Under> },
+    /// Whether it keeps what was typed.
+    Close { ticket: u64, keep: bool },
+    Put { id: CacheId, mode: Mode, life: Life },
+    Clear { id: CacheId, mode: Mode },
+    Flush,
+    Peek { id: CacheId, mode: Mode },
+    Stop,
+}
+
+impl TraceStep {
+    /// What a trace shows of the step.
+    pub fn of(step: &Step) -> TraceStep
+        ensures { trace_step result ≡ bare_step (mark_step step.now) }
+    {
+        match step {
+            Step::Ask { id, mode, way } => TraceStep::Ask {
+                id: id.copy(),
+                mode: *mode,
+                way: *way,
+            },
+            Step::Seat { under } => TraceStep::Seat {
+                under: match under {
+                    Some(under) => Some(under.copy()),
+                    None => None,
+                },
+            },
+            Step::Close { ticket, keep } => TraceStep::Close {
+                ticket: ticket.number(),
+                keep: keep.is_some(),
+            },
+            Step::Put {
+                id,
+                mode,
+                life,
+                secret: _,
+            } => TraceStep::Put {
+                id: id.copy(),
+                mode: *mode,
+                life: *life,
+            },
+            Step::Clear { id, mode } => TraceStep::Clear {
+                id: id.copy(),
+                mode: *mode,
+            },
+            Step::Flush => TraceStep::Flush,
+            Step::Peek { id, mode } => TraceStep::Peek {
+                id: id.copy(),
+                mode: *mode,
+            },
+            Step::Stop => TraceStep::Stop,
+        }
+    }
+}
+
+/// A mark without the bytes of its secret.
+#[derive(Debug, PartialEq, Eq, Drop)]
+pub struct Trace {
+    pub session: SessionId,
+    pub step: TraceStep,
+    pub reply: MarkReply,
+    /// In seconds. It never falls from one trace to the next.
+    pub moment: u64,
+}
+
+impl MarkReply {
+    /// What a mark says of the reply. `None` for Stand, which makes no mark.
+    pub fn of(reply: &Reply) -> Option<MarkReply>
+        ensures { result ≡ reply_of (turn_of (Ok reply.now)) }
+    {
+        match reply {
+            Reply::Given(grant) => Some(MarkReply::Given(grant.number())),
+            Reply::Empty => Some(MarkReply::Empty),
+            Reply::Open(_) => Some(MarkReply::Open),
+            Reply::Stand => None,
+            Reply::Done => Some(MarkReply::Done),
+            Reply::Held(held) => Some(MarkReply::Held(*held)),
+            Reply::Stopping => Some(MarkReply::Stopping),
+        }
+    }
+}
