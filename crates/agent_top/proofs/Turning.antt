@@ -306,8 +306,8 @@ module _ (limits : Limits) (before after : AtCore) (clock clock_now : Readings) 
             legal = keeps.legal;
             last = keeps.last;
             last_is = keeps.last_is;
-            stands = as_before same;
-            moment = ap (λ (c : AtCore). c.moment) same ∙ keeps.moment;
+            stands = as_before same.same;
+            moment = ap (λ (c : AtCore). c.moment) same.same ∙ keeps.moment;
             free = keeps.free;
             below = keeps.below;
           })
