@@ -1,11 +1,11 @@
 -- A step under the lock, from what the core says of it.
-use Rattle.std.proofs.Common.{◌≡◌, ◌≢◌, ◌⊎◌, ℕ, ◌+◌, ◌-◌, ◌^◌, ◌%◌, ◌<◌, ◌≤◌, ◌==◌, inl, inr, Bool, true, false, cond, List, [], ◌∷◌, ◌++◌, length, map, min, max, Option, Some, None, IfSome, refl, ap, sym, ◌∙◌, subst, arith, length-append, add-zero}
-use Rattle.std.specs.Prelude.{fold, vec_len, vec_capacity}
+use Rattle.std.proofs.Common.{◌≡◌, ◌≢◌, ◌⊎◌, ℕ, ◌+◌, ◌^◌, ◌%◌, ◌<◌, ◌≤◌, ◌==◌, inl, inr, Bool, true, false, cond, List, [], ◌∷◌, ◌++◌, length, Option, Some, None, refl, ap, sym, ◌∙◌, subst, arith, length-append, add-zero}
+use Rattle.std.specs.Prelude.{vec_capacity}
 use Rattle.std.proofs.lemmas.List.{map-append, length-map}
 use Rattle.std.proofs.lemmas.List.Sums.{fold-append}
 use Rattle.std.proofs.lemmas.Bool.{eqb-true, eqb-false}
 use Rattle.agent_ports.specs.declared.session.SessionId.{SessionId}
-use Rattle.cache_policy.specs.declared.bounds.TheConstants.{MAX_MARKS, MAX_MOMENT}
+use Rattle.cache_policy.specs.declared.bounds.TheConstants.{MAX_MARKS}
 use Rattle.cache_policy.specs.declared.life.Limits.{Limits}
 use Rattle.cache_policy.specs.declared.mark.Mark.{Mark}
 use Rattle.cache_policy.specs.declared.mark.MarkStep.{MarkStep}
@@ -28,7 +28,7 @@ use Rattle.cache_policy.specs.Tallies.{with_history, with_one, one_if, is_given,
 use Rattle.cache_policy.specs.Traces.{trace_mark, trace_step, reply_of}
 use Rattle.cache_policy.specs.Turns.{Turn, Given, Empty, Open, Stand, Done, Held as WhetherHeld, Stopping, Refused}
 use Rattle.cache_policy.proofs.BareLemmas.{seat-bare, stopped-bare, policy-bare, legal-bare}
-use Rattle.cache_policy.proofs.Growing.{legal-with_mark, legal-turn_over, seat-turn_over, stopped-turn_over}
+use Rattle.cache_policy.proofs.Growing.{legal-with_mark, legal-turn_over, seat-turn_over}
 use Rattle.cache_policy.proofs.GrowingRuns.{spent-all}
 use Rattle.cache_policy.proofs.Tallying.{tally-with_mark, tally-turn_over}
 use Rattle.agent_core.specs.Cores.{StandsFor, IsStep, IsMarked, IsAsBefore, mark_of}
@@ -40,7 +40,7 @@ use Rattle.agent_lock.specs.declared.state.State.{State}
 use Rattle.std.specs.Prelude.{IsTrue, ◌↔◌}
 use Rattle.agent_lock.specs.Attempts.{IfGiven}
 use Rattle.agent_lock.specs.Counting.{counted, totals, AreSmall}
-use Rattle.agent_lock.specs.Journals.{AtLock, StandsAsBare, IsJournaled, marked, stood, refused, spent, IsLocked, tally_at, carried_on}
+use Rattle.agent_lock.specs.Journals.{IsJournaled, marked, stood, refused, spent, IsLocked, tally_at, carried_on}
 use Rattle.agent_lock.specs.Keeping.{journal_of, next_start, started, carried_to, seen, IsKept}
 
 -- without the bytes of secrets, a history goes on alike

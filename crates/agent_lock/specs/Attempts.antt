@@ -8,7 +8,7 @@ use Rattle.cache_policy.specs.declared.grant.Grant.{Grant}
 use Rattle.cache_policy.specs.declared.mark.MarkStep.{MarkStep}
 use Rattle.cache_policy.specs.Desks.{AtDesk}
 use Rattle.cache_policy.specs.Lifetimes.{default_limits}
-use Rattle.cache_policy.specs.Turns.{Turn, Given, Empty, Open, Stand, Done, Held, Stopping, Refused, FitsReply, FitsStep, out_after}
+use Rattle.cache_policy.specs.Turns.{Turn, Given, Open, Stopping, Refused, FitsReply}
 use Rattle.agent_lock.specs.declared.pass.Counts.{Counts}
 use Rattle.agent_lock.specs.Counting.{counted, one_call}
 

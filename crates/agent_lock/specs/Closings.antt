@@ -1,5 +1,5 @@
 -- What a look at the end found, and the sums of the passes.
-use Rattle.std.specs.Prelude.{◌≡◌, ℕ, List, sum, map, ⊤}
+use Rattle.std.specs.Prelude.{◌≡◌, List, sum, map, ⊤}
 use Rattle.cache_policy.specs.declared.tally.Tally.{Tally}
 use Rattle.agent_lock.specs.declared.pass.Pass.{Pass}
 use Rattle.agent_lock.specs.declared.shared.Closing.{Closing}

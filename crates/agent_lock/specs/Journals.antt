@@ -1,6 +1,6 @@
 -- What lies under the lock: a core, the journal of what was done since it last began with an empty cache, and the tally of what was
 -- done before. The journal has no byte of a secret. This is the project's own.
-use Rattle.std.specs.Prelude.{◌≡◌, ℕ, ◌==◌, Bool, true, false, List, length, map, if◌then◌else◌, Some}
+use Rattle.std.specs.Prelude.{◌≡◌, ℕ, ◌==◌, true, false, length, if◌then◌else◌, Some}
 use Rattle.agent_ports.specs.declared.session.SessionId.{SessionId}
 use Rattle.cache_policy.specs.declared.bounds.TheConstants.{MAX_MARKS}
 use Rattle.cache_policy.specs.declared.mark.MarkStep.{MarkStep}

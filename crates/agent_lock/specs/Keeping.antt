@@ -1,12 +1,11 @@
 -- What the code keeps under the lock.
-use Rattle.std.specs.Prelude.{◌≡◌, ℕ, ◌+◌, ◌==◌, ◌≤◌, List, [], length, map, Option, Some, None, vec_capacity, if◌then◌else◌}
+use Rattle.std.specs.Prelude.{◌≡◌, ◌+◌, ◌==◌, ◌≤◌, List, [], length, map, Option, Some, None, vec_capacity, if◌then◌else◌}
 use Rattle.cache_policy.specs.declared.bounds.TheConstants.{MAX_MARKS}
 use Rattle.cache_policy.specs.declared.history.History.{History}
 use Rattle.cache_policy.specs.declared.tally.Tally.{Tally}
 use Rattle.cache_policy.specs.declared.trace.Trace.{Trace}
 use Rattle.cache_policy.specs.Tallies.{IsSound}
 use Rattle.cache_policy.specs.Traces.{trace_mark}
-use Rattle.agent_core.specs.States.{AtCore}
 use Rattle.agent_lock.specs.declared.state.Start.{Start}
 use Rattle.agent_lock.specs.declared.state.State.{State}
 use Rattle.agent_lock.specs.Journals.{AtLock, StandsAsBare, tally_at}

@@ -1,5 +1,5 @@
 -- The shares of several passes together.
-use Rattle.std.specs.Prelude.{◌≡◌, ◌+◌, ℕ, List, sum, map, length}
+use Rattle.std.specs.Prelude.{◌≡◌, ◌+◌, List, sum, map, length}
 use Rattle.agent_lock.specs.declared.pass.Pass.{Pass}
 use Rattle.agent_lock.specs.declared.locked.Shares.{Shares}
 

@@ -1,6 +1,6 @@
 use Rattle.std.proofs.Common.{rules, ◌≡◌, ◌≢◌, ◌+◌, sym, ◌∙◌, refl}
-use Rattle.cache_policy.specs.Runs.{last_base, moment_of}
-use Rattle.cache_policy.specs.Turns.{mark_step, turn_of}
+use Rattle.cache_policy.specs.Runs.{last_base}
+use Rattle.cache_policy.specs.Turns.{mark_step}
 use Rattle.agent_lock.proofs.Stepping.{marked_kept, marked_journaled, unmarked_kept, unmade, given_up, marks_few, totals_given_up, given_at}
 use Rattle.agent_lock.proofs.state.State.step.Goals as goal
 
