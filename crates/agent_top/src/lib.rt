@@ -2,6 +2,8 @@
 #![tactic(auto)]
 
 mod desk;
+#[cfg(test)]
+mod dialogues;
 mod status;
 mod top;
 mod words;
