@@ -1,5 +1,5 @@
 -- Presets whose passphrase the client is asked for.
-use Rattle.std.proofs.Common.{◌≡◌, ℕ, true, List, [], ◌∷◌, None, Some, refl, sym, subst}
+use Rattle.std.proofs.Common.{◌≡◌, ℕ, true, List, [], ◌∷◌, None, Some}
 use Rattle.assuan_server.specs.Inquiries.{Data}
 use Rattle.cache_policy.specs.declared.life.Life.{Life}
 use Rattle.cache_policy.specs.Turns.{Turn}

@@ -6,7 +6,7 @@ use Rattle.assuan_server.specs.declared.errors.Code.TheVariants.{UnknownCommand}
 use Rattle.assuan_text.specs.Options.{options_of, arguments_of, has_option, last_option, last_value}
 use Rattle.assuan_text.specs.Words.{command_of, rest_of, words}
 use Rattle.agent_commands.specs.Exchanges.{quiet_of, is_quiet}
-use Rattle.agent_commands.specs.Fields.{cache_id, unless_placeholder, text_or, texts, has_texts, repeats, life, mode_of, given_passphrase}
+use Rattle.agent_commands.specs.Fields.{cache_id, unless_placeholder, texts, has_texts, repeats, life, mode_of, given_passphrase}
 use Rattle.agent_commands.specs.Names.{command_named}
 use Rattle.agent_commands.specs.Requests.{◌>>=◌, needed, get_of, preset_of, clear_of, confirmation_of, info_of, asked_by, either, request_of}
 use Rattle.agent_commands.specs.declared.names.CommandName.{CommandName}

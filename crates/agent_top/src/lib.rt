@@ -1,6 +1,8 @@
 //! The agent from bytes to bytes: it reads its words and serves a session on standard input and output.
 #![tactic(auto)]
 
+#[cfg(test)]
+mod dialogues;
 mod status;
 mod top;
 mod words;

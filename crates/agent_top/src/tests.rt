@@ -1,6 +1,7 @@
 ghost use Rattle.std.specs.Prelude.{◌≤◌};
 
 use super::*;
+use crate::dialogues::DIALOGUES;
 use agent_ports::{Got, Link, ListClock, MemHost, MemLink, MemSink, MemSource, Sent, Sink, Source};
 use session_options::Rules;
 use std::alloc::{AllocError, Global};
@@ -49,7 +50,7 @@ fn meets_in_any_pieces(alloc: Global, case: &Case) -> Result<bool, AllocError> {
 }
 
 /// What is sent, and what is written for it. Presets are allowed.
-const ANSWERS: [(&str, &str); 33] = [
+const ANSWERS: [(&str, &str); 30] = [
     (
         "PRESET_PASSPHRASE id1 -1 736563726574\nGET_PASSPHRASE --no-ask --data id1\nBYE\nNOP\n",
         "OK\nD secret\nOK\nOK closing connection\n",
@@ -83,10 +84,6 @@ const ANSWERS: [(&str, &str); 33] = [
         "OK\nOK\nERR 67108922 No data <GPG Agent>\nOK\n",
     ),
     (
-        "PRESET_PASSPHRASE id1 0 61\nCLEAR_PASSPHRASE --mode=ssh id1\nGET_PASSPHRASE --no-ask id1\n",
-        "OK\nOK\nERR 67108922 No data <GPG Agent>\n",
-    ),
-    (
         "PRESET_PASSPHRASE id1 0 61\nCLEAR_PASSPHRASE id2\nGET_PASSPHRASE --no-ask id1\n",
         "OK\nOK\nOK 61\n",
     ),
@@ -97,11 +94,6 @@ const ANSWERS: [(&str, &str); 33] = [
     (
         "PRESET_PASSPHRASE id1 -1 61\nPRESET_PASSPHRASE id2 60 62\nRELOADAGENT\nGET_PASSPHRASE id1\nGET_PASSPHRASE id2\n",
         "OK\nOK\nOK\nERR 67108922 No data <GPG Agent>\nERR 67108922 No data <GPG Agent>\n",
-    ),
-    ("KILLAGENT\nNOP\n", "OK closing connection\n"),
-    (
-        "HELP\n",
-        "# NOP\n# RESET\n# BYE\n# HELP\n# OPTION\n# GETINFO\n# GET_PASSPHRASE\n# PRESET_PASSPHRASE\n# CLEAR_PASSPHRASE\n# RELOADAGENT\n# KILLAGENT\nOK\n",
     ),
     (
         "GETINFO pid\nGETINFO s2k_count\n",
@@ -148,17 +140,30 @@ const ANSWERS: [(&str, &str); 33] = [
     ),
 ];
 
+/// Whether the input is so answered where presets are allowed.
+fn is_answered(alloc: Global, input: &str, output: &str) -> Result<bool, AllocError> {
+    let case = Case {
+        allow_preset: true,
+        input,
+        readings: &[],
+        output,
+        status: 0,
+    };
+    meets_in_any_pieces(alloc, &case)
+}
+
 #[test]
 fn requests_are_answered(rt: HostRuntime) -> Result<(), Fail> {
     for (input, output) in ANSWERS {
-        let case = Case {
-            allow_preset: true,
-            input,
-            readings: &[],
-            output,
-            status: 0,
-        };
-        assert!(rt; meets_in_any_pieces(rt.alloc(), &case)?, "{input}");
+        assert!(rt; is_answered(rt.alloc(), input, output)?, "{input}");
+    }
+    Ok(())
+}
+
+#[test]
+fn the_dialogues_of_the_protocol_go_as_they_stand(rt: HostRuntime) -> Result<(), Fail> {
+    for (input, output) in DIALOGUES {
+        assert!(rt; is_answered(rt.alloc(), input, output)?, "{input}");
     }
     Ok(())
 }
@@ -176,41 +181,34 @@ fn a_preset_needs_the_word_that_allows_it(rt: HostRuntime) -> Result<(), Fail> {
     Ok(())
 }
 
-/// The timeout of a preset and the moments at which it is asked for from then on, at moment 1. The last one finds it gone.
+/// The timeout of a preset, and the readings of the clock at it and at each question for it. The last one finds it gone.
 const LIFETIMES: [(&str, &[u64]); 5] = [
-    ("-1", &[7201, 7202]),
-    ("0", &[601, 1201, 1802]),
+    ("-1", &[0, 7200, 7201]),
+    ("0", &[0, 600, 1200, 1801]),
     (
         "0",
         &[
-            501, 1001, 1501, 2001, 2501, 3001, 3501, 4001, 4501, 5001, 5501, 6001, 6501, 7001,
-            7201, 7202,
+            0, 500, 1000, 1500, 2000, 2500, 3000, 3500, 4000, 4500, 5000, 5500, 6000, 6500, 7000,
+            7200, 7201,
         ],
     ),
-    ("10", &[11, 21, 32]),
-    ("0", &[602]),
+    ("10", &[0, 10, 20, 31]),
+    ("0", &[0, 601]),
 ];
 
 #[test]
 fn a_passphrase_is_given_up_to_its_lifetimes(rt: HostRuntime) -> Result<(), Fail> {
     let alloc = rt.alloc();
-    for (timeout, moments) in LIFETIMES {
-        let mut input = format!(in alloc; "PRESET_PASSPHRASE a {timeout} 7E20\n")?;
-        let mut output = String::from_str(alloc, "OK\n")?;
-        let mut readings = vec![in alloc; 1u64]?;
-        for (place, moment) in moments.iter().enumerate() {
-            input.push_str("GET_PASSPHRASE --no-ask --data a\n")?;
-            output.push_str(if place + 1 < moments.len() {
-                "D ~ \nOK\n"
-            } else {
-                NO_DATA
-            })?;
-            readings.push(*moment)?;
-        }
+    let get = "GET_PASSPHRASE --no-ask --data a\n";
+    for (timeout, readings) in LIFETIMES {
+        let preset = format!(in alloc; "PRESET_PASSPHRASE a {timeout} 7E20\n{get}")?;
+        let given = readings.len().saturating_sub(2);
+        let input = long_text(alloc, &preset, get, given, "")?;
+        let output = long_text(alloc, "OK\n", "D ~ \nOK\n", given, NO_DATA)?;
         let case = Case {
             allow_preset: true,
             input: &input,
-            readings: &readings,
+            readings,
             output: &output,
             status: 0,
         };

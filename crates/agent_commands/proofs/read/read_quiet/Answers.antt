@@ -1,4 +1,4 @@
-use Rattle.std.proofs.Common.{◌≡◌, Option, None, Some, sym, ap, ◌∙◌}
+use Rattle.std.proofs.Common.{◌≡◌, None, Some, sym, ap, ◌∙◌}
 use Rattle.assuan_text.specs.Words.{command_of}
 use Rattle.agent_commands.specs.Names.{command_named}
 use Rattle.agent_commands.specs.declared.names.CommandName.{CommandName}
