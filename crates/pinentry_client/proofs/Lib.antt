@@ -3,3 +3,4 @@ mod Talks
 mod Readiness
 mod Faults
 mod Calling
+mod WholeLemmas
