@@ -1,6 +1,6 @@
 pub mod Ahead
-mod Decided
-mod Parts
+pub mod Decided
+pub mod Parts
 pub mod Places
 pub mod OnlyReading
 mod Reading

@@ -4,3 +4,7 @@ mod Readiness
 mod Faults
 mod Calling
 mod WholeLemmas
+mod OnlyTook
+mod Alike
+mod OnlyTalk
+mod OnlyDialogue

@@ -1,6 +1,7 @@
 -- One prompt from its start to its end, as a dialogue with one child (pinentry manual, "protocol").
-use Rattle.std.specs.Prelude.{◌≡◌, ℕ, Bool, true, List, [], ◌∷◌, is_ok, Option, None, Result}
+use Rattle.std.specs.Prelude.{◌≡◌, ℕ, Bool, true, List, [], ◌∷◌, is_ok, Option, None, Result, ⊤}
 use Rattle.agent_ask.specs.Events.{Call, Start, GetPin, Confirm, Shut}
+use Rattle.agent_ask.specs.Prompters.{is_failed}
 use Rattle.agent_ask.specs.declared.prompter.Consent.{Consent}
 use Rattle.agent_ask.specs.declared.prompter.Opened.{Opened}
 use Rattle.agent_ask.specs.declared.prompter.Opened.TheVariants as opened
@@ -62,3 +63,17 @@ pub data HasItsChild (calls : List Call) (before after : Launches) : Type 0 wher
       → HasItsChild calls before after
   one : (given left written : Option (List ℕ)) → Dialogue calls given left written → before.coming ≡ child_then given after.coming
       → after.finished ≡ then_finished before.finished left written → HasItsChild calls before after
+
+-- the same is asked
+abbrev pub AsksAlike : Call → Call → Type 0
+AsksAlike (Start spec first) (Start other second) = spec ≡ other
+AsksAlike (GetPin error first) (GetPin other second) = error ≡ other
+AsksAlike (Confirm first) (Confirm second) = ⊤
+AsksAlike Shut Shut = ⊤
+AsksAlike _ _ = ⊥
+
+-- the same is asked by each of the calls in turn, and the same ones of them fail
+pub data AskAlike : List Call → List Call → Type 0 where
+  none : AskAlike [] []
+  one : {call other : Call} {calls others : List Call} → AsksAlike call other → is_failed call ≡ is_failed other → AskAlike calls others
+      → AskAlike (call ∷ calls) (other ∷ others)

@@ -309,5 +309,7 @@ fn a_start_may_fail(rt: HostRuntime) -> Result<(), Fail> {
         assert_eq!(rt; played.said.as_slice(), said);
         assert_eq!(rt; played.written.as_slice(), written);
     }
+    a_prompt_has_its_child::<MemLauncher>();
+    a_dialogue_has_one_outcome();
     Ok(())
 }
