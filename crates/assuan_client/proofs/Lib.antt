@@ -1,5 +1,5 @@
 mod Answering
-mod OnlyAnswer
+pub mod OnlyAnswer
 mod Passing
 mod Sending
 mod WorkedExamples

@@ -14,7 +14,7 @@ use Rattle.std.proofs.lemmas.Bool.{le-leb, lt-leb, ne_eqb}
 use Rattle.assuan_client.specs.Answers.{success_of, inquiry_after}
 
 -- the answer by a line of this form that isn't passed over
-abbrev by_form : Tally → List ℕ → Form → Answer
+abbrev pub by_form : Tally → List ℕ → Form → Answer
 by_form tally line form.Data = answer.Broken breach.TooMuch
 by_form tally line form.Note = answer.Broken breach.Many
 by_form tally line form.Ok = success_of tally.bytes
@@ -22,7 +22,7 @@ by_form tally line (form.Err number) = answer.Err number
 by_form tally line (form.Inquiry word text) = inquiry_after tally word text
 by_form tally line form.Foreign = answer.Broken (breach.Line line)
 
-is_by_form : {tally : Tally} {line : List ℕ} {says : Answer} → Says tally (Line line) says → says ≡ by_form tally line (form_of line)
+pub is_by_form : {tally : Tally} {line : List ℕ} {says : Answer} → Says tally (Line line) says → says ≡ by_form tally line (form_of line)
 is_by_form {tally} (Says.ok is none) = rw (is, none) refl
 is_by_form {tally} (Says.got is some) = rw (is, ne_eqb (length tally.bytes) 0 (λ none. omega arith)) refl
 is_by_form (Says.err is) = rw is refl

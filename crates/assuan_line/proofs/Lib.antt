@@ -1,5 +1,5 @@
 pub mod Ahead
-mod Decided
+pub mod Decided
 pub mod Parts
 pub mod Places
 pub mod OnlyReading

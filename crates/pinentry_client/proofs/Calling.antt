@@ -27,7 +27,7 @@ pin_ready_after error outcome.TimedOut = refl
 pin_ready_after error outcome.Failed = refl
 pin_ready_after error (outcome.Broken why) = refl
 
-pin_is_failed : (error : List ℕ) (what : Outcome) → is_failed (GetPin error what) ≡ pin_failed what
+pub pin_is_failed : (error : List ℕ) (what : Outcome) → is_failed (GetPin error what) ≡ pin_failed what
 pin_is_failed error (outcome.Pin pin) = refl
 pin_is_failed error outcome.Cancelled = refl
 pin_is_failed error outcome.TimedOut = refl
@@ -42,7 +42,7 @@ consent_ready_after consent.TimedOut = refl
 consent_ready_after consent.Failed = refl
 consent_ready_after (consent.Broken why) = refl
 
-consent_is_failed : (what : Consent) → is_failed (Confirm what) ≡ consent_failed what
+pub consent_is_failed : (what : Consent) → is_failed (Confirm what) ≡ consent_failed what
 consent_is_failed consent.Yes = refl
 consent_is_failed consent.No = refl
 consent_is_failed consent.Cancelled = refl
@@ -55,7 +55,7 @@ start_ready_after spec (Ok pid) = refl
 start_ready_after spec (Err Failed) = refl
 start_ready_after spec (Err (Broken why)) = refl
 
-start_is_failed : (spec : PromptSpec) (end : Result ℕ Trouble) → is_failed (Start spec (opened_of end)) ≡ fails_by end
+pub start_is_failed : (spec : PromptSpec) (end : Result ℕ Trouble) → is_failed (Start spec (opened_of end)) ≡ fails_by end
 start_is_failed spec (Ok pid) = refl
 start_is_failed spec (Err Failed) = refl
 start_is_failed spec (Err (Broken why)) = refl

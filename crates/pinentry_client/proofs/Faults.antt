@@ -205,7 +205,7 @@ pin_fails (answer.Broken why) failed = cc failed
 pin_fails answer.ReadFault failed = refl
 pin_fails answer.WriteFault failed = refl
 
-trouble_fails : (trouble : Trouble) → pin_failed (outcome_by trouble) ≡ is_failure trouble
+pub trouble_fails : (trouble : Trouble) → pin_failed (outcome_by trouble) ≡ is_failure trouble
 trouble_fails Failed = refl
 trouble_fails (Broken why) = refl
 

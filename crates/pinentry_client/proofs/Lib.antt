@@ -3,3 +3,8 @@ mod Talks
 mod Readiness
 mod Faults
 mod Calling
+mod WholeLemmas
+mod OnlyTook
+mod Alike
+mod OnlyTalk
+mod OnlyDialogue

@@ -3,3 +3,4 @@ pub mod Answers
 pub mod Talking
 pub mod States
 pub mod Dialogues
+pub mod Whole

@@ -2,6 +2,7 @@
 #![tactic(auto)]
 
 mod answers;
+mod laws;
 mod pinentry;
 mod settings;
 mod talk;
@@ -14,4 +15,5 @@ use session_options::MAX_VALUE_LEN;
 /// The path of a program.
 pub type Word = ArrayVec<u8, MAX_VALUE_LEN>;
 
+pub use laws::{a_dialogue_has_one_outcome, a_prompt_has_its_child};
 pub use pinentry::{BUDGET, Pinentry};

@@ -199,7 +199,8 @@ fn all_that_is_given_is_told_in_its_order(rt: HostRuntime) -> Result<(), Fail> {
         b"OK Pleased to meet you\nOK\nOK\nERR 1\nOK\nOK\nD 4711\nOK\nOK\nOK\nOK\nOK\nOK\nOK\nOK\nD horse\nOK\n";
     let played = play(rt.alloc(), &full(), Asks::Pin(b""), gives, &[])?;
     let told: &[u8] =
-        b"OPTION ttyname=/dev/pts/1\nOPTION ttytype=xterm\nOPTION lc-ctype=C.UTF-8\nOPTION lc-messages=C.UTF-8\nSETTIMEOUT 60\nGETINFO pid\nSETKEYINFO --clear\nSETTITLE Title\nSETDESC Enter passphrase%0AFor 100%25\nSETPROMPT Passphrase:\nSETOK Yes\nSETCANCEL N%C3%B6\nSETQUALITYBAR\nGETPIN\nBYE\n";
+        b"OPTION ttyname=/dev/pts/1\nOPTION ttytype=xterm\nOPTION lc-ctype=C.UTF-8\nOPTION lc-messages=C.UTF-8\n\
+        SETTIMEOUT 60\nGETINFO pid\nSETKEYINFO --clear\nSETTITLE Title\nSETDESC Enter passphrase%0AFor 100%25\nSETPROMPT Passphrase:\nSETOK Yes\nSETCANCEL N%C3%B6\nSETQUALITYBAR\nGETPIN\nBYE\n";
     assert_eq!(rt; played.said.as_slice(), b"pin horse".as_slice());
     assert_eq!(rt; played.written.as_slice(), told);
     Ok(())
@@ -238,7 +239,8 @@ const ANSWERS: [(Asks, &[u8], &[u8], &[u8]); 22] = [
     (Asks::Pin(b""), b"ERR 83886355 no\n", b"code 83886355", b""),
     (
         Asks::Pin(b""),
-        b"D aaaaaaaaaaaaaaaaaaaaaaaaaaaaaaaaaaaaaaaaaaaaaaaaaaaaaaaaaaaaaaaaaaaaaaaaaaaaaaaaaaaaaaaaaaaaaaaaaaaaaaaaaaaaaaaaaaaaaaaaaaaaaaaaaaaaaaaaaaaaaaaaaaaaaaaaaaaaaaaaaaaaaaaaaaaaaaaaaaaaaaaaaaaaaaaaaaaaaaaa\nD aaaaaaaaaaaaaaaaaaaaaaaaaaaaaaaaaaaaaaaaaaaaaaaaaaaaaaaa\nOK\n",
+        b"D aaaaaaaaaaaaaaaaaaaaaaaaaaaaaaaaaaaaaaaaaaaaaaaaaaaaaaaaaaaaaaaaaaaaaaaaaaaaaaaaaaaaaaaaaaaaaaaaaaaaaaaaaaaaaaaaaaaaaaaaaaaaaaaaaaaaaaaaaaaaaaaaaaaaaaaaaaaaaaaaaaaaaaaaaaaaaaaaaaaaaaaaaaaaaaaaaaaaaaaa\n\
+        D aaaaaaaaaaaaaaaaaaaaaaaaaaaaaaaaaaaaaaaaaaaaaaaaaaaaaaaa\nOK\n",
         b"too much",
         b"",
     ),
@@ -307,5 +309,7 @@ fn a_start_may_fail(rt: HostRuntime) -> Result<(), Fail> {
         assert_eq!(rt; played.said.as_slice(), said);
         assert_eq!(rt; played.written.as_slice(), written);
     }
+    a_prompt_has_its_child::<MemLauncher>();
+    a_dialogue_has_one_outcome();
     Ok(())
 }

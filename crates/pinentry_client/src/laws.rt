@@ -1,0 +1,24 @@
+//! Laws: each function's contract is a fact about the definitions.
+
+ghost use Rattle.std.specs.Prelude.{◌≡◌, ℕ, List, Option, Some};
+ghost use Rattle.agent_ask.specs.Events.{Call};
+ghost use Rattle.agent_ports.specs.Leads.{Leads};
+ghost use Rattle.pinentry_client.specs.Dialogues.{PinentryCall};
+ghost use Rattle.pinentry_client.specs.States.{PinentryState};
+ghost use Rattle.pinentry_client.specs.Whole.{IsOnePrompt, HasItsChild, Dialogue, AskAlike};
+
+use agent_ports::Launcher;
+
+/// The calls of one prompt are a dialogue with one child, which is the next that the launcher starts, and then the last that it has
+/// finished. Where it couldn't be started, there is no child.
+pub fn a_prompt_has_its_child<La: Launcher>()
+    ensures { (before after : PinentryState La) (calls : List Call) → IsOnePrompt calls → Leads (PinentryCall La.launches) before calls after
+        → HasItsChild calls (La.launches before.launcher) (La.launches after.launcher) }
+{}
+
+/// The bytes that a child could give decide what the calls of a prompt are answered: where the same is asked and the same calls fail, the
+/// answers are the same.
+pub fn a_dialogue_has_one_outcome()
+    ensures { (calls others : List Call) (given : List ℕ) (left rest written other : Option (List ℕ)) → Dialogue calls (Some given) left written
+        → Dialogue others (Some given) rest other → AskAlike calls others → calls ≡ others }
+{}
