@@ -1,4 +1,4 @@
--- Steps that want the prompt.
+-- Private: steps that want the prompt.
 use Rattle.cache_policy.specs.declared.mark.Way.TheVariants.{Prompt}
 use Rattle.cache_policy.specs.declared.step.Step.{Step}
 use Rattle.cache_policy.specs.declared.step.Step.TheVariants.{Ask, Seat}

@@ -1,4 +1,4 @@
--- The shares of several passes together.
+-- Private: the shares of several passes together.
 use Rattle.std.specs.Prelude.{◌≡◌, ◌+◌, List, sum, map, length}
 use Rattle.agent_lock.specs.declared.pass.Pass.{Pass}
 use Rattle.agent_lock.specs.declared.locked.Shares.{Shares}
