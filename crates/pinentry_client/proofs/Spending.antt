@@ -1,5 +1,6 @@
 -- A child is spent only where so many bytes of it were taken as its connection may take.
-use Rattle.std.proofs.Common.{◌≡◌, ◌≢◌, ◌+◌, ◌%◌, ◌==◌, ◌&&◌, codes, ℕ, Bool, true, false, cond, nat_lt, List, ◌∷◌, length, is_ok, Option, Some, None, Result, Ok, Err, refl, ap, sym, subst, ◌∙◌, arith}
+use Rattle.std.proofs.Common.{◌≡◌, ◌≢◌, ◌+◌, ◌%◌, ◌==◌, ◌&&◌, codes, ℕ, Bool, true, false, cond, nat_lt, List}
+use Rattle.std.proofs.Common.{◌∷◌, length, is_ok, Option, Some, None, Result, Ok, Err, refl, ap, sym, subst, ◌∙◌, arith}
 use Rattle.std.specs.Str.{bytes_eq}
 use Rattle.agent_ports.specs.Sides.{Side}
 use Rattle.agent_ask.specs.Events.{Call, Start, GetPin, Confirm}
