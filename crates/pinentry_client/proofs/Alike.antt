@@ -39,7 +39,7 @@ goes_on answer.ReadFault = false
 goes_on answer.WriteFault = false
 
 -- what is known of the bytes before is known of those after
-both_known : (before after : Option (List ℕ)) (P Q : List ℕ → List ℕ → Type 0) (rest : List ℕ) → before ≡ Some rest → WhereKnown before after P → WhereKnown before after Q
+pub both_known : (before after : Option (List ℕ)) (P Q : List ℕ → List ℕ → Type 0) (rest : List ℕ) → before ≡ Some rest → WhereKnown before after P → WhereKnown before after Q
     → (left : List ℕ) × (after ≡ Some left) × P rest left × Q rest left
 both_known None after P Q rest is first second = let never = is in absurd (cc never)
 both_known (Some was) None P Q rest is first second = absurd first

@@ -8,3 +8,4 @@ mod OnlyTook
 mod Alike
 mod OnlyTalk
 mod OnlyDialogue
+mod Spending

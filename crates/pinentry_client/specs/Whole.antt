@@ -3,15 +3,18 @@ use Rattle.std.specs.Prelude.{◌≡◌, ℕ, Bool, true, List, [], ◌∷◌, i
 use Rattle.agent_ask.specs.Events.{Call, Start, GetPin, Confirm, Shut}
 use Rattle.agent_ask.specs.Prompters.{is_failed}
 use Rattle.agent_ask.specs.declared.prompter.Consent.{Consent}
+use Rattle.agent_ask.specs.declared.prompter.Consent.TheVariants as agreed
 use Rattle.agent_ask.specs.declared.prompter.Opened.{Opened}
 use Rattle.agent_ask.specs.declared.prompter.Opened.TheVariants as opened
 use Rattle.agent_ask.specs.declared.prompter.Outcome.{Outcome}
+use Rattle.agent_ask.specs.declared.prompter.Outcome.TheVariants as outcome
 use Rattle.agent_ask.specs.declared.spec.PromptSpec.{PromptSpec}
 use Rattle.agent_ports.specs.Launches.{Launches, IsFresh, child_then, then_finished}
 use Rattle.agent_ports.specs.Sides.{Side}
 use Rattle.assuan_client.specs.Connections.{Connection}
 use Rattle.assuan_client.specs.Passing.{nothing}
 use Rattle.assuan_client.specs.declared.answer.State.TheVariants.{Ready}
+use Rattle.assuan_line.specs.declared.breach.Breach.TheVariants as breach
 use Rattle.pinentry_client.specs.Dialogues.{SaysBye, opened_of, stays_ready, stays_open}
 use Rattle.pinentry_client.specs.Talking.{StartTalk, PinTalk, ConsentTalk}
 use Rattle.pinentry_client.specs.declared.answers.Trouble.{Trouble}
@@ -77,3 +80,14 @@ pub data AskAlike : List Call → List Call → Type 0 where
   none : AskAlike [] []
   one : {call other : Call} {calls others : List Call} → AsksAlike call other → is_failed call ≡ is_failed other → AskAlike calls others
       → AskAlike (call ∷ calls) (other ∷ others)
+
+-- a call was answered that the bytes allowed of its child were all taken
+abbrev pub IsSpent : Call → Type 0
+IsSpent (Start spec (opened.Broken breach.Spent)) = ⊤
+IsSpent (GetPin error (outcome.Broken breach.Spent)) = ⊤
+IsSpent (Confirm (agreed.Broken breach.Spent)) = ⊤
+IsSpent _ = ⊥
+
+pub data HasSpent : List Call → Type 0 where
+  here : {call : Call} {more : List Call} → IsSpent call → HasSpent (call ∷ more)
+  later : {call : Call} {more : List Call} → HasSpent more → HasSpent (call ∷ more)

@@ -1,11 +1,12 @@
 //! Laws: each function's contract is a fact about the definitions.
 
-ghost use Rattle.std.specs.Prelude.{◌≡◌, ℕ, List, Option, Some};
+ghost use Rattle.std.specs.Prelude.{◌≡◌, ◌+◌, ℕ, List, length, Option, Some};
 ghost use Rattle.agent_ask.specs.Events.{Call};
 ghost use Rattle.agent_ports.specs.Leads.{Leads};
 ghost use Rattle.pinentry_client.specs.Dialogues.{PinentryCall};
 ghost use Rattle.pinentry_client.specs.States.{PinentryState};
-ghost use Rattle.pinentry_client.specs.Whole.{IsOnePrompt, HasItsChild, Dialogue, AskAlike};
+ghost use Rattle.pinentry_client.specs.Whole.{IsOnePrompt, HasItsChild, Dialogue, AskAlike, HasSpent};
+ghost use Rattle.pinentry_client.specs.declared.pinentry.TheConstants.{BUDGET};
 
 use agent_ports::Launcher;
 
@@ -21,4 +22,10 @@ pub fn a_prompt_has_its_child<La: Launcher>()
 pub fn a_dialogue_has_one_outcome()
     ensures { (calls others : List Call) (given : List ℕ) (left rest written other : Option (List ℕ)) → Dialogue calls (Some given) left written
         → Dialogue others (Some given) rest other → AskAlike calls others → calls ≡ others }
+{}
+
+/// A call is answered that a child is spent only where all the bytes were taken that are allowed of it.
+pub fn a_spent_child_gave_all()
+    ensures { (calls : List Call) (given : List ℕ) (left written : Option (List ℕ)) → Dialogue calls (Some given) left written → HasSpent calls
+        → (rest : List ℕ) × (left ≡ Some rest) × (length given ≡ length rest + BUDGET) }
 {}

@@ -311,5 +311,6 @@ fn a_start_may_fail(rt: HostRuntime) -> Result<(), Fail> {
     }
     a_prompt_has_its_child::<MemLauncher>();
     a_dialogue_has_one_outcome();
+    a_spent_child_gave_all();
     Ok(())
 }
