@@ -217,6 +217,24 @@ fn a_passphrase_is_given_up_to_its_lifetimes(rt: HostRuntime) -> Result<(), Fail
     Ok(())
 }
 
+#[test]
+fn the_cache_begins_empty_again_behind_a_full_history(rt: HostRuntime) -> Result<(), Fail> {
+    let alloc = rt.alloc();
+    // The preset and 131,071 requests fill the history.
+    let preset = "PRESET_PASSPHRASE a -1 31\n";
+    let input = long_text(alloc, preset, "GET_PASSPHRASE a\n", 131_072, "")?;
+    let output = long_text(alloc, "OK\n", "OK 31\n", 131_071, NO_DATA)?;
+    let case = Case {
+        allow_preset: true,
+        input: &input,
+        readings: &[],
+        output: &output,
+        status: 0,
+    };
+    assert!(rt; meets(alloc, &case, 4096)?);
+    Ok(())
+}
+
 /// What the client answers to the question for a passphrase and sends behind it, what is written then, and the status.
 const INQUIRIES: [(&str, &str, u8); 7] = [
     (
