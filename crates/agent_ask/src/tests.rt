@@ -168,14 +168,14 @@ struct AllBut {
 }
 
 impl Test for AllBut {
-    ghost use Rattle.std.specs.Prelude.{◌≡◌, ◌≢◌};
-    ghost use Rattle.agent_ask.specs.Tests.{Judges};
+    ghost use Rattle.std.specs.Prelude.{◌≢◌};
+    ghost use Rattle.agent_ask.specs.Tests.{IsTest};
 
     ghost rule = { λ test pin. pin ≢ test.wrong.now };
 
-    ghost tested = { λ before pin answer after. Judges (pin ≢ before.wrong.now) answer × (after ≡ before) };
+    ghost tested = { λ before pin answer after. IsTest (λ typed. typed ≢ before.wrong.now) pin answer (λ typed. typed ≢ after.wrong.now) };
 
-    ghost promise = { λ before pin answer after does. record { judges = does.0; same = rw does.1 (record { to = λ p is. is; from = λ p is. is }) } };
+    ghost promise = { λ before pin answer after does. does };
 
     fn accepts(&mut self, pin: &Secret) -> Tested {
         if pin.bytes() == self.wrong {
