@@ -194,6 +194,16 @@ fn dialogues_go_byte_for_byte(rt: HostRuntime) -> Result<(), Fail> {
 }
 
 #[test]
+fn a_child_that_ends_early_has_broken_the_prompt(rt: HostRuntime) -> Result<(), Fail> {
+    let whole: &[u8] = b"OK\nD 7\nOK\nOK\nINQUIRE QUALITY ab\nD ab\nOK\n";
+    for len in 0..whole.len() {
+        let played = play(rt.alloc(), &plain(), Asks::Pin(b""), &whole[..len], &[])?;
+        assert_eq!(rt; played.said.as_slice(), b"ended".as_slice(), "{len}");
+    }
+    Ok(())
+}
+
+#[test]
 fn all_that_is_given_is_told_in_its_order(rt: HostRuntime) -> Result<(), Fail> {
     let gives =
         b"OK Pleased to meet you\nOK\nOK\nERR 1\nOK\nOK\nD 4711\nOK\nOK\nOK\nOK\nOK\nOK\nOK\nOK\nD horse\nOK\n";
