@@ -9,7 +9,7 @@ use Rattle.agent_commands.specs.Outside.{World}
 use Rattle.agent_commands.specs.States.{WritesText, StopsWriting, SessionState, AnswersRequest, ReaderAfter}
 use Rattle.agent_commands.specs.Steps.{RespondsTo, silent, written, cut as stopped, CarriesOut}
 use Rattle.agent_commands.specs.Talks.{whole, cut}
-use Rattle.agent_commands.specs.declared.command.Answer.{Answer}
+use Rattle.agent_commands.specs.declared.answer.Answer.{Answer}
 use Rattle.agent_commands.specs.declared.response.WriteFault.{WriteFault}
 use Rattle.agent_commands.specs.declared.went.SessionEnd.TheVariants.{WriteFault as CutOff}
 use Rattle.agent_commands.specs.declared.went.Went.{Went}

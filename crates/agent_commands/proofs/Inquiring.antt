@@ -1,32 +1,29 @@
 -- An inquiry for a passphrase, from what is told before it to what it came to.
 use Rattle.std.proofs.Common.{◌≡◌, ◌≤◌, ℕ, List, [], ◌∷◌, ◌++◌, None, Some, Result, Ok, Err, refl, ap, sym, ◌∙◌, subst, arith}
-use Rattle.std.specs.List.{flat_map}
+use Rattle.std.specs.Prelude.{codes}
 use Rattle.agent_ports.specs.Counts.{Rose}
-use Rattle.agent_ports.specs.Leads.{none, one}
-use Rattle.agent_ports.specs.declared.link.Sent.TheVariants.{Failed}
-use Rattle.assuan_escape.specs.DataLines.{carried}
 use Rattle.assuan_line.specs.Next.{Reader, held}
 use Rattle.assuan_line.specs.Written.{HasCut}
 use Rattle.assuan_line.specs.declared.reader.Took.{Took}
 use Rattle.assuan_line.proofs.ReadingOn.{fewer_so, fault_so}
 use Rattle.assuan_server.specs.Asking.{Gather, Inquire, ReadsAnswer as AnswerSays}
 use Rattle.assuan_server.specs.Connections.{Connection}
-use Rattle.assuan_server.specs.Inquiries.{Outcome, Data, Inquiry as Inquires, ComesTo, is_skipped, Answers, outcome_of_secret, ended_of}
+use Rattle.assuan_server.specs.Inquiries.{Outcome, Data, Inquiry as Inquires, Answers, outcome_of_secret, ended_of}
 use Rattle.assuan_server.specs.Inquiries as outcome
 use Rattle.assuan_server.specs.declared.inquiry.InquiredSecret.{InquiredSecret}
 use Rattle.assuan_server.specs.declared.inquiry.InquiredSecret.TheVariants as inquired
-use Rattle.assuan_server.specs.Written.{HasWritten}
 use Rattle.assuan_text.specs.LineEnds.{line_of}
 use Rattle.cache_policy.specs.declared.secret.TheConstants.{MAX_SECRET_LEN}
 use Rattle.agent_commands.specs.Events.{Event, Sent, Cut, Asked, NotAsked}
 use Rattle.agent_commands.specs.Exchanges.{BringsNone, not_brought, limit_cut, cancelled, too_much, unexpected, too_long, ended, spent, read_fault, write_fault, limit_line, inquiry}
-use Rattle.agent_commands.specs.Outside.{World, asked, not_asked}
-use Rattle.agent_commands.specs.Reading.{ReadsAnswer}
-use Rattle.agent_commands.specs.States.{WritesText, SessionState, unread, IsTotal, EventsLead, ReaderAfter, FaultsRise}
-use Rattle.agent_commands.specs.Steps.{secret_text, Responds, InquiresSecret, AsksSecret, limit_cut as limit_stopped, asked as asked_for, answer_of}
-use Rattle.agent_commands.specs.declared.command.Answer.{Answer}
+use Rattle.agent_commands.specs.Outside.{World}
+use Rattle.agent_commands.specs.States.{WritesText, SessionState, EventsLead, ReaderAfter, FaultsRise}
+use Rattle.agent_commands.specs.Steps.{secret_text, Responds, Carries, InquiresSecret, AsksSecret, limit_cut as limit_stopped, asked as asked_for, answer_of}
+use Rattle.agent_commands.specs.declared.answer.Answer.{Answer}
+use Rattle.agent_commands.specs.declared.went.Went.{Went}
 use Rattle.agent_commands.specs.declared.went.Went.TheVariants.{On}
-use Rattle.agent_commands.proofs.Doing.{done_then, done_wrote, done_cut, read_known, reads_past, here_going, needed_known, unread_same, total_same}
+use Rattle.agent_commands.proofs.Asking.{known_as, done_asked, done_not_asked}
+use Rattle.agent_commands.proofs.Doing.{done_then, done_wrote, done_cut}
 use Rattle.agent_commands.proofs.Saying.{said_whole}
 
 -- what was done where the client gave no passphrase that it was asked for, and how that is answered
@@ -47,46 +44,15 @@ module _ (w : World) (desk : w.Desk) (ends : w.Ends) where
   abbrev at_conn : Connection → SessionState w
   at_conn conn = record { conn = conn; desk = desk; ends = ends }
 
-  -- the line that asks wasn't written whole
-  done_not_asked : (start now : Connection) (count : ℕ) (part : HasWritten (line_of secret_text) start (Failed count) now)
-      → EventsLead {w = w} (inquiry (NotAsked part.output.sent) ∷ []) (at_conn start) (at_conn now)
-  done_not_asked start now count part =
-      let cut : HasCut (line_of secret_text) start.output count now.output = part.output in
-      record {
-        leads = λ total is. (rw (unread_same start now part.input part.reader, ap (λ s. s.bytes) part.input, cut.written) (one (not_asked cut.unsent cut.split) none), total_same total start now part.input part.reader is);
-        input_faults = omega (arith, ap (λ s. s.faults) part.input);
-        output_faults = part.faults;
-        link = part.link;
-      }
-
   -- `mid` is the connection after the limit was told
   module _ (start mid now : Connection) (said : WritesText limit_line start (Ok tt) mid) where
     -- the client answered
-    module _ (going : mid.reader.ended ≡ None) (what : Outcome) (answer : Took) (gathered : Gather (AnswerSays MAX_SECRET_LEN (Answers (Some what))) secret_text mid answer now) where
-      answer_read : (total : ℕ) (rest left : List ℕ) → IsTotal total now.reader left
-          → AnswerSays MAX_SECRET_LEN (Answers (Some what)) (mid.reader.ahead ++ rest) answer now.reader left
-          → ReadsAnswer total MAX_SECRET_LEN (mid.reader.ahead ++ rest) what (unread now.reader left)
-      answer_read total rest left is read =
-          let inquiry : Inquires MAX_SECRET_LEN (mid.reader.ahead ++ rest) answer read.0 now.reader left = read.1 in
-          record {
-            lines = inquiry.lines;
-            took = answer;
-            past = reads_past (λ before line. is_skipped line) total (mid.reader.ahead ++ rest) inquiry.lines answer now.reader left gathered.read.ended is inquiry.reads;
-            comes_to = subst (λ o. ComesTo 255 (flat_map carried inquiry.lines) answer o) (sym read.2) inquiry.comes_to;
-          }
-
-      done_asked : EventsLead {w = w} (inquiry (Asked what) ∷ []) (at_conn mid) (at_conn now)
-      done_asked = record {
-        leads = λ total is.
-            let read = read_known total mid.reader now.reader mid.input.bytes now.input.bytes _ (λ bytes rest. ReadsAnswer total MAX_SECRET_LEN bytes what rest)
-            gathered.read.known gathered.read.budget is
-            (λ rest left is_now known.
-            subst (λ (b : List ℕ). ReadsAnswer total MAX_SECRET_LEN b what (unread now.reader left)) (sym (here_going mid.reader rest going)) (answer_read total rest left is_now known)) in
-            (rw gathered.written (one (asked read.0 (needed_known _ mid.reader mid.input.bytes now.input.bytes going gathered.read.needed)) none), read.1);
-        input_faults = gathered.read.faults;
-        output_faults = gathered.output_faults;
-        link = gathered.link;
-      }
+    answered_so : mid.reader.ended ≡ None → (what : Outcome) (answer : Took) → Gather (AnswerSays MAX_SECRET_LEN (Answers (Some what))) secret_text mid answer now
+        → EventsLead {w = w} (inquiry (Asked what) ∷ []) (at_conn mid) (at_conn now)
+    answered_so going what answer gathered =
+        done_asked w desk ends (codes "PASSPHRASE") [] MAX_SECRET_LEN mid now going what answer gathered
+        (known_as mid.input.bytes now.input.bytes _ (λ rest left. Inquires MAX_SECRET_LEN (mid.reader.ahead ++ rest) answer what now.reader left)
+        (λ rest left read. subst (λ o. Inquires MAX_SECRET_LEN (mid.reader.ahead ++ rest) answer o now.reader left) (sym read.2) read.1) gathered.read.known)
 
     module _ (going : mid.reader.ended ≡ None) (inquired_what : InquiredSecret) (inquires : InquiresSecret mid inquired_what now) where
       -- the client was asked where something came of it
@@ -99,7 +65,7 @@ module _ (w : World) (desk : w.Desk) (ends : w.Ends) where
         asked_so : EventsLead {w = w} (Sent limit_line ∷ inquiry (Asked what) ∷ []) (at_conn start) (at_conn now)
         asked_so =
             let inquire = inquire_so what says in
-            done_then (done_wrote desk ends limit_line start mid said) (done_asked going what inquire.took inquire.gathered)
+            done_then (done_wrote desk ends limit_line start mid said) (answered_so going what inquire.took inquire.gathered)
 
         ended_as : now.reader.ended ≡ ended_of what
         ended_as = let inquire = inquire_so what says in inquire.gathered.read.ended ∙ inquire.ended what refl
@@ -174,7 +140,7 @@ module _ (w : World) (desk : w.Desk) (ends : w.Ends) where
         record {
           events = Sent limit_line ∷ inquiry (NotAsked cut.sent) ∷ [];
           brings = λ more is. rw is (not_brought write_fault);
-          done = done_then (done_wrote desk ends limit_line start mid said) (done_not_asked mid now part.0 part.1);
+          done = done_then (done_wrote desk ends limit_line start mid said) (done_not_asked w desk ends (codes "PASSPHRASE") [] MAX_SECRET_LEN mid now part.0 part.1);
           fits = tt;
           faults = record { read = λ e. absurd (cc e); write = λ e. omega (arith, said.faults, cut.rose) };
         }
@@ -193,3 +159,14 @@ module _ (w : World) (desk : w.Desk) (ends : w.Ends) where
       }
   asks_secret start now result going (asked_for mid what told inquires) =
       inquired_so start mid now (said_whole limit_line start mid told) (ap (λ (r : Reader). r.ended) told.reader ∙ going) what inquires
+
+-- a part of a request in which the client gave none
+pub in_vain : {w : World} {part : List (Event w.Further) → Went → Type 0} {start now : SessionState w} {answer : Answer}
+    → ((events : List (Event w.Further)) → BringsNone events answer.went → part events answer.went) → InquiresInVain start answer now → Carries part start answer now
+in_vain each vain = record {
+  events = vain.events;
+  exchanges = λ more is. each _ (vain.brings more is);
+  done = vain.done;
+  fits = vain.fits;
+  faults = vain.faults;
+}

@@ -1,5 +1,6 @@
 -- Requests that are prepared to be answered.
 use Rattle.std.proofs.Common.{◌≡◌, ℕ, List, [], ◌∷◌, None, Some, refl, sym, subst, arith}
+use Rattle.agent_ask.specs.Events.{PromptEvent}
 use Rattle.assuan_line.specs.Next.{Reader}
 use Rattle.assuan_server.specs.Connections.{Connection}
 use Rattle.cache_policy.specs.declared.mark.MarkStep.{MarkStep}
@@ -8,10 +9,10 @@ use Rattle.session_options.specs.Choices.{Choices}
 use Rattle.session_options.specs.declared.rules.Rules.{Rules}
 use Rattle.agent_commands.specs.Events.{Event, Sent, cache_turn}
 use Rattle.agent_commands.specs.Exchanges.{Exchange, one_turn, IsOneTurn, preset, clear, reload, kill, done, interrupted}
-use Rattle.agent_commands.specs.Outside.{World}
+use Rattle.agent_commands.specs.Outside.{World, world_with}
 use Rattle.agent_commands.specs.States.{SessionState, ReaderAfter, FaultsRise}
 use Rattle.agent_commands.specs.Steps.{IsText, Responds, CarriesOut, AnswersTurn, is_done, is_interrupted, TakesTurn}
-use Rattle.agent_commands.specs.declared.command.Answer.{Answer}
+use Rattle.agent_commands.specs.declared.answer.Answer.{Answer}
 use Rattle.agent_commands.specs.declared.request.CacheCommand.{CacheCommand}
 use Rattle.agent_commands.specs.declared.request.Request.TheVariants.{Cache}
 use Rattle.agent_commands.specs.declared.response.Response.{Response}
@@ -19,12 +20,8 @@ use Rattle.agent_commands.specs.declared.response.Response.TheVariants.{Failed}
 use Rattle.agent_commands.specs.declared.went.SessionEnd.TheVariants.{Bye}
 use Rattle.agent_commands.specs.declared.went.Went.{Went}
 use Rattle.agent_commands.specs.declared.went.Went.TheVariants.{On, End}
+use Rattle.agent_commands.proofs.Carrying.{responds, carry_answer}
 use Rattle.agent_commands.proofs.Doing.{done_none, done_turned}
-
--- what a response does is to write its text
-pub responds : {F : Type 0} (P : List (Event F) → Type 0) (response : Response) → ((text : List ℕ) → IsText response text → P (Sent text ∷ []))
-    → (more : List (Event F)) → Responds (Some response) more → P more
-responds P response each more is = subst P (sym is.2) (each is.0 is.1)
 
 module _ {w : World} (exchange : List (Event w.Further) → Choices → Went → Type 0) (after : Choices) (answer : Answer) (response : Response) where
   module _ (start : SessionState w) (going : start.conn.reader.ended ≡ None) where
@@ -32,13 +29,7 @@ module _ {w : World} (exchange : List (Event w.Further) → Choices → Went →
     pub prepared_on : answer ≡ record { response = Some response; went = On } → ((text : List ℕ) → IsText response text → exchange (Sent text ∷ []) after On)
         → CarriesOut exchange start answer after start
     prepared_on is exchanges =
-        subst (λ a. CarriesOut exchange start a after start) (sym is) (record {
-          events = [];
-          exchanges = responds (λ more. exchange more after On) response exchanges;
-          done = done_none start;
-          fits = (going, omega arith);
-          faults = record { read = λ e. absurd (cc e); write = λ e. absurd (cc e) };
-        })
+        subst (λ a. CarriesOut exchange start a after start) (sym is) (carry_answer (λ events went. exchange events after went) response going exchanges)
 
     -- and the session is over
     pub prepared_last : answer ≡ record { response = Some response; went = End Bye } → ((text : List ℕ) → IsText response text → exchange (Sent text ∷ []) after (End Bye))
@@ -82,24 +73,25 @@ no_fault reload start now = record { read = λ e. absurd (cc e); write = λ e. a
 no_fault kill start now = record { read = λ e. absurd (cc e); write = λ e. absurd (cc e) }
 
 -- a command that is one turn was carried out
-module _ (w : World) (rules : Rules) (before : Choices) (conn : Connection) (going : conn.reader.ended ≡ None) (desk desk_now : w.Desk) (ends : w.Ends)
+module _ {D E : Type 0} (turned : D → MarkStep → Turn → D → Type 0) (does : E → PromptEvent → E → Type 0) (rules : Rules) (before : Choices) (conn : Connection)
+    (going : conn.reader.ended ≡ None) (desk desk_now : D) (ends : E)
     {command : CacheCommand} {step : MarkStep} {text : List ℕ} {went : Went} (one : IsOneTurn rules command step text went)
     (response : Response) (says : (said : List ℕ) → IsText response said → said ≡ text) where
-  abbrev at_desk : w.Desk → SessionState w
+  abbrev at_desk : D → SessionState (world_with turned does)
   at_desk desk = record { conn = conn; desk = desk; ends = ends }
 
-  answered_so : (turn : Turn) (answer : Answer) → w.turned desk step turn desk_now → AnswersTurn (record { response = Some response; went = went }) turn answer
-      → CarriesOut {w = w} (Exchange rules before (Cache command)) (at_desk desk) answer before (at_desk desk_now)
-  answered_so turn answer turned is_done = record {
+  answered_so : (turn : Turn) (answer : Answer) → turned desk step turn desk_now → AnswersTurn (record { response = Some response; went = went }) turn answer
+      → CarriesOut {w = world_with turned does} (Exchange rules before (Cache command)) (at_desk desk) answer before (at_desk desk_now)
+  answered_so turn answer did is_done = record {
     events = cache_turn step Done ∷ [];
     exchanges = responds (λ more. Exchange rules before (Cache command) (cache_turn step Done ∷ more) before went) response (λ said is. rw (says said is) (one_turn one done));
-    done = done_turned step Done conn desk desk_now ends turned;
+    done = done_turned {w = world_with turned does} step Done conn desk desk_now ends did;
     fits = reader_stays one conn.reader going;
     faults = no_fault one (at_desk desk) (at_desk desk_now);
   }
-  answered_so turn answer turned (is_interrupted {code} why) =
-      prepared_turned {w = w} _ before _ (Failed code) step turn conn desk desk_now ends going refl turned (λ said is. rw is (one_turn one (interrupted why)))
+  answered_so turn answer did (is_interrupted {code} why) =
+      prepared_turned {w = world_with turned does} (Exchange rules before (Cache command)) before (record { response = Some (Failed code); went = On }) (Failed code) step turn conn desk desk_now ends going refl did (λ said is. rw is (one_turn one (interrupted why)))
 
-  pub turn_taken : {answer : Answer} → TakesTurn w.turned step (record { response = Some response; went = went }) desk answer desk_now
-      → CarriesOut {w = w} (Exchange rules before (Cache command)) (at_desk desk) answer before (at_desk desk_now)
+  pub turn_taken : {answer : Answer} → TakesTurn turned step (record { response = Some response; went = went }) desk answer desk_now
+      → CarriesOut {w = world_with turned does} (Exchange rules before (Cache command)) (at_desk desk) answer before (at_desk desk_now)
   turn_taken taken = answered_so taken.turn _ taken.turned_so taken.answers

@@ -2,16 +2,17 @@
 use Rattle.std.proofs.Common.{◌≡◌, ℕ, true, List, [], ◌∷◌, None, Some}
 use Rattle.assuan_server.specs.Inquiries.{Data}
 use Rattle.cache_policy.specs.declared.life.Life.{Life}
+use Rattle.cache_policy.specs.declared.mark.MarkStep.{MarkStep}
 use Rattle.cache_policy.specs.Turns.{Turn}
 use Rattle.session_options.specs.Choices.{Choices}
 use Rattle.session_options.specs.declared.rules.Rules.{Rules}
 use Rattle.agent_commands.specs.Answers.{ok}
 use Rattle.agent_commands.specs.Events.{Sent, Asked, cache_turn}
 use Rattle.agent_commands.specs.Exchanges.{Exchange, brought, none_brought, ComesOut, done, interrupted, put, limit_line, inquiry}
-use Rattle.agent_commands.specs.Outside.{World}
+use Rattle.agent_commands.specs.Outside.{world}
 use Rattle.agent_commands.specs.States.{SessionState, EventsLead, ReaderAfter}
 use Rattle.agent_commands.specs.Steps.{IsText, CarriesOut, AnswersTurn, is_done, is_interrupted, TakesTurn}
-use Rattle.agent_commands.specs.declared.command.Answer.{Answer}
+use Rattle.agent_commands.specs.declared.answer.Answer.{Answer}
 use Rattle.agent_commands.specs.declared.request.CacheCommand.TheVariants.{PresetPassphrase}
 use Rattle.agent_commands.specs.declared.request.Request.TheVariants.{Cache}
 use Rattle.agent_commands.specs.declared.response.Response.{Response}
@@ -19,36 +20,37 @@ use Rattle.agent_commands.specs.declared.response.Response.TheVariants.{Ok, Fail
 use Rattle.agent_commands.specs.declared.went.Went.TheVariants.{On}
 use Rattle.agent_commands.proofs.Doing.{done_then, done_turned}
 use Rattle.agent_commands.proofs.Inquiring.{InquiresInVain}
-use Rattle.agent_commands.proofs.Preparing.{responds}
+use Rattle.agent_commands.proofs.Carrying.{responds}
 
-module _ (w : World) (rules : Rules) (before : Choices) (allowed : rules.allow_preset ≡ true) (id : List ℕ) (life : Life) (start : SessionState w) where
-  module _ (mid : SessionState w) (desk : w.Desk) (secret : List ℕ)
-      (asked : EventsLead {w = w} (Sent limit_line ∷ inquiry (Asked (Data secret)) ∷ []) start mid) (fits : ReaderAfter On start.conn.reader mid.conn.reader) where
-    stored_as : (turn : Turn) → w.turned mid.desk (put id life secret) turn desk → (response : Response) → ((text : List ℕ) → IsText response text → ComesOut ok On turn text On)
-        → CarriesOut {w = w} (Exchange rules before (Cache (PresetPassphrase id life None))) start (record { response = Some response; went = On }) before (record mid { desk = desk })
-    stored_as turn turned response comes = record {
+module _ {D : Type 0} (turned : D → MarkStep → Turn → D → Type 0) (rules : Rules) (before : Choices) (allowed : rules.allow_preset ≡ true) (id : List ℕ) (life : Life)
+    (start : SessionState (world turned)) where
+  module _ (mid : SessionState (world turned)) (desk : D) (secret : List ℕ)
+      (asked : EventsLead {w = world turned} (Sent limit_line ∷ inquiry (Asked (Data secret)) ∷ []) start mid) (fits : ReaderAfter On start.conn.reader mid.conn.reader) where
+    stored_as : (turn : Turn) → turned mid.desk (put id life secret) turn desk → (response : Response) → ((text : List ℕ) → IsText response text → ComesOut ok On turn text On)
+        → CarriesOut {w = world turned} (Exchange rules before (Cache (PresetPassphrase id life None))) start (record { response = Some response; went = On }) before (record mid { desk = desk })
+    stored_as turn did response comes = record {
       events = Sent limit_line ∷ inquiry (Asked (Data secret)) ∷ cache_turn (put id life secret) turn ∷ [];
       exchanges =
           responds (λ more. Exchange rules before (Cache (PresetPassphrase id life None)) (Sent limit_line ∷ inquiry (Asked (Data secret)) ∷ cache_turn (put id life secret) turn ∷ more) before On) response
           (λ text is. brought allowed (comes text is));
-      done = done_then asked (done_turned (put id life secret) turn mid.conn mid.desk desk mid.ends turned);
+      done = done_then asked (done_turned {w = world turned} (put id life secret) turn mid.conn mid.desk desk mid.ends did);
       fits = fits;
       faults = record { read = λ e. absurd (cc e); write = λ e. absurd (cc e) };
     }
 
-    stored : (turn : Turn) (answer : Answer) → w.turned mid.desk (put id life secret) turn desk → AnswersTurn (record { response = Some Ok; went = On }) turn answer
-        → CarriesOut {w = w} (Exchange rules before (Cache (PresetPassphrase id life None))) start answer before (record mid { desk = desk })
-    stored turn answer turned is_done = stored_as turn turned Ok (λ text is. rw is done)
-    stored turn answer turned (is_interrupted {code} why) = stored_as turn turned (Failed code) (λ text is. rw is (interrupted why))
+    stored : (turn : Turn) (answer : Answer) → turned mid.desk (put id life secret) turn desk → AnswersTurn (record { response = Some Ok; went = On }) turn answer
+        → CarriesOut {w = world turned} (Exchange rules before (Cache (PresetPassphrase id life None))) start answer before (record mid { desk = desk })
+    stored turn answer did is_done = stored_as turn did Ok (λ text is. rw is done)
+    stored turn answer did (is_interrupted {code} why) = stored_as turn did (Failed code) (λ text is. rw is (interrupted why))
 
     -- what the client gave was stored
-    pub brought_so : {answer : Answer} → TakesTurn w.turned (put id life secret) (record { response = Some Ok; went = On }) mid.desk answer desk
-        → CarriesOut {w = w} (Exchange rules before (Cache (PresetPassphrase id life None))) start answer before (record mid { desk = desk })
+    pub brought_so : {answer : Answer} → TakesTurn turned (put id life secret) (record { response = Some Ok; went = On }) mid.desk answer desk
+        → CarriesOut {w = world turned} (Exchange rules before (Cache (PresetPassphrase id life None))) start answer before (record mid { desk = desk })
     brought_so taken = stored taken.turn _ taken.turned_so taken.answers
 
   -- or it gave none
-  pub vain_so : (answer : Answer) (now : SessionState w) → InquiresInVain {w = w} start answer now
-      → CarriesOut {w = w} (Exchange rules before (Cache (PresetPassphrase id life None))) start answer before now
+  pub vain_so : (answer : Answer) (now : SessionState (world turned)) → InquiresInVain {w = world turned} start answer now
+      → CarriesOut {w = world turned} (Exchange rules before (Cache (PresetPassphrase id life None))) start answer before now
   vain_so answer now vain = record {
     events = vain.events;
     exchanges = λ more is. none_brought allowed (vain.brings more is);

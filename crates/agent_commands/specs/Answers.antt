@@ -6,7 +6,7 @@ use Rattle.assuan_escape.specs.DataLines.{AreData, data_text}
 use Rattle.assuan_server.specs.Errors.{error_text}
 use Rattle.assuan_server.specs.Written.{ok_text, comment_text}
 use Rattle.assuan_server.specs.declared.errors.Code.{Code}
-use Rattle.assuan_server.specs.declared.errors.Origin.TheVariants.{Agent}
+use Rattle.assuan_server.specs.declared.errors.Origin.TheVariants.{Agent, Pinentry}
 use Rattle.assuan_text.specs.LineEnds.{line_of}
 use Rattle.session_options.specs.declared.rules.Rules.{Rules}
 use Rattle.agent_commands.specs.Names.{command_names}
@@ -22,6 +22,10 @@ closing = line_of (ok_text (codes "closing connection"))
 -- the line of an error, which is the agent's own
 abbrev pub failed : Code → List ℕ
 failed code = line_of (error_text code Agent)
+
+-- the line of an error that the pinentry gave
+abbrev pub failed_at_pinentry : Code → List ℕ
+failed_at_pinentry code = line_of (error_text code Pinentry)
 
 -- a comment for each command
 abbrev pub help : List ℕ

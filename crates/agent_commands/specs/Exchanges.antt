@@ -1,6 +1,17 @@
 -- Requests and what is done for them, as the GnuPG manual has them ("Agent's Assuan protocol"). The codes, the texts and the order of
 -- what is done are this project's own.
-use Rattle.std.specs.Prelude.{◌≡◌, ◌++◌, ℕ, Bool, true, false, List, [], ◌∷◌, codes, Option, Some, None, if◌then◌else◌}
+use Rattle.std.specs.Prelude.{◌≡◌, ◌≢◌, ◌++◌, ℕ, Bool, true, false, List, [], ◌∷◌, codes, Option, Some, None, if◌then◌else◌, ⊤}
+use Rattle.arrayvec.specs.ArrayVec.{ArrayVec}
+use Rattle.agent_ask.specs.Consents.{AsksConsent}
+use Rattle.agent_ask.specs.Events.{PromptEvent}
+use Rattle.agent_ask.specs.Prompts.{AsksPin}
+use Rattle.agent_ask.specs.declared.ask.Asked.{Asked as Answer}
+use Rattle.agent_ask.specs.declared.ask.Asked.TheVariants as asked
+use Rattle.agent_ask.specs.declared.caller.Heard.{Heard}
+use Rattle.agent_ask.specs.declared.consent.Agreed.{Agreed}
+use Rattle.agent_ask.specs.declared.consent.Agreed.TheVariants as agreed
+use Rattle.agent_ask.specs.declared.spec.AskPlan.{AskPlan}
+use Rattle.agent_ask.specs.declared.spec.PromptSpec.{PromptSpec}
 use Rattle.assuan_server.specs.Inquiries.{Data}
 use Rattle.assuan_server.specs.Inquiries as outcome
 use Rattle.assuan_server.specs.Written.{status_text}
@@ -9,19 +20,23 @@ use Rattle.assuan_server.specs.declared.errors.Code.TheVariants as code
 use Rattle.assuan_text.specs.LineEnds.{line_of}
 use Rattle.cache_policy.specs.declared.grant.Grant.{Grant}
 use Rattle.cache_policy.specs.declared.life.Life.{Life}
+use Rattle.cache_policy.specs.declared.life.Life.TheVariants.{Default}
 use Rattle.cache_policy.specs.declared.mark.MarkStep.{MarkStep}
-use Rattle.cache_policy.specs.declared.mark.MarkStep.TheVariants.{Ask, Put, Clear, Flush, Stop}
-use Rattle.cache_policy.specs.declared.mark.Way.TheVariants.{Quiet}
+use Rattle.cache_policy.specs.declared.mark.MarkStep.TheVariants.{Ask, Seat, Put, Clear, Flush, Stop}
+use Rattle.cache_policy.specs.declared.mark.Way.TheVariants.{Quiet, Prompt}
 use Rattle.cache_policy.specs.declared.mode.Mode.{Mode}
 use Rattle.cache_policy.specs.declared.mode.Mode.TheVariants.{Any, User}
 use Rattle.cache_policy.specs.declared.secret.TheConstants.{MAX_SECRET_LEN}
-use Rattle.cache_policy.specs.Turns.{Turn, Given, Empty, Done, Stopping, Refused}
+use Rattle.cache_policy.specs.Turns.{Turn, Given, Empty, Open, Done, Stopping, Refused}
 use Rattle.session_options.specs.Choices.{Choices, at_start, judged}
 use Rattle.session_options.specs.declared.options.OptionAnswer.{OptionAnswer}
 use Rattle.session_options.specs.declared.options.OptionAnswer.TheVariants.{Set, Unknown, Parameter, NotSupported}
+use Rattle.session_options.specs.declared.options.PinMode.{PinMode}
+use Rattle.session_options.specs.declared.options.PinMode.TheVariants as mode
 use Rattle.session_options.specs.declared.rules.Rules.{Rules}
-use Rattle.agent_commands.specs.Answers.{ok, closing, failed, help, IsInfo, IsPassphrase}
+use Rattle.agent_commands.specs.Answers.{ok, closing, failed, failed_at_pinentry, help, IsInfo, IsPassphrase}
 use Rattle.agent_commands.specs.Events.{Event, Sent, Cut, Inquiry, Inquired, Asked, NotAsked, cache_turn}
+use Rattle.agent_commands.specs.Prompting.{IsSpec, Notes, UnderTicket, plan_of}
 use Rattle.agent_commands.specs.Requests.{request_of}
 use Rattle.agent_commands.specs.declared.request.CacheCommand.{CacheCommand}
 use Rattle.agent_commands.specs.declared.request.CacheCommand.TheVariants.{Nop, Reset, Bye, Help, SetOption, GetInfo, GetPassphrase, PresetPassphrase, ClearPassphrase, GetConfirmation, ReloadAgent, KillAgent}
@@ -84,6 +99,23 @@ pub data BringsNone {F : Type 0} : List (Event F) → Went → Type 0 where
   -- the write of the limit failed
   limit_cut : {sent : List ℕ} (unsent : List ℕ) → limit_line ≡ sent ++ unsent → BringsNone (Cut sent ∷ []) (End ends.WriteFault)
 
+-- An entry is looked for, where there is an id: the events, and where that ends the request, what it is answered by.
+pub data Looks {F : Type 0} (plain : Bool) : Option (List ℕ) → List (Event F) → Option (List ℕ) → Type 0 where
+  no_id : Looks plain None [] None
+  empty : {id : List ℕ} → Looks plain (Some id) (cache_turn (ask id) Empty ∷ []) None
+  given : {id text : List ℕ} {grant : Grant} → IsPassphrase plain grant.entry.secret text
+      → Looks plain (Some id) (cache_turn (ask id) (Given grant) ∷ []) (Some text)
+  interrupted : {id : List ℕ} {turn : Turn} {code : Code} → Interrupts turn code → Looks plain (Some id) (cache_turn (ask id) turn ∷ []) (Some (failed code))
+
+-- so it is answered, or the request goes on otherwise
+pub data LooksFirst {F : Type 0} (plain : Bool) (id : Option (List ℕ)) (Otherwise : List (Event F) → Went → Type 0) : List (Event F) → Went → Type 0 where
+  answered : {first : List (Event F)} {text : List ℕ} → Looks plain id first (Some text) → LooksFirst plain id Otherwise (first ++ Sent text ∷ []) On
+  goes_on : {first events : List (Event F)} {went : Went} → Looks plain id first None → Otherwise events went → LooksFirst plain id Otherwise (first ++ events) went
+
+-- nothing is done but to refuse
+pub data Refuses {F : Type 0} (code : Code) : List (Event F) → Went → Type 0 where
+  refused : Refuses code (Sent (failed code) ∷ []) On
+
 -- A command that is one turn: its step, its line once that is done, and how the session goes on then.
 pub data IsOneTurn (rules : Rules) : CacheCommand → MarkStep → List ℕ → Went → Type 0 where
   preset : {id secret : List ℕ} {life : Life} → rules.allow_preset ≡ true
@@ -97,9 +129,73 @@ pub data ComesOut (text : List ℕ) (went : Went) : Turn → List ℕ → Went �
   done : ComesOut text went Done text went
   interrupted : {turn : Turn} {code : Code} → Interrupts turn code → ComesOut text went turn (failed code) On
 
+-- the passphrase that a client gave is kept, where there is an id, and answered
+pub data Keeps {F : Type 0} (plain : Bool) (secret : List ℕ) : Option (List ℕ) → List (Event F) → Went → Type 0 where
+  unkept : {text : List ℕ} → IsPassphrase plain secret text → Keeps plain secret None (Sent text ∷ []) On
+  kept : {id text : List ℕ} → IsPassphrase plain secret text → Keeps plain secret (Some id) (cache_turn (Put id User Default secret) Done ∷ Sent text ∷ []) On
+  interrupted : {id : List ℕ} {turn : Turn} {code : Code} → Interrupts turn code
+      → Keeps plain secret (Some id) (cache_turn (Put id User Default secret) turn ∷ Sent (failed code) ∷ []) On
+
+-- a passphrase that isn't cached, where the client wants no prompt
+pub data WithoutPrompt {F : Type 0} (plain : Bool) (id : Option (List ℕ)) : PinMode → List (Event F) → Went → Type 0 where
+  cancelled : WithoutPrompt plain id mode.Cancel (Sent (failed code.Cancelled) ∷ []) On
+  no_pinentry : WithoutPrompt plain id mode.Error (Sent (failed code.NoPinentry) ∷ []) On
+  brought : {secret : List ℕ} {events : List (Event F)} {went : Went} → Keeps plain secret id events went
+      → WithoutPrompt plain id mode.Loopback (Sent limit_line ∷ inquiry (Asked (Data secret)) ∷ events) went
+  none_brought : {events : List (Event F)} {went : Went} → BringsNone events went → WithoutPrompt plain id mode.Loopback events went
+
+-- the client didn't take note of a prompt
+pub record IsUnheard {F : Type 0} (heard : Heard) (events : List (Event F)) (went : Went) : Type 0 where
+  pub inquired : Inquired
+  pub notes : Notes heard inquired
+  pub fails : Fails inquired events went
+
+-- what is kept of a prompt for a passphrase, and how its answer ends the request
+pub data EndsPin {F : Type 0} (plain : Bool) : Answer → Option (List ℕ) → List (Event F) → Went → Type 0 where
+  pin : {pin text : List ℕ} → IsPassphrase plain pin text → EndsPin plain (asked.Pin pin) (Some pin) (Sent text ∷ []) On
+  cancelled : EndsPin plain asked.Cancelled None (Sent (failed_at_pinentry code.Cancelled) ∷ []) On
+  timed_out : EndsPin plain asked.TimedOut None (Sent (failed_at_pinentry code.Timeout) ∷ []) On
+  no_pinentry : EndsPin plain asked.NoPinentry None (Sent (failed code.NoPinentry) ∷ []) On
+  bad : EndsPin plain asked.Bad None (Sent (failed code.BadPass) ∷ []) On
+  unheard : {heard : Heard} {events : List (Event F)} {went : Went} → IsUnheard heard events went → EndsPin plain (asked.Heard heard) None events went
+
+-- and one for consent, of which nothing is kept
+pub data EndsConsent {F : Type 0} : Agreed → Option (List ℕ) → List (Event F) → Went → Type 0 where
+  yes : EndsConsent agreed.Yes None (Sent ok ∷ []) On
+  no : EndsConsent agreed.No None (Sent (failed_at_pinentry code.NotConfirmed) ∷ []) On
+  cancelled : EndsConsent agreed.Cancelled None (Sent (failed_at_pinentry code.Cancelled) ∷ []) On
+  timed_out : EndsConsent agreed.TimedOut None (Sent (failed_at_pinentry code.Timeout) ∷ []) On
+  no_pinentry : EndsConsent agreed.NoPinentry None (Sent (failed code.NoPinentry) ∷ []) On
+  unheard : {heard : Heard} {events : List (Event F)} {went : Went} → IsUnheard heard events went → EndsConsent (agreed.Heard heard) None events went
+
+-- A turn that wants the prompt: it gives a ticket, under which the request goes on, or it interrupts its command.
+pub data WantsPrompt {F : Type 0} (step : MarkStep) (Under : ℕ → List (Event F) → Went → Type 0) : List (Event F) → Went → Type 0 where
+  opened : {ticket : ℕ} {events : List (Event F)} {went : Went} → Under ticket events went → WantsPrompt step Under (cache_turn step (Open ticket) ∷ events) went
+  interrupted : {turn : Turn} {code : Code} → Interrupts turn code → WantsPrompt step Under (cache_turn step turn ∷ Sent (failed code) ∷ []) On
+
+-- the step that wants the prompt for a passphrase
+abbrev pub want : Option (List ℕ) → MarkStep
+want None = Seat None
+want (Some id) = Ask id User Prompt
+
+-- A passphrase where the client wants a prompt: it is cached, or asked for by one prompt, at which every passphrase is right.
+pub data ByPrompt (spec : PromptSpec) (plan : AskPlan) (plain : Bool) : Option (List ℕ) → List (Event PromptEvent) → Went → Type 0 where
+  cached : {id text : List ℕ} {grant : Grant} → IsPassphrase plain grant.entry.secret text
+      → ByPrompt spec plan plain (Some id) (cache_turn (want (Some id)) (Given grant) ∷ Sent text ∷ []) On
+  prompted : {id : Option (List ℕ)} {events : List (Event PromptEvent)} {went : Went}
+      → WantsPrompt (want id) (UnderTicket (AsksPin spec plan (λ pin. ⊤)) (EndsPin plain)) events went
+      → ByPrompt spec plan plain id events went
+
+-- how a request for consent is refused where the client wants no prompt
+abbrev pub refusal_of : PinMode → Option Code
+refusal_of mode.Ask = None
+refusal_of mode.Cancel = Some code.Cancelled
+refusal_of mode.Error = Some code.NoPinentry
+refusal_of mode.Loopback = Some code.NoPinentry
+
 -- A request: what the client had chosen before it, what the session does for it, what is chosen after it, and how the session
 -- goes on.
-pub data Exchange {F : Type 0} (rules : Rules) (before : Choices) : Request → List (Event F) → Choices → Went → Type 0 where
+pub data Exchange (rules : Rules) (before : Choices) : Request → List (Event PromptEvent) → Choices → Went → Type 0 where
   refused : {code : Code} → Exchange rules before (Bad code) (Sent (failed code) ∷ []) before On
   nop : Exchange rules before (Cache Nop) (Sent ok ∷ []) before On
   -- what the rules said stays
@@ -109,31 +205,32 @@ pub data Exchange {F : Type 0} (rules : Rules) (before : Choices) : Request → 
   option_judged : {text : _}
       → Exchange rules before (Cache (SetOption text)) (Sent (option_text (judged before text.items).answer) ∷ []) (judged before text.items).after On
   info : {what : Info} {text : List ℕ} → IsInfo rules what text → Exchange rules before (Cache (GetInfo what)) (Sent text ∷ []) before On
-  -- a request that may prompt isn't served yet
-  not_quiet : {plain check no_ask quality : Bool} {repeat : ℕ} {id : Option (List ℕ)} {texts : Option Texts} → is_quiet no_ask texts ≡ false
-      → Exchange rules before (Cache (GetPassphrase plain check no_ask repeat quality id texts)) (Sent (failed code.NotSupported) ∷ []) before On
-  no_id : {plain check no_ask quality : Bool} {repeat : ℕ} {texts : Option Texts} → is_quiet no_ask texts ≡ true
-      → Exchange rules before (Cache (GetPassphrase plain check no_ask repeat quality None texts)) (Sent (failed code.NoData) ∷ []) before On
-  given : {plain check no_ask quality : Bool} {repeat : ℕ} {id text : List ℕ} {texts : Option Texts} {grant : Grant} → is_quiet no_ask texts ≡ true
-      → IsPassphrase plain grant.entry.secret text
-      → Exchange rules before (Cache (GetPassphrase plain check no_ask repeat quality (Some id) texts))
-      (cache_turn (ask id) (Given grant) ∷ Sent text ∷ []) before On
-  empty : {plain check no_ask quality : Bool} {repeat : ℕ} {id : List ℕ} {texts : Option Texts} → is_quiet no_ask texts ≡ true
-      → Exchange rules before (Cache (GetPassphrase plain check no_ask repeat quality (Some id) texts))
-      (cache_turn (ask id) Empty ∷ Sent (failed code.NoData) ∷ []) before On
-  interrupted : {plain check no_ask quality : Bool} {repeat : ℕ} {id : List ℕ} {texts : Option Texts} {turn : Turn} {code : Code} → is_quiet no_ask texts ≡ true
-      → Interrupts turn code
-      → Exchange rules before (Cache (GetPassphrase plain check no_ask repeat quality (Some id) texts))
-      (cache_turn (ask id) turn ∷ Sent (failed code) ∷ []) before On
+  -- a passphrase by the cache alone
+  quiet : {plain check no_ask quality : Bool} {repeat : ℕ} {id : Option (List ℕ)} {texts : Option Texts} {events : List (Event PromptEvent)} {went : Went}
+      → is_quiet no_ask texts ≡ true → LooksFirst plain id (Refuses code.NoData) events went
+      → Exchange rules before (Cache (GetPassphrase plain check no_ask repeat quality id texts)) events before went
+  -- by the cache, or else by a prompt, where the client wants one
+  by_prompt : {plain check quality : Bool} {repeat : ℕ} {id : Option (List ℕ)} {texts : Texts} {events : List (Event PromptEvent)} {went : Went} (spec : PromptSpec)
+      → before.mode ≡ mode.Ask → IsSpec rules before texts.description texts.prompt quality spec
+      → ByPrompt spec (plan_of rules before texts.error check repeat) plain id events went
+      → Exchange rules before (Cache (GetPassphrase plain check false repeat quality id (Some texts))) events before went
+  without_prompt : {plain check quality : Bool} {repeat : ℕ} {id : Option (List ℕ)} {texts : Texts} {events : List (Event PromptEvent)} {went : Went}
+      → before.mode ≢ mode.Ask → LooksFirst plain id (WithoutPrompt plain id before.mode) events went
+      → Exchange rules before (Cache (GetPassphrase plain check false repeat quality id (Some texts))) events before went
   not_allowed : {id : List ℕ} {life : Life} {secret : Option (List ℕ)} → rules.allow_preset ≡ false
       → Exchange rules before (Cache (PresetPassphrase id life secret)) (Sent (failed code.NotSupported) ∷ []) before On
   brought : {id secret text : List ℕ} {life : Life} {turn : Turn} {went : Went} → rules.allow_preset ≡ true → ComesOut ok On turn text went
       → Exchange rules before (Cache (PresetPassphrase id life None))
       (Sent limit_line ∷ inquiry (Asked (Data secret)) ∷ cache_turn (put id life secret) turn ∷ Sent text ∷ []) before went
-  none_brought : {id : List ℕ} {life : Life} {events : List (Event F)} {went : Went} → rules.allow_preset ≡ true → BringsNone events went
+  none_brought : {id : List ℕ} {life : Life} {events : List (Event PromptEvent)} {went : Went} → rules.allow_preset ≡ true → BringsNone events went
       → Exchange rules before (Cache (PresetPassphrase id life None)) events before went
-  -- it isn't served yet
-  unserved : {description : _} → Exchange rules before (Cache (GetConfirmation description)) (Sent (failed code.UnknownCommand) ∷ []) before On
+  -- consent by a prompt, where the client wants one
+  confirmation : {description : ArrayVec ℕ} {events : List (Event PromptEvent)} {went : Went} (spec : PromptSpec)
+      → before.mode ≡ mode.Ask → IsSpec rules before description (record { items = [] }) false spec
+      → WantsPrompt (Seat None) (UnderTicket (AsksConsent spec before.notify) EndsConsent) events went
+      → Exchange rules before (Cache (GetConfirmation description)) events before went
+  unconfirmed : {description : _} {code : Code} → refusal_of before.mode ≡ Some code
+      → Exchange rules before (Cache (GetConfirmation description)) (Sent (failed code) ∷ []) before On
   one_turn : {command : CacheCommand} {step : MarkStep} {text answer : List ℕ} {turn : Turn} {done went : Went} → IsOneTurn rules command step text done
       → ComesOut text done turn answer went
       → Exchange rules before (Cache command) (cache_turn step turn ∷ Sent answer ∷ []) before went
@@ -145,5 +242,5 @@ quiet_of (Cache (GetPassphrase plain check no_ask repeat quality id texts)) =
 quiet_of _ = None
 
 -- the exchange of a line
-abbrev pub LineExchange : {F : Type 0} → Rules → Choices → List ℕ → List (Event F) → Choices → Went → Type 0
+abbrev pub LineExchange : Rules → Choices → List ℕ → List (Event PromptEvent) → Choices → Went → Type 0
 LineExchange rules before line events after went = Exchange rules before (request_of line) events after went

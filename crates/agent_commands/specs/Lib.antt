@@ -1,9 +1,11 @@
 pub mod Answers
+pub mod Clients
 pub mod Events
 pub mod Exchanges
 pub mod Fields
 pub mod Names
 pub mod Outside
+pub mod Prompting
 pub mod Reading
 pub mod Requests
 pub mod States

@@ -1,6 +1,6 @@
 -- The names that requests have (GnuPG manual, "Agent's Assuan protocol"; the commands of any Assuan server are those of the
 -- Assuan manual, "client requests").
-use Rattle.std.specs.Prelude.{ℕ, Bool, List, [], ◌∷◌, codes, map, Option, Some, None}
+use Rattle.std.specs.Prelude.{ℕ, Bool, List, [], ◌∷◌, codes, map, Option}
 use Rattle.assuan_text.specs.Rows.{found, found_in_any_case, has_pair}
 use Rattle.agent_commands.specs.declared.names.CommandName.{CommandName}
 use Rattle.agent_commands.specs.declared.names.CommandName.TheVariants.{Nop, Reset, Bye, Help, SetOption, GetInfo, GetPassphrase, PresetPassphrase, ClearPassphrase, GetConfirmation, ReloadAgent, KillAgent}
@@ -18,26 +18,18 @@ commands =
     ∷ (codes "GET_PASSPHRASE", GetPassphrase)
     ∷ (codes "PRESET_PASSPHRASE", PresetPassphrase)
     ∷ (codes "CLEAR_PASSPHRASE", ClearPassphrase)
+    ∷ (codes "GET_CONFIRMATION", GetConfirmation)
     ∷ (codes "RELOADAGENT", ReloadAgent)
     ∷ (codes "KILLAGENT", KillAgent)
     ∷ []
 
--- the names of those that are served, in this order
+-- their names, in this order
 abbrev pub command_names : List (List ℕ)
 command_names = map (λ row. row.0) commands
 
--- a command that is read, but isn't served yet
-abbrev pub unserved : List (List ℕ × CommandName)
-unserved = (codes "GET_CONFIRMATION", GetConfirmation) ∷ []
-
--- the one that is served, or else the one that isn't
-abbrev pub or_unserved : List ℕ → Option CommandName → Option CommandName
-or_unserved word (Some name) = Some name
-or_unserved word None = found_in_any_case word unserved
-
 -- the command of this name, whatever the case of its letters
 unfoldable pub command_named : List ℕ → Option CommandName
-command_named word = or_unserved word (found_in_any_case word commands)
+command_named word = found_in_any_case word commands
 
 -- what GETINFO can be asked for by one word
 abbrev pub infos : List (List ℕ × Info)
@@ -50,7 +42,7 @@ infos =
 unfoldable pub info_named : List ℕ → Option Info
 info_named word = found word infos
 
--- the options that GETINFO knows of the commands that are served
+-- the options that GETINFO knows of the commands
 abbrev pub listed : List (List ℕ × List ℕ)
 listed =
     (codes "GET_PASSPHRASE", codes "data")

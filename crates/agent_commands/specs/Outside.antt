@@ -1,6 +1,8 @@
 -- The ends of a session to the outside, and what each event does to them: it leaves the other ends as they are. This is the project's
 -- own.
 use Rattle.std.specs.Prelude.{◌≡◌, ◌⊎◌, ℕ, List, [], ◌++◌, Option, Some}
+use Rattle.agent_ask.specs.Doing.{DoesCall}
+use Rattle.agent_ask.specs.Events.{Call, PromptEvent}
 use Rattle.agent_ports.specs.Sides.{with_bytes, WhereKnown}
 use Rattle.assuan_line.specs.Reading.{WereNeededBy}
 use Rattle.assuan_line.specs.Skipping.{IsUndecided}
@@ -22,9 +24,17 @@ pub record World : Type 1 where
   pub Further : Type 0
   pub does : Ends → Further → Ends → Type 0
 
--- a desk alone
+-- a desk, and what has to do with prompts, which their events do so
+abbrev pub world_with : {D E : Type 0} → (D → MarkStep → Turn → D → Type 0) → (E → PromptEvent → E → Type 0) → World
+world_with {D} {E} turned does = record { Desk = D; turned = turned; Ends = E; Further = PromptEvent; does = does }
+
+-- a desk, and no prompts
 abbrev pub world : {D : Type 0} → (D → MarkStep → Turn → D → Type 0) → World
-world {D} turned = record { Desk = D; turned = turned; Ends = Unit {0}; Further = ⊥; does = λ before what after. ⊥ }
+world turned = world_with {E = Unit {0}} turned (λ before what after. ⊥)
+
+-- a desk, and a prompter that shows its calls so
+abbrev pub prompt_world : {D P : Type 0} → (D → MarkStep → Turn → D → Type 0) → (P → Call → P → Type 0) → World
+prompt_world turned prompted = world_with turned (DoesCall prompted)
 
 -- the ends at some point of a session
 pub record Outside (w : World) : Type 0 where

@@ -1,6 +1,7 @@
 -- How a session stands at some state of its code, and how events lead from one state to another.
 use Rattle.std.specs.Prelude.{◌≡◌, ◌≤◌, ◌+◌, ℕ, List, ◌++◌, length, Some, None, Result, Ok as Whole, Err as Part, IfSome, ⊤}
 use Rattle.std.specs.Option.{option_map, option_map_or}
+use Rattle.agent_ask.specs.Events.{Call}
 use Rattle.agent_ports.specs.Counts.{Rose}
 use Rattle.agent_ports.specs.Leads.{Leads}
 use Rattle.agent_ports.specs.Sides.{Side, with_bytes}
@@ -11,7 +12,7 @@ use Rattle.cache_policy.specs.declared.mark.MarkStep.{MarkStep}
 use Rattle.cache_policy.specs.Turns.{Turn}
 use Rattle.session_options.specs.Choices.{Choices}
 use Rattle.agent_commands.specs.Events.{Event}
-use Rattle.agent_commands.specs.Outside.{World, world, Outside, Does}
+use Rattle.agent_commands.specs.Outside.{World, world, prompt_world, Outside, Does}
 use Rattle.agent_commands.specs.Reading.{budget}
 use Rattle.agent_commands.specs.Talks.{WholeOrCut}
 use Rattle.agent_commands.specs.declared.response.WriteFault.{WriteFault as Fault}
@@ -57,9 +58,13 @@ pub record SessionState (w : World) : Type 0 where
   pub desk : w.Desk
   pub ends : w.Ends
 
--- where there are none
+-- where the prompter isn't called
 abbrev pub session_state : {D : Type 0} (turned : D → MarkStep → Turn → D → Type 0) → Connection → D → SessionState (world turned)
 session_state turned conn desk = record { conn = conn; desk = desk; ends = tt }
+
+abbrev pub prompt_state : {D P : Type 0} (turned : D → MarkStep → Turn → D → Type 0) (prompted : P → Call → P → Type 0) → Connection → D → P
+    → SessionState (prompt_world turned prompted)
+prompt_state turned prompted conn desk prompter = record { conn = conn; desk = desk; ends = prompter }
 
 -- what the outside has to do with it
 abbrev pub outside_at : {w : World} → SessionState w → Outside w

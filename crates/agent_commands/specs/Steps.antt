@@ -1,5 +1,12 @@
 -- Private: what a request takes, step by step: what is done for it, and then its response.
-use Rattle.std.specs.Prelude.{◌≡◌, ◌≢◌, ℕ, List, [], ◌∷◌, ◌++◌, codes, decimal, Option, Some, None, Result, Ok as Whole, Err as Part}
+use Rattle.std.specs.Prelude.{◌≡◌, ◌≢◌, ℕ, Bool, List, [], ◌∷◌, ◌++◌, codes, decimal, Option, Some, None, Result, Ok as Whole, Err as Part, ⊤}
+use Rattle.agent_ask.specs.declared.ask.Asked.{Asked}
+use Rattle.agent_ask.specs.declared.ask.Asked.TheVariants as prompted
+use Rattle.agent_ask.specs.declared.caller.Gone.TheVariants as gone
+use Rattle.agent_ask.specs.declared.caller.Heard.{Heard}
+use Rattle.agent_ask.specs.declared.caller.Heard.TheVariants.{Fine, Secret, Cancelled, TooMuch, Unexpected, Gone}
+use Rattle.agent_ask.specs.declared.consent.Agreed.{Agreed}
+use Rattle.agent_ask.specs.declared.consent.Agreed.TheVariants as agreed
 use Rattle.agent_ports.specs.declared.link.Sent.TheVariants.{All, Failed as SentPart}
 use Rattle.assuan_server.specs.Connections.{Connection}
 use Rattle.assuan_server.specs.Asking.{Inquire, IsNotAsked}
@@ -9,18 +16,21 @@ use Rattle.assuan_server.specs.declared.errors.Code.{Code}
 use Rattle.assuan_server.specs.declared.errors.Code.TheVariants as code
 use Rattle.assuan_server.specs.declared.inquiry.InquiredSecret.{InquiredSecret}
 use Rattle.assuan_server.specs.declared.inquiry.InquiredSecret.TheVariants as secret_inquired
+use Rattle.cache_policy.specs.declared.grant.Grant.{Grant}
+use Rattle.cache_policy.specs.declared.life.Life.TheVariants.{Default}
 use Rattle.cache_policy.specs.declared.mark.MarkStep.{MarkStep}
 use Rattle.cache_policy.specs.declared.mark.MarkStep.TheVariants.{Put, Clear, Flush, Stop}
 use Rattle.cache_policy.specs.declared.secret.TheConstants.{MAX_SECRET_LEN}
-use Rattle.cache_policy.specs.Turns.{Turn, Done}
+use Rattle.cache_policy.specs.declared.mode.Mode.TheVariants.{User}
+use Rattle.cache_policy.specs.Turns.{Turn, Given as TurnGiven, Empty, Done}
 use Rattle.session_options.specs.Choices.{Choices}
-use Rattle.agent_commands.specs.Answers.{ok, closing, help, failed, IsData, IsPassphrase}
+use Rattle.agent_commands.specs.Answers.{ok, closing, help, failed, failed_at_pinentry, IsData, IsPassphrase}
 use Rattle.agent_commands.specs.Events.{Event, Sent}
-use Rattle.agent_commands.specs.Exchanges.{Interrupts, limit_line}
+use Rattle.agent_commands.specs.Exchanges.{Interrupts, ask, limit_line}
 use Rattle.agent_commands.specs.Outside.{World}
-use Rattle.agent_commands.specs.declared.command.Answer.{Answer}
+use Rattle.agent_commands.specs.declared.answer.Answer.{Answer}
 use Rattle.agent_commands.specs.declared.response.Response.{Response}
-use Rattle.agent_commands.specs.declared.response.Response.TheVariants.{Ok, Closing, Help, Version, Number, Given, Failed}
+use Rattle.agent_commands.specs.declared.response.Response.TheVariants.{Ok, Closing, Help, Version, Number, Given, Passphrase, Failed, FailedAtPinentry}
 use Rattle.agent_commands.specs.declared.response.WriteFault.{WriteFault as Fault}
 use Rattle.agent_commands.specs.declared.went.SessionEnd.TheVariants.{Ended, TooLong, Spent, ReadFault, WriteFault}
 use Rattle.agent_commands.specs.declared.went.Went.{Went}
@@ -39,20 +49,26 @@ IsText Help text = text ≡ help
 IsText Version text = IsData (codes "2.4.0") text
 IsText (Number number) text = IsData (decimal number) text
 IsText (Given grant plain) text = IsPassphrase plain grant.entry.secret text
+IsText (Passphrase secret plain) text = IsPassphrase plain secret text
 IsText (Failed code) text = text ≡ failed code
+IsText (FailedAtPinentry code) text = text ≡ failed_at_pinentry code
 
 -- what the response of a request does
 abbrev pub Responds : {F : Type 0} → Option Response → List (Event F) → Type 0
 Responds None more = more ≡ []
 Responds (Some response) more = (text : List ℕ) × IsText response text × (more ≡ Sent text ∷ [])
 
--- all was done for a request but its response
-pub record CarriesOut {w : World} (exchange : List (Event w.Further) → Choices → Went → Type 0) (start : SessionState w) (answer : Answer) (after : Choices) (now : SessionState w) : Type 0 where
+-- all was done for a part of a request but its response
+pub record Carries {w : World} (part : List (Event w.Further) → Went → Type 0) (start : SessionState w) (answer : Answer) (now : SessionState w) : Type 0 where
   pub events : List (Event w.Further)
-  pub exchanges : (more : List (Event w.Further)) → Responds answer.response more → exchange (events ++ more) after answer.went
+  pub exchanges : (more : List (Event w.Further)) → Responds answer.response more → part (events ++ more) answer.went
   pub done : EventsLead events start now
   pub fits : ReaderAfter answer.went start.conn.reader now.conn.reader
   pub faults : FaultsRise answer.went start now
+
+-- and for all of it
+abbrev pub CarriesOut : {w : World} → (List (Event w.Further) → Choices → Went → Type 0) → SessionState w → Answer → Choices → SessionState w → Type 0
+CarriesOut exchange start answer after now = Carries (λ events went. exchange events after went) start answer now
 
 -- the response of an answer was written, whole or in part, where there is one
 pub data RespondsTo (answer : Answer) (before : Connection) : Went → Connection → Type 0 where
@@ -97,6 +113,67 @@ answer_of secret_inquired.WriteFault = Part (record { response = None; went = En
 pub record InquiresSecret (before : Connection) (inquired : InquiredSecret) (after : Connection) : Type 0 where
   pub inquiry : inquired ≢ secret_inquired.WriteFault → Inquire MAX_SECRET_LEN secret_text (Answers (outcome_of_secret inquired)) before after
   pub cut : inquired ≡ secret_inquired.WriteFault → IsNotAsked secret_text before after
+
+-- an entry was looked for, where there is an id; this answer ends the request
+pub data LooksUp {D : Type 0} (turned : D → MarkStep → Turn → D → Type 0) (plain : Bool) : Option (List ℕ) → D → Option Answer → D → Type 0 where
+  no_id : {desk : D} → LooksUp turned plain None desk None desk
+  empty : {id : List ℕ} {before after : D} → turned before (ask id) Empty after → LooksUp turned plain (Some id) before None after
+  given : {id : List ℕ} {before after : D} (grant : Grant) → turned before (ask id) (TurnGiven grant) after
+      → LooksUp turned plain (Some id) before (Some (record { response = Some (Given grant plain); went = On })) after
+  interrupted : {id : List ℕ} {before after : D} (turn : Turn) (why : Code) → turned before (ask id) turn after → Interrupts turn why
+      → LooksUp turned plain (Some id) before (Some (record { response = Some (Failed why); went = On })) after
+
+-- what the client gave was kept, where there is an id, and is answered
+abbrev pub KeepsSecret : {D : Type 0} → (D → MarkStep → Turn → D → Type 0) → Bool → List ℕ → Option (List ℕ) → D → Answer → D → Type 0
+KeepsSecret turned plain secret None before answer after = (after ≡ before) × (answer ≡ record { response = Some (Passphrase secret plain); went = On })
+KeepsSecret turned plain secret (Some id) before answer after =
+    TakesTurn turned (Put id User Default secret) (record { response = Some (Passphrase secret plain); went = On }) before answer after
+
+-- how a request ends whose client didn't take note of a prompt
+abbrev pub answer_unheard : Heard → Answer
+answer_unheard Cancelled = record { response = Some (Failed code.Cancelled); went = On }
+answer_unheard TooMuch = record { response = Some (Failed code.TooMuch); went = On }
+answer_unheard Unexpected = record { response = Some (Failed code.Unexpected); went = On }
+answer_unheard (Gone gone.TooLong) = record { response = Some (Failed code.LineTooLong); went = End TooLong }
+answer_unheard (Gone gone.Ended) = record { response = None; went = End Ended }
+answer_unheard (Gone gone.Spent) = record { response = None; went = End Spent }
+answer_unheard (Gone gone.ReadFault) = record { response = None; went = End ReadFault }
+answer_unheard (Gone gone.WriteFault) = record { response = None; went = End WriteFault }
+answer_unheard _ = record { response = None; went = On }
+
+-- the answers of a client that is told of a prompt, but that it has taken note
+abbrev pub IsUnheardBy : Heard → Type 0
+IsUnheardBy Fine = ⊥
+IsUnheardBy (Secret secret) = ⊥
+IsUnheardBy _ = ⊤
+
+-- how a request ends whose prompt gave no passphrase
+abbrev pub answer_without_pin : Asked → Answer
+answer_without_pin prompted.Cancelled = record { response = Some (FailedAtPinentry code.Cancelled); went = On }
+answer_without_pin prompted.TimedOut = record { response = Some (FailedAtPinentry code.Timeout); went = On }
+answer_without_pin prompted.NoPinentry = record { response = Some (Failed code.NoPinentry); went = On }
+answer_without_pin prompted.Bad = record { response = Some (Failed code.BadPass); went = On }
+answer_without_pin (prompted.Heard heard) = answer_unheard heard
+answer_without_pin _ = record { response = None; went = On }
+
+abbrev pub HasNoPin : Asked → Type 0
+HasNoPin (prompted.Pin pin) = ⊥
+HasNoPin prompted.NoMemory = ⊥
+HasNoPin (prompted.Heard heard) = IsUnheardBy heard
+HasNoPin _ = ⊤
+
+-- and one whose prompt was for consent
+abbrev pub answer_to_consent : Agreed → Answer
+answer_to_consent agreed.Yes = record { response = Some Ok; went = On }
+answer_to_consent agreed.No = record { response = Some (FailedAtPinentry code.NotConfirmed); went = On }
+answer_to_consent agreed.Cancelled = record { response = Some (FailedAtPinentry code.Cancelled); went = On }
+answer_to_consent agreed.TimedOut = record { response = Some (FailedAtPinentry code.Timeout); went = On }
+answer_to_consent agreed.NoPinentry = record { response = Some (Failed code.NoPinentry); went = On }
+answer_to_consent (agreed.Heard heard) = answer_unheard heard
+
+abbrev pub IsAgreed : Agreed → Type 0
+IsAgreed (agreed.Heard heard) = IsUnheardBy heard
+IsAgreed _ = ⊤
 
 -- the client was asked for a passphrase, unless the limit couldn't be told
 pub data AsksSecret (start : Connection) : Result (List ℕ) Answer → Connection → Type 0 where

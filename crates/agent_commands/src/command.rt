@@ -1,88 +1,52 @@
-ghost use Rattle.std.specs.Prelude.{◌≡◌, ℕ, Bool, true, List, None, Some, Option};
-ghost use Rattle.agent_commands.specs.declared.request.Texts.{Texts as TheTexts};
-ghost use Rattle.assuan_server.specs.Connections.{Connection, IsOpen};
+ghost use Rattle.std.specs.Prelude.{◌≡◌, ℕ, true, List, None, Some};
+ghost use Rattle.agent_ask.specs.Prompters.{IsShut};
+ghost use Rattle.assuan_server.specs.Connections.{IsOpen};
 ghost use Rattle.cache_policy.specs.declared.mark.MarkStep.TheVariants.{Clear};
 ghost use Rattle.cache_policy.specs.Turns.{mark_step, closes};
 ghost use Rattle.session_options.specs.Choices.{Choices};
 ghost use Rattle.session_options.specs.declared.rules.Rules.{Rules as TheRules};
 ghost use Rattle.agent_commands.specs.Answers.{IsInfo};
-ghost use Rattle.agent_commands.specs.Exchanges.{Exchange, LineExchange, quiet_of, is_quiet, option_text, put};
-ghost use Rattle.agent_commands.specs.Outside.{world};
+ghost use Rattle.agent_commands.specs.Exchanges.{Exchange, LineExchange, quiet_of, option_text, put};
+ghost use Rattle.agent_commands.specs.Outside.{world, prompt_world};
 ghost use Rattle.agent_commands.specs.Requests.{request_of};
-ghost use Rattle.agent_commands.specs.States.{session_state, AnswersRequest};
+ghost use Rattle.agent_commands.specs.States.{session_state, prompt_state, AnswersRequest};
 ghost use Rattle.agent_commands.specs.Steps.{CarriesOut, RespondsTo, IsChange, TakesTurn, AsksSecret, IsText, answer_of};
 ghost use Rattle.agent_commands.specs.declared.request.CacheCommand.TheVariants as command;
 ghost use Rattle.agent_commands.specs.declared.request.Request.TheVariants as request;
 ghost use Rattle.agent_commands.specs.declared.went.Went.TheVariants as went;
 
+use crate::answer::Answer;
+use crate::confirmation::get_confirmation;
+use crate::passphrase::{ask_cache, by_prompt, without_prompt};
+use crate::prompt::{ask_plan, prompt_spec};
 use crate::response::{Response, WriteFault, whole, write_response};
-use crate::{CacheCommand, Info, QuietRequest, SessionEnd, Texts, Went};
+use crate::{CacheCommand, Info, QuietRequest, SessionEnd, Went};
+use agent_ask::Prompter;
 use agent_ports::{Link, Sent};
 use assuan_server::{Code, Conn, InquiredSecret};
-use cache_policy::{CacheId, Desk, Life, Mode, Refused, Reply, Secret, Step, Way};
-use session_options::{OptionAnswer, Options, Rules};
+use cache_policy::{CacheId, Desk, Life, Mode, Refused, Reply, Secret, Step};
+use session_options::{OptionAnswer, Options, PinMode, Rules};
 
-/// How a request is answered, once all else is done for it, and how the session goes on then.
-#[derive(Drop)]
-pub(crate) struct Answer {
-    /// `None` where nothing more is written.
-    pub(crate) response: Option<Response>,
-    pub(crate) went: Went,
-}
-
-impl Answer {
-    /// The session goes on after this response.
-    fn on(response: Response) -> Answer
-        ensures { result ≡ record { response = Some response; went = went.On } }
-    {
-        Answer {
-            response: Some(response),
-            went: Went::On,
-        }
-    }
-
-    fn failed(code: Code) -> Answer
-        ensures { result ≡ record { response = Some (Response.Failed code); went = went.On } }
-    {
-        Answer::on(Response::Failed(code))
-    }
-
-    /// The session is over after this response.
-    fn last(response: Response, end: SessionEnd) -> Answer
-        ensures { result ≡ record { response = Some response; went = went.End end } }
-    {
-        Answer {
-            response: Some(response),
-            went: Went::End(end),
-        }
-    }
-
-    /// The session is over, and nothing more is written.
-    fn silent(end: SessionEnd) -> Answer
-        ensures { result ≡ record { response = None; went = went.End end } }
-    {
-        Answer {
-            response: None,
-            went: Went::End(end),
-        }
-    }
-}
-
-/// Does what a command asks for, answers it, and says how the session goes on.
+/// Does what a command asks for, answers it, and says how the session goes on. No ticket is out and no prompt is open when it returns.
 // Apart from the session's loop, as `read_request` is.
 #[inline(never)]
-pub fn run_cache<L: Link, D: Desk>(
+pub fn run_cache<L: Link, D: Desk, P: Prompter>(
     command: &CacheCommand,
     rules: &Rules,
     options: &mut Options,
     conn: &mut Conn<'_, L>,
     desk: &mut D,
+    prompter: &mut P,
 ) -> Went
-    requires { IsOpen conn.old }
-    ensures { AnswersRequest {w = world D.turned} (λ before. Exchange rules.now before (request.Cache command.now)) options.old (session_state D.turned conn.old desk.old)
-        result options.new (session_state D.turned conn.new desk.new) }
+    requires open { IsOpen conn.old }
+    requires free { (D.at desk.old).out ≡ None }
+    requires shut { IsShut (P.at prompter.old) }
+    ensures answers { AnswersRequest {w = prompt_world D.turned P.prompted} (λ before. Exchange rules.now before (request.Cache command.now)) options.old
+        (prompt_state D.turned P.prompted conn.old desk.old prompter.old) result options.new (prompt_state D.turned P.prompted conn.new desk.new prompter.new) }
+    ensures free { (D.at desk.new).out ≡ None }
+    ensures shut { IsShut (P.at prompter.new) }
 {
-    let answer = carry_out(command, rules, options, conn, desk);
+    let answer = carry_out(command, rules, options, conn, desk, prompter);
     respond(&answer, conn)
 }
 
@@ -93,9 +57,10 @@ pub fn run_quiet<L: Link, D: Desk>(
     desk: &mut D,
 ) -> Went
     requires { IsOpen conn.old }
-    ensures { (rules : TheRules) (options : Choices) (line : List ℕ) → quiet_of (request_of line) ≡ Some request.now
+    ensures answers { (rules : TheRules) (options : Choices) (line : List ℕ) → quiet_of (request_of line) ≡ Some request.now
         → AnswersRequest {w = world D.turned} (λ before. LineExchange rules before line) options (session_state D.turned conn.old desk.old)
         result options (session_state D.turned conn.new desk.new) }
+    ensures out { (D.at desk.new).out ≡ (D.at desk.old).out }
 {
     let answer = ask_cache(request.plain, &request.id, desk);
     respond(&answer, conn)
@@ -115,16 +80,21 @@ fn respond<L: Link>(answer: &Answer, conn: &mut Conn<'_, L>) -> Went
 }
 
 /// Does what a command asks for, and says how it is to be answered.
-fn carry_out<L: Link, D: Desk>(
+fn carry_out<L: Link, D: Desk, P: Prompter>(
     command: &CacheCommand,
     rules: &Rules,
     options: &mut Options,
     conn: &mut Conn<'_, L>,
     desk: &mut D,
+    prompter: &mut P,
 ) -> Answer
-    requires { IsOpen conn.old }
-    ensures { CarriesOut {w = world D.turned} (Exchange rules.now options.old (request.Cache command.now)) (session_state D.turned conn.old desk.old)
-        result options.new (session_state D.turned conn.new desk.new) }
+    requires open { IsOpen conn.old }
+    requires free { (D.at desk.old).out ≡ None }
+    requires shut { IsShut (P.at prompter.old) }
+    ensures carries { CarriesOut {w = prompt_world D.turned P.prompted} (Exchange rules.now options.old (request.Cache command.now))
+        (prompt_state D.turned P.prompted conn.old desk.old prompter.old) result options.new (prompt_state D.turned P.prompted conn.new desk.new prompter.new) }
+    ensures free { (D.at desk.new).out ≡ None }
+    ensures shut { IsShut (P.at prompter.new) }
 {
     match command {
         CacheCommand::Nop => Answer::on(Response::Ok),
@@ -138,17 +108,35 @@ fn carry_out<L: Link, D: Desk>(
         CacheCommand::GetInfo(info) => Answer::on(info_response(*info, rules)),
         CacheCommand::GetPassphrase {
             plain,
+            check,
             no_ask,
+            repeat,
+            quality,
             id,
             texts,
-            ..
-        } => get_passphrase(*plain, *no_ask, id, texts, desk),
+        } => {
+            let Some(texts) = texts else {
+                return ask_cache(*plain, id, desk);
+            };
+            if *no_ask {
+                return ask_cache(*plain, id, desk);
+            }
+            match options.mode() {
+                PinMode::Ask => {
+                    let spec = prompt_spec(&texts.description, &texts.prompt, *quality, rules, options);
+                    let plan = ask_plan(&texts.error, *check, *repeat, rules, options);
+                    by_prompt(*plain, id, &spec, &plan, conn, desk, prompter)
+                }
+                mode => without_prompt(mode, *plain, id, conn, desk),
+            }
+        }
         CacheCommand::PresetPassphrase { id, life, secret } => {
             preset_passphrase(id, *life, secret, rules, conn, desk)
         }
         CacheCommand::ClearPassphrase { id, mode } => clear_passphrase(id, *mode, desk),
-        // Prompts aren't served yet.
-        CacheCommand::GetConfirmation { description: _ } => Answer::failed(Code::UnknownCommand),
+        CacheCommand::GetConfirmation { description } => {
+            get_confirmation(description, rules, options, conn, desk, prompter)
+        }
         CacheCommand::ReloadAgent => take_turn(Step::Flush, Answer::on(Response::Ok), desk),
         CacheCommand::KillAgent => take_turn(
             Step::Stop,
@@ -180,54 +168,6 @@ fn info_response(info: Info, rules: &Rules) -> Response
     }
 }
 
-/// GET_PASSPHRASE. One that may prompt isn't served yet.
-fn get_passphrase<D: Desk>(
-    plain: bool,
-    no_ask: bool,
-    id: &Option<CacheId>,
-    texts: &Option<Texts>,
-    desk: &mut D,
-) -> Answer
-    ensures { (rules : TheRules) (before : Choices) (check quality : Bool) (repeat : ℕ) (conn : Connection) → conn.reader.ended ≡ None
-        → CarriesOut {w = world D.turned} (Exchange rules before (request.Cache (command.GetPassphrase plain check no_ask repeat quality id.now texts.now)))
-        (session_state D.turned conn desk.old) result before (session_state D.turned conn desk.new) }
-{
-    if !is_quiet(no_ask, texts) {
-        return Answer::failed(Code::NotSupported);
-    }
-    ask_cache(plain, id, desk)
-}
-
-/// Asks the cache alone for a passphrase.
-fn ask_cache<D: Desk>(plain: bool, id: &Option<CacheId>, desk: &mut D) -> Answer
-    ensures { (rules : TheRules) (before : Choices) (check no_ask quality : Bool) (repeat : ℕ) (texts : Option TheTexts) (conn : Connection)
-        → is_quiet no_ask texts ≡ true → conn.reader.ended ≡ None
-        → CarriesOut {w = world D.turned} (Exchange rules before (request.Cache (command.GetPassphrase plain check no_ask repeat quality id.now texts)))
-        (session_state D.turned conn desk.old) result before (session_state D.turned conn desk.new) }
-{
-    let Some(id) = id else {
-        return Answer::failed(Code::NoData);
-    };
-    match desk.turn(Step::Ask {
-        id: id.copy(),
-        mode: Mode::User,
-        way: Way::Quiet,
-    }) {
-        Ok(Reply::Given(grant)) => Answer::on(Response::Given { grant, plain }),
-        Ok(Reply::Empty) => Answer::failed(Code::NoData),
-        Ok(Reply::Stopping) => Answer::failed(Code::Cancelled),
-        Ok(_) => unreachable!(),
-        Err(Refused { step }) => without_memory(step),
-    }
-}
-
-/// Whether a request asks the cache alone: it says so, or it has no texts for a prompt.
-fn is_quiet(no_ask: bool, texts: &Option<Texts>) -> bool
-    ensures { result ≡ is_quiet no_ask texts.now }
-{
-    no_ask || texts.is_none()
-}
-
 /// PRESET_PASSPHRASE.
 fn preset_passphrase<L: Link, D: Desk>(
     id: &CacheId,
@@ -238,8 +178,9 @@ fn preset_passphrase<L: Link, D: Desk>(
     desk: &mut D,
 ) -> Answer
     requires { IsOpen conn.old }
-    ensures { (before : Choices) → CarriesOut {w = world D.turned} (Exchange rules.now before (request.Cache (command.PresetPassphrase id.now life secret.now)))
+    ensures carries { (before : Choices) → CarriesOut {w = world D.turned} (Exchange rules.now before (request.Cache (command.PresetPassphrase id.now life secret.now)))
         (session_state D.turned conn.old desk.old) result before (session_state D.turned conn.new desk.new) }
+    ensures out { (D.at desk.new).out ≡ (D.at desk.old).out }
 {
     if !rules.allow_preset {
         return Answer::failed(Code::NotSupported);
@@ -258,9 +199,10 @@ fn preset_inquired<L: Link, D: Desk>(
     desk: &mut D,
 ) -> Answer
     requires { IsOpen conn.old }
-    ensures { (rules : TheRules) (before : Choices) → rules.allow_preset ≡ true
+    ensures carries { (rules : TheRules) (before : Choices) → rules.allow_preset ≡ true
         → CarriesOut {w = world D.turned} (Exchange rules before (request.Cache (command.PresetPassphrase id.now life None)))
         (session_state D.turned conn.old desk.old) result before (session_state D.turned conn.new desk.new) }
+    ensures out { (D.at desk.new).out ≡ (D.at desk.old).out }
 {
     match inquire_passphrase(conn) {
         Ok(secret) => store(id, life, secret, desk),
@@ -270,7 +212,8 @@ fn preset_inquired<L: Link, D: Desk>(
 
 /// Stores a passphrase for every mode.
 fn store<D: Desk>(id: &CacheId, life: Life, secret: Secret, desk: &mut D) -> Answer
-    ensures { TakesTurn D.turned (put id.now life secret) (record { response = Some Response.Ok; went = went.On }) desk.old result desk.new }
+    ensures takes { TakesTurn D.turned (put id.now life secret) (record { response = Some Response.Ok; went = went.On }) desk.old result desk.new }
+    ensures out { (D.at desk.new).out ≡ (D.at desk.old).out }
 {
     let step = Step::Put {
         id: id.copy(),
@@ -283,7 +226,8 @@ fn store<D: Desk>(id: &CacheId, life: Life, secret: Secret, desk: &mut D) -> Ans
 
 /// CLEAR_PASSPHRASE.
 fn clear_passphrase<D: Desk>(id: &CacheId, mode: Mode, desk: &mut D) -> Answer
-    ensures { TakesTurn D.turned (Clear id.now mode) (record { response = Some Response.Ok; went = went.On }) desk.old result desk.new }
+    ensures takes { TakesTurn D.turned (Clear id.now mode) (record { response = Some Response.Ok; went = went.On }) desk.old result desk.new }
+    ensures out { (D.at desk.new).out ≡ (D.at desk.old).out }
 {
     let step = Step::Clear {
         id: id.copy(),
@@ -293,9 +237,10 @@ fn clear_passphrase<D: Desk>(id: &CacheId, mode: Mode, desk: &mut D) -> Answer
 }
 
 /// Takes a turn that changes the cache. It is answered so once it is done.
-fn take_turn<D: Desk>(step: Step, done: Answer, desk: &mut D) -> Answer
+pub(crate) fn take_turn<D: Desk>(step: Step, done: Answer, desk: &mut D) -> Answer
     requires { IsChange (mark_step step) }
-    ensures { TakesTurn D.turned (mark_step step) done desk.old result desk.new }
+    ensures takes { TakesTurn D.turned (mark_step step) done desk.old result desk.new }
+    ensures out { (D.at desk.new).out ≡ (D.at desk.old).out }
 {
     match desk.turn(step) {
         Ok(Reply::Done) => done,
@@ -306,7 +251,7 @@ fn take_turn<D: Desk>(step: Step, done: Answer, desk: &mut D) -> Answer
 }
 
 /// Asks the client for a passphrase. Where none comes, it gives how the request is answered without one.
-fn inquire_passphrase<L: Link>(conn: &mut Conn<'_, L>) -> Result<Secret, Answer>
+pub(crate) fn inquire_passphrase<L: Link>(conn: &mut Conn<'_, L>) -> Result<Secret, Answer>
     requires { IsOpen conn.old }
     ensures { AsksSecret conn.old result conn.new }
 {
@@ -336,7 +281,7 @@ fn passphrase_of(inquired: InquiredSecret) -> Result<Secret, Answer>
 }
 
 /// How a command is answered whose step found no memory. The step has no ticket.
-fn without_memory(step: Step) -> Answer
+pub(crate) fn without_memory(step: Step) -> Answer
     requires { closes (mark_step step) ≡ None }
     ensures { result ≡ record { response = Some (Response.Failed Code.NoMemory); went = went.On } }
 {

@@ -1,10 +1,15 @@
 //! The commands on the agent's cache: a line of the client read as a request, or refused by a code, and carried out and answered
-//! over any link and any desk.
+//! over any link, any desk and any prompter.
 #![tactic(auto)]
 
+mod answer;
+mod client;
 mod command;
+mod confirmation;
 mod fields;
 mod names;
+mod passphrase;
+mod prompt;
 mod read;
 mod request;
 mod response;
@@ -12,6 +17,7 @@ mod response;
 mod tests;
 mod went;
 
+pub use client::MAX_NOTE_LEN;
 pub use command::{run_cache, run_quiet};
 pub use fields::MAX_REPEAT;
 pub use names::{COMMANDS, CommandName, commands_are_as_defined};

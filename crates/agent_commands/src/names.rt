@@ -17,14 +17,13 @@ pub enum CommandName {
     GetPassphrase,
     PresetPassphrase,
     ClearPassphrase,
-    /// It is read, but not served yet.
     GetConfirmation,
     ReloadAgent,
     KillAgent,
 }
 
-/// The commands that are served by their names, in the order in which HELP tells them.
-pub const COMMANDS: [(&[u8], CommandName); 11] = [
+/// The commands by their names, in the order in which HELP tells them.
+pub const COMMANDS: [(&[u8], CommandName); 12] = [
     (b"NOP", CommandName::Nop),
     (b"RESET", CommandName::Reset),
     (b"BYE", CommandName::Bye),
@@ -34,12 +33,10 @@ pub const COMMANDS: [(&[u8], CommandName); 11] = [
     (b"GET_PASSPHRASE", CommandName::GetPassphrase),
     (b"PRESET_PASSPHRASE", CommandName::PresetPassphrase),
     (b"CLEAR_PASSPHRASE", CommandName::ClearPassphrase),
+    (b"GET_CONFIRMATION", CommandName::GetConfirmation),
     (b"RELOADAGENT", CommandName::ReloadAgent),
     (b"KILLAGENT", CommandName::KillAgent),
 ];
-
-/// What is read, but not served yet.
-const UNSERVED: [(&[u8], CommandName); 1] = [(b"GET_CONFIRMATION", CommandName::GetConfirmation)];
 
 /// A law: `COMMANDS` has the names as they are defined, in this order.
 pub fn commands_are_as_defined()
@@ -71,10 +68,7 @@ const LISTED: [(&[u8], &[u8]); 7] = [
 pub(crate) fn command_named(word: &[u8]) -> Option<CommandName>
     ensures { result ≡ command_named word.now }
 {
-    match found_in_any_case(word, &COMMANDS) {
-        None => found_in_any_case(word, &UNSERVED),
-        served => served,
-    }
+    found_in_any_case(word, &COMMANDS)
 }
 
 #[tactic(auto, unfolding(crate::specs::Names::info_named))]

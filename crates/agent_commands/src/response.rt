@@ -4,7 +4,7 @@ ghost use Rattle.assuan_text.specs.LineEnds.{line_of};
 ghost use Rattle.assuan_escape.specs.Escapes.{hex_text};
 ghost use Rattle.assuan_server.specs.Written.{comment_text, ok_text, HasWritten};
 ghost use Rattle.agent_commands.specs.Names.{command_names};
-ghost use Rattle.agent_commands.specs.Answers.{IsData, help};
+ghost use Rattle.agent_commands.specs.Answers.{IsData, IsPassphrase, help};
 ghost use Rattle.agent_commands.specs.States.{WritesText};
 ghost use Rattle.agent_commands.specs.Steps.{IsText};
 
@@ -32,7 +32,14 @@ pub(crate) enum Response {
         /// By data lines, and else in hexadecimal digits.
         plain: bool,
     },
+    /// A passphrase that wasn't cached.
+    Passphrase {
+        secret: Secret,
+        plain: bool,
+    },
     Failed(Code),
+    /// The pinentry's error.
+    FailedAtPinentry(Code),
 }
 
 /// A write failed.
@@ -51,12 +58,25 @@ pub(crate) fn write_response<L: Link>(
         Response::Help => write_help(conn),
         Response::Version => write_data(conn, VERSION),
         Response::Number(number) => write_data(conn, Buffer::new().format(*number).as_bytes()),
-        Response::Given { grant, plain: true } => write_data(conn, grant.secret().bytes()),
-        Response::Given {
-            grant,
-            plain: false,
-        } => write_digits(conn, grant.secret()),
+        Response::Given { grant, plain } => write_passphrase(conn, grant.secret(), *plain),
+        Response::Passphrase { secret, plain } => write_passphrase(conn, secret, *plain),
         Response::Failed(code) => whole(conn.err(*code, Origin::Agent)),
+        Response::FailedAtPinentry(code) => whole(conn.err(*code, Origin::Pinentry)),
+    }
+}
+
+/// Writes a passphrase, by data lines or in hexadecimal digits, and that this is all.
+fn write_passphrase<L: Link>(
+    conn: &mut Conn<'_, L>,
+    secret: &Secret,
+    plain: bool,
+) -> Result<(), WriteFault>
+    ensures { (text : List ℕ) × IsPassphrase plain secret.now text × WritesText text conn.old result conn.new }
+{
+    if plain {
+        write_data(conn, secret.bytes())
+    } else {
+        write_digits(conn, secret)
     }
 }
 

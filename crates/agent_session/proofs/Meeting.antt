@@ -9,8 +9,7 @@ use Rattle.assuan_line.specs.Next.{Reader}
 use Rattle.assuan_server.specs.Connections.{Connection}
 use Rattle.assuan_server.specs.Written.{greeting}
 use Rattle.assuan_text.specs.LineEnds.{line_of}
-use Rattle.session_options.specs.Choices.{at_start}
-use Rattle.session_options.specs.declared.rules.Rules.{Rules}
+use Rattle.session_options.specs.Choices.{Choices}
 use Rattle.agent_commands.specs.Events.{Event, Sent, Cut}
 use Rattle.agent_commands.specs.Outside.{World, Outside, Does, received, sent, cut, asked, not_asked, turned, further}
 use Rattle.agent_commands.specs.Reading.{budget}
@@ -21,7 +20,7 @@ use Rattle.agent_commands.specs.declared.went.SessionEnd.{SessionEnd}
 use Rattle.agent_commands.specs.declared.went.SessionEnd.TheVariants.{WriteFault as CutOff}
 use Rattle.agent_commands.specs.declared.went.Went.TheVariants.{End}
 use Rattle.agent_commands.proofs.Doing.{done_then, done_wrote, done_stopped}
-use Rattle.agent_session.specs.Sessions.{Leaves, total_of, ends_with}
+use Rattle.agent_session.specs.Sessions.{LineRelation, Leaves, total_of, ends_with}
 use Rattle.agent_session.specs.Serving.{ServesRequests, ServesConn, around}
 
 -- a reader that has read nothing
@@ -71,7 +70,7 @@ taken_known reader None (Some left) known total = known
 taken_known reader (Some bytes) None known total = known
 taken_known reader (Some bytes) (Some left) known total = omega (arith, total)
 
-module _ {w : World} (rules : Rules) (start : SessionState w) (new : start.conn.reader ≡ fresh) where
+module _ {w : World} (exchange : LineRelation w) (before : Choices) (start : SessionState w) (new : start.conn.reader ≡ fresh) where
   -- what was done, from the first byte on
   module _ (last : SessionState w) (events : List (Event w.Further)) (done : EventsLead events start last) where
     abbrev from_start : Option (List ℕ) → Type 0
@@ -86,7 +85,7 @@ module _ {w : World} (rules : Rules) (start : SessionState w) (new : start.conn.
     taken = taken_known last.conn.reader start.conn.input.bytes last.conn.input.bytes (known_leads led.0) led.1
 
   -- the greeting was cut
-  pub met_cut : (now : Connection) (why : WriteFault) → WritesText (line_of greeting) start.conn (Err why) now → ServesConn rules start CutOff (record start { conn = now })
+  pub met_cut : (now : Connection) (why : WriteFault) → WritesText (line_of greeting) start.conn (Err why) now → ServesConn exchange before start CutOff (record start { conn = now })
   met_cut now why said =
       let stopped : StopsWriting (line_of greeting) start.conn.output now.output = said.output in
       let last : SessionState w = record start { conn = now } in
@@ -117,7 +116,7 @@ module _ {w : World} (rules : Rules) (start : SessionState w) (new : start.conn.
 
   -- and what followed it
   pub met : (mid : Connection) (last : SessionState w) (end : SessionEnd) → WritesText (line_of greeting) start.conn (Ok tt) mid
-      → ServesRequests rules (at_start rules.s2k_count rules.allow_loopback) (record start { conn = mid }) end last → ServesConn rules start end last
+      → ServesRequests exchange before (record start { conn = mid }) end last → ServesConn exchange before start end last
   met mid last end said talked =
       let done : EventsLead {w = w} (Sent (line_of greeting) ∷ talked.events) start last = done_then (done_wrote start.desk start.ends (line_of greeting) start.conn mid said) talked.done in
       record {

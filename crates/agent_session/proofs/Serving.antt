@@ -7,10 +7,8 @@ use Rattle.assuan_line.specs.declared.reader.Took.TheVariants as took
 use Rattle.assuan_server.specs.Connections.{Connection}
 use Rattle.assuan_server.specs.declared.errors.Code.TheVariants.{LineTooLong}
 use Rattle.session_options.specs.Choices.{Choices}
-use Rattle.session_options.specs.declared.rules.Rules.{Rules}
 use Rattle.agent_commands.specs.Answers.{failed}
 use Rattle.agent_commands.specs.Events.{Event, Received, Sent, Cut}
-use Rattle.agent_commands.specs.Exchanges.{LineExchange}
 use Rattle.agent_commands.specs.Outside.{World}
 use Rattle.agent_commands.specs.States.{WritesText, StopsWriting, SessionState, unread, EventsLead, ReaderAfter, FaultsRise, AnswersRequest}
 use Rattle.agent_commands.specs.Talks.{Talk, goes_on, over, ended, spent, read_fault, too_long, cut_too_long}
@@ -20,7 +18,7 @@ use Rattle.agent_commands.specs.declared.went.SessionEnd.TheVariants.{Bye, Kille
 use Rattle.agent_commands.specs.declared.went.SessionEnd.TheVariants as ends
 use Rattle.agent_commands.specs.declared.went.Went.TheVariants.{On, End}
 use Rattle.agent_commands.proofs.Doing.{done_none, done_then, done_wrote, done_stopped, here_going}
-use Rattle.agent_session.specs.Sessions.{Leaves}
+use Rattle.agent_session.specs.Sessions.{LineRelation, Leaves}
 use Rattle.agent_session.specs.Serving.{ServesRequests}
 
 leaves_part_of : (reader : Reader) (left : List ℕ) (o : Option Took) → reader.ended ≡ o → (ahead : List ℕ) × (unread reader left ≡ ahead ++ left)
@@ -45,12 +43,12 @@ leaves ends.WriteFault before after left is = leaves_part after left
 leaves_all : (reader : Reader) (took : Took) → reader.ended ≡ Some took → (left : List ℕ) → unread reader left ≡ left
 leaves_all reader took is left = rw is refl
 
-module _ {w : World} (rules : Rules) (before : Choices) (start : SessionState w) where
+module _ {w : World} (exchange : LineRelation w) (before : Choices) (start : SessionState w) where
   -- How a session stands between two requests: whatever it does from there on completes what it did so far.
   pub record IsServing (now : SessionState w) (choices : Choices) : Type 0 where
     pub events : List (Event w.Further)
     pub done : EventsLead events start now
-    pub continues : (more : List (Event w.Further)) (end : SessionEnd) → Talk (LineExchange rules) choices more end → Talk (LineExchange rules) before (events ++ more) end
+    pub continues : (more : List (Event w.Further)) (end : SessionEnd) → Talk exchange choices more end → Talk exchange before (events ++ more) end
 
   pub serves_none : IsServing start before
   serves_none = record { events = []; done = done_none start; continues = λ more end talk. talk }
@@ -58,8 +56,8 @@ module _ {w : World} (rules : Rules) (before : Choices) (start : SessionState w)
   module _ (now : SessionState w) (choices : Choices) (serving : IsServing now choices) where
     -- the session's end, after these events more
     finishes : (last : SessionState w) (more : List (Event w.Further)) (end : SessionEnd) → EventsLead more now last
-        → Talk (LineExchange rules) choices more end → ((left : List ℕ) → Leaves end (unread last.conn.reader left) left)
-        → FaultsRise (End end) now last → ServesRequests rules before start end last
+        → Talk exchange choices more end → ((left : List ℕ) → Leaves end (unread last.conn.reader left) left)
+        → FaultsRise (End end) now last → ServesRequests exchange before start end last
     finishes last more end done talk leaves_so faults = record {
       events = serving.events ++ more;
       talk = serving.continues more end talk;
@@ -77,16 +75,16 @@ module _ {w : World} (rules : Rules) (before : Choices) (start : SessionState w)
         received_line : EventsLead {w = w} (Received (took.Line line) ∷ []) now read
         received_line = subst (λ t. EventsLead {w = w} (Received t ∷ []) now read) is received
 
-        pub serves_on : AnswersRequest {w = w} (λ kept. LineExchange rules kept line) choices read On after last → IsServing last after
+        pub serves_on : AnswersRequest {w = w} (λ kept. exchange kept line) choices read On after last → IsServing last after
         serves_on answered = record {
           events = serving.events ++ (Received (took.Line line) ∷ answered.events);
           done = done_then serving.done (done_then received_line answered.done);
           continues = λ more end talk.
-              subst (λ (d : List (Event w.Further)). Talk (LineExchange rules) before d end) (sym (append_assoc serving.events (Received (took.Line line) ∷ answered.events) more))
+              subst (λ (d : List (Event w.Further)). Talk exchange before d end) (sym (append_assoc serving.events (Received (took.Line line) ∷ answered.events) more))
               (serving.continues (Received (took.Line line) ∷ (answered.events ++ more)) end (goes_on line answered.exchanges talk));
         }
 
-        pub is_over : (end : SessionEnd) → AnswersRequest {w = w} (λ kept. LineExchange rules kept line) choices read (End end) after last → ServesRequests rules before start end last
+        pub is_over : (end : SessionEnd) → AnswersRequest {w = w} (λ kept. exchange kept line) choices read (End end) after last → ServesRequests exchange before start end last
         is_over end answered =
             finishes last (Received (took.Line line) ∷ answered.events) end (done_then received_line answered.done) (over line answered.exchanges)
             (λ left. leaves end read.conn.reader last.conn.reader left answered.fits)
@@ -96,17 +94,17 @@ module _ {w : World} (rules : Rules) (before : Choices) (start : SessionState w)
             })
 
       -- no request came
-      pub at_end : answer ≡ took.End → read.conn.reader.ended ≡ Some took.End → ServesRequests rules before start Ended read
+      pub at_end : answer ≡ took.End → read.conn.reader.ended ≡ Some took.End → ServesRequests exchange before start Ended read
       at_end is ended_so =
           finishes read (Received took.End ∷ []) Ended (subst (λ t. EventsLead {w = w} (Received t ∷ []) now read) is received) ended (leaves_all read.conn.reader took.End ended_so)
           (record { read = λ e. absurd (cc e); write = λ e. absurd (cc e) })
 
-      pub at_spent : answer ≡ took.Spent → read.conn.reader.ended ≡ Some took.Spent → ServesRequests rules before start Spent read
+      pub at_spent : answer ≡ took.Spent → read.conn.reader.ended ≡ Some took.Spent → ServesRequests exchange before start Spent read
       at_spent is ended_so =
           finishes read (Received took.Spent ∷ []) Spent (subst (λ t. EventsLead {w = w} (Received t ∷ []) now read) is received) spent (leaves_all read.conn.reader took.Spent ended_so)
           (record { read = λ e. absurd (cc e); write = λ e. absurd (cc e) })
 
-      pub at_read_fault : answer ≡ took.ReadFault → read.conn.reader.ended ≡ Some took.ReadFault → Rose now.conn.input.faults read.conn.input.faults → ServesRequests rules before start ReadFault read
+      pub at_read_fault : answer ≡ took.ReadFault → read.conn.reader.ended ≡ Some took.ReadFault → Rose now.conn.input.faults read.conn.input.faults → ServesRequests exchange before start ReadFault read
       at_read_fault is ended_so rose =
           finishes read (Received took.ReadFault ∷ []) ReadFault (subst (λ t. EventsLead {w = w} (Received t ∷ []) now read) is received) read_fault (leaves_all read.conn.reader took.ReadFault ended_so)
           (record { read = λ e. rose; write = λ e. absurd (cc e) })
@@ -118,14 +116,14 @@ module _ {w : World} (rules : Rules) (before : Choices) (start : SessionState w)
         abbrev after_it : SessionState w
         after_it = record { conn = last; desk = read.desk; ends = read.ends }
 
-        pub at_too_long : read.conn.reader.ended ≡ Some took.TooLong → WritesText (failed LineTooLong) read.conn (Ok tt) last → ServesRequests rules before start TooLong after_it
+        pub at_too_long : read.conn.reader.ended ≡ Some took.TooLong → WritesText (failed LineTooLong) read.conn (Ok tt) last → ServesRequests exchange before start TooLong after_it
         at_too_long ended_so said =
             finishes after_it (Received took.TooLong ∷ Sent (failed LineTooLong) ∷ []) TooLong
             (done_then received_long (done_wrote read.desk read.ends (failed LineTooLong) read.conn last said)) too_long
             (leaves_all last.reader took.TooLong (ap (λ (r : Reader). r.ended) said.reader ∙ ended_so))
             (record { read = λ e. absurd (cc e); write = λ e. absurd (cc e) })
 
-        pub cut_at_too_long : (why : WriteFault) → WritesText (failed LineTooLong) read.conn (Err why) last → ServesRequests rules before start ends.WriteFault after_it
+        pub cut_at_too_long : (why : WriteFault) → WritesText (failed LineTooLong) read.conn (Err why) last → ServesRequests exchange before start ends.WriteFault after_it
         cut_at_too_long why said =
             let stopped : StopsWriting (failed LineTooLong) read.conn.output last.output = said.output in
             finishes after_it (Received took.TooLong ∷ Cut stopped.sent ∷ []) ends.WriteFault

@@ -1,18 +1,20 @@
 -- A session from bytes to bytes: what it does, and how each of its ends to the outside fixes that. How it ends is this project's own.
 use Rattle.std.specs.Prelude.{◌≡◌, ◌≤◌, ◌+◌, ℕ, List, [], ◌∷◌, ◌++◌, length, Option}
 use Rattle.std.specs.Option.{option_map_or}
+use Rattle.agent_ask.specs.Events.{Call}
 use Rattle.agent_ports.specs.Counts.{Rose}
 use Rattle.agent_ports.specs.Leads.{Leads}
 use Rattle.agent_ports.specs.Sides.{Side, WhereKnown}
 use Rattle.cache_policy.specs.declared.mark.MarkStep.{MarkStep}
 use Rattle.cache_policy.specs.Turns.{Turn}
-use Rattle.session_options.specs.Choices.{at_start}
+use Rattle.session_options.specs.Choices.{Choices, at_start}
 use Rattle.session_options.specs.declared.rules.Rules.{Rules}
 use Rattle.agent_commands.specs.Events.{Event, Cut}
 use Rattle.agent_commands.specs.Exchanges.{LineExchange}
-use Rattle.agent_commands.specs.Outside.{World, world, Outside, Does}
+use Rattle.agent_commands.specs.Outside.{World, prompt_world, Outside, Does}
 use Rattle.agent_commands.specs.Reading.{budget}
 use Rattle.agent_commands.specs.Talks.{Session}
+use Rattle.agent_commands.specs.declared.went.Went.{Went}
 use Rattle.agent_commands.specs.declared.went.SessionEnd.{SessionEnd}
 use Rattle.agent_commands.specs.declared.went.SessionEnd.TheVariants.{Bye, Killed, Ended, TooLong, Spent, ReadFault, WriteFault}
 
@@ -23,9 +25,10 @@ pub record Surroundings (w : World) : Type 0 where
   pub desk : w.Desk
   pub ends : w.Ends
 
--- where there are no further ends
-abbrev pub surroundings : {D : Type 0} (turned : D → MarkStep → Turn → D → Type 0) → Side → Side → D → Surroundings (world turned)
-surroundings turned input output desk = record { input = input; output = output; desk = desk; ends = tt }
+-- where they are a prompter
+abbrev pub surroundings : {D P : Type 0} (turned : D → MarkStep → Turn → D → Type 0) (prompted : P → Call → P → Type 0) → Side → Side → D → P
+    → Surroundings (prompt_world turned prompted)
+surroundings turned prompted input output desk prompter = record { input = input; output = output; desk = desk; ends = prompter }
 
 -- its ends, where these bytes come next
 abbrev pub ends_with : {w : World} → Option (List ℕ) → Surroundings w → Outside w
@@ -46,12 +49,16 @@ Leaves TooLong rest left = rest ≡ left
 Leaves Spent rest left = rest ≡ left
 Leaves ReadFault rest left = rest ≡ left
 
+-- what is done for a line by what was chosen before it, what is chosen after it, and how the session goes on
+abbrev pub LineRelation : World → Type 1
+LineRelation w = Choices → List ℕ → List (Event w.Further) → Choices → Went → Type 0
+
 -- What a session did to what it has to do with. Its events are a session's, and lead its ends from before to after: the bytes that
 -- were written are theirs, their turns are the desk's, and their requests and inquiries are those of the bytes that were read, of
 -- which each took no more than it may, and all together no more than the budget allows.
-pub record ServesSession {w : World} (rules : Rules) (before : Surroundings w) (end : SessionEnd) (after : Surroundings w) : Type 0 where
+pub record ServesSession {w : World} (exchange : LineRelation w) (start : Choices) (before : Surroundings w) (end : SessionEnd) (after : Surroundings w) : Type 0 where
   pub events : List (Event w.Further)
-  pub session : Session (LineExchange rules) (at_start rules.s2k_count rules.allow_loopback) events end
+  pub session : Session exchange start events end
   -- the bytes from the session's last place on
   pub rest : Option (List ℕ)
   pub leads : Leads (Does w (total_of before.input.bytes)) (ends_with before.input.bytes before) events (ends_with rest after)
@@ -65,3 +72,9 @@ pub record ServesSession {w : World} (rules : Rules) (before : Surroundings w) (
   -- the counts never fall
   pub input_faults : before.input.faults ≤ after.input.faults
   pub output_faults : before.output.faults ≤ after.output.faults
+
+-- a session of the agent's: its lines are requests, and nothing is chosen before the first
+abbrev pub ServesRules : {D P : Type 0} (turned : D → MarkStep → Turn → D → Type 0) (prompted : P → Call → P → Type 0) → Rules → Surroundings (prompt_world turned prompted)
+    → SessionEnd → Surroundings (prompt_world turned prompted) → Type 0
+ServesRules turned prompted rules before end after =
+    ServesSession {w = prompt_world turned prompted} (LineExchange rules) (at_start rules.s2k_count rules.allow_loopback) before end after

@@ -1,67 +1,95 @@
 ghost use Rattle.std.specs.Prelude.{◌≡◌, [], None};
+ghost use Rattle.agent_ask.specs.Prompters.{IsShut};
 ghost use Rattle.assuan_server.specs.Connections.{IsOpen};
+ghost use Rattle.session_options.specs.Choices.{at_start};
 ghost use Rattle.agent_commands.specs.Exchanges.{LineExchange};
-ghost use Rattle.agent_commands.specs.Outside.{world};
+ghost use Rattle.agent_commands.specs.Outside.{prompt_world};
 ghost use Rattle.agent_commands.specs.Reading.{budget};
-ghost use Rattle.agent_commands.specs.States.{session_state, AnswersRequest};
-ghost use Rattle.agent_session.specs.Sessions.{surroundings, ServesSession};
+ghost use Rattle.agent_commands.specs.States.{prompt_state, AnswersRequest};
+ghost use Rattle.agent_session.specs.Sessions.{surroundings, ServesRules};
 ghost use Rattle.agent_session.specs.Serving.{ServesConn, ServesRequests};
 
+use agent_ask::Prompter;
 use agent_commands::{
     BUDGET, Request, SessionEnd, Went, WriteFault, read_quiet, read_request, run_cache, run_quiet,
     whole,
 };
-use agent_ports::Link;
+use agent_ports::{Dice, Keys, Link};
 use assuan_line::{Line, Took};
 use assuan_server::{Code, Conn, Origin};
 use cache_policy::Desk;
 use session_options::{Options, Rules};
 use std::alloc::Global;
 
-/// Serves a session on a link: greets, and answers request after request until the session ends.
-pub fn serve_session<L: Link, D: Desk>(
+/// Serves a session on a link: greets, and answers request after request until the session ends. No ticket of the session is out and no
+/// prompt is open when it returns.
+///
+/// The keys and the dice aren't used yet.
+pub fn serve_session<L: Link, D: Desk, P: Prompter, K: Keys, R: Dice>(
     alloc: Global,
     rules: &Rules,
     link: &mut L,
     desk: &mut D,
+    prompter: &mut P,
+    _keys: &mut K,
+    _dice: &mut R,
 ) -> SessionEnd
-    ensures { ServesSession rules.now
-        (surroundings D.turned (L.input link.old) (L.output link.old) desk.old) result
-        (surroundings D.turned (L.input link.new) (L.output link.new) desk.new) }
+    requires free { (D.at desk.old).out ≡ None }
+    requires shut { IsShut (P.at prompter.old) }
+    ensures serves { ServesRules D.turned P.prompted rules.now
+        (surroundings D.turned P.prompted (L.input link.old) (L.output link.old) desk.old prompter.old) result
+        (surroundings D.turned P.prompted (L.input link.new) (L.output link.new) desk.new prompter.new) }
+    ensures free { (D.at desk.new).out ≡ None }
+    ensures shut { IsShut (P.at prompter.new) }
 {
     let mut conn = Conn::new(alloc, link, BUDGET);
-    let end = serve_conn(rules, &mut conn, desk);
+    let end = serve_conn(rules, &mut conn, desk, prompter);
     // So what the connection did is known of the link.
     conn.into_link();
     end
 }
 
 /// Greets the client, and answers its requests.
-fn serve_conn<L: Link, D: Desk>(rules: &Rules, conn: &mut Conn<'_, L>, desk: &mut D) -> SessionEnd
-    requires { conn.old.reader ≡ record { ahead = []; left = budget; ended = None } }
-    ensures { ServesConn {w = world D.turned} rules.now (session_state D.turned conn.old desk.old) result
-        (session_state D.turned conn.new desk.new) }
+fn serve_conn<L: Link, D: Desk, P: Prompter>(
+    rules: &Rules,
+    conn: &mut Conn<'_, L>,
+    desk: &mut D,
+    prompter: &mut P,
+) -> SessionEnd
+    requires fresh { conn.old.reader ≡ record { ahead = []; left = budget; ended = None } }
+    requires free { (D.at desk.old).out ≡ None }
+    requires shut { IsShut (P.at prompter.old) }
+    ensures serves { ServesConn {w = prompt_world D.turned P.prompted} (LineExchange rules.now) (at_start rules.now.s2k_count rules.now.allow_loopback)
+        (prompt_state D.turned P.prompted conn.old desk.old prompter.old) result
+        (prompt_state D.turned P.prompted conn.new desk.new prompter.new) }
+    ensures free { (D.at desk.new).out ≡ None }
+    ensures shut { IsShut (P.at prompter.new) }
 {
     match whole(conn.greet()) {
-        Ok(()) => serve_requests(rules, &mut Options::new(rules), conn, desk),
+        Ok(()) => serve_requests(rules, &mut Options::new(rules), conn, desk, prompter),
         Err(WriteFault) => SessionEnd::WriteFault,
     }
 }
 
 /// Answers requests up to the end of the session.
-fn serve_requests<L: Link, D: Desk>(
+fn serve_requests<L: Link, D: Desk, P: Prompter>(
     rules: &Rules,
     options: &mut Options,
     conn: &mut Conn<'_, L>,
     desk: &mut D,
+    prompter: &mut P,
 ) -> SessionEnd
-    requires { IsOpen conn.old }
-    ensures { ServesRequests {w = world D.turned} rules.now options.old (session_state D.turned conn.old desk.old) result
-        (session_state D.turned conn.new desk.new) }
+    requires open { IsOpen conn.old }
+    requires free { (D.at desk.old).out ≡ None }
+    requires shut { IsShut (P.at prompter.old) }
+    ensures serves { ServesRequests {w = prompt_world D.turned P.prompted} (LineExchange rules.now) options.old (prompt_state D.turned P.prompted conn.old desk.old prompter.old) result
+        (prompt_state D.turned P.prompted conn.new desk.new prompter.new) }
+    ensures free { (D.at desk.new).out ≡ None }
+    ensures shut { IsShut (P.at prompter.new) }
 {
     loop {
         match conn.next_request() {
-            Took::Line(line) => match answer(&line, rules, options, conn, desk) {
+            Took::Line(line) => match answer(&line, rules, options, conn, desk, prompter) {
                 Went::On => {}
                 Went::End(end) => return end,
             },
@@ -79,39 +107,51 @@ fn serve_requests<L: Link, D: Desk>(
 }
 
 /// Answers one request. One that asks the cache alone is read without its texts, which are long.
-fn answer<L: Link, D: Desk>(
+fn answer<L: Link, D: Desk, P: Prompter>(
     line: &Line,
     rules: &Rules,
     options: &mut Options,
     conn: &mut Conn<'_, L>,
     desk: &mut D,
+    prompter: &mut P,
 ) -> Went
-    requires { IsOpen conn.old }
-    ensures { AnswersRequest {w = world D.turned} (λ before. LineExchange rules.now before line.now) options.old
-        (session_state D.turned conn.old desk.old) result options.new (session_state D.turned conn.new desk.new) }
+    requires open { IsOpen conn.old }
+    requires free { (D.at desk.old).out ≡ None }
+    requires shut { IsShut (P.at prompter.old) }
+    ensures answers { AnswersRequest {w = prompt_world D.turned P.prompted} (λ before. LineExchange rules.now before line.now) options.old
+        (prompt_state D.turned P.prompted conn.old desk.old prompter.old) result options.new (prompt_state D.turned P.prompted conn.new desk.new prompter.new) }
+    ensures free { (D.at desk.new).out ≡ None }
+    ensures shut { IsShut (P.at prompter.new) }
 {
     match read_quiet(line) {
         Some(request) => run_quiet(&request, conn, desk),
-        None => answer_whole(line, rules, options, conn, desk),
+        None => answer_whole(line, rules, options, conn, desk, prompter),
     }
 }
 
 /// Answers one request, of which all is read.
 // Apart from the session's loop, where a place for the request would be filled anew for each line.
 #[inline(never)]
-fn answer_whole<L: Link, D: Desk>(
+fn answer_whole<L: Link, D: Desk, P: Prompter>(
     line: &Line,
     rules: &Rules,
     options: &mut Options,
     conn: &mut Conn<'_, L>,
     desk: &mut D,
+    prompter: &mut P,
 ) -> Went
-    requires { IsOpen conn.old }
-    ensures { AnswersRequest {w = world D.turned} (λ before. LineExchange rules.now before line.now) options.old
-        (session_state D.turned conn.old desk.old) result options.new (session_state D.turned conn.new desk.new) }
+    requires open { IsOpen conn.old }
+    requires free { (D.at desk.old).out ≡ None }
+    requires shut { IsShut (P.at prompter.old) }
+    ensures answers { AnswersRequest {w = prompt_world D.turned P.prompted} (λ before. LineExchange rules.now before line.now) options.old
+        (prompt_state D.turned P.prompted conn.old desk.old prompter.old) result options.new (prompt_state D.turned P.prompted conn.new desk.new prompter.new) }
+    ensures free { (D.at desk.new).out ≡ None }
+    ensures shut { IsShut (P.at prompter.new) }
 {
     match read_request(line) {
-        Request::Cache(command) => run_cache(&command, rules, options, conn, desk),
+        Request::Cache(command) => {
+            run_cache(&command, rules, options, conn, desk, prompter)
+        }
         Request::Bad(code) => match whole(conn.err(code, Origin::Agent)) {
             Ok(()) => Went::On,
             Err(WriteFault) => Went::End(SessionEnd::WriteFault),

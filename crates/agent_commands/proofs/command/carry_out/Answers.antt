@@ -1,56 +1,97 @@
-use Rattle.agent_commands.specs.Exchanges.{nop, reset, bye, help_given, option_judged, info, clear, unserved, reload, kill}
-use Rattle.agent_commands.specs.Outside.{world}
-use Rattle.assuan_server.specs.declared.errors.Code.TheVariants.{UnknownCommand}
-use Rattle.agent_commands.specs.declared.response.Response.TheVariants.{Ok, Closing, Help, Failed}
+use Rattle.std.proofs.Common.{sym, ◌∙◌, subst, refl}
+use Rattle.agent_ask.specs.Doing.{DoesCall}
+use Rattle.agent_commands.specs.Exchanges.{Exchange, LooksFirst, WithoutPrompt, by_prompt, without_prompt, quiet, nop, reset, bye, help_given, option_judged, info, clear, reload, kill}
+use Rattle.agent_commands.specs.Outside.{world, prompt_world}
+use Rattle.agent_commands.specs.States.{session_state}
+use Rattle.agent_commands.specs.Steps.{Carries}
+use Rattle.agent_commands.specs.declared.request.Request.TheVariants.{Cache}
+use Rattle.agent_commands.specs.declared.response.Response.TheVariants.{Ok, Closing, Help}
+use Rattle.agent_commands.proofs.Beside.{carry_beside}
+use Rattle.agent_commands.proofs.Carrying.{carry_as}
 use Rattle.agent_commands.proofs.Preparing.{prepared_on, prepared_last, turn_taken}
 use Rattle.agent_commands.proofs.command.carry_out.Goals as goal
 
-pub returns-in-Nop : goal.returns-in-Nop
-returns-in-Nop g c =
-    prepared_on {w = world g.D.Desk.turned} _ _ c.on.result Ok _ c.requires c.on.ensures
+pub returns-in-Nop-clause-carries : goal.returns-in-Nop-clause-carries
+returns-in-Nop-clause-carries g c =
+    prepared_on {w = prompt_world g.D.Desk.turned g.P.Prompter.prompted} (Exchange c.args.rules.now c.args.options.now (Cache c.args.command.now)) _ c.on.result Ok _ c.requires.open c.on.ensures
     (λ text is. rw (is, c.in-Nop.is) nop)
 
-pub returns-in-Reset : goal.returns-in-Reset
-returns-in-Reset g c =
-    prepared_on {w = world g.D.Desk.turned} _ _ c.on-in-Reset.result Ok _ c.requires c.on-in-Reset.ensures
+pub returns-in-Reset-clause-carries : goal.returns-in-Reset-clause-carries
+returns-in-Reset-clause-carries g c =
+    prepared_on {w = prompt_world g.D.Desk.turned g.P.Prompter.prompted} (Exchange c.args.rules.now c.args.options.now (Cache c.args.command.now)) _ c.on-in-Reset.result Ok _ c.requires.open c.on-in-Reset.ensures
     (λ text is. rw (is, c.in-Reset.is, c.reset.ensures) reset)
 
-pub returns-in-Bye : goal.returns-in-Bye
-returns-in-Bye g c =
-    prepared_last {w = world g.D.Desk.turned} _ _ c.last.result Closing _ c.requires c.last.ensures
+pub returns-in-Bye-clause-carries : goal.returns-in-Bye-clause-carries
+returns-in-Bye-clause-carries g c =
+    prepared_last {w = prompt_world g.D.Desk.turned g.P.Prompter.prompted} (Exchange c.args.rules.now c.args.options.now (Cache c.args.command.now)) _ c.last.result Closing _ c.requires.open c.last.ensures
     (λ text is. rw (is, c.in-Bye.is) bye)
 
-pub returns-in-Help : goal.returns-in-Help
-returns-in-Help g c =
-    prepared_on {w = world g.D.Desk.turned} _ _ c.on-in-Help.result Help _ c.requires c.on-in-Help.ensures
+pub returns-in-Help-clause-carries : goal.returns-in-Help-clause-carries
+returns-in-Help-clause-carries g c =
+    prepared_on {w = prompt_world g.D.Desk.turned g.P.Prompter.prompted} (Exchange c.args.rules.now c.args.options.now (Cache c.args.command.now)) _ c.on-in-Help.result Help _ c.requires.open c.on-in-Help.ensures
     (λ text is. rw (is, c.in-Help.is) help_given)
 
-pub returns-in-SetOption : goal.returns-in-SetOption
-returns-in-SetOption g c =
-    prepared_on {w = world g.D.Desk.turned} _ _ c.on-in-SetOption.result c.option_response.result _ c.requires c.on-in-SetOption.ensures
+pub returns-in-SetOption-clause-carries : goal.returns-in-SetOption-clause-carries
+returns-in-SetOption-clause-carries g c =
+    prepared_on {w = prompt_world g.D.Desk.turned g.P.Prompter.prompted} (Exchange c.args.rules.now c.args.options.now (Cache c.args.command.now)) _ c.on-in-SetOption.result c.option_response.result _ c.requires.open c.on-in-SetOption.ensures
     (λ text is. rw (c.option_response.ensures text is, c.set.ensures.answer, c.set.ensures.after, c.deref.ensures.0, c.in-SetOption.is) option_judged)
 
-pub returns-in-GetInfo : goal.returns-in-GetInfo
-returns-in-GetInfo g c =
-    prepared_on {w = world g.D.Desk.turned} _ _ c.on-in-GetInfo.result c.info_response.result _ c.requires c.on-in-GetInfo.ensures
+pub returns-in-GetInfo-clause-carries : goal.returns-in-GetInfo-clause-carries
+returns-in-GetInfo-clause-carries g c =
+    prepared_on {w = prompt_world g.D.Desk.turned g.P.Prompter.prompted} (Exchange c.args.rules.now c.args.options.now (Cache c.args.command.now)) _ c.on-in-GetInfo.result c.info_response.result _ c.requires.open c.on-in-GetInfo.ensures
     (λ text is. rw c.in-GetInfo.is (info (c.info_response.ensures text is)))
 
-pub returns-in-ClearPassphrase : goal.returns-in-ClearPassphrase
-returns-in-ClearPassphrase g c =
+pub returns-in-ClearPassphrase-clause-carries : goal.returns-in-ClearPassphrase-clause-carries
+returns-in-ClearPassphrase-clause-carries g c =
     rw c.in-ClearPassphrase.is
-    (turn_taken (world g.D.Desk.turned) c.args.rules.now _ c.args.conn.now c.requires c.args.desk.now c.clear_passphrase.new.desk tt clear Ok (λ text is. is) c.clear_passphrase.ensures)
+    (turn_taken g.D.Desk.turned (DoesCall g.P.Prompter.prompted) c.args.rules.now _ c.args.conn.now c.requires.open c.args.desk.now c.clear_passphrase.new.desk c.args.prompter.now clear Ok (λ text is. is) c.clear_passphrase.ensures.takes)
 
-pub returns-in-ReloadAgent : goal.returns-in-ReloadAgent
-returns-in-ReloadAgent g c =
+pub returns-in-ReloadAgent-clause-carries : goal.returns-in-ReloadAgent-clause-carries
+returns-in-ReloadAgent-clause-carries g c =
     rw c.in-ReloadAgent.is
-    (turn_taken (world g.D.Desk.turned) c.args.rules.now _ c.args.conn.now c.requires c.args.desk.now c.take_turn.new.desk tt reload Ok (λ text is. is) (rw c.on-in-ReloadAgent.ensures at c.take_turn.ensures))
+    (turn_taken g.D.Desk.turned (DoesCall g.P.Prompter.prompted) c.args.rules.now _ c.args.conn.now c.requires.open c.args.desk.now c.take_turn.new.desk c.args.prompter.now reload Ok (λ text is. is)
+    (rw c.on-in-ReloadAgent.ensures at c.take_turn.ensures.takes))
 
-pub returns-in-KillAgent : goal.returns-in-KillAgent
-returns-in-KillAgent g c =
+pub returns-in-KillAgent-clause-carries : goal.returns-in-KillAgent-clause-carries
+returns-in-KillAgent-clause-carries g c =
     rw c.in-KillAgent.is
-    (turn_taken (world g.D.Desk.turned) c.args.rules.now _ c.args.conn.now c.requires c.args.desk.now c.take_turn-in-KillAgent.new.desk tt kill Closing (λ text is. is) (rw c.last-in-KillAgent.ensures at c.take_turn-in-KillAgent.ensures))
+    (turn_taken g.D.Desk.turned (DoesCall g.P.Prompter.prompted) c.args.rules.now _ c.args.conn.now c.requires.open c.args.desk.now c.take_turn-in-KillAgent.new.desk c.args.prompter.now kill Closing (λ text is. is)
+    (rw c.last-in-KillAgent.ensures at c.take_turn-in-KillAgent.ensures.takes))
 
-pub returns-in-GetConfirmation : goal.returns-in-GetConfirmation
-returns-in-GetConfirmation g c =
-    prepared_on {w = world g.D.Desk.turned} _ _ c.failed.result (Failed UnknownCommand) _ c.requires c.failed.ensures
-    (λ text is. rw (is, c.in-GetConfirmation.is) unserved)
+pub returns-in-PresetPassphrase-clause-carries : goal.returns-in-PresetPassphrase-clause-carries
+returns-in-PresetPassphrase-clause-carries g c =
+    rw c.in-PresetPassphrase.is
+    (carry_beside g.D.Desk.turned g.P.Prompter.prompted c.args.prompter.now (c.preset_passphrase.ensures.carries c.args.options.now))
+
+pub returns-in_default-clause-carries : goal.returns-in_default-clause-carries
+returns-in_default-clause-carries g c =
+    rw (c.in-GetPassphrase.is, c.in_default.is)
+    (carry_as {w = prompt_world g.D.Desk.turned g.P.Prompter.prompted} (λ events looks. quiet refl looks)
+    (carry_beside g.D.Desk.turned g.P.Prompter.prompted c.args.prompter.now (c.ask_cache.ensures.carries c.args.conn.now c.requires.open)))
+
+pub returns-then-no_ask-clause-carries : goal.returns-then-no_ask-clause-carries
+returns-then-no_ask-clause-carries g c =
+    rw (c.in-GetPassphrase.is, c.in-Some.is, c.if-no_ask.true)
+    (carry_as {w = prompt_world g.D.Desk.turned g.P.Prompter.prompted} (λ events looks. quiet refl looks)
+    (carry_beside g.D.Desk.turned g.P.Prompter.prompted c.args.prompter.now (c.ask_cache-then-no_ask.ensures.carries c.args.conn.now c.requires.open)))
+
+pub returns-in-Ask-clause-carries : goal.returns-in-Ask-clause-carries
+returns-in-Ask-clause-carries g c =
+    rw (c.in-GetPassphrase.is, c.in-Some.is, c.if-no_ask.false)
+    (carry_as {w = prompt_world g.D.Desk.turned g.P.Prompter.prompted}
+    (λ events by. by_prompt c.prompt_spec-spec.result (sym c.mode.ensures ∙ c.in-Ask.is) c.prompt_spec-spec.ensures by)
+    (rw c.ask_plan-plan.ensures at c.by_prompt.ensures.carries))
+
+pub returns-in_default-mode : goal.returns-in_default-mode
+returns-in_default-mode g c =
+    record {
+      carries =
+          rw (c.in-GetPassphrase.is, c.in-Some.is, c.if-no_ask.false)
+          (carry_as {w = prompt_world g.D.Desk.turned g.P.Prompter.prompted} (λ events looks. without_prompt (λ is. c.in_default-mode.not-Ask (c.mode.ensures ∙ is)) looks)
+          (carry_beside g.D.Desk.turned g.P.Prompter.prompted c.args.prompter.now
+          (subst (λ m. Carries {w = world g.D.Desk.turned} (LooksFirst c.in-GetPassphrase.plain c.in-GetPassphrase.id (WithoutPrompt c.in-GetPassphrase.plain c.in-GetPassphrase.id m))
+          (session_state g.D.Desk.turned c.args.conn.now c.args.desk.now) c.without_prompt.result (session_state g.D.Desk.turned c.without_prompt.new.conn c.without_prompt.new.desk))
+          c.mode.ensures c.without_prompt.ensures.carries)));
+      free = c.without_prompt.ensures.out ∙ c.requires.free;
+      shut = c.requires.shut;
+    }

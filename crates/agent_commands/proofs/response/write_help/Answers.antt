@@ -19,5 +19,5 @@ loop-name-preserved g c =
 
 pub returns : goal.returns
 returns g c =
-    let all : c.loop-name.name-index ≡ 11 = omega (arith, c.loop-name.auto.name-index-end, c.loop-name-test.false) in
+    let all : c.loop-name.name-index ≡ 12 = omega (arith, c.loop-name.auto.name-index-end, c.loop-name-test.false) in
     said_then _ ok _ c.loop-name.conn _ _ (rw all at c.loop-name.invariant) (c.whole-2.ensures _ _ _ c.ok.ensures)

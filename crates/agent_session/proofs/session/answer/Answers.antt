@@ -1,5 +1,8 @@
 use Rattle.std.proofs.Common.{sym, ◌∙◌}
+use Rattle.agent_commands.proofs.Beside.{answered_beside}
 use Rattle.agent_session.proofs.session.answer.Goals as goal
 
-pub returns-in-Some : goal.returns-in-Some
-returns-in-Some g c = c.run_quiet.ensures c.args.rules.now c.args.options.now c.args.line.now (sym c.read_quiet.ensures ∙ c.in-Some.is)
+pub returns-in-Some-clause-answers : goal.returns-in-Some-clause-answers
+returns-in-Some-clause-answers g c =
+    answered_beside g.D.Desk.turned g.P.Prompter.prompted c.args.prompter.now
+    (c.run_quiet.ensures.answers c.args.rules.now c.args.options.now c.args.line.now (sym c.read_quiet.ensures ∙ c.in-Some.is))

@@ -1,12 +1,13 @@
 use Rattle.std.proofs.Common.{◌<◌, arith, refl}
 use Rattle.assuan_line.specs.Next.{held}
-use Rattle.agent_commands.specs.Outside.{world}
+use Rattle.agent_commands.specs.Exchanges.{LineExchange}
+use Rattle.agent_commands.specs.Outside.{prompt_world}
 use Rattle.agent_commands.proofs.Doing.{done_received}
 use Rattle.agent_session.proofs.Serving.{serves_none, serves_on, is_over, at_end, at_spent, at_read_fault, at_too_long, cut_at_too_long}
 use Rattle.agent_session.proofs.session.serve_requests.Goals as goal
 
 pub loop-line-init : goal.loop-line-init
-loop-line-init g c = record { serving = serves_none c.args.rules.now c.args.options.now _; going = c.requires }
+loop-line-init g c = record { serving = serves_none (LineExchange c.args.rules.now) c.args.options.now _; going = c.requires.open; free = c.requires.free; shut = c.requires.shut }
 
 pub next_request-requires : goal.next_request-requires
 next_request-requires g c = c.loop-line.invariant.going
@@ -14,48 +15,48 @@ next_request-requires g c = c.loop-line.invariant.going
 pub loop-line-smaller : goal.loop-line-smaller
 loop-line-smaller g c =
     let fewer : held c.next_request.new.self.reader < held c.loop-line.conn.reader = rw c.in-Line.is at c.next_request.ensures.read.progress in
-    let answered = rw c.in-On.is at c.answer.ensures in
+    let answered = rw c.in-On.is at c.answer.ensures.answers in
     omega (arith, fewer, answered.fits.1)
 
 pub loop-line-preserved : goal.loop-line-preserved
 loop-line-preserved g c =
     let i = c.loop-line.invariant in
-    let received = done_received {w = world g.D.Desk.turned} c.loop-line.desk tt c.loop-line.conn c.next_request.new.self c.next_request.result i.going c.next_request.ensures in
-    let answered = rw c.in-On.is at c.answer.ensures in
-    record { serving = serves_on {w = world g.D.Desk.turned} c.args.rules.now c.args.options.now _ _ _ i.serving _ c.next_request.result received c.in-Line.line c.in-Line.is _ _ answered; going = answered.fits.0 }
+    let received = done_received {w = prompt_world g.D.Desk.turned g.P.Prompter.prompted} c.loop-line.desk c.loop-line.prompter c.loop-line.conn c.next_request.new.self c.next_request.result i.going c.next_request.ensures in
+    let answered = rw c.in-On.is at c.answer.ensures.answers in
+    record { serving = serves_on {w = prompt_world g.D.Desk.turned g.P.Prompter.prompted} (LineExchange c.args.rules.now) c.args.options.now _ _ _ i.serving _ c.next_request.result received c.in-Line.line c.in-Line.is _ _ answered; going = answered.fits.0; free = c.answer.ensures.free; shut = c.answer.ensures.shut }
 
 pub returns-in-End-answer : goal.returns-in-End-answer
 returns-in-End-answer g c =
     let i = c.loop-line.invariant in
-    let received = done_received {w = world g.D.Desk.turned} c.loop-line.desk tt c.loop-line.conn c.next_request.new.self c.next_request.result i.going c.next_request.ensures in
-    is_over {w = world g.D.Desk.turned} c.args.rules.now c.args.options.now _ _ _ i.serving _ c.next_request.result received c.in-Line.line c.in-Line.is _ _ c.in-End-answer.end (rw c.in-End-answer.is at c.answer.ensures)
+    let received = done_received {w = prompt_world g.D.Desk.turned g.P.Prompter.prompted} c.loop-line.desk c.loop-line.prompter c.loop-line.conn c.next_request.new.self c.next_request.result i.going c.next_request.ensures in
+    is_over {w = prompt_world g.D.Desk.turned g.P.Prompter.prompted} (LineExchange c.args.rules.now) c.args.options.now _ _ _ i.serving _ c.next_request.result received c.in-Line.line c.in-Line.is _ _ c.in-End-answer.end (rw c.in-End-answer.is at c.answer.ensures.answers)
 
 pub returns-in-Ok : goal.returns-in-Ok
 returns-in-Ok g c =
     let i = c.loop-line.invariant in
-    let received = done_received {w = world g.D.Desk.turned} c.loop-line.desk tt c.loop-line.conn c.next_request.new.self c.next_request.result i.going c.next_request.ensures in
-    at_too_long {w = world g.D.Desk.turned} c.args.rules.now c.args.options.now _ _ _ i.serving _ c.next_request.result received c.in-TooLong.is _ c.in-TooLong.ensures.read.ended (c.in-Ok.ensures _ _ _ c.err.ensures)
+    let received = done_received {w = prompt_world g.D.Desk.turned g.P.Prompter.prompted} c.loop-line.desk c.loop-line.prompter c.loop-line.conn c.next_request.new.self c.next_request.result i.going c.next_request.ensures in
+    at_too_long {w = prompt_world g.D.Desk.turned g.P.Prompter.prompted} (LineExchange c.args.rules.now) c.args.options.now _ _ _ i.serving _ c.next_request.result received c.in-TooLong.is _ c.in-TooLong.ensures.read.ended (c.in-Ok.ensures _ _ _ c.err.ensures)
 
 pub returns-in-Err : goal.returns-in-Err
 returns-in-Err g c =
     let i = c.loop-line.invariant in
-    let received = done_received {w = world g.D.Desk.turned} c.loop-line.desk tt c.loop-line.conn c.next_request.new.self c.next_request.result i.going c.next_request.ensures in
-    cut_at_too_long {w = world g.D.Desk.turned} c.args.rules.now c.args.options.now _ _ _ i.serving _ c.next_request.result received c.in-TooLong.is _ _ (c.in-Err.ensures _ _ _ c.err.ensures)
+    let received = done_received {w = prompt_world g.D.Desk.turned g.P.Prompter.prompted} c.loop-line.desk c.loop-line.prompter c.loop-line.conn c.next_request.new.self c.next_request.result i.going c.next_request.ensures in
+    cut_at_too_long {w = prompt_world g.D.Desk.turned g.P.Prompter.prompted} (LineExchange c.args.rules.now) c.args.options.now _ _ _ i.serving _ c.next_request.result received c.in-TooLong.is _ _ (c.in-Err.ensures _ _ _ c.err.ensures)
 
 pub returns-in-End : goal.returns-in-End
 returns-in-End g c =
     let i = c.loop-line.invariant in
-    let received = done_received {w = world g.D.Desk.turned} c.loop-line.desk tt c.loop-line.conn c.next_request.new.self c.next_request.result i.going c.next_request.ensures in
-    at_end {w = world g.D.Desk.turned} c.args.rules.now c.args.options.now _ _ _ i.serving _ c.next_request.result received c.in-End.is c.in-End.ensures.read.ended
+    let received = done_received {w = prompt_world g.D.Desk.turned g.P.Prompter.prompted} c.loop-line.desk c.loop-line.prompter c.loop-line.conn c.next_request.new.self c.next_request.result i.going c.next_request.ensures in
+    at_end {w = prompt_world g.D.Desk.turned g.P.Prompter.prompted} (LineExchange c.args.rules.now) c.args.options.now _ _ _ i.serving _ c.next_request.result received c.in-End.is c.in-End.ensures.read.ended
 
 pub returns-in-Spent : goal.returns-in-Spent
 returns-in-Spent g c =
     let i = c.loop-line.invariant in
-    let received = done_received {w = world g.D.Desk.turned} c.loop-line.desk tt c.loop-line.conn c.next_request.new.self c.next_request.result i.going c.next_request.ensures in
-    at_spent {w = world g.D.Desk.turned} c.args.rules.now c.args.options.now _ _ _ i.serving _ c.next_request.result received c.in-Spent.is c.in-Spent.ensures.read.ended
+    let received = done_received {w = prompt_world g.D.Desk.turned g.P.Prompter.prompted} c.loop-line.desk c.loop-line.prompter c.loop-line.conn c.next_request.new.self c.next_request.result i.going c.next_request.ensures in
+    at_spent {w = prompt_world g.D.Desk.turned g.P.Prompter.prompted} (LineExchange c.args.rules.now) c.args.options.now _ _ _ i.serving _ c.next_request.result received c.in-Spent.is c.in-Spent.ensures.read.ended
 
 pub returns-in-ReadFault : goal.returns-in-ReadFault
 returns-in-ReadFault g c =
     let i = c.loop-line.invariant in
-    let received = done_received {w = world g.D.Desk.turned} c.loop-line.desk tt c.loop-line.conn c.next_request.new.self c.next_request.result i.going c.next_request.ensures in
-    at_read_fault {w = world g.D.Desk.turned} c.args.rules.now c.args.options.now _ _ _ i.serving _ c.next_request.result received c.in-ReadFault.is c.in-ReadFault.ensures.read.ended (c.in-ReadFault.ensures.read.fault refl)
+    let received = done_received {w = prompt_world g.D.Desk.turned g.P.Prompter.prompted} c.loop-line.desk c.loop-line.prompter c.loop-line.conn c.next_request.new.self c.next_request.result i.going c.next_request.ensures in
+    at_read_fault {w = prompt_world g.D.Desk.turned g.P.Prompter.prompted} (LineExchange c.args.rules.now) c.args.options.now _ _ _ i.serving _ c.next_request.result received c.in-ReadFault.is c.in-ReadFault.ensures.read.ended (c.in-ReadFault.ensures.read.fault refl)

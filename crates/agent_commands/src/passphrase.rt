@@ -1,0 +1,205 @@
+//! GET_PASSPHRASE: by the cache, a prompt, or the client itself.
+
+ghost use Rattle.std.specs.Prelude.{◌≡◌, ◌≢◌, None, Some, ⊤};
+ghost use Rattle.agent_ask.specs.Prompters.{IsShut};
+ghost use Rattle.agent_ask.specs.Prompts.{AsksPin};
+ghost use Rattle.assuan_server.specs.Connections.{Connection, IsOpen};
+ghost use Rattle.cache_policy.specs.Turns.{mark_step};
+ghost use Rattle.session_options.specs.declared.options.PinMode.TheVariants as pin_mode;
+ghost use Rattle.agent_commands.specs.Exchanges.{LooksFirst, Refuses, WithoutPrompt, ByPrompt, EndsPin, want};
+ghost use Rattle.agent_commands.specs.Outside.{world, prompt_world};
+ghost use Rattle.agent_commands.specs.Prompting.{UnderTicket};
+ghost use Rattle.agent_commands.specs.States.{session_state, prompt_state};
+ghost use Rattle.agent_commands.specs.Steps.{Carries, LooksUp, KeepsSecret, HasNoPin, answer_without_pin};
+
+use crate::answer::Answer;
+use crate::command::{inquire_passphrase, take_turn, without_memory};
+use crate::prompt::{ask_user, give_back, unheard};
+use crate::response::Response;
+use agent_ask::{AskPlan, Asked, PromptSpec, Prompter};
+use agent_ports::Link;
+use assuan_server::{Code, Conn};
+use cache_policy::{CacheId, Desk, Life, Mode, Refused, Reply, Secret, Step, Way};
+use prompt_seat::Ticket;
+use session_options::PinMode;
+
+/// A passphrase from the cache alone.
+pub(crate) fn ask_cache<D: Desk>(plain: bool, id: &Option<CacheId>, desk: &mut D) -> Answer
+    ensures carries { (conn : Connection) → IsOpen conn → Carries {w = world D.turned} (LooksFirst plain id.now (Refuses Code.NoData))
+        (session_state D.turned conn desk.old) result (session_state D.turned conn desk.new) }
+    ensures out { (D.at desk.new).out ≡ (D.at desk.old).out }
+{
+    match look(plain, id, desk) {
+        Some(answer) => answer,
+        None => Answer::failed(Code::NoData),
+    }
+}
+
+/// Looks into the cache, where there is an id. Where that ends the request, it gives how it is answered.
+fn look<D: Desk>(plain: bool, id: &Option<CacheId>, desk: &mut D) -> Option<Answer>
+    ensures looks { LooksUp D.turned plain id.now desk.old result desk.new }
+    ensures out { (D.at desk.new).out ≡ (D.at desk.old).out }
+{
+    let Some(id) = id else {
+        return None;
+    };
+    match desk.turn(Step::Ask {
+        id: id.copy(),
+        mode: Mode::User,
+        way: Way::Quiet,
+    }) {
+        Ok(Reply::Given(grant)) => Some(Answer::on(Response::Given { grant, plain })),
+        Ok(Reply::Empty) => None,
+        Ok(Reply::Stopping) => Some(Answer::failed(Code::Cancelled)),
+        Ok(_) => unreachable!(),
+        Err(Refused { step }) => Some(without_memory(step)),
+    }
+}
+
+/// A passphrase from the cache, or else as the client wants it where it wants no prompt.
+pub(crate) fn without_prompt<L: Link, D: Desk>(
+    mode: PinMode,
+    plain: bool,
+    id: &Option<CacheId>,
+    conn: &mut Conn<'_, L>,
+    desk: &mut D,
+) -> Answer
+    requires open { IsOpen conn.old }
+    requires mode { mode ≢ pin_mode.Ask }
+    ensures carries { Carries {w = world D.turned} (LooksFirst plain id.now (WithoutPrompt plain id.now mode))
+        (session_state D.turned conn.old desk.old) result (session_state D.turned conn.new desk.new) }
+    ensures out { (D.at desk.new).out ≡ (D.at desk.old).out }
+{
+    if let Some(answer) = look(plain, id, desk) {
+        return answer;
+    }
+    match mode {
+        PinMode::Cancel => Answer::failed(Code::Cancelled),
+        PinMode::Error => Answer::failed(Code::NoPinentry),
+        PinMode::Loopback => ask_client(plain, id, conn, desk),
+        PinMode::Ask => unreachable!(),
+    }
+}
+
+/// Asks the client for the passphrase, and keeps it.
+fn ask_client<L: Link, D: Desk>(
+    plain: bool,
+    id: &Option<CacheId>,
+    conn: &mut Conn<'_, L>,
+    desk: &mut D,
+) -> Answer
+    requires open { IsOpen conn.old }
+    ensures carries { Carries {w = world D.turned} (WithoutPrompt plain id.now pin_mode.Loopback)
+        (session_state D.turned conn.old desk.old) result (session_state D.turned conn.new desk.new) }
+    ensures out { (D.at desk.new).out ≡ (D.at desk.old).out }
+{
+    match inquire_passphrase(conn) {
+        Ok(secret) => keep(plain, id, secret, desk),
+        Err(answer) => answer,
+    }
+}
+
+/// Keeps what the client gave, where there is an id, and answers it.
+fn keep<D: Desk>(plain: bool, id: &Option<CacheId>, secret: Secret, desk: &mut D) -> Answer
+    ensures keeps { KeepsSecret D.turned plain secret id.now desk.old result desk.new }
+    ensures out { (D.at desk.new).out ≡ (D.at desk.old).out }
+{
+    let Some(id) = id else {
+        return Answer::on(Response::Passphrase { secret, plain });
+    };
+    let step = Step::Put {
+        id: id.copy(),
+        mode: Mode::User,
+        life: Life::Default,
+        secret: secret.copy(),
+    };
+    take_turn(step, Answer::on(Response::Passphrase { secret, plain }), desk)
+}
+
+/// A passphrase from the cache, or else by a prompt.
+pub(crate) fn by_prompt<L: Link, D: Desk, P: Prompter>(
+    plain: bool,
+    id: &Option<CacheId>,
+    spec: &PromptSpec,
+    plan: &AskPlan,
+    conn: &mut Conn<'_, L>,
+    desk: &mut D,
+    prompter: &mut P,
+) -> Answer
+    requires open { IsOpen conn.old }
+    requires free { (D.at desk.old).out ≡ None }
+    requires shut { IsShut (P.at prompter.old) }
+    ensures carries { Carries {w = prompt_world D.turned P.prompted} (ByPrompt spec.now plan.now plain id.now)
+        (prompt_state D.turned P.prompted conn.old desk.old prompter.old) result (prompt_state D.turned P.prompted conn.new desk.new prompter.new) }
+    ensures free { (D.at desk.new).out ≡ None }
+    ensures shut { IsShut (P.at prompter.new) }
+{
+    match desk.turn(wanting(id)) {
+        Ok(Reply::Given(grant)) => Answer::on(Response::Given { grant, plain }),
+        Ok(Reply::Open(ticket)) => {
+            prompt_under(ticket, plain, spec, plan, conn, desk, prompter)
+        }
+        Ok(Reply::Stopping) => Answer::failed(Code::Cancelled),
+        Ok(_) => unreachable!(),
+        Err(Refused { step }) => without_memory(step),
+    }
+}
+
+/// The step that wants the prompt for a passphrase. Without an id the cache has nothing to do with it.
+fn wanting(id: &Option<CacheId>) -> Step
+    ensures { mark_step result ≡ want id.now }
+{
+    match id {
+        None => Step::Seat { under: None },
+        Some(id) => Step::Ask {
+            id: id.copy(),
+            mode: Mode::User,
+            way: Way::Prompt,
+        },
+    }
+}
+
+/// Asks the user under a ticket, which is given back before anything is answered.
+fn prompt_under<L: Link, D: Desk, P: Prompter>(
+    ticket: Ticket,
+    plain: bool,
+    spec: &PromptSpec,
+    plan: &AskPlan,
+    conn: &mut Conn<'_, L>,
+    desk: &mut D,
+    prompter: &mut P,
+) -> Answer
+    requires open { IsOpen conn.old }
+    requires out { (D.at desk.old).out ≡ Some ticket }
+    requires shut { IsShut (P.at prompter.old) }
+    ensures carries { Carries {w = prompt_world D.turned P.prompted} (UnderTicket (AsksPin spec.now plan.now (λ pin. ⊤)) (EndsPin plain) ticket)
+        (prompt_state D.turned P.prompted conn.old desk.old prompter.old) result (prompt_state D.turned P.prompted conn.new desk.new prompter.new) }
+    ensures free { (D.at desk.new).out ≡ None }
+    ensures shut { IsShut (P.at prompter.new) }
+{
+    match ask_user(&ticket, spec, plan, conn, prompter) {
+        Asked::Pin(pin) => {
+            give_back(ticket, Some(pin.copy()), desk);
+            Answer::on(Response::Passphrase { secret: pin, plain })
+        }
+        asked => {
+            give_back(ticket, None, desk);
+            without_pin(asked)
+        }
+    }
+}
+
+/// How a request ends whose prompt gave no passphrase.
+fn without_pin(asked: Asked) -> Answer
+    requires { HasNoPin asked }
+    ensures { result ≡ answer_without_pin asked }
+{
+    match asked {
+        Asked::Cancelled => Answer::failed_at_pinentry(Code::Cancelled),
+        Asked::TimedOut => Answer::failed_at_pinentry(Code::Timeout),
+        Asked::NoPinentry => Answer::failed(Code::NoPinentry),
+        Asked::Bad => Answer::failed(Code::BadPass),
+        Asked::Heard(heard) => unheard(heard),
+        Asked::Pin(_) | Asked::NoMemory => unreachable!(),
+    }
+}
