@@ -1,20 +1,19 @@
 -- A session alone at a desk: its run is the replay of its marked turns.
-use Rattle.std.specs.Prelude.{◌≡◌, ◌≢◌, ℕ, List, [], ◌∷◌, ◌++◌, map, Bool, true, false, Option, Some, None, refl, ◌==◌, ◌⊎◌, length, if◌then◌else◌}
+use Rattle.std.specs.Prelude.{◌≡◌, ◌≢◌, ℕ, List, [], ◌∷◌, ◌++◌, map, Bool, true, false, None, refl, ◌==◌, ◌⊎◌, length, if◌then◌else◌}
 use Rattle.std.proofs.Common.{ap, sym, ◌∙◌, subst, append-nil, append_assoc, inl, inr}
 use Rattle.std.specs.List.{AllByRecursion}
 use Rattle.agent_ports.specs.Leads.{Leads, none as stay, one}
-use Rattle.agent_ports.specs.Readings.{IsRead, HasGiven, none as none_given, one as given_one}
+use Rattle.agent_ports.specs.Readings.{HasGiven, none as none_given, one as given_one}
 use Rattle.agent_ports.specs.declared.session.SessionId.{SessionId}
 use Rattle.cache_policy.specs.declared.bounds.TheConstants.{MAX_MARKS}
 use Rattle.cache_policy.specs.declared.life.Limits.{Limits}
 use Rattle.cache_policy.specs.declared.mark.Mark.{Mark}
 use Rattle.cache_policy.specs.declared.mark.MarkStep.{MarkStep}
-use Rattle.cache_policy.specs.declared.history.History.{History}
 use Rattle.cache_policy.specs.Desks.{Shows}
 use Rattle.cache_policy.specs.Extending.{Taken, TakesTurn}
-use Rattle.cache_policy.specs.Histories.{moments, with_mark}
+use Rattle.cache_policy.specs.Histories.{History, moments, with_mark}
 use Rattle.cache_policy.specs.Replay.{moments_at, NoneEmpty, Marked, none as none_marked, made, unmade}
-use Rattle.cache_policy.specs.Runs.{joined, moment_before, moment_of, next_history, turn_over, run_with_mark}
+use Rattle.cache_policy.specs.Runs.{joined, moment_before, next_history, turn_over, run_with_mark}
 use Rattle.cache_policy.specs.Turns.{Turn, Stand, Refused, Stopping}
 use Rattle.cache_policy.proofs.GrowingRuns.{joined-run_with_mark}
 use Rattle.agent_core.specs.Cores.{mark_of}

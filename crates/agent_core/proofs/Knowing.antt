@@ -1,5 +1,5 @@
 -- A core that keeps its run: what becomes of the run by a step.
-use Rattle.std.specs.Prelude.{◌≡◌, ◌≢◌, ℕ, ◌+◌, ◌%◌, ◌<◌, ◌≤◌, ◌==◌, ◌&&◌, ◌||◌, List, [], ◌∷◌, ◌++◌, length, fold, Bool, true, false, Option, Some, None, IsSome, IfSome, refl, vec_len, vec_capacity, ◌⊎◌, if◌then◌else◌}
+use Rattle.std.specs.Prelude.{◌≡◌, ◌≢◌, ℕ, ◌+◌, ◌%◌, ◌<◌, ◌≤◌, ◌==◌, ◌&&◌, ◌||◌, List, [], ◌∷◌, ◌++◌, length, fold, Bool, true, false, Option, Some, None, IsSome, IfSome, refl, ◌⊎◌, if◌then◌else◌}
 use Rattle.std.proofs.Common.{ap, sym, ◌∙◌, subst, arith, length-append, inl, inr, Ok}
 use Rattle.std.specs.Option.{is_some, option_and_then}
 use Rattle.std.specs.Global.{Vec}
@@ -15,25 +15,23 @@ use Rattle.cache_policy.specs.declared.mark.MarkReply.{MarkReply}
 use Rattle.cache_policy.specs.declared.mark.MarkReply.TheVariants as reply
 use Rattle.cache_policy.specs.declared.mark.Way.TheVariants.{Quiet, Prompt}
 use Rattle.cache_policy.specs.declared.history.Held.{Held as Ticket}
-use Rattle.cache_policy.specs.declared.history.History.{History}
 use Rattle.cache_policy.specs.declared.step.Reply.{Reply as SteppedReply}
 use Rattle.cache_policy.specs.declared.step.Reply.TheVariants as told
 use Rattle.cache_policy.specs.Desks.{Shows, IsSpentRun}
-use Rattle.cache_policy.specs.Histories.{next_number, with_mark}
+use Rattle.cache_policy.specs.declared.history.History.{History as HistoryInMemory}
+use Rattle.cache_policy.specs.Histories.{History, run_of, next_number, with_mark}
 use Rattle.cache_policy.specs.Legal.{IsLegal, IsLegalRun}
-use Rattle.cache_policy.specs.Policy.{Reply, policy}
 use Rattle.cache_policy.specs.Runs.{last_base, is_spent, turn_over, next_history, last_history, run_with_mark, joined, moment_before, moment_of}
 use Rattle.cache_policy.specs.Seat.{seat, is_open, under_of, unless_given_back}
 use Rattle.cache_policy.specs.Turns.{Turn, Given, Empty, Open, Stand, Done, Held, Refused, Stopping, FitsReply, opens, closes, turn_of}
 use Rattle.cache_policy.proofs.GrowingRuns.{joined-run_with_mark, legal-run_with_mark, last-run_with_mark, spent-all}
 use Rattle.cache_policy.proofs.OneMore.{seat-with_mark}
 use Rattle.cache_policy.proofs.Growing.{seat-turn_over}
-use Rattle.cache_book.specs.Slots.{slots}
 use Rattle.agent_core.specs.declared.known_core.Start.{Start}
 use Rattle.agent_core.specs.Adding.{CanAdd, added, next_start}
-use Rattle.agent_core.specs.Cores.{StandsFor, IsStep, marked as step_marked, stood as step_stood, refused as step_refused, spent as step_spent, IsMarked, mark_of, IsAsBefore}
-use Rattle.agent_core.specs.Known.{run_seat, IsOut, held as held_out, given_up, next_moment, MayRefuse, wants, begins, leaves, may_open, TakesStep, marked, stood, refused, spent}
-use Rattle.agent_core.specs.Recording.{KeepsRun, IsRoom, HasPlace, Records, needs_room, reply_of}
+use Rattle.agent_core.specs.Cores.{IsStep, marked as step_marked, stood as step_stood, refused as step_refused, spent as step_spent, IsMarked, mark_of, IsAsBefore}
+use Rattle.agent_core.specs.Known.{run_seat, IsOut, held as held_out, given_up, next_moment, MayRefuse, wants, begins, leaves, may_open, TakesStep, marked, stood, refused}
+use Rattle.agent_core.specs.Recording.{KeepsRun, IsRoom, LastHasRoom, HasPlace, Records, needs_room, reply_of}
 use Rattle.agent_core.specs.States.{AtCore, HasRoom}
 use Rattle.agent_core.proofs.Adding.{add-full}
 
@@ -139,28 +137,29 @@ module _ (core : AtCore) (run : List History) (keeps : KeepsRun core run) where
       ] refl
 
 -- the room for the next history is there where this one is full
-pub has_next : (core : AtCore) (histories : Vec History) (next later : Option (List Mark)) (asked : MarkStep) → Records core histories next
-    → core.base + core.count ≢ last_base → IfSome (closes asked) (IsOut histories.items) → (IsSome next → IsSome later)
+pub has_next : (core : AtCore) (histories : Vec HistoryInMemory) (next later : Option (Vec Mark)) (asked : MarkStep) → Records core histories next
+    → core.base + core.count ≢ last_base → IfSome (closes asked) (IsOut (run_of histories.items)) → (IsSome next → IsSome later)
     → (needs_room core asked ≡ true → IsSome later) → core.count ≡ MAX_MARKS → IsSome later
 has_next core histories next later asked records more own kept room full =
     by (closes asked) own room
   where
-    by : (closed : Option ℕ) → IfSome closed (IsOut histories.items)
+    by : (closed : Option ℕ) → IfSome closed (IsOut (run_of histories.items))
         → ((if is_some closed then false else core.count == MAX_MARKS || (core.count + 1 == MAX_MARKS && (is_some core.held || opens asked))) ≡ true → IsSome later) → IsSome later
     by None own room =
         let is : (core.count == MAX_MARKS) ≡ true = grind (arith, nat_tests) in
         room (ap (λ (b : Bool). b || (core.count + 1 == MAX_MARKS && (is_some core.held || opens asked))) is)
     by (Some number) own room =
-        let out = held_out_is core histories.items records.keeps more number own in
+        let out = held_out_is core (run_of histories.items) records.keeps more number own in
         kept (records.ready full (subst (λ (h : Option Ticket). IsSome h) (sym out.1) refl))
 
-pub can_add : (core : AtCore) (histories : Vec History) (next : Option (List Mark)) → KeepsRun core histories.items → IsRoom histories next
+pub can_add : (core : AtCore) (histories : Vec HistoryInMemory) (next : Option (Vec Mark)) → KeepsRun core (run_of histories.items)
+    → LastHasRoom histories.items → IsRoom histories next
     → (core.count ≡ MAX_MARKS → IsSome next) → CanAdd (next_start core) histories next
-can_add core histories next keeps room some =
+can_add core histories next keeps present room some =
     elim (core.count == MAX_MARKS) as (λ b. (core.count == MAX_MARKS) ≡ b
     → CanAdd (if b then Some (record { base = core.base + MAX_MARKS; held = core.held; stopped = core.stopped }) else None) histories next) [
       | true ↦ λ e. (some (grind (arith, nat_tests)), room)
-      | false ↦ λ e. (has_place core histories.items keeps (grind (arith, nat_tests)), room)
+      | false ↦ λ e. (has_place core (run_of histories.items) keeps (grind (arith, nat_tests)), present, room)
     ] refl
 
 -- why a step needs room
@@ -230,11 +229,12 @@ pub like_refused : (before after : AtCore) → IsAsBefore before after → IsLik
 like_refused before after is = record { count = ap (λ (c : AtCore). c.count) is.same; held = ap (λ (c : AtCore). c.held) is.same }
 
 -- a core whose run stays has the room that it needs
-pub records_stay : (before after : AtCore) (histories later : Vec History) (next there : Option (List Mark)) → Records before histories next
-    → later.items ≡ histories.items → IsRoom later there → (IsSome next → IsSome there) → IsLike before after → KeepsRun after histories.items
+pub records_stay : (before after : AtCore) (histories later : Vec HistoryInMemory) (next there : Option (Vec Mark)) → Records before histories next
+    → later.items ≡ histories.items → IsRoom later there → (IsSome next → IsSome there) → IsLike before after → KeepsRun after (run_of histories.items)
     → Records after later there
 records_stay before after histories later next there records items room kept like keeps = record {
-  keeps = subst (KeepsRun after) (sym items) keeps;
+  keeps = subst (λ (l : List HistoryInMemory). KeepsRun after (run_of l)) (sym items) keeps;
+  present = subst LastHasRoom (sym items) records.present;
   room = room;
   ready = λ full held. kept (records.ready (omega (arith, full, like.count)) (subst (λ (h : Option Ticket). IsSome h) like.held held));
 }
@@ -381,19 +381,20 @@ none_still (Peek id mode) number ticket is same some = absurd (cc is)
 none_still Stop number ticket is same some = absurd (cc is)
 
 -- what the room was made for
-pub record HasRoomFor (core : AtCore) (histories : Vec History) (next there : Option (List Mark)) (asked : MarkStep) : Type 0 where
+pub record HasRoomFor (core : AtCore) (histories : Vec HistoryInMemory) (next there : Option (Vec Mark)) (asked : MarkStep) : Type 0 where
   pub records : Records core histories next
   pub more : core.base + core.count ≢ last_base
-  pub own : IfSome (closes asked) (IsOut histories.items)
+  pub own : IfSome (closes asked) (IsOut (run_of histories.items))
   pub kept : IsSome next → IsSome there
   pub room : needs_room core asked ≡ true → IsSome there
 
 -- a core that made a mark has the room that it needs
-pub records_marked : (before after : AtCore) (histories later : Vec History) (next there ending : Option (List Mark)) (session : SessionId) (moment : ℕ) (asked : MarkStep) (turn : Turn) (mark : Mark)
-    → HasRoomFor before histories next there asked → FitsReply asked turn → Marks before after histories.items session moment asked turn mark
-    → later.items ≡ run_with_mark histories.items mark → IsRoom later ending → (next_start before ≡ None → ending ≡ there) → Records after later ending
-records_marked before after histories later next there ending session moment asked turn mark has fits marks items room same = record {
+pub records_marked : (before after : AtCore) (histories later : Vec HistoryInMemory) (next there ending : Option (Vec Mark)) (session : SessionId) (moment : ℕ) (asked : MarkStep) (turn : Turn) (mark : Mark)
+    → HasRoomFor before histories next there asked → FitsReply asked turn → Marks before after (run_of histories.items) session moment asked turn mark
+    → run_of later.items ≡ run_with_mark (run_of histories.items) mark → LastHasRoom later.items → IsRoom later ending → (next_start before ≡ None → ending ≡ there) → Records after later ending
+records_marked before after histories later next there ending session moment asked turn mark has fits marks items present room same = record {
   keeps = subst (KeepsRun after) (sym items) marks.keeps;
+  present = present;
   room = room;
   ready = λ full held.
       elim (before.count == MAX_MARKS) as (λ b. (before.count == MAX_MARKS) ≡ b → IsSome ending) [
@@ -403,7 +404,7 @@ records_marked before after histories later next there ending session moment ask
             let counted = marks.counts some in
             let none : next_start before ≡ None =
             ap (λ (b : Bool). if b then Some (record { base = before.base + MAX_MARKS; held = before.held; stopped = before.stopped }) else None) e in
-            subst (λ (o : Option (List Mark)). IsSome o) (sym (same none)) (by (omega (arith, counted, full)) (closes asked) refl (marks.opened held))
+            subst (λ (o : Option (Vec Mark)). IsSome o) (sym (same none)) (by (omega (arith, counted, full)) (closes asked) refl (marks.opened held))
       ] refl;
 }
   where
@@ -415,8 +416,8 @@ records_marked before after histories later next there ending session moment ask
     by ends None is (inr still) =
         has.room (needs before asked is ends (ap (λ (b : Bool). b || opens asked) (some_held before.held (still_held asked before.held still))))
     by ends (Some number) is (inr still) =
-        let out = held_out_is before histories.items has.records.keeps has.more number
-        (subst (λ (o : Option ℕ). IfSome o (IsOut histories.items)) is has.own) in
+        let out = held_out_is before (run_of histories.items) has.records.keeps has.more number
+        (subst (λ (o : Option ℕ). IfSome o (IsOut (run_of histories.items))) is has.own) in
         absurd (none_still asked number out.0 is out.2 (subst (λ (h : Option Ticket). IsSome (option_and_then (unless_given_back asked) h)) out.1 still))
 
 pub not_refused : (reply : SteppedReply) → turn_of (Ok reply) ≡ Refused → ⊥

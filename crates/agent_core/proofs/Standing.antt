@@ -9,8 +9,7 @@ use Rattle.cache_policy.specs.declared.bounds.TheConstants.{MAX_MARKS, MAX_MOMEN
 use Rattle.cache_policy.specs.declared.life.Limits.{Limits}
 use Rattle.cache_policy.specs.declared.mark.Mark.{Mark}
 use Rattle.cache_policy.specs.declared.history.Held.{Held}
-use Rattle.cache_policy.specs.declared.history.History.{History}
-use Rattle.cache_policy.specs.Histories.{next_number, with_mark}
+use Rattle.cache_policy.specs.Histories.{History, next_number, with_mark}
 use Rattle.cache_policy.specs.Seat.{under_of, is_open, is_stop, unless_given_back, seat, stopped}
 use Rattle.cache_policy.specs.Runs.{turn_over, next_history, moment_before}
 use Rattle.cache_policy.specs.Legal.{IsLegal}

@@ -1,13 +1,14 @@
 -- Private: marks are added to the histories of a run.
-use Rattle.std.specs.Prelude.{◌≡◌, ◌+◌, ◌==◌, List, [], ◌∷◌, ◌++◌, Option, Some, None, IsSome, if◌then◌else◌}
+use Rattle.std.specs.Prelude.{◌+◌, ◌==◌, List, [], ◌∷◌, ◌++◌, Option, Some, None, IsSome, if◌then◌else◌}
 use Rattle.std.specs.Global.{Vec}
 use Rattle.cache_policy.specs.declared.bounds.TheConstants.{MAX_MARKS}
 use Rattle.cache_policy.specs.declared.mark.Mark.{Mark}
-use Rattle.cache_policy.specs.declared.history.History.{History}
+use Rattle.cache_policy.specs.declared.history.History.{History as HistoryInMemory}
+use Rattle.cache_policy.specs.Histories.{History, run_of}
 use Rattle.cache_policy.specs.Runs.{run_with_mark}
 use Rattle.agent_core.specs.declared.known_core.Start.{Start}
 use Rattle.agent_core.specs.States.{AtCore}
-use Rattle.agent_core.specs.Recording.{IsRoom, HasPlace}
+use Rattle.agent_core.specs.Recording.{IsRoom, LastHasRoom, HasPlace}
 
 -- how the history after a core's one begins, where that is full
 abbrev pub next_start : AtCore → Option Start
@@ -24,6 +25,6 @@ added (Some start) run mark = begun start run mark
 added None run mark = run_with_mark run mark
 
 -- there is room for a mark
-abbrev pub CanAdd : Option Start → Vec History → Option (List Mark) → Type 0
+abbrev pub CanAdd : Option Start → Vec HistoryInMemory → Option (Vec Mark) → Type 0
 CanAdd (Some start) histories next = IsSome next × IsRoom histories next
-CanAdd None histories next = HasPlace histories.items × IsRoom histories next
+CanAdd None histories next = HasPlace (run_of histories.items) × LastHasRoom histories.items × IsRoom histories next

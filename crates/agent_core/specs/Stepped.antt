@@ -1,5 +1,5 @@
 -- How a step came out at a core whose run is known.
-use Rattle.std.specs.Prelude.{◌≡◌, Ok, ⊤}
+use Rattle.std.specs.Prelude.{◌≡◌, Ok}
 use Rattle.cache_policy.specs.declared.mark.Way.TheVariants.{Prompt}
 use Rattle.cache_policy.specs.declared.step.Step.{Step}
 use Rattle.cache_policy.specs.declared.step.Step.TheVariants.{Ask, Seat}

@@ -1,7 +1,7 @@
 ghost use Rattle.std.specs.Prelude.{◌≡◌, ◌+◌, ◌<◌, ◌≤◌, ◌↔◌, [], false, None, IsTrue, OnErr, IfErr};
 ghost use Rattle.std.specs.Option.{is_some};
 ghost use Rattle.cache_policy.specs.declared.bounds.TheConstants.{MAX_MARKS};
-ghost use Rattle.cache_policy.specs.declared.history.History.{History};
+ghost use Rattle.cache_policy.specs.Histories.{History};
 ghost use Rattle.cache_policy.specs.Turns.{mark_step, turn_of, FitsReply};
 ghost use Rattle.cache_policy.specs.Runs.{last_base, moment_of};
 ghost use Rattle.cache_policy.specs.Legal.{IsLegal};

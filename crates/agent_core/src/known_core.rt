@@ -1,11 +1,12 @@
-ghost use Rattle.std.specs.Prelude.{◌≡◌, ◌+◌, ◌<◌, ◌∷◌, [], true, None, IsSome, IfSome, OnOk, OnErr, IfOk, vec_len, vec_capacity};
+ghost use Rattle.std.specs.Prelude.{◌≡◌, ◌+◌, ◌<◌, ◌∷◌, [], map, true, None, IsSome, IfSome, OnOk, OnErr, IfOk, vec_len, vec_capacity};
 ghost use Rattle.std.specs.Option.{is_some};
 ghost use Rattle.cache_policy.specs.declared.bounds.TheConstants.{MAX_MARKS};
+ghost use Rattle.cache_policy.specs.Histories.{run_of};
 ghost use Rattle.cache_policy.specs.Legal.{IsLegalRun};
 ghost use Rattle.cache_policy.specs.Replay.{first_history};
 ghost use Rattle.cache_policy.specs.Runs.{last_base, run_with_mark};
 ghost use Rattle.cache_policy.specs.Turns.{mark_step, opens, closes, FitsReply};
-ghost use Rattle.agent_core.specs.Recording.{IsRoom, HasPlace, needs_room};
+ghost use Rattle.agent_core.specs.Recording.{IsRoom, LastHasRoom, HasPlace, needs_room};
 ghost use Rattle.agent_core.specs.Adding.{CanAdd, begun, added, next_start};
 
 use crate::Core;
@@ -26,7 +27,7 @@ pub struct KnownCore {
     core: Core,
     histories: Vec<History>,
     // The room for the next history, where it had to be reserved already.
-    next: Option<Marks>,
+    next: Option<Vec<Mark>>,
     // What the marks come to, but for whether the core has stopped.
     tally: Tally,
     alloc: Global,
@@ -37,9 +38,10 @@ impl Model for KnownCore {
 
     ghost Value = { AtKnown };
 
+    ghost use Rattle.cache_policy.specs.Histories.{run_of};
     ghost use Rattle.agent_core.specs.Keeping.{IsKnown};
 
-    ghost view = { λ known. record { limits = known.core.limits; run = known.histories.items } };
+    ghost view = { λ known. record { limits = known.core.limits; run = run_of known.histories.items } };
 
     ghost invariant = { λ known. IsKnown known.core known.histories known.next known.tally };
 }
@@ -62,12 +64,12 @@ impl KnownCore {
         ensures { IfOk result (λ known. known ≡ record { limits = limits; run = first_history ∷ [] }) }
     {
         let mut histories = Vec::with_capacity(alloc, 1)?;
-        let marks = Marks::with_room(alloc)?;
+        let marks = Vec::with_capacity(alloc, MAX_MARKS as usize)?;
         histories.push_reserved(History {
             base: 0,
             held: None,
             stopped: false,
-            marks,
+            marks: Marks(marks),
         });
         Ok(KnownCore {
             core: Core::new(alloc, limits),
@@ -137,7 +139,7 @@ impl KnownCore {
 
     /// The run, the present history last.
     pub fn histories(&self) -> &[History]
-        ensures { result.now ≡ self.now.run }
+        ensures { run_of result.now ≡ self.now.run }
     {
         self.histories.as_slice()
     }
@@ -174,9 +176,10 @@ fn start_after(core: &Core) -> Option<Start>
 }
 
 /// Adds a mark to the last history, or to one that begins so.
-fn add(histories: &mut Vec<History>, next: &mut Option<Marks>, start: Option<Start>, mark: Mark)
+fn add(histories: &mut Vec<History>, next: &mut Option<Vec<Mark>>, start: Option<Start>, mark: Mark)
     requires { CanAdd start histories.old next.old }
-    ensures items { histories.new.items ≡ added start histories.old.items mark }
+    ensures run { run_of histories.new.items ≡ added start (run_of histories.old.items) mark }
+    ensures last { LastHasRoom histories.new.items }
     ensures room { IsRoom histories.new next.new }
     ensures kept { start ≡ None → next.new ≡ next.old }
 {
@@ -186,16 +189,22 @@ fn add(histories: &mut Vec<History>, next: &mut Option<Marks>, start: Option<Sta
     }
 }
 
-fn begin_history(histories: &mut Vec<History>, next: &mut Option<Marks>, start: Start, mark: Mark)
+fn begin_history(
+    histories: &mut Vec<History>,
+    next: &mut Option<Vec<Mark>>,
+    start: Start,
+    mark: Mark,
+)
     requires some { IsSome next.old }
     requires room { IsRoom histories.old next.old }
-    ensures items { histories.new.items ≡ begun start histories.old.items mark }
+    ensures run { run_of histories.new.items ≡ begun start (run_of histories.old.items) mark }
+    ensures last { LastHasRoom histories.new.items }
     ensures taken { next.new ≡ None }
 {
     let Some(mut marks) = next.take() else {
         unreachable!()
     };
-    marks.push(mark);
+    marks.push_reserved(mark);
     let Start {
         base,
         held,
@@ -205,20 +214,22 @@ fn begin_history(histories: &mut Vec<History>, next: &mut Option<Marks>, start: 
         base,
         held,
         stopped,
-        marks,
+        marks: Marks(marks),
     });
 }
 
 fn add_mark(histories: &mut Vec<History>, mark: Mark)
-    requires { HasPlace histories.old.items }
-    ensures items { histories.new.items ≡ run_with_mark histories.old.items mark }
+    requires place { HasPlace (run_of histories.old.items) }
+    requires last { LastHasRoom histories.old.items }
+    ensures run { run_of histories.new.items ≡ run_with_mark (run_of histories.old.items) mark }
+    ensures last { LastHasRoom histories.new.items }
     ensures len { vec_len histories.new ≡ vec_len histories.old }
     ensures capacity { vec_capacity histories.new ≡ vec_capacity histories.old }
 {
     let Some(mut last) = histories.pop() else {
         unreachable!()
     };
-    last.marks.push(mark);
+    last.marks.0.push_reserved(mark);
     histories.push_reserved(last);
 }
 
@@ -226,7 +237,7 @@ fn add_mark(histories: &mut Vec<History>, mark: Mark)
 fn room_for(
     core: &Core,
     histories: &mut Vec<History>,
-    next: &mut Option<Marks>,
+    next: &mut Option<Vec<Mark>>,
     alloc: Global,
     step: &Step,
 ) -> Result<(), NoMemory>
@@ -245,7 +256,7 @@ fn room_for(
 
 fn reserve_next(
     histories: &mut Vec<History>,
-    next: &mut Option<Marks>,
+    next: &mut Option<Vec<Mark>>,
     alloc: Global,
 ) -> Result<(), NoMemory>
     requires { IsRoom histories.old next.old }
@@ -256,7 +267,7 @@ fn reserve_next(
 {
     if next.is_none() {
         histories.reserve(1)?;
-        *next = Some(Marks::with_room(alloc)?);
+        *next = Some(Vec::with_capacity(alloc, MAX_MARKS as usize)?);
     }
     Ok(())
 }
