@@ -8,7 +8,8 @@ use Rattle.cache_policy.specs.declared.mark.Mark.{Mark}
 use Rattle.cache_policy.specs.Histories.{History, with_mark, history_of, run_of}
 use Rattle.cache_policy.specs.declared.history.History.{History as HistoryInMemory}
 use Rattle.cache_policy.specs.Runs.{turn_over, last_history, run_with_mark}
-use Rattle.agent_core.specs.Recording.{HasPlace, LastHasRoom}
+use Rattle.agent_core.specs.Recording.{LastHasRoom}
+use Rattle.agent_core.specs.Adding.{HasPlace}
 
 pub last-append : (front : List History) (last : History) → last_history (front ++ last ∷ []) ≡ Some last
 last-append [] last = refl

@@ -148,7 +148,7 @@ one_then before mid after taken turns step settled later = by step.takes.takes r
         (ap joined is ∙ joined-run_with_mark before.run mark step.takes.was_legal.turns_over)
         (λ kept. shown before.limits (next_history last) mark turn shows (sym same ∙ kept)) step refl refl refl later
     by (stood last last_is some rules is) same = absurd (settled same)
-    by (refused last last_is why is) same = unmade_then before mid after taken turns step is (inl same) later
+    by (refused last last_is below why is) same = unmade_then before mid after taken turns step is (inl same) later
     by (spent all is) same = unmade_then before mid after taken turns step is (inr same) later
 
 pub replayed : {before : AtSolo} {turns : List Taken} {after : AtSolo} → IsAlone before → Leads (TakesTurn TurnsSolo) before turns after → Replayed before turns after

@@ -75,7 +75,7 @@ adds limits run session moment asked turn after legal (marked last answer last_i
       });
     }
 adds limits run session moment asked turn after legal (stood last last_is some rules is) = adds_none limits run after session asked Stand is (λ goes. absurd (goes refl))
-adds limits run session moment asked turn after legal (refused last last_is why is) = adds_none limits run after session asked Refused is (λ goes. makes_none)
+adds limits run session moment asked turn after legal (refused last last_is below why is) = adds_none limits run after session asked Refused is (λ goes. makes_none)
 adds limits run session moment asked turn after legal (spent all is) =
     adds_none limits run after session asked Stopping is (λ goes. makes_spent (subst IsSpentRun (sym is) all))
 

@@ -129,7 +129,7 @@ pub moves : (limits : Limits) (run after : List History) (session : SessionId) (
 moves limits run after session moment asked turn legal (marked last answer last_is below rules shows is) =
     marked_moves limits run after session moment asked last answer (going_on limits run last legal last_is below) last_is rules is turn shows
 moves limits run after session moment asked turn legal (takes_stood last last_is some rules is) = stood is
-moves limits run after session moment asked turn legal (takes_refused last last_is why is) = refused is
+moves limits run after session moment asked turn legal (takes_refused last last_is below why is) = refused is
 moves limits run after session moment asked turn legal (takes_spent all is) = ended all is
 
 -- a seat that stays

@@ -20,8 +20,9 @@ use Rattle.cache_book.specs.Slots.{slots}
 use Rattle.cache_book.specs.Shelves.{swept}
 use Rattle.cache_book.proofs.Marking.{slots-later, or_false}
 use Rattle.agent_core.specs.declared.state.State.{State}
-use Rattle.agent_core.specs.States.{AtCore, seen, IsState, HasMarked, held_at, next_base, next_count, next_slots, slots_at}
-use Rattle.agent_core.specs.Cores.{StandsFor}
+use Rattle.agent_core.specs.States.{seen, IsState}
+use Rattle.agent_core.specs.Taking.{HasMarked, held_at, next_base, next_count, next_slots, slots_at}
+use Rattle.agent_core.specs.Cores.{AtCore, StandsFor}
 
 -- these are a history's base, count of marks, slots at a moment, seat, and whether it has stopped; and it has room for a mark
 pub record IsOf (limits : Limits) (base count : ℕ) (list : List Slot) (moment : ℕ) (held : Option Held) (stops : Bool) (next : History) : Type 0 where

@@ -10,8 +10,9 @@ use Rattle.cache_policy.specs.Runs.{last_base, next_history, moment_of}
 use Rattle.cache_policy.specs.Legal.{IsLegal}
 use Rattle.cache_policy.specs.Turns.{Turn, Stopping}
 use Rattle.agent_core.specs.declared.state.State.{State}
-use Rattle.agent_core.specs.States.{AtCore, seen, IsState, Takes}
-use Rattle.agent_core.specs.Cores.{StandsFor, IsStep, spent}
+use Rattle.agent_core.specs.States.{seen, IsState}
+use Rattle.agent_core.specs.Taking.{Takes}
+use Rattle.agent_core.specs.Cores.{AtCore, StandsFor, IsStep, spent}
 use Rattle.agent_core.proofs.Standing.{next_is, ready}
 use Rattle.agent_core.proofs.Dispatch.{takes-step}
 

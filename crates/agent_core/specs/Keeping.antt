@@ -6,7 +6,7 @@ use Rattle.cache_policy.specs.declared.history.History.{History as HistoryInMemo
 use Rattle.cache_policy.specs.Histories.{run_of}
 use Rattle.cache_policy.specs.declared.tally.Tally.{Tally}
 use Rattle.agent_core.specs.Recording.{Records}
-use Rattle.agent_core.specs.States.{AtCore}
+use Rattle.agent_core.specs.Cores.{AtCore}
 use Rattle.agent_core.specs.Tallies.{Tallied}
 
 -- its run, the room for the marks to come, and their tally

@@ -1,22 +1,27 @@
-ghost use Rattle.std.specs.Prelude.{◌≡◌, ◌+◌, ◌<◌, ◌∷◌, [], map, true, None, IsSome, IfSome, OnOk, OnErr, IfOk, vec_len, vec_capacity};
+ghost use Rattle.std.specs.Prelude.{◌≡◌, ◌+◌, ◌<◌, ◌∷◌, [], true, None, Ok, IsSome, IfSome, OnOk, OnErr, IfOk, vec_len, vec_capacity};
 ghost use Rattle.std.specs.Option.{is_some};
 ghost use Rattle.cache_policy.specs.declared.bounds.TheConstants.{MAX_MARKS};
-ghost use Rattle.cache_policy.specs.Histories.{run_of};
-ghost use Rattle.cache_policy.specs.Legal.{IsLegalRun};
+ghost use Rattle.cache_policy.specs.declared.step.Step.{Step as AskedOf};
+ghost use Rattle.cache_policy.specs.Histories.{History as OneHistory, run_of};
+ghost use Rattle.cache_policy.specs.Legal.{IsLegal, IsLegalRun};
+ghost use Rattle.cache_policy.specs.Policy.{policy};
 ghost use Rattle.cache_policy.specs.Replay.{first_history};
-ghost use Rattle.cache_policy.specs.Runs.{last_base, run_with_mark};
-ghost use Rattle.cache_policy.specs.Turns.{mark_step, opens, closes, FitsReply};
-ghost use Rattle.agent_core.specs.Recording.{IsRoom, LastHasRoom, HasPlace, needs_room};
-ghost use Rattle.agent_core.specs.Adding.{CanAdd, begun, added, next_start};
+ghost use Rattle.cache_policy.specs.Runs.{last_base, moment_of, next_history, run_with_mark};
+ghost use Rattle.cache_policy.specs.Turns.{Stand, mark_step, turn_of, closes, FitsReply};
+ghost use Rattle.agent_core.specs.Adding.{CanAdd, begun, added, next_start, HasPlace, comes_to_seat, leaves_ticket, needs_room};
+ghost use Rattle.agent_core.specs.Cores.{StandsFor, mark_of};
+ghost use Rattle.agent_core.specs.Openings.{opening_step};
+ghost use Rattle.agent_core.specs.Recording.{IsRoom, LastHasRoom, reply_of};
+ghost use Rattle.agent_core.specs.Stepped.{turn_of_stepped, HandsBack};
 
 use crate::Core;
 use crate::cache_core::give_up;
-use crate::stepped::{Opening, Stepped, mark_reply_of, mark_step_of};
+use crate::opening::Opening;
+use crate::stepped::{Stepped, mark_reply_of, mark_step_of};
 use crate::tally::{counted, stores};
 use agent_ports::SessionId;
 use cache_policy::{
     Held, History, Limits, MAX_MARKS, Mark, MarkStep, Marks, NoMemory, Refused, Reply, Step, Tally,
-    Way,
 };
 use std::alloc::Global;
 use std::marker::Model;
@@ -56,7 +61,6 @@ pub(crate) struct Start {
 
 impl KnownCore {
     ghost use Rattle.agent_core.specs.Known.{IsOut, next_moment, TakesStep};
-    ghost use Rattle.agent_core.specs.Stepped.{turn_of_stepped, HandsBack};
     ghost use Rattle.agent_core.specs.Tallies.{tally_of};
 
     /// A core without entries, whose run has one history without marks. It reserves the room for them.
@@ -94,15 +98,8 @@ impl KnownCore {
             give_up(step);
             return Stepped::Replied(Reply::Stopping);
         }
-        if room_for(
-            &self.core,
-            &mut self.histories,
-            &mut self.next,
-            self.alloc,
-            &step,
-        )
-        .is_err()
-        {
+        let needs = needs_room(&self.core, reading, &step);
+        if room_for(needs, &mut self.histories, &mut self.next, self.alloc).is_err() {
             return Stepped::Refused(step);
         }
         let start = start_after(&self.core);
@@ -113,18 +110,10 @@ impl KnownCore {
             Ok(reply) => match reply {
                 Reply::Stand => {
                     let_go(asked);
-                    match opening {
-                        Some(opening) => Stepped::Stood(opening.into_step()),
-                        None => unreachable!(),
-                    }
+                    stood(opening)
                 }
                 reply => {
-                    let mark = Mark {
-                        session,
-                        step: asked,
-                        reply: mark_reply_of(&reply),
-                        moment: self.core.moment(),
-                    };
+                    let mark = mark_of(&self.core, session, asked, &reply);
                     self.tally = counted(self.tally, &mark, stores);
                     add(&mut self.histories, &mut self.next, start, mark);
                     Stepped::Replied(reply)
@@ -158,6 +147,30 @@ impl KnownCore {
 
 /// Ends a step that made no mark.
 fn let_go(_asked: MarkStep) {}
+
+/// A step that has to stand is handed back.
+fn stood(opening: Option<Opening>) -> Stepped
+    requires { IsSome opening }
+    ensures turn { turn_of_stepped result ≡ Stand }
+    ensures back { (asked : AskedOf) → IfSome opening (λ opening. opening_step opening ≡ asked) → HandsBack asked result }
+{
+    match opening {
+        Some(opening) => Stepped::Stood(opening.step()),
+        None => unreachable!(),
+    }
+}
+
+/// The mark of a step that was replied.
+fn mark_of(core: &Core, session: SessionId, step: MarkStep, reply: &Reply) -> Mark
+    ensures { result ≡ mark_of session step (reply_of (turn_of (Ok reply.now))) core.now.moment }
+{
+    Mark {
+        session,
+        step,
+        reply: mark_reply_of(reply),
+        moment: core.moment(),
+    }
+}
 
 /// How the next history begins, where this one is full.
 fn start_after(core: &Core) -> Option<Start>
@@ -233,22 +246,21 @@ fn add_mark(histories: &mut Vec<History>, mark: Mark)
     histories.push_reserved(last);
 }
 
-/// Reserves the room for the next history, where a step needs it.
+/// Reserves the room for the next history, where it is needed.
 fn room_for(
-    core: &Core,
+    needs: bool,
     histories: &mut Vec<History>,
     next: &mut Option<Vec<Mark>>,
     alloc: Global,
-    step: &Step,
 ) -> Result<(), NoMemory>
     requires { IsRoom histories.old next.old }
-    ensures ok { OnOk result (needs_room core.now (mark_step step.now) ≡ true → IsSome next.new) }
-    ensures err { OnErr result (needs_room core.now (mark_step step.now) ≡ true) }
+    ensures ok { OnOk result (needs ≡ true → IsSome next.new) }
+    ensures err { OnErr result (needs ≡ true) }
     ensures items { histories.new.items ≡ histories.old.items }
     ensures room { IsRoom histories.new next.new }
     ensures kept { IsSome next.old → IsSome next.new }
 {
-    if !needs_room(core, step) {
+    if !needs {
         return Ok(());
     }
     reserve_next(histories, next, alloc)
@@ -272,34 +284,34 @@ fn reserve_next(
     Ok(())
 }
 
-/// Whether a step begins a history, or makes the last mark of one and may leave a ticket out. A Close does neither.
-fn needs_room(core: &Core, step: &Step) -> bool
-    ensures { result ≡ needs_room core.now (mark_step step.now) }
+/// Whether a step begins a history while no ticket is out, or makes the last mark of one and leaves a ticket out: the step after it has
+/// the room then. A Close does neither.
+fn needs_room(core: &Core, reading: u64, step: &Step) -> bool
+    ensures { (history : OneHistory) → IsLegal core.now.limits history → StandsFor core.now history → result ≡ needs_room core.now (mark_step step.now)
+        (comes_to_seat (policy core.now.limits (next_history history) (mark_step step.now) (moment_of core.now.moment reading))) }
 {
     if is_close(step) {
         return false;
     }
     let count = core.count();
-    count == MAX_MARKS || count + 1 == MAX_MARKS && (core.is_held() || opens_prompt(step))
+    if count == MAX_MARKS {
+        return !core.is_held();
+    }
+    if count + 1 < MAX_MARKS {
+        return false;
+    }
+    leaves_ticket(core.is_held(), core.comes_to_seat(reading, step))
+}
+
+/// Whether a ticket is out after a step that makes a mark and isn't a Close.
+fn leaves_ticket(held: bool, comes_to_seat: bool) -> bool
+    ensures { result ≡ leaves_ticket held comes_to_seat }
+{
+    if held { !comes_to_seat } else { comes_to_seat }
 }
 
 pub(crate) fn is_close(step: &Step) -> bool
     ensures { result ≡ is_some (closes (mark_step step.now)) }
 {
     matches!(step, Step::Close { .. })
-}
-
-/// Whether a step wants the prompt.
-fn opens_prompt(step: &Step) -> bool
-    ensures { result ≡ opens (mark_step step.now) }
-{
-    match step {
-        Step::Seat { under: _ } => true,
-        Step::Ask {
-            id: _,
-            mode: _,
-            way,
-        } => *way == Way::Prompt,
-        _ => false,
-    }
 }

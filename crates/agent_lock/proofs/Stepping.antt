@@ -30,9 +30,8 @@ use Rattle.cache_policy.proofs.BareLemmas.{seat-bare, stopped-bare, policy-bare,
 use Rattle.cache_policy.proofs.Growing.{legal-with_mark, legal-turn_over, seat-turn_over}
 use Rattle.cache_policy.proofs.GrowingRuns.{spent-all}
 use Rattle.cache_policy.proofs.Tallying.{tally-with_mark, tally-turn_over}
-use Rattle.agent_core.specs.Cores.{StandsFor, IsStep, IsMarked, IsAsBefore, mark_of}
+use Rattle.agent_core.specs.Cores.{AtCore, HasRoom, StandsFor, IsStep, IsMarked, IsAsBefore, mark_of}
 use Rattle.agent_core.specs.Cores as step
-use Rattle.agent_core.specs.States.{AtCore, HasRoom}
 use Rattle.agent_lock.specs.declared.pass.Counts.{Counts}
 use Rattle.agent_lock.specs.declared.state.Start.{Start}
 use Rattle.agent_lock.specs.declared.state.State.{State}

@@ -15,8 +15,7 @@ use Rattle.cache_policy.specs.Runs.{next_history, is_spent}
 use Rattle.cache_policy.specs.Tallies.{with_history}
 use Rattle.cache_policy.specs.Traces.{reply_of}
 use Rattle.cache_policy.specs.Turns.{Turn, Stand, Stopping, Refused}
-use Rattle.agent_core.specs.Cores.{StandsFor, IsAsBefore, mark_of}
-use Rattle.agent_core.specs.States.{AtCore}
+use Rattle.agent_core.specs.Cores.{AtCore, StandsFor, IsAsBefore, mark_of}
 
 pub record AtLock : Type 0 where
   pub core : AtCore
