@@ -161,4 +161,6 @@ pub(crate) fn give_up(step: Step) {
 }
 
 #[cfg(test)]
+mod plain_policy;
+#[cfg(test)]
 mod tests;
