@@ -11,7 +11,7 @@ use Rattle.cache_policy.specs.declared.mode.Mode.TheVariants.{Normal, User, Ssh,
 use Rattle.cache_policy.specs.declared.life.Limits.{Limits}
 use Rattle.cache_policy.specs.declared.entry.Entry.{Entry}
 use Rattle.cache_policy.specs.declared.grant.Grant.{Grant}
-use Rattle.cache_policy.specs.declared.history.History.{History}
+use Rattle.cache_policy.specs.Histories.{History}
 use Rattle.cache_policy.specs.Mode.{covers}
 use Rattle.cache_policy.specs.Entry.{same_id, serves, within}
 use Rattle.cache_policy.specs.Entries.{entries}

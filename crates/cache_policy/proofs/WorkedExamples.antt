@@ -11,7 +11,7 @@ use Rattle.cache_policy.specs.declared.mark.MarkStep.{MarkStep}
 use Rattle.cache_policy.specs.declared.mark.MarkStep.TheVariants.{Ask, Seat, Close, Put, Clear, Flush, Peek, Stop}
 use Rattle.cache_policy.specs.declared.mark.MarkReply.{MarkReply}
 use Rattle.cache_policy.specs.declared.mark.MarkReply.TheVariants.{Given, Empty, Open, Done, Held as WhetherHeld, Stopping}
-use Rattle.cache_policy.specs.declared.history.History.{History}
+use Rattle.cache_policy.specs.Histories.{History}
 use Rattle.cache_policy.specs.Lifetimes.{default_limits}
 use Rattle.cache_policy.specs.Entries.{entries}
 use Rattle.cache_policy.specs.Seat.{seat, stopped}
