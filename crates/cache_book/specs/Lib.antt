@@ -1,3 +1,5 @@
 pub mod Modes
 pub mod Slots
 pub mod Shelves
+pub mod Arranged
+pub mod SlotOrders
