@@ -10,3 +10,4 @@ pub mod Arranging
 pub mod Ordered
 pub mod Stretch
 pub mod Searching
+pub mod Places

@@ -3,3 +3,4 @@ pub mod Slots
 pub mod Shelves
 pub mod Arranged
 pub mod SlotOrders
+pub mod Deadlines

@@ -1,6 +1,7 @@
 ghost use Rattle.std.specs.Prelude.{◌≡◌};
 
 use crate::Slot;
+use crate::place::Place;
 use cache_policy::{CacheId, Entry, Mode, Secret};
 use std::alloc::{AllocError, Global};
 use std::marker::Model;
@@ -22,6 +23,7 @@ impl Model for BoxedSlot {
 impl BoxedSlot {
     ghost use Rattle.cache_book.specs.Shelves.{touch_slot, hide, new_slot};
     ghost use Rattle.cache_book.specs.Modes.{has_some};
+    ghost use Rattle.cache_book.specs.Deadlines.{place_of};
     ghost use Rattle.cache_book.specs.SlotOrders.{wipe_past};
 
     /// Memory for a slot to come.
@@ -79,10 +81,21 @@ impl BoxedSlot {
         self.slot.entry.secret.clear();
     }
 
-    pub(crate) fn touch(&mut self, number: u64, now: u64)
-        ensures { self.new ≡ touch_slot number now self.old }
+    pub(crate) fn place(&self) -> Place
+        ensures { result ≡ place_of self.now }
     {
+        Place::of(&self.slot)
+    }
+
+    /// Restarts its ttl where it is the entry with this number, and answers its place before and after.
+    pub(crate) fn touch(&mut self, number: u64, now: u64) -> (Place, Place)
+        ensures touched { self.new ≡ touch_slot number now self.old }
+        ensures before { result.0 ≡ place_of self.old }
+        ensures after { result.1 ≡ place_of self.new }
+    {
+        let before = Place::of(&self.slot);
         self.slot.touch(number, now);
+        (before, Place::of(&self.slot))
     }
 
     /// Loses the modes that a later entry takes, and answers whether some are left.

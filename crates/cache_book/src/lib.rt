@@ -7,6 +7,7 @@ mod boxed_slot;
 mod laws;
 mod list_shelf;
 mod modes;
+mod place;
 mod search;
 mod shelf;
 mod slot;

@@ -1,21 +1,26 @@
-ghost use Rattle.std.specs.Prelude.{◌≡◌, ◌+◌, ◌<◌, ◌≤◌, [], map, filter, length, OnOk, vec_len, vec_capacity};
-ghost use Rattle.std.specs.List.{insert};
+ghost use Rattle.std.specs.Prelude.{◌≡◌, ◌+◌, ◌<◌, ◌≤◌, [], map, OnOk, vec_len, vec_capacity};
+ghost use Rattle.std.specs.List.{insert, remove};
 ghost use Rattle.cache_book.specs.Shelves.{touched, cleared, hidden, swept, with_entry, AreBelow};
-ghost use Rattle.cache_book.specs.SlotOrders.{by_number, wipe_past, AreById, AreServing, HaveOwnNumbers, AreKept};
+ghost use Rattle.cache_book.specs.SlotOrders.{by_number, wipe_past, HaveOwnNumbers, AreKept};
+ghost use Rattle.cache_book.specs.Deadlines.{by_deadline};
 
+use crate::Shelf;
 use crate::boxed_slot::BoxedSlot;
+use crate::place::{Place, add_place, drop_due, move_place, take_place};
 use crate::search::{end_of, grant_from, start_of, with_number};
-use crate::{Shelf, Slot};
 use cache_policy::{CacheId, Entry, Grant, Mode, NoMemory};
 use std::alloc::Global;
 use std::cell::Cell;
 use std::marker::Model;
 
-/// A shelf whose slots stand in the order of their ids, and are found by binary search.
+/// A shelf whose slots stand in the order of their ids, and are found by binary search. Beside them stand their places in the order
+/// in which they end.
 #[derive(Drop)]
 pub struct SlotShelf {
     // By the ids of their entries, and then by their numbers.
     slots: Vec<BoxedSlot>,
+    // A place for each slot, by their deadlines.
+    places: Vec<Place>,
     // Memory for slots to come.
     blanks: Vec<BoxedSlot>,
     // Where a slot was found last, which is the one that is touched next. It is a guess: `touch` looks whether it is right.
@@ -23,15 +28,16 @@ pub struct SlotShelf {
 }
 
 impl Model for SlotShelf {
-    ghost use Rattle.std.specs.Prelude.{◌-◌, min, vec_len, vec_capacity};
+    ghost use Rattle.std.specs.Prelude.{◌≡◌, ◌-◌, min, vec_len, vec_capacity};
     ghost use Rattle.cache_book.specs.Shelves.{AtShelf};
     ghost use Rattle.cache_book.specs.SlotOrders.{by_number, AreKept};
+    ghost use Rattle.cache_book.specs.Deadlines.{by_deadline};
 
     ghost Value = { AtShelf };
 
-    ghost view = { λ shelf. record { slots = by_number shelf.slots.items; spare = min (vec_len shelf.blanks) (vec_capacity shelf.slots - vec_len shelf.slots) } };
+    ghost view = { λ shelf. record { slots = by_number shelf.slots.items; spare = min (vec_len shelf.blanks) (min (vec_capacity shelf.slots - vec_len shelf.slots) (vec_capacity shelf.places - vec_len shelf.places)) } };
 
-    ghost invariant = { λ shelf. AreKept shelf.slots.items };
+    ghost invariant = { λ shelf. record { kept : AreKept shelf.slots.items; places : shelf.places.items ≡ by_deadline shelf.slots.items } };
 }
 
 impl SlotShelf {
@@ -41,6 +47,7 @@ impl SlotShelf {
     {
         SlotShelf {
             slots: Vec::new(alloc),
+            places: Vec::new(alloc),
             blanks: Vec::new(alloc),
             found: Cell::new(0),
         }
@@ -56,38 +63,40 @@ impl Shelf for SlotShelf {
 
     fn touch(&mut self, number: u64, now: u64) {
         let guess = self.found.get();
-        touch_in(&mut self.slots, guess, number, now);
+        touch_in(&mut self.slots, &mut self.places, guess, number, now);
     }
 
     fn reserve(&mut self, n: usize) -> Result<(), NoMemory> {
         self.slots.reserve(n)?;
+        self.places.reserve(n)?;
         add_blanks(&mut self.blanks, n)
     }
 
     fn spare(&self) -> usize {
-        self.blanks
-            .len()
-            .min(self.slots.capacity() - self.slots.len())
+        let slots = self.slots.capacity() - self.slots.len();
+        let places = self.places.capacity() - self.places.len();
+        self.blanks.len().min(slots.min(places))
     }
 
     fn store(&mut self, entry: Entry) {
         let Some(blank) = self.blanks.pop() else {
             unreachable!()
         };
-        store_in(&mut self.slots, blank, entry);
+        store_in(&mut self.slots, &mut self.places, blank, entry);
     }
 
     fn clear(&mut self, id: &CacheId, mode: Mode) {
-        clear_in(&mut self.slots, id, mode);
+        clear_in(&mut self.slots, &mut self.places, id, mode);
     }
 
     fn flush(&mut self) {
         wipe_each(self.slots.as_mut_slice());
         self.slots.clear();
+        self.places.clear();
     }
 
     fn sweep(&mut self, now: u64) {
-        sweep_in(&mut self.slots, now);
+        sweep_in(&mut self.slots, &mut self.places, now);
     }
 }
 
@@ -104,30 +113,48 @@ fn add_blanks(blanks: &mut Vec<BoxedSlot>, n: usize) -> Result<(), NoMemory>
 }
 
 /// Restarts the ttl of the entry with this number, whose slot may be at `guess`.
-fn touch_in(slots: &mut Vec<BoxedSlot>, guess: usize, number: u64, now: u64)
-    requires { HaveOwnNumbers slots.old.items }
+fn touch_in(
+    slots: &mut Vec<BoxedSlot>,
+    places: &mut Vec<Place>,
+    guess: usize,
+    number: u64,
+    now: u64,
+)
+    requires own { HaveOwnNumbers slots.old.items }
+    requires places { places.old.items ≡ by_deadline slots.old.items }
     ensures items { slots.new.items ≡ touched number now slots.old.items }
+    ensures places { places.new.items ≡ by_deadline slots.new.items }
     ensures len { vec_len slots.new ≡ vec_len slots.old }
     ensures capacity { vec_capacity slots.new ≡ vec_capacity slots.old }
+    ensures places_len { vec_len places.new ≡ vec_len places.old }
+    ensures places_capacity { vec_capacity places.new ≡ vec_capacity places.old }
 {
     if let Some(i) = with_number(slots.as_slice(), guess, number) {
-        slots[i].touch(number, now);
+        let (before, after) = slots[i].touch(number, now);
+        move_place(places, before, after);
     }
 }
 
 /// Stores an entry in the memory of a blank. It takes the modes that it covers from the others of its id.
-fn store_in(slots: &mut Vec<BoxedSlot>, blank: BoxedSlot, entry: Entry)
+fn store_in(slots: &mut Vec<BoxedSlot>, places: &mut Vec<Place>, blank: BoxedSlot, entry: Entry)
     requires kept { AreKept slots.old.items }
+    requires places { places.old.items ≡ by_deadline slots.old.items }
     requires newest { AreBelow entry.number slots.old.items }
     requires room { vec_len slots.old < vec_capacity slots.old }
+    requires places_room { vec_len places.old < vec_capacity places.old }
     ensures kept { AreKept slots.new.items }
     ensures items { by_number slots.new.items ≡ with_entry entry (by_number slots.old.items) }
+    ensures places { places.new.items ≡ by_deadline slots.new.items }
     ensures len { vec_len slots.new ≤ vec_len slots.old + 1 }
     ensures capacity { vec_capacity slots.new ≡ vec_capacity slots.old }
+    ensures places_len { vec_len places.new ≤ vec_len places.old + 1 }
+    ensures places_capacity { vec_capacity places.new ≡ vec_capacity places.old }
 {
-    hide_in(slots, &entry);
+    hide_in(slots, places, &entry);
     let end = end_of(slots.as_slice(), &entry.id);
-    insert_at(slots, end, blank.filled(entry));
+    let slot = blank.filled(entry);
+    add_place(places, slot.place());
+    insert_at(slots, end, slot);
 }
 
 /// Inserts a slot, for which there is room.
@@ -144,29 +171,36 @@ fn insert_at(slots: &mut Vec<BoxedSlot>, i: usize, slot: BoxedSlot)
 }
 
 /// Takes the modes of a later entry from the slots of its id, and drops those that are left without one.
-fn hide_in(slots: &mut Vec<BoxedSlot>, later: &Entry)
-    requires by_id { AreById slots.old.items }
-    requires serving { AreServing slots.old.items }
+fn hide_in(slots: &mut Vec<BoxedSlot>, places: &mut Vec<Place>, later: &Entry)
+    requires kept { AreKept slots.old.items }
+    requires places { places.old.items ≡ by_deadline slots.old.items }
     ensures items { slots.new.items ≡ hidden later.now slots.old.items }
+    ensures places { places.new.items ≡ by_deadline slots.new.items }
     ensures len { vec_len slots.new ≤ vec_len slots.old }
     ensures capacity { vec_capacity slots.new ≡ vec_capacity slots.old }
+    ensures places_len { vec_len places.new ≤ vec_len places.old }
+    ensures places_capacity { vec_capacity places.new ≡ vec_capacity places.old }
 {
     let start = start_of(slots.as_slice(), &later.id);
     let mut i = end_of(slots.as_slice(), &later.id);
     while start < i {
         i -= 1;
         if !slots[i].hide(later) {
-            slots.remove(i).end();
+            drop_slot(slots, places, i);
         }
     }
 }
 
 /// Drops the slots of an id whose mode covers the named one.
-fn clear_in(slots: &mut Vec<BoxedSlot>, id: &CacheId, mode: Mode)
-    requires { AreById slots.old.items }
+fn clear_in(slots: &mut Vec<BoxedSlot>, places: &mut Vec<Place>, id: &CacheId, mode: Mode)
+    requires kept { AreKept slots.old.items }
+    requires places { places.old.items ≡ by_deadline slots.old.items }
     ensures items { slots.new.items ≡ cleared id.now mode slots.old.items }
+    ensures places { places.new.items ≡ by_deadline slots.new.items }
     ensures len { vec_len slots.new ≤ vec_len slots.old }
     ensures capacity { vec_capacity slots.new ≡ vec_capacity slots.old }
+    ensures places_len { vec_len places.new ≤ vec_len places.old }
+    ensures places_capacity { vec_capacity places.new ≡ vec_capacity places.old }
 {
     let start = start_of(slots.as_slice(), id);
     let mut i = end_of(slots.as_slice(), id);
@@ -174,17 +208,41 @@ fn clear_in(slots: &mut Vec<BoxedSlot>, id: &CacheId, mode: Mode)
         i -= 1;
         let slot = slots[i].get();
         if slot.entry.id == *id && slot.entry.mode.covers(mode) {
-            slots.remove(i).end();
+            drop_slot(slots, places, i);
         }
     }
 }
 
-/// Drops the slots that are past a lifetime at `now`.
-fn sweep_in(slots: &mut Vec<BoxedSlot>, now: u64)
-    ensures items { slots.new.items ≡ swept now slots.old.items }
+/// Drops a slot and its place.
+fn drop_slot(slots: &mut Vec<BoxedSlot>, places: &mut Vec<Place>, i: usize)
+    requires within { i < vec_len slots.old }
+    requires own { HaveOwnNumbers slots.old.items }
+    requires places { places.old.items ≡ by_deadline slots.old.items }
+    ensures items { slots.new.items ≡ remove slots.old.items i }
+    ensures places { places.new.items ≡ by_deadline slots.new.items }
     ensures len { vec_len slots.new ≤ vec_len slots.old }
     ensures capacity { vec_capacity slots.new ≡ vec_capacity slots.old }
+    ensures places_len { vec_len places.new ≤ vec_len places.old }
+    ensures places_capacity { vec_capacity places.new ≡ vec_capacity places.old }
 {
+    let slot = slots.remove(i);
+    take_place(places, slot.place());
+    slot.end();
+}
+
+/// Drops the slots that are past a lifetime at `now`, if the place in front is.
+fn sweep_in(slots: &mut Vec<BoxedSlot>, places: &mut Vec<Place>, now: u64)
+    requires { places.old.items ≡ by_deadline slots.old.items }
+    ensures items { slots.new.items ≡ swept now slots.old.items }
+    ensures places { places.new.items ≡ by_deadline slots.new.items }
+    ensures len { vec_len slots.new ≤ vec_len slots.old }
+    ensures capacity { vec_capacity slots.new ≡ vec_capacity slots.old }
+    ensures places_len { vec_len places.new ≤ vec_len places.old }
+    ensures places_capacity { vec_capacity places.new ≡ vec_capacity places.old }
+{
+    if !drop_due(places, now) {
+        return;
+    }
     wipe_past_in(slots, now);
     slots.retain(|slot| slot.get().entry.within(slot.get().last, now));
 }

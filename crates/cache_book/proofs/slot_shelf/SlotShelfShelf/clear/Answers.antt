@@ -4,11 +4,11 @@ use Rattle.cache_book.specs.SlotOrders.{by_number, AreKept}
 use Rattle.cache_book.proofs.Ordered.{kept-filter, by_number-filter}
 use Rattle.cache_book.proofs.slot_shelf.SlotShelfShelf.clear.Goals as goal
 
-pub clear_in-requires : goal.clear_in-requires
-clear_in-requires c = c.self.invariant.by_id
-
 pub invariant_of-self : goal.invariant_of-self
-invariant_of-self c = subst AreKept (sym c.clear_in.ensures.items) (kept-filter _ c.self.inside.slots.items c.self.invariant)
+invariant_of-self c = record {
+  kept = subst AreKept (sym c.clear_in.ensures.items) (kept-filter _ c.self.inside.slots.items c.self.invariant.kept);
+  places = c.clear_in.ensures.places;
+}
 
 pub returns-clause-slots : goal.returns-clause-slots
 returns-clause-slots c =

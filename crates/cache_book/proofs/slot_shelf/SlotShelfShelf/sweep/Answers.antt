@@ -5,7 +5,10 @@ use Rattle.cache_book.proofs.Ordered.{kept-filter, by_number-filter}
 use Rattle.cache_book.proofs.slot_shelf.SlotShelfShelf.sweep.Goals as goal
 
 pub invariant_of-self : goal.invariant_of-self
-invariant_of-self c = subst AreKept (sym c.sweep_in.ensures.items) (kept-filter _ c.self.inside.slots.items c.self.invariant)
+invariant_of-self c = record {
+  kept = subst AreKept (sym c.sweep_in.ensures.items) (kept-filter _ c.self.inside.slots.items c.self.invariant.kept);
+  places = c.sweep_in.ensures.places;
+}
 
 pub returns-clause-slots : goal.returns-clause-slots
 returns-clause-slots c =
