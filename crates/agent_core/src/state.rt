@@ -3,12 +3,12 @@ ghost use Rattle.cache_policy.specs.Runs.{last_base, moment_of};
 ghost use Rattle.cache_policy.specs.declared.bounds.TheConstants.{MAX_MARKS, MAX_MOMENT};
 ghost use Rattle.cache_book.specs.Shelves.{AreBelow};
 
-use cache_book::{ListShelf, Shelf};
+use cache_book::{Shelf, SlotShelf};
 use cache_policy::{CacheId, Grant, Limits, MAX_MARKS, MAX_MOMENT, Mode, Under};
 use prompt_seat::Seat;
 
 /// The shelf that the core stands on.
-pub(crate) type CacheShelf = ListShelf;
+pub(crate) type CacheShelf = SlotShelf;
 
 /// What a core keeps in place of its history.
 #[derive(Drop)]
