@@ -1,13 +1,15 @@
 -- A run whose last history is known, and the run with one mark more.
-use Rattle.std.specs.Prelude.{◌≡◌, ◌≢◌, ℕ, ◌+◌, ◌<◌, ◌==◌, List, [], ◌∷◌, ◌++◌, length, Bool, true, false, Option, Some, None, refl, if◌then◌else◌}
+use Rattle.std.specs.Prelude.{◌≡◌, ℕ, ◌<◌, ◌≤◌, ◌==◌, List, [], ◌∷◌, ◌++◌, length, Bool, true, false, Some, refl, vec_len, vec_capacity, if◌then◌else◌}
 use Rattle.std.proofs.Common.{ap, sym, ◌∙◌, subst, arith}
 use Rattle.std.proofs.lemmas.Bool.Decides.{nat_tests}
+use Rattle.std.proofs.lemmas.List.{map-append}
 use Rattle.cache_policy.specs.declared.bounds.TheConstants.{MAX_MARKS}
 use Rattle.cache_policy.specs.declared.mark.Mark.{Mark}
-use Rattle.cache_policy.specs.declared.history.History.{History}
-use Rattle.cache_policy.specs.Histories.{with_mark}
+use Rattle.cache_policy.specs.Histories.{History, with_mark, history_of, run_of}
+use Rattle.cache_policy.specs.declared.history.History.{History as HistoryInMemory}
 use Rattle.cache_policy.specs.Runs.{turn_over, last_history, run_with_mark}
-use Rattle.agent_core.specs.Recording.{HasPlace}
+use Rattle.agent_core.specs.Recording.{LastHasRoom}
+use Rattle.agent_core.specs.Adding.{HasPlace}
 
 pub last-append : (front : List History) (last : History) → last_history (front ++ last ∷ []) ≡ Some last
 last-append [] last = refl
@@ -37,13 +39,45 @@ add-full (first ∷ []) last mark is full =
 add-full (first ∷ next ∷ later) last mark is full = ap (λ (l : List History). first ∷ l) (add-full (next ∷ later) last mark is full)
 
 -- what is last in front of a place
-pub place-last : (items front : List History) (last : History) → items ≡ front ++ last ∷ [] → HasPlace items → length last.marks < MAX_MARKS
+place-last : (items front : List History) (last : History) → items ≡ front ++ last ∷ [] → HasPlace items → length last.marks < MAX_MARKS
 place-last items front last is place =
     let e : Some place.last ≡ Some last = sym place.last_is ∙ (ap last_history is ∙ last-append front last) in
     let same : place.last ≡ last = cc in
     subst (λ (h : History). length h.marks < MAX_MARKS) same place.few
 
-pub add-place : (items front new : List History) (last : History) (mark : Mark) → items ≡ front ++ last ∷ [] → HasPlace items → new ≡ front ++ with_mark last mark ∷ []
+add-place : (items front new : List History) (last : History) (mark : Mark) → items ≡ front ++ last ∷ [] → HasPlace items → new ≡ front ++ with_mark last mark ∷ []
     → new ≡ run_with_mark items mark
 add-place items front new last mark is place added =
     added ∙ (sym (add-append front last mark (place-last items front last is place)) ∙ ap (λ (l : List History). run_with_mark l mark) (sym is))
+
+-- the same of the histories as they are in memory
+run-append : (front : List HistoryInMemory) (last : HistoryInMemory) → run_of (front ++ last ∷ []) ≡ run_of front ++ history_of last ∷ []
+run-append front last = map-append history_of front (last ∷ [])
+
+room-append : (front : List HistoryInMemory) (last : HistoryInMemory) → MAX_MARKS ≤ vec_capacity last.marks.0 → LastHasRoom (front ++ last ∷ [])
+room-append [] last room = room
+room-append (first ∷ []) last room = room
+room-append (first ∷ next ∷ later) last room = room-append (next ∷ later) last room
+
+pub room-last : (front : List HistoryInMemory) (last : HistoryInMemory) → LastHasRoom (front ++ last ∷ []) → MAX_MARKS ≤ vec_capacity last.marks.0
+room-last [] last room = room
+room-last (first ∷ []) last room = room
+room-last (first ∷ next ∷ later) last room = room-last (next ∷ later) last room
+
+pub room-push : (items front : List HistoryInMemory) (last : HistoryInMemory) → items ≡ front ++ last ∷ [] → MAX_MARKS ≤ vec_capacity last.marks.0 → LastHasRoom items
+room-push items front last is room = subst LastHasRoom (sym is) (room-append front last room)
+
+-- there is room for a mark in the history that is taken from the end
+pub room-place : (items front : List HistoryInMemory) (last : HistoryInMemory) → items ≡ front ++ last ∷ [] → HasPlace (run_of items) → LastHasRoom items
+    → vec_len last.marks.0 < vec_capacity last.marks.0
+room-place items front last is place room =
+    let few = place-last (run_of items) (run_of front) (history_of last) (ap run_of is ∙ run-append front last) place in
+    let all = room-last front last (subst LastHasRoom is room) in
+    let ok = last.marks.0.ok in
+    omega (arith, few, all)
+
+pub run-place : (items front new : List HistoryInMemory) (last now : HistoryInMemory) (mark : Mark) → items ≡ front ++ last ∷ [] → HasPlace (run_of items)
+    → new ≡ front ++ now ∷ [] → history_of now ≡ with_mark (history_of last) mark → run_of new ≡ run_with_mark (run_of items) mark
+run-place items front new last now mark is place added same =
+    add-place (run_of items) (run_of front) (run_of new) (history_of last) mark (ap run_of is ∙ run-append front last) place
+    (ap run_of added ∙ (run-append front now ∙ ap (λ (h : History). run_of front ++ h ∷ []) same))

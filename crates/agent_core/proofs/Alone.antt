@@ -1,20 +1,19 @@
 -- A session alone at a desk: its run is the replay of its marked turns.
-use Rattle.std.specs.Prelude.{◌≡◌, ◌≢◌, ℕ, List, [], ◌∷◌, ◌++◌, map, Bool, true, false, Option, Some, None, refl, ◌==◌, ◌⊎◌, length, if◌then◌else◌}
+use Rattle.std.specs.Prelude.{◌≡◌, ◌≢◌, ℕ, List, [], ◌∷◌, ◌++◌, map, Bool, true, false, None, refl, ◌==◌, ◌⊎◌, length, if◌then◌else◌}
 use Rattle.std.proofs.Common.{ap, sym, ◌∙◌, subst, append-nil, append_assoc, inl, inr}
 use Rattle.std.specs.List.{AllByRecursion}
 use Rattle.agent_ports.specs.Leads.{Leads, none as stay, one}
-use Rattle.agent_ports.specs.Readings.{IsRead, HasGiven, none as none_given, one as given_one}
+use Rattle.agent_ports.specs.Readings.{HasGiven, none as none_given, one as given_one}
 use Rattle.agent_ports.specs.declared.session.SessionId.{SessionId}
 use Rattle.cache_policy.specs.declared.bounds.TheConstants.{MAX_MARKS}
 use Rattle.cache_policy.specs.declared.life.Limits.{Limits}
 use Rattle.cache_policy.specs.declared.mark.Mark.{Mark}
 use Rattle.cache_policy.specs.declared.mark.MarkStep.{MarkStep}
-use Rattle.cache_policy.specs.declared.history.History.{History}
 use Rattle.cache_policy.specs.Desks.{Shows}
 use Rattle.cache_policy.specs.Extending.{Taken, TakesTurn}
-use Rattle.cache_policy.specs.Histories.{moments, with_mark}
+use Rattle.cache_policy.specs.Histories.{History, moments, with_mark}
 use Rattle.cache_policy.specs.Replay.{moments_at, NoneEmpty, Marked, none as none_marked, made, unmade}
-use Rattle.cache_policy.specs.Runs.{joined, moment_before, moment_of, next_history, turn_over, run_with_mark}
+use Rattle.cache_policy.specs.Runs.{joined, moment_before, next_history, turn_over, run_with_mark}
 use Rattle.cache_policy.specs.Turns.{Turn, Stand, Refused, Stopping}
 use Rattle.cache_policy.proofs.GrowingRuns.{joined-run_with_mark}
 use Rattle.agent_core.specs.Cores.{mark_of}
@@ -149,7 +148,7 @@ one_then before mid after taken turns step settled later = by step.takes.takes r
         (ap joined is ∙ joined-run_with_mark before.run mark step.takes.was_legal.turns_over)
         (λ kept. shown before.limits (next_history last) mark turn shows (sym same ∙ kept)) step refl refl refl later
     by (stood last last_is some rules is) same = absurd (settled same)
-    by (refused last last_is why is) same = unmade_then before mid after taken turns step is (inl same) later
+    by (refused last last_is below why is) same = unmade_then before mid after taken turns step is (inl same) later
     by (spent all is) same = unmade_then before mid after taken turns step is (inr same) later
 
 pub replayed : {before : AtSolo} {turns : List Taken} {after : AtSolo} → IsAlone before → Leads (TakesTurn TurnsSolo) before turns after → Replayed before turns after

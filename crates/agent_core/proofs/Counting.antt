@@ -1,11 +1,9 @@
 -- The tally of a run with one mark more.
-use Rattle.std.specs.Prelude.{◌≡◌, ◌≢◌, ℕ, ◌+◌, ◌<◌, ◌≤◌, ◌==◌, List, [], ◌∷◌, ◌++◌, length, filter, Bool, true, false, ◌&&◌, not, Option, Some, None, refl, if◌then◌else◌}
-use Rattle.std.proofs.Common.{ap, sym, ◌∙◌, subst, arith, append-nil, append_assoc, length-append}
-use Rattle.std.proofs.lemmas.Bool.Decides.{nat_tests}
-use Rattle.std.proofs.lemmas.Grind.{flat_map-append}
+use Rattle.std.specs.Prelude.{◌≡◌, ℕ, ◌+◌, ◌<◌, ◌≤◌, ◌==◌, List, [], ◌∷◌, ◌++◌, length, filter, Bool, true, false, ◌&&◌, not, Option, Some, None, refl, if◌then◌else◌}
+use Rattle.std.proofs.Common.{ap, sym, ◌∙◌, subst, arith, length-append}
 use Rattle.std.proofs.lemmas.List.Elements.{filter-append}
 use Rattle.std.specs.List.{flat_map}
-use Rattle.std.specs.Option.{is_some, option_map_or}
+use Rattle.std.specs.Option.{is_some}
 use Rattle.cache_policy.specs.declared.bounds.TheConstants.{MAX_MARKS}
 use Rattle.cache_policy.specs.declared.entry.Entry.{Entry}
 use Rattle.cache_policy.specs.declared.life.Life.{Life}
@@ -16,19 +14,17 @@ use Rattle.cache_policy.specs.declared.mark.Under.{Under}
 use Rattle.cache_policy.specs.declared.mark.Mark.{Mark}
 use Rattle.cache_policy.specs.declared.mark.MarkStep.{MarkStep}
 use Rattle.cache_policy.specs.declared.mark.MarkStep.TheVariants.{Ask, Seat, Close, Put, Clear, Flush, Peek, Stop}
-use Rattle.cache_policy.specs.declared.history.Held.{Held}
-use Rattle.cache_policy.specs.declared.history.History.{History}
 use Rattle.cache_policy.specs.Entries.{entry_of, kept_under, kept, stored, entries, entries_after}
-use Rattle.cache_policy.specs.Histories.{next_number, start_of, with_mark}
+use Rattle.cache_policy.specs.Histories.{History, next_number, start_of, with_mark}
 use Rattle.cache_policy.specs.Legal.{IsLegalRun}
-use Rattle.cache_policy.specs.Lifetimes.{ttl_of, max_of, is_zero}
+use Rattle.cache_policy.specs.Lifetimes.{ttl_of, is_zero}
 use Rattle.cache_policy.specs.Runs.{last_base, turn_over, next_history, IsRun, joined, last_history, run_with_mark}
 use Rattle.cache_policy.specs.Seat.{seat, stopped, is_open}
 use Rattle.cache_policy.proofs.EntriesLemmas.{entries-with_mark}
 use Rattle.cache_policy.proofs.GrowingRuns.{joined-run_with_mark}
 use Rattle.cache_policy.specs.declared.tally.Tally.{Tally}
 use Rattle.cache_policy.specs.Tallies.{is_given, is_empty, is_clear, is_flush, how_many}
-use Rattle.agent_core.specs.Tallies.{tally_of, one, counted, CanCount, keeps_under, keeps, stores, Tallied}
+use Rattle.agent_core.specs.Tallies.{tally_of, one, counted, CanCount, keeps_under, stores, Tallied}
 
 -- one mark more that is counted or not
 count_push : (test : Mark → Bool) (marks : List Mark) (mark : Mark) → how_many test (marks ++ mark ∷ []) ≡ how_many test marks + one (test mark)

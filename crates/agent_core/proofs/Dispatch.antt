@@ -4,10 +4,11 @@ use Rattle.agent_ports.specs.declared.session.SessionId.{SessionId}
 use Rattle.cache_policy.specs.declared.mark.Way.TheVariants.{Quiet, Prompt}
 use Rattle.cache_policy.specs.declared.mark.MarkStep.{MarkStep}
 use Rattle.cache_policy.specs.declared.mark.MarkStep.TheVariants as asked
-use Rattle.cache_policy.specs.declared.history.History.{History}
+use Rattle.cache_policy.specs.Histories.{History}
 use Rattle.cache_policy.specs.Turns.{Turn, Given, Empty, Done, Held as WhetherHeld}
 use Rattle.agent_core.specs.declared.state.State.{State}
-use Rattle.agent_core.specs.States.{seen, Takes}
+use Rattle.agent_core.specs.States.{seen}
+use Rattle.agent_core.specs.Taking.{Takes}
 use Rattle.agent_core.specs.Cores.{IsStep}
 use Rattle.agent_core.proofs.Stepping.{IsTaken, given-step, empty-step, prompts-step, put-step, close-step, clear-step, flush-step, stop-step, peek-step, wish_of_ask, wish_of_seat}
 

@@ -16,7 +16,9 @@ use Rattle.cache_book.specs.Modes.{not_covered, has_some}
 use Rattle.cache_book.specs.Shelves.{AtShelf, AreBelow, touch_slot, touched, hide, hidden, new_slot, with_entry}
 use Rattle.cache_book.proofs.Kept.{all_filter, all_map}
 use Rattle.agent_core.specs.declared.state.State.{State}
-use Rattle.agent_core.specs.States.{HasRoom, IsState, held_of, held_at}
+use Rattle.agent_core.specs.Cores.{HasRoom}
+use Rattle.agent_core.specs.States.{IsState, held_of}
+use Rattle.agent_core.specs.Taking.{held_at}
 
 pub below-filter : (number : ℕ) (test : Slot → Bool) (list : List Slot) → AreBelow number list → AreBelow number (filter test list)
 below-filter number test list h = all_filter (λ (slot : Slot). slot.entry.number < number) test list h

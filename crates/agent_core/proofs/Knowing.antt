@@ -1,5 +1,5 @@
 -- A core that keeps its run: what becomes of the run by a step.
-use Rattle.std.specs.Prelude.{◌≡◌, ◌≢◌, ℕ, ◌+◌, ◌%◌, ◌<◌, ◌≤◌, ◌==◌, ◌&&◌, ◌||◌, List, [], ◌∷◌, ◌++◌, length, fold, Bool, true, false, Option, Some, None, IsSome, IfSome, refl, vec_len, vec_capacity, ◌⊎◌, if◌then◌else◌}
+use Rattle.std.specs.Prelude.{◌≡◌, ◌≢◌, ℕ, ◌+◌, ◌%◌, ◌<◌, ◌≤◌, ◌==◌, List, [], ◌∷◌, ◌++◌, length, fold, Bool, true, false, not, Option, Some, None, IsSome, IfSome, refl, ◌⊎◌, if◌then◌else◌}
 use Rattle.std.proofs.Common.{ap, sym, ◌∙◌, subst, arith, length-append, inl, inr, Ok}
 use Rattle.std.specs.Option.{is_some, option_and_then}
 use Rattle.std.specs.Global.{Vec}
@@ -15,11 +15,11 @@ use Rattle.cache_policy.specs.declared.mark.MarkReply.{MarkReply}
 use Rattle.cache_policy.specs.declared.mark.MarkReply.TheVariants as reply
 use Rattle.cache_policy.specs.declared.mark.Way.TheVariants.{Quiet, Prompt}
 use Rattle.cache_policy.specs.declared.history.Held.{Held as Ticket}
-use Rattle.cache_policy.specs.declared.history.History.{History}
 use Rattle.cache_policy.specs.declared.step.Reply.{Reply as SteppedReply}
 use Rattle.cache_policy.specs.declared.step.Reply.TheVariants as told
 use Rattle.cache_policy.specs.Desks.{Shows, IsSpentRun}
-use Rattle.cache_policy.specs.Histories.{next_number, with_mark}
+use Rattle.cache_policy.specs.declared.history.History.{History as HistoryInMemory}
+use Rattle.cache_policy.specs.Histories.{History, run_of, next_number, with_mark}
 use Rattle.cache_policy.specs.Legal.{IsLegal, IsLegalRun}
 use Rattle.cache_policy.specs.Policy.{Reply, policy}
 use Rattle.cache_policy.specs.Runs.{last_base, is_spent, turn_over, next_history, last_history, run_with_mark, joined, moment_before, moment_of}
@@ -28,14 +28,13 @@ use Rattle.cache_policy.specs.Turns.{Turn, Given, Empty, Open, Stand, Done, Held
 use Rattle.cache_policy.proofs.GrowingRuns.{joined-run_with_mark, legal-run_with_mark, last-run_with_mark, spent-all}
 use Rattle.cache_policy.proofs.OneMore.{seat-with_mark}
 use Rattle.cache_policy.proofs.Growing.{seat-turn_over}
-use Rattle.cache_book.specs.Slots.{slots}
 use Rattle.agent_core.specs.declared.known_core.Start.{Start}
-use Rattle.agent_core.specs.Adding.{CanAdd, added, next_start}
-use Rattle.agent_core.specs.Cores.{StandsFor, IsStep, marked as step_marked, stood as step_stood, refused as step_refused, spent as step_spent, IsMarked, mark_of, IsAsBefore}
-use Rattle.agent_core.specs.Known.{run_seat, IsOut, held as held_out, given_up, next_moment, MayRefuse, wants, begins, leaves, may_open, TakesStep, marked, stood, refused, spent}
-use Rattle.agent_core.specs.Recording.{KeepsRun, IsRoom, HasPlace, Records, needs_room, reply_of}
-use Rattle.agent_core.specs.States.{AtCore, HasRoom}
+use Rattle.agent_core.specs.Adding.{CanAdd, added, next_start, HasPlace, comes_to_seat, leaves_ticket, needs_room}
+use Rattle.agent_core.specs.Cores.{AtCore, HasRoom, IsStep, marked as step_marked, stood as step_stood, refused as step_refused, spent as step_spent, IsMarked, mark_of, IsAsBefore}
+use Rattle.agent_core.specs.Known.{run_seat, IsOut, held as held_out, given_up, next_moment, MayRefuse, wants, begins, leaves, TakesStep, marked, stood, refused}
+use Rattle.agent_core.specs.Recording.{KeepsRun, IsRoom, LastHasRoom, Records, reply_of}
 use Rattle.agent_core.proofs.Adding.{add-full}
+use Rattle.agent_core.proofs.Coming.{leaves-held, held-leaves, opens_keeps, needs_full, needs_last}
 
 -- the moment of a mark at the end
 pub moment_at_end : (since : ℕ) (marks : List Mark) (mark : Mark) → fold (λ _ (m : Mark). m.moment) since (marks ++ mark ∷ []) ≡ mark.moment
@@ -78,16 +77,6 @@ opens_fits (Clear id mode) number fits = absurd fits
 opens_fits Flush number fits = absurd fits
 opens_fits (Peek id mode) number fits = absurd fits
 opens_fits Stop number fits = absurd fits
-
-reply_opens : (asked : MarkStep) (turn : Turn) → FitsReply asked turn → is_open (reply_of turn) ≡ true → opens asked ≡ true
-reply_opens asked (Given grant) fits is = absurd (cc is)
-reply_opens asked Empty fits is = absurd (cc is)
-reply_opens asked (Open number) fits is = opens_fits asked number fits
-reply_opens asked Stand fits is = absurd (cc is)
-reply_opens asked Done fits is = absurd (cc is)
-reply_opens asked (Held held) fits is = absurd (cc is)
-reply_opens asked Stopping fits is = absurd (cc is)
-reply_opens asked Refused fits is = absurd (cc is)
 
 module _ (core : AtCore) (run : List History) (keeps : KeepsRun core run) where
   pub legal_last : IsLegal core.limits keeps.last
@@ -138,57 +127,68 @@ module _ (core : AtCore) (run : List History) (keeps : KeepsRun core run) where
         | false ↦ λ e. refl
       ] refl
 
--- the room for the next history is there where this one is full
-pub has_next : (core : AtCore) (histories : Vec History) (next later : Option (List Mark)) (asked : MarkStep) → Records core histories next
-    → core.base + core.count ≢ last_base → IfSome (closes asked) (IsOut histories.items) → (IsSome next → IsSome later)
-    → (needs_room core asked ≡ true → IsSome later) → core.count ≡ MAX_MARKS → IsSome later
-has_next core histories next later asked records more own kept room full =
-    by (closes asked) own room
-  where
-    by : (closed : Option ℕ) → IfSome closed (IsOut histories.items)
-        → ((if is_some closed then false else core.count == MAX_MARKS || (core.count + 1 == MAX_MARKS && (is_some core.held || opens asked))) ≡ true → IsSome later) → IsSome later
-    by None own room =
-        let is : (core.count == MAX_MARKS) ≡ true = grind (arith, nat_tests) in
-        room (ap (λ (b : Bool). b || (core.count + 1 == MAX_MARKS && (is_some core.held || opens asked))) is)
-    by (Some number) own room =
-        let out = held_out_is core histories.items records.keeps more number own in
-        kept (records.ready full (subst (λ (h : Option Ticket). IsSome h) (sym out.1) refl))
+-- a history that isn't full is itself the next one
+pub not_turned : (history : History) → length history.marks + 1 ≡ MAX_MARKS → next_history history ≡ history
+not_turned history ends =
+    let some : (length history.marks == MAX_MARKS) ≡ false = grind (arith, nat_tests) in
+    ap (λ (b : Bool). if b then turn_over history else history) some
 
-pub can_add : (core : AtCore) (histories : Vec History) (next : Option (List Mark)) → KeepsRun core histories.items → IsRoom histories next
+-- the room for the next history is there where this one is full
+pub has_next : (core : AtCore) (histories : Vec HistoryInMemory) (next later : Option (Vec Mark)) (asked : MarkStep) (comes : Bool) → Records core histories next
+    → core.base + core.count ≢ last_base → IfSome (closes asked) (IsOut (run_of histories.items)) → (IsSome next → IsSome later)
+    → (needs_room core asked comes ≡ true → IsSome later) → core.count ≡ MAX_MARKS → IsSome later
+has_next core histories next later asked comes records more own kept room full =
+    by (closes asked) refl own core.held refl
+  where
+    by : (closed : Option ℕ) → closes asked ≡ closed → IfSome closed (IsOut (run_of histories.items)) → (held : Option Ticket) → core.held ≡ held → IsSome later
+    by None none own None free =
+        room (sym (needs_full core asked comes (ap is_some none) full) ∙ ap (λ (h : Option Ticket). not (is_some h)) free)
+    by closed is own (Some ticket) out = kept (records.ready full (subst (λ (h : Option Ticket). IsSome h) (sym out) refl))
+    by (Some number) is own None free =
+        let out = held_out_is core (run_of histories.items) records.keeps more number own in
+        absurd (cc (out.1, free))
+
+pub can_add : (core : AtCore) (histories : Vec HistoryInMemory) (next : Option (Vec Mark)) → KeepsRun core (run_of histories.items)
+    → LastHasRoom histories.items → IsRoom histories next
     → (core.count ≡ MAX_MARKS → IsSome next) → CanAdd (next_start core) histories next
-can_add core histories next keeps room some =
+can_add core histories next keeps present room some =
     elim (core.count == MAX_MARKS) as (λ b. (core.count == MAX_MARKS) ≡ b
     → CanAdd (if b then Some (record { base = core.base + MAX_MARKS; held = core.held; stopped = core.stopped }) else None) histories next) [
       | true ↦ λ e. (some (grind (arith, nat_tests)), room)
-      | false ↦ λ e. (has_place core histories.items keeps (grind (arith, nat_tests)), room)
+      | false ↦ λ e. (has_place core (run_of histories.items) keeps (grind (arith, nat_tests)), present, room)
     ] refl
 
--- why a step needs room
-needs_why : (limits : Limits) (last : History) (asked : MarkStep) (moment count : ℕ) (held : Option Ticket) → count ≡ length last.marks → held ≡ seat last → closes asked ≡ None
-    → (a b : Bool) → (count == MAX_MARKS) ≡ a → (count + 1 == MAX_MARKS) ≡ b → (a || (b && (is_some held || opens asked))) ≡ true → MayRefuse limits last asked moment
-needs_why limits last asked moment count held counts seat_of none true b full ends needs = begins none (grind (arith, nat_tests))
-needs_why limits last asked moment count held counts seat_of none false false full ends needs = absurd (cc needs)
-needs_why limits last asked moment count held counts seat_of none false true full ends needs = by held seat_of needs
-  where
-    ends_is : length last.marks + 1 ≡ MAX_MARKS
-    ends_is = grind (arith, nat_tests)
-
-    by : (h : Option Ticket) → h ≡ seat last → (is_some h || opens asked) ≡ true → MayRefuse limits last asked moment
-    by (Some ticket) is h = leaves none ends_is (subst (λ (o : Option Ticket). IsSome o) is refl)
-    by None is h = may_open h ends_is
-
 -- where there is no memory for a step's history
-pub no_room : (core : AtCore) (run : List History) (session : SessionId) (moment : ℕ) (asked : MarkStep) → KeepsRun core run
-    → needs_room core asked ≡ true → TakesStep core.limits run session moment asked Refused run
-no_room core run session moment asked keeps needs = refused keeps.last keeps.last_is (by (closes asked) refl needs) refl
+pub no_room : (core : AtCore) (run : List History) (session : SessionId) (moment : ℕ) (asked : MarkStep) (keeps : KeepsRun core run) → core.base + core.count ≢ last_base
+    → needs_room core asked (comes_to_seat (policy core.limits (next_history keeps.last) asked moment)) ≡ true
+    → TakesStep core.limits run session moment asked Refused run
+no_room core run session moment asked keeps more needs =
+    refused keeps.last keeps.last_is (below_next keeps.last keeps.below (legal_last core run keeps).base (going core run keeps more))
+    (by (closes asked) refl (core.count == MAX_MARKS) refl (core.count + 1 == MAX_MARKS) refl needs) refl
   where
-    by : (closed : Option ℕ) → closes asked ≡ closed
-        → (if is_some closed then false else core.count == MAX_MARKS || (core.count + 1 == MAX_MARKS && (is_some core.held || opens asked))) ≡ true
-        → MayRefuse core.limits keeps.last asked moment
-    by (Some number) is needs = absurd (cc needs)
-    by None is needs =
-        needs_why core.limits keeps.last asked moment core.count core.held keeps.stands.count keeps.stands.seat_is is
-        (core.count == MAX_MARKS) (core.count + 1 == MAX_MARKS) refl refl needs
+    comes : Bool
+    comes = comes_to_seat (policy core.limits (next_history keeps.last) asked moment)
+
+    free : (held : Option Ticket) → not (is_some held) ≡ true → held ≡ None
+    free (Some ticket) is = absurd (cc is)
+    free None is = refl
+
+    by : (closed : Option ℕ) → closes asked ≡ closed → (full : Bool) → (core.count == MAX_MARKS) ≡ full → (ends : Bool) → (core.count + 1 == MAX_MARKS) ≡ ends
+        → (if is_some closed then false else if full then not (is_some core.held) else if ends then leaves_ticket (is_some core.held) comes else false) ≡ true
+        → MayRefuse core.limits keeps.last session asked moment
+    by (Some number) is full full_is ends ends_is needs = absurd (cc needs)
+    by None none true full_is ends ends_is needs =
+        let count : core.count ≡ MAX_MARKS = grind (arith, nat_tests) in
+        begins none (omega (arith, count, keeps.stands.count)) (sym keeps.stands.seat_is ∙ free core.held needs)
+    by None none false full_is true ends_is needs =
+        let count : core.count + 1 ≡ MAX_MARKS = grind (arith, nat_tests) in
+        let here : next_history keeps.last ≡ keeps.last = not_turned keeps.last (omega (arith, count, keeps.stands.count)) in
+        let held : leaves_ticket (is_some (seat keeps.last)) (comes_to_seat (policy core.limits keeps.last asked moment)) ≡ true =
+        subst (λ (h : Option Ticket). leaves_ticket (is_some h) (comes_to_seat (policy core.limits keeps.last asked moment)) ≡ true) keeps.stands.seat_is
+        (subst (λ (h : History). leaves_ticket (is_some core.held) (comes_to_seat (policy core.limits h asked moment)) ≡ true) here needs) in
+        let left = leaves-held core.limits keeps.last session asked moment none held in
+        leaves left.answer none (omega (arith, count, keeps.stands.count)) left.rules left.held
+    by None none false full_is false ends_is needs = absurd (cc needs)
 
 -- a core that is as it was keeps the same run
 pub keeps_same : (before after : AtCore) (run : List History) → KeepsRun before run → after ≡ before → KeepsRun after run
@@ -230,11 +230,12 @@ pub like_refused : (before after : AtCore) → IsAsBefore before after → IsLik
 like_refused before after is = record { count = ap (λ (c : AtCore). c.count) is.same; held = ap (λ (c : AtCore). c.held) is.same }
 
 -- a core whose run stays has the room that it needs
-pub records_stay : (before after : AtCore) (histories later : Vec History) (next there : Option (List Mark)) → Records before histories next
-    → later.items ≡ histories.items → IsRoom later there → (IsSome next → IsSome there) → IsLike before after → KeepsRun after histories.items
+pub records_stay : (before after : AtCore) (histories later : Vec HistoryInMemory) (next there : Option (Vec Mark)) → Records before histories next
+    → later.items ≡ histories.items → IsRoom later there → (IsSome next → IsSome there) → IsLike before after → KeepsRun after (run_of histories.items)
     → Records after later there
 records_stay before after histories later next there records items room kept like keeps = record {
-  keeps = subst (KeepsRun after) (sym items) keeps;
+  keeps = subst (λ (l : List HistoryInMemory). KeepsRun after (run_of l)) (sym items) keeps;
+  present = subst LastHasRoom (sym items) records.present;
   room = room;
   ready = λ full held. kept (records.ready (omega (arith, full, like.count)) (subst (λ (h : Option Ticket). IsSome h) like.held held));
 }
@@ -255,6 +256,10 @@ pub record Marks (before after : AtCore) (run : List History) (session : Session
   pub fresh : before.count ≡ MAX_MARKS → after.count ≡ 1
   pub counts : before.count ≢ MAX_MARKS → after.count ≡ before.count + 1
   pub opened : IsSome after.held → (is_open (reply_of turn) ≡ true) ⊎ IsSome (option_and_then (unless_given_back asked) before.held)
+  pub last : History
+  pub last_is : last_history run ≡ Some last
+  pub rules : policy before.limits (next_history last) asked moment ≡ Reply (reply_of turn)
+  pub seat_is : before.held ≡ seat (next_history last)
 
 pub seat_next : (history : History) → seat (next_history history) ≡ seat history
 seat_next history = elim (length history.marks == MAX_MARKS) as (λ b. seat (if b then turn_over history else history) ≡ seat history) [ true ↦ seat-turn_over history | false ↦ refl ]
@@ -326,6 +331,10 @@ module _ (before after : AtCore) (run : List History) (keeps : KeepsRun before r
             subst (λ (r : MarkReply). (is_open r ≡ true) ⊎ IsSome (option_and_then (unless_given_back asked) before.held)) made_reply
             (opened_so is.reply_is (record { ticket = next_number (next_history keeps.last); under = under_of asked }) (option_and_then (unless_given_back asked) before.held)
             (subst (λ (h : Option Ticket). IsSome h) seat_now some));
+        last = keeps.last;
+        last_is = keeps.last_is;
+        rules = is.rules ∙ ap Reply made_reply;
+        seat_is = keeps.stands.seat_is ∙ sym (seat_next keeps.last);
       }
 
   -- the same of the mark as the code has it
@@ -346,25 +355,6 @@ closes_none Flush is = refl
 closes_none (Peek id mode) is = refl
 closes_none Stop is = refl
 
--- a step that isn't a Close needs room where it makes the last mark and a ticket is out, or it may open
-needs : (core : AtCore) (asked : MarkStep) → closes asked ≡ None → core.count + 1 ≡ MAX_MARKS → (is_some core.held || opens asked) ≡ true → needs_room core asked ≡ true
-needs core asked none ends held =
-    let last : (core.count + 1 == MAX_MARKS) ≡ true = grind (arith, nat_tests) in
-    let some : (core.count == MAX_MARKS) ≡ false = grind (arith, nat_tests) in
-    rw (none, some, last, held) refl
-
-held_or : (b : Bool) → (b || true) ≡ true
-held_or true = refl
-held_or false = refl
-
-some_held : (held : Option Ticket) → IsSome held → is_some held ≡ true
-some_held (Some ticket) is = refl
-some_held None is = absurd (cc is)
-
-still_held : (asked : MarkStep) (held : Option Ticket) → IsSome (option_and_then (unless_given_back asked) held) → IsSome held
-still_held asked None is = is
-still_held asked (Some ticket) is = refl
-
 -- a Close of the ticket that is out leaves none
 none_still : (asked : MarkStep) (number : ℕ) (ticket : Ticket) → closes asked ≡ Some number → ticket.ticket ≡ number
     → IsSome (option_and_then (unless_given_back asked) (Some ticket)) → ⊥
@@ -381,19 +371,20 @@ none_still (Peek id mode) number ticket is same some = absurd (cc is)
 none_still Stop number ticket is same some = absurd (cc is)
 
 -- what the room was made for
-pub record HasRoomFor (core : AtCore) (histories : Vec History) (next there : Option (List Mark)) (asked : MarkStep) : Type 0 where
+pub record HasRoomFor (core : AtCore) (histories : Vec HistoryInMemory) (next there : Option (Vec Mark)) (moment : ℕ) (asked : MarkStep) : Type 0 where
   pub records : Records core histories next
   pub more : core.base + core.count ≢ last_base
-  pub own : IfSome (closes asked) (IsOut histories.items)
+  pub own : IfSome (closes asked) (IsOut (run_of histories.items))
   pub kept : IsSome next → IsSome there
-  pub room : needs_room core asked ≡ true → IsSome there
+  pub room : needs_room core asked (comes_to_seat (policy core.limits (next_history records.keeps.last) asked moment)) ≡ true → IsSome there
 
 -- a core that made a mark has the room that it needs
-pub records_marked : (before after : AtCore) (histories later : Vec History) (next there ending : Option (List Mark)) (session : SessionId) (moment : ℕ) (asked : MarkStep) (turn : Turn) (mark : Mark)
-    → HasRoomFor before histories next there asked → FitsReply asked turn → Marks before after histories.items session moment asked turn mark
-    → later.items ≡ run_with_mark histories.items mark → IsRoom later ending → (next_start before ≡ None → ending ≡ there) → Records after later ending
-records_marked before after histories later next there ending session moment asked turn mark has fits marks items room same = record {
+pub records_marked : (before after : AtCore) (histories later : Vec HistoryInMemory) (next there ending : Option (Vec Mark)) (session : SessionId) (moment : ℕ) (asked : MarkStep) (turn : Turn) (mark : Mark)
+    → HasRoomFor before histories next there moment asked → Marks before after (run_of histories.items) session moment asked turn mark
+    → run_of later.items ≡ run_with_mark (run_of histories.items) mark → LastHasRoom later.items → IsRoom later ending → (next_start before ≡ None → ending ≡ there) → Records after later ending
+records_marked before after histories later next there ending session moment asked turn mark has marks items present room same = record {
   keeps = subst (KeepsRun after) (sym items) marks.keeps;
+  present = present;
   room = room;
   ready = λ full held.
       elim (before.count == MAX_MARKS) as (λ b. (before.count == MAX_MARKS) ≡ b → IsSome ending) [
@@ -403,20 +394,28 @@ records_marked before after histories later next there ending session moment ask
             let counted = marks.counts some in
             let none : next_start before ≡ None =
             ap (λ (b : Bool). if b then Some (record { base = before.base + MAX_MARKS; held = before.held; stopped = before.stopped }) else None) e in
-            subst (λ (o : Option (List Mark)). IsSome o) (sym (same none)) (by (omega (arith, counted, full)) (closes asked) refl (marks.opened held))
+            subst (λ (o : Option (Vec Mark)). IsSome o) (sym (same none)) (by (omega (arith, counted, full)) (closes asked) refl (marks.opened held))
       ] refl;
 }
   where
+    last : History
+    last = has.records.keeps.last
+
+    last_is : marks.last ≡ last
+    last_is = let e : Some marks.last ≡ Some has.records.keeps.last = sym marks.last_is ∙ has.records.keeps.last_is in cc
+
     by : before.count + 1 ≡ MAX_MARKS → (closed : Option ℕ) → closes asked ≡ closed
         → (is_open (reply_of turn) ≡ true) ⊎ IsSome (option_and_then (unless_given_back asked) before.held) → IsSome there
-    by ends closed is (inl opened) =
-        let wants = reply_opens asked turn fits opened in
-        has.room (needs before asked (closes_none asked wants) ends (ap (λ (b : Bool). is_some before.held || b) wants ∙ held_or (is_some before.held)))
-    by ends None is (inr still) =
-        has.room (needs before asked is ends (ap (λ (b : Bool). b || opens asked) (some_held before.held (still_held asked before.held still))))
+    by ends None none held =
+        has.room (sym (needs_last before asked _ (ap is_some none) ends)
+        ∙ subst (λ (h : History). leaves_ticket (is_some before.held) (comes_to_seat (policy before.limits (next_history h) asked moment)) ≡ true) last_is
+        (subst (λ (h : Option Ticket). leaves_ticket (is_some h) (comes_to_seat (policy before.limits (next_history marks.last) asked moment)) ≡ true) (sym marks.seat_is)
+        (held-leaves before.limits (next_history marks.last) asked moment (reply_of turn) marks.rules
+        (subst (λ (h : Option Ticket). (is_open (reply_of turn) ≡ true) ⊎ IsSome (option_and_then (unless_given_back asked) h)) marks.seat_is held))))
+    by ends (Some number) is (inl opened) = absurd (cc (is, opens_keeps before.limits (next_history marks.last) asked moment (reply_of turn) marks.rules opened))
     by ends (Some number) is (inr still) =
-        let out = held_out_is before histories.items has.records.keeps has.more number
-        (subst (λ (o : Option ℕ). IfSome o (IsOut histories.items)) is has.own) in
+        let out = held_out_is before (run_of histories.items) has.records.keeps has.more number
+        (subst (λ (o : Option ℕ). IfSome o (IsOut (run_of histories.items))) is has.own) in
         absurd (none_still asked number out.0 is out.2 (subst (λ (h : Option Ticket). IsSome (option_and_then (unless_given_back asked) h)) out.1 still))
 
 pub not_refused : (reply : SteppedReply) → turn_of (Ok reply) ≡ Refused → ⊥
@@ -432,7 +431,8 @@ not_refused told.Stopping is = cc is
 pub took_refused : (before after : AtCore) (run : List History) (keeps : KeepsRun before run) (session : SessionId) (moment : ℕ) (asked : MarkStep)
     → IsStep before keeps.last session moment asked Refused after → TakesStep before.limits run session moment asked Refused run
 took_refused before after run keeps session moment asked (step_marked more is) = absurd is.shows
-took_refused before after run keeps session moment asked (step_refused more why same) = refused keeps.last keeps.last_is (wants why) refl
+took_refused before after run keeps session moment asked (step_refused more why same) =
+    refused keeps.last keeps.last_is (below_next keeps.last keeps.below (legal_last before run keeps).base more) (wants why) refl
 
 pub record Stands (before after : AtCore) (run : List History) (session : SessionId) (moment : ℕ) (asked : MarkStep) : Type 0 where
   pub takes : TakesStep before.limits run session moment asked Stand run

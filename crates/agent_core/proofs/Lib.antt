@@ -3,6 +3,7 @@ pub mod Standing
 pub mod Stepping
 pub mod Dispatch
 pub mod Whole
+pub mod Coming
 pub mod Adding
 pub mod Knowing
 pub mod Seating

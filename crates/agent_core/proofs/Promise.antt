@@ -1,6 +1,6 @@
 -- What a turn at a desk in memory does to the run: its promise.
 use Rattle.std.specs.Prelude.{◌≡◌, ℕ, ◌<◌, List, [], ◌∷◌, ◌++◌, length, Bool, true, false, Option, Some, None, IsSome, refl, if◌then◌else◌}
-use Rattle.std.proofs.Common.{ap, sym, ◌∙◌, subst, append-nil, append_assoc, eq-eqb, arith, Ok}
+use Rattle.std.proofs.Common.{ap, sym, ◌∙◌, subst, append-nil, append_assoc, eq-eqb, arith}
 use Rattle.std.specs.Option.{option_and_then, is_some}
 use Rattle.std.specs.List.{AllByRecursion}
 use Rattle.agent_ports.specs.Leads.{Leads, none as stay, one}
@@ -8,20 +8,18 @@ use Rattle.agent_ports.specs.declared.session.SessionId.{SessionId}
 use Rattle.cache_policy.specs.declared.life.Limits.{Limits}
 use Rattle.cache_policy.specs.declared.entry.Entry.{Entry}
 use Rattle.cache_policy.specs.declared.mark.Mark.{Mark}
-use Rattle.cache_policy.specs.declared.mark.MarkReply.TheVariants as reply
 use Rattle.cache_policy.specs.declared.mark.MarkStep.{MarkStep}
 use Rattle.cache_policy.specs.declared.mark.MarkStep.TheVariants.{Ask, Seat, Close, Put, Clear, Flush, Peek, Stop}
 use Rattle.cache_policy.specs.declared.mark.Way.{Way}
 use Rattle.cache_policy.specs.declared.mark.Way.TheVariants.{Quiet, Prompt}
 use Rattle.cache_policy.specs.declared.history.Held.{Held as Ticket}
-use Rattle.cache_policy.specs.declared.history.History.{History}
-use Rattle.cache_policy.specs.Desks.{is_of, IsSpentRun, MakesMarks, marked as makes_mark, refused as makes_none, spent as makes_spent, GoesOn, IsTurn}
-use Rattle.cache_policy.specs.Histories.{with_mark}
+use Rattle.cache_policy.specs.Desks.{is_of, IsSpentRun, MakesMarks, marked as makes_mark, refused as makes_none, spent as makes_spent, IsTurn}
+use Rattle.cache_policy.specs.Histories.{History, with_mark}
 use Rattle.cache_policy.specs.Legal.{IsLegalRun}
 use Rattle.cache_policy.specs.Live.{live}
 use Rattle.cache_policy.specs.Policy.{Reply, policy, prompt_ruling, ask_ruling}
 use Rattle.cache_policy.specs.Policy as ruling
-use Rattle.cache_policy.specs.Runs.{next_history, last_history, run_with_mark, joined, start_of_run}
+use Rattle.cache_policy.specs.Runs.{next_history, last_history, joined, start_of_run}
 use Rattle.cache_policy.specs.Seat.{seat, stopped}
 use Rattle.cache_policy.specs.Turns.{Turn, Given, Empty, Open, Stand, Done, Held, Refused, Stopping, FitsReply, FitsStep, opens, closes, out_after}
 use Rattle.cache_policy.proofs.Lists.{all_append}
@@ -34,10 +32,10 @@ use Rattle.agent_core.specs.Stepped.{turn_of_stepped, HandsBack}
 use Rattle.agent_core.specs.declared.foreign.Foreign.{Foreign}
 use Rattle.agent_core.specs.declared.holder.Holder.{Holder}
 use Rattle.agent_core.specs.Cores.{mark_of}
-use Rattle.agent_core.specs.Foreigners.{is_session, IsForeign, close_of, foreign_step, holder_after}
+use Rattle.agent_core.specs.Foreigners.{is_session, close_of, foreign_step, holder_after}
 use Rattle.agent_core.specs.Known.{run_seat, TakesStep, marked, stood, refused, spent}
 use Rattle.agent_core.specs.Seating.{Seated, free as seat_free, own as seat_own, theirs as seat_theirs, over as seat_over}
-use Rattle.agent_core.specs.Solos.{AtSolo, at_desk, TakesReading, OwnStep, PlaysStep, played, passed_over, PlaysNext, next_list, at_end, closing, ClosesHolder, Waits, again, goes as wait_goes, gives_back, TakesOwn, at_once, waiting, EndsGiven, IsRightly, TurnsSolo}
+use Rattle.agent_core.specs.Solos.{AtSolo, at_desk, OwnStep, PlaysStep, played, passed_over, PlaysNext, next_list, at_end, closing, ClosesHolder, Waits, again, goes as wait_goes, gives_back, TakesOwn, at_once, waiting, IsRightly, TurnsSolo}
 use Rattle.agent_core.proofs.Knowing.{last_of_all, seat_next}
 use Rattle.agent_core.proofs.Seating.{stand_opens}
 
@@ -77,7 +75,7 @@ adds limits run session moment asked turn after legal (marked last answer last_i
       });
     }
 adds limits run session moment asked turn after legal (stood last last_is some rules is) = adds_none limits run after session asked Stand is (λ goes. absurd (goes refl))
-adds limits run session moment asked turn after legal (refused last last_is why is) = adds_none limits run after session asked Refused is (λ goes. makes_none)
+adds limits run session moment asked turn after legal (refused last last_is below why is) = adds_none limits run after session asked Refused is (λ goes. makes_none)
 adds limits run session moment asked turn after legal (spent all is) =
     adds_none limits run after session asked Stopping is (λ goes. makes_spent (subst IsSpentRun (sym is) all))
 

@@ -1,5 +1,5 @@
 -- What a step does to the ticket that is out at a desk.
-use Rattle.std.specs.Prelude.{◌≡◌, ◌≢◌, ℕ, ◌+◌, ◌%◌, ◌<◌, ◌==◌, List, Bool, true, false, Option, Some, None, IfSome, length, refl, ⊤, if◌then◌else◌}
+use Rattle.std.specs.Prelude.{◌≡◌, ◌≢◌, ℕ, ◌+◌, ◌<◌, ◌==◌, List, Bool, true, false, Option, Some, None, IfSome, length, refl, ⊤, if◌then◌else◌}
 use Rattle.std.proofs.Common.{ap, sym, ◌∙◌, subst, arith}
 use Rattle.std.specs.Option.{is_some, option_and_then}
 use Rattle.std.proofs.lemmas.Bool.Decides.{nat_tests}
@@ -15,13 +15,11 @@ use Rattle.cache_policy.specs.declared.mark.MarkStep.TheVariants.{Ask, Seat, Clo
 use Rattle.cache_policy.specs.declared.mark.Way.{Way}
 use Rattle.cache_policy.specs.declared.mark.Way.TheVariants.{Quiet, Prompt}
 use Rattle.cache_policy.specs.declared.history.Held.{Held as Ticket}
-use Rattle.cache_policy.specs.declared.history.History.{History}
 use Rattle.cache_policy.specs.Desks.{Shows, IsSpentRun}
-use Rattle.cache_policy.specs.Histories.{next_number, with_mark}
+use Rattle.cache_policy.specs.Histories.{History, next_number}
 use Rattle.cache_policy.specs.Legal.{IsLegalRun}
 use Rattle.cache_policy.specs.Live.{live}
 use Rattle.cache_policy.specs.Policy.{Reply, policy, prompt_ruling, ask_ruling}
-use Rattle.cache_policy.specs.Policy as ruling
 use Rattle.cache_policy.specs.Runs.{last_base, turn_over, next_history, last_history, run_with_mark}
 use Rattle.cache_policy.specs.Seat.{seat, stopped, is_open, under_of, unless_given_back}
 use Rattle.cache_policy.specs.Turns.{Turn, Given, Empty, Open, Stand, Done, Held, Refused, Stopping, FitsReply, opens, closes, out_after}
@@ -33,7 +31,7 @@ use Rattle.agent_core.specs.Foreigners.{holder_after}
 use Rattle.agent_core.specs.Known.{run_seat, IsOut, held as held_out, given_up, TakesStep, marked, stood as takes_stood, refused as takes_refused, spent as takes_spent}
 use Rattle.agent_core.specs.Recording.{reply_of}
 use Rattle.agent_core.specs.Seating.{Seated, free, own, theirs, over}
-use Rattle.agent_core.proofs.Knowing.{last_of_all, seat_next, shows_reply, opens_fits, closes_none}
+use Rattle.agent_core.proofs.Knowing.{last_of_all, seat_next, shows_reply, closes_none}
 
 -- a turn that gives no ticket
 abbrev pub IsNotOpen : Turn → Type 0
@@ -131,7 +129,7 @@ pub moves : (limits : Limits) (run after : List History) (session : SessionId) (
 moves limits run after session moment asked turn legal (marked last answer last_is below rules shows is) =
     marked_moves limits run after session moment asked last answer (going_on limits run last legal last_is below) last_is rules is turn shows
 moves limits run after session moment asked turn legal (takes_stood last last_is some rules is) = stood is
-moves limits run after session moment asked turn legal (takes_refused last last_is why is) = refused is
+moves limits run after session moment asked turn legal (takes_refused last last_is below why is) = refused is
 moves limits run after session moment asked turn legal (takes_spent all is) = ended all is
 
 -- a seat that stays

@@ -9,8 +9,7 @@ use Rattle.cache_policy.specs.declared.bounds.TheConstants.{MAX_MARKS, MAX_MOMEN
 use Rattle.cache_policy.specs.declared.life.Limits.{Limits}
 use Rattle.cache_policy.specs.declared.mark.Mark.{Mark}
 use Rattle.cache_policy.specs.declared.history.Held.{Held}
-use Rattle.cache_policy.specs.declared.history.History.{History}
-use Rattle.cache_policy.specs.Histories.{next_number, with_mark}
+use Rattle.cache_policy.specs.Histories.{History, next_number, with_mark}
 use Rattle.cache_policy.specs.Seat.{under_of, is_open, is_stop, unless_given_back, seat, stopped}
 use Rattle.cache_policy.specs.Runs.{turn_over, next_history, moment_before}
 use Rattle.cache_policy.specs.Legal.{IsLegal}
@@ -21,8 +20,9 @@ use Rattle.cache_book.specs.Slots.{slots}
 use Rattle.cache_book.specs.Shelves.{swept}
 use Rattle.cache_book.proofs.Marking.{slots-later, or_false}
 use Rattle.agent_core.specs.declared.state.State.{State}
-use Rattle.agent_core.specs.States.{AtCore, seen, IsState, HasMarked, held_at, next_base, next_count, next_slots, slots_at}
-use Rattle.agent_core.specs.Cores.{StandsFor}
+use Rattle.agent_core.specs.States.{seen, IsState}
+use Rattle.agent_core.specs.Taking.{HasMarked, held_at, next_base, next_count, next_slots, slots_at}
+use Rattle.agent_core.specs.Cores.{AtCore, StandsFor}
 
 -- these are a history's base, count of marks, slots at a moment, seat, and whether it has stopped; and it has room for a mark
 pub record IsOf (limits : Limits) (base count : ℕ) (list : List Slot) (moment : ℕ) (held : Option Held) (stops : Bool) (next : History) : Type 0 where

@@ -17,9 +17,8 @@ use Rattle.cache_policy.specs.declared.mark.MarkReply.TheVariants as reply
 use Rattle.cache_policy.specs.declared.entry.Entry.{Entry}
 use Rattle.cache_policy.specs.declared.grant.Grant.{Grant}
 use Rattle.cache_policy.specs.declared.history.Held.{Held}
-use Rattle.cache_policy.specs.declared.history.History.{History}
 use Rattle.cache_policy.specs.Lifetimes.{ttl_of, max_of, is_zero}
-use Rattle.cache_policy.specs.Histories.{next_number, with_mark}
+use Rattle.cache_policy.specs.Histories.{History, next_number, with_mark}
 use Rattle.cache_policy.specs.Entries.{entry_of, kept_under, kept, stored}
 use Rattle.cache_policy.specs.Seat.{under_of, is_open, is_stop, unless_given_back, seat, stopped}
 use Rattle.cache_policy.specs.Live.{takes_away, gives, live}
@@ -36,7 +35,8 @@ use Rattle.cache_book.proofs.Marking.{slots-same, slots-flushed, slots-cleared}
 use Rattle.cache_book.proofs.Storing.{slots-given, slots-stored}
 use Rattle.cache_book.proofs.Live.{IsLiveGrant, grant_is_live, none_live, live_is_live, grant-swept, none-swept}
 use Rattle.agent_core.specs.declared.state.State.{State}
-use Rattle.agent_core.specs.States.{seen, held_of, held_at, IsState, HasMarked, HasMarkedAlone, HasMoreRoom, Finds, Prompts, Puts, Closes, with_stored, next_slots, number_of, slots_at}
+use Rattle.agent_core.specs.States.{seen, held_of, IsState}
+use Rattle.agent_core.specs.Taking.{held_at, HasMarked, HasMarkedAlone, HasMoreRoom, Finds, Prompts, Puts, Closes, with_stored, next_slots, number_of, slots_at}
 use Rattle.agent_core.specs.Cores.{StandsFor, mark_of, WantsMemory, IsAsBefore, IsStep, marked, stood, refused}
 use Rattle.agent_core.proofs.Standing.{IsReady, slots_at-ready, stands_then, seat-kept, stopped-kept}
 
@@ -47,17 +47,17 @@ pub record IsTaken (before after : State) (history : History) (moment : ℕ) : T
   pub going : is_spent (next_history history) ≡ false
 
 -- what is live for a request
-live-found : (before after : State) (history : History) (moment : ℕ) (id : List ℕ) (mode : Mode) (grant : Grant) → IsTaken before after history moment
+pub live-found : (before : State) (history : History) (moment : ℕ) (id : List ℕ) (mode : Mode) (grant : Grant) → IsReady before history moment
     → IsGrantFrom (next_slots before) id mode moment grant → IsLiveGrant before.limits (next_history history) id mode moment grant
-live-found before after history moment id mode grant is from =
+live-found before history moment id mode grant is from =
     grant_is_live before.limits (next_history history) id mode moment grant
-    (subst (λ (list : List Slot). IsGrantFrom list id mode moment grant) (slots_at-ready before history moment is.ready) (grant-swept (next_slots before) id mode moment grant from))
+    (subst (λ (list : List Slot). IsGrantFrom list id mode moment grant) (slots_at-ready before history moment is) (grant-swept (next_slots before) id mode moment grant from))
 
-live-none : (before after : State) (history : History) (moment : ℕ) (id : List ℕ) (mode : Mode) → IsTaken before after history moment
+pub live-none : (before : State) (history : History) (moment : ℕ) (id : List ℕ) (mode : Mode) → IsReady before history moment
     → ServesNone (next_slots before) id mode moment → live before.limits (next_history history) id mode moment ≡ None
-live-none before after history moment id mode is none =
+live-none before history moment id mode is none =
     none_live before.limits (next_history history) id mode moment
-    (subst (λ (list : List Slot). ServesNone list id mode moment) (slots_at-ready before history moment is.ready) (none-swept (next_slots before) id mode moment none))
+    (subst (λ (list : List Slot). ServesNone list id mode moment) (slots_at-ready before history moment is) (none-swept (next_slots before) id mode moment none))
 
 -- a mark that leaves all slots, seat and 'stopped'
 record IsAlone (limits : Limits) (next : History) (mark : Mark) : Type 0 where
@@ -151,7 +151,7 @@ pub given-step : (before after : State) (history : History) (session : SessionId
     → HasMarked before moment (touched grant.entry.number moment (slots_at before moment)) (held_at before) before.stopped after
     → IsStep (seen before) history session moment (asked.Ask id mode way) (Given grant) (seen after)
 given-step before after history session moment id mode way grant is from marks =
-    let found = live-found before after history moment id mode grant is from in
+    let found = live-found before history moment id mode grant is.ready from in
     marked is.going (record {
       reply_is = reply.Given grant.entry.number;
       rules = ap (λ (o : Option Entry). ask_ruling o way (stopped (next_history history)) (seat (next_history history))) found.live_is;
@@ -336,14 +336,14 @@ peek-step before after history session moment id mode there found is finds there
     })
   where
     looked : (o : Option Grant) → Finds (next_slots before) id mode moment o → is_some (live before.limits (next_history history) id mode moment) ≡ is_some o
-    looked None none = ap is_some (live-none before after history moment id mode is none)
-    looked (Some grant) from = ap is_some (live-found before after history moment id mode grant is from).live_is
+    looked None none = ap is_some (live-none before history moment id mode is.ready none)
+    looked (Some grant) from = ap is_some (live-found before history moment id mode grant is.ready from).live_is
 
 pub wish_of_ask : (before after : State) (history : History) (moment : ℕ) (id : List ℕ) (mode : Mode) → IsTaken before after history moment
     → ServesNone (next_slots before) id mode moment
     → IsWish before.limits (next_history history) (asked.Ask id mode Prompt) moment (Some (record { id = id; mode = mode }))
 wish_of_ask before after history moment id mode is none = record {
-  rules = ap (λ (o : Option Entry). ask_ruling o Prompt (stopped (next_history history)) (seat (next_history history))) (live-none before after history moment id mode is none);
+  rules = ap (λ (o : Option Entry). ask_ruling o Prompt (stopped (next_history history)) (seat (next_history history))) (live-none before history moment id mode is.ready none);
   under_is = refl;
   none = refl;
   keeps = λ entry. refl;
@@ -370,7 +370,7 @@ pub empty-step : (before after : State) (history : History) (session : SessionId
 empty-step before after history session moment id mode is none does =
     marked is.going (record {
       reply_is = reply.Empty;
-      rules = ap (λ (o : Option Entry). ask_ruling o Quiet (stopped (next_history history)) (seat (next_history history))) (live-none before after history moment id mode is none);
+      rules = ap (λ (o : Option Entry). ask_ruling o Quiet (stopped (next_history history)) (seat (next_history history))) (live-none before history moment id mode is.ready none);
       shows = refl;
       stands = alone before after history (mark_of session (asked.Ask id mode Quiet) reply.Empty moment) is does
           (record { none = refl; keeps = λ entry. refl; unused = λ n. refl; shut = refl; held = λ held. refl; no_stop = refl });

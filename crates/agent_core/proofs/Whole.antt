@@ -5,13 +5,14 @@ use Rattle.std.proofs.lemmas.Bool.Decides.{nat_tests}
 use Rattle.agent_ports.specs.declared.session.SessionId.{SessionId}
 use Rattle.cache_policy.specs.declared.bounds.TheConstants.{MAX_MARKS, MAX_MOMENT}
 use Rattle.cache_policy.specs.declared.mark.MarkStep.{MarkStep}
-use Rattle.cache_policy.specs.declared.history.History.{History}
+use Rattle.cache_policy.specs.Histories.{History}
 use Rattle.cache_policy.specs.Runs.{last_base, next_history, moment_of}
 use Rattle.cache_policy.specs.Legal.{IsLegal}
 use Rattle.cache_policy.specs.Turns.{Turn, Stopping}
 use Rattle.agent_core.specs.declared.state.State.{State}
-use Rattle.agent_core.specs.States.{AtCore, seen, IsState, Takes}
-use Rattle.agent_core.specs.Cores.{StandsFor, IsStep, spent}
+use Rattle.agent_core.specs.States.{seen, IsState}
+use Rattle.agent_core.specs.Taking.{Takes}
+use Rattle.agent_core.specs.Cores.{AtCore, StandsFor, IsStep, spent}
 use Rattle.agent_core.proofs.Standing.{next_is, ready}
 use Rattle.agent_core.proofs.Dispatch.{takes-step}
 

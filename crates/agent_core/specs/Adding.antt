@@ -1,13 +1,44 @@
--- Private: marks are added to the histories of a run.
-use Rattle.std.specs.Prelude.{◌≡◌, ◌+◌, ◌==◌, List, [], ◌∷◌, ◌++◌, Option, Some, None, IsSome, if◌then◌else◌}
+-- Private: marks are added to the histories of a run, and the room for them is reserved.
+use Rattle.std.specs.Prelude.{◌≡◌, ◌+◌, ◌<◌, ◌==◌, List, [], ◌∷◌, ◌++◌, length, Bool, true, false, not, Option, Some, None, IsSome, if◌then◌else◌}
+use Rattle.std.specs.Option.{is_some}
 use Rattle.std.specs.Global.{Vec}
 use Rattle.cache_policy.specs.declared.bounds.TheConstants.{MAX_MARKS}
 use Rattle.cache_policy.specs.declared.mark.Mark.{Mark}
-use Rattle.cache_policy.specs.declared.history.History.{History}
-use Rattle.cache_policy.specs.Runs.{run_with_mark}
+use Rattle.cache_policy.specs.declared.history.History.{History as HistoryInMemory}
+use Rattle.cache_policy.specs.Histories.{History, run_of}
+use Rattle.cache_policy.specs.declared.mark.MarkReply.TheVariants as reply
+use Rattle.cache_policy.specs.declared.mark.MarkStep.{MarkStep}
+use Rattle.cache_policy.specs.Policy.{Ruling, Reply, Stand}
+use Rattle.cache_policy.specs.Runs.{last_history, run_with_mark}
+use Rattle.cache_policy.specs.Turns.{closes}
 use Rattle.agent_core.specs.declared.known_core.Start.{Start}
-use Rattle.agent_core.specs.States.{AtCore}
-use Rattle.agent_core.specs.Recording.{IsRoom, HasPlace}
+use Rattle.agent_core.specs.Cores.{AtCore}
+use Rattle.agent_core.specs.Recording.{IsRoom, LastHasRoom}
+
+-- the step comes to the seat: it opens where that is free, and stands where it is held
+abbrev pub comes_to_seat : Ruling → Bool
+comes_to_seat (Reply reply.Open) = true
+comes_to_seat (Reply other) = false
+comes_to_seat Stand = true
+
+-- whether a ticket is out after a step that makes a mark and isn't a Close, by whether one was, and whether the step comes to the seat
+abbrev pub leaves_ticket : Bool → Bool → Bool
+leaves_ticket true comes = not comes
+leaves_ticket false comes = comes
+
+-- the step begins a history while no ticket is out, or makes the last mark of one and leaves a ticket out; a Close does neither
+abbrev pub needs_room : AtCore → MarkStep → Bool → Bool
+needs_room core step_of comes =
+    if is_some (closes step_of) then false
+    else if core.count == MAX_MARKS then not (is_some core.held)
+    else if core.count + 1 == MAX_MARKS then leaves_ticket (is_some core.held) comes
+    else false
+
+-- the last history isn't full
+pub record HasPlace (histories : List History) : Type 0 where
+  pub last : History
+  pub last_is : last_history histories ≡ Some last
+  pub few : length last.marks < MAX_MARKS
 
 -- how the history after a core's one begins, where that is full
 abbrev pub next_start : AtCore → Option Start
@@ -24,6 +55,6 @@ added (Some start) run mark = begun start run mark
 added None run mark = run_with_mark run mark
 
 -- there is room for a mark
-abbrev pub CanAdd : Option Start → Vec History → Option (List Mark) → Type 0
+abbrev pub CanAdd : Option Start → Vec HistoryInMemory → Option (Vec Mark) → Type 0
 CanAdd (Some start) histories next = IsSome next × IsRoom histories next
-CanAdd None histories next = HasPlace histories.items × IsRoom histories next
+CanAdd None histories next = HasPlace (run_of histories.items) × LastHasRoom histories.items × IsRoom histories next

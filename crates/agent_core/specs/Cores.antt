@@ -1,5 +1,5 @@
 -- What a core stands for, and what its steps do: the policy's reply, and the history with one mark more. This is the project's own.
-use Rattle.std.specs.Prelude.{◌≡◌, ℕ, ◌<◌, ◌≤◌, length, true, false, IsSome, ⊤}
+use Rattle.std.specs.Prelude.{◌≡◌, ℕ, ◌<◌, ◌≤◌, List, length, Bool, true, false, Option, IsSome, IfSome, ⊤}
 use Rattle.agent_ports.specs.declared.session.SessionId.{SessionId}
 use Rattle.cache_policy.specs.declared.bounds.TheConstants.{MAX_MOMENT}
 use Rattle.cache_policy.specs.declared.life.Limits.{Limits}
@@ -8,16 +8,32 @@ use Rattle.cache_policy.specs.declared.mark.MarkStep.{MarkStep}
 use Rattle.cache_policy.specs.declared.mark.MarkStep.TheVariants as asked
 use Rattle.cache_policy.specs.declared.mark.MarkReply.{MarkReply}
 use Rattle.cache_policy.specs.declared.mark.MarkReply.TheVariants as reply
-use Rattle.cache_policy.specs.declared.history.History.{History}
-use Rattle.cache_policy.specs.Histories.{with_mark}
+use Rattle.cache_policy.specs.declared.history.Held.{Held}
+use Rattle.cache_policy.specs.Histories.{History, with_mark}
 use Rattle.cache_policy.specs.Seat.{seat, stopped}
 use Rattle.cache_policy.specs.Policy.{Reply, policy}
 use Rattle.cache_policy.specs.Policy as ruling
 use Rattle.cache_policy.specs.Runs.{next_history, is_spent, moment_before}
 use Rattle.cache_policy.specs.Turns.{Turn, Stand, Stopping, Refused}
 use Rattle.cache_policy.specs.Desks.{Shows}
+use Rattle.cache_book.specs.declared.slot.Slot.{Slot}
 use Rattle.cache_book.specs.Slots.{slots}
-use Rattle.agent_core.specs.States.{AtCore, HasRoom}
+
+-- A core is seen as its lifetimes, the base of its history, the count of its marks, the moment of the last step, the slots on its shelf,
+-- the ticket that is out, whether it has stopped opening prompts, and how many entries it has room for
+pub record AtCore : Type 0 where
+  pub limits : Limits
+  pub base : ℕ
+  pub count : ℕ
+  pub moment : ℕ
+  pub slots : List Slot
+  pub held : Option Held
+  pub stopped : Bool
+  pub spare : ℕ
+
+-- there is room for the passphrase of the ticket that is out, where it is to be kept
+abbrev pub HasRoom : Option Held → ℕ → Type 0
+HasRoom held spare = IfSome held (λ h. IsSome h.under → 1 ≤ spare)
 
 -- The core stands for a history: it has its base, the number of its marks, the moment of its last mark, its slots at that moment and no
 -- others, its seat, and whether it has stopped. Where the ticket that is out has an `Under`, there is room for its passphrase.

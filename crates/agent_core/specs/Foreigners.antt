@@ -1,11 +1,11 @@
 -- Steps of other sessions, and the ticket that one of them has. This is the project's own.
-use Rattle.std.specs.Prelude.{◌≡◌, ℕ, List, Bool, true, false, ◌&&◌, nat_eq, Option, Some, None, if◌then◌else◌}
+use Rattle.std.specs.Prelude.{◌≡◌, ℕ, List, Bool, false, ◌&&◌, nat_eq, Option, Some, None, if◌then◌else◌}
 use Rattle.std.specs.Option.{is_some, option_and_then}
 use Rattle.std.specs.List.{AllByRecursion}
 use Rattle.agent_ports.specs.declared.session.SessionId.{SessionId}
 use Rattle.cache_policy.specs.declared.mark.MarkStep.{MarkStep}
 use Rattle.cache_policy.specs.declared.mark.MarkStep.TheVariants as asked
-use Rattle.cache_policy.specs.Turns.{Turn, Open, Refused, closes}
+use Rattle.cache_policy.specs.Turns.{Turn, Open, closes}
 use Rattle.agent_core.specs.declared.foreign.Foreign.{Foreign}
 use Rattle.agent_core.specs.declared.foreign.ForeignStep.{ForeignStep}
 use Rattle.agent_core.specs.declared.foreign.ForeignStep.TheVariants.{Ask, Seat, CloseHeld, Put, Clear, Flush, Peek, Stop}

@@ -1,14 +1,15 @@
 -- What a core with its run keeps.
-use Rattle.std.specs.Prelude.{List, Option}
+use Rattle.std.specs.Prelude.{Option}
 use Rattle.std.specs.Global.{Vec}
 use Rattle.cache_policy.specs.declared.mark.Mark.{Mark}
-use Rattle.cache_policy.specs.declared.history.History.{History}
+use Rattle.cache_policy.specs.declared.history.History.{History as HistoryInMemory}
+use Rattle.cache_policy.specs.Histories.{run_of}
 use Rattle.cache_policy.specs.declared.tally.Tally.{Tally}
 use Rattle.agent_core.specs.Recording.{Records}
-use Rattle.agent_core.specs.States.{AtCore}
+use Rattle.agent_core.specs.Cores.{AtCore}
 use Rattle.agent_core.specs.Tallies.{Tallied}
 
 -- its run, the room for the marks to come, and their tally
-pub record IsKnown (core : AtCore) (histories : Vec History) (next : Option (List Mark)) (tally : Tally) : Type 0 where
+pub record IsKnown (core : AtCore) (histories : Vec HistoryInMemory) (next : Option (Vec Mark)) (tally : Tally) : Type 0 where
   pub records : Records core histories next
-  pub tally_is : Tallied core.limits histories.items tally
+  pub tally_is : Tallied core.limits (run_of histories.items) tally

@@ -1,5 +1,5 @@
 -- A step on a run that is known: what it comes to, and which run there is then. This is the project's own.
-use Rattle.std.specs.Prelude.{◌≡◌, ℕ, ◌+◌, ◌<◌, List, length, true, Option, Some, None, IsSome}
+use Rattle.std.specs.Prelude.{◌≡◌, ℕ, ◌+◌, ◌<◌, List, length, Option, Some, None, IsSome}
 use Rattle.std.specs.Option.{option_and_then}
 use Rattle.agent_ports.specs.declared.session.SessionId.{SessionId}
 use Rattle.cache_policy.specs.declared.bounds.TheConstants.{MAX_MARKS}
@@ -7,13 +7,13 @@ use Rattle.cache_policy.specs.declared.life.Limits.{Limits}
 use Rattle.cache_policy.specs.declared.mark.MarkStep.{MarkStep}
 use Rattle.cache_policy.specs.declared.mark.MarkReply.{MarkReply}
 use Rattle.cache_policy.specs.declared.history.Held.{Held as Ticket}
-use Rattle.cache_policy.specs.declared.history.History.{History}
+use Rattle.cache_policy.specs.Histories.{History, with_mark}
 use Rattle.cache_policy.specs.Desks.{Shows, IsSpentRun}
 use Rattle.cache_policy.specs.Policy.{Reply, policy}
 use Rattle.cache_policy.specs.Policy as ruling
 use Rattle.cache_policy.specs.Runs.{last_base, last_history, next_history, joined, moment_before, moment_of, run_with_mark}
 use Rattle.cache_policy.specs.Seat.{seat}
-use Rattle.cache_policy.specs.Turns.{Turn, Stand, Stopping, Refused, opens, closes}
+use Rattle.cache_policy.specs.Turns.{Turn, Stand, Stopping, Refused, closes}
 use Rattle.agent_core.specs.Cores.{mark_of, WantsMemory}
 
 -- a core whose run is known is seen as its lifetimes and its run
@@ -34,13 +34,13 @@ pub data IsOut (run : List History) (number : ℕ) : Type 0 where
 abbrev pub next_moment : List History → ℕ → ℕ
 next_moment run reading = moment_of (moment_before (joined run)) reading
 
--- A step finds no memory where it wants some for itself, where it begins a history, and where it makes the last mark of a history and
--- may leave a ticket out. A Close never does.
-pub data MayRefuse (limits : Limits) (last : History) (step_of : MarkStep) (moment : ℕ) : Type 0 where
-  wants : WantsMemory limits (next_history last) step_of moment → MayRefuse limits last step_of moment
-  begins : closes step_of ≡ None → length last.marks ≡ MAX_MARKS → MayRefuse limits last step_of moment
-  leaves : closes step_of ≡ None → length last.marks + 1 ≡ MAX_MARKS → IsSome (seat last) → MayRefuse limits last step_of moment
-  may_open : opens step_of ≡ true → length last.marks + 1 ≡ MAX_MARKS → MayRefuse limits last step_of moment
+-- A step finds no memory in these cases alone: it wants some for itself; it begins a history while no ticket is out; or it makes the last
+-- mark of a history and leaves a ticket out, so that the step after it begins a history without taking memory. A Close never does.
+pub data MayRefuse (limits : Limits) (last : History) (session : SessionId) (step_of : MarkStep) (moment : ℕ) : Type 0 where
+  wants : WantsMemory limits (next_history last) step_of moment → MayRefuse limits last session step_of moment
+  begins : closes step_of ≡ None → length last.marks ≡ MAX_MARKS → seat last ≡ None → MayRefuse limits last session step_of moment
+  leaves : (answer : MarkReply) → closes step_of ≡ None → length last.marks + 1 ≡ MAX_MARKS → policy limits last step_of moment ≡ Reply answer
+      → IsSome (seat (with_mark last (mark_of session step_of answer moment))) → MayRefuse limits last session step_of moment
 
 -- A step of a session at a moment: the policy replies it, and the run goes on by its mark; or it stands, is refused, or comes to a spent
 -- agent, and the run stays.
@@ -51,6 +51,6 @@ pub data TakesStep (limits : Limits) (run : List History) (session : SessionId) 
       → after ≡ run_with_mark run (mark_of session step_of answer moment) → TakesStep limits run session moment step_of turn after
   stood : {after : List History} (last : History) → last_history run ≡ Some last → (IsSpentRun run → ⊥)
       → policy limits (next_history last) step_of moment ≡ ruling.Stand → after ≡ run → TakesStep limits run session moment step_of Stand after
-  refused : {after : List History} (last : History) → last_history run ≡ Some last → MayRefuse limits last step_of moment
-      → after ≡ run → TakesStep limits run session moment step_of Refused after
+  refused : {after : List History} (last : History) → last_history run ≡ Some last → (next_history last).base < last_base
+      → MayRefuse limits last session step_of moment → after ≡ run → TakesStep limits run session moment step_of Refused after
   spent : {after : List History} → IsSpentRun run → after ≡ run → TakesStep limits run session moment step_of Stopping after

@@ -1,8 +1,10 @@
 pub mod States
+pub mod Taking
 pub mod Cores
 pub mod Known
 pub mod Recording
 pub mod Stepped
+pub mod Openings
 pub mod Adding
 pub mod Foreigners
 pub mod Seating

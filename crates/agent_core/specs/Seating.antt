@@ -1,7 +1,7 @@
 -- Which ticket is out at a desk whose run is known.
 use Rattle.std.specs.Prelude.{◌≡◌, ℕ, List, Option, Some, None}
 use Rattle.cache_policy.specs.declared.history.Held.{Held as Ticket}
-use Rattle.cache_policy.specs.declared.history.History.{History}
+use Rattle.cache_policy.specs.Histories.{History}
 use Rattle.cache_policy.specs.Desks.{IsSpentRun}
 use Rattle.agent_core.specs.declared.holder.Holder.{Holder}
 use Rattle.agent_core.specs.Known.{run_seat}

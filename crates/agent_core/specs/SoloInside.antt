@@ -1,10 +1,8 @@
 -- What a desk in memory keeps.
-use Rattle.std.specs.Prelude.{List, Option, reverse, map, IfSome, false, ◌≡◌, ◌∷◌, []}
+use Rattle.std.specs.Prelude.{List, Option, reverse, map, IfSome, false, ◌≡◌}
 use Rattle.std.specs.Global.{Vec}
 use Rattle.agent_ports.specs.declared.session.SessionId.{SessionId}
-use Rattle.cache_policy.specs.declared.mark.Mark.{Mark}
-use Rattle.cache_policy.specs.Desks.{is_of}
-use Rattle.cache_policy.specs.declared.history.History.{History}
+use Rattle.cache_policy.specs.Histories.{History}
 use Rattle.std.specs.Prelude.{ℕ}
 use Rattle.agent_core.specs.declared.foreign.Foreign.{Foreign}
 use Rattle.agent_core.specs.declared.holder.Holder.{Holder}

@@ -1,5 +1,5 @@
 -- A desk in memory, whose run is known, and at which other sessions take the steps of a script. This is the project's own.
-use Rattle.std.specs.Prelude.{◌≡◌, ℕ, List, [], ◌∷◌, Bool, true, false, Option, Some, None, IsSome, IfSome, ⊤}
+use Rattle.std.specs.Prelude.{◌≡◌, ℕ, List, [], ◌∷◌, Bool, true, false, Option, Some, None, ⊤}
 use Rattle.std.specs.Borrow.{GName}
 use Rattle.agent_ports.specs.Leads.{Leads}
 use Rattle.agent_ports.specs.Readings.{Readings, IsRead}
@@ -7,9 +7,8 @@ use Rattle.agent_ports.specs.declared.session.SessionId.{SessionId}
 use Rattle.cache_policy.specs.declared.life.Limits.{Limits}
 use Rattle.cache_policy.specs.declared.mark.Mark.{Mark}
 use Rattle.cache_policy.specs.declared.mark.MarkStep.{MarkStep}
-use Rattle.cache_policy.specs.declared.history.History.{History}
 use Rattle.cache_policy.specs.Desks.{AtDesk, IsTurn}
-use Rattle.cache_policy.specs.Histories.{with_mark}
+use Rattle.cache_policy.specs.Histories.{History, with_mark}
 use Rattle.cache_policy.specs.Legal.{IsLegalRun}
 use Rattle.cache_policy.specs.Return.{IsGivenRightly}
 use Rattle.cache_policy.specs.Runs.{last_history}

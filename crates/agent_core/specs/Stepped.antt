@@ -1,13 +1,9 @@
 -- How a step came out at a core whose run is known.
-use Rattle.std.specs.Prelude.{◌≡◌, Ok, ⊤}
-use Rattle.cache_policy.specs.declared.mark.Way.TheVariants.{Prompt}
+use Rattle.std.specs.Prelude.{◌≡◌, Ok}
 use Rattle.cache_policy.specs.declared.step.Step.{Step}
-use Rattle.cache_policy.specs.declared.step.Step.TheVariants.{Ask, Seat}
 use Rattle.cache_policy.specs.Turns.{Turn, Stand, Refused, turn_of}
 use Rattle.agent_core.specs.declared.stepped.Stepped.{Stepped}
 use Rattle.agent_core.specs.declared.stepped.Stepped.TheVariants as stepped
-use Rattle.agent_core.specs.declared.stepped.Opening.{Opening}
-use Rattle.agent_core.specs.declared.stepped.Opening.TheVariants as opening
 
 -- the turn that it is
 abbrev pub turn_of_stepped : Stepped → Turn
@@ -20,8 +16,3 @@ abbrev pub HandsBack : Step → Stepped → Type 0
 HandsBack asked (stepped.Replied reply) = turn_of (Ok reply) ≡ Stand → ⊥
 HandsBack asked (stepped.Stood back) = back ≡ asked
 HandsBack asked (stepped.Refused back) = back ≡ asked
-
--- a step that wants the prompt
-abbrev pub opening_step : Opening → Step
-opening_step (opening.Ask id mode) = Ask id mode Prompt
-opening_step (opening.Seat under) = Seat under

@@ -1,6 +1,6 @@
 -- Tallies: what the marks of a run come to. This is the project's own.
-use Rattle.std.specs.Prelude.{◌≡◌, ℕ, ◌+◌, ◌<◌, ◌≤◌, ◌^◌, ◌==◌, List, length, Bool, true, false, ◌&&◌, not, Option, Some, None, if◌then◌else◌}
-use Rattle.std.specs.Option.{is_some, option_map_or, option_and_then}
+use Rattle.std.specs.Prelude.{◌≡◌, ℕ, ◌+◌, ◌<◌, ◌^◌, List, length, Bool, false, ◌&&◌, not, Option, Some, None, if◌then◌else◌}
+use Rattle.std.specs.Option.{is_some, option_map_or}
 use Rattle.std.specs.List.{flat_map}
 use Rattle.cache_policy.specs.declared.life.Life.TheVariants.{Default}
 use Rattle.cache_policy.specs.declared.life.Limits.{Limits}
@@ -9,7 +9,7 @@ use Rattle.cache_policy.specs.declared.mark.Mark.{Mark}
 use Rattle.cache_policy.specs.declared.mark.MarkStep.{MarkStep}
 use Rattle.cache_policy.specs.declared.mark.MarkStep.TheVariants.{Put, Close}
 use Rattle.cache_policy.specs.declared.history.Held.{Held}
-use Rattle.cache_policy.specs.declared.history.History.{History}
+use Rattle.cache_policy.specs.Histories.{History}
 use Rattle.cache_policy.specs.Entries.{entries, kept_under}
 use Rattle.cache_policy.specs.Lifetimes.{ttl_of, is_zero}
 use Rattle.cache_policy.specs.Runs.{joined, last_history}

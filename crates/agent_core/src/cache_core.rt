@@ -1,11 +1,13 @@
 ghost use Rattle.std.specs.Prelude.{◌≡◌, ◌+◌, ◌<◌, ◌≤◌, ◌↔◌, [], false, None, IsTrue, OnErr, IfErr};
 ghost use Rattle.std.specs.Option.{is_some};
 ghost use Rattle.cache_policy.specs.declared.bounds.TheConstants.{MAX_MARKS};
-ghost use Rattle.cache_policy.specs.declared.history.History.{History};
+ghost use Rattle.cache_policy.specs.Histories.{History};
 ghost use Rattle.cache_policy.specs.Turns.{mark_step, turn_of, FitsReply};
-ghost use Rattle.cache_policy.specs.Runs.{last_base, moment_of};
+ghost use Rattle.cache_policy.specs.Policy.{policy};
+ghost use Rattle.cache_policy.specs.Runs.{last_base, moment_of, next_history};
 ghost use Rattle.cache_policy.specs.Legal.{IsLegal};
 ghost use Rattle.agent_core.specs.Cores.{StandsFor, IsStep, IsAsBefore};
+ghost use Rattle.agent_core.specs.Adding.{comes_to_seat};
 
 use crate::state::{CacheShelf, State};
 use crate::stepped::copy_under;
@@ -25,7 +27,8 @@ pub struct Core {
 }
 
 impl Model for Core {
-    ghost use Rattle.agent_core.specs.States.{AtCore, IsState, seen};
+    ghost use Rattle.agent_core.specs.Cores.{AtCore};
+    ghost use Rattle.agent_core.specs.States.{IsState, seen};
 
     ghost Value = { AtCore };
 
@@ -74,6 +77,15 @@ impl Core {
         }
         let moment = self.state.moment_at(reading);
         self.state.take_step(moment, step)
+    }
+
+    /// Whether a step comes to the seat: it opens a prompt where that is free, and has to stand where it is held.
+    pub(crate) fn comes_to_seat(&self, reading: u64, step: &Step) -> bool
+        ensures { (history : History) → IsLegal self.now.limits history → StandsFor self.now history
+            → result ≡ comes_to_seat (policy self.now.limits (next_history history) (mark_step step.now) (moment_of self.now.moment reading)) }
+    {
+        let moment = self.state.moment_at(reading);
+        self.state.comes_to_seat(moment, step)
     }
 
     /// Whether there is no number left for a mark. Each step is then replied `Stopping`, and changes nothing.
@@ -148,5 +160,7 @@ pub(crate) fn give_up(step: Step) {
     }
 }
 
+#[cfg(test)]
+mod plain_policy;
 #[cfg(test)]
 mod tests;

@@ -1,21 +1,27 @@
-ghost use Rattle.std.specs.Prelude.{◌≡◌, ◌+◌, ◌<◌, ◌∷◌, [], true, None, IsSome, IfSome, OnOk, OnErr, IfOk, vec_len, vec_capacity};
+ghost use Rattle.std.specs.Prelude.{◌≡◌, ◌+◌, ◌<◌, ◌∷◌, [], true, None, Ok, IsSome, IfSome, OnOk, OnErr, IfOk, vec_len, vec_capacity};
 ghost use Rattle.std.specs.Option.{is_some};
 ghost use Rattle.cache_policy.specs.declared.bounds.TheConstants.{MAX_MARKS};
-ghost use Rattle.cache_policy.specs.Legal.{IsLegalRun};
+ghost use Rattle.cache_policy.specs.declared.step.Step.{Step as AskedOf};
+ghost use Rattle.cache_policy.specs.Histories.{History as OneHistory, run_of};
+ghost use Rattle.cache_policy.specs.Legal.{IsLegal, IsLegalRun};
+ghost use Rattle.cache_policy.specs.Policy.{policy};
 ghost use Rattle.cache_policy.specs.Replay.{first_history};
-ghost use Rattle.cache_policy.specs.Runs.{last_base, run_with_mark};
-ghost use Rattle.cache_policy.specs.Turns.{mark_step, opens, closes, FitsReply};
-ghost use Rattle.agent_core.specs.Recording.{IsRoom, HasPlace, needs_room};
-ghost use Rattle.agent_core.specs.Adding.{CanAdd, begun, added, next_start};
+ghost use Rattle.cache_policy.specs.Runs.{last_base, moment_of, next_history, run_with_mark};
+ghost use Rattle.cache_policy.specs.Turns.{Stand, mark_step, turn_of, closes, FitsReply};
+ghost use Rattle.agent_core.specs.Adding.{CanAdd, begun, added, next_start, HasPlace, comes_to_seat, leaves_ticket, needs_room};
+ghost use Rattle.agent_core.specs.Cores.{StandsFor, mark_of};
+ghost use Rattle.agent_core.specs.Openings.{opening_step};
+ghost use Rattle.agent_core.specs.Recording.{IsRoom, LastHasRoom, reply_of};
+ghost use Rattle.agent_core.specs.Stepped.{turn_of_stepped, HandsBack};
 
 use crate::Core;
 use crate::cache_core::give_up;
-use crate::stepped::{Opening, Stepped, mark_reply_of, mark_step_of};
+use crate::opening::Opening;
+use crate::stepped::{Stepped, mark_reply_of, mark_step_of};
 use crate::tally::{counted, stores};
 use agent_ports::SessionId;
 use cache_policy::{
     Held, History, Limits, MAX_MARKS, Mark, MarkStep, Marks, NoMemory, Refused, Reply, Step, Tally,
-    Way,
 };
 use std::alloc::Global;
 use std::marker::Model;
@@ -26,7 +32,7 @@ pub struct KnownCore {
     core: Core,
     histories: Vec<History>,
     // The room for the next history, where it had to be reserved already.
-    next: Option<Marks>,
+    next: Option<Vec<Mark>>,
     // What the marks come to, but for whether the core has stopped.
     tally: Tally,
     alloc: Global,
@@ -37,9 +43,10 @@ impl Model for KnownCore {
 
     ghost Value = { AtKnown };
 
+    ghost use Rattle.cache_policy.specs.Histories.{run_of};
     ghost use Rattle.agent_core.specs.Keeping.{IsKnown};
 
-    ghost view = { λ known. record { limits = known.core.limits; run = known.histories.items } };
+    ghost view = { λ known. record { limits = known.core.limits; run = run_of known.histories.items } };
 
     ghost invariant = { λ known. IsKnown known.core known.histories known.next known.tally };
 }
@@ -54,7 +61,6 @@ pub(crate) struct Start {
 
 impl KnownCore {
     ghost use Rattle.agent_core.specs.Known.{IsOut, next_moment, TakesStep};
-    ghost use Rattle.agent_core.specs.Stepped.{turn_of_stepped, HandsBack};
     ghost use Rattle.agent_core.specs.Tallies.{tally_of};
 
     /// A core without entries, whose run has one history without marks. It reserves the room for them.
@@ -62,12 +68,12 @@ impl KnownCore {
         ensures { IfOk result (λ known. known ≡ record { limits = limits; run = first_history ∷ [] }) }
     {
         let mut histories = Vec::with_capacity(alloc, 1)?;
-        let marks = Marks::with_room(alloc)?;
+        let marks = Vec::with_capacity(alloc, MAX_MARKS as usize)?;
         histories.push_reserved(History {
             base: 0,
             held: None,
             stopped: false,
-            marks,
+            marks: Marks(marks),
         });
         Ok(KnownCore {
             core: Core::new(alloc, limits),
@@ -92,15 +98,8 @@ impl KnownCore {
             give_up(step);
             return Stepped::Replied(Reply::Stopping);
         }
-        if room_for(
-            &self.core,
-            &mut self.histories,
-            &mut self.next,
-            self.alloc,
-            &step,
-        )
-        .is_err()
-        {
+        let needs = needs_room(&self.core, reading, &step);
+        if room_for(needs, &mut self.histories, &mut self.next, self.alloc).is_err() {
             return Stepped::Refused(step);
         }
         let start = start_after(&self.core);
@@ -111,18 +110,10 @@ impl KnownCore {
             Ok(reply) => match reply {
                 Reply::Stand => {
                     let_go(asked);
-                    match opening {
-                        Some(opening) => Stepped::Stood(opening.into_step()),
-                        None => unreachable!(),
-                    }
+                    stood(opening)
                 }
                 reply => {
-                    let mark = Mark {
-                        session,
-                        step: asked,
-                        reply: mark_reply_of(&reply),
-                        moment: self.core.moment(),
-                    };
+                    let mark = mark_of(&self.core, session, asked, &reply);
                     self.tally = counted(self.tally, &mark, stores);
                     add(&mut self.histories, &mut self.next, start, mark);
                     Stepped::Replied(reply)
@@ -137,7 +128,7 @@ impl KnownCore {
 
     /// The run, the present history last.
     pub fn histories(&self) -> &[History]
-        ensures { result.now ≡ self.now.run }
+        ensures { run_of result.now ≡ self.now.run }
     {
         self.histories.as_slice()
     }
@@ -157,6 +148,30 @@ impl KnownCore {
 /// Ends a step that made no mark.
 fn let_go(_asked: MarkStep) {}
 
+/// A step that has to stand is handed back.
+fn stood(opening: Option<Opening>) -> Stepped
+    requires { IsSome opening }
+    ensures turn { turn_of_stepped result ≡ Stand }
+    ensures back { (asked : AskedOf) → IfSome opening (λ opening. opening_step opening ≡ asked) → HandsBack asked result }
+{
+    match opening {
+        Some(opening) => Stepped::Stood(opening.step()),
+        None => unreachable!(),
+    }
+}
+
+/// The mark of a step that was replied.
+fn mark_of(core: &Core, session: SessionId, step: MarkStep, reply: &Reply) -> Mark
+    ensures { result ≡ mark_of session step (reply_of (turn_of (Ok reply.now))) core.now.moment }
+{
+    Mark {
+        session,
+        step,
+        reply: mark_reply_of(reply),
+        moment: core.moment(),
+    }
+}
+
 /// How the next history begins, where this one is full.
 fn start_after(core: &Core) -> Option<Start>
     requires { core.now.base < last_base }
@@ -174,9 +189,10 @@ fn start_after(core: &Core) -> Option<Start>
 }
 
 /// Adds a mark to the last history, or to one that begins so.
-fn add(histories: &mut Vec<History>, next: &mut Option<Marks>, start: Option<Start>, mark: Mark)
+fn add(histories: &mut Vec<History>, next: &mut Option<Vec<Mark>>, start: Option<Start>, mark: Mark)
     requires { CanAdd start histories.old next.old }
-    ensures items { histories.new.items ≡ added start histories.old.items mark }
+    ensures run { run_of histories.new.items ≡ added start (run_of histories.old.items) mark }
+    ensures last { LastHasRoom histories.new.items }
     ensures room { IsRoom histories.new next.new }
     ensures kept { start ≡ None → next.new ≡ next.old }
 {
@@ -186,16 +202,22 @@ fn add(histories: &mut Vec<History>, next: &mut Option<Marks>, start: Option<Sta
     }
 }
 
-fn begin_history(histories: &mut Vec<History>, next: &mut Option<Marks>, start: Start, mark: Mark)
+fn begin_history(
+    histories: &mut Vec<History>,
+    next: &mut Option<Vec<Mark>>,
+    start: Start,
+    mark: Mark,
+)
     requires some { IsSome next.old }
     requires room { IsRoom histories.old next.old }
-    ensures items { histories.new.items ≡ begun start histories.old.items mark }
+    ensures run { run_of histories.new.items ≡ begun start (run_of histories.old.items) mark }
+    ensures last { LastHasRoom histories.new.items }
     ensures taken { next.new ≡ None }
 {
     let Some(mut marks) = next.take() else {
         unreachable!()
     };
-    marks.push(mark);
+    marks.push_reserved(mark);
     let Start {
         base,
         held,
@@ -205,39 +227,40 @@ fn begin_history(histories: &mut Vec<History>, next: &mut Option<Marks>, start: 
         base,
         held,
         stopped,
-        marks,
+        marks: Marks(marks),
     });
 }
 
 fn add_mark(histories: &mut Vec<History>, mark: Mark)
-    requires { HasPlace histories.old.items }
-    ensures items { histories.new.items ≡ run_with_mark histories.old.items mark }
+    requires place { HasPlace (run_of histories.old.items) }
+    requires last { LastHasRoom histories.old.items }
+    ensures run { run_of histories.new.items ≡ run_with_mark (run_of histories.old.items) mark }
+    ensures last { LastHasRoom histories.new.items }
     ensures len { vec_len histories.new ≡ vec_len histories.old }
     ensures capacity { vec_capacity histories.new ≡ vec_capacity histories.old }
 {
     let Some(mut last) = histories.pop() else {
         unreachable!()
     };
-    last.marks.push(mark);
+    last.marks.0.push_reserved(mark);
     histories.push_reserved(last);
 }
 
-/// Reserves the room for the next history, where a step needs it.
+/// Reserves the room for the next history, where it is needed.
 fn room_for(
-    core: &Core,
+    needs: bool,
     histories: &mut Vec<History>,
-    next: &mut Option<Marks>,
+    next: &mut Option<Vec<Mark>>,
     alloc: Global,
-    step: &Step,
 ) -> Result<(), NoMemory>
     requires { IsRoom histories.old next.old }
-    ensures ok { OnOk result (needs_room core.now (mark_step step.now) ≡ true → IsSome next.new) }
-    ensures err { OnErr result (needs_room core.now (mark_step step.now) ≡ true) }
+    ensures ok { OnOk result (needs ≡ true → IsSome next.new) }
+    ensures err { OnErr result (needs ≡ true) }
     ensures items { histories.new.items ≡ histories.old.items }
     ensures room { IsRoom histories.new next.new }
     ensures kept { IsSome next.old → IsSome next.new }
 {
-    if !needs_room(core, step) {
+    if !needs {
         return Ok(());
     }
     reserve_next(histories, next, alloc)
@@ -245,7 +268,7 @@ fn room_for(
 
 fn reserve_next(
     histories: &mut Vec<History>,
-    next: &mut Option<Marks>,
+    next: &mut Option<Vec<Mark>>,
     alloc: Global,
 ) -> Result<(), NoMemory>
     requires { IsRoom histories.old next.old }
@@ -256,39 +279,39 @@ fn reserve_next(
 {
     if next.is_none() {
         histories.reserve(1)?;
-        *next = Some(Marks::with_room(alloc)?);
+        *next = Some(Vec::with_capacity(alloc, MAX_MARKS as usize)?);
     }
     Ok(())
 }
 
-/// Whether a step begins a history, or makes the last mark of one and may leave a ticket out. A Close does neither.
-fn needs_room(core: &Core, step: &Step) -> bool
-    ensures { result ≡ needs_room core.now (mark_step step.now) }
+/// Whether a step begins a history while no ticket is out, or makes the last mark of one and leaves a ticket out: the step after it has
+/// the room then. A Close does neither.
+fn needs_room(core: &Core, reading: u64, step: &Step) -> bool
+    ensures { (history : OneHistory) → IsLegal core.now.limits history → StandsFor core.now history → result ≡ needs_room core.now (mark_step step.now)
+        (comes_to_seat (policy core.now.limits (next_history history) (mark_step step.now) (moment_of core.now.moment reading))) }
 {
     if is_close(step) {
         return false;
     }
     let count = core.count();
-    count == MAX_MARKS || count + 1 == MAX_MARKS && (core.is_held() || opens_prompt(step))
+    if count == MAX_MARKS {
+        return !core.is_held();
+    }
+    if count + 1 < MAX_MARKS {
+        return false;
+    }
+    leaves_ticket(core.is_held(), core.comes_to_seat(reading, step))
+}
+
+/// Whether a ticket is out after a step that makes a mark and isn't a Close.
+fn leaves_ticket(held: bool, comes_to_seat: bool) -> bool
+    ensures { result ≡ leaves_ticket held comes_to_seat }
+{
+    if held { !comes_to_seat } else { comes_to_seat }
 }
 
 pub(crate) fn is_close(step: &Step) -> bool
     ensures { result ≡ is_some (closes (mark_step step.now)) }
 {
     matches!(step, Step::Close { .. })
-}
-
-/// Whether a step wants the prompt.
-fn opens_prompt(step: &Step) -> bool
-    ensures { result ≡ opens (mark_step step.now) }
-{
-    match step {
-        Step::Seat { under: _ } => true,
-        Step::Ask {
-            id: _,
-            mode: _,
-            way,
-        } => *way == Way::Prompt,
-        _ => false,
-    }
 }

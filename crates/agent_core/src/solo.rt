@@ -2,6 +2,7 @@ ghost use Rattle.std.specs.Prelude.{◌≡◌, true, false, None, Some, Ok, IsSo
 ghost use Rattle.std.specs.Option.{is_some};
 ghost use Rattle.cache_policy.specs.declared.mark.MarkStep.{MarkStep as AskedStep};
 ghost use Rattle.cache_policy.specs.declared.step.Step.{Step as AskedOf};
+ghost use Rattle.cache_policy.specs.Histories.{run_of};
 ghost use Rattle.cache_policy.specs.Turns.{Stand, mark_step, turn_of, opens, closes, out_after};
 ghost use Rattle.agent_core.specs.Stepped.{turn_of_stepped, HandsBack};
 ghost use Rattle.agent_core.specs.Foreigners.{opened};
@@ -134,7 +135,7 @@ impl<'a, C: Clock> Solo<'a, C> {
 
     /// The run, the present history last.
     pub fn histories(&self) -> &[History]
-        ensures { result.now ≡ self.now.run }
+        ensures { run_of result.now ≡ self.now.run }
     {
         self.known.histories()
     }

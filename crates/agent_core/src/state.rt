@@ -3,12 +3,12 @@ ghost use Rattle.cache_policy.specs.Runs.{last_base, moment_of};
 ghost use Rattle.cache_policy.specs.declared.bounds.TheConstants.{MAX_MARKS, MAX_MOMENT};
 ghost use Rattle.cache_book.specs.Shelves.{AreBelow};
 
-use cache_book::{ListShelf, Shelf};
+use cache_book::{Shelf, SlotShelf};
 use cache_policy::{CacheId, Grant, Limits, MAX_MARKS, MAX_MOMENT, Mode, Under};
 use prompt_seat::Seat;
 
 /// The shelf that the core stands on.
-pub(crate) type CacheShelf = ListShelf;
+pub(crate) type CacheShelf = SlotShelf;
 
 /// What a core keeps in place of its history.
 #[derive(Drop)]
@@ -27,7 +27,8 @@ pub(crate) struct State {
 }
 
 impl State {
-    ghost use Rattle.agent_core.specs.States.{IsState, MayMark, HasMarkedAlone, Finds, next_base, next_count, next_slots, number_of};
+    ghost use Rattle.agent_core.specs.States.{IsState};
+    ghost use Rattle.agent_core.specs.Taking.{MayMark, HasMarkedAlone, Finds, next_base, next_count, next_slots, number_of};
 
     /// The base of the history on which the next step is taken.
     pub(crate) fn next_base(&self) -> u64

@@ -1,9 +1,8 @@
-ghost use Rattle.std.specs.Prelude.{◌≡◌, false, IfSome, IsNone, Ok};
-ghost use Rattle.cache_policy.specs.Turns.{mark_step, turn_of, opens, Stand};
+ghost use Rattle.std.specs.Prelude.{◌≡◌, Ok};
+ghost use Rattle.cache_policy.specs.Turns.{mark_step, turn_of};
 ghost use Rattle.agent_core.specs.Recording.{reply_of};
-ghost use Rattle.agent_core.specs.Stepped.{opening_step};
 
-use cache_policy::{CacheId, MarkReply, MarkStep, Mode, Reply, Step, Under, Way};
+use cache_policy::{MarkReply, MarkStep, Reply, Step, Under};
 
 /// How a step came out.
 pub(crate) enum Stepped {
@@ -12,49 +11,6 @@ pub(crate) enum Stepped {
     Stood(Step),
     /// There was no memory for it.
     Refused(Step),
-}
-
-/// A step that wants the prompt. It may have to wait, and is taken again then.
-#[derive(Drop)]
-pub(crate) enum Opening {
-    Ask { id: CacheId, mode: Mode },
-    Seat { under: Option<Under> },
-}
-
-impl Opening {
-    /// The step once more, if it wants the prompt.
-    pub(crate) fn of(step: &Step) -> Option<Opening>
-        ensures same { IfSome result (λ opening. opening_step opening ≡ step.now) }
-        ensures none { IsNone result → opens (mark_step step.now) ≡ false }
-    {
-        match step {
-            Step::Ask {
-                id,
-                mode,
-                way: Way::Prompt,
-            } => Some(Opening::Ask {
-                id: id.copy(),
-                mode: *mode,
-            }),
-            Step::Seat { under } => Some(Opening::Seat {
-                under: copy_under(under),
-            }),
-            _ => None,
-        }
-    }
-
-    pub(crate) fn into_step(self) -> Step
-        ensures { result ≡ opening_step self }
-    {
-        match self {
-            Opening::Ask { id, mode } => Step::Ask {
-                id,
-                mode,
-                way: Way::Prompt,
-            },
-            Opening::Seat { under } => Step::Seat { under },
-        }
-    }
 }
 
 pub(crate) fn copy_under(under: &Option<Under>) -> Option<Under>

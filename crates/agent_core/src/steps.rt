@@ -11,8 +11,9 @@ use prompt_seat::Ticket;
 
 impl State {
     ghost use Rattle.std.specs.Prelude.{Option, []};
-    ghost use Rattle.agent_core.specs.States.{Takes};
-    ghost use Rattle.agent_core.specs.States.{IsState, MayMark, HasMarked, HasMarkedAlone, Finds, Prompts, Asks, Puts, Closes, prompt_turn, held_at, next_slots, number_of, slots_at};
+    ghost use Rattle.agent_core.specs.Taking.{Takes};
+    ghost use Rattle.agent_core.specs.States.{IsState};
+    ghost use Rattle.agent_core.specs.Taking.{MayMark, HasMarked, HasMarkedAlone, Finds, ComesToSeat, Prompts, Asks, Puts, Closes, prompt_turn, held_at, next_slots, number_of, slots_at};
 
     /// Takes a step at a moment.
     pub(crate) fn take_step(&mut self, moment: u64, step: Step) -> Result<Reply, Refused>
@@ -52,6 +53,24 @@ impl State {
                 self.stop(moment);
                 Ok(Reply::Done)
             }
+        }
+    }
+
+    /// Whether a step comes to the seat: it opens a prompt where that is free, and has to stand where it is held.
+    pub(crate) fn comes_to_seat(&self, moment: u64, step: &Step) -> bool
+        ensures { ComesToSeat self.now moment (mark_step step.now) result }
+    {
+        match step {
+            Step::Ask {
+                id,
+                mode,
+                way: Way::Prompt,
+            } => match self.live(id, *mode, moment) {
+                Some(_) => false,
+                None => !self.stopped,
+            },
+            Step::Seat { under: _ } => !self.stopped,
+            _ => false,
         }
     }
 

@@ -11,13 +11,12 @@ use Rattle.cache_policy.specs.declared.mark.Mark.{Mark}
 use Rattle.cache_policy.specs.declared.mark.MarkStep.{MarkStep}
 use Rattle.cache_policy.specs.declared.mark.MarkReply.{MarkReply}
 use Rattle.cache_policy.specs.declared.history.Held.{Held}
-use Rattle.cache_policy.specs.declared.history.History.{History}
 use Rattle.cache_policy.specs.declared.tally.Tally.{Tally}
 use Rattle.cache_policy.specs.declared.trace.Trace.{Trace}
 use Rattle.cache_policy.specs.Bare.{bare, bare_mark, bare_step}
 use Rattle.cache_policy.specs.Desks.{Shows}
 use Rattle.cache_policy.specs.Entries.{stored}
-use Rattle.cache_policy.specs.Histories.{with_mark}
+use Rattle.cache_policy.specs.Histories.{History, with_mark}
 use Rattle.cache_policy.specs.Legal.{IsLegal}
 use Rattle.cache_policy.specs.Policy.{Reply, policy}
 use Rattle.cache_policy.specs.Policy as ruling
@@ -31,9 +30,8 @@ use Rattle.cache_policy.proofs.BareLemmas.{seat-bare, stopped-bare, policy-bare,
 use Rattle.cache_policy.proofs.Growing.{legal-with_mark, legal-turn_over, seat-turn_over}
 use Rattle.cache_policy.proofs.GrowingRuns.{spent-all}
 use Rattle.cache_policy.proofs.Tallying.{tally-with_mark, tally-turn_over}
-use Rattle.agent_core.specs.Cores.{StandsFor, IsStep, IsMarked, IsAsBefore, mark_of}
+use Rattle.agent_core.specs.Cores.{AtCore, HasRoom, StandsFor, IsStep, IsMarked, IsAsBefore, mark_of}
 use Rattle.agent_core.specs.Cores as step
-use Rattle.agent_core.specs.States.{AtCore, HasRoom}
 use Rattle.agent_lock.specs.declared.pass.Counts.{Counts}
 use Rattle.agent_lock.specs.declared.state.Start.{Start}
 use Rattle.agent_lock.specs.declared.state.State.{State}

@@ -5,10 +5,9 @@ use Rattle.agent_ports.specs.declared.session.SessionId.{SessionId}
 use Rattle.cache_policy.specs.declared.bounds.TheConstants.{MAX_MARKS}
 use Rattle.cache_policy.specs.declared.mark.MarkStep.{MarkStep}
 use Rattle.cache_policy.specs.declared.mark.MarkReply.{MarkReply}
-use Rattle.cache_policy.specs.declared.history.History.{History}
 use Rattle.cache_policy.specs.declared.tally.Tally.{Tally}
 use Rattle.cache_policy.specs.Bare.{bare, bare_step}
-use Rattle.cache_policy.specs.Histories.{with_mark}
+use Rattle.cache_policy.specs.Histories.{History, with_mark}
 use Rattle.cache_policy.specs.Legal.{IsLegal}
 use Rattle.cache_policy.specs.Policy.{Reply, policy}
 use Rattle.cache_policy.specs.Policy as ruling
@@ -16,8 +15,7 @@ use Rattle.cache_policy.specs.Runs.{next_history, is_spent}
 use Rattle.cache_policy.specs.Tallies.{with_history}
 use Rattle.cache_policy.specs.Traces.{reply_of}
 use Rattle.cache_policy.specs.Turns.{Turn, Stand, Stopping, Refused}
-use Rattle.agent_core.specs.Cores.{StandsFor, IsAsBefore, mark_of}
-use Rattle.agent_core.specs.States.{AtCore}
+use Rattle.agent_core.specs.Cores.{AtCore, StandsFor, IsAsBefore, mark_of}
 
 pub record AtLock : Type 0 where
   pub core : AtCore

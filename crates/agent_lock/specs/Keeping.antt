@@ -1,7 +1,7 @@
 -- What the code keeps under the lock.
 use Rattle.std.specs.Prelude.{◌≡◌, ◌+◌, ◌==◌, ◌≤◌, List, [], length, map, Option, Some, None, vec_capacity, if◌then◌else◌}
 use Rattle.cache_policy.specs.declared.bounds.TheConstants.{MAX_MARKS}
-use Rattle.cache_policy.specs.declared.history.History.{History}
+use Rattle.cache_policy.specs.Histories.{History}
 use Rattle.cache_policy.specs.declared.tally.Tally.{Tally}
 use Rattle.cache_policy.specs.declared.trace.Trace.{Trace}
 use Rattle.cache_policy.specs.Tallies.{IsSound}

@@ -4,5 +4,4 @@ pub mod Counting
 pub mod Booking
 pub mod Shares
 pub mod Closings
-pub mod Openings
 pub mod Attempts

@@ -3,7 +3,6 @@
 
 mod books;
 mod locked;
-mod opening;
 mod pass;
 mod shared;
 mod shared_desk;

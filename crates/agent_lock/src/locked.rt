@@ -1,5 +1,5 @@
 ghost use Rattle.std.specs.Prelude.{◌≡◌, ◌≤◌, ◌+◌, ◌^◌, ℕ, None, [], false, IfOk, IfErr, Ok};
-ghost use Rattle.cache_policy.specs.declared.history.History.{History};
+ghost use Rattle.cache_policy.specs.Histories.{History};
 ghost use Rattle.cache_policy.specs.Legal.{IsLegal};
 ghost use Rattle.cache_policy.specs.Runs.{moment_of, next_history, is_spent};
 ghost use Rattle.cache_policy.specs.Seat.{stopped};

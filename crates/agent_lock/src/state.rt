@@ -1,7 +1,6 @@
 ghost use Rattle.std.specs.Prelude.{◌≡◌, ◌<◌, ◌≤◌, ◌^◌, [], None, IfOk, IfErr, vec_len, vec_capacity};
 ghost use Rattle.cache_policy.specs.declared.bounds.TheConstants.{MAX_MARKS as MAX};
-ghost use Rattle.cache_policy.specs.declared.history.History.{History};
-ghost use Rattle.cache_policy.specs.Histories.{with_mark};
+ghost use Rattle.cache_policy.specs.Histories.{History, with_mark};
 ghost use Rattle.cache_policy.specs.Legal.{IsLegal};
 ghost use Rattle.cache_policy.specs.Runs.{last_base, moment_of, next_history, is_spent};
 ghost use Rattle.cache_policy.specs.Seat.{stopped};

@@ -1,5 +1,5 @@
 -- Events one after another.
-use Rattle.std.specs.Prelude.{List, [], ◌∷◌, ◌++◌, map}
+use Rattle.std.specs.Prelude.{List, ◌++◌, map}
 use Rattle.agent_ports.specs.Leads.{Leads, none, one}
 
 -- some events, and then others

@@ -2,5 +2,6 @@ pub mod Digits
 pub mod Given
 pub mod Known
 pub mod Leading
+mod KeyMaps
 mod Pieces
 mod Places

@@ -1,5 +1,5 @@
 -- What a read from the middle of a list leaves.
-use Rattle.std.proofs.Common.{◌≡◌, ℕ, ◌+◌, ◌-◌, ◌≤◌, List, ◌++◌, length, take, drop, ap, sym, ◌∙◌, arith}
+use Rattle.std.proofs.Common.{◌≡◌, ℕ, ◌+◌, ◌-◌, ◌≤◌, List, ◌++◌, length, take, drop, ap, ap₂, sym, ◌∙◌, arith}
 use Rattle.std.proofs.lemmas.List.{take-append-le, length-take-le, take-append-drop, drop-drop, length-drop, take_all}
 
 -- what was copied, and what is left, make what was there
@@ -11,3 +11,12 @@ front_copied bytes taken n part buffer is within =
     let long : length part ≡ n = ap length whole ∙ length-take-le n rest room in
     let front : take n (part ++ buffer) ≡ take n rest = take-append-le n part buffer (omega arith) ∙ take_all n part (omega arith) ∙ whole in
     sym (ap (λ x. x ++ drop (taken + n) bytes) front ∙ ap (λ x. take n rest ++ x) (sym (drop-drop n taken bytes)) ∙ take-append-drop n rest)
+
+-- what a whole buffer was filled with, and what is left, make what was there
+pub next_drawn : (bytes : List ℕ) (taken room : ℕ) (buffer : List ℕ) → buffer ≡ take room (take (length bytes - taken) (drop taken bytes)) → room ≤ length bytes - taken → drop taken bytes ≡ buffer ++ drop (taken + length buffer) bytes
+next_drawn bytes taken room buffer is within =
+    let rest : List ℕ = drop taken bytes in
+    let fits : room ≤ length rest = omega (arith, length-drop taken bytes) in
+    let whole : buffer ≡ take room rest = is ∙ ap (take room) (take_all _ rest (omega (arith, length-drop taken bytes))) in
+    let long : length buffer ≡ room = ap length whole ∙ length-take-le room rest fits in
+    sym (take-append-drop room rest) ∙ ap₂ (λ (x y : List ℕ). x ++ y) (sym whole) (drop-drop room taken bytes ∙ ap (λ k. drop (taken + k) bytes) (sym long))

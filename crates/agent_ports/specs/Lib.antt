@@ -2,8 +2,11 @@ pub mod Counts
 pub mod Readings
 pub mod Sides
 pub mod Launches
+pub mod Draws
+pub mod KeyFiles
 pub mod Leads
 pub mod Plans
 pub mod MemPlans
 pub mod MemLaunches
+pub mod MemKeys
 pub mod Lent

@@ -1,4 +1,5 @@
-//! What the agent asks of the outside: bytes in and out, the time of day, and the machine that it runs on.
+//! What the agent asks of the outside: bytes in and out, child programs, the time of day, random bytes, key files, and the machine that
+//! has them.
 //!
 //! Each trait has its contents, which an implementation shows or doesn't, and counts that never fall. An answer that
 //! something failed comes only where its count rose in that call. The forms in memory tell their contents, and fail at
@@ -6,23 +7,34 @@
 #![tactic(auto)]
 
 mod clock;
+mod dice;
+mod fault_plan;
 mod grip;
 mod host;
+mod keys;
 mod launcher;
 mod lent_clock;
 mod link;
 mod mem_clock;
+mod mem_dice;
+mod mem_host;
+mod mem_keys;
 mod mem_launcher;
 mod mem_link;
 mod session;
 
 pub use clock::Clock;
+pub use dice::Dice;
 pub use grip::Grip;
-pub use host::Host;
+pub use host::{Host, Parts};
+pub use keys::{KeyDone, KeyNames, KeyRead, Keys, MAX_KEY_FILE_LEN};
 pub use launcher::Launcher;
 pub use lent_clock::LentClock;
 pub use link::{Got, Link, Sent, Sink, Source};
-pub use mem_clock::{ListClock, MemHost, StepClock};
+pub use mem_clock::{ListClock, StepClock};
+pub use mem_dice::ListDice;
+pub use mem_host::MemHost;
+pub use mem_keys::MapKeys;
 pub use mem_launcher::{MemChild, MemLauncher, PlannedChild};
 pub use mem_link::{MemLink, MemSink, MemSource};
 pub use session::SessionId;

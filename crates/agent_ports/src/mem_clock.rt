@@ -1,7 +1,7 @@
 ghost use Rattle.std.specs.Prelude.{◌≡◌, ◌+◌, ◌*◌, ◌-◌, ◌^◌, ◌≤◌, min, ℕ, Some, slice_index};
 ghost use Rattle.agent_ports.specs.Readings.{reading_at};
 
-use crate::{Clock, Host};
+use crate::Clock;
 
 /// A clock that gives the readings of a list, the last of them again and again, and 0 where there is none.
 #[derive(Debug, Drop)]
@@ -83,27 +83,3 @@ impl Clock for StepClock {
         reading
     }
 }
-
-/// A machine in memory, whose clock gives the readings of a list.
-#[derive(Debug, Drop)]
-pub struct MemHost {
-    clock: ListClock,
-}
-
-impl MemHost {
-    pub fn new(clock: ListClock) -> Self
-        ensures { ⟦<MemHost as Clock>⟧.readings result ≡ ⟦<ListClock as Clock>⟧.readings clock }
-    {
-        MemHost { clock }
-    }
-}
-
-impl Clock for MemHost {
-    ghost readings = { λ h. ⟦<ListClock as Clock>⟧.readings h.clock };
-
-    fn now(&mut self) -> u64 {
-        self.clock.now()
-    }
-}
-
-impl Host for MemHost {}

@@ -3,7 +3,7 @@ ghost use Rattle.std.specs.Option.{option_map};
 ghost use Rattle.agent_ports.specs.MemLaunches.{gives_of, latest_of, latest_first};
 ghost use Rattle.agent_ports.specs.declared.mem_launcher.Place.{out-Place};
 
-use crate::mem_link::FaultPlan;
+use crate::fault_plan::FaultPlan;
 use crate::{Got, Launcher, Link, MemLink, MemSink, MemSource, Sent, Sink, Source};
 use std::alloc::Global;
 

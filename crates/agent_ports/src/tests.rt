@@ -1,3 +1,5 @@
+ghost use Rattle.std.specs.Prelude.{IsSome};
+
 use super::*;
 use std::alloc::{AllocError, Global};
 use std::test::Fail;
@@ -82,8 +84,6 @@ fn clocks_give_their_readings(rt: HostRuntime) -> Result<(), Fail> {
         three_readings(&mut steps),
         [u64::MAX - 8, u64::MAX - 1, u64::MAX]
     );
-    let mut host = MemHost::new(ListClock::new(vec![in alloc; 9u64]?));
-    assert_eq!(rt; three_readings(&mut host), [9, 9, 9]);
     Ok(())
 }
 
@@ -182,5 +182,134 @@ fn a_clock_that_was_lent_goes_on_where_it_stood(rt: HostRuntime) -> Result<(), F
     let mut clock = StepClock::new(5, 2);
     assert_eq!(rt; read_twice(&mut clock), (5, 7));
     assert_eq!(rt; clock.now(), 9);
+    Ok(())
+}
+
+/// What draws of so many bytes each give.
+fn draws<R: Dice>(alloc: Global, dice: &mut R, sizes: &[usize]) -> Result<Vec<String>, AllocError> {
+    let mut all = Vec::new(alloc);
+    for size in sizes {
+        let mut buf = [7u8; 4];
+        let out = &mut buf[..(*size).min(4)];
+        let filled = dice.fill(out);
+        all.push(format!(in alloc; "{filled} {out:?}")?)?;
+    }
+    Ok(all)
+}
+
+#[test]
+fn dice_give_their_bytes_until_they_run_out(rt: HostRuntime) -> Result<(), Fail> {
+    let alloc = rt.alloc();
+    let bytes = vec![in alloc; 1u8, 2, 3, 4, 5]?;
+    let mut dice = ListDice::new(bytes, vec![in alloc; 1u64]?);
+    let got = draws(alloc, &mut dice, &[2, 2, 4, 3, 0, 1])?;
+    let want = [
+        "true [1, 2]",
+        "false [0, 0]",
+        "false [0, 0, 0, 0]",
+        "true [3, 4, 5]",
+        "true []",
+        "false [0]",
+    ];
+    assert_eq!(rt; got.len(), want.len());
+    for (one, other) in got.iter().zip(&want) {
+        assert_eq!(rt; one.as_str(), *other);
+    }
+    Ok(())
+}
+
+/// The grip whose bytes are all this one.
+fn grip(byte: u8) -> Grip {
+    Grip([byte; 20])
+}
+
+/// What the calls on keys give, one after another: the files of the grips of 1 and of 2, the grips, and what became of the changes.
+fn use_keys<K: Keys>(alloc: Global, keys: &mut K) -> Result<Vec<String>, AllocError> {
+    let mut all = Vec::new(alloc);
+    all.push(format!(in alloc; "{:?}", keys.replace(alloc, &grip(2), b"two"))?)?;
+    all.push(format!(in alloc; "{:?}", keys.replace(alloc, &grip(1), b"one"))?)?;
+    for byte in [1, 2, 3] {
+        let text = match keys.read(alloc, &grip(byte)) {
+            KeyRead::Found(file) => format!(in alloc; "{file:?}")?,
+            KeyRead::Absent => format!(in alloc; "Absent")?,
+            KeyRead::Failed => format!(in alloc; "Failed")?,
+            KeyRead::NoMemory => format!(in alloc; "NoMemory")?,
+        };
+        all.push(text)?;
+    }
+    let grips = match keys.list(alloc) {
+        KeyNames::Names(names) => names.iter().map(|grip| grip.0[0]).collect(alloc)?,
+        _ => Vec::new(alloc),
+    };
+    all.push(format!(in alloc; "{grips:?}")?)?;
+    for byte in [1, 1, 2] {
+        all.push(format!(in alloc; "{:?}", keys.remove(alloc, &grip(byte)))?)?;
+    }
+    Ok(all)
+}
+
+#[test]
+fn key_files_are_replaced_read_listed_and_removed(rt: HostRuntime) -> Result<(), Fail> {
+    let alloc = rt.alloc();
+    for (failing, want) in [
+        (
+            Vec::new(alloc),
+            [
+                "Done",
+                "Done",
+                "[111, 110, 101]",
+                "[116, 119, 111]",
+                "Absent",
+                "[1, 2]",
+                "Done",
+                "Absent",
+                "Done",
+            ],
+        ),
+        (
+            vec![in alloc; 1u64, 3, 5, 8]?,
+            [
+                "Done", "Failed", "Absent", "Failed", "Absent", "[]", "Absent", "Absent", "Failed",
+            ],
+        ),
+    ] {
+        let mut keys = MapKeys::new(alloc, failing);
+        let got = use_keys(alloc, &mut keys)?;
+        assert_eq!(rt; got.len(), want.len());
+        for (one, other) in got.iter().zip(&want) {
+            assert_eq!(rt; one.as_str(), *other);
+        }
+    }
+    Ok(())
+}
+
+/// The first byte that the dice of a host's parts give, behind so many givings of the parts.
+fn first_byte<H: Host>(host: &mut H) -> (u32, u8)
+    requires { IsSome (H.server host.old) }
+    ensures { IsSome (H.server host.new) }
+{
+    let parts = host.server_parts();
+    host.parts_back(parts);
+    let mut parts = host.server_parts();
+    let mut buf = [0u8; 1];
+    parts.dice.fill(&mut buf);
+    host.parts_back(parts);
+    (host.pid(), buf[0])
+}
+
+#[test]
+fn a_host_hands_out_its_parts_and_takes_them_back(rt: HostRuntime) -> Result<(), Fail> {
+    let alloc = rt.alloc();
+    let mut keys = MapKeys::new(alloc, Vec::new(alloc));
+    keys.insert(grip(1), vec![in alloc; 9u8]?)?;
+    let parts = Parts {
+        launcher: MemLauncher::new(alloc, Vec::new(alloc), Vec::new(alloc)),
+        clock: ListClock::new(Vec::new(alloc)),
+        dice: ListDice::new(vec![in alloc; 5u8, 6]?, Vec::new(alloc)),
+        keys,
+    };
+    let mut host = MemHost::new(17, parts);
+    assert_eq!(rt; first_byte(&mut host), (17, 5));
+    assert_eq!(rt; first_byte(&mut host), (17, 6));
     Ok(())
 }

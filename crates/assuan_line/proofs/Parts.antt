@@ -6,7 +6,7 @@ use Rattle.std.proofs.lemmas.Bool.Decides.{leb_tells}
 use Rattle.std.proofs.lemmas.List.{take_all, take-append-drop}
 use Rattle.std.proofs.lemmas.List.Folds.{list_any-append}
 use Rattle.assuan_text.specs.LineEnds.{is_lf, has_lf}
-use Rattle.assuan_line.specs.Lines.{without_cr, first_line, after_line, lines_of, rest_of}
+use Rattle.assuan_line.specs.Lines.{without_cr, first_line, after_line, pieces_of, lines_of, rest_of}
 use Rattle.assuan_line.specs.Next.{next_of}
 use Rattle.assuan_line.specs.declared.reader.Took.TheVariants.{Line, TooLong, End}
 
@@ -65,22 +65,28 @@ module _ (piece first : List ℕ) (others parts all : List (List ℕ)) (is : par
   last_of_all : length all - 1 ≡ suc (length others)
   last_of_all = omega (arith, ap (λ (l : List (List ℕ)). length l) whole, ap (λ (l : List (List ℕ)). length l) is)
 
-  all_but_last : (f : List ℕ → List ℕ) → map f (take (length all - 1) all) ≡ f piece ∷ map f (take (length parts - 1) parts)
-  all_but_last f = rw (last_of_all, last_of_parts, whole) refl
+  all_but_last : take (length all - 1) all ≡ piece ∷ take (length parts - 1) parts
+  all_but_last = rw (last_of_all, last_of_parts, whole) refl
 
   last : get_or all (length all - 1) [] ≡ get_or parts (length parts - 1) []
   last = rw (last_of_all, last_of_parts, whole) refl
 
+pub pieces_none : (bytes : List ℕ) → has_lf bytes ≡ false → pieces_of bytes ≡ []
+pieces_none bytes none = ap (λ (parts : List (List ℕ)). take (length parts - 1) parts) (split_none is_lf bytes none)
+
 pub lines_none : (bytes : List ℕ) → has_lf bytes ≡ false → lines_of bytes ≡ []
-lines_none bytes none = ap (λ (parts : List (List ℕ)). map without_cr (take (length parts - 1) parts)) (split_none is_lf bytes none)
+lines_none bytes none = ap (map without_cr) (pieces_none bytes none)
 
 pub rest_none : (bytes : List ℕ) → has_lf bytes ≡ false → rest_of bytes ≡ bytes
 rest_none bytes none = ap (λ (parts : List (List ℕ)). get_or parts (length parts - 1) []) (split_none is_lf bytes none)
 
-pub lines_some : (bytes : List ℕ) → has_lf bytes ≡ true → lines_of bytes ≡ first_line bytes ∷ lines_of (after_line bytes)
-lines_some bytes some =
+pub pieces_some : (bytes : List ℕ) → has_lf bytes ≡ true → pieces_of bytes ≡ before_first is_lf bytes ∷ pieces_of (after_line bytes)
+pieces_some bytes some =
     let h = has_part is_lf (after_line bytes) in
-    all_but_last (before_first is_lf bytes) h.first h.others _ _ h.parts (split_first is_lf bytes some) without_cr
+    all_but_last (before_first is_lf bytes) h.first h.others _ _ h.parts (split_first is_lf bytes some)
+
+pub lines_some : (bytes : List ℕ) → has_lf bytes ≡ true → lines_of bytes ≡ first_line bytes ∷ lines_of (after_line bytes)
+lines_some bytes some = ap (map without_cr) (pieces_some bytes some)
 
 pub rest_some : (bytes : List ℕ) → has_lf bytes ≡ true → rest_of bytes ≡ rest_of (after_line bytes)
 rest_some bytes some =

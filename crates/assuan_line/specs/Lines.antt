@@ -22,9 +22,13 @@ first_line bytes = without_cr (before_first is_lf bytes)
 abbrev pub after_line : List ℕ → List ℕ
 after_line bytes = after_first is_lf bytes
 
--- all lines of the bytes, in order: the pieces that end before a line feed
+-- the pieces of the bytes that end before a line feed, in order, as they stand
+abbrev pub pieces_of : List ℕ → List (List ℕ)
+pieces_of bytes = take (length (slice_split is_lf bytes) - 1) (slice_split is_lf bytes)
+
+-- all lines of the bytes, in order
 abbrev pub lines_of : List ℕ → List (List ℕ)
-lines_of bytes = map without_cr (take (length (slice_split is_lf bytes) - 1) (slice_split is_lf bytes))
+lines_of bytes = map without_cr (pieces_of bytes)
 
 -- the bytes after the last line feed, which are no line
 abbrev pub rest_of : List ℕ → List ℕ

@@ -57,11 +57,10 @@ pub found_slot : (id : List ℕ) (mode : Mode) (now : ℕ) (list : List Slot) (s
 found_slot id mode now list slot e = subst (λ (o : Option Slot). IfSome o (IsFound (serves_at id mode now) list)) e (found_is (serves_at id mode now) list)
 
 pub granted_from : (id id_copy : List ℕ) (mode : Mode) (now : ℕ) (list : List Slot) (slot : Slot) (copy : Entry) (r : Option Grant)
-    → find (serves_at id mode now) list ≡ Some slot → IsGrantOf id id_copy mode now slot copy r
+    → IsFound (serves_at id mode now) list slot → IsGrantOf id id_copy mode now slot copy r
     → IfSome r (IsGrantFrom list id mode now)
-granted_from id id_copy mode now list slot copy None e is = tt
-granted_from id id_copy mode now list slot copy (Some grant) e is =
-    let found = found_slot id mode now list slot e in
+granted_from id id_copy mode now list slot copy None found is = tt
+granted_from id id_copy mode now list slot copy (Some grant) found is =
     record {
       slot = slot;
       on = found.on;
@@ -81,9 +80,8 @@ both false b c d h f = cc
 
 -- a slot that serves a request is granted for it
 pub is_granted : (id id_copy : List ℕ) (mode : Mode) (now : ℕ) (list : List Slot) (slot : Slot) (copy : Entry) (r : Option Grant)
-    → AreWithinMode list → find (serves_at id mode now) list ≡ Some slot → IsGrantOf id id_copy mode now slot copy r → IsSome r
-is_granted id id_copy mode now list slot copy r within_mode e is =
-    let found = found_slot id mode now list slot e in
+    → AreWithinMode list → IsFound (serves_at id mode now) list slot → IsGrantOf id id_copy mode now slot copy r → IsSome r
+is_granted id id_copy mode now list slot copy r within_mode found is =
     is.granted.1 (subst (λ (x : Entry). (serves id_copy mode x && within x slot.last now) ≡ true) (sym is.same)
     (subst (λ (i : List ℕ). (serves i mode slot.entry && within slot.entry slot.last now) ≡ true) (sym is.same_id)
     (both (same_id slot.entry.id id) (holds slot.modes mode) (within slot.entry slot.last now) (covers slot.entry.mode mode) found.passes
@@ -96,3 +94,22 @@ some_is_not_none (Some grant) P some = tt
 pub none_where : (r : Option Grant) (P : Type 0) → P → IfNone r P
 none_where None P h = h
 none_where (Some grant) P h = tt
+
+-- the same of a list that has all of these slots, and no others
+pub granted_again : (list others : List Slot) (id : List ℕ) (mode : Mode) (now : ℕ) (r : Option Grant) → ((slot : Slot) → IsOneOf slot list → IsOneOf slot others)
+    → IfSome r (IsGrantFrom list id mode now) → IfSome r (IsGrantFrom others id mode now)
+granted_again list others id mode now None all is = tt
+granted_again list others id mode now (Some grant) all is = record {
+  slot = is.slot;
+  on = all is.slot is.on;
+  serves = is.serves;
+  id_is = is.id_is;
+  mode_is = is.mode_is;
+  entry = is.entry;
+  last = is.last;
+  moment_is = is.moment_is;
+}
+
+pub none_again : (r : Option Grant) (P Q : Type 0) → (P → Q) → IfNone r P → IfNone r Q
+none_again None P Q weaker h = weaker h
+none_again (Some grant) P Q weaker h = tt

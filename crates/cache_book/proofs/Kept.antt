@@ -42,7 +42,7 @@ within-touch number now slot h =
 pub within-touched : (number now : ℕ) (list : List Slot) → AreWithinMode list → AreWithinMode (touched number now list)
 within-touched number now list h = all_map IsWithinMode (touch_slot number now) (within-touch number now) list h
 
-within-hide : (entry : Entry) (slot : Slot) → IsWithinMode slot → IsWithinMode (hide entry slot)
+pub within-hide : (entry : Entry) (slot : Slot) → IsWithinMode slot → IsWithinMode (hide entry slot)
 within-hide entry slot h =
     elim (same_id entry.id slot.entry.id) as (λ b. IsWithinMode (cond b (record slot { modes = not_covered entry.mode slot.modes }) slot)) [
       | true ↦ λ mode held. h mode (second_of (not (covers entry.mode mode)) (holds slot.modes mode)
@@ -50,7 +50,7 @@ within-hide entry slot h =
       | false ↦ h
     ]
 
-within-new_slot : (entry : Entry) → IsWithinMode (new_slot entry)
+pub within-new_slot : (entry : Entry) → IsWithinMode (new_slot entry)
 within-new_slot entry mode held = sym (holds-where (covers entry.mode) mode) ∙ held
 
 pub within-with_entry : (entry : Entry) (list : List Slot) → AreWithinMode list → AreWithinMode (with_entry entry list)

@@ -9,9 +9,8 @@ use Rattle.cache_policy.specs.declared.mode.Mode.{Mode}
 use Rattle.cache_policy.specs.declared.mode.Mode.TheVariants.{Normal, User, Ssh, Nonce, Any}
 use Rattle.cache_policy.specs.declared.life.Limits.{Limits}
 use Rattle.cache_policy.specs.declared.entry.Entry.{Entry}
-use Rattle.cache_policy.specs.declared.history.History.{History}
 use Rattle.cache_policy.specs.Entry.{serves}
-use Rattle.cache_policy.specs.Histories.{next_number}
+use Rattle.cache_policy.specs.Histories.{History, next_number}
 use Rattle.cache_policy.specs.Entries.{entries, AreNumbered}
 use Rattle.cache_policy.specs.Live.{newest, last_use, is_live}
 use Rattle.cache_policy.proofs.Lists.{all_weaker, all_reverse, all_find}

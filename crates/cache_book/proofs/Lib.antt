@@ -6,3 +6,8 @@ pub mod Slotwise
 pub mod Marking
 pub mod Storing
 pub mod Live
+pub mod Arranging
+pub mod Ordered
+pub mod Stretch
+pub mod Searching
+pub mod Places

@@ -11,7 +11,7 @@ use Rattle.cache_policy.specs.declared.mode.Mode.TheVariants.{Normal, User, Ssh,
 use Rattle.cache_policy.specs.declared.life.Limits.{Limits}
 use Rattle.cache_policy.specs.declared.entry.Entry.{Entry}
 use Rattle.cache_policy.specs.declared.grant.Grant.{Grant}
-use Rattle.cache_policy.specs.declared.history.History.{History}
+use Rattle.cache_policy.specs.Histories.{History}
 use Rattle.cache_policy.specs.Mode.{covers}
 use Rattle.cache_policy.specs.Entry.{same_id, serves, within}
 use Rattle.cache_policy.specs.Entries.{entries}
@@ -49,7 +49,7 @@ slots_of limits history moment (entry ∷ later) known =
 pub all_slots_of : (limits : Limits) (history : History) (moment : ℕ) → AllByRecursion (IsSlotOf limits history moment) (slots limits history moment)
 all_slots_of limits history moment = slots_of limits history moment (entries limits history) (all_known limits history)
 
-same_ids : (id other : List ℕ) → same_id id other ≡ true → id ≡ other
+pub same_ids : (id other : List ℕ) → same_id id other ≡ true → id ≡ other
 same_ids id other h = (bytes_decides id other).0 h
 
 -- what is live is one of the entries

@@ -10,10 +10,9 @@ use Rattle.cache_policy.specs.declared.mode.Mode.TheVariants.{Normal, User, Ssh,
 use Rattle.cache_policy.specs.declared.life.Limits.{Limits}
 use Rattle.cache_policy.specs.declared.mark.Mark.{Mark}
 use Rattle.cache_policy.specs.declared.entry.Entry.{Entry}
-use Rattle.cache_policy.specs.declared.history.History.{History}
 use Rattle.cache_policy.specs.Mode.{covers}
 use Rattle.cache_policy.specs.Entry.{same_id, within_ttl, within}
-use Rattle.cache_policy.specs.Histories.{next_number, with_mark, moments}
+use Rattle.cache_policy.specs.Histories.{History, next_number, with_mark, moments}
 use Rattle.cache_policy.specs.Entries.{stored, entries}
 use Rattle.cache_policy.specs.Live.{newest_of, newest, takes_away, gone, gives, last_use, is_live}
 use Rattle.cache_policy.specs.Legal.{IsLegal}

@@ -1,3 +1,6 @@
 pub mod Modes
 pub mod Slots
 pub mod Shelves
+pub mod Arranged
+pub mod SlotOrders
+pub mod Deadlines

@@ -1,16 +1,21 @@
 //! The live entries of the cache: which of them are kept, and which request each of them still serves.
 //!
-//! [`Shelf`] is what the cache core stands on, and [`ListShelf`] the plain one that meets it.
+//! [`Shelf`] is what the cache core stands on. [`ListShelf`] is the plain one that meets it, and [`SlotShelf`] the one with its slots in order.
 #![tactic(auto)]
 
+mod boxed_slot;
 mod laws;
 mod list_shelf;
 mod modes;
+mod place;
+mod search;
 mod shelf;
 mod slot;
+mod slot_shelf;
 
 pub use laws::slots_of_a_history;
 pub use list_shelf::ListShelf;
 pub use modes::Modes;
 pub use shelf::Shelf;
 pub use slot::Slot;
+pub use slot_shelf::SlotShelf;

@@ -17,10 +17,9 @@ use Rattle.cache_policy.specs.declared.mark.MarkStep.TheVariants.{Ask, Seat, Clo
 use Rattle.cache_policy.specs.declared.mark.MarkReply.TheVariants.{Held as WhetherHeld}
 use Rattle.cache_policy.specs.declared.entry.Entry.{Entry}
 use Rattle.cache_policy.specs.declared.history.Held.{Held}
-use Rattle.cache_policy.specs.declared.history.History.{History}
 use Rattle.cache_policy.specs.Entry.{serves, within}
 use Rattle.cache_policy.specs.Lifetimes.{ttl_of, max_of, is_zero}
-use Rattle.cache_policy.specs.Histories.{next_number, start_of, with_mark, marks_after, moments}
+use Rattle.cache_policy.specs.Histories.{History, next_number, start_of, with_mark, marks_after, moments}
 use Rattle.cache_policy.specs.Entries.{entry_of, kept_under, kept, stored, entries_after, entries}
 use Rattle.cache_policy.specs.Seat.{under_of, is_open, gives_back, is_stop, last_open, unless_back, seat, stopped}
 use Rattle.cache_policy.specs.Live.{newest, takes_away, gone, gives, last_use, is_live, live}

@@ -15,9 +15,8 @@ use Rattle.cache_policy.specs.declared.mark.MarkStep.{MarkStep}
 use Rattle.cache_policy.specs.declared.mark.MarkStep.TheVariants.{Ask, Seat, Close, Put, Clear, Flush, Peek, Stop}
 use Rattle.cache_policy.specs.declared.mark.MarkReply.{MarkReply}
 use Rattle.cache_policy.specs.declared.entry.Entry.{Entry}
-use Rattle.cache_policy.specs.declared.history.History.{History}
 use Rattle.cache_policy.specs.Entry.{serves, within}
-use Rattle.cache_policy.specs.Histories.{next_number, with_mark, marks_after, moments}
+use Rattle.cache_policy.specs.Histories.{History, next_number, with_mark, marks_after, moments}
 use Rattle.cache_policy.specs.Entries.{entry_of, entries}
 use Rattle.cache_policy.specs.Live.{newest, takes_away, gone, gives, last_use, is_live, live}
 use Rattle.cache_policy.specs.Book.{Book, after_put, found, put_mark, ask_mark, is_put, is_put_or_ask, IsPut, IsPutOrAsk, IsEndless, IsBookOf, unnumbered, IsEndlessBookOf}

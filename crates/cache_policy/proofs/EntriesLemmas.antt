@@ -5,8 +5,7 @@ use Rattle.std.proofs.lemmas.List.{append-nil}
 use Rattle.cache_policy.specs.declared.life.Limits.{Limits}
 use Rattle.cache_policy.specs.declared.mark.Mark.{Mark}
 use Rattle.cache_policy.specs.declared.entry.Entry.{Entry}
-use Rattle.cache_policy.specs.declared.history.History.{History}
-use Rattle.cache_policy.specs.Histories.{start_of, with_marks, with_mark}
+use Rattle.cache_policy.specs.Histories.{History, start_of, with_marks, with_mark}
 use Rattle.cache_policy.specs.Entries.{stored, entries, entries_after}
 
 -- what one mark more stores comes last

@@ -7,7 +7,7 @@ use Rattle.agent_ports.specs.Leads.{Leads, none as stay, one}
 use Rattle.cache_policy.specs.declared.life.Limits.{Limits}
 use Rattle.cache_policy.specs.declared.mark.Mark.{Mark}
 use Rattle.cache_policy.specs.declared.mark.MarkStep.{MarkStep}
-use Rattle.cache_policy.specs.declared.history.History.{History}
+use Rattle.cache_policy.specs.Histories.{History}
 use Rattle.cache_policy.specs.Runs.{joined, Extends}
 use Rattle.cache_policy.specs.Turns.{Turn}
 use Rattle.cache_policy.specs.Desks.{AtDesk, is_of, MakesMarks, marked, refused, spent, GoesOn, GoesOnWhereKnown, IsTurn}

@@ -22,10 +22,9 @@ use Rattle.cache_policy.specs.declared.mark.MarkReply.{MarkReply}
 use Rattle.cache_policy.specs.declared.mark.MarkReply.TheVariants.{Given, Empty, Open, Done, Held as WhetherHeld, Stopping}
 use Rattle.cache_policy.specs.declared.entry.Entry.{Entry}
 use Rattle.cache_policy.specs.declared.history.Held.{Held}
-use Rattle.cache_policy.specs.declared.history.History.{History}
 use Rattle.cache_policy.specs.Entry.{serves, within}
 use Rattle.cache_policy.specs.Lifetimes.{ttl_of, max_of, is_zero}
-use Rattle.cache_policy.specs.Histories.{next_number, start_of, with_marks, with_mark, moments}
+use Rattle.cache_policy.specs.Histories.{History, next_number, start_of, with_marks, with_mark, moments}
 use Rattle.cache_policy.specs.Entries.{entry_of, kept_under, kept, stored, entries_after, entries, AreNumbered}
 use Rattle.cache_policy.specs.Seat.{is_open, under_of, gives_back, last_open, unless_back, seat, stopped}
 use Rattle.cache_policy.specs.Live.{newest, gives, last_use, is_live, live}

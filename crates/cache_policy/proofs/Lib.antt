@@ -6,6 +6,7 @@ pub mod ReturnLemmas
 pub mod OneMore
 pub mod Growing
 pub mod GrowingRuns
+pub mod OnePromptLemmas
 pub mod BareLemmas
 pub mod Extending
 pub mod Replaying

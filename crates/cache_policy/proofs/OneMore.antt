@@ -14,9 +14,8 @@ use Rattle.cache_policy.specs.declared.life.Limits.{Limits}
 use Rattle.cache_policy.specs.declared.mark.Mark.{Mark}
 use Rattle.cache_policy.specs.declared.entry.Entry.{Entry}
 use Rattle.cache_policy.specs.declared.history.Held.{Held}
-use Rattle.cache_policy.specs.declared.history.History.{History}
 use Rattle.cache_policy.specs.Entry.{serves, within}
-use Rattle.cache_policy.specs.Histories.{next_number, with_mark, marks_after, moments}
+use Rattle.cache_policy.specs.Histories.{History, next_number, with_mark, marks_after, moments}
 use Rattle.cache_policy.specs.Entries.{stored, entries}
 use Rattle.cache_policy.specs.Seat.{under_of, is_open, gives_back, is_stop, last_open, unless_back, unless_given_back, seat, stopped}
 use Rattle.cache_policy.specs.Live.{newest_of, newest, takes_away, gone, gives, last_use, is_live}

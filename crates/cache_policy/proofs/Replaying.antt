@@ -9,8 +9,7 @@ use Rattle.cache_policy.specs.declared.life.Limits.{Limits}
 use Rattle.cache_policy.specs.declared.mark.Mark.{Mark}
 use Rattle.cache_policy.specs.declared.mark.MarkReply.{MarkReply}
 use Rattle.cache_policy.specs.declared.mark.MarkStep.{MarkStep}
-use Rattle.cache_policy.specs.declared.history.History.{History}
-use Rattle.cache_policy.specs.Histories.{start_of, with_mark, moments}
+use Rattle.cache_policy.specs.Histories.{History, start_of, with_mark, moments}
 use Rattle.cache_policy.specs.Legal.{FollowsPolicy, IsLegal, IsLegalRun}
 use Rattle.cache_policy.specs.Policy.{Reply, policy}
 use Rattle.cache_policy.specs.Replay.{NoneEmpty, Replays}

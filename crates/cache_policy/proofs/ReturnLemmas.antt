@@ -15,9 +15,8 @@ use Rattle.cache_policy.specs.declared.mark.MarkStep.TheVariants.{Ask, Seat, Clo
 use Rattle.cache_policy.specs.declared.mark.MarkReply.TheVariants.{Given}
 use Rattle.cache_policy.specs.declared.entry.Entry.{Entry}
 use Rattle.cache_policy.specs.declared.history.Held.{Held}
-use Rattle.cache_policy.specs.declared.history.History.{History}
 use Rattle.cache_policy.specs.Entry.{serves, within}
-use Rattle.cache_policy.specs.Histories.{start_of, with_marks, with_mark}
+use Rattle.cache_policy.specs.Histories.{History, start_of, with_marks, with_mark}
 use Rattle.cache_policy.specs.Entries.{entries}
 use Rattle.cache_policy.specs.Seat.{seat, stopped}
 use Rattle.cache_policy.specs.Live.{newest, gone, last_use, is_live}

@@ -11,7 +11,7 @@ use Rattle.cache_policy.specs.declared.mark.MarkStep.{MarkStep}
 use Rattle.cache_policy.specs.declared.mark.MarkStep.TheVariants.{Ask, Seat, Close, Put, Clear, Flush, Peek, Stop}
 use Rattle.cache_policy.specs.declared.mark.MarkReply.{MarkReply}
 use Rattle.cache_policy.specs.declared.mark.MarkReply.TheVariants.{Given, Empty, Open, Done, Held as WhetherHeld, Stopping}
-use Rattle.cache_policy.specs.declared.history.History.{History}
+use Rattle.cache_policy.specs.Histories.{History}
 use Rattle.cache_policy.specs.Lifetimes.{default_limits}
 use Rattle.cache_policy.specs.Entries.{entries}
 use Rattle.cache_policy.specs.Seat.{seat, stopped}
@@ -19,6 +19,7 @@ use Rattle.cache_policy.specs.Policy.{Ruling, Reply, Stand, policy}
 use Rattle.cache_policy.specs.declared.bounds.TheConstants.{MAX_MARKS}
 use Rattle.cache_policy.specs.Runs.{turn_over, joined, last_base, moment_before, moment_of}
 use Rattle.cache_policy.specs.Legal.{FollowsPolicy, IsLegal, IsLegalRun}
+use Rattle.cache_policy.specs.OnePrompt.{before_close, NoneOpens, HasOnePrompt}
 
 abbrev name : List ℕ
 name = 105 ∷ 100 ∷ 49 ∷ []
@@ -195,6 +196,34 @@ legal = record {
 
 legal_run : IsLegalRun default_limits (one_close ∷ [])
 legal_run = record { turns_over = tt; each = (legal, tt); moments = legal.moments }
+
+-- one prompt: the marks before the first Close of a ticket, or all where there is none
+abbrev open_seat : Mark
+open_seat = mark (Seat None) Open 9
+
+abbrev close : ℕ → Mark
+close ticket = mark (Close ticket None) Done 9
+
+up_to_the_close : before_close 0 (close 5 ∷ ask Empty 9 ∷ close 0 ∷ open_seat ∷ close 0 ∷ []) ≡ close 5 ∷ ask Empty 9 ∷ []
+up_to_the_close = refl
+
+never_closed : before_close 0 (close 5 ∷ open_seat ∷ []) ≡ close 5 ∷ open_seat ∷ []
+never_closed = refl
+
+-- a second Open after the ticket's Close, and one before the Close, since the ticket that opened there is 131073 and not 1
+closed_between : NoneOpens (before_close 131073 (ask Empty 9 ∷ close 131073 ∷ open_seat ∷ []))
+closed_between = (refl, tt)
+
+opened_twice : HasOnePrompt (later_history []) (close 0 ∷ open_seat ∷ close 1 ∷ open_seat ∷ close 131073 ∷ []) → ⊥
+opened_twice one =
+    let none : true ≡ false = (one.opened (close 0 ∷ []) (close 1 ∷ open_seat ∷ close 131073 ∷ []) open_seat refl refl).1.0 in
+    absurd (cc)
+
+-- an Open before the Close of the ticket that was out at the start
+opened_while_held : HasOnePrompt (later_history []) (ask Empty 9 ∷ open_seat ∷ close 0 ∷ []) → ⊥
+opened_while_held one =
+    let none : true ≡ false = one.held.1.0 in
+    absurd (cc)
 
 -- an agent is spent after a whole number of histories
 spent_after_whole_histories : last_base % MAX_MARKS ≡ 0

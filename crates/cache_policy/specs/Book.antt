@@ -13,9 +13,8 @@ use Rattle.cache_policy.specs.declared.mark.MarkStep.TheVariants.{Ask, Put}
 use Rattle.cache_policy.specs.declared.mark.MarkReply.{MarkReply}
 use Rattle.cache_policy.specs.declared.mark.MarkReply.TheVariants.{Done}
 use Rattle.cache_policy.specs.declared.entry.Entry.{Entry}
-use Rattle.cache_policy.specs.declared.history.History.{History}
 use Rattle.cache_policy.specs.Entry.{within}
-use Rattle.cache_policy.specs.Histories.{next_number}
+use Rattle.cache_policy.specs.Histories.{History, next_number}
 use Rattle.cache_policy.specs.Entries.{entry_of, entries}
 use Rattle.cache_policy.specs.Live.{newest_of}
 

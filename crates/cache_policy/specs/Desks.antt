@@ -7,8 +7,7 @@ use Rattle.cache_policy.specs.declared.life.Limits.{Limits}
 use Rattle.cache_policy.specs.declared.mark.Mark.{Mark}
 use Rattle.cache_policy.specs.declared.mark.MarkStep.{MarkStep}
 use Rattle.cache_policy.specs.declared.mark.MarkReply.TheVariants as answer
-use Rattle.cache_policy.specs.declared.history.History.{History}
-use Rattle.cache_policy.specs.Histories.{next_number, with_mark}
+use Rattle.cache_policy.specs.Histories.{History, next_number, with_mark}
 use Rattle.cache_policy.specs.Live.{last_use, live}
 use Rattle.cache_policy.specs.Runs.{last_base, joined, start_of_run, last_history}
 use Rattle.cache_policy.specs.Legal.{IsLegalRun}

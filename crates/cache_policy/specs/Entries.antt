@@ -12,9 +12,8 @@ use Rattle.cache_policy.specs.declared.mark.MarkStep.{MarkStep}
 use Rattle.cache_policy.specs.declared.mark.MarkStep.TheVariants.{Put, Close}
 use Rattle.cache_policy.specs.declared.entry.Entry.{Entry}
 use Rattle.cache_policy.specs.declared.history.Held.{Held}
-use Rattle.cache_policy.specs.declared.history.History.{History}
 use Rattle.cache_policy.specs.Lifetimes.{ttl_of, max_of, is_zero}
-use Rattle.cache_policy.specs.Histories.{next_number, start_of, with_mark}
+use Rattle.cache_policy.specs.Histories.{History, next_number, start_of, with_mark}
 use Rattle.cache_policy.specs.Seat.{seat}
 
 -- the entry of a passphrase that is stored; none where the effective ttl is 0

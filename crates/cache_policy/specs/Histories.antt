@@ -1,8 +1,22 @@
 -- Histories: the marks that an agent made since it last began with an empty cache, with the number of the first, which
 -- ticket was out by then and whether it had stopped. All of this is the project's own.
-use Rattle.std.specs.Prelude.{ℕ, ◌+◌, ◌-◌, List, [], ◌∷◌, ◌++◌, length, drop, map}
+use Rattle.std.specs.Prelude.{ℕ, ◌+◌, ◌-◌, Bool, List, [], ◌∷◌, ◌++◌, length, drop, map, Option}
 use Rattle.cache_policy.specs.declared.mark.Mark.{Mark}
-use Rattle.cache_policy.specs.declared.history.History.{History}
+use Rattle.cache_policy.specs.declared.history.Held.{Held}
+use Rattle.cache_policy.specs.declared.history.History.{History as HistoryInMemory}
+
+pub record History : Type 0 where
+  pub base : ℕ
+  pub held : Option Held
+  pub stopped : Bool
+  pub marks : List Mark
+
+-- the history that a value of the program is, and the run that some of them are
+abbrev pub history_of : HistoryInMemory → History
+history_of value = record { base = value.base; held = value.held; stopped = value.stopped; marks = value.marks.0.items }
+
+abbrev pub run_of : List HistoryInMemory → List History
+run_of values = map history_of values
 
 -- the number of a mark is the base plus its place: the number of the next one
 abbrev pub next_number : History → ℕ

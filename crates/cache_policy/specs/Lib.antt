@@ -10,6 +10,7 @@ pub mod Runs
 pub mod Legal
 pub mod Book
 pub mod Return
+pub mod OnePrompt
 pub mod Bare
 pub mod Turns
 pub mod Desks

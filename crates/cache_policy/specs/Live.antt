@@ -11,10 +11,9 @@ use Rattle.cache_policy.specs.declared.mark.MarkStep.TheVariants.{Clear, Flush}
 use Rattle.cache_policy.specs.declared.mark.MarkReply.{MarkReply}
 use Rattle.cache_policy.specs.declared.mark.MarkReply.TheVariants.{Given}
 use Rattle.cache_policy.specs.declared.entry.Entry.{Entry}
-use Rattle.cache_policy.specs.declared.history.History.{History}
 use Rattle.cache_policy.specs.Mode.{covers}
 use Rattle.cache_policy.specs.Entry.{same_id, serves, within}
-use Rattle.cache_policy.specs.Histories.{marks_after, moments}
+use Rattle.cache_policy.specs.Histories.{History, marks_after, moments}
 use Rattle.cache_policy.specs.Entries.{entries}
 
 -- the last of the entries that serve a request

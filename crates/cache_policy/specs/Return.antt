@@ -7,7 +7,7 @@ use Rattle.cache_policy.specs.declared.mark.Way.{Way}
 use Rattle.cache_policy.specs.declared.mark.Mark.{Mark}
 use Rattle.cache_policy.specs.declared.mark.MarkStep.TheVariants.{Ask}
 use Rattle.cache_policy.specs.declared.entry.Entry.{Entry}
-use Rattle.cache_policy.specs.declared.history.History.{History}
+use Rattle.cache_policy.specs.Histories.{History}
 use Rattle.cache_policy.specs.Entry.{serves, within}
 use Rattle.cache_policy.specs.Entries.{entries}
 use Rattle.cache_policy.specs.Live.{gone, last_use}

@@ -3,8 +3,7 @@ use Rattle.std.specs.Prelude.{◌≡◌, ℕ, ◌+◌, ◌^◌, ◌==◌, if◌t
 use Rattle.std.specs.List.{flat_map}
 use Rattle.cache_policy.specs.declared.bounds.TheConstants.{MAX_MARKS, MAX_MOMENT}
 use Rattle.cache_policy.specs.declared.mark.Mark.{Mark}
-use Rattle.cache_policy.specs.declared.history.History.{History}
-use Rattle.cache_policy.specs.Histories.{start_of, with_mark}
+use Rattle.cache_policy.specs.Histories.{History, start_of, with_mark}
 use Rattle.cache_policy.specs.Seat.{seat, stopped}
 
 -- the history that a full one is followed by: the base raised, the same ticket out, stopped likewise, and no marks

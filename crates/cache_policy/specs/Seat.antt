@@ -9,7 +9,7 @@ use Rattle.cache_policy.specs.declared.mark.MarkStep.TheVariants.{Ask, Seat, Clo
 use Rattle.cache_policy.specs.declared.mark.MarkReply.{MarkReply}
 use Rattle.cache_policy.specs.declared.mark.MarkReply.TheVariants.{Open}
 use Rattle.cache_policy.specs.declared.history.Held.{Held}
-use Rattle.cache_policy.specs.declared.history.History.{History}
+use Rattle.cache_policy.specs.Histories.{History}
 
 -- what a ticket that this step opens is kept under: an Ask names its id and mode, a Seat its own
 abbrev pub under_of : MarkStep → Option Under

@@ -7,9 +7,8 @@ ghost use Rattle.cache_policy.specs.declared.mark.Mark.{Mark};
 ghost use Rattle.cache_policy.specs.declared.mark.MarkStep.{MarkStep};
 ghost use Rattle.cache_policy.specs.declared.mark.MarkReply.TheVariants.{Given};
 ghost use Rattle.cache_policy.specs.declared.entry.Entry.{Entry};
-ghost use Rattle.cache_policy.specs.declared.history.History.{History};
 ghost use Rattle.cache_policy.specs.Entry.{within};
-ghost use Rattle.cache_policy.specs.Histories.{next_number, with_mark};
+ghost use Rattle.cache_policy.specs.Histories.{History, next_number, with_mark};
 ghost use Rattle.cache_policy.specs.Entries.{stored, entries, AreNumbered};
 ghost use Rattle.cache_policy.specs.Seat.{under_of, is_open, is_stop, unless_given_back, seat, stopped};
 ghost use Rattle.cache_policy.specs.Live.{newest_of, newest, takes_away, gone, gives, last_use, is_live, live};
@@ -17,6 +16,7 @@ ghost use Rattle.cache_policy.specs.Policy.{Reply, policy};
 ghost use Rattle.cache_policy.specs.Runs.{last_base, is_spent, turn_over, next_history, IsRun, joined, start_of_run, moment_before, last_history, run_with_mark};
 ghost use Rattle.cache_policy.specs.Legal.{IsLegal, IsLegalRun};
 ghost use Rattle.cache_policy.specs.Return.{IsGivenRightly};
+ghost use Rattle.cache_policy.specs.OnePrompt.{HasOnePrompt};
 ghost use Rattle.cache_policy.specs.Bare.{bare_step, bare, bare_entry};
 ghost use Rattle.agent_ports.specs.Leads.{Leads};
 ghost use Rattle.agent_ports.specs.declared.session.SessionId.{SessionId as Session};
@@ -31,6 +31,16 @@ pub fn nothing_comes_back()
     ensures { (limits : Limits) (history : History) (before later : List Mark) (mark : Mark) (number : ℕ)
         → IsLegal limits history → history.marks ≡ before ++ mark ∷ later → mark.reply ≡ Given number
         → IsGivenRightly limits (record history { marks = before }) mark number }
+{}
+
+/// One prompt. In a legal run no Open stands between an Open and the Close of its ticket, also where the history turned over in between;
+/// and none stands before the Close of a ticket that was out when the run began.
+pub fn one_prompt()
+    ensures alone { (limits : Limits) (run : List History) (start : History) → IsLegalRun limits run → start_of_run run ≡ Some start
+        → HasOnePrompt start (joined run) }
+    // So a mark's number, which is its history's base plus its place there, is the first base plus its place among all marks of the run.
+    ensures numbers { (run front back : List History) (start history : History) → IsRun run → start_of_run run ≡ Some start
+        → run ≡ front ++ history ∷ back → history.base ≡ start.base + length (joined front) }
 {}
 
 /// What one mark more makes of a history: of its seat, of whether it has stopped, and of which entries are gone, used, newest and

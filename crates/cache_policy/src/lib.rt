@@ -28,7 +28,7 @@ pub use history::{Held, History, Marks};
 pub use id::{CacheId, MAX_ID_LEN};
 pub use laws::{
     a_history_turns_over, a_replay_is_the_only_one, a_run_goes_on, no_secret_is_read,
-    nothing_comes_back, one_more_mark, turns_extend_a_run,
+    nothing_comes_back, one_more_mark, one_prompt, turns_extend_a_run,
 };
 pub use life::{Life, Limits, MAX_SECONDS};
 pub use list_book::{ListBook, NoMemory};

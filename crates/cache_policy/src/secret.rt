@@ -1,4 +1,4 @@
-ghost use Rattle.std.specs.Prelude.{◌≡◌, ◌≤◌, ◌↔◌, length, IsSome, IfSome};
+ghost use Rattle.std.specs.Prelude.{◌≡◌, ◌≤◌, ◌↔◌, [], length, IsSome, IfSome};
 
 use std::marker::Model;
 use wiping::Wiped;
@@ -42,6 +42,13 @@ impl Secret {
         ensures within { length self.now ≤ MAX_SECRET_LEN }
     {
         self.bytes.bytes()
+    }
+
+    /// Overwrites the bytes where they lie, which a drop doesn't: it is given its value by a move.
+    pub fn clear(&mut self)
+        ensures { self.new ≡ [] }
+    {
+        self.bytes.clear();
     }
 
     /// The same passphrase once more, without taking memory. Each copy is overwritten when it is dropped.

@@ -1,8 +1,7 @@
 ghost use Rattle.std.specs.Prelude.{◌≡◌, ◌≤◌, ◌+◌, ◌^◌, ℕ, length, false};
-ghost use Rattle.cache_policy.specs.declared.history.History.{History};
 ghost use Rattle.cache_policy.specs.declared.mark.Mark.{Mark};
 ghost use Rattle.cache_policy.specs.Entries.{stored};
-ghost use Rattle.cache_policy.specs.Histories.{with_mark};
+ghost use Rattle.cache_policy.specs.Histories.{History, with_mark};
 ghost use Rattle.cache_policy.specs.Runs.{turn_over};
 ghost use Rattle.cache_policy.specs.Seat.{seat, stopped};
 ghost use Rattle.cache_policy.specs.Tallies.{with_history, with_one, one_if, nothing_yet, IsSound};

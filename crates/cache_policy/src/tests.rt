@@ -28,5 +28,6 @@ fn a_step_gives_its_ticket_back(rt: HostRuntime) -> Result<(), Fail> {
     a_replay_is_the_only_one();
     no_secret_is_read();
     nothing_comes_back();
+    one_prompt();
     Ok(())
 }

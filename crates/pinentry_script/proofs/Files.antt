@@ -1,64 +1,55 @@
 -- Lines of a file, and what they stand for.
-use Rattle.std.proofs.Common.{◌≡◌, ◌+◌, ◌-◌, ◌&&◌, ◌==◌, ℕ, Bool, true, false, cond, slice_index, List, [], ◌∷◌, length, take, drop, Some, None, refl, ap, sym, ◌∙◌, arith}
-use Rattle.std.specs.List.{position, list_all}
+use Rattle.std.proofs.Common.{◌≡◌, ◌+◌, ◌-◌, ◌&&◌, ◌==◌, ℕ, true, false, List, [], ◌∷◌, length, take, drop, Some, None, refl, ap, sym, ◌∙◌, arith}
+use Rattle.std.specs.List.{position, list_all, before_first}
 use Rattle.std.specs.Option.{is_some, option_map_or}
 use Rattle.std.proofs.Math.Bool.{and_assoc}
 use Rattle.std.proofs.lemmas.Bool.{or_parts}
 use Rattle.std.proofs.lemmas.List.{take-append-drop, length-drop, take_all}
 use Rattle.std.proofs.lemmas.List.Folds.{list_any-append}
 use Rattle.assuan_text.specs.LineEnds.{is_lf, has_lf}
-use Rattle.assuan_line.specs.Lines.{without_cr, first_line, after_line, lines_of, rest_of}
-use Rattle.assuan_line.proofs.Parts.{lines_none, rest_none, lines_some, rest_some}
+use Rattle.assuan_line.specs.Lines.{after_line, pieces_of, rest_of}
+use Rattle.assuan_line.proofs.Parts.{pieces_none, rest_none, pieces_some, rest_some}
 use Rattle.assuan_line.proofs.Places.{none_there, some_there, none_before}
 use Rattle.pinentry_script.specs.Entries.{Entry, entry_of, is_script, entries_of}
 use Rattle.pinentry_script.specs.Writing.{IsShortText}
 
--- no part has a line feed
-parts_whole : (n : ℕ) (bytes : List ℕ) → has_lf bytes ≡ false → (has_lf (take n bytes) ≡ false) × (has_lf (drop n bytes) ≡ false)
-parts_whole n bytes none =
-    or_parts (has_lf (take n bytes)) (has_lf (drop n bytes))
-    (sym (list_any-append is_lf (take n bytes) (drop n bytes)) ∙ ap has_lf (take-append-drop n bytes) ∙ none)
-
-pub take_whole : (n : ℕ) (bytes : List ℕ) → has_lf bytes ≡ false → has_lf (take n bytes) ≡ false
-take_whole n bytes none = (parts_whole n bytes none).0
+-- what is behind some bytes has no line feed either
+drop_whole : (n : ℕ) (bytes : List ℕ) → has_lf bytes ≡ false → has_lf (drop n bytes) ≡ false
+drop_whole n bytes none =
+    (or_parts (has_lf (take n bytes)) (has_lf (drop n bytes))
+    (sym (list_any-append is_lf (take n bytes) (drop n bytes)) ∙ ap has_lf (take-append-drop n bytes) ∙ none)).1
 
 pub drop_short : (n : ℕ) (bytes : List ℕ) → IsShortText bytes → IsShortText (drop n bytes)
-drop_short n bytes text = record { short = omega (arith, text.short, length-drop n bytes); whole = (parts_whole n bytes text.whole).1 }
-
-pub without_cr_whole : (line : List ℕ) → has_lf line ≡ false → has_lf (without_cr line) ≡ false
-without_cr_whole line none = either (slice_index line (length line - 1) == 13) where
-  either : (b : Bool) → has_lf (cond b (take (length line - 1) line) line) ≡ false
-  either true = take_whole (length line - 1) line none
-  either false = none
+drop_short n bytes text = record { short = omega (arith, text.short, length-drop n bytes); whole = drop_whole n bytes text.whole }
 
 -- a file with a line feed is its first line, and what comes behind it
-pub script_line : (file : List ℕ) → has_lf file ≡ true → is_script file ≡ (is_some (entry_of (first_line file)) && is_script (after_line file))
+pub script_line : (file : List ℕ) → has_lf file ≡ true → is_script file ≡ (is_some (entry_of (before_first is_lf file)) && is_script (after_line file))
 script_line file some =
-    rw (lines_some file some, rest_some file some)
-    (and_assoc (is_some (entry_of (first_line file))) (list_all (λ line. is_some (entry_of line)) (lines_of (after_line file))) (length (rest_of (after_line file)) == 0))
+    rw (pieces_some file some, rest_some file some)
+    (and_assoc (is_some (entry_of (before_first is_lf file))) (list_all (λ line. is_some (entry_of line)) (pieces_of (after_line file))) (length (rest_of (after_line file)) == 0))
 
 pub script_end : (file : List ℕ) → has_lf file ≡ false → is_script file ≡ (length file == 0)
-script_end file none = rw (lines_none file none, rest_none file none) refl
+script_end file none = rw (pieces_none file none, rest_none file none) refl
 
 pub entries_line : (file : List ℕ) → has_lf file ≡ true
-    → entries_of (lines_of file) ≡ option_map_or (λ (entry : Entry). entry ∷ entries_of (lines_of (after_line file))) (entry_of (first_line file)) (entries_of (lines_of (after_line file)))
-entries_line file some = ap entries_of (lines_some file some)
+    → entries_of (pieces_of file) ≡ option_map_or (λ (entry : Entry). entry ∷ entries_of (pieces_of (after_line file))) (entry_of (before_first is_lf file)) (entries_of (pieces_of (after_line file)))
+entries_line file some = ap entries_of (pieces_some file some)
 
-pub entries_end : (file : List ℕ) → has_lf file ≡ false → entries_of (lines_of file) ≡ []
-entries_end file none = ap entries_of (lines_none file none)
+pub entries_end : (file : List ℕ) → has_lf file ≡ false → entries_of (pieces_of file) ≡ []
+entries_end file none = ap entries_of (pieces_none file none)
 
 -- what the first line feed tells
 pub no_line_feed : (bytes : List ℕ) → position is_lf bytes ≡ None → has_lf bytes ≡ false
 no_line_feed = none_there is_lf
 
 pub split_there : (bytes : List ℕ) (end : ℕ) → position is_lf bytes ≡ Some end
-    → (has_lf bytes ≡ true) × (without_cr (take end bytes) ≡ first_line bytes) × (drop (end + 1) bytes ≡ after_line bytes) × (has_lf (without_cr (take end bytes)) ≡ false)
+    → (has_lf bytes ≡ true) × (take end bytes ≡ before_first is_lf bytes) × (drop (end + 1) bytes ≡ after_line bytes) × (has_lf (take end bytes) ≡ false)
 split_there bytes end is =
     let there = some_there is_lf bytes end is in (
       there.0,
-      ap (λ (n : ℕ). without_cr (take n bytes)) (sym there.1),
+      ap (λ (n : ℕ). take n bytes) (sym there.1),
       ap (λ (n : ℕ). drop (n + 1) bytes) (sym there.1),
-      without_cr_whole (take end bytes) (ap (λ (n : ℕ). has_lf (take n bytes)) (sym there.1) ∙ none_before is_lf bytes),
+      ap (λ (n : ℕ). has_lf (take n bytes)) (sym there.1) ∙ none_before is_lf bytes,
     )
 
 -- the text behind a word and a blank

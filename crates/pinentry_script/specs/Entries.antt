@@ -1,10 +1,11 @@
--- The file of a script: what each of its lines stands for. This is the project's own.
+-- The file of a script: what each of its lines stands for. All bytes before a line feed are the line's, a carriage return too. This is the
+-- project's own.
 use Rattle.std.specs.Prelude.{ℕ, ◌==◌, ◌&&◌, ◌||◌, not, nat_le, Bool, List, [], ◌∷◌, length, take, drop, slice_index, codes, Option, Some, None, if◌then◌else◌}
 use Rattle.std.specs.List.{list_all}
 use Rattle.std.specs.Option.{is_some, option_map, option_map_or}
 use Rattle.std.specs.Str.{bytes_eq}
 use Rattle.std.specs.Char.{is_ascii_digit}
-use Rattle.assuan_line.specs.Lines.{lines_of, rest_of}
+use Rattle.assuan_line.specs.Lines.{pieces_of, rest_of}
 use Rattle.assuan_text.specs.Rows.{found}
 use Rattle.pinentry_script.specs.declared.entries.TheConstants.{MAX_ENTRY_LEN}
 use Rattle.pinentry_script.specs.declared.response.Phrase.{Phrase}
@@ -24,10 +25,10 @@ pub data Entry : Type 0 where
   phrase : Phrase → Entry
 
 abbrev pub behind_blank : List ℕ → Option (List ℕ)
-behind_blank [] = Some []
+behind_blank [] = None
 behind_blank (byte ∷ text) = if byte == 32 then Some text else None
 
--- the text behind a word that the line begins with, and one blank; the blank may be missing where there is no text
+-- the text behind a word that the line begins with, and one blank
 abbrev pub text_behind : List ℕ → List ℕ → Option (List ℕ)
 text_behind word line = if bytes_eq (take (length word) line) word then behind_blank (drop (length word) line) else None
 
@@ -58,7 +59,7 @@ entry_of line = if nat_le (length line) MAX_ENTRY_LEN then entry_in line else No
 
 -- the file is lines that each stand for something, and nothing behind the last line feed
 abbrev pub is_script : List ℕ → Bool
-is_script file = list_all (λ line. is_some (entry_of line)) (lines_of file) && length (rest_of file) == 0
+is_script file = list_all (λ line. is_some (entry_of line)) (pieces_of file) && length (rest_of file) == 0
 
 -- what these lines stand for
 abbrev pub entries_of : List (List ℕ) → List Entry
@@ -90,4 +91,4 @@ entry_seen (code.Phrase what) = phrase what
 
 -- the answers in a part of the file
 abbrev pub answers_in : List ℕ → List Entry
-answers_in file = answers_of (entries_of (lines_of file))
+answers_in file = answers_of (entries_of (pieces_of file))

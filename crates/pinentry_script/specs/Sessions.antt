@@ -1,11 +1,12 @@
 -- A session of a scripted pinentry, from its file and the bytes that it reads to the bytes that it writes. How it ends is this
 -- project's own.
-use Rattle.std.specs.Prelude.{◌≡◌, ◌≢◌, ◌≤◌, ◌<◌, ◌+◌, ℕ, List, [], ◌∷◌, ◌++◌, length}
+use Rattle.std.specs.Prelude.{◌≡◌, ◌≢◌, ◌≤◌, ◌<◌, ◌+◌, ◌⊎◌, ℕ, List, [], ◌∷◌, ◌++◌, length}
 use Rattle.std.specs.List.{flat_map, fold}
 use Rattle.agent_ports.specs.Counts.{Rose}
 use Rattle.agent_ports.specs.Sides.{Side, with_bytes, WhereKnown}
-use Rattle.assuan_line.specs.Lines.{after_line, lines_of}
+use Rattle.assuan_line.specs.Lines.{after_line, pieces_of}
 use Rattle.assuan_line.specs.Next.{next_of, IsCutShort, IsTooLong}
+use Rattle.assuan_line.specs.Reading.{WereNeededBy}
 use Rattle.assuan_line.specs.declared.reader.Took.TheVariants as took
 use Rattle.assuan_text.specs.LineEnds.{line_of}
 use Rattle.pinentry_script.specs.declared.end.TheConstants.{BUDGET}
@@ -35,27 +36,36 @@ after_one number session line = with_turn session.said (turn_of number session.s
 -- the session that this file makes of these lines
 abbrev pub session_of : List ℕ → List (List ℕ) → Session
 session_of file lines =
-    fold (after_one (pid_of (entries_of (lines_of file))))
-    (record { said = phrase_text Greeting ∷ []; stage = Request; answers = answers_of (entries_of (lines_of file)) }) lines
+    fold (after_one (pid_of (entries_of (pieces_of file))))
+    (record { said = phrase_text Greeting ∷ []; stage = Request; answers = answers_of (entries_of (pieces_of file)) }) lines
 
 -- these lines, each with its end
 abbrev pub text_of : List (List ℕ) → List ℕ
 text_of lines = flat_map line_of lines
 
--- the first lines of the bytes, one after another, and the bytes from there on
-pub data AreLines (bytes : List ℕ) : List (List ℕ) → List ℕ → Type 0 where
-  none : AreLines bytes [] bytes
-  more : {lines : List (List ℕ)} {later line : List ℕ} → AreLines bytes lines later → next_of later ≡ took.Line line
-      → AreLines bytes (lines ++ line ∷ []) (after_line later)
+-- A read takes nothing, or the bytes that it needs, and of its last piece at most so many more: what was there before that piece told nothing.
+abbrev pub TakesNeeded : List ℕ → List ℕ → List ℕ → Type 0
+TakesNeeded ahead rest left = (rest ≡ left) ⊎ WereNeededBy (λ bytes. next_of bytes ≡ took.End) ahead rest left
 
--- Why a session ended, where `later` are the bytes behind its lines, the source holds `left` of them, and held `total` at first.
-abbrev pub Leaves : ℕ → ScriptEnd → List ℕ → List ℕ → Type 0
-Leaves total Bye later left = (ahead : List ℕ) × (later ≡ ahead ++ left) × (total ≤ BUDGET + length left)
-Leaves total WriteFault later left = (ahead : List ℕ) × (later ≡ ahead ++ left) × (total ≤ BUDGET + length left)
-Leaves total Ended later left = (next_of later ≡ took.End) × (left ≡ []) × (total < BUDGET + length left)
-Leaves total TooLong later left = IsTooLong [] later left × (total ≤ BUDGET + length left)
-Leaves total Spent later left = IsCutShort [] later left × (total ≡ BUDGET + length left)
-Leaves total ReadFault later left = IsCutShort [] later left × (total < BUDGET + length left)
+-- The first lines of the bytes were read, one after another. Of the bytes behind them `ahead` were taken, and the source holds those behind.
+pub data ReadsLines (bytes : List ℕ) : List (List ℕ) → List ℕ → List ℕ → Type 0 where
+  none : ReadsLines bytes [] [] bytes
+  more : {lines : List (List ℕ)} {ahead rest line later left : List ℕ} → ReadsLines bytes lines ahead rest → next_of (ahead ++ rest) ≡ took.Line line
+      → TakesNeeded ahead rest left → later ++ left ≡ after_line (ahead ++ rest) → ReadsLines bytes (lines ++ line ∷ []) later left
+
+-- Why a session ended. Behind its lines `ahead` were taken, and the source held `rest`; it holds `left` at the end, and held `total` bytes at first.
+abbrev pub Leaves : ℕ → ScriptEnd → List ℕ → List ℕ → List ℕ → Type 0
+Leaves total Bye ahead rest left = (rest ≡ left) × (total ≤ BUDGET + length left)
+Leaves total WriteFault ahead rest left = (rest ≡ left) × (total ≤ BUDGET + length left)
+Leaves total Ended ahead rest left = (next_of (ahead ++ rest) ≡ took.End) × (left ≡ []) × (total < BUDGET + length left)
+Leaves total TooLong ahead rest left = IsTooLong [] (ahead ++ rest) left × TakesNeeded ahead rest left × (total ≤ BUDGET + length left)
+Leaves total Spent ahead rest left = IsCutShort [] (ahead ++ rest) left × (total ≡ BUDGET + length left)
+Leaves total ReadFault ahead rest left = IsCutShort [] (ahead ++ rest) left × (total < BUDGET + length left)
+
+-- the last of the lines closes the session
+pub data IsClosedBy (file : List ℕ) : List (List ℕ) → Type 0 where
+  last_line : (lines : List (List ℕ)) (line : List ℕ) → (session_of file lines).stage ≢ Closed → (session_of file (lines ++ line ∷ [])).stage ≡ Closed
+      → IsClosedBy file (lines ++ line ∷ [])
 
 -- what went of the session's text where a write failed: the last that it says, in answer to its last line or as its greeting, was cut
 pub data IsCut (file : List ℕ) : List (List ℕ) → List ℕ → Type 0 where
@@ -66,7 +76,7 @@ pub data IsCut (file : List ℕ) : List (List ℕ) → List ℕ → Type 0 where
 
 -- what was written of the session's text
 abbrev pub Writes : List ℕ → List (List ℕ) → ScriptEnd → List ℕ → Type 0
-Writes file lines Bye sent = (sent ≡ text_of (session_of file lines).said) × ((session_of file lines).stage ≡ Closed)
+Writes file lines Bye sent = (sent ≡ text_of (session_of file lines).said) × IsClosedBy file lines
 Writes file lines WriteFault sent = IsCut file lines sent
 Writes file lines Ended sent = (sent ≡ text_of (session_of file lines).said) × ((session_of file lines).stage ≢ Closed)
 Writes file lines TooLong sent = (sent ≡ text_of (session_of file lines).said) × ((session_of file lines).stage ≢ Closed)
@@ -79,7 +89,8 @@ pub record RunsSession (file : List ℕ) (input output : Side) (end : ScriptEnd)
   pub sent : List ℕ
   pub writes : Writes file lines end sent
   pub written : output_after.bytes ≡ with_bytes output.bytes sent
-  pub read : WhereKnown input.bytes input_after.bytes (λ bytes left. (later : List ℕ) × AreLines bytes lines later × Leaves (length bytes) end later left)
+  pub read : WhereKnown input.bytes input_after.bytes
+      (λ bytes left. (ahead : List ℕ) × (rest : List ℕ) × ReadsLines bytes lines ahead rest × Leaves (length bytes) end ahead rest left)
   -- a fault is given only where its count has risen
   pub read_fault : end ≡ ReadFault → Rose input.faults input_after.faults
   pub write_fault : end ≡ WriteFault → Rose output.faults output_after.faults

@@ -1,11 +1,10 @@
 ghost use Rattle.std.specs.Prelude.{◌≡◌, ◌<◌, ◌∷◌, [], true, false, length, MatchOption, IfSome, map, drop};
 ghost use Rattle.std.specs.Option.{option_map, is_some};
-ghost use Rattle.assuan_line.specs.Lines.{first_line, after_line, without_cr};
-ghost use Rattle.std.specs.List.{position, list_all};
+ghost use Rattle.assuan_line.specs.Lines.{after_line, pieces_of};
+ghost use Rattle.std.specs.List.{position, list_all, before_first};
 ghost use Rattle.std.specs.Char.{is_ascii_digit};
 ghost use Rattle.assuan_text.specs.LineEnds.{is_lf, has_lf};
 ghost use Rattle.pinentry_script.specs.Entries.{text_behind, behind_blank, is_number, phrases, entry_in, entry_of, entry_seen, is_script, entries_of, pid_of, answers_in};
-ghost use Rattle.assuan_line.specs.Lines.{lines_of};
 ghost use Rattle.pinentry_script.specs.Writing.{IsShortText};
 ghost use Rattle.pinentry_script.specs.Parsing.{IsShortEntry};
 
@@ -53,7 +52,7 @@ pub(crate) fn is_script(file: &[u8]) -> bool
 /// The digits of the process number: those of the first line that has one, or 0.
 #[tactic(auto, using(crate::proofs::Files::entries_line, crate::proofs::Files::entries_end))]
 pub(crate) fn pid_of(file: &[u8]) -> &[u8]
-    ensures digits { result.now ≡ pid_of (entries_of (lines_of file.now)) }
+    ensures digits { result.now ≡ pid_of (entries_of (pieces_of file.now)) }
     ensures short { IsShortText result.now }
 {
     let mut rest = file;
@@ -88,27 +87,18 @@ pub(crate) fn next_answer(file: &[u8]) -> Option<(Entry<'_>, &[u8])>
 #[tactic(auto, using(crate::proofs::Files::no_line_feed, crate::proofs::Files::split_there))]
 fn next_line(file: &[u8]) -> Option<(&[u8], &[u8])>
     ensures line { MatchOption result (has_lf file.now ≡ false) (λ parts. (has_lf file.now ≡ true)
-        × (parts.0.now ≡ first_line file.now) × (parts.1.now ≡ after_line file.now)) }
+        × (parts.0.now ≡ before_first is_lf file.now) × (parts.1.now ≡ after_line file.now)) }
     ensures whole { IfSome result (λ parts. has_lf parts.0.now ≡ false) }
     ensures shorter { IfSome result (λ parts. length parts.1.now < length file.now) }
 {
     let end = line_feed(file)?;
-    Some((without_cr(&file[..end]), &file[end + 1..]))
+    Some((&file[..end], &file[end + 1..]))
 }
 
 fn line_feed(bytes: &[u8]) -> Option<usize>
     ensures { result ≡ position is_lf bytes.now }
 {
     bytes.iter().position(|byte| *byte == b'\n')
-}
-
-fn without_cr(line: &[u8]) -> &[u8]
-    ensures { result.now ≡ without_cr line.now }
-{
-    match line {
-        [front @ .., b'\r'] => front,
-        line => line,
-    }
 }
 
 /// What a line of a script stands for. `None` where it is no line of one.
@@ -147,7 +137,7 @@ fn entry_in(line: &[u8]) -> Option<Entry<'_>>
     }
 }
 
-/// The text behind a word at the front of the line and one blank, which may be missing where there is no text.
+/// The text behind a word at the front of the line and one blank.
 #[tactic(auto, using(crate::proofs::Files::drop_short))]
 fn text_behind<'a>(word: &[u8], line: &'a [u8]) -> Option<&'a [u8]>
     requires { IsShortText line.now }
@@ -155,7 +145,6 @@ fn text_behind<'a>(word: &[u8], line: &'a [u8]) -> Option<&'a [u8]>
     ensures short { IfSome result (λ text. IsShortText text.now) }
 {
     match line.strip_prefix(word)? {
-        [] => Some(&[]),
         [b' ', text @ ..] => Some(text),
         _ => None,
     }

@@ -17,7 +17,8 @@ use std::alloc::Global;
 pub const BAD_SCRIPT: u8 = 2;
 
 /// Answers as a pinentry, by the lines of a file, and gives the exit status. The lines are `pid N`, `quality TEXT`, `pin TEXT`,
-/// `cancel`, `timeout`, `yes` and `no`, of at most 900 bytes each; a text is written as it stands, escapes and all.
+/// `cancel`, `timeout`, `yes` and `no`, of at most 900 bytes each and a line feed; a text is written as it stands, escapes, a carriage
+/// return and all.
 pub fn run_script<S: Link>(alloc: Global, answers: &[u8], stdio: &mut S) -> u8
     ensures refused { is_script answers.now ≡ false → (result ≡ BAD_SCRIPT) × (stdio.new ≡ stdio.old) }
     ensures served { is_script answers.now ≡ true → (end : ScriptEnd) × (result ≡ status_of end)

@@ -2,7 +2,7 @@ ghost use Rattle.std.specs.Prelude.{◌≡◌, false, length, map};
 ghost use Rattle.std.specs.List.{before_first};
 ghost use Rattle.assuan_text.specs.Words.{words, command_of};
 ghost use Rattle.pinentry_script.specs.Entries.{answers_in, pid_of, entries_of};
-ghost use Rattle.assuan_line.specs.Lines.{lines_of};
+ghost use Rattle.assuan_line.specs.Lines.{pieces_of};
 ghost use Rattle.pinentry_script.specs.Responses.{says};
 ghost use Rattle.pinentry_script.specs.Turns.{Turn, command_named, turn_of, next_answer, without_qualities, carried_out, ends_inquiry, info};
 ghost use Rattle.pinentry_script.specs.Writing.{IsShort, IsShortText};
@@ -51,7 +51,7 @@ pub(crate) struct Session<'a> {
 
 impl<'a> Session<'a> {
     pub(crate) fn new(file: &'a [u8]) -> Self
-        ensures pid { result.pid.now ≡ pid_of (entries_of (lines_of file.now)) }
+        ensures pid { result.pid.now ≡ pid_of (entries_of (pieces_of file.now)) }
         ensures file { result.file.now ≡ file.now }
         ensures stage { result.stage ≡ Stage.Request }
         ensures short { IsShortText result.pid.now }

@@ -28,13 +28,12 @@ const ROWS: [Row; 15] = [
     (b"", b"", b"", 0),
     // Each kind of answer, and the end of the list.
     (
-        b"cancel\ntimeout\nyes\nno\npin \npin\npin %0A a\n",
-        b"GETPIN\nGETPIN\nCONFIRM\nCONFIRM\nGETPIN\nGETPIN\nGETPIN\nGETPIN\n",
+        b"cancel\ntimeout\nyes\nno\npin \npin %0A a\n",
+        b"GETPIN\nGETPIN\nCONFIRM\nCONFIRM\nGETPIN\nGETPIN\nGETPIN\n",
         b"ERR 83886179 Operation cancelled <Pinentry>\n\
           ERR 83886142 Timeout <Pinentry>\n\
           OK\n\
           ERR 83886194 Not confirmed <Pinentry>\n\
-          OK\n\
           OK\n\
           D %0A a\n\
           OK\n\
@@ -86,7 +85,13 @@ const ROWS: [Row; 15] = [
     (b"", b"bye now\nGETPIN\n", b"OK closing connection\n", 0),
     // Bytes behind the last line feed are dropped.
     (b"yes\n", b"GETPIN\nGETPIN", b"OK\n", 0),
-    (b"yes\r\n", b"GETPIN\r\n", b"OK\n", 0),
+    // A carriage return belongs to a text of the script, and to no line of the input.
+    (
+        b"pin x\r\nquality a\r\nyes\n",
+        b"GETPIN\r\nGETPIN\nEND\r\n",
+        b"D x\r\nOK\nINQUIRE QUALITY a\r\nOK\n",
+        0,
+    ),
     (b"pid 0\n", b"GETINFO pid\n", b"D 0\nOK\n", 0),
     (b"", b"X", b"", 0),
     (
@@ -125,17 +130,21 @@ fn other_lines_are_refused_before_anything_is_written(rt: HostRuntime) -> Result
     let mut too_long = Vec::from_slice(alloc, b"pin ")?;
     too_long.extend_from_slice(&[b'a'; 897])?;
     too_long.push(b'\n')?;
-    let refused: [&[u8]; 12] = [
+    let refused: [&[u8]; 16] = [
         b"foo\n",
         b"\n",
         b"Pin x\n",
         b"pinx\n",
+        b"pin\n",
+        b"quality\n",
         b"pin\tx\n",
         b"cancel \n",
         b"pid\n",
         b"pid 01\n",
         b"pid 1x\n",
         b"pid -1\n",
+        b"pid 1\r\n",
+        b"yes\r\n",
         b"yes",
         &too_long,
     ];

@@ -16,7 +16,10 @@ pub struct StdLink<R, W> {
 }
 
 impl<R: Read, W: Write> StdLink<R, W> {
-    pub fn new(reader: R, writer: W) -> Self {
+    pub fn new(reader: R, writer: W) -> Self
+        ensures input { ⟦<StdLink<R, W> as Source>⟧.input result ≡ record { bytes = None; faults = 0 } }
+        ensures output { ⟦<StdLink<R, W> as Sink>⟧.output result ≡ record { bytes = None; faults = 0 } }
+    {
         StdLink {
             reader,
             writer,
@@ -24,6 +27,14 @@ impl<R: Read, W: Write> StdLink<R, W> {
             read_faults: 0,
             write_faults: 0,
         }
+    }
+
+    /// How many reads failed, and how many writes.
+    pub fn faults(&self) -> (u64, u64)
+        ensures reads { result.0 ≡ (⟦<StdLink<R, W> as Source>⟧.input self.now).faults }
+        ensures writes { result.1 ≡ (⟦<StdLink<R, W> as Sink>⟧.output self.now).faults }
+    {
+        (self.read_faults, self.write_faults)
     }
 }
 

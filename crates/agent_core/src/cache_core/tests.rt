@@ -104,6 +104,38 @@ fn the_newest_hides_the_older(rt: HostRuntime) -> Result<(), Fail> {
 }
 
 #[test]
+fn a_use_restarts_the_ttl_and_not_the_greatest_age(rt: HostRuntime) -> Result<(), Fail> {
+    let mut core = Core::new(rt.alloc(), Limits::default());
+    put(&mut core, 0, Mode::Any, Life::Default, b"old")?;
+    for (reading, then) in [(600, "given old"), (1200, "given old"), (1801, "empty")] {
+        assert_eq!(rt;
+            name(core.step(reading, ALICE, ask(Way::Quiet)?)),
+            then,
+            "at {reading}"
+        );
+    }
+
+    let mut core = Core::new(rt.alloc(), Limits::default());
+    put(&mut core, 0, Mode::Any, Life::Default, b"old")?;
+    for use_ in 1..=14 {
+        let reading = use_ * 500;
+        assert_eq!(rt;
+            name(core.step(reading, ALICE, ask(Way::Quiet)?)),
+            "given old",
+            "at {reading}"
+        );
+    }
+    for (reading, then) in [(7200, "given old"), (7201, "empty")] {
+        assert_eq!(rt;
+            name(core.step(reading, ALICE, ask(Way::Quiet)?)),
+            then,
+            "at {reading}"
+        );
+    }
+    Ok(())
+}
+
+#[test]
 fn a_history_has_room_for_131072_marks(rt: HostRuntime) -> Result<(), Fail> {
     for (peeks, then, base) in [(131_070, "given old", 0), (131_071, "empty", MAX_MARKS)] {
         let mut core = Core::new(rt.alloc(), Limits::default());
@@ -176,5 +208,48 @@ fn a_ticket_of_another_core_frees_nothing(rt: HostRuntime) -> Result<(), Fail> {
     );
     assert_eq!(rt; name(core.step(0, BOB, Step::Stop)), "done");
     assert_eq!(rt; name(core.step(0, BOB, ask(Way::Prompt)?)), "stopping");
+    Ok(())
+}
+
+fn close(core: &mut Core, by: SessionId, ticket: Option<Ticket>, keep: Secret) -> &'static str {
+    match ticket {
+        Some(ticket) => name(core.step(
+            0,
+            by,
+            Step::Close {
+                ticket,
+                keep: Some(keep),
+            },
+        )),
+        None => "no ticket",
+    }
+}
+
+fn prompt(id: CacheId) -> Step {
+    Step::Ask {
+        id,
+        mode: Mode::User,
+        way: Way::Prompt,
+    }
+}
+
+#[test]
+fn a_ticket_is_known_by_its_number(rt: HostRuntime) -> Result<(), Fail> {
+    let mut core = Core::new(rt.alloc(), Limits::default());
+    let mut other = Core::new(rt.alloc(), Limits::default());
+    let (a, b) = (id()?, id()?);
+    let (first, second) = (secret(b"new")?, secret(b"old")?);
+    let (_, own) = shown(core.step(0, ALICE, prompt(a)));
+    let (_, same) = shown(other.step(0, BOB, prompt(b)));
+    let closed = close(&mut core, BOB, same, first);
+    let opened = name(core.step(0, BOB, Step::Seat { under: None }));
+    let late = close(&mut core, ALICE, own, second);
+    assert_eq!(rt; (closed, opened, late), ("done", "open", "done"));
+    // The first kept what was typed and freed the seat, and the second did neither.
+    assert_eq!(rt; name(core.step(0, BOB, ask(Way::Quiet)?)), "given new");
+    assert_eq!(rt;
+        name(core.step(0, BOB, Step::Seat { under: None })),
+        "stand"
+    );
     Ok(())
 }

@@ -205,7 +205,7 @@ fn seen<C: Clock>(desk: &Solo<'_, C>) -> (usize, u64) {
     let mut marks = 0usize;
     let mut moment = 0;
     for history in desk.histories() {
-        marks = marks.saturating_add(history.marks.len());
+        marks = marks.saturating_add(history.marks.as_slice().len());
         if let Some(mark) = history.marks.as_slice().last() {
             moment = mark.moment;
         }

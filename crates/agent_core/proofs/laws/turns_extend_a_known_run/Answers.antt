@@ -1,4 +1,3 @@
-use Rattle.agent_core.proofs.Alone.{replayed}
 use Rattle.agent_core.proofs.laws.turns_extend_a_known_run.Goals as goal
 
 pub returns : goal.returns

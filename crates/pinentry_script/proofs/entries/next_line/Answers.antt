@@ -8,4 +8,4 @@ returns-clause-line c =
     let file = c.args.file.now in
     let end = c.in_ok-end.end in
     let there = split_there file end (sym c.line_feed.ensures ∙ c.in_ok-end.was) in
-    (there.0, c.without_cr.ensures ∙ there.1, take_all (length file - (end + 1)) (drop (end + 1) file) (omega (arith, length-drop (end + 1) file)) ∙ there.2)
+    (there.0, there.1, take_all (length file - (end + 1)) (drop (end + 1) file) (omega (arith, length-drop (end + 1) file)) ∙ there.2)

@@ -38,4 +38,4 @@ loop-session-preserved g c =
     serving_more c.args.file.now (g.S.Source.input c.args.link.now) (g.S.Sink.output c.args.link.now) c.loop-session.session c.loop-session.reader (g.S.Source.input c.loop-session.link) (g.S.Sink.output c.loop-session.link) i
     c.next_line.result c.next_line.new.reader (g.S.Source.input c.next_line.new.link) (g.S.Sink.output c.next_line.new.link) r.read r.output
     c.in-Line.line c.in-Line.is c.turn-response.result c.turn-response.new.self turn (g.S.Source.input c.write_response-in-loop-session.new.link) (g.S.Sink.output c.write_response-in-loop-session.new.link) w.input w.faults
-    (rw c.in_default-write_response.is at w.said)
+    (search rules) (rw c.in_default-write_response.is at w.said)

@@ -2,49 +2,60 @@ use Rattle.std.specs.Prelude.{◌≡◌, ◌≢◌, ℕ, ◌+◌, List, true, Op
 use Rattle.std.proofs.Common.{ap, sym, ◌∙◌, subst, refl, rules, arith}
 use Rattle.cache_policy.specs.declared.mark.Mark.{Mark}
 use Rattle.cache_policy.specs.declared.mark.MarkStep.{MarkStep}
-use Rattle.cache_policy.specs.declared.mark.MarkReply.{MarkReply}
-use Rattle.cache_policy.specs.declared.history.History.{History}
+use Rattle.cache_policy.specs.declared.history.History.{History as HistoryInMemory}
+use Rattle.cache_policy.specs.Histories.{run_of}
 use Rattle.cache_policy.specs.declared.step.Reply.{Reply as Told}
 use Rattle.cache_policy.specs.Legal.{IsLegalRun}
 use Rattle.cache_policy.specs.Runs.{last_base, moment_of, next_history, run_with_mark}
-use Rattle.cache_policy.specs.Turns.{Turn, Stand, Refused, mark_step, closes, turn_of}
-use Rattle.agent_core.specs.Cores.{IsStep, mark_of}
-use Rattle.agent_core.specs.Known.{AtKnown, IsOut, next_moment, TakesStep, spent}
-use Rattle.agent_core.specs.Recording.{KeepsRun, needs_room, reply_of}
-use Rattle.agent_core.specs.Adding.{next_start}
+use Rattle.cache_policy.specs.Turns.{Stand, Refused, mark_step, closes, turn_of}
+use Rattle.agent_core.specs.Cores.{AtCore, IsStep, mark_of}
+use Rattle.agent_core.specs.Known.{AtKnown, IsOut, TakesStep, spent}
+use Rattle.agent_core.specs.Recording.{KeepsRun, LastHasRoom, reply_of}
 use Rattle.cache_policy.specs.declared.tally.Tally.{Tally}
 use Rattle.cache_policy.specs.declared.history.Held.{Held as Ticket}
 use Rattle.cache_policy.specs.Seat.{seat}
-use Rattle.agent_core.specs.States.{AtCore}
-use Rattle.agent_core.specs.Tallies.{counted, stores, Tallied}
-use Rattle.agent_core.proofs.Counting.{can_count, tally_stays, tally_counted, tally_is}
-use Rattle.agent_core.proofs.Knowing.{seat_next, legal_last, spent_run, going, no_room, has_next, can_add, keeps_same, keeps_refused, like_same, like_refused, records_stay, is_marked, Marks, made, HasRoomFor, records_marked, not_refused, not_stand, took_refused, Stands, took_stood, moment_is, added_later}
+use Rattle.agent_core.specs.Tallies.{stores, Tallied}
+use Rattle.agent_core.proofs.Coming.{needs_fits}
+use Rattle.agent_core.proofs.Counting.{can_count, tally_stays, tally_counted}
+use Rattle.agent_core.proofs.Knowing.{seat_next, legal_last, spent_run, going, no_room, has_next, can_add, keeps_same, like_same, records_stay, is_marked, Marks, made, HasRoomFor, records_marked, not_refused, not_stand, took_refused, Stands, took_stood, moment_is, added_later}
 use Rattle.agent_core.proofs.known_core.KnownCore.step.Goals as goal
 
 pub returns-then-spent-clause-takes : goal.returns-then-spent-clause-takes
 returns-then-spent-clause-takes c =
     let all : c.self.inside.core.base + c.self.inside.core.count ≡ last_base = search rules in
-    rw (sym c.self.view_is) (spent (spent_run c.self.inside.core c.self.inside.histories.items c.self.invariant.records.keeps all) refl)
+    rw (sym c.self.view_is) (spent (spent_run c.self.inside.core (run_of c.self.inside.histories.items) c.self.invariant.records.keeps all) refl)
 
 pub returns-then-is_err-clause-takes : goal.returns-then-is_err-clause-takes
 returns-then-is_err-clause-takes c =
-    let needs : needs_room c.self.inside.core (mark_step c.args.step) ≡ true = search rules in
+    let keeps = c.self.invariant.records.keeps in
+    let more : c.self.inside.core.base + c.self.inside.core.count ≢ last_base = search rules in
+    let needs : c.needs_room-needs.result ≡ true = search rules in
     rw (sym c.self.view_is, c.room_for.ensures.items)
-    (no_room c.self.inside.core c.self.inside.histories.items c.args.session _ (mark_step c.args.step) c.self.invariant.records.keeps needs)
+    (subst (λ (m : ℕ). TakesStep c.self.inside.core.limits (run_of c.self.inside.histories.items) c.args.session m (mark_step c.args.step) Refused (run_of c.self.inside.histories.items))
+    (moment_is c.self.inside.core (run_of c.self.inside.histories.items) c.args.reading keeps)
+    (no_room c.self.inside.core (run_of c.self.inside.histories.items) c.args.session _ (mark_step c.args.step) keeps more
+    (sym (c.needs_room-needs.ensures keeps.last (legal_last c.self.inside.core (run_of c.self.inside.histories.items) keeps) keeps.stands) ∙ needs)))
+
+pub returns-then-is_err-clause-fits : goal.returns-then-is_err-clause-fits
+returns-then-is_err-clause-fits c =
+    let keeps = c.self.invariant.records.keeps in
+    let needs : c.needs_room-needs.result ≡ true = search rules in
+    needs_fits c.self.inside.core (mark_step c.args.step) _
+    (sym (c.needs_room-needs.ensures keeps.last (legal_last c.self.inside.core (run_of c.self.inside.histories.items) keeps) keeps.stands) ∙ needs)
 
 -- what is known of the core before the step
-keeps_so : (c : goal.After-into_step) → KeepsRun c.self.inside.core c.self.inside.histories.items
+keeps_so : (c : goal.After-stood) → KeepsRun c.self.inside.core (run_of c.self.inside.histories.items)
 keeps_so c = c.self.invariant.records.keeps
 
 -- a step that has to stand
-stands_so : (c : goal.After-into_step) → Stands c.self.inside.core c.step.new.self c.self.inside.histories.items c.args.session
+stands_so : (c : goal.After-stood) → Stands c.self.inside.core c.step.new.self (run_of c.self.inside.histories.items) c.args.session
     (moment_of c.self.inside.core.moment c.args.reading) (mark_step c.args.step)
 stands_so c =
     let keeps = c.self.invariant.records.keeps in
     let step : IsStep c.self.inside.core keeps.last c.args.session (moment_of c.self.inside.core.moment c.args.reading) (mark_step c.args.step) (turn_of (Ok c.in-Ok.reply)) c.step.new.self =
-    c.in-Ok.ensures.step keeps.last (legal_last c.self.inside.core c.self.inside.histories.items keeps) keeps.stands in
+    c.in-Ok.ensures.step keeps.last (legal_last c.self.inside.core (run_of c.self.inside.histories.items) keeps) keeps.stands in
     let more : c.self.inside.core.base + c.self.inside.core.count ≢ last_base = search rules in
-    took_stood c.self.inside.core c.step.new.self c.self.inside.histories.items keeps c.args.session _ (mark_step c.args.step) more
+    took_stood c.self.inside.core c.step.new.self (run_of c.self.inside.histories.items) keeps c.args.session _ (mark_step c.args.step) more
     (subst (λ (r : Told). IsStep c.self.inside.core keeps.last c.args.session (moment_of c.self.inside.core.moment c.args.reading) (mark_step c.args.step) (turn_of (Ok r)) c.step.new.self) c.in-Stand.is step)
 
 pub invariant_of-self-in-Stand : goal.invariant_of-self-in-Stand
@@ -54,28 +65,30 @@ invariant_of-self-in-Stand c =
       records = records_stay c.self.inside.core c.step.new.self c.self.inside.histories c.room_for.new.histories c.self.inside.next c.room_for.new.next
           c.self.invariant.records c.room_for.ensures.items c.room_for.ensures.room c.room_for.ensures.kept
           (like_same c.self.inside.core c.step.new.self stands.same)
-          (keeps_same c.self.inside.core c.step.new.self c.self.inside.histories.items c.self.invariant.records.keeps stands.same);
-      tally_is = tally_stays c.self.inside.core.limits c.step.new.self.limits c.self.inside.histories.items c.room_for.new.histories.items c.self.inside.tally
-          (ap (λ (k : AtCore). k.limits) stands.same) c.room_for.ensures.items c.self.invariant.tally_is;
+          (keeps_same c.self.inside.core c.step.new.self (run_of c.self.inside.histories.items) c.self.invariant.records.keeps stands.same);
+      tally_is = tally_stays c.self.inside.core.limits c.step.new.self.limits (run_of c.self.inside.histories.items) (run_of c.room_for.new.histories.items) c.self.inside.tally
+          (ap (λ (k : AtCore). k.limits) stands.same) (ap run_of c.room_for.ensures.items) c.self.invariant.tally_is;
     }
 
-pub returns-in-Some-clause-takes : goal.returns-in-Some-clause-takes
-returns-in-Some-clause-takes c =
-    rw (sym c.self.view_is, c.room_for.ensures.items)
-    (subst (λ (m : ℕ). TakesStep c.self.inside.core.limits c.self.inside.histories.items c.args.session m (mark_step c.args.step) Stand c.self.inside.histories.items)
-    (moment_is c.self.inside.core c.self.inside.histories.items c.args.reading c.self.invariant.records.keeps) (stands_so c).takes)
+pub returns-in-Stand-clause-takes : goal.returns-in-Stand-clause-takes
+returns-in-Stand-clause-takes c =
+    rw (sym c.self.view_is, c.room_for.ensures.items, c.stood.ensures.turn)
+    (subst (λ (m : ℕ). TakesStep c.self.inside.core.limits (run_of c.self.inside.histories.items) c.args.session m (mark_step c.args.step) Stand (run_of c.self.inside.histories.items))
+    (moment_is c.self.inside.core (run_of c.self.inside.histories.items) c.args.reading c.self.invariant.records.keeps) (stands_so c).takes)
 
 -- the room that the step needs is there
-room_so : (c : goal.After-add-arg-in_default-1) → HasRoomFor c.self.inside.core c.self.inside.histories c.self.inside.next c.room_for.new.next (mark_step c.args.step)
+room_so : (c : goal.After-add-arg-in_default-1) → HasRoomFor c.self.inside.core c.self.inside.histories c.self.inside.next c.room_for.new.next
+    (moment_of c.self.inside.core.moment c.args.reading) (mark_step c.args.step)
 room_so c =
+    let keeps = c.self.invariant.records.keeps in
     let more : c.self.inside.core.base + c.self.inside.core.count ≢ last_base = search rules in
-    let room : needs_room c.self.inside.core (mark_step c.args.step) ≡ true → IsSome c.room_for.new.next = search rules in
+    let room : c.needs_room-needs.result ≡ true → IsSome c.room_for.new.next = search rules in
     record {
       records = c.self.invariant.records;
       more = more;
       own = subst (λ (k : AtKnown). IfSome (closes (mark_step c.args.step)) (IsOut k.run)) (sym c.self.view_is) c.requires.own;
       kept = c.room_for.ensures.kept;
-      room = room;
+      room = λ needs. room (c.needs_room-needs.ensures keeps.last (legal_last c.self.inside.core (run_of c.self.inside.histories.items) keeps) keeps.stands ∙ needs);
     }
 
 pub add-requires : goal.add-requires
@@ -83,60 +96,61 @@ add-requires c =
     let has = room_so c in
     rw c.start_after-start.ensures
     (can_add c.self.inside.core c.room_for.new.histories c.room_for.new.next
-    (subst (KeepsRun c.self.inside.core) (sym c.room_for.ensures.items) c.self.invariant.records.keeps) c.room_for.ensures.room
-    (has_next c.self.inside.core c.self.inside.histories c.self.inside.next c.room_for.new.next (mark_step c.args.step)
+    (subst (λ (l : List HistoryInMemory). KeepsRun c.self.inside.core (run_of l)) (sym c.room_for.ensures.items) c.self.invariant.records.keeps)
+    (subst LastHasRoom (sym c.room_for.ensures.items) c.self.invariant.records.present) c.room_for.ensures.room
+    (has_next c.self.inside.core c.self.inside.histories c.self.inside.next c.room_for.new.next (mark_step c.args.step) _
     has.records has.more has.own has.kept has.room))
 
 -- a step that makes its mark
-marks_so : (c : goal.After-add) → Marks c.self.inside.core c.step.new.self c.self.inside.histories.items c.args.session
+marks_so : (c : goal.After-add) → Marks c.self.inside.core c.step.new.self (run_of c.self.inside.histories.items) c.args.session
     (moment_of c.self.inside.core.moment c.args.reading) (mark_step c.args.step) (turn_of (Ok c.in-Ok.reply))
-    (record { session = c.args.session; step = c.mark_step_of-asked.result; reply = c.mark_reply_of.result; moment = c.moment.result })
+    c.mark_of-mark.result
 marks_so c =
     let keeps = c.self.invariant.records.keeps in
     let more : c.self.inside.core.base + c.self.inside.core.count ≢ last_base = search rules in
-    let gone = going c.self.inside.core c.self.inside.histories.items keeps more in
+    let gone = going c.self.inside.core (run_of c.self.inside.histories.items) keeps more in
     let step : IsStep c.self.inside.core keeps.last c.args.session (moment_of c.self.inside.core.moment c.args.reading) (mark_step c.args.step) (turn_of (Ok c.in-Ok.reply)) c.step.new.self =
-    c.in-Ok.ensures.step keeps.last (legal_last c.self.inside.core c.self.inside.histories.items keeps) keeps.stands in
+    c.in-Ok.ensures.step keeps.last (legal_last c.self.inside.core (run_of c.self.inside.histories.items) keeps) keeps.stands in
     let is = is_marked c.self.inside.core c.step.new.self keeps.last c.args.session _ (mark_step c.args.step) (turn_of (Ok c.in-Ok.reply))
     (not_stand c.in-Ok.reply c.in_default.not-Stand) (not_refused c.in-Ok.reply) gone step in
-    made c.self.inside.core c.step.new.self c.self.inside.histories.items keeps c.args.session (mark_step c.args.step) (turn_of (Ok c.in-Ok.reply)) _
+    made c.self.inside.core c.step.new.self (run_of c.self.inside.histories.items) keeps c.args.session (mark_step c.args.step) (turn_of (Ok c.in-Ok.reply)) _
     gone c.in-Ok.ensures.limits (omega (arith, keeps.moment)) (omega (arith, keeps.stands.moment)) is _
-    (ap (λ (s : MarkStep). mark_of c.args.session s c.mark_reply_of.result c.moment.result) c.mark_step_of-asked.ensures
-    ∙ (ap (λ (r : MarkReply). mark_of c.args.session (mark_step c.args.step) r c.moment.result) c.mark_reply_of.ensures
-    ∙ ap (mark_of c.args.session (mark_step c.args.step) (reply_of (turn_of (Ok c.in-Ok.reply)))) c.moment.ensures))
+    (c.mark_of-mark.ensures
+    ∙ ap (λ (s : MarkStep). mark_of c.args.session s (reply_of (turn_of (Ok c.in-Ok.reply))) c.step.new.self.moment) c.mark_step_of-asked.ensures)
 
 -- the run has it
-items_so : (c : goal.After-add) → c.add.new.histories.items ≡ run_with_mark c.self.inside.histories.items
-    (record { session = c.args.session; step = c.mark_step_of-asked.result; reply = c.mark_reply_of.result; moment = c.moment.result })
+items_so : (c : goal.After-add) → (run_of c.add.new.histories.items) ≡ run_with_mark (run_of c.self.inside.histories.items)
+    c.mark_of-mark.result
 items_so c =
-    added_later c.self.inside.core c.self.inside.histories.items c.room_for.new.histories.items c.add.new.histories.items c.start_after-start.result _
-    c.self.invariant.records.keeps c.start_after-start.ensures c.room_for.ensures.items c.add.ensures.items
+    added_later c.self.inside.core (run_of c.self.inside.histories.items) (run_of c.room_for.new.histories.items) (run_of c.add.new.histories.items) c.start_after-start.result _
+    c.self.invariant.records.keeps c.start_after-start.ensures (ap run_of c.room_for.ensures.items) c.add.ensures.run
 
 -- and the tally counts it
-tally_so : (c : goal.After-add) → Tallied c.step.new.self.limits c.add.new.histories.items c.counted-self-inside.result
+tally_so : (c : goal.After-add) → Tallied c.step.new.self.limits (run_of c.add.new.histories.items) c.counted-self-inside.result
 tally_so c =
     let keeps = c.self.invariant.records.keeps in
-    let now : c.stores-stores.result ≡ stores c.self.inside.core.limits (seat (next_history keeps.last)) c.mark_step_of-asked.result =
+    let mark : Mark = c.mark_of-mark.result in
+    let now : c.stores-stores.result ≡ stores c.self.inside.core.limits (seat (next_history keeps.last)) mark.step =
     c.stores-stores.ensures
-    ∙ ap (λ (h : Option Ticket). stores c.self.inside.core.limits h c.mark_step_of-asked.result) (keeps.stands.seat_is ∙ sym (seat_next keeps.last)) in
-    let mark : Mark =
-    record { session = c.args.session; step = c.mark_step_of-asked.result; reply = c.mark_reply_of.result; moment = c.moment.result } in
-    tally_stays c.self.inside.core.limits c.step.new.self.limits (run_with_mark c.self.inside.histories.items mark) c.add.new.histories.items
+    ∙ (ap (λ (h : Option Ticket). stores c.self.inside.core.limits h c.mark_step_of-asked.result) (keeps.stands.seat_is ∙ sym (seat_next keeps.last))
+    ∙ ap (λ (m : Mark). stores c.self.inside.core.limits (seat (next_history keeps.last)) m.step) (sym c.mark_of-mark.ensures)) in
+    tally_stays c.self.inside.core.limits c.step.new.self.limits (run_with_mark (run_of c.self.inside.histories.items) mark) (run_of c.add.new.histories.items)
     c.counted-self-inside.result c.in-Ok.ensures.limits (items_so c)
-    (subst (λ (t : Tally). Tallied c.self.inside.core.limits (run_with_mark c.self.inside.histories.items mark) t) (sym c.counted-self-inside.ensures)
-    (tally_counted c.self.inside.core.limits c.self.inside.histories.items keeps.last mark c.self.inside.tally c.stores-stores.result keeps.legal.turns_over
+    (subst (λ (t : Tally). Tallied c.self.inside.core.limits (run_with_mark (run_of c.self.inside.histories.items) mark) t) (sym c.counted-self-inside.ensures)
+    (tally_counted c.self.inside.core.limits (run_of c.self.inside.histories.items) keeps.last mark c.self.inside.tally c.stores-stores.result keeps.legal.turns_over
     keeps.last_is c.self.invariant.tally_is now))
 
 pub counted-self-inside-requires : goal.counted-self-inside-requires
 counted-self-inside-requires c =
     let keeps = c.self.invariant.records.keeps in
-    can_count c.self.inside.core.limits c.self.inside.histories.items keeps.last c.self.inside.tally keeps.legal keeps.last_is keeps.below
-    (legal_last c.self.inside.core c.self.inside.histories.items keeps).few c.self.invariant.tally_is
+    can_count c.self.inside.core.limits (run_of c.self.inside.histories.items) keeps.last c.self.inside.tally keeps.legal keeps.last_is keeps.below
+    (legal_last c.self.inside.core (run_of c.self.inside.histories.items) keeps).few c.self.invariant.tally_is
 
 pub invariant_of-self-in_default : goal.invariant_of-self-in_default
 invariant_of-self-in_default c =
     let more : c.self.inside.core.base + c.self.inside.core.count ≢ last_base = search rules in
-    let room : needs_room c.self.inside.core (mark_step c.args.step) ≡ true → IsSome c.room_for.new.next = search rules in
+    let room : c.needs_room-needs.result ≡ true → IsSome c.room_for.new.next = search rules in
+    let keeps = c.self.invariant.records.keeps in
     record {
       records = records_marked c.self.inside.core c.step.new.self c.self.inside.histories c.add.new.histories c.self.inside.next c.room_for.new.next c.add.new.next
           c.args.session _ (mark_step c.args.step) (turn_of (Ok c.in-Ok.reply)) _
@@ -145,8 +159,8 @@ invariant_of-self-in_default c =
             more = more;
             own = subst (λ (k : AtKnown). IfSome (closes (mark_step c.args.step)) (IsOut k.run)) (sym c.self.view_is) c.requires.own;
             kept = c.room_for.ensures.kept;
-            room = room;
-          }) c.in-Ok.ensures.fits (marks_so c) (items_so c) c.add.ensures.room
+            room = λ needs. room (c.needs_room-needs.ensures keeps.last (legal_last c.self.inside.core (run_of c.self.inside.histories.items) keeps) keeps.stands ∙ needs);
+          }) (marks_so c) (items_so c) c.add.ensures.last c.add.ensures.room
           (λ none. c.add.ensures.kept (c.start_after-start.ensures ∙ none));
       tally_is = tally_so c;
     }
@@ -154,10 +168,10 @@ invariant_of-self-in_default c =
 pub returns-in_default-clause-takes : goal.returns-in_default-clause-takes
 returns-in_default-clause-takes c =
     rw (sym c.self.view_is, items_so c)
-    (subst (λ (m : ℕ). TakesStep c.self.inside.core.limits c.self.inside.histories.items c.args.session m (mark_step c.args.step) (turn_of (Ok c.in-Ok.reply))
-    (run_with_mark c.self.inside.histories.items
-    (record { session = c.args.session; step = c.mark_step_of-asked.result; reply = c.mark_reply_of.result; moment = c.moment.result })))
-    (moment_is c.self.inside.core c.self.inside.histories.items c.args.reading c.self.invariant.records.keeps) (marks_so c).takes)
+    (subst (λ (m : ℕ). TakesStep c.self.inside.core.limits (run_of c.self.inside.histories.items) c.args.session m (mark_step c.args.step) (turn_of (Ok c.in-Ok.reply))
+    (run_with_mark (run_of c.self.inside.histories.items)
+    c.mark_of-mark.result))
+    (moment_is c.self.inside.core (run_of c.self.inside.histories.items) c.args.reading c.self.invariant.records.keeps) (marks_so c).takes)
 
 pub returns-in_default-clause-back : goal.returns-in_default-clause-back
 returns-in_default-clause-back c = not_stand c.in-Ok.reply c.in_default.not-Stand
@@ -170,8 +184,8 @@ pub returns-in-Err-clause-takes : goal.returns-in-Err-clause-takes
 returns-in-Err-clause-takes c =
     let keeps = c.self.invariant.records.keeps in
     let step : IsStep c.self.inside.core keeps.last c.args.session (moment_of c.self.inside.core.moment c.args.reading) (mark_step c.args.step) Refused c.step.new.self =
-    c.in-Err.ensures.step keeps.last (legal_last c.self.inside.core c.self.inside.histories.items keeps) keeps.stands in
+    c.in-Err.ensures.step keeps.last (legal_last c.self.inside.core (run_of c.self.inside.histories.items) keeps) keeps.stands in
     rw (sym c.self.view_is, c.room_for.ensures.items)
-    (subst (λ (m : ℕ). TakesStep c.self.inside.core.limits c.self.inside.histories.items c.args.session m (mark_step c.args.step) Refused c.self.inside.histories.items)
-    (moment_is c.self.inside.core c.self.inside.histories.items c.args.reading keeps)
-    (took_refused c.self.inside.core c.step.new.self c.self.inside.histories.items keeps c.args.session _ (mark_step c.args.step) step))
+    (subst (λ (m : ℕ). TakesStep c.self.inside.core.limits (run_of c.self.inside.histories.items) c.args.session m (mark_step c.args.step) Refused (run_of c.self.inside.histories.items))
+    (moment_is c.self.inside.core (run_of c.self.inside.histories.items) c.args.reading keeps)
+    (took_refused c.self.inside.core c.step.new.self (run_of c.self.inside.histories.items) keeps c.args.session _ (mark_step c.args.step) step))

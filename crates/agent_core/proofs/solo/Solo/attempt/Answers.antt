@@ -1,6 +1,6 @@
 use Rattle.std.specs.Prelude.{◌≡◌, Some, IfSome, Option, ℕ}
 use Rattle.std.proofs.Common.{sym, subst}
-use Rattle.cache_policy.specs.Turns.{mark_step, closes, out_after}
+use Rattle.cache_policy.specs.Turns.{mark_step, closes}
 use Rattle.agent_core.specs.Seating.{Seated}
 use Rattle.agent_core.specs.Solos.{SoloState}
 use Rattle.agent_core.specs.Stepped.{turn_of_stepped}

@@ -1,7 +1,4 @@
-use Rattle.std.specs.Prelude.{List, ◌≡◌}
-use Rattle.std.proofs.Common.{refl, sym, subst, ap, ◌∙◌}
-use Rattle.cache_policy.specs.declared.history.History.{History}
-use Rattle.agent_core.specs.declared.foreign.Foreign.{Foreign}
+use Rattle.std.proofs.Common.{sym, subst, ap, ◌∙◌}
 use Rattle.agent_core.specs.Foreigners.{AllForeign}
 use Rattle.agent_core.specs.Known.{run_seat}
 use Rattle.agent_core.specs.Seating.{free}

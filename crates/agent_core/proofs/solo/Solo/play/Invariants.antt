@@ -1,4 +1,4 @@
-use Rattle.std.specs.Prelude.{◌≡◌, List, ◌++◌}
+use Rattle.std.specs.Prelude.{◌≡◌}
 use Rattle.std.specs.List.{AllByRecursion}
 use Rattle.agent_ports.specs.Leads.{Leads}
 use Rattle.agent_core.specs.Foreigners.{IsForeign}

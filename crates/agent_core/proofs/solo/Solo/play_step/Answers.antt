@@ -1,17 +1,16 @@
-use Rattle.std.specs.Prelude.{◌≡◌, ℕ, false, Option, Some, None, IfSome}
-use Rattle.std.proofs.Common.{ap, sym, ◌∙◌, subst}
+use Rattle.std.specs.Prelude.{◌≡◌, false, Option, IfSome}
+use Rattle.std.proofs.Common.{sym, ◌∙◌, subst}
 use Rattle.cache_policy.specs.declared.life.Limits.{Limits}
 use Rattle.cache_policy.specs.Legal.{IsLegalRun}
-use Rattle.cache_policy.specs.Turns.{Turn, mark_step, closes}
+use Rattle.cache_policy.specs.Turns.{mark_step, closes}
 use Rattle.agent_core.specs.declared.holder.Holder.{Holder}
-use Rattle.agent_core.specs.Foreigners.{is_session, holder_after, opened}
-use Rattle.agent_core.specs.Known.{IsOut}
+use Rattle.agent_core.specs.Foreigners.{is_session, holder_after}
 use Rattle.agent_core.specs.Seating.{Seated}
 use Rattle.agent_core.specs.SoloInside.{lists_of}
 use Rattle.agent_core.specs.Solos.{SoloState}
 use Rattle.agent_core.specs.Stepped.{turn_of_stepped}
-use Rattle.agent_core.proofs.Seating.{SeatMoves, moves, their_seated}
-use Rattle.agent_core.proofs.Playing.{HasTicket, told_closes, their_outs, holder_opened, holder_shut, holder_foreign, plays_step, opened_nobody, none_held}
+use Rattle.agent_core.proofs.Seating.{moves, their_seated}
+use Rattle.agent_core.proofs.Playing.{told_closes, their_outs, holder_opened, holder_shut, holder_foreign, plays_step, opened_nobody, none_held}
 use Rattle.agent_core.proofs.solo.Solo.play_step.Given as given
 use Rattle.agent_core.proofs.solo.Solo.play_step.Goals as goal
 

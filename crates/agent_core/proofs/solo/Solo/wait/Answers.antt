@@ -1,12 +1,10 @@
 use Rattle.std.specs.Prelude.{◌≡◌, List, length, IfErr}
-use Rattle.std.proofs.Common.{ap, sym, ◌∙◌, subst, arith, rules}
+use Rattle.std.proofs.Common.{ap, sym, ◌∙◌, subst, arith}
 use Rattle.cache_policy.specs.declared.step.Step.{Step}
-use Rattle.cache_policy.specs.Turns.{Turn, Stand, mark_step, turn_of}
+use Rattle.cache_policy.specs.Turns.{Turn, Stand, mark_step}
 use Rattle.agent_core.specs.declared.foreign.Foreign.{Foreign}
-use Rattle.agent_core.specs.Solos.{AtSolo, seen, OwnStep, PlaysNext, ClosesHolder, Waits, again, goes, gives_back}
-use Rattle.agent_core.specs.Stepped.{turn_of_stepped}
+use Rattle.agent_core.specs.Solos.{AtSolo, seen, OwnStep, ClosesHolder, Waits, again, goes, gives_back}
 use Rattle.agent_core.proofs.Promise.{goes_next, stands_held, own_script, next_script, end_script, closed_none, closed_out, never_stands, not_stood}
-use Rattle.agent_core.proofs.solo.Solo.wait.Given as given
 use Rattle.agent_core.proofs.solo.Solo.wait.Goals as goal
 
 pub attempt-requires-clause-free : goal.attempt-requires-clause-free

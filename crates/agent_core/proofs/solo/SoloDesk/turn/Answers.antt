@@ -1,4 +1,4 @@
-use Rattle.std.specs.Prelude.{◌≡◌, ℕ, Option, Some, IfSome, IfErr}
+use Rattle.std.specs.Prelude.{◌≡◌, ℕ, Option, Some, IfSome}
 use Rattle.std.proofs.Common.{sym, ◌∙◌, subst}
 use Rattle.cache_policy.specs.declared.step.Step.{Step}
 use Rattle.cache_policy.specs.Turns.{Turn, mark_step, closes, turn_of}

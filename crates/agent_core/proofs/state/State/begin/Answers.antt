@@ -3,7 +3,7 @@ use Rattle.std.proofs.Common.{sym, subst, arith}
 use Rattle.cache_book.specs.declared.slot.Slot.{Slot}
 use Rattle.cache_policy.specs.Entry.{within}
 use Rattle.cache_book.specs.Shelves.{AreBelow}
-use Rattle.agent_core.specs.States.{held_at}
+use Rattle.agent_core.specs.Taking.{held_at}
 use Rattle.agent_core.proofs.Kept.{below-filter, below-more, room-more}
 use Rattle.agent_core.proofs.state.State.begin.Goals as goal
 

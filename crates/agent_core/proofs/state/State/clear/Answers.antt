@@ -1,7 +1,7 @@
 use Rattle.std.specs.Prelude.{◌+◌}
 use Rattle.std.proofs.Common.{sym, subst}
 use Rattle.cache_book.specs.Shelves.{AreBelow}
-use Rattle.agent_core.specs.States.{held_at}
+use Rattle.agent_core.specs.Taking.{held_at}
 use Rattle.agent_core.proofs.Kept.{below-filter, room-more, state-with_shelf}
 use Rattle.agent_core.proofs.state.State.clear.Goals as goal
 

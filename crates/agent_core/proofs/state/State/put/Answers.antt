@@ -1,6 +1,6 @@
 use Rattle.std.specs.Prelude.{◌≤◌}
 use Rattle.std.proofs.Common.{arith, rules}
-use Rattle.agent_core.specs.States.{held_at}
+use Rattle.agent_core.specs.Taking.{held_at}
 use Rattle.agent_core.proofs.Kept.{below-stored, entry-number, room-some, state-with_shelf}
 use Rattle.agent_core.proofs.state.State.put.Goals.{in-Some, in_default}
 use Rattle.agent_core.proofs.state.State.put.Goals as goal

@@ -1,5 +1,5 @@
 use Rattle.std.specs.Prelude.{◌≡◌, ◌≤◌}
-use Rattle.agent_lock.specs.Openings.{opening_step}
+use Rattle.agent_core.specs.Openings.{opening_step}
 use Rattle.agent_lock.proofs.shared_desk.SharedDeskDesk.turn.Given as goal
 
 -- only the clock was read since the start

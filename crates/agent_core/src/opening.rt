@@ -1,19 +1,20 @@
 ghost use Rattle.std.specs.Prelude.{◌≡◌, false, IfSome, IsNone};
 ghost use Rattle.cache_policy.specs.Turns.{mark_step, opens};
-ghost use Rattle.agent_lock.specs.Openings.{opening_step};
+ghost use Rattle.agent_core.specs.Openings.{opening_step};
 
+use crate::stepped::copy_under;
 use cache_policy::{CacheId, Mode, Step, Under, Way};
 
 /// A step that wants the prompt. It may have to stand, and is taken again then.
 #[derive(Drop)]
-pub(crate) enum Opening {
+pub enum Opening {
     Ask { id: CacheId, mode: Mode },
     Seat { under: Option<Under> },
 }
 
 impl Opening {
     /// The step once more, if it wants the prompt.
-    pub(crate) fn of(step: &Step) -> Option<Opening>
+    pub fn of(step: &Step) -> Option<Opening>
         ensures same { IfSome result (λ opening. opening_step opening ≡ step.now) }
         ensures none { IsNone result → opens (mark_step step.now) ≡ false }
     {
@@ -33,7 +34,7 @@ impl Opening {
         }
     }
 
-    pub(crate) fn step(&self) -> Step
+    pub fn step(&self) -> Step
         ensures { result ≡ opening_step self.now }
     {
         match self {
@@ -46,14 +47,5 @@ impl Opening {
                 under: copy_under(under),
             },
         }
-    }
-}
-
-fn copy_under(under: &Option<Under>) -> Option<Under>
-    ensures { result ≡ under.now }
-{
-    match under {
-        Some(under) => Some(under.copy()),
-        None => None,
     }
 }

@@ -1,0 +1,246 @@
+-- Whether a step comes to the seat, by the policy.
+use Rattle.std.specs.Prelude.{◌≡◌, ℕ, ◌+◌, ◌<◌, ◌≤◌, ◌==◌, List, Bool, true, false, not, Option, Some, None, IsSome, refl, ◌⊎◌, if◌then◌else◌}
+use Rattle.std.proofs.Common.{ap, sym, ◌∙◌, subst, inl, inr, arith}
+use Rattle.std.proofs.lemmas.Bool.Decides.{nat_tests}
+use Rattle.std.specs.Option.{is_some, option_and_then}
+use Rattle.agent_ports.specs.declared.session.SessionId.{SessionId}
+use Rattle.cache_policy.specs.declared.bounds.TheConstants.{MAX_MARKS, MAX_MOMENT}
+use Rattle.cache_policy.specs.declared.entry.Entry.{Entry}
+use Rattle.cache_policy.specs.declared.grant.Grant.{Grant}
+use Rattle.cache_policy.specs.declared.history.Held.{Held as Ticket}
+use Rattle.cache_policy.specs.declared.life.Limits.{Limits}
+use Rattle.cache_policy.specs.declared.mode.Mode.{Mode}
+use Rattle.cache_policy.specs.declared.mark.MarkReply.{MarkReply}
+use Rattle.cache_policy.specs.declared.mark.MarkReply.TheVariants as reply
+use Rattle.cache_policy.specs.declared.mark.MarkStep.{MarkStep}
+use Rattle.cache_policy.specs.declared.mark.MarkStep.TheVariants.{Ask, Seat, Close, Put, Clear, Flush, Peek, Stop}
+use Rattle.cache_policy.specs.declared.mark.Way.{Way}
+use Rattle.cache_policy.specs.declared.mark.Way.TheVariants.{Quiet, Prompt}
+use Rattle.cache_policy.specs.Histories.{History, next_number, with_mark}
+use Rattle.cache_policy.specs.Policy.{Ruling, Reply, Stand, policy, prompt_ruling, ask_ruling}
+use Rattle.cache_policy.specs.Legal.{IsLegal}
+use Rattle.cache_policy.specs.Runs.{next_history, moment_of}
+use Rattle.cache_policy.specs.Seat.{seat, stopped, is_open, under_of, unless_given_back}
+use Rattle.cache_policy.specs.Turns.{Refused, FitsReply, closes}
+use Rattle.cache_policy.proofs.OneMore.{seat-with_mark}
+use Rattle.agent_core.specs.declared.state.State.{State}
+use Rattle.agent_core.specs.Cores.{AtCore, StandsFor, mark_of}
+use Rattle.agent_core.specs.Adding.{comes_to_seat, leaves_ticket, needs_room}
+use Rattle.agent_core.specs.States.{seen}
+use Rattle.agent_core.specs.Taking.{Finds, ComesToSeat, next_slots}
+use Rattle.agent_core.proofs.Standing.{IsReady, ready}
+use Rattle.agent_core.proofs.Stepping.{live-found, live-none}
+
+comes_prompt : (stops : Bool) (held : Option Ticket) → comes_to_seat (prompt_ruling stops held) ≡ not stops
+comes_prompt true held = refl
+comes_prompt false (Some ticket) = refl
+comes_prompt false None = refl
+
+comes_quiet : (found : Option Entry) (stops : Bool) (held : Option Ticket) → comes_to_seat (ask_ruling found Quiet stops held) ≡ false
+comes_quiet (Some entry) stops held = refl
+comes_quiet None stops held = refl
+
+module _ (before : State) (history : History) (moment : ℕ) (is : IsReady before history moment) where
+  comes_stops : (held : Option Ticket) → not before.stopped ≡ comes_to_seat (prompt_ruling (stopped (next_history history)) held)
+  comes_stops held = ap not is.next.stopped_is ∙ sym (comes_prompt (stopped (next_history history)) held)
+
+  comes_found : (id : List ℕ) (mode : Mode) (found : Option Grant) → Finds (next_slots before) id mode moment found
+      → (if is_some found then false else not before.stopped) ≡ comes_to_seat (policy before.limits (next_history history) (Ask id mode Prompt) moment)
+  comes_found id mode (Some grant) from =
+      sym (ap (λ (o : Option Entry). comes_to_seat (ask_ruling o Prompt (stopped (next_history history)) (seat (next_history history))))
+      (live-found before history moment id mode grant is from).live_is)
+  comes_found id mode None none =
+      comes_stops (seat (next_history history))
+      ∙ sym (ap (λ (o : Option Entry). comes_to_seat (ask_ruling o Prompt (stopped (next_history history)) (seat (next_history history))))
+      (live-none before history moment id mode is none))
+
+  pub comes-policy : (asked : MarkStep) (comes : Bool) → ComesToSeat before moment asked comes
+      → comes ≡ comes_to_seat (policy before.limits (next_history history) asked moment)
+  comes-policy (Ask id mode Quiet) comes does = does ∙ sym (comes_quiet _ (stopped (next_history history)) (seat (next_history history)))
+  comes-policy (Ask id mode Prompt) comes does = does.2 ∙ comes_found id mode does.0 does.1
+  comes-policy (Seat under) comes does = does ∙ comes_stops (seat (next_history history))
+  comes-policy (Close ticket keep) comes does = does
+  comes-policy (Put id mode life secret) comes does = does
+  comes-policy (Clear id mode) comes does = does
+  comes-policy Flush comes does = does
+  comes-policy (Peek id mode) comes does = does
+  comes-policy Stop comes does = does
+
+-- a step that comes to a free seat opens, and only a free seat is opened
+free_prompt : (stops : Bool) (held : Option Ticket) → held ≡ None → comes_to_seat (prompt_ruling stops held) ≡ true → prompt_ruling stops held ≡ Reply reply.Open
+free_prompt true held free comes = absurd (cc comes)
+free_prompt false (Some ticket) free comes = absurd (cc free)
+free_prompt false None free comes = refl
+
+free_ask : (found : Option Entry) (way : Way) (stops : Bool) (held : Option Ticket) → held ≡ None → comes_to_seat (ask_ruling found way stops held) ≡ true
+    → ask_ruling found way stops held ≡ Reply reply.Open
+free_ask (Some entry) way stops held free comes = absurd (cc comes)
+free_ask None Quiet stops held free comes = absurd (cc comes)
+free_ask None Prompt stops held free comes = free_prompt stops held free comes
+
+free_opens : (limits : Limits) (history : History) (asked : MarkStep) (moment : ℕ) → seat history ≡ None
+    → comes_to_seat (policy limits history asked moment) ≡ true → policy limits history asked moment ≡ Reply reply.Open
+free_opens limits history (Ask id mode way) moment free comes = free_ask _ way (stopped history) (seat history) free comes
+free_opens limits history (Seat under) moment free comes = free_prompt (stopped history) (seat history) free comes
+free_opens limits history (Close ticket keep) moment free comes = absurd (cc comes)
+free_opens limits history (Put id mode life secret) moment free comes = absurd (cc comes)
+free_opens limits history (Clear id mode) moment free comes = absurd (cc comes)
+free_opens limits history Flush moment free comes = absurd (cc comes)
+free_opens limits history (Peek id mode) moment free comes = absurd (cc comes)
+free_opens limits history Stop moment free comes = absurd (cc comes)
+
+opens_free_prompt : (stops : Bool) (held : Option Ticket) → prompt_ruling stops held ≡ Reply reply.Open → held ≡ None
+opens_free_prompt true held is = absurd (cc is)
+opens_free_prompt false (Some ticket) is = absurd (cc is)
+opens_free_prompt false None is = refl
+
+opens_free_ask : (found : Option Entry) (way : Way) (stops : Bool) (held : Option Ticket) → ask_ruling found way stops held ≡ Reply reply.Open → held ≡ None
+opens_free_ask (Some entry) way stops held is = absurd (cc is)
+opens_free_ask None Quiet stops held is = absurd (cc is)
+opens_free_ask None Prompt stops held is = opens_free_prompt stops held is
+
+opens_free : (limits : Limits) (history : History) (asked : MarkStep) (moment : ℕ) → policy limits history asked moment ≡ Reply reply.Open → seat history ≡ None
+opens_free limits history (Ask id mode way) moment is = opens_free_ask _ way (stopped history) (seat history) is
+opens_free limits history (Seat under) moment is = opens_free_prompt (stopped history) (seat history) is
+opens_free limits history (Close ticket keep) moment is = absurd (cc is)
+opens_free limits history (Put id mode life secret) moment is = absurd (cc is)
+opens_free limits history (Clear id mode) moment is = absurd (cc is)
+opens_free limits history Flush moment is = absurd (cc is)
+opens_free limits history (Peek id mode) moment is = absurd (cc is)
+opens_free limits history Stop moment is = absurd (cc is)
+
+-- a step that opens isn't a Close
+pub opens_keeps : (limits : Limits) (history : History) (asked : MarkStep) (moment : ℕ) (answer : MarkReply) → policy limits history asked moment ≡ Reply answer
+    → is_open answer ≡ true → closes asked ≡ None
+opens_keeps limits history (Close ticket keep) moment reply.Open is opened = absurd (cc is)
+opens_keeps limits history (Close ticket keep) moment _ is opened = absurd (cc opened)
+opens_keeps limits history (Ask id mode way) moment answer is opened = refl
+opens_keeps limits history (Seat under) moment answer is opened = refl
+opens_keeps limits history (Put id mode life secret) moment answer is opened = refl
+opens_keeps limits history (Clear id mode) moment answer is opened = refl
+opens_keeps limits history Flush moment answer is opened = refl
+opens_keeps limits history (Peek id mode) moment answer is opened = refl
+opens_keeps limits history Stop moment answer is opened = refl
+
+-- a step that doesn't come to the seat makes a mark
+pub record IsReplied (ruling : Ruling) : Type 0 where
+  pub answer : MarkReply
+  pub is : ruling ≡ Reply answer
+
+replied : (ruling : Ruling) → comes_to_seat ruling ≡ false → IsReplied ruling
+replied (Reply answer) comes = record { answer = answer; is = refl }
+replied Stand comes = absurd (cc comes)
+
+-- a step that isn't a Close gives no ticket back
+pub gives_none : (asked : MarkStep) (ticket : Ticket) → closes asked ≡ None → unless_given_back asked ticket ≡ Some ticket
+gives_none (Ask id mode way) ticket none = refl
+gives_none (Seat under) ticket none = refl
+gives_none (Close number keep) ticket none = absurd (cc none)
+gives_none (Put id mode life secret) ticket none = refl
+gives_none (Clear id mode) ticket none = refl
+gives_none Flush ticket none = refl
+gives_none (Peek id mode) ticket none = refl
+gives_none Stop ticket none = refl
+
+-- the ticket that is out after a mark
+some_after : (opened : Bool) (asked : MarkStep) (fresh : Ticket) (held : Option Ticket) → closes asked ≡ None
+    → is_some held ≡ true → IsSome (if opened then Some fresh else option_and_then (unless_given_back asked) held)
+some_after true asked fresh held none some = refl
+some_after false asked fresh (Some ticket) none some = subst (λ (o : Option Ticket). IsSome o) (sym (gives_none asked ticket none)) refl
+some_after false asked fresh None none some = absurd (cc some)
+
+-- a step that leaves a ticket out, by the code, makes a mark after which one is out
+pub record LeavesTicket (limits : Limits) (history : History) (session : SessionId) (asked : MarkStep) (moment : ℕ) : Type 0 where
+  pub answer : MarkReply
+  pub rules : policy limits history asked moment ≡ Reply answer
+  pub held : IsSome (seat (with_mark history (mark_of session asked answer moment)))
+
+pub leaves-held : (limits : Limits) (history : History) (session : SessionId) (asked : MarkStep) (moment : ℕ) → closes asked ≡ None
+    → leaves_ticket (is_some (seat history)) (comes_to_seat (policy limits history asked moment)) ≡ true → LeavesTicket limits history session asked moment
+leaves-held limits history session asked moment none leaves = by (seat history) refl leaves
+  where
+    by : (held : Option Ticket) → seat history ≡ held → leaves_ticket (is_some held) (comes_to_seat (policy limits history asked moment)) ≡ true
+        → LeavesTicket limits history session asked moment
+    by (Some ticket) out leaves =
+        let made = replied (policy limits history asked moment) (not_true _ leaves) in
+        record {
+          answer = made.answer;
+          rules = made.is;
+          held = subst (λ (o : Option Ticket). IsSome o) (sym (seat-with_mark history (mark_of session asked made.answer moment)))
+              (some_after (is_open made.answer) asked (record { ticket = next_number history; under = under_of asked }) (seat history) none (ap is_some out));
+        }
+      where
+        not_true : (b : Bool) → not b ≡ true → b ≡ false
+        not_true true is = absurd (cc is)
+        not_true false is = refl
+    by None out leaves = record {
+      answer = reply.Open;
+      rules = free_opens limits history asked moment out leaves;
+      held = subst (λ (o : Option Ticket). IsSome o) (sym (seat-with_mark history (mark_of session asked reply.Open moment))) refl;
+    }
+
+-- and the other way round
+still_leaves : (asked : MarkStep) (comes : Bool) (held : Option Ticket) → comes ≡ false → IsSome (option_and_then (unless_given_back asked) held)
+    → leaves_ticket (is_some held) comes ≡ true
+still_leaves asked comes (Some ticket) none some = ap not none
+still_leaves asked comes None none some = absurd (cc some)
+
+pub held-leaves : (limits : Limits) (history : History) (asked : MarkStep) (moment : ℕ) (answer : MarkReply) → policy limits history asked moment ≡ Reply answer
+    → (is_open answer ≡ true) ⊎ IsSome (option_and_then (unless_given_back asked) (seat history))
+    → leaves_ticket (is_some (seat history)) (comes_to_seat (policy limits history asked moment)) ≡ true
+held-leaves limits history asked moment reply.Open rules some =
+    ap (λ (o : Option Ticket). leaves_ticket (is_some o) (comes_to_seat (policy limits history asked moment))) (opens_free limits history asked moment rules)
+    ∙ ap comes_to_seat rules
+held-leaves limits history asked moment (reply.Given number) rules (inr some) = still_leaves asked _ (seat history) (ap comes_to_seat rules) some
+held-leaves limits history asked moment reply.Empty rules (inr some) = still_leaves asked _ (seat history) (ap comes_to_seat rules) some
+held-leaves limits history asked moment reply.Done rules (inr some) = still_leaves asked _ (seat history) (ap comes_to_seat rules) some
+held-leaves limits history asked moment (reply.Held held) rules (inr some) = still_leaves asked _ (seat history) (ap comes_to_seat rules) some
+held-leaves limits history asked moment reply.Stopping rules (inr some) = still_leaves asked _ (seat history) (ap comes_to_seat rules) some
+held-leaves limits history asked moment _ rules (inl opened) = absurd (cc opened)
+
+-- what the code finds is what the policy says, for a core that has this state
+pub comes_to_seat_is : (core : AtCore) (state : State) (history : History) (reading moment : ℕ) (asked : MarkStep) (comes : Bool) → seen state ≡ core
+    → moment ≡ moment_of state.moment reading → state.moment ≤ moment → moment ≤ MAX_MOMENT → ComesToSeat state moment asked comes
+    → IsLegal core.limits history → StandsFor core history
+    → comes ≡ comes_to_seat (policy core.limits (next_history history) asked (moment_of core.moment reading))
+comes_to_seat_is core state history reading moment asked comes seen_is moment_is later within does =
+    subst (λ (c : AtCore). IsLegal c.limits history → StandsFor c history
+    → comes ≡ comes_to_seat (policy c.limits (next_history history) asked (moment_of c.moment reading))) seen_is
+    (λ legal stands.
+    subst (λ (m : ℕ). comes ≡ comes_to_seat (policy state.limits (next_history history) asked m)) moment_is
+    (comes-policy state history moment (ready state history moment legal stands later within) asked comes does))
+
+-- whether a step needs room, by the branches of the code
+pub needs_close : (core : AtCore) (asked : MarkStep) (comes : Bool) → is_some (closes asked) ≡ true → false ≡ needs_room core asked comes
+needs_close core asked comes is = rw is refl
+
+pub needs_full : (core : AtCore) (asked : MarkStep) (comes : Bool) → is_some (closes asked) ≡ false → core.count ≡ MAX_MARKS
+    → not (is_some core.held) ≡ needs_room core asked comes
+needs_full core asked comes is full =
+    let all : (core.count == MAX_MARKS) ≡ true = grind (arith, nat_tests) in
+    rw (is, all) refl
+
+pub needs_none : (core : AtCore) (asked : MarkStep) (comes : Bool) → is_some (closes asked) ≡ false → core.count + 1 < MAX_MARKS
+    → false ≡ needs_room core asked comes
+needs_none core asked comes is few =
+    let all : (core.count == MAX_MARKS) ≡ false = grind (arith, nat_tests) in
+    let last : (core.count + 1 == MAX_MARKS) ≡ false = grind (arith, nat_tests) in
+    rw (is, all, last) refl
+
+pub needs_last : (core : AtCore) (asked : MarkStep) (comes : Bool) → is_some (closes asked) ≡ false → core.count + 1 ≡ MAX_MARKS
+    → leaves_ticket (is_some core.held) comes ≡ needs_room core asked comes
+needs_last core asked comes is ends =
+    let all : (core.count == MAX_MARKS) ≡ false = grind (arith, nat_tests) in
+    let last : (core.count + 1 == MAX_MARKS) ≡ true = grind (arith, nat_tests) in
+    rw (is, all, last) refl
+
+-- a Close needs none
+pub needs_fits : (core : AtCore) (asked : MarkStep) (comes : Bool) → needs_room core asked comes ≡ true → FitsReply asked Refused
+needs_fits core (Close ticket keep) comes is = absurd (cc is)
+needs_fits core (Ask id mode way) comes is = tt
+needs_fits core (Seat under) comes is = tt
+needs_fits core (Put id mode life secret) comes is = tt
+needs_fits core (Clear id mode) comes is = tt
+needs_fits core Flush comes is = tt
+needs_fits core (Peek id mode) comes is = tt
+needs_fits core Stop comes is = tt

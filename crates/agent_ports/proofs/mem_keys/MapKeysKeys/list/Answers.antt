@@ -1,0 +1,15 @@
+use Rattle.std.proofs.Common.{rules, ◌≡◌, ◌∙◌}
+use Rattle.std.specs.Map.{keys_of}
+use Rattle.agent_ports.proofs.KeyMaps.{keys_listed}
+use Rattle.agent_ports.proofs.mem_keys.MapKeysKeys.list.Goals as goal
+
+pub returns-in-Ok : goal.returns-in-Ok
+returns-in-Ok c =
+    let entries = c.args.self.now.files.entries in
+    let names : c.in-Ok.names.items ≡ keys_of entries = search rules in
+    record {
+      says = names ∙ keys_listed entries c.keys.ensures.ordered;
+      ascending = rw names c.keys.ensures.ordered;
+      leaves = search rules;
+      failed = search rules;
+    }

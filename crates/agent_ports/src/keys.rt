@@ -1,0 +1,61 @@
+ghost use Rattle.std.specs.Prelude.{◌≤◌, length};
+ghost use Rattle.agent_ports.specs.declared.keys.TheConstants.{MAX_KEY_FILE_LEN};
+ghost use Rattle.agent_ports.specs.KeyFiles.{KeyFiles, ReadsKey, ListsKeys, ReplacesKey, RemovesKey};
+
+use crate::Grip;
+use std::alloc::Global;
+
+/// The most bytes of a key's file.
+pub const MAX_KEY_FILE_LEN: usize = 65_536;
+
+/// What a read of a key's file gave. It may hold a secret key, so it isn't printed.
+#[derive(Drop)]
+pub enum KeyRead {
+    Found(Vec<u8>),
+    /// There is no such key.
+    Absent,
+    Failed,
+    NoMemory,
+}
+
+/// What a question for the keys that there are gave.
+#[derive(Debug, Drop)]
+pub enum KeyNames {
+    /// Their grips, ascending.
+    Names(Vec<Grip>),
+    Failed,
+    NoMemory,
+}
+
+/// What became of a change. All but `Done` leave the files as they were.
+#[derive(Clone, Copy, Debug, PartialEq, Eq)]
+pub enum KeyDone {
+    Done,
+    /// There is no such key.
+    Absent,
+    Failed,
+    NoMemory,
+}
+
+/// Private keys, each in a file that its grip names.
+pub trait Keys {
+    /// The files, where they are known, and how many calls failed.
+    ghost keys: { Self → KeyFiles };
+
+    /// The file of a key.
+    fn read(&mut self, alloc: Global, grip: &Grip) -> KeyRead
+        ensures { ReadsKey (keys self.old) grip.now result (keys self.new) };
+
+    /// The keys that there are.
+    fn list(&mut self, alloc: Global) -> KeyNames
+        ensures { ListsKeys (keys self.old) result (keys self.new) };
+
+    /// Makes this the file of a key, also where it has none yet.
+    fn replace(&mut self, alloc: Global, grip: &Grip, file: &[u8]) -> KeyDone
+        requires { length file.now ≤ MAX_KEY_FILE_LEN }
+        ensures { ReplacesKey (keys self.old) grip.now file.now result (keys self.new) };
+
+    /// Removes the file of a key.
+    fn remove(&mut self, alloc: Global, grip: &Grip) -> KeyDone
+        ensures { RemovesKey (keys self.old) grip.now result (keys self.new) };
+}

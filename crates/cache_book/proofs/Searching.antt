@@ -1,0 +1,136 @@
+-- Searching slots that stand by their ids: what lies outside of the stretch of an id, and what a place says.
+use Rattle.std.specs.Prelude.{◌≡◌, ℕ, ◌<◌, ◌≤◌, ◌==◌, List, [], ◌∷◌, ◌⊎◌, Bool, true, false, ◌&&◌, not, max, map, take, drop, cond, length, get_or, set, refl}
+use Rattle.std.proofs.Common.{ap, ◌∙◌, subst, arith, zero, suc, inl, inr}
+use Rattle.std.specs.List.{AllByRecursion, AllWithin}
+use Rattle.std.specs.List.Sorted.{IsPartitionPoint}
+use Rattle.std.proofs.lemmas.List.Elements.{All-from_recursion, recursion_from_All, AllWithin-upto}
+use Rattle.std.proofs.lemmas.Cmp.{nat_list_eq_equiv}
+use Rattle.cache_policy.specs.declared.mode.Mode.{Mode}
+use Rattle.cache_policy.specs.declared.entry.Entry.{Entry}
+use Rattle.cache_policy.specs.Mode.{covers}
+use Rattle.cache_policy.specs.Entry.{same_id, within}
+use Rattle.cache_policy.proofs.Lists.{all_weaker, all_drop}
+use Rattle.cache_book.specs.declared.slot.Slot.{Slot}
+use Rattle.cache_book.specs.Modes.{holds, has_some, not_covered}
+use Rattle.cache_book.specs.Shelves.{serves_at, ServesNone, IsOneOf, here, further, touch_slot, touched, hidden, cleared, swept}
+use Rattle.cache_book.specs.SlotOrders.{is_below, is_upto, wipe_past, HaveOwnNumbers, AreServing}
+use Rattle.cache_book.proofs.Ordered.{below_apart, past_apart}
+use Rattle.cache_book.proofs.Arranging.{all_take_within, all_drop_within}
+
+-- the slot at a place is one of the list
+pub one_at : (i : ℕ) (list : List Slot) (d : Slot) → i < length list → IsOneOf (get_or list i d) list
+one_at zero [] d lt = absurd (omega arith)
+one_at zero (x ∷ xs) d lt = here
+one_at (suc i) [] d lt = absurd (omega arith)
+one_at (suc i) (x ∷ xs) d lt = further (one_at i xs d (omega arith))
+
+-- a slot of another id serves no request for this one
+pub apart_serves : (id : List ℕ) (mode : Mode) (now : ℕ) (slot : Slot) → same_id slot.entry.id id ≡ false → serves_at id mode now slot ≡ false
+apart_serves id mode now slot apart = ap (λ b. (b && holds slot.modes mode) && within slot.entry slot.last now) apart
+
+-- where no slot of the stretch serves a request, none does
+pub none_serving : (id : List ℕ) (mode : Mode) (now : ℕ) (list : List Slot) (start end : ℕ)
+    → IsPartitionPoint (λ slot. is_below id slot ≡ true) (λ slot. is_below id slot ≡ false) list start
+    → IsPartitionPoint (λ slot. is_upto id slot ≡ true) (λ slot. is_upto id slot ≡ false) list end
+    → AllWithin (λ slot. serves_at id mode now slot ≡ false) list start end → ServesNone list id mode now
+none_serving id mode now list start end starts ends none =
+    recursion_from_All (λ slot. serves_at id mode now slot ≡ false) list (λ k d lt. at k d lt (split k start) (split k end))
+  where
+    split : (k n : ℕ) → (k < n) ⊎ (n ≤ k)
+    split k n = search arith
+
+    at : (k : ℕ) (d : Slot) → k < length list → (k < start) ⊎ (start ≤ k) → (k < end) ⊎ (end ≤ k) → serves_at id mode now (get_or list k d) ≡ false
+    at k d lt (inl before) e = apart_serves id mode now (get_or list k d) (below_apart id (get_or list k d) (starts.0 k d (omega arith) before))
+    at k d lt (inr from) (inl before) = none k d from before
+    at k d lt (inr from) (inr past) = apart_serves id mode now (get_or list k d) (past_apart id (get_or list k d) (ends.1 k d past lt))
+
+-- a use of the slot with a number is that of the one slot
+pub touched-none : (number now : ℕ) (list : List Slot) → AllByRecursion (λ slot. (number == slot.entry.number) ≡ false) list → touched number now list ≡ list
+touched-none number now [] h = refl
+touched-none number now (slot ∷ later) h =
+    ap (λ b. cond b (record slot { last = max slot.last now }) slot ∷ touched number now later) h.0
+    ∙ ap (λ (l : List Slot). slot ∷ l) (touched-none number now later h.1)
+
+module _ (number now : ℕ) where
+  others : (m : ℕ) (list : List Slot) → (number == m) ≡ true → AllByRecursion (λ slot. (m == slot.entry.number) ≡ false) list
+      → AllByRecursion (λ slot. (number == slot.entry.number) ≡ false) list
+  others m [] e h = tt
+  others m (slot ∷ later) e h = (grind (arith, e, h.0), others m later e h.1)
+
+  other : (m n : ℕ) → (m == n) ≡ false → (number == n) ≡ true → (number == m) ≡ false
+  other m n apart is = grind (arith, apart, is)
+
+  pub touched-one : (i : ℕ) (list : List Slot) (d : Slot) → HaveOwnNumbers list → i < length list → (number == (get_or list i d).entry.number) ≡ true
+      → touched number now list ≡ set list i (touch_slot number now (get_or list i d))
+  touched-one zero [] d own lt is = absurd (omega arith)
+  touched-one zero (x ∷ xs) d own lt is =
+      ap (λ (l : List Slot). touch_slot number now x ∷ l) (touched-none number now xs (others x.entry.number xs is own.0))
+  touched-one (suc i) [] d own lt is = absurd (omega arith)
+  touched-one (suc i) (x ∷ xs) d own lt is =
+      ap (λ b. cond b (record x { last = max x.last now }) x ∷ touched number now xs)
+      (other x.entry.number (get_or xs i d).entry.number
+      (All-from_recursion (λ y. (x.entry.number == y.entry.number) ≡ false) xs own.0 i d (omega arith)) is)
+      ∙ ap (λ (l : List Slot). x ∷ l) (touched-one i xs d own.1 (omega arith) is)
+
+-- slots outside of the stretch of an id are left as they are
+pub cleared-apart : (id : List ℕ) (mode : Mode) (list : List Slot) → AllByRecursion (λ slot. same_id slot.entry.id id ≡ false) list → cleared id mode list ≡ list
+cleared-apart id mode [] h = refl
+cleared-apart id mode (slot ∷ later) h =
+    ap (λ b. cond (not (b && covers slot.entry.mode mode)) (slot ∷ cleared id mode later) (cleared id mode later)) h.0
+    ∙ ap (λ (l : List Slot). slot ∷ l) (cleared-apart id mode later h.1)
+
+pub hidden-apart : (entry : Entry) (list : List Slot) → AreServing list → AllByRecursion (λ slot. same_id entry.id slot.entry.id ≡ false) list → hidden entry list ≡ list
+hidden-apart entry [] serving h = refl
+hidden-apart entry (slot ∷ later) serving h =
+    ap (λ b. cond (has_some (hidden_by b).modes) (hidden_by b ∷ hidden entry later) (hidden entry later)) h.0
+    ∙ (ap (λ b. cond b (slot ∷ hidden entry later) (hidden entry later)) serving.0
+    ∙ ap (λ (l : List Slot). slot ∷ l) (hidden-apart entry later serving.1 h.1))
+  where
+    hidden_by : Bool → Slot
+    hidden_by b = cond b (record slot { modes = not_covered entry.mode slot.modes }) slot
+
+-- what is wiped is dropped
+pub swept-wiped : (now : ℕ) (list : List Slot) → swept now (map (wipe_past now) list) ≡ swept now list
+swept-wiped now [] = refl
+swept-wiped now (slot ∷ later) =
+    elim (within slot.entry slot.last now) as (λ b. within slot.entry slot.last now ≡ b
+    → swept now (cond b slot (record slot { entry = record slot.entry { secret = [] } }) ∷ map (wipe_past now) later) ≡ cond b (slot ∷ swept now later) (swept now later)) [
+      | true ↦ λ e. ap (λ b. cond b (slot ∷ swept now (map (wipe_past now) later)) (swept now (map (wipe_past now) later))) e ∙ ap (λ (l : List Slot). slot ∷ l) (swept-wiped now later)
+      | false ↦ λ e. ap (λ b. cond b (record slot { entry = record slot.entry { secret = [] } } ∷ swept now (map (wipe_past now) later)) (swept now (map (wipe_past now) later))) e ∙ swept-wiped now later
+    ] refl
+
+-- the ends of a stretch
+all_taken : {A : Type 0} (P : A → Type 0) (i : ℕ) (xs : List A) → AllByRecursion P xs → AllByRecursion P (take i xs)
+all_taken P zero xs h = tt
+all_taken P (suc i) [] h = tt
+all_taken P (suc i) (x ∷ xs) h = (h.0, all_taken P i xs h.1)
+
+pub after_end : (id : List ℕ) (xs list : List Slot) (end : ℕ) → xs ≡ list
+    → IsPartitionPoint (λ slot. is_upto id slot ≡ true) (λ slot. is_upto id slot ≡ false) xs end
+    → AllByRecursion (λ slot. same_id slot.entry.id id ≡ false) (drop end list)
+after_end id xs list end same parts =
+    subst (λ (l : List Slot). AllByRecursion (λ slot. same_id slot.entry.id id ≡ false) (drop end l)) same
+    (all_weaker (λ slot. is_upto id slot ≡ false) (λ slot. same_id slot.entry.id id ≡ false) (past_apart id) (drop end xs)
+    (all_drop_within (λ slot. is_upto id slot ≡ false) end xs parts.1))
+
+pub before_start : (id : List ℕ) (xs list : List Slot) (start i : ℕ) → xs ≡ list → start ≤ length xs → i ≤ start
+    → IsPartitionPoint (λ slot. is_below id slot ≡ true) (λ slot. is_below id slot ≡ false) xs start
+    → AllByRecursion (λ slot. same_id slot.entry.id id ≡ false) (take i list)
+before_start id xs list start i same le upto parts =
+    subst (λ (l : List Slot). AllByRecursion (λ slot. same_id slot.entry.id id ≡ false) (take i l)) same
+    (all_weaker (λ slot. is_below id slot ≡ true) (λ slot. same_id slot.entry.id id ≡ false) (below_apart id) (take i xs)
+    (all_take_within (λ slot. is_below id slot ≡ true) i xs (omega arith) (AllWithin-upto (λ slot. is_below id slot ≡ true) xs 0 start i upto parts.0)))
+
+other_way : (id : List ℕ) (list : List Slot) → AllByRecursion (λ slot. same_id slot.entry.id id ≡ false) list → AllByRecursion (λ slot. same_id id slot.entry.id ≡ false) list
+other_way id list h =
+    all_weaker (λ slot. same_id slot.entry.id id ≡ false) (λ slot. same_id id slot.entry.id ≡ false) (λ slot k. nat_list_eq_equiv.symm id slot.entry.id ∙ k) list h
+
+pub hidden-after : (entry : Entry) (list : List Slot) (end : ℕ) → AreServing list → AllByRecursion (λ slot. same_id slot.entry.id entry.id ≡ false) (drop end list)
+    → hidden entry (drop end list) ≡ drop end list
+hidden-after entry list end serving h =
+    hidden-apart entry (drop end list) (all_drop (λ slot. has_some slot.modes ≡ true) end list serving) (other_way entry.id (drop end list) h)
+
+pub hidden-before : (entry : Entry) (list : List Slot) (i : ℕ) → AreServing list → AllByRecursion (λ slot. same_id slot.entry.id entry.id ≡ false) (take i list)
+    → hidden entry (take i list) ≡ take i list
+hidden-before entry list i serving h =
+    hidden-apart entry (take i list) (all_taken (λ slot. has_some slot.modes ≡ true) i list serving) (other_way entry.id (take i list) h)

@@ -1,0 +1,142 @@
+-- A change of the slots of one stretch of a list, from its end to its front, by a call that does its work slot by slot.
+use Rattle.std.specs.Prelude.{◌≡◌, ℕ, ◌+◌, ◌-◌, ◌<◌, ◌≤◌, List, [], ◌∷◌, ◌++◌, Bool, true, false, not, ◌&&◌, cond, refl, length, take, drop, get_or, set}
+use Rattle.std.proofs.Common.{ap, sym, ◌∙◌, subst, arith, zero, suc}
+use Rattle.std.specs.List.{remove}
+use Rattle.std.proofs.lemmas.List.{append_assoc, take-append-drop, length-append, length-take-le, get_or-append_right, set-append_right}
+use Rattle.std.proofs.lemmas.List.Edits.{remove-append_right}
+use Rattle.cache_policy.specs.declared.mode.Mode.{Mode}
+use Rattle.cache_policy.specs.declared.entry.Entry.{Entry}
+use Rattle.cache_policy.specs.Mode.{covers}
+use Rattle.cache_policy.specs.Entry.{same_id}
+use Rattle.cache_book.specs.declared.slot.Slot.{Slot}
+use Rattle.cache_book.specs.Modes.{has_some}
+use Rattle.cache_book.specs.Shelves.{hide, hidden, cleared}
+use Rattle.cache_book.proofs.Slotwise.{IsSlotwise}
+
+no_further : (i : ℕ) → i - i ≡ 0
+no_further i = omega arith
+
+one_more : (i : ℕ) → suc i ≡ i + 1
+one_more i = omega arith
+
+-- a list with one of its elements apart
+split_further : (i : ℕ) (list : List Slot) (d : Slot) → i < length list → drop i list ≡ get_or list i d ∷ drop (suc i) list
+split_further zero [] d lt = absurd (omega arith)
+split_further zero (x ∷ xs) d lt = refl
+split_further (suc i) [] d lt = absurd (omega arith)
+split_further (suc i) (x ∷ xs) d lt = split_further i xs d (omega arith)
+
+take_further : (i : ℕ) (list : List Slot) (d : Slot) → i < length list → take (suc i) list ≡ take i list ++ get_or list i d ∷ []
+take_further zero [] d lt = absurd (omega arith)
+take_further zero (x ∷ xs) d lt = refl
+take_further (suc i) [] d lt = absurd (omega arith)
+take_further (suc i) (x ∷ xs) d lt = ap (λ (l : List Slot). x ∷ l) (take_further i xs d (omega arith))
+
+split_at : (i : ℕ) (list : List Slot) (d : Slot) → i < length list → drop i list ≡ get_or list i d ∷ drop (i + 1) list
+split_at i list d lt = split_further i list d lt ∙ ap (λ (k : ℕ). get_or list i d ∷ drop k list) (one_more i)
+
+take_one_more : (i : ℕ) (list : List Slot) (d : Slot) → i < length list → take (i + 1) list ≡ take i list ++ get_or list i d ∷ []
+take_one_more i list d lt = sym (ap (λ (k : ℕ). take k list) (one_more i)) ∙ take_further i list d lt
+
+-- a slot that was changed before it goes
+pub remove-set : (i : ℕ) (list : List Slot) (slot : Slot) → remove (set list i slot) i ≡ remove list i
+remove-set zero [] slot = refl
+remove-set zero (x ∷ xs) slot = refl
+remove-set (suc i) [] slot = refl
+remove-set (suc i) (x ∷ xs) slot = ap (λ (l : List Slot). x ∷ l) (remove-set i xs slot)
+
+-- the list so far: the call's work is done from this place on
+pub record IsDoneFrom (op : List Slot → List Slot) (i : ℕ) (list done : List Slot) : Type 0 where
+  pub within : i ≤ length list
+  pub is : done ≡ take i list ++ op (drop i list)
+
+module _ (op : List Slot → List Slot) (slotwise : IsSlotwise op) (i : ℕ) (list done : List Slot) where
+  -- the slot before, as it lies there
+  module _ (h : IsDoneFrom op (i + 1) list done) (slot : Slot) (slot_is : slot ≡ get_or done i slot) where
+    in_list : i < length list
+    in_list = let within : i + 1 ≤ length list = h.within in omega arith
+
+    front : length (take i list) ≡ i
+    front = length-take-le i list (let lt : i < length list = in_list in omega arith)
+
+    parts : done ≡ take i list ++ get_or list i slot ∷ op (drop (i + 1) list)
+    parts = h.is ∙ (ap (λ (l : List Slot). l ++ op (drop (i + 1) list)) (take_one_more i list slot in_list)
+        ∙ append_assoc (take i list) (get_or list i slot ∷ []) (op (drop (i + 1) list)))
+
+    same : slot ≡ get_or list i slot
+    same = slot_is ∙ (ap (λ (l : List Slot). get_or l i slot) parts
+        ∙ (get_or-append_right (take i list) (get_or list i slot ∷ op (drop (i + 1) list)) i i slot front (omega arith)
+        ∙ ap (λ (k : ℕ). get_or (get_or list i slot ∷ op (drop (i + 1) list)) k slot) (no_further i)))
+
+    parted : done ≡ take i list ++ slot ∷ op (drop (i + 1) list)
+    parted = parts ∙ ap (λ (s : Slot). take i list ++ s ∷ op (drop (i + 1) list)) (sym same)
+
+    rest : op (drop i list) ≡ op (slot ∷ []) ++ op (drop (i + 1) list)
+    rest = ap op (split_at i list slot in_list ∙ ap (λ (s : Slot). s ∷ drop (i + 1) list) (sym same)) ∙ slotwise.append (slot ∷ []) (drop (i + 1) list)
+
+    -- a place of the list as it lies there
+    pub in_done : i < length done
+    in_done = subst (λ (l : List Slot). i < length l) (sym parts) (longer (take i list) (op (drop (i + 1) list)) front)
+      where
+        longer : (xs ys : List Slot) → length xs ≡ i → i < length (xs ++ get_or list i slot ∷ ys)
+        longer xs ys n = let both : length (xs ++ get_or list i slot ∷ ys) ≡ length xs + length (get_or list i slot ∷ ys) = length-append xs (get_or list i slot ∷ ys) in omega arith
+
+    before : i ≤ length list
+    before = let lt : i < length list = in_list in omega arith
+
+    -- it goes
+    pub done-removed : op (slot ∷ []) ≡ [] → IsDoneFrom op i list (remove done i)
+    done-removed none = record {
+      within = before;
+      is = ap (λ (l : List Slot). remove l i) parted
+          ∙ (remove-append_right (take i list) (slot ∷ op (drop (i + 1) list)) i i front (omega arith)
+          ∙ (ap (λ (k : ℕ). take i list ++ remove (slot ∷ op (drop (i + 1) list)) k) (no_further i)
+          ∙ ap (λ (l : List Slot). take i list ++ l) (ap (λ (l : List Slot). l ++ op (drop (i + 1) list)) (sym none) ∙ sym rest)));
+    }
+
+    -- it stays
+    pub done-kept : op (slot ∷ []) ≡ slot ∷ [] → IsDoneFrom op i list done
+    done-kept stays = record {
+      within = before;
+      is = parted ∙ ap (λ (l : List Slot). take i list ++ l) (ap (λ (l : List Slot). l ++ op (drop (i + 1) list)) (sym stays) ∙ sym rest);
+    }
+
+    -- it changes
+    pub done-set : (new : Slot) → op (slot ∷ []) ≡ new ∷ [] → IsDoneFrom op i list (set done i new)
+    done-set new changes = record {
+      within = before;
+      is = ap (λ (l : List Slot). set l i new) parted
+          ∙ (set-append_right (take i list) (slot ∷ op (drop (i + 1) list)) i i new front (omega arith)
+          ∙ (ap (λ (k : ℕ). take i list ++ set (slot ∷ op (drop (i + 1) list)) k new) (no_further i)
+          ∙ ap (λ (l : List Slot). take i list ++ l) (ap (λ (l : List Slot). l ++ op (drop (i + 1) list)) (sym changes) ∙ sym rest)));
+    }
+
+  -- before the work, where it leaves what follows the stretch
+  pub done-none : i ≤ length list → op (drop i list) ≡ drop i list → IsDoneFrom op i list list
+  done-none le same = record {
+    within = le;
+    is = sym (ap (λ (l : List Slot). take i list ++ l) same ∙ take-append-drop i list);
+  }
+
+  -- and after it, where it leaves what is before the stretch
+  pub done-all : IsDoneFrom op i list done → op (take i list) ≡ take i list → done ≡ op list
+  done-all h same =
+      h.is ∙ (ap (λ (l : List Slot). l ++ op (drop i list)) (sym same)
+      ∙ (sym (slotwise.append (take i list) (drop i list)) ∙ ap op (take-append-drop i list)))
+
+-- what each call does to one slot
+pub cleared-one : (id : List ℕ) (mode : Mode) (slot : Slot) (goes : Bool) → (same_id slot.entry.id id && covers slot.entry.mode mode) ≡ goes
+    → cleared id mode (slot ∷ []) ≡ cond goes [] (slot ∷ [])
+cleared-one id mode slot true e = ap (λ b. cond (not b) (slot ∷ []) []) e
+cleared-one id mode slot false e = ap (λ b. cond (not b) (slot ∷ []) []) e
+
+pub hidden-one : (entry : Entry) (slot : Slot) (stays : Bool) → has_some (hide entry slot).modes ≡ stays
+    → hidden entry (slot ∷ []) ≡ cond stays (hide entry slot ∷ []) []
+hidden-one entry slot stays e = ap (λ b. cond b (hide entry slot ∷ []) []) e
+
+-- what is done from a place on, seen from the place before it
+pub from_before : (op : List Slot → List Slot) (i start : ℕ) (list done : List Slot) → start < i → IsDoneFrom op i list done → IsDoneFrom op (i - 1 + 1) list done
+from_before op i start list done lt h = subst (λ (k : ℕ). IsDoneFrom op k list done) (place_before i start lt) h
+  where
+    place_before : (j first : ℕ) → first < j → j ≡ j - 1 + 1
+    place_before j first lt = omega arith

@@ -1,0 +1,109 @@
+ghost use Rattle.std.specs.Prelude.{◌≡◌};
+
+use crate::Slot;
+use crate::place::Place;
+use cache_policy::{CacheId, Entry, Mode, Secret};
+use std::alloc::{AllocError, Global};
+use std::marker::Model;
+
+/// A slot in memory of its own. So its place among others is small, and a move of it leaves no copy of the passphrase.
+#[derive(Drop)]
+pub(crate) struct BoxedSlot {
+    slot: Box<Slot>,
+}
+
+impl Model for BoxedSlot {
+    ghost use Rattle.cache_book.specs.declared.slot.Slot.{Slot};
+
+    ghost Value = { Slot };
+
+    ghost view = { λ boxed. boxed.slot.value };
+}
+
+impl BoxedSlot {
+    ghost use Rattle.cache_book.specs.Shelves.{touch_slot, hide, new_slot};
+    ghost use Rattle.cache_book.specs.Modes.{has_some};
+    ghost use Rattle.cache_book.specs.Deadlines.{place_of};
+    ghost use Rattle.cache_book.specs.SlotOrders.{wipe_past};
+
+    /// Memory for a slot to come.
+    pub(crate) fn blank(alloc: Global) -> Result<BoxedSlot, AllocError> {
+        let Some(id) = CacheId::of(b"-") else {
+            unreachable!()
+        };
+        let Some(secret) = Secret::of(b"") else {
+            unreachable!()
+        };
+        let entry = Entry {
+            number: 0,
+            id,
+            mode: Mode::Any,
+            secret,
+            entered: 0,
+            ttl: None,
+            max: 0,
+        };
+        let slot = Box::new(alloc, Slot::of(entry))?;
+        Ok(BoxedSlot { slot })
+    }
+
+    /// The slot of a new entry, in the memory of this one.
+    pub(crate) fn filled(self, entry: Entry) -> BoxedSlot
+        ensures { result ≡ new_slot entry }
+    {
+        let mut slot = self.slot;
+        *slot = Slot::of(entry);
+        BoxedSlot { slot }
+    }
+
+    pub(crate) fn get(&self) -> &Slot
+        ensures { result.now ≡ self.now }
+    {
+        &self.slot
+    }
+
+    /// Ends a slot that leaves the shelf: its passphrase is overwritten where it lies.
+    pub(crate) fn end(mut self) {
+        self.slot.entry.secret.clear();
+    }
+
+    /// Overwrites the passphrase of a slot that is past a lifetime at `now`, and leaves any other.
+    pub(crate) fn wipe_past(&mut self, now: u64)
+        ensures { self.new ≡ wipe_past now self.old }
+    {
+        if !self.slot.entry.within(self.slot.last, now) {
+            self.slot.entry.secret.clear();
+        }
+    }
+
+    /// Overwrites the passphrase.
+    pub(crate) fn wipe(&mut self) {
+        self.slot.entry.secret.clear();
+    }
+
+    pub(crate) fn place(&self) -> Place
+        ensures { result ≡ place_of self.now }
+    {
+        Place::of(&self.slot)
+    }
+
+    /// Restarts its ttl where it is the entry with this number, and answers its place before and after.
+    pub(crate) fn touch(&mut self, number: u64, now: u64) -> (Place, Place)
+        ensures touched { self.new ≡ touch_slot number now self.old }
+        ensures before { result.0 ≡ place_of self.old }
+        ensures after { result.1 ≡ place_of self.new }
+    {
+        let before = Place::of(&self.slot);
+        self.slot.touch(number, now);
+        (before, Place::of(&self.slot))
+    }
+
+    /// Loses the modes that a later entry takes, and answers whether some are left.
+    pub(crate) fn hide(&mut self, later: &Entry) -> bool
+        ensures hidden { self.new ≡ hide later.now self.old }
+        ensures serves { result ≡ has_some self.new.modes }
+    {
+        self.slot.hide(later);
+        self.slot.modes.has_some()
+    }
+}

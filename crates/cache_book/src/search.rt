@@ -1,0 +1,85 @@
+// Finding slots among slots in the order of their ids.
+ghost use Rattle.std.specs.Prelude.{◌≡◌, ◌<◌, ◌≤◌, ◌==◌, true, false, length, IfSome, IfNone};
+ghost use Rattle.std.specs.List.{HoldsAt, AllByRecursion};
+ghost use Rattle.std.specs.List.Sorted.{IsPartitionPoint};
+ghost use Rattle.cache_book.specs.Shelves.{serves_at, IsGrantFrom, ServesNone};
+ghost use Rattle.cache_book.specs.SlotOrders.{id_cmp, is_below, is_upto, AreById, AreKept};
+
+use crate::boxed_slot::BoxedSlot;
+use cache_policy::{CacheId, Grant, Mode};
+use std::cell::Cell;
+use std::cmp::Ordering;
+
+fn compare(id: &CacheId, other: &CacheId) -> Ordering
+    ensures { result ≡ id_cmp id.now other.now }
+{
+    id.bytes().cmp(other.bytes())
+}
+
+/// The place of the first slot whose id isn't below this one.
+pub(crate) fn start_of(slots: &[BoxedSlot], id: &CacheId) -> usize
+    requires { AreById slots.now }
+    ensures within { result ≤ length slots.now }
+    ensures parts { IsPartitionPoint (λ slot. is_below id.now slot ≡ true) (λ slot. is_below id.now slot ≡ false) slots.now result }
+{
+    slots.partition_point(|slot| compare(&slot.get().entry.id, id).is_lt())
+}
+
+/// The place after the last slot whose id is no higher than this one.
+pub(crate) fn end_of(slots: &[BoxedSlot], id: &CacheId) -> usize
+    requires { AreById slots.now }
+    ensures within { result ≤ length slots.now }
+    ensures parts { IsPartitionPoint (λ slot. is_upto id.now slot ≡ true) (λ slot. is_upto id.now slot ≡ false) slots.now result }
+{
+    slots.partition_point(|slot| compare(&slot.get().entry.id, id).is_le())
+}
+
+/// The place of the slot that serves a request at `now`.
+fn serving(slots: &[BoxedSlot], id: &CacheId, mode: Mode, now: u64) -> Option<usize>
+    requires { AreById slots.now }
+    ensures found { IfSome result (λ i. (i < length slots.now) × HoldsAt (λ slot. serves_at id.now mode now slot ≡ true) slots.now i) }
+    ensures none { IfNone result (ServesNone slots.now id.now mode now) }
+{
+    let start = start_of(slots, id);
+    let end = end_of(slots, id);
+    for i in start..end {
+        if slots[i].get().serves_at(id, mode, now) {
+            return Some(i);
+        }
+    }
+    None
+}
+
+/// The passphrase for a request at `now`, and in `found` the place of its slot.
+pub(crate) fn grant_from(
+    slots: &[BoxedSlot],
+    id: &CacheId,
+    mode: Mode,
+    now: u64,
+    found: &Cell<usize>,
+) -> Option<Grant>
+    requires { AreKept slots.now }
+    ensures found { IfSome result (IsGrantFrom slots.now id.now mode now) }
+    ensures none { IfNone result (ServesNone slots.now id.now mode now) }
+{
+    let i = serving(slots, id, mode, now)?;
+    found.set(i);
+    let slot = slots[i].get();
+    Grant::of(id.copy(), mode, slot.entry.copy(), slot.last, now)
+}
+
+/// The place of the slot with this number, which may be at `guess`.
+pub(crate) fn with_number(slots: &[BoxedSlot], guess: usize, number: u64) -> Option<usize>
+    ensures found { IfSome result (λ i. (i < length slots.now) × HoldsAt (λ slot. (number == slot.entry.number) ≡ true) slots.now i) }
+    ensures none { IfNone result (AllByRecursion (λ slot. (number == slot.entry.number) ≡ false) slots.now) }
+{
+    if guess < slots.len() && number == slots[guess].get().entry.number {
+        return Some(guess);
+    }
+    for i in 0..slots.len() {
+        if number == slots[i].get().entry.number {
+            return Some(i);
+        }
+    }
+    None
+}
