@@ -15,8 +15,7 @@ use Rattle.cache_policy.specs.declared.mark.MarkReply.{MarkReply}
 use Rattle.cache_policy.specs.declared.mark.MarkReply.TheVariants.{Given, Empty, Open, Done, Held as WhetherHeld, Stopping}
 use Rattle.cache_policy.specs.declared.entry.Entry.{Entry}
 use Rattle.cache_policy.specs.declared.history.Held.{Held}
-use Rattle.cache_policy.specs.declared.history.History.{History}
-use Rattle.cache_policy.specs.Histories.{next_number, start_of, with_marks, with_mark}
+use Rattle.cache_policy.specs.Histories.{History, next_number, start_of, with_marks, with_mark}
 use Rattle.cache_policy.specs.Seat.{under_of, is_open, gives_back, unless_back, unless_given_back, seat, stopped}
 use Rattle.cache_policy.specs.Live.{live}
 use Rattle.cache_policy.specs.Policy.{Reply, policy, prompt_ruling, ask_ruling}

@@ -3,7 +3,7 @@ use Rattle.std.specs.Prelude.{◌≡◌, ℕ, ◌+◌, List, ◌∷◌, ◌++◌
 use Rattle.std.specs.List.{AllByRecursion}
 use Rattle.cache_policy.specs.declared.mark.Mark.{Mark}
 use Rattle.cache_policy.specs.declared.mark.MarkReply.TheVariants.{Open}
-use Rattle.cache_policy.specs.declared.history.History.{History}
+use Rattle.cache_policy.specs.Histories.{History}
 use Rattle.cache_policy.specs.Seat.{is_open, gives_back}
 
 -- the marks before the first Close of this ticket, or all of them where none is
