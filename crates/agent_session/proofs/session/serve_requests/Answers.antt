@@ -29,34 +29,64 @@ pub returns-in-End-answer : goal.returns-in-End-answer
 returns-in-End-answer g c =
     let i = c.loop-line.invariant in
     let received = done_received {w = prompt_world g.D.Desk.turned g.P.Prompter.prompted} c.loop-line.desk c.loop-line.prompter c.loop-line.conn c.next_request.new.self c.next_request.result i.going c.next_request.ensures in
-    is_over {w = prompt_world g.D.Desk.turned g.P.Prompter.prompted} (LineExchange c.args.rules.now) c.args.options.now _ _ _ i.serving _ c.next_request.result received c.in-Line.line c.in-Line.is _ _ c.in-End-answer.end (rw c.in-End-answer.is at c.answer.ensures.answers)
+    record {
+      serves =
+          is_over {w = prompt_world g.D.Desk.turned g.P.Prompter.prompted} (LineExchange c.args.rules.now) c.args.options.now _ _ _ i.serving _ c.next_request.result received c.in-Line.line c.in-Line.is _ _ c.in-End-answer.end (rw c.in-End-answer.is at c.answer.ensures.answers);
+      free = c.answer.ensures.free;
+      shut = c.answer.ensures.shut;
+    }
 
 pub returns-in-Ok : goal.returns-in-Ok
 returns-in-Ok g c =
     let i = c.loop-line.invariant in
     let received = done_received {w = prompt_world g.D.Desk.turned g.P.Prompter.prompted} c.loop-line.desk c.loop-line.prompter c.loop-line.conn c.next_request.new.self c.next_request.result i.going c.next_request.ensures in
-    at_too_long {w = prompt_world g.D.Desk.turned g.P.Prompter.prompted} (LineExchange c.args.rules.now) c.args.options.now _ _ _ i.serving _ c.next_request.result received c.in-TooLong.is _ c.in-TooLong.ensures.read.ended (c.in-Ok.ensures _ _ _ c.err.ensures)
+    record {
+      serves =
+          at_too_long {w = prompt_world g.D.Desk.turned g.P.Prompter.prompted} (LineExchange c.args.rules.now) c.args.options.now _ _ _ i.serving _ c.next_request.result received c.in-TooLong.is _ c.in-TooLong.ensures.read.ended (c.in-Ok.ensures _ _ _ c.err.ensures);
+      free = i.free;
+      shut = i.shut;
+    }
 
 pub returns-in-Err : goal.returns-in-Err
 returns-in-Err g c =
     let i = c.loop-line.invariant in
     let received = done_received {w = prompt_world g.D.Desk.turned g.P.Prompter.prompted} c.loop-line.desk c.loop-line.prompter c.loop-line.conn c.next_request.new.self c.next_request.result i.going c.next_request.ensures in
-    cut_at_too_long {w = prompt_world g.D.Desk.turned g.P.Prompter.prompted} (LineExchange c.args.rules.now) c.args.options.now _ _ _ i.serving _ c.next_request.result received c.in-TooLong.is _ _ (c.in-Err.ensures _ _ _ c.err.ensures)
+    record {
+      serves =
+          cut_at_too_long {w = prompt_world g.D.Desk.turned g.P.Prompter.prompted} (LineExchange c.args.rules.now) c.args.options.now _ _ _ i.serving _ c.next_request.result received c.in-TooLong.is _ _ (c.in-Err.ensures _ _ _ c.err.ensures);
+      free = i.free;
+      shut = i.shut;
+    }
 
 pub returns-in-End : goal.returns-in-End
 returns-in-End g c =
     let i = c.loop-line.invariant in
     let received = done_received {w = prompt_world g.D.Desk.turned g.P.Prompter.prompted} c.loop-line.desk c.loop-line.prompter c.loop-line.conn c.next_request.new.self c.next_request.result i.going c.next_request.ensures in
-    at_end {w = prompt_world g.D.Desk.turned g.P.Prompter.prompted} (LineExchange c.args.rules.now) c.args.options.now _ _ _ i.serving _ c.next_request.result received c.in-End.is c.in-End.ensures.read.ended
+    record {
+      serves =
+          at_end {w = prompt_world g.D.Desk.turned g.P.Prompter.prompted} (LineExchange c.args.rules.now) c.args.options.now _ _ _ i.serving _ c.next_request.result received c.in-End.is c.in-End.ensures.read.ended;
+      free = i.free;
+      shut = i.shut;
+    }
 
 pub returns-in-Spent : goal.returns-in-Spent
 returns-in-Spent g c =
     let i = c.loop-line.invariant in
     let received = done_received {w = prompt_world g.D.Desk.turned g.P.Prompter.prompted} c.loop-line.desk c.loop-line.prompter c.loop-line.conn c.next_request.new.self c.next_request.result i.going c.next_request.ensures in
-    at_spent {w = prompt_world g.D.Desk.turned g.P.Prompter.prompted} (LineExchange c.args.rules.now) c.args.options.now _ _ _ i.serving _ c.next_request.result received c.in-Spent.is c.in-Spent.ensures.read.ended
+    record {
+      serves =
+          at_spent {w = prompt_world g.D.Desk.turned g.P.Prompter.prompted} (LineExchange c.args.rules.now) c.args.options.now _ _ _ i.serving _ c.next_request.result received c.in-Spent.is c.in-Spent.ensures.read.ended;
+      free = i.free;
+      shut = i.shut;
+    }
 
 pub returns-in-ReadFault : goal.returns-in-ReadFault
 returns-in-ReadFault g c =
     let i = c.loop-line.invariant in
     let received = done_received {w = prompt_world g.D.Desk.turned g.P.Prompter.prompted} c.loop-line.desk c.loop-line.prompter c.loop-line.conn c.next_request.new.self c.next_request.result i.going c.next_request.ensures in
-    at_read_fault {w = prompt_world g.D.Desk.turned g.P.Prompter.prompted} (LineExchange c.args.rules.now) c.args.options.now _ _ _ i.serving _ c.next_request.result received c.in-ReadFault.is c.in-ReadFault.ensures.read.ended (c.in-ReadFault.ensures.read.fault refl)
+    record {
+      serves =
+          at_read_fault {w = prompt_world g.D.Desk.turned g.P.Prompter.prompted} (LineExchange c.args.rules.now) c.args.options.now _ _ _ i.serving _ c.next_request.result received c.in-ReadFault.is c.in-ReadFault.ensures.read.ended (c.in-ReadFault.ensures.read.fault refl);
+      free = i.free;
+      shut = i.shut;
+    }
