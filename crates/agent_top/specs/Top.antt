@@ -1,8 +1,9 @@
 -- What a run of the agent leaves, and its status. The statuses are this project's own.
-use Rattle.std.specs.Prelude.{◌≡◌, ℕ, List, [], ◌∷◌}
+use Rattle.std.specs.Prelude.{◌≡◌, ℕ, List, [], ◌∷◌, Option, Some}
 use Rattle.agent_core.specs.Solos.{AtSolo, TurnsSolo}
 use Rattle.agent_ports.specs.Readings.{Readings, HasGiven}
 use Rattle.agent_ports.specs.Sides.{Side}
+use Rattle.agent_ports.specs.declared.host.Parts.{Parts}
 use Rattle.cache_policy.specs.declared.history.History.{History}
 use Rattle.cache_policy.specs.declared.life.Limits.{Limits}
 use Rattle.cache_policy.specs.declared.mark.MarkStep.{MarkStep}
@@ -77,3 +78,16 @@ pub record RunsSession (rules : Rules) (before : Outside) (number : ℕ) (after 
 pub data RunsServer (rules : Rules) (before : Outside) : ℕ → Outside → Type 0 where
   ran : {number : ℕ} {after : Outside} → RunsSession rules before number after → RunsServer rules before number after
   no_memory : RunsServer rules before (number_of status.NoMemory) before
+
+-- the rules with the number of the process
+abbrev pub with_pid : ℕ → Rules → Rules
+with_pid pid rules = record rules { pid = pid }
+
+-- The host's parts were taken and given back. The clock went on so, and the others are as they were.
+pub record UsesClock {La C R K : Type 0} (GoesOn : C → C → Type 0) (before after : Option (Parts La C R K)) : Type 0 where
+  pub had : Parts La C R K
+  pub has : Parts La C R K
+  pub had_is : before ≡ Some had
+  pub has_is : after ≡ Some has
+  pub goes_on : GoesOn had.clock has.clock
+  pub others : has ≡ record had { clock = has.clock }

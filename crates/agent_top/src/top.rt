@@ -1,8 +1,8 @@
-ghost use Rattle.std.specs.Prelude.{◌≡◌, map, string_bytes, IfSome, IfNone};
+ghost use Rattle.std.specs.Prelude.{◌≡◌, map, string_bytes, IfSome, IfNone, IsSome};
 ghost use Rattle.agent_core.specs.Solos.{seen};
 ghost use Rattle.agent_top.specs.Cache.{limits_of, fresh_desk};
 ghost use Rattle.agent_top.specs.Words.{rules_of};
-ghost use Rattle.agent_top.specs.Top.{number_of, outside, RunsServer};
+ghost use Rattle.agent_top.specs.Top.{number_of, outside, with_pid, UsesClock, RunsServer};
 
 use crate::Status;
 use crate::words::{WordsFault, read_words};
@@ -31,34 +31,60 @@ pub fn run_agent<W: Threads + Wait + rt::Clock + Sync, S: Link, H: Host>(
     stdio: &mut S,
     host: &mut H,
 ) -> u8
+    requires { IsSome (H.server host.old) }
     // Words that it doesn't know: nothing is read or written.
     ensures refused { IfNone (rules_of (map string_bytes words.now))
         ((result ≡ number_of Status.BadWords) × (S.input stdio.new ≡ S.input stdio.old) × (S.output stdio.new ≡ S.output stdio.old)
         × (host.new ≡ host.old)) }
-    ensures served { IfSome (rules_of (map string_bytes words.now)) (λ rules. RunsServer rules
-        (outside (S.input stdio.old) (S.output stdio.old) (H.readings host.old)) result
-        (outside (S.input stdio.new) (S.output stdio.new) (H.readings host.new))) }
+    // The host has its parts again.
+    ensures served { IfSome (rules_of (map string_bytes words.now)) (λ rules. UsesClock (λ before after. RunsServer (with_pid (H.process host.old) rules)
+        (outside (S.input stdio.old) (S.output stdio.old) (H.Clock.readings before)) result
+        (outside (S.input stdio.new) (S.output stdio.new) (H.Clock.readings after))) (H.server host.old) (H.server host.new)) }
+    ensures process { H.process host.new ≡ H.process host.old }
 {
     match read_words(words) {
-        Ok(rules) => run_server(alloc, &rules, stdio, host),
+        Ok(rules) => {
+            let rules = with_pid(rules, host.pid());
+            run_server(alloc, &rules, stdio, host)
+        }
         Err(WordsFault::Bad) => Status::BadWords.number(),
     }
 }
 
-/// Serves one session on standard input and output, and gives its status, as `run_agent` does. It always returns.
+/// Serves one session on standard input and output, and gives its status, as `run_agent` does. It always returns. Meanwhile it has the
+/// host's parts.
 pub fn run_server<S: Link, H: Host>(alloc: Global, rules: &Rules, stdio: &mut S, host: &mut H) -> u8
+    requires { IsSome (H.server host.old) }
+    ensures served { UsesClock (λ before after. RunsServer rules.now
+        (outside (S.input stdio.old) (S.output stdio.old) (H.Clock.readings before)) result
+        (outside (S.input stdio.new) (S.output stdio.new) (H.Clock.readings after))) (H.server host.old) (H.server host.new) }
+    ensures process { H.process host.new ≡ H.process host.old }
+{
+    let mut parts = host.server_parts();
+    let status = serve_alone(alloc, rules, stdio, &mut parts.clock);
+    host.parts_back(parts);
+    status.number()
+}
+
+/// Serves one session at a desk of its own over the clock.
+fn serve_alone<S: Link, C: Clock>(
+    alloc: Global,
+    rules: &Rules,
+    stdio: &mut S,
+    clock: &mut C,
+) -> Status
     ensures { RunsServer rules.now
-        (outside (S.input stdio.old) (S.output stdio.old) (H.readings host.old)) result
-        (outside (S.input stdio.new) (S.output stdio.new) (H.readings host.new)) }
+        (outside (S.input stdio.old) (S.output stdio.old) (C.readings clock.old)) (number_of result)
+        (outside (S.input stdio.new) (S.output stdio.new) (C.readings clock.new)) }
 {
     let Ok(core) = KnownCore::new(alloc, limits_of(rules)) else {
-        return Status::NoMemory.number();
+        return Status::NoMemory;
     };
-    let mut desk = Solo::over(core, host, SESSION, Vec::new(alloc));
+    let mut desk = Solo::over(core, clock, SESSION, Vec::new(alloc));
     let status = serve(alloc, rules, stdio, &mut desk);
     // So what the desk read is known of the clock.
     desk.end();
-    status.number()
+    status
 }
 
 /// Serves one session at a desk whose cache is empty.
@@ -87,4 +113,12 @@ fn limits_of(rules: &Rules) -> Limits
         ttl_ssh: rules.default_ttl_ssh,
         max_ssh: rules.max_ttl_ssh,
     }
+}
+
+/// The rules with the number of the process.
+fn with_pid(mut rules: Rules, pid: u32) -> Rules
+    ensures { result ≡ with_pid pid rules }
+{
+    rules.pid = pid;
+    rules
 }
