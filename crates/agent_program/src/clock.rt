@@ -1,6 +1,6 @@
 ghost use Rattle.std.specs.Prelude.{None};
 
-use agent_ports::{Clock, Host};
+use agent_ports::Clock;
 use std::rt;
 use std::time::{SystemTime, UNIX_EPOCH};
 
@@ -36,8 +36,6 @@ impl<R: rt::Clock> Clock for SystemClock<'_, R> {
         self.last
     }
 }
-
-impl<R: rt::Clock> Host for SystemClock<'_, R> {}
 
 #[cfg(test)]
 mod tests {

@@ -1,13 +1,15 @@
-//! The agent as a program: standard input, standard output and the clock, handed to `run_agent`.
+//! The agent as a program: standard input, standard output and the machine, handed to `run_agent`.
 #![tactic(auto)]
 
 mod clock;
+mod host;
+mod launcher;
 
 use agent_top::{Status, run_agent};
-use clock::SystemClock;
-use std::env;
+use host::SystemHost;
 use std::io::ErrorKind;
 use std::process::ExitCode;
+use std::{env, process};
 use std_link::StdLink;
 
 fn main(rt: HostRuntime) -> ExitCode {
@@ -16,7 +18,7 @@ fn main(rt: HostRuntime) -> ExitCode {
         Err(status) => return ExitCode::from(status.number()),
     };
     let mut stdio = StdLink::new(rt.reader(), std::io::writer(&rt));
-    let mut host = SystemClock::new(&rt);
+    let mut host = SystemHost::new(&rt, rt.alloc(), process::id(rt.process()));
     let status = run_agent(&rt, rt.alloc(), &words, &mut stdio, &mut host);
     ExitCode::from(status)
 }

@@ -1,7 +1,12 @@
 -- A session at the desk is one at what the desk shows.
-use Rattle.std.proofs.Common.{◌≡◌, ℕ, List, [], ◌∷◌, inr, refl, sym, ◌∙◌, subst, arith}
+use Rattle.std.proofs.Common.{◌≡◌, ℕ, List, [], Option, None, Some, Bool, false, ◌∷◌, inr, refl, sym, ◌∙◌, subst, arith}
+use Rattle.std.specs.Prelude.{is_some}
 use Rattle.agent_core.specs.Solos.{SoloState, AtSolo, seen, at_desk, TurnsSolo, SoloTurn}
 use Rattle.agent_core.proofs.Alone.{IsAlone, Replayed, replayed}
+use Rattle.agent_ask.specs.Doing.{called, out_of_memory}
+use Rattle.agent_ask.specs.Events.{PromptEvent}
+use Rattle.agent_ask.specs.Prompters.{IsShut}
+use Rattle.agent_ports.specs.Launches.{Launches}
 use Rattle.agent_ports.specs.Leads.{Leads, none, one}
 use Rattle.agent_ports.specs.Readings.{Readings}
 use Rattle.agent_ports.specs.Sides.{Side}
@@ -11,37 +16,49 @@ use Rattle.cache_policy.specs.Legal.{IsLegalRun}
 use Rattle.cache_policy.specs.Replay.{first_history}
 use Rattle.cache_policy.proofs.Extending.{extends}
 use Rattle.agent_commands.specs.Events.{Event, turns_in}
-use Rattle.agent_commands.specs.Outside.{world, Outside, Does, received, sent, cut, asked, not_asked, turned, further}
+use Rattle.agent_commands.specs.Outside.{World, prompt_world, Outside, Does, received, sent, cut, asked, not_asked, turned, further}
 use Rattle.agent_commands.specs.declared.went.SessionEnd.{SessionEnd}
 use Rattle.agent_session.proofs.Turning.{turns_lead}
-use Rattle.agent_session.specs.Sessions.{surroundings, ends_with, total_of, ServesSession}
+use Rattle.agent_session.specs.Sessions.{surroundings, ends_with, total_of, ServesRules}
+use Rattle.assuan_client.specs.Connections.{Connection}
+use Rattle.pinentry_client.specs.Dialogues.{Does as AsksChild, PinentryCall}
+use Rattle.pinentry_client.specs.States.{PinentryState, AtPinentry, seen as at_pinentry, at_prompter}
 use Rattle.session_options.specs.declared.rules.Rules.{Rules}
 use Rattle.agent_top.specs.Cache.{limits_of, session, fresh_desk}
-use Rattle.agent_top.specs.Top.{outside, RunsServer, ran, number_of, status_of}
+use Rattle.agent_top.specs.Top.{outside, no_child, RunsServer, ran, number_of, status_of}
 
-module _ {C : Type 0} (readings : C → Readings) (total : ℕ) where
-  -- the ends with what the desk shows in place of the desk
-  abbrev pub with_seen : Outside (world (SoloTurn readings)) → Outside (world TurnsSolo)
-  with_seen ends = record { input = ends.input; source = ends.source; output = ends.output; desk = seen readings ends.desk; ends = tt }
+-- a session at a desk and with a pinentry, and what they show of it
+abbrev pub held_world : {C La : Type 0} → (C → Readings) → (La → Launches) → World
+held_world readings launches = prompt_world (SoloTurn readings) (PinentryCall launches)
 
-  pub record Lifts (before after : Outside (world (SoloTurn readings))) (events : List (Event (world (SoloTurn readings)).Further)) : Type 0 where
-    pub leads : Leads (Does (world TurnsSolo) total) (with_seen before) events (with_seen after)
+abbrev pub seen_world : World
+seen_world = prompt_world TurnsSolo AsksChild
+
+module _ {C La : Type 0} (readings : C → Readings) (launches : La → Launches) (total : ℕ) where
+  -- the ends with what the desk and the pinentry show in their place
+  abbrev pub with_seen : Outside (held_world readings launches) → Outside seen_world
+  with_seen ends = record { input = ends.input; source = ends.source; output = ends.output; desk = seen readings ends.desk; ends = at_pinentry launches ends.ends }
+
+  pub record Lifts (before after : Outside (held_world readings launches)) (events : List (Event PromptEvent)) : Type 0 where
+    pub leads : Leads (Does seen_world total) (with_seen before) events (with_seen after)
     pub lent : after.desk.lent ≡ before.desk.lent
+    pub launcher : after.ends.lent ≡ before.ends.lent
 
-  pub lifts : {before after : Outside (world (SoloTurn readings))} {events : List (Event (world (SoloTurn readings)).Further)}
-      → Leads (Does (world (SoloTurn readings)) total) before events after → Lifts before after events
-  lifts none = record { leads = none; lent = refl }
-  lifts (one (received known needed) more) = let r = lifts more in record { leads = one (received known needed) r.leads; lent = r.lent }
-  lifts (one sent more) = let r = lifts more in record { leads = one sent r.leads; lent = r.lent }
-  lifts (one cut more) = let r = lifts more in record { leads = one cut r.leads; lent = r.lent }
-  lifts (one (asked known needed) more) = let r = lifts more in record { leads = one (asked known needed) r.leads; lent = r.lent }
-  lifts (one (not_asked unsent split) more) = let r = lifts more in record { leads = one (not_asked unsent split) r.leads; lent = r.lent }
-  lifts (one (turned does) more) = let r = lifts more in record { leads = one (turned does.turns) r.leads; lent = r.lent ∙ does.lent }
-  lifts (one (further does) more) = absurd does
+  pub lifts : {before after : Outside (held_world readings launches)} {events : List (Event PromptEvent)}
+      → Leads (Does (held_world readings launches) total) before events after → Lifts before after events
+  lifts none = record { leads = none; lent = refl; launcher = refl }
+  lifts (one (received known needed) more) = let r = lifts more in record { leads = one (received known needed) r.leads; lent = r.lent; launcher = r.launcher }
+  lifts (one sent more) = let r = lifts more in record { leads = one sent r.leads; lent = r.lent; launcher = r.launcher }
+  lifts (one cut more) = let r = lifts more in record { leads = one cut r.leads; lent = r.lent; launcher = r.launcher }
+  lifts (one (asked known needed) more) = let r = lifts more in record { leads = one (asked known needed) r.leads; lent = r.lent; launcher = r.launcher }
+  lifts (one (not_asked unsent split) more) = let r = lifts more in record { leads = one (not_asked unsent split) r.leads; lent = r.lent; launcher = r.launcher }
+  lifts (one (turned does) more) = let r = lifts more in record { leads = one (turned does.turns) r.leads; lent = r.lent ∙ does.lent; launcher = r.launcher }
+  lifts (one (further (called does)) more) = let r = lifts more in record { leads = one (further (called does.does)) r.leads; lent = r.lent; launcher = r.launcher ∙ does.lent }
+  lifts (one (further out_of_memory) more) = let r = lifts more in record { leads = one (further out_of_memory) r.leads; lent = r.lent; launcher = r.launcher }
 
 -- the run goes on by the turns of the events
-extended : (total : ℕ) (before after : Outside (world TurnsSolo)) (events : List (Event (world TurnsSolo).Further))
-    → Leads (Does (world TurnsSolo) total) before events after
+extended : (total : ℕ) (before after : Outside seen_world) (events : List (Event PromptEvent))
+    → Leads (Does seen_world total) before events after
     → IsExtended before.desk.limits before.desk.session before.desk.run (turns_in events) after.desk.run
 extended total before after events leads =
     extends at_desk TurnsSolo (λ b asked turn a turns. turns.is) before.desk after.desk (turns_in events) (turns_lead leads)
@@ -53,23 +70,36 @@ first_legal limits = record {
   moments = tt;
 }
 
+no_some : (child : Option Connection) → is_some child ≡ false → child ≡ None
+no_some None is = refl
+no_some (Some conn) is = absurd (cc is)
+
 -- what a session at the desk is for the agent
-module _ {C : Type 0} (readings : C → Readings) (rules : Rules) (input output input_now output_now : Side) (desk desk_now : SoloState C) (end : SessionEnd)
+module _ {C La : Type 0} (readings : C → Readings) (launches : La → Launches) (rules : Rules) (input output input_now output_now : Side) (desk desk_now : SoloState C)
+    (pinentry pinentry_now : PinentryState La) (end : SessionEnd)
     (fresh : seen readings desk ≡ fresh_desk (limits_of rules) (readings desk.clock))
-    (served : ServesSession {w = world (SoloTurn readings)} rules (surroundings (SoloTurn readings) input output desk) end (surroundings (SoloTurn readings) input_now output_now desk_now)) where
-  lifted : Lifts readings (total_of input.bytes) (ends_with input.bytes (surroundings (SoloTurn readings) input output desk))
-      (ends_with served.rest (surroundings (SoloTurn readings) input_now output_now desk_now)) served.events
-  lifted = lifts readings (total_of input.bytes) served.leads
+    (unused : at_pinentry launches pinentry ≡ no_child (launches pinentry.launcher))
+    (served : ServesRules (SoloTurn readings) (PinentryCall launches) rules (surroundings (SoloTurn readings) (PinentryCall launches) input output desk pinentry) end
+    (surroundings (SoloTurn readings) (PinentryCall launches) input_now output_now desk_now pinentry_now))
+    (shut : at_pinentry launches pinentry_now ≡ no_child (launches pinentry_now.launcher)) where
+  lifted : Lifts readings launches (total_of input.bytes) (ends_with input.bytes (surroundings (SoloTurn readings) (PinentryCall launches) input output desk pinentry))
+      (ends_with served.rest (surroundings (SoloTurn readings) (PinentryCall launches) input_now output_now desk_now pinentry_now)) served.events
+  lifted = lifts readings launches (total_of input.bytes) served.leads
 
   -- the desk as it begins
-  leads_so : Leads (Does (world TurnsSolo) (total_of input.bytes))
-      (ends_with input.bytes (surroundings TurnsSolo input output (fresh_desk (limits_of rules) (readings desk.clock)))) served.events
-      (ends_with served.rest (surroundings TurnsSolo input_now output_now (seen readings desk_now)))
-  leads_so =
-      subst (λ (s : AtSolo). Leads (Does (world TurnsSolo) (total_of input.bytes)) (ends_with input.bytes (surroundings TurnsSolo input output s)) served.events
-      (ends_with served.rest (surroundings TurnsSolo input_now output_now (seen readings desk_now)))) fresh lifted.leads
+  abbrev leads_from : AtSolo → AtPinentry → AtPinentry → Type 0
+  leads_from from asks asks_now =
+      Leads (Does seen_world (total_of input.bytes)) (ends_with input.bytes (surroundings TurnsSolo AsksChild input output from asks)) served.events
+      (ends_with served.rest (surroundings TurnsSolo AsksChild input_now output_now (seen readings desk_now) asks_now))
 
-  pub ran_so : (number : ℕ) → number ≡ number_of (status_of end) → RunsServer rules (outside input output (readings desk.clock)) number (outside input_now output_now (readings desk_now.clock))
+  leads_so : leads_from (fresh_desk (limits_of rules) (readings desk.clock)) (no_child (launches pinentry.launcher)) (no_child (launches pinentry_now.launcher))
+  leads_so =
+      subst (λ (s : AtSolo). leads_from s (no_child (launches pinentry.launcher)) (no_child (launches pinentry_now.launcher))) fresh
+      (subst (λ (p : AtPinentry). leads_from (seen readings desk) p (no_child (launches pinentry_now.launcher))) unused
+      (subst (λ (p : AtPinentry). leads_from (seen readings desk) (at_pinentry launches pinentry) p) shut lifted.leads))
+
+  pub ran_so : (number : ℕ) → number ≡ number_of (status_of end) → RunsServer rules (outside input output (readings desk.clock) (launches pinentry.launcher)) number
+      (outside input_now output_now (readings desk_now.clock) (launches pinentry_now.launcher))
   ran_so number is =
       let extends : IsExtended (limits_of rules) session (first_history ∷ []) (turns_in served.events) (seen readings desk_now).run =
       extended (total_of input.bytes) _ _ served.events leads_so in
@@ -115,3 +145,11 @@ module _ {C : Type 0} (readings : C → Readings) (rules : Rules) (input output 
 
   pub lent_so : desk_now.lent ≡ desk.lent
   lent_so = lifted.lent
+
+  pub launcher_so : pinentry_now.lent ≡ pinentry.lent
+  launcher_so = lifted.launcher
+
+-- a pinentry that is shut
+pub shut_so : {La : Type 0} (launches : La → Launches) (pinentry : PinentryState La) → IsShut (at_prompter (at_pinentry launches pinentry))
+    → at_pinentry launches pinentry ≡ no_child (launches pinentry.launcher)
+shut_so launches pinentry shut = rw (shut.idle, no_some pinentry.child shut.childless) refl

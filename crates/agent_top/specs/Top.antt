@@ -1,8 +1,10 @@
 -- What a run of the agent leaves, and its status. The statuses are this project's own.
-use Rattle.std.specs.Prelude.{◌≡◌, ℕ, List, [], ◌∷◌}
+use Rattle.std.specs.Prelude.{◌≡◌, ℕ, false, List, [], ◌∷◌, Option, Some}
 use Rattle.agent_core.specs.Solos.{AtSolo, TurnsSolo}
 use Rattle.agent_ports.specs.Readings.{Readings, HasGiven}
 use Rattle.agent_ports.specs.Sides.{Side}
+use Rattle.agent_ports.specs.Launches.{Launches}
+use Rattle.agent_ports.specs.declared.host.Parts.{Parts}
 use Rattle.cache_policy.specs.Histories.{History}
 use Rattle.cache_policy.specs.declared.life.Limits.{Limits}
 use Rattle.cache_policy.specs.declared.mark.MarkStep.{MarkStep}
@@ -11,10 +13,12 @@ use Rattle.cache_policy.specs.Legal.{IsLegalRun}
 use Rattle.cache_policy.specs.Replay.{first_history, Replays, Marked}
 use Rattle.session_options.specs.declared.rules.Rules.{Rules}
 use Rattle.agent_commands.specs.Events.{turns_in}
-use Rattle.agent_commands.specs.Outside.{world}
+use Rattle.agent_commands.specs.Outside.{prompt_world}
 use Rattle.agent_commands.specs.declared.went.SessionEnd.{SessionEnd}
 use Rattle.agent_commands.specs.declared.went.SessionEnd.TheVariants.{Bye, Killed, Ended, TooLong, Spent, ReadFault, WriteFault}
-use Rattle.agent_session.specs.Sessions.{Surroundings, surroundings, ServesSession}
+use Rattle.agent_session.specs.Sessions.{Surroundings, surroundings, ServesRules}
+use Rattle.pinentry_client.specs.Dialogues.{Does}
+use Rattle.pinentry_client.specs.States.{AtPinentry}
 use Rattle.agent_top.specs.Cache.{limits_of, session, fresh_desk}
 use Rattle.agent_top.specs.declared.status.Status.{Status}
 use Rattle.agent_top.specs.declared.status.Status.TheVariants as status
@@ -39,18 +43,23 @@ status_of WriteFault = status.WriteFault
 status_of Spent = status.Spent
 status_of TooLong = status.TooLong
 
--- what a run of the agent has to do with: both sides of its link, and its clock
+-- what a run of the agent has to do with: both sides of its link, its clock, and the children of its launcher
 pub record Outside : Type 0 where
   pub input : Side
   pub output : Side
   pub clock : Readings
+  pub launches : Launches
 
-abbrev pub outside : Side → Side → Readings → Outside
-outside input output clock = record { input = input; output = output; clock = clock }
+abbrev pub outside : Side → Side → Readings → Launches → Outside
+outside input output clock launches = record { input = input; output = output; clock = clock; launches = launches }
 
--- the same with the desk of a cache
-abbrev pub with_desk : AtSolo → Outside → Surroundings (world TurnsSolo)
-with_desk desk around = surroundings TurnsSolo around.input around.output desk
+-- a pinentry for which no child stands
+abbrev pub no_child : Launches → AtPinentry
+no_child launches = record { launches = launches; child = None; ready = false }
+
+-- the same with the desk of a cache, and with a pinentry for which no child stands
+abbrev pub with_desk : AtSolo → Outside → Surroundings (prompt_world TurnsSolo Does)
+with_desk desk around = surroundings TurnsSolo Does around.input around.output desk (no_child around.launches)
 
 -- The run is the replay of the turns that made a mark. Each turn took one reading of the clock, and nothing else did.
 pub record ReplaysTurns (limits : Limits) (before : Readings) (turns : List Taken) (run : List History) (after : Readings) : Type 0 where
@@ -62,13 +71,13 @@ pub record ReplaysTurns (limits : Limits) (before : Readings) (turns : List Take
   pub replays : Replays limits session steps read run
 
 -- A session was served, and the number is that of its end. The cache began empty. Its run is legal, and has the marks of the session's
--- turns in their order, each at the moment that the clock's reading says.
+-- turns in their order, each at the moment that the clock's reading says. Its prompts were those of a pinentry, and no child is left.
 pub record RunsSession (rules : Rules) (before : Outside) (number : ℕ) (after : Outside) : Type 0 where
   pub end : SessionEnd
   pub number_is : number ≡ number_of (status_of end)
   pub desk : AtSolo
   pub clock : desk.clock ≡ after.clock
-  pub served : ServesSession rules (with_desk (fresh_desk (limits_of rules) before.clock) before) end (with_desk desk after)
+  pub served : ServesRules TurnsSolo Does rules (with_desk (fresh_desk (limits_of rules) before.clock) before) end (with_desk desk after)
   pub extended : IsExtended (limits_of rules) session (first_history ∷ []) (turns_in served.events) desk.run
   pub legal : IsLegalRun (limits_of rules) desk.run
   pub replays : ReplaysTurns (limits_of rules) before.clock (turns_in served.events) desk.run after.clock
@@ -77,3 +86,16 @@ pub record RunsSession (rules : Rules) (before : Outside) (number : ℕ) (after 
 pub data RunsServer (rules : Rules) (before : Outside) : ℕ → Outside → Type 0 where
   ran : {number : ℕ} {after : Outside} → RunsSession rules before number after → RunsServer rules before number after
   no_memory : RunsServer rules before (number_of status.NoMemory) before
+
+-- the rules with the number of the process
+abbrev pub with_pid : ℕ → Rules → Rules
+with_pid pid rules = record rules { pid = pid }
+
+-- The host's parts were taken and given back. The clock and the launcher went on so, and the others are as they were.
+pub record UsesParts {La C R K : Type 0} (GoesOn : La → C → La → C → Type 0) (before after : Option (Parts La C R K)) : Type 0 where
+  pub had : Parts La C R K
+  pub has : Parts La C R K
+  pub had_is : before ≡ Some had
+  pub has_is : after ≡ Some has
+  pub goes_on : GoesOn had.launcher had.clock has.launcher has.clock
+  pub others : has ≡ record had { launcher = has.launcher; clock = has.clock }

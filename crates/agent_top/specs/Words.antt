@@ -27,7 +27,7 @@ run_of given =
 abbrev word : List ℕ → ArrayVec ℕ
 word bytes = record { items = bytes }
 
--- each is what its option is given, or else the default; the number of the process isn't asked for yet
+-- each is what its option is given, or else the default; the number of the process isn't among them
 abbrev pub rules_with : List Setting → RunMode → Rules
 rules_with given run = record {
   default_ttl = number_or default_rules.default_ttl (codes "--default-cache-ttl") given;

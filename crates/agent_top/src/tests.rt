@@ -1,8 +1,11 @@
-ghost use Rattle.std.specs.Prelude.{◌≤◌};
+ghost use Rattle.std.specs.Prelude.{◌≤◌, IsSome};
 
 use super::*;
 use crate::dialogues::DIALOGUES;
-use agent_ports::{Got, Link, ListClock, MemHost, MemLink, MemSink, MemSource, Sent, Sink, Source};
+use agent_ports::{
+    Got, Host, Link, ListClock, ListDice, MapKeys, MemHost, MemLauncher, MemLink, MemSink,
+    MemSource, Parts, Sent, Sink, Source,
+};
 use session_options::Rules;
 use std::alloc::{AllocError, Global};
 use std::test::Fail;
@@ -18,6 +21,19 @@ fn rules(allow_preset: bool) -> Rules {
     rules.allow_preset = allow_preset;
     rules.allow_loopback = false;
     rules
+}
+
+/// A machine whose clock gives these readings. Its process has the number 17.
+fn host_with(alloc: Global, readings: Vec<u64>) -> MemHost
+    ensures { IsSome (⟦<MemHost as Host>⟧.server result) }
+{
+    let parts = Parts {
+        launcher: MemLauncher::new(alloc, Vec::new(alloc), Vec::new(alloc)),
+        clock: ListClock::new(readings),
+        dice: ListDice::new(Vec::new(alloc), Vec::new(alloc)),
+        keys: MapKeys::new(alloc, Vec::new(alloc)),
+    };
+    MemHost::new(17, parts)
 }
 
 /// A session on a link in memory.
@@ -38,7 +54,7 @@ fn meets(alloc: Global, case: &Case, piece: usize) -> Result<bool, AllocError>
     let input = Vec::from_slice(alloc, case.input.as_bytes())?;
     let source = MemSource::new(input, piece, Vec::new(alloc));
     let mut stdio = MemLink::new(source, MemSink::new(alloc, 0, Vec::new(alloc)));
-    let mut host = MemHost::new(ListClock::new(Vec::from_slice(alloc, case.readings)?));
+    let mut host = host_with(alloc, Vec::from_slice(alloc, case.readings)?);
     let status = run_server(alloc, &rules(case.allow_preset), &mut stdio, &mut host);
     let want = format!(in alloc; "{GREETING}{}", case.output)?;
     Ok(status == case.status && stdio.written() == want.as_bytes())
@@ -403,7 +419,7 @@ fn faults_of_the_link_have_their_statuses(rt: HostRuntime) -> Result<(), Fail> {
     ] {
         let source = MemSource::new(Vec::from_slice(alloc, b"FOO\nNO")?, 9, reads);
         let mut stdio = MemLink::new(source, MemSink::new(alloc, 2, writes));
-        let mut host = MemHost::new(ListClock::new(Vec::new(alloc)));
+        let mut host = host_with(alloc, Vec::new(alloc));
         let got = run_server(alloc, &rules(true), &mut stdio, &mut host);
         assert_eq!(rt; got, status);
         assert!(rt;
@@ -414,10 +430,11 @@ fn faults_of_the_link_have_their_statuses(rt: HostRuntime) -> Result<(), Fail> {
     Ok(())
 }
 
-const WORDS: [(&str, u8, &str); 5] = [
+const WORDS: [(&str, u8, &str); 6] = [
     ("--server --allow-preset-passphrase", 0, "D secret\n"),
     ("--allow-preset-passphrase --server", 0, "D secret\n"),
     ("--server", 0, "Not supported"),
+    ("--server", 0, "D 17\n"),
     ("--server --server", 2, ""),
     ("--daemon", 2, ""),
 ];
@@ -426,6 +443,7 @@ const WORDS: [(&str, u8, &str); 5] = [
 fn the_words_decide(rt: HostRuntime) -> Result<(), Fail> {
     let alloc = rt.alloc();
     let (input, _) = ANSWERS[0];
+    let input = format!(in alloc; "GETINFO pid\n{input}")?;
     for (line, status, part) in WORDS {
         let mut words = Vec::new(alloc);
         for word in line.split(' ') {
@@ -437,7 +455,7 @@ fn the_words_decide(rt: HostRuntime) -> Result<(), Fail> {
             Vec::new(alloc),
         );
         let mut stdio = MemLink::new(source, MemSink::new(alloc, 0, Vec::new(alloc)));
-        let mut host = MemHost::new(ListClock::new(Vec::new(alloc)));
+        let mut host = host_with(alloc, Vec::new(alloc));
         assert_eq!(rt;
             run_agent(&rt, alloc, &words, &mut stdio, &mut host),
             status
@@ -541,7 +559,7 @@ fn each_answer_is_written_before_more_is_read(rt: HostRuntime) -> Result<(), Fai
         read_faults: 0,
         write_faults: 0,
     };
-    let mut host = MemHost::new(ListClock::new(Vec::new(alloc)));
+    let mut host = host_with(alloc, Vec::new(alloc));
     assert_eq!(rt; run_server(alloc, &rules(true), &mut stdio, &mut host), 0);
     assert!(rt; stdio.written.as_slice() == all.as_bytes());
     Ok(())

@@ -1,15 +1,17 @@
-ghost use Rattle.std.specs.Prelude.{◌≡◌, map, string_bytes, IfSome, IfNone};
+ghost use Rattle.std.specs.Prelude.{◌≡◌, map, string_bytes, IfSome, IfNone, IsSome, is_some, false};
 ghost use Rattle.agent_core.specs.Solos.{seen};
+ghost use Rattle.pinentry_client.specs.States.{seen as at_pinentry};
 ghost use Rattle.agent_top.specs.Cache.{limits_of, fresh_desk};
 ghost use Rattle.agent_top.specs.Words.{rules_of};
-ghost use Rattle.agent_top.specs.Top.{number_of, outside, RunsServer};
+ghost use Rattle.agent_top.specs.Top.{number_of, outside, with_pid, no_child, UsesParts, RunsServer};
 
 use crate::Status;
 use crate::words::{WordsFault, read_words};
 use agent_core::{KnownCore, Solo};
-use agent_ports::{Clock, Host, Link, SessionId};
+use agent_ports::{Clock, Dice, Host, Keys, Launcher, Link, SessionId};
 use agent_session::serve_session;
 use cache_policy::Limits;
+use pinentry_client::{Pinentry, Word};
 use session_options::Rules;
 use std::alloc::Global;
 use std::rt;
@@ -22,8 +24,7 @@ const SESSION: SessionId = SessionId { pass: 0, count: 0 };
 /// The agent. It reads its words, which leave out the program's name, and serves a session on standard input and output.
 ///
 /// Its answer is the status of the process: 0 at BYE or the end of the input, 1 where there is no memory for the session, 2 for words
-/// that it doesn't take, 3 and 4 where a read or a write failed, 6 after 2^40 bytes, and 7 at a line of more than 1,000 bytes. The
-/// runtime isn't used yet.
+/// that it doesn't take, 3 and 4 where a read or a write failed, 6 after 2^40 bytes, and 7 at a line of more than 1,000 bytes.
 pub fn run_agent<W: Threads + Wait + rt::Clock + Sync, S: Link, H: Host>(
     _rt: &W,
     alloc: Global,
@@ -31,50 +32,108 @@ pub fn run_agent<W: Threads + Wait + rt::Clock + Sync, S: Link, H: Host>(
     stdio: &mut S,
     host: &mut H,
 ) -> u8
+    requires { IsSome (H.server host.old) }
     // Words that it doesn't know: nothing is read or written.
     ensures refused { IfNone (rules_of (map string_bytes words.now))
         ((result ≡ number_of Status.BadWords) × (S.input stdio.new ≡ S.input stdio.old) × (S.output stdio.new ≡ S.output stdio.old)
         × (host.new ≡ host.old)) }
-    ensures served { IfSome (rules_of (map string_bytes words.now)) (λ rules. RunsServer rules
-        (outside (S.input stdio.old) (S.output stdio.old) (H.readings host.old)) result
-        (outside (S.input stdio.new) (S.output stdio.new) (H.readings host.new))) }
+    // The host has its parts again.
+    ensures served { IfSome (rules_of (map string_bytes words.now)) (λ rules. UsesParts (λ launcher clock launcher_now clock_now.
+        RunsServer (with_pid (H.process host.old) rules)
+        (outside (S.input stdio.old) (S.output stdio.old) (H.Clock.readings clock) (H.Launcher.launches launcher)) result
+        (outside (S.input stdio.new) (S.output stdio.new) (H.Clock.readings clock_now) (H.Launcher.launches launcher_now)))
+        (H.server host.old) (H.server host.new)) }
+    ensures process { H.process host.new ≡ H.process host.old }
 {
     match read_words(words) {
-        Ok(rules) => run_server(alloc, &rules, stdio, host),
+        Ok(rules) => {
+            let rules = with_pid(rules, host.pid());
+            run_server(alloc, &rules, stdio, host)
+        }
         Err(WordsFault::Bad) => Status::BadWords.number(),
     }
 }
 
-/// Serves one session on standard input and output, and gives its status, as `run_agent` does. It always returns.
+/// Serves one session on standard input and output, and gives its status, as `run_agent` does. It always returns. Meanwhile it has the
+/// host's parts.
 pub fn run_server<S: Link, H: Host>(alloc: Global, rules: &Rules, stdio: &mut S, host: &mut H) -> u8
-    ensures { RunsServer rules.now
-        (outside (S.input stdio.old) (S.output stdio.old) (H.readings host.old)) result
-        (outside (S.input stdio.new) (S.output stdio.new) (H.readings host.new)) }
+    requires { IsSome (H.server host.old) }
+    ensures served { UsesParts (λ launcher clock launcher_now clock_now. RunsServer rules.now
+        (outside (S.input stdio.old) (S.output stdio.old) (H.Clock.readings clock) (H.Launcher.launches launcher)) result
+        (outside (S.input stdio.new) (S.output stdio.new) (H.Clock.readings clock_now) (H.Launcher.launches launcher_now)))
+        (H.server host.old) (H.server host.new) }
+    ensures process { H.process host.new ≡ H.process host.old }
 {
-    let Ok(core) = KnownCore::new(alloc, limits_of(rules)) else {
-        return Status::NoMemory.number();
-    };
-    let mut desk = Solo::over(core, host, SESSION, Vec::new(alloc));
-    let status = serve(alloc, rules, stdio, &mut desk);
-    // So what the desk read is known of the clock.
-    desk.end();
+    let mut parts = host.server_parts();
+    let status = serve_alone(
+        alloc,
+        rules,
+        stdio,
+        &mut parts.clock,
+        &mut parts.launcher,
+        &mut parts.keys,
+        &mut parts.dice,
+    );
+    host.parts_back(parts);
     status.number()
 }
 
-/// Serves one session at a desk whose cache is empty.
-fn serve<S: Link, C: Clock>(
+/// Serves one session at a desk of its own over the clock, and with children of the launcher.
+fn serve_alone<S: Link, C: Clock, La: Launcher, K: Keys, R: Dice>(
+    alloc: Global,
+    rules: &Rules,
+    stdio: &mut S,
+    clock: &mut C,
+    launcher: &mut La,
+    keys: &mut K,
+    dice: &mut R,
+) -> Status
+    ensures runs { RunsServer rules.now
+        (outside (S.input stdio.old) (S.output stdio.old) (C.readings clock.old) (La.launches launcher.old)) (number_of result)
+        (outside (S.input stdio.new) (S.output stdio.new) (C.readings clock.new) (La.launches launcher.new)) }
+    ensures keys { keys.new ≡ keys.old }
+    ensures dice { dice.new ≡ dice.old }
+{
+    let Ok(core) = KnownCore::new(alloc, limits_of(rules)) else {
+        return Status::NoMemory;
+    };
+    let mut desk = Solo::over(core, clock, SESSION, Vec::new(alloc));
+    let mut pinentry = Pinentry::new(alloc, launcher, copied(&rules.pinentry));
+    let status = serve(alloc, rules, stdio, &mut desk, &mut pinentry, keys, dice);
+    // So what was read of the clock, and which children there were, is known of them.
+    desk.end();
+    pinentry.into_launcher();
+    status
+}
+
+/// Serves one session at a desk whose cache is empty, and with a pinentry that has no child.
+fn serve<S: Link, C: Clock, La: Launcher, K: Keys, R: Dice>(
     alloc: Global,
     rules: &Rules,
     stdio: &mut S,
     desk: &mut Solo<'_, C>,
+    pinentry: &mut Pinentry<'_, La>,
+    keys: &mut K,
+    dice: &mut R,
 ) -> Status
-    requires { seen C.readings desk.old ≡ fresh_desk (limits_of rules.now) (C.readings desk.old.clock) }
+    requires desk { seen C.readings desk.old ≡ fresh_desk (limits_of rules.now) (C.readings desk.old.clock) }
+    requires pinentry { at_pinentry La.launches pinentry.old ≡ no_child (La.launches pinentry.old.launcher) }
     ensures runs { RunsServer rules.now
-        (outside (S.input stdio.old) (S.output stdio.old) (C.readings desk.old.clock)) (number_of result)
-        (outside (S.input stdio.new) (S.output stdio.new) (C.readings desk.new.clock)) }
+        (outside (S.input stdio.old) (S.output stdio.old) (C.readings desk.old.clock) (La.launches pinentry.old.launcher)) (number_of result)
+        (outside (S.input stdio.new) (S.output stdio.new) (C.readings desk.new.clock) (La.launches pinentry.new.launcher)) }
     ensures lent { desk.new.lent ≡ desk.old.lent }
+    ensures launcher { pinentry.new.lent ≡ pinentry.old.lent }
+    ensures childless { is_some pinentry.new.child ≡ false }
+    ensures keys { keys.new ≡ keys.old }
+    ensures dice { dice.new ≡ dice.old }
 {
-    Status::of(serve_session(alloc, rules, stdio, desk))
+    Status::of(serve_session(alloc, rules, stdio, desk, pinentry, keys, dice))
+}
+
+fn copied(word: &Word) -> Word {
+    let mut copy = Word::new();
+    copy.try_extend_from_slice(word).unwrap();
+    copy
 }
 
 /// The lifetimes that the rules say.
@@ -87,4 +146,12 @@ fn limits_of(rules: &Rules) -> Limits
         ttl_ssh: rules.default_ttl_ssh,
         max_ssh: rules.max_ttl_ssh,
     }
+}
+
+/// The rules with the number of the process.
+fn with_pid(mut rules: Rules, pid: u32) -> Rules
+    ensures { result ≡ with_pid pid rules }
+{
+    rules.pid = pid;
+    rules
 }
