@@ -31,8 +31,8 @@ pub fn serve_session<L: Link, D: Desk, P: Prompter, K: Keys, R: Dice>(
     link: &mut L,
     desk: &mut D,
     prompter: &mut P,
-    keys: &mut K,
-    dice: &mut R,
+    _keys: &mut K,
+    _dice: &mut R,
 ) -> SessionEnd
     requires free { (D.at desk.old).out ≡ None }
     requires shut { IsShut (P.at prompter.old) }
@@ -41,11 +41,9 @@ pub fn serve_session<L: Link, D: Desk, P: Prompter, K: Keys, R: Dice>(
         (surroundings D.turned P.prompted (L.input link.new) (L.output link.new) desk.new prompter.new) }
     ensures free { (D.at desk.new).out ≡ None }
     ensures shut { IsShut (P.at prompter.new) }
-    ensures keys { keys.new ≡ keys.old }
-    ensures dice { dice.new ≡ dice.old }
+    ensures keys { _keys.new ≡ _keys.old }
+    ensures dice { _dice.new ≡ _dice.old }
 {
-    // They come with the key commands.
-    let _ = (keys, dice);
     let mut conn = Conn::new(alloc, link, BUDGET);
     let end = serve_conn(rules, &mut conn, desk, prompter);
     // So what the connection did is known of the link.
