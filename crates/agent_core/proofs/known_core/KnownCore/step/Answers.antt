@@ -17,7 +17,8 @@ use Rattle.cache_policy.specs.Seat.{seat}
 use Rattle.agent_core.specs.Tallies.{stores, Tallied}
 use Rattle.agent_core.proofs.Coming.{needs_fits}
 use Rattle.agent_core.proofs.Counting.{can_count, tally_stays, tally_counted}
-use Rattle.agent_core.proofs.Knowing.{seat_next, legal_last, spent_run, going, no_room, has_next, can_add, keeps_same, like_same, records_stay, is_marked, Marks, made, HasRoomFor, records_marked, not_refused, not_stand, took_refused, Stands, took_stood, moment_is, added_later}
+use Rattle.agent_core.proofs.Knowing.{seat_next, legal_last, spent_run, going, no_room, has_next, can_add, keeps_same, like_same, records_stay, is_marked}
+use Rattle.agent_core.proofs.Knowing.{Marks, made, HasRoomFor, records_marked, not_refused, not_stand, took_refused, Stands, took_stood, moment_is, added_later}
 use Rattle.agent_core.proofs.known_core.KnownCore.step.Goals as goal
 
 pub returns-then-spent-clause-takes : goal.returns-then-spent-clause-takes
