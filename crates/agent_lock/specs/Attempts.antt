@@ -7,7 +7,7 @@ use Rattle.cache_policy.specs.declared.bounds.TheConstants.{MAX_MOMENT}
 use Rattle.cache_policy.specs.declared.grant.Grant.{Grant}
 use Rattle.cache_policy.specs.declared.mark.MarkStep.{MarkStep}
 use Rattle.cache_policy.specs.Desks.{AtDesk}
-use Rattle.cache_policy.specs.Lifetimes.{default_limits}
+use Rattle.cache_policy.specs.declared.life.Limits.{Limits}
 use Rattle.cache_policy.specs.Turns.{Turn, Given, Open, Stopping, Refused, FitsReply}
 use Rattle.agent_lock.specs.declared.pass.Counts.{Counts}
 use Rattle.agent_lock.specs.Counting.{counted, one_call}
@@ -31,8 +31,8 @@ pub record IsAttempt (first last : Readings) (before after : Counts) (asked : Ma
   pub fits : FitsReply asked turn
 
 -- what a desk at the lock shows: not its run
-abbrev pub at_lock : SessionId → Option ℕ → AtDesk
-at_lock session out = record { limits = default_limits; session = session; run = None; out = out }
+abbrev pub at_lock : Limits → SessionId → Option ℕ → AtDesk
+at_lock limits session out = record { limits = limits; session = session; run = None; out = out }
 
 -- the ticket after a turn, where the step is a Close or isn't
 abbrev pub ticket_after : Option ℕ → Bool → Turn → Option ℕ

@@ -10,7 +10,7 @@ mod state;
 
 pub use books::Books;
 pub use locked::Locked;
-pub use pass::{Counts, Pass};
+pub use pass::{Counts, Marks, Pass};
 pub use shared::{Blanks, Closing, Shared};
 pub use shared_desk::SharedDesk;
 

@@ -11,9 +11,9 @@ ghost use Rattle.agent_lock.specs.Attempts.{IfGiven};
 ghost use Rattle.agent_lock.specs.Counting.{counted, no_counts};
 ghost use Rattle.agent_lock.specs.Journals.{IsJournaled, IsLocked, tally_at};
 
-use crate::Pass;
 use crate::books::Books;
 use crate::state::State;
+use crate::{Marks, Pass};
 use agent_ports::SessionId;
 use cache_policy::{Limits, Refused, Reply, Step, Tally};
 use std::alloc::{AllocError, Global};
@@ -24,12 +24,12 @@ use std::sync::ledger::{Ledger, Share};
 ///
 /// Contracts see the core, the journal as a history without the bytes of secrets, and the tally of what was done before the journal.
 #[derive(Drop)]
-pub struct Locked<M: Ledger, G: Ledger, E: Ledger, O: Ledger> {
+pub struct Locked<M: Marks, G: Ledger, E: Ledger, O: Ledger> {
     state: State,
     books: Books<M, G, E, O>,
 }
 
-impl<M: Ledger, G: Ledger, E: Ledger, O: Ledger> Model for Locked<M, G, E, O> {
+impl<M: Marks, G: Ledger, E: Ledger, O: Ledger> Model for Locked<M, G, E, O> {
     ghost use Rattle.std.specs.Prelude.{◌≡◌};
     ghost use Rattle.agent_lock.specs.Journals.{AtLock};
     ghost use Rattle.agent_lock.specs.Booking.{book_counts};
@@ -40,13 +40,15 @@ impl<M: Ledger, G: Ledger, E: Ledger, O: Ledger> Model for Locked<M, G, E, O> {
 
     ghost view = { λ locked. seen locked.state };
 
-    ghost invariant = { λ locked. IsKept locked.state × (book_counts locked.books ≡ totals locked.state.total) };
+    ghost invariant = { λ locked. IsKept locked.state × (book_counts locked.books ≡ totals locked.state.total)
+        × (locked.state.core.limits ≡ M.limits) };
 }
 
-impl<M: Ledger, G: Ledger, E: Ledger, O: Ledger> Locked<M, G, E, O> {
+impl<M: Marks, G: Ledger, E: Ledger, O: Ledger> Locked<M, G, E, O> {
     /// Nothing was done. The journal's room is taken here, and used again after each turn-over.
     pub fn new(alloc: Global, limits: Limits, books: Books<M, G, E, O>) -> Result<Self, AllocError>
-        requires { book_counts books ≡ no_counts }
+        requires limits { limits ≡ M.limits }
+        requires books { book_counts books ≡ no_counts }
         ensures { IfOk result (λ locked. (locked.journal ≡ record { base = 0; held = None; stopped = false; marks = [] })
             × (locked.carried ≡ nothing_yet) × (locked.core.limits ≡ limits)) }
     {
@@ -56,9 +58,10 @@ impl<M: Ledger, G: Ledger, E: Ledger, O: Ledger> Locked<M, G, E, O> {
         })
     }
 
-    /// A law: the journal is legal, and the core stands for it but for the bytes of secrets.
+    /// A law: the journal is legal, and the core stands for it but for the bytes of secrets. Its lifetimes are those that the ledger's type names.
     pub fn keeps(&self)
-        ensures { IsLocked self.now }
+        ensures locked { IsLocked self.now }
+        ensures limits { self.now.core.limits ≡ M.limits }
     {
         self.state.keeps();
     }

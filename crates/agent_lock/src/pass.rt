@@ -1,6 +1,18 @@
 ghost use Rattle.std.specs.Prelude.{◌≡◌};
+ghost use Rattle.cache_policy.specs.declared.life.Limits.{Limits};
+ghost use Rattle.cache_policy.specs.Lifetimes.{default_limits};
 
+use std::marker::Brand;
 use std::sync::ledger::{Ledger, Share};
+
+/// The ledger of the marks. Its type also names the lifetimes by which they were made, as that of a lock shows nothing of what is under it.
+pub trait Marks: Ledger {
+    ghost limits: { Limits };
+}
+
+impl Marks for Brand {
+    ghost limits = { default_limits };
+}
 
 /// What one worker's turns came to.
 #[derive(Clone, Copy, Debug, PartialEq, Eq)]

@@ -6,7 +6,7 @@ ghost use Rattle.agent_lock.specs.Journals.{tally_at};
 
 use crate::books::Books;
 use crate::locked::{Locked, Shares};
-use crate::{Counts, Pass};
+use crate::{Counts, Marks, Pass};
 use cache_policy::{Limits, Tally};
 use std::alloc::{AllocError, Global};
 use std::sync::ledger::{Blank, Ledger};
@@ -23,21 +23,21 @@ pub struct Blanks {
 
 /// The locked value, and where threads wait for the seat.
 #[derive(Drop)]
-pub struct Shared<M: Ledger, G: Ledger, E: Ledger, O: Ledger> {
+pub struct Shared<M: Marks, G: Ledger, E: Ledger, O: Ledger> {
     pub(crate) lock: Mutex<Locked<M, G, E, O>>,
     pub(crate) changed: Condvar,
 }
 
 /// What a look at the end found.
 #[derive(Drop)]
-pub enum Closing<M: Ledger, G: Ledger, E: Ledger, O: Ledger> {
+pub enum Closing<M: Marks, G: Ledger, E: Ledger, O: Ledger> {
     /// The agent has stopped. This was done.
     Stopped(Tally),
     /// It hasn't, and all goes on with the same passes and journal.
     Open(Shared<M, G, E, O>, Vec<Pass<M, G, E, O>>),
 }
 
-impl<M: Ledger, G: Ledger, E: Ledger, O: Ledger> Shared<M, G, E, O> {
+impl<M: Marks, G: Ledger, E: Ledger, O: Ledger> Shared<M, G, E, O> {
     /// A core without entries under a lock, and as many passes.
     pub fn new(
         alloc: Global,
@@ -45,6 +45,7 @@ impl<M: Ledger, G: Ledger, E: Ledger, O: Ledger> Shared<M, G, E, O> {
         blanks: Blanks,
         passes: u32,
     ) -> Result<(Self, Vec<Pass<M, G, E, O>>), AllocError>
+        requires limits { limits ≡ M.limits }
         requires calls { (blanks.calls.name ≡ M.name) × (blanks.calls.parts ≡ M.parts) × (passes ≡ M.parts) }
         requires given { (blanks.given.name ≡ G.name) × (blanks.given.parts ≡ G.parts) × (passes ≡ G.parts) }
         requires empty { (blanks.empty.name ≡ E.name) × (blanks.empty.parts ≡ E.parts) × (passes ≡ E.parts) }
@@ -111,7 +112,7 @@ impl<M: Ledger, G: Ledger, E: Ledger, O: Ledger> Shared<M, G, E, O> {
     }
 }
 
-impl<M: Ledger, G: Ledger, E: Ledger, O: Ledger> Locked<M, G, E, O> {
+impl<M: Marks, G: Ledger, E: Ledger, O: Ledger> Locked<M, G, E, O> {
     /// Closes what was taken out of the lock, with all its passes: what was done, by the journal and what was done before it.
     pub fn close(self, passes: Vec<Pass<M, G, E, O>>) -> Tally
         requires all { (vec_len passes ≡ M.parts) × (vec_len passes ≡ G.parts) × (vec_len passes ≡ E.parts) × (vec_len passes ≡ O.parts) }

@@ -2,16 +2,21 @@ ghost use Rattle.std.specs.Prelude.{◌≡◌, None, IfErr, refl};
 ghost use Rattle.cache_policy.specs.Turns.{mark_step, turn_of, out_after, FitsStep};
 ghost use Rattle.agent_lock.specs.Attempts.{IsAttempt, at_lock, ticket_after};
 
+<<<<<<< HEAD
 use crate::{Locked, Pass, Shared};
 use agent_core::Opening;
+=======
+use crate::opening::Opening;
+use crate::{Locked, Marks, Pass, Shared};
+>>>>>>> ab66d88661b1856da3d9a26f1367b745711d582f
 use agent_ports::{Clock, SessionId};
 use cache_policy::{Desk, Refused, Reply, Step};
 use std::sync::Wait;
 use std::sync::ledger::Ledger;
 
-/// A desk over the lock, for the turns of one session. It shows no run.
+/// A desk over the lock, for the turns of one session. It shows no run, and the lifetimes that the ledger's type names.
 #[derive(Drop)]
-pub struct SharedDesk<'a, W: Wait, C: Clock, M: Ledger, G: Ledger, E: Ledger, O: Ledger> {
+pub struct SharedDesk<'a, W: Wait, C: Clock, M: Marks, G: Ledger, E: Ledger, O: Ledger> {
     rt: &'a W,
     shared: &'a Shared<M, G, E, O>,
     pass: Pass<M, G, E, O>,
@@ -21,7 +26,7 @@ pub struct SharedDesk<'a, W: Wait, C: Clock, M: Ledger, G: Ledger, E: Ledger, O:
     clock: C,
 }
 
-impl<'a, W: Wait, C: Clock, M: Ledger, G: Ledger, E: Ledger, O: Ledger> SharedDesk<
+impl<'a, W: Wait, C: Clock, M: Marks, G: Ledger, E: Ledger, O: Ledger> SharedDesk<
     'a,
     W,
     C,
@@ -88,9 +93,9 @@ fn out_then(out: Option<u64>, closes: bool, reply: &Result<Reply, Refused>) -> O
     }
 }
 
-impl<'a, W: Wait, C: Clock, M: Ledger, G: Ledger, E: Ledger, O: Ledger> Desk
+impl<'a, W: Wait, C: Clock, M: Marks, G: Ledger, E: Ledger, O: Ledger> Desk
     for SharedDesk<'a, W, C, M, G, E, O> {
-    ghost at = { λ desk. at_lock desk.session desk.out };
+    ghost at = { λ desk. at_lock M.limits desk.session desk.out };
 
     ghost turned = { λ before asked turn after.
         IsAttempt (C.readings before.clock) (C.readings after.clock) before.pass.counts after.pass.counts asked turn
@@ -106,6 +111,7 @@ impl<'a, W: Wait, C: Clock, M: Ledger, G: Ledger, E: Ledger, O: Ledger> Desk
         match self.attempt(&mut locked, step) {
             Ok(Reply::Stand) => {}
             other => {
+                drop(locked);
                 shared.changed.notify_all();
                 return other;
             }
@@ -118,6 +124,7 @@ impl<'a, W: Wait, C: Clock, M: Ledger, G: Ledger, E: Ledger, O: Ledger> Desk
             match self.attempt(&mut locked, opening.step()) {
                 Ok(Reply::Stand) => {}
                 other => {
+                    drop(locked);
                     shared.changed.notify_all();
                     return other;
                 }

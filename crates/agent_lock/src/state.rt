@@ -76,6 +76,7 @@ impl State {
         ensures totals { totals self.new.total ≡ counted (is_spent (next_history (seen self.old).journal)) (totals self.old.total) (turn_of result) }
         ensures grant { IfGiven (turn_of result) (λ grant. grant.moment ≡ moment_of self.old.core.moment reading) }
         ensures fits { FitsReply (mark_step step) (turn_of result) }
+        ensures limits { self.new.core.limits ≡ self.old.core.limits }
         ensures back { IfErr result (λ refused. refused.step ≡ step) }
     {
         let spent = self.core.spent();

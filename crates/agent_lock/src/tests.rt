@@ -1,4 +1,5 @@
 ghost use Rattle.std.specs.Prelude.{◌≡◌, false, None};
+ghost use Rattle.cache_policy.specs.Lifetimes.{default_limits};
 ghost use Rattle.cache_policy.specs.Turns.{mark_step, opens, closes};
 
 use super::*;
@@ -96,7 +97,16 @@ fn blanks(passes: u64) -> Blanks
 }
 
 /// Takes a step that wants no prompt and gives no ticket back.
-fn plain<W: Wait, M: Ledger, G: Ledger, E: Ledger, O: Ledger>(
+fn taken<D: Desk>(desk: &mut D, step: Step) -> Kind
+    requires { (opens (mark_step step) ≡ false) × (closes (mark_step step) ≡ None) }
+{
+    let (kind, ticket) = outcome(desk.turn(step));
+    give_up(ticket);
+    kind
+}
+
+/// The same at a desk of its own.
+fn plain<W: Wait, M: Marks, G: Ledger, E: Ledger, O: Ledger>(
     rt: &W,
     shared: &Shared<M, G, E, O>,
     pass: Pass<M, G, E, O>,
@@ -106,17 +116,17 @@ fn plain<W: Wait, M: Ledger, G: Ledger, E: Ledger, O: Ledger>(
     requires { (opens (mark_step step) ≡ false) × (closes (mark_step step) ≡ None) }
 {
     let mut desk = SharedDesk::new(rt, shared, pass, session, StepClock::new(0, 1));
-    let (kind, ticket) = outcome(desk.turn(step));
-    give_up(ticket);
+    let kind = taken(&mut desk, step);
     (kind, desk.into_pass())
 }
 
 /// Presets by one session, is given it by another until a third one forgets everything, and closes.
-fn three_desks<W: Wait, M: Ledger, G: Ledger, E: Ledger, O: Ledger>(
+fn three_desks<W: Wait, M: Marks, G: Ledger, E: Ledger, O: Ledger>(
     rt: &W,
     alloc: Global,
     blanks: Blanks,
 ) -> Result<Option<([Kind; 4], Tally)>, AllocError>
+    requires limits { default_limits ≡ M.limits }
     requires calls { (blanks.calls.name ≡ M.name) × (blanks.calls.parts ≡ M.parts) × (3 ≡ M.parts) }
     requires given { (blanks.given.name ≡ G.name) × (blanks.given.parts ≡ G.parts) × (3 ≡ G.parts) }
     requires empty { (blanks.empty.name ≡ E.name) × (blanks.empty.parts ≡ E.parts) × (3 ≡ E.parts) }
@@ -183,8 +193,112 @@ fn a_preset_is_given_until_another_session_forgets_everything(rt: HostRuntime) -
     Ok(())
 }
 
+/// Presets for the usual lifetime, and asks twice, 5 seconds one after another.
+fn short_lived<W: Wait, M: Marks, G: Ledger, E: Ledger, O: Ledger>(
+    rt: &W,
+    alloc: Global,
+    limits: Limits,
+    blanks: Blanks,
+) -> Result<Option<[Kind; 2]>, AllocError>
+    requires limits { limits ≡ M.limits }
+    requires calls { (blanks.calls.name ≡ M.name) × (blanks.calls.parts ≡ M.parts) × (1 ≡ M.parts) }
+    requires given { (blanks.given.name ≡ G.name) × (blanks.given.parts ≡ G.parts) × (1 ≡ G.parts) }
+    requires empty { (blanks.empty.name ≡ E.name) × (blanks.empty.parts ≡ E.parts) × (1 ≡ E.parts) }
+    requires opened { (blanks.opened.name ≡ O.name) × (blanks.opened.parts ≡ O.parts) × (1 ≡ O.parts) }
+{
+    let (shared, mut all) = Shared::<M, G, E, O>::new(alloc, limits, blanks, 1)?;
+    let Some(pass) = all.pop() else {
+        return Ok(None);
+    };
+    let session = SessionId { pass: 0, count: 0 };
+    let mut desk = SharedDesk::new(rt, &shared, pass, session, StepClock::new(0, 5));
+    let put = Step::Put {
+        id: id(),
+        mode: Mode::Any,
+        life: Life::Default,
+        secret: Secret::of(b"secret").unwrap(),
+    };
+    taken(&mut desk, put);
+    Ok(Some([taken(&mut desk, quiet()), taken(&mut desk, quiet())]))
+}
+
+fn run_short<W: Wait>(
+    rt: &W,
+    alloc: Global,
+    limits: Limits,
+) -> Result<Option<[Kind; 2]>, AllocError> {
+    short_lived::<W, Brand, Brand, Brand, Brand>(rt, alloc, limits, blanks(1))
+}
+
+#[test]
+fn the_lifetimes_are_those_that_were_handed_in(rt: HostRuntime) -> Result<(), Fail> {
+    for (ttl, max, kinds) in [
+        (4, 7200, [Kind::Empty, Kind::Empty]),
+        (5, 9, [Kind::Given, Kind::Empty]),
+        (600, 7200, [Kind::Given, Kind::Given]),
+    ] {
+        let limits = Limits {
+            ttl,
+            max,
+            ..Limits::default()
+        };
+        assert_eq!(rt; run_short(&rt, rt.alloc(), limits)?, Some(kinds));
+    }
+    Ok(())
+}
+
+/// Stops, and looks whether the agent has stopped.
+fn stopped<W: Wait, M: Marks, G: Ledger, E: Ledger, O: Ledger>(
+    rt: &W,
+    alloc: Global,
+    blanks: Blanks,
+) -> Result<Option<Tally>, AllocError>
+    requires limits { default_limits ≡ M.limits }
+    requires calls { (blanks.calls.name ≡ M.name) × (blanks.calls.parts ≡ M.parts) × (1 ≡ M.parts) }
+    requires given { (blanks.given.name ≡ G.name) × (blanks.given.parts ≡ G.parts) × (1 ≡ G.parts) }
+    requires empty { (blanks.empty.name ≡ E.name) × (blanks.empty.parts ≡ E.parts) × (1 ≡ E.parts) }
+    requires opened { (blanks.opened.name ≡ O.name) × (blanks.opened.parts ≡ O.parts) × (1 ≡ O.parts) }
+{
+    let (shared, mut all) = Shared::<M, G, E, O>::new(alloc, Limits::default(), blanks, 1)?;
+    let Some(pass) = all.pop() else {
+        return Ok(None);
+    };
+    let (_, pass) = plain(
+        rt,
+        &shared,
+        pass,
+        SessionId { pass: 0, count: 0 },
+        Step::Stop,
+    );
+    all.push_reserved(pass);
+    Ok(match shared.close_if_stopped(all) {
+        Closing::Stopped(tally) => Some(tally),
+        Closing::Open(_, _) => None,
+    })
+}
+
+fn run_stopped<W: Wait>(rt: &W, alloc: Global) -> Result<Option<Tally>, AllocError> {
+    stopped::<W, Brand, Brand, Brand, Brand>(rt, alloc, blanks(1))
+}
+
+#[test]
+fn a_stopped_agent_is_closed(rt: HostRuntime) -> Result<(), Fail> {
+    let stop = Tally {
+        marks: 1,
+        given: 0,
+        empty: 0,
+        opened: 0,
+        stored: 0,
+        cleared: 0,
+        flushed: 0,
+        stopped: true,
+    };
+    assert_eq!(rt; run_stopped(&rt, rt.alloc())?, Some(stop));
+    Ok(())
+}
+
 /// Takes 100 peeks.
-fn peeks<W: Wait, M: Ledger, G: Ledger, E: Ledger, O: Ledger>(
+fn peeks<W: Wait, M: Marks, G: Ledger, E: Ledger, O: Ledger>(
     rt: &W,
     shared: &Shared<M, G, E, O>,
     pass: Pass<M, G, E, O>,
@@ -192,8 +306,7 @@ fn peeks<W: Wait, M: Ledger, G: Ledger, E: Ledger, O: Ledger>(
 ) -> Pass<M, G, E, O> {
     let mut desk = SharedDesk::new(rt, shared, pass, session, StepClock::new(0, 1));
     for _ in 0..100 {
-        let (_, ticket) = outcome(desk.turn(peek()));
-        give_up(ticket);
+        taken(&mut desk, peek());
     }
     desk.into_pass()
 }
@@ -201,11 +314,12 @@ fn peeks<W: Wait, M: Ledger, G: Ledger, E: Ledger, O: Ledger>(
 /// Two threads take 100 peeks each.
 fn two_threads<
     W: Threads + Wait + Sync,
-    M: Ledger + Send + Sync,
+    M: Marks + Send + Sync,
     G: Ledger + Send + Sync,
     E: Ledger + Send + Sync,
     O: Ledger + Send + Sync,
 >(rt: &W, alloc: Global, blanks: Blanks) -> Result<Option<Tally>, AllocError>
+    requires limits { default_limits ≡ M.limits }
     requires calls { (blanks.calls.name ≡ M.name) × (blanks.calls.parts ≡ M.parts) × (2 ≡ M.parts) }
     requires given { (blanks.given.name ≡ G.name) × (blanks.given.parts ≡ G.parts) × (2 ≡ G.parts) }
     requires empty { (blanks.empty.name ≡ E.name) × (blanks.empty.parts ≡ E.parts) × (2 ≡ E.parts) }
@@ -302,7 +416,7 @@ struct Answered {
 }
 
 /// Takes 2,000 turns of all kinds.
-fn mixed<W: Wait, M: Ledger, G: Ledger, E: Ledger, O: Ledger>(
+fn mixed<W: Wait, M: Marks, G: Ledger, E: Ledger, O: Ledger>(
     rt: &W,
     shared: &Shared<M, G, E, O>,
     pass: Pass<M, G, E, O>,
@@ -347,11 +461,12 @@ fn added(all: &[Answered]) -> Answered {
 /// Four threads take 2,000 turns each.
 fn four_threads<
     W: Threads + Wait + Sync,
-    M: Ledger + Send + Sync,
+    M: Marks + Send + Sync,
     G: Ledger + Send + Sync,
     E: Ledger + Send + Sync,
     O: Ledger + Send + Sync,
 >(rt: &W, alloc: Global, blanks: Blanks) -> Result<Option<(Answered, Tally)>, AllocError>
+    requires limits { default_limits ≡ M.limits }
     requires calls { (blanks.calls.name ≡ M.name) × (blanks.calls.parts ≡ M.parts) × (4 ≡ M.parts) }
     requires given { (blanks.given.name ≡ G.name) × (blanks.given.parts ≡ G.parts) × (4 ≡ G.parts) }
     requires empty { (blanks.empty.name ≡ E.name) × (blanks.empty.parts ≡ E.parts) × (4 ≡ E.parts) }
