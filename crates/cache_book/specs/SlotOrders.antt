@@ -1,4 +1,4 @@
--- Private: the orders in which slots are kept. This is the project's own.
+-- The orders in which slots are kept. This is the project's own.
 use Rattle.std.specs.Prelude.{◌≡◌, ℕ, List, [], Bool, true, false, ◌==◌, nat_lt, if◌then◌else◌}
 use Rattle.std.specs.Cmp.Lexicographic.{slice_cmp}
 use Rattle.std.specs.declared.cmp.Ordering.{Ordering}
@@ -10,22 +10,22 @@ use Rattle.cache_book.specs.Modes.{has_some}
 use Rattle.cache_book.specs.Shelves.{AreWithinMode}
 use Rattle.cache_book.specs.Arranged.{arranged, EachPair}
 
--- Private: ids by their bytes, the first that differs
+-- ids by their bytes, the first that differs
 abbrev pub id_cmp : List ℕ → List ℕ → Ordering
 id_cmp = slice_cmp nat_cmp
 
--- Private: the slot's id is below this one, or no higher
+-- the slot's id is below this one, or no higher
 abbrev pub is_below : List ℕ → Slot → Bool
 is_below id slot = is_lt (id_cmp slot.entry.id id)
 
 abbrev pub is_upto : List ℕ → Slot → Bool
 is_upto id slot = is_le (id_cmp slot.entry.id id)
 
--- Private: slots by their ids, and then by their numbers
+-- slots by their ids, and then by their numbers
 abbrev pub comes_before : Slot → Slot → Bool
 comes_before a b = is_lt (ordering_then (id_cmp a.entry.id b.entry.id) (nat_cmp a.entry.number b.entry.number))
 
--- Private: slots by their numbers
+-- slots by their numbers
 abbrev pub is_older : Slot → Slot → Bool
 is_older a b = nat_lt a.entry.number b.entry.number
 
@@ -35,21 +35,21 @@ by_number list = arranged is_older list
 abbrev pub AreById : List Slot → Type 0
 AreById list = EachPair (λ a b. comes_before a b ≡ true) list
 
--- Private: no two slots have one number
+-- no two slots have one number
 abbrev pub HaveOwnNumbers : List Slot → Type 0
 HaveOwnNumbers list = EachPair (λ a b. (a.entry.number == b.entry.number) ≡ false) list
 
--- Private: each slot serves some mode
+-- each slot serves some mode
 abbrev pub AreServing : List Slot → Type 0
 AreServing list = AllByRecursion (λ slot. has_some slot.modes ≡ true) list
 
--- Private: what holds of slots that are kept by their ids
+-- what holds of slots that are kept by their ids
 pub record AreKept (list : List Slot) : Type 0 where
   pub by_id : AreById list
   pub own_numbers : HaveOwnNumbers list
   pub serving : AreServing list
   pub within_mode : AreWithinMode list
 
--- Private: a slot without its passphrase, where it is past a lifetime
+-- a slot without its passphrase, where it is past a lifetime
 abbrev pub wipe_past : ℕ → Slot → Slot
 wipe_past now slot = if within slot.entry slot.last now then slot else record slot { entry = record slot.entry { secret = [] } }
