@@ -2,13 +2,8 @@ ghost use Rattle.std.specs.Prelude.{◌≡◌, None, IfErr, refl};
 ghost use Rattle.cache_policy.specs.Turns.{mark_step, turn_of, out_after, FitsStep};
 ghost use Rattle.agent_lock.specs.Attempts.{IsAttempt, at_lock, ticket_after};
 
-<<<<<<< HEAD
-use crate::{Locked, Pass, Shared};
-use agent_core::Opening;
-=======
-use crate::opening::Opening;
 use crate::{Locked, Marks, Pass, Shared};
->>>>>>> ab66d88661b1856da3d9a26f1367b745711d582f
+use agent_core::Opening;
 use agent_ports::{Clock, SessionId};
 use cache_policy::{Desk, Refused, Reply, Step};
 use std::sync::Wait;
