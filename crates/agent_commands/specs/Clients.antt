@@ -1,4 +1,4 @@
--- Private: a session's client as a prompt has to do with it: what it is asked, on its connection.
+-- A session's client as a prompt has to do with it: what it is asked, on its connection. This is the project's own.
 use Rattle.std.specs.Prelude.{◌≡◌, ◌≢◌, ℕ, List, [], codes, decimal}
 use Rattle.std.specs.Borrow.{GName}
 use Rattle.agent_ask.specs.Callers.{IsHearing}
