@@ -1,9 +1,9 @@
 -- An inquiry as an event: its line was written, and the client answered, or it wasn't written whole.
-use Rattle.std.proofs.Common.{◌≡◌, ◌≤◌, ℕ, List, [], ◌∷◌, ◌++◌, Option, None, Some, refl, ap, sym, ◌∙◌, subst, arith}
+use Rattle.std.proofs.Common.{◌≡◌, ℕ, List, [], ◌∷◌, ◌++◌, Option, None, Some, ap, sym, subst, arith}
 use Rattle.agent_ports.specs.Leads.{none, one}
 use Rattle.agent_ports.specs.Sides.{WhereKnown}
 use Rattle.agent_ports.specs.declared.link.Sent.TheVariants.{Failed}
-use Rattle.assuan_line.specs.Next.{Reader, held}
+use Rattle.assuan_line.specs.Next.{Reader}
 use Rattle.assuan_line.specs.Written.{HasCut}
 use Rattle.assuan_line.specs.declared.reader.Took.{Took}
 use Rattle.assuan_server.specs.Asking.{Gather}
@@ -11,7 +11,7 @@ use Rattle.assuan_server.specs.Connections.{Connection}
 use Rattle.assuan_server.specs.Inquiries.{Outcome, Data, Cancelled, TooMuch, Unexpected, Ended, TooLong, Spent, ReadFault, IsData, Inquiry as Inquires, inquire_text, is_skipped}
 use Rattle.assuan_server.specs.Written.{HasWritten}
 use Rattle.assuan_text.specs.LineEnds.{line_of}
-use Rattle.agent_commands.specs.Events.{Event, Inquiry, Asked, NotAsked}
+use Rattle.agent_commands.specs.Events.{Inquiry, Asked, NotAsked}
 use Rattle.agent_commands.specs.Outside.{World, asked, not_asked}
 use Rattle.agent_commands.specs.Reading.{ReadsAnswer}
 use Rattle.agent_commands.specs.States.{SessionState, unread, IsTotal, EventsLead}

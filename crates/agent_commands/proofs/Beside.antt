@@ -1,5 +1,5 @@
 -- What is done without the prompter, with it beside.
-use Rattle.std.proofs.Common.{◌≡◌, ℕ, List}
+use Rattle.std.proofs.Common.{ℕ, List}
 use Rattle.agent_ask.specs.Events.{Call, PromptEvent}
 use Rattle.agent_ports.specs.Leads.{Leads, none, one}
 use Rattle.cache_policy.specs.declared.mark.MarkStep.{MarkStep}
@@ -7,7 +7,7 @@ use Rattle.cache_policy.specs.Turns.{Turn}
 use Rattle.session_options.specs.Choices.{Choices}
 use Rattle.agent_commands.specs.Events.{Event}
 use Rattle.agent_commands.specs.Outside.{world, prompt_world, Outside, Does, received, sent, cut, asked, not_asked, turned as turned_so, further}
-use Rattle.agent_commands.specs.States.{SessionState, session_state, prompt_state, EventsLead, AnswersRequest}
+use Rattle.agent_commands.specs.States.{SessionState, prompt_state, EventsLead, AnswersRequest}
 use Rattle.agent_commands.specs.Steps.{Carries}
 use Rattle.agent_commands.specs.declared.answer.Answer.{Answer}
 use Rattle.agent_commands.specs.declared.went.Went.{Went}

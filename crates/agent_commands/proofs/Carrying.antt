@@ -1,5 +1,5 @@
 -- Parts of requests, one after another.
-use Rattle.std.proofs.Common.{◌≡◌, ◌≤◌, ℕ, List, [], ◌∷◌, ◌++◌, None, Some, refl, ap, sym, ◌∙◌, subst, arith, append_assoc}
+use Rattle.std.proofs.Common.{◌≡◌, ◌≤◌, ℕ, List, [], ◌∷◌, ◌++◌, None, Some, sym, subst, arith, append_assoc}
 use Rattle.assuan_line.specs.Next.{Reader, held}
 use Rattle.agent_ask.specs.Events.{Call, PromptEvent}
 use Rattle.assuan_server.specs.Connections.{Connection}
@@ -9,7 +9,7 @@ use Rattle.cache_policy.specs.Turns.{Turn}
 use Rattle.agent_commands.specs.Answers.{failed}
 use Rattle.agent_commands.specs.Events.{Event, Sent, cache_turn}
 use Rattle.agent_commands.specs.Outside.{World, prompt_world}
-use Rattle.agent_commands.specs.States.{SessionState, prompt_state, EventsLead, ReaderAfter, FaultsRise}
+use Rattle.agent_commands.specs.States.{SessionState, prompt_state, EventsLead, ReaderAfter}
 use Rattle.agent_commands.specs.Steps.{IsText, Responds, Carries}
 use Rattle.agent_commands.specs.declared.answer.Answer.{Answer}
 use Rattle.agent_commands.specs.declared.response.Response.{Response}

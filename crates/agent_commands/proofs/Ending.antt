@@ -1,5 +1,5 @@
 -- How a request ends by the answer of its prompt.
-use Rattle.std.proofs.Common.{◌≡◌, ◌≢◌, ◌≤◌, ℕ, Bool, List, [], ◌∷◌, ◌++◌, Option, None, Some, false, refl, ap, sym, ◌∙◌, subst, arith, append_assoc}
+use Rattle.std.proofs.Common.{◌≡◌, ◌≢◌, ◌≤◌, ℕ, Bool, List, [], ◌∷◌, ◌++◌, Option, None, false, refl, sym, subst, append_assoc}
 use Rattle.agent_ask.specs.Callers.{is_gone}
 use Rattle.agent_ask.specs.Consents.{AsksConsent}
 use Rattle.agent_ask.specs.Doing.{PromptEnds, DoesPrompt, notified, calls, called}
@@ -18,7 +18,7 @@ use Rattle.agent_ask.specs.declared.spec.PromptSpec.{PromptSpec}
 use Rattle.agent_ask.specs.declared.consent.Agreed.TheVariants as agreed
 use Rattle.agent_ask.proofs.Unheard.{EndsByNote, pin_unheard, consent_unheard}
 use Rattle.agent_ports.specs.Leads.{Leads, none, one}
-use Rattle.assuan_line.specs.Next.{Reader, held}
+use Rattle.assuan_line.specs.Next.{held}
 use Rattle.assuan_server.specs.Connections.{Connection, IsOpen}
 use Rattle.assuan_server.specs.Inquiries as outcome
 use Rattle.assuan_server.specs.declared.inquiry.Dropped.{Dropped}
@@ -28,7 +28,7 @@ use Rattle.cache_policy.specs.declared.mark.MarkStep.TheVariants.{Close}
 use Rattle.cache_policy.specs.Turns.{Turn}
 use Rattle.agent_commands.specs.Clients.{Hears, note as noted_so, heard_of_dropped}
 use Rattle.agent_commands.specs.Events.{Event, Asked as AskedFor, NotAsked, cache_turn}
-use Rattle.agent_commands.specs.Exchanges.{IsUnheard, EndsPin, EndsConsent, cancelled, too_much, unexpected, too_long, ended, spent, read_fault, write_fault, pin, timed_out, no_pinentry, bad, unheard, yes, no}
+use Rattle.agent_commands.specs.Exchanges.{IsUnheard, EndsPin, EndsConsent, cancelled, too_much, unexpected, too_long, ended, spent, read_fault, write_fault, timed_out, no_pinentry, bad, unheard, yes, no}
 use Rattle.agent_commands.specs.Outside.{World, prompt_world}
 use Rattle.agent_commands.specs.Prompting.{UnderTicket, asked as asks_under, cancelled as note_cancelled, too_much as note_too_much, unexpected as note_unexpected, too_long as note_too_long, ended as note_ended, spent as note_spent, read_fault as note_read_fault, write_fault as note_write_fault}
 use Rattle.agent_commands.specs.States.{SessionState, prompt_state, ReaderAfter, FaultsRise}

@@ -1,10 +1,9 @@
 -- Looks into the cache, and what is done where nothing was found.
-use Rattle.std.proofs.Common.{◌≡◌, ℕ, Bool, List, [], ◌∷◌, ◌++◌, Option, None, Some, refl, subst, sym, arith}
+use Rattle.std.proofs.Common.{◌≡◌, ℕ, Bool, List, [], ◌∷◌, Option, None, Some, refl, subst, arith}
 use Rattle.agent_ask.specs.Events.{Call, PromptEvent}
 use Rattle.agent_ask.specs.declared.spec.AskPlan.{AskPlan}
 use Rattle.agent_ask.specs.declared.spec.PromptSpec.{PromptSpec}
 use Rattle.assuan_server.specs.Connections.{Connection}
-use Rattle.assuan_server.specs.Inquiries.{Data}
 use Rattle.cache_policy.specs.Desks.{AtDesk, IsTurn}
 use Rattle.cache_policy.specs.declared.grant.Grant.{Grant}
 use Rattle.cache_policy.specs.declared.life.Life.TheVariants.{Default}
@@ -13,10 +12,10 @@ use Rattle.cache_policy.specs.declared.mark.MarkStep.TheVariants.{Seat, Put}
 use Rattle.cache_policy.specs.declared.mode.Mode.TheVariants.{User}
 use Rattle.cache_policy.specs.Turns.{Turn, Given as TurnGiven, Empty, Done}
 use Rattle.agent_commands.specs.Events.{Event, Sent, cache_turn}
-use Rattle.agent_commands.specs.Exchanges.{Looks, LooksFirst, answered, goes_on, no_id, empty, given, interrupted, ask, Keeps, unkept, kept, ByPrompt, cached, want}
+use Rattle.agent_commands.specs.Exchanges.{LooksFirst, answered, goes_on, no_id, empty, given, interrupted, ask, Keeps, unkept, kept, ByPrompt, cached, want}
 use Rattle.agent_commands.specs.Outside.{world, prompt_world}
 use Rattle.agent_commands.specs.States.{SessionState, session_state, prompt_state}
-use Rattle.agent_commands.specs.Steps.{IsText, Carries, LooksUp, no_id as up_no_id, empty as up_empty, given as up_given, interrupted as up_interrupted, KeepsSecret, AnswersTurn, is_done, is_interrupted, TakesTurn}
+use Rattle.agent_commands.specs.Steps.{IsText, Carries, LooksUp, no_id as up_no_id, empty as up_empty, given as up_given, interrupted as up_interrupted, KeepsSecret, AnswersTurn, is_done, is_interrupted}
 use Rattle.agent_commands.specs.declared.answer.Answer.{Answer}
 use Rattle.agent_commands.specs.declared.response.Response.{Response}
 use Rattle.agent_commands.specs.declared.response.Response.TheVariants.{Given, Failed, Passphrase}

@@ -1,5 +1,5 @@
 -- The lines that tell a client of a prompt, or ask it for a passphrase.
-use Rattle.std.proofs.Common.{◌≡◌, ◌≢◌, ◌+◌, ◌≤◌, ◌<◌, ◌^◌, ℕ, Bool, true, false, List, [], ◌∷◌, ◌++◌, length, inl, inr, refl, sym, subst, ◌∙◌, arith, length-append}
+use Rattle.std.proofs.Common.{◌≡◌, ◌+◌, ◌≤◌, ◌<◌, ◌^◌, ℕ, Bool, true, false, List, [], ◌∷◌, ◌++◌, length, inl, inr, refl, sym, subst, ◌∙◌, arith, length-append}
 use Rattle.std.specs.Prelude.{codes, decimal}
 use Rattle.std.specs.Char.{is_ascii_digit}
 use Rattle.std.specs.Str.{all_ascii_digits}
@@ -36,7 +36,7 @@ joined_line first second short whole other = record {
 text_is : (count : ℕ) (digits : List ℕ) → length digits ≡ count → 0 < count → inquire_text (codes "PINENTRY_LAUNCHED") digits ≡ codes "INQUIRE PINENTRY_LAUNCHED " ++ digits
 text_is count [] is some = absurd (omega (arith, is, some))
 text_is count (digit ∷ digits) is some = elim (eqb_tells (length (digit ∷ digits)) 0) [
-  inl none ↦ absurd (omega (arith, none.1))
+  | inl none ↦ absurd (omega (arith, none.1))
   | inr more ↦ rw more.0 refl
 ]
 

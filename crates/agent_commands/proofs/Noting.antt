@@ -1,11 +1,11 @@
 -- What a client that is told of a prompt answers, as an inquiry of its session.
-use Rattle.std.proofs.Common.{◌≡◌, ◌≢◌, ◌≤◌, ℕ, List, [], ◌∷◌, ◌++◌, Option, None, Some, false, refl, ap, sym, ◌∙◌, subst, arith}
+use Rattle.std.proofs.Common.{◌≡◌, ◌≤◌, ℕ, List, [], ◌∷◌, ◌++◌, None, Some, false, refl, ap, sym, ◌∙◌, subst, arith}
 use Rattle.std.specs.Prelude.{codes, decimal, ⊤}
 use Rattle.agent_ask.specs.Callers.{is_gone, FitsQuestion}
-use Rattle.agent_ask.specs.Events.{Question, Launched, Wanted}
+use Rattle.agent_ask.specs.Events.{Launched, Wanted}
 use Rattle.agent_ask.specs.declared.caller.Gone.TheVariants as gone
 use Rattle.agent_ask.specs.declared.caller.Heard.{Heard}
-use Rattle.agent_ask.specs.declared.caller.Heard.TheVariants.{Fine, Secret, Unexpected, Gone}
+use Rattle.agent_ask.specs.declared.caller.Heard.TheVariants.{Fine, Unexpected, Gone}
 use Rattle.agent_ports.specs.Counts.{Rose}
 use Rattle.assuan_line.specs.Next.{held}
 use Rattle.assuan_line.specs.Written.{HasCut}
@@ -22,7 +22,7 @@ use Rattle.assuan_server.specs.declared.inquiry.InquiredSecret.{InquiredSecret}
 use Rattle.assuan_server.specs.declared.inquiry.InquiredSecret.TheVariants as inquired
 use Rattle.assuan_text.specs.LineEnds.{line_of}
 use Rattle.agent_commands.specs.Clients.{Hearing, HearsNote, HearsWish, note as noted_so, wish, unsaid, heard_of_dropped, heard_of_secret, note_text}
-use Rattle.agent_commands.specs.Events.{Event, Inquired, Asked, NotAsked}
+use Rattle.agent_commands.specs.Events.{Inquired, Asked, NotAsked}
 use Rattle.agent_commands.specs.Outside.{World}
 use Rattle.agent_commands.specs.Prompting.{Notes, fine, cancelled, too_much, unexpected, ended, too_long, spent, read_fault, write_fault, note}
 use Rattle.agent_commands.specs.States.{SessionState, EventsLead}

@@ -11,7 +11,7 @@ use Rattle.agent_commands.specs.Events.{Event, Sent, cache_turn}
 use Rattle.agent_commands.specs.Exchanges.{Exchange, one_turn, IsOneTurn, preset, clear, reload, kill, done, interrupted}
 use Rattle.agent_commands.specs.Outside.{World, world_with}
 use Rattle.agent_commands.specs.States.{SessionState, ReaderAfter, FaultsRise}
-use Rattle.agent_commands.specs.Steps.{IsText, Responds, CarriesOut, AnswersTurn, is_done, is_interrupted, TakesTurn}
+use Rattle.agent_commands.specs.Steps.{IsText, CarriesOut, AnswersTurn, is_done, is_interrupted, TakesTurn}
 use Rattle.agent_commands.specs.declared.answer.Answer.{Answer}
 use Rattle.agent_commands.specs.declared.request.CacheCommand.{CacheCommand}
 use Rattle.agent_commands.specs.declared.request.Request.TheVariants.{Cache}

@@ -1,7 +1,7 @@
 -- A prompt's events as those of its session.
-use Rattle.std.proofs.Common.{◌≡◌, ◌≢◌, ◌≤◌, ℕ, List, [], ◌∷◌, ◌++◌, Bool, None, Err, refl, ap, sym, ◌∙◌, subst, arith}
-use Rattle.agent_ask.specs.Doing.{PromptEnds, ends, DoesCall, called, out_of_memory, DoesPrompt, calls, notified}
-use Rattle.agent_ask.specs.Events.{Call, Start, Shut, PromptEvent, Called, Notified, OutOfMemory, Launched}
+use Rattle.std.proofs.Common.{◌≡◌, ◌≤◌, ℕ, List, [], ◌∷◌, None, refl, arith}
+use Rattle.agent_ask.specs.Doing.{PromptEnds, DoesCall, called, out_of_memory, DoesPrompt, calls, notified}
+use Rattle.agent_ask.specs.Events.{Call, Start, Shut, PromptEvent, Called, Notified, OutOfMemory}
 use Rattle.agent_ask.specs.declared.caller.Heard.{Heard}
 use Rattle.agent_ask.specs.declared.prompter.Opened.{Opened}
 use Rattle.agent_ask.specs.declared.spec.PromptSpec.{PromptSpec}
@@ -12,7 +12,7 @@ use Rattle.cache_policy.specs.declared.mark.MarkStep.{MarkStep}
 use Rattle.cache_policy.specs.Turns.{Turn}
 use Rattle.agent_commands.specs.Clients.{Hears, note as noted_so}
 use Rattle.agent_commands.specs.Events.{Event, Further}
-use Rattle.agent_commands.specs.Outside.{World, prompt_world, further}
+use Rattle.agent_commands.specs.Outside.{prompt_world, further}
 use Rattle.agent_commands.specs.Prompting.{InSession, none as no_events, called as shows_call, noted as shows_note, out_of_memory as shows_memory, note}
 use Rattle.agent_commands.specs.States.{SessionState, prompt_state, EventsLead}
 use Rattle.agent_commands.proofs.Doing.{done_none, done_then}

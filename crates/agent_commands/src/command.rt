@@ -123,7 +123,13 @@ fn carry_out<L: Link, D: Desk, P: Prompter>(
             }
             match options.mode() {
                 PinMode::Ask => {
-                    let spec = prompt_spec(&texts.description, &texts.prompt, *quality, rules, options);
+                    let spec = prompt_spec(
+                        &texts.description,
+                        &texts.prompt,
+                        *quality,
+                        rules,
+                        options,
+                    );
                     let plan = ask_plan(&texts.error, *check, *repeat, rules, options);
                     by_prompt(*plain, id, &spec, &plan, conn, desk, prompter)
                 }

@@ -113,7 +113,11 @@ fn keep<D: Desk>(plain: bool, id: &Option<CacheId>, secret: Secret, desk: &mut D
         life: Life::Default,
         secret: secret.copy(),
     };
-    take_turn(step, Answer::on(Response::Passphrase { secret, plain }), desk)
+    take_turn(
+        step,
+        Answer::on(Response::Passphrase { secret, plain }),
+        desk,
+    )
 }
 
 /// A passphrase from the cache, or else by a prompt.
@@ -136,9 +140,7 @@ pub(crate) fn by_prompt<L: Link, D: Desk, P: Prompter>(
 {
     match desk.turn(wanting(id)) {
         Ok(Reply::Given(grant)) => Answer::on(Response::Given { grant, plain }),
-        Ok(Reply::Open(ticket)) => {
-            prompt_under(ticket, plain, spec, plan, conn, desk, prompter)
-        }
+        Ok(Reply::Open(ticket)) => { prompt_under(ticket, plain, spec, plan, conn, desk, prompter) }
         Ok(Reply::Stopping) => Answer::failed(Code::Cancelled),
         Ok(_) => unreachable!(),
         Err(Refused { step }) => without_memory(step),

@@ -17,7 +17,9 @@ use crate::SessionEnd;
 use crate::answer::Answer;
 use crate::client::{Client, LentClient};
 use crate::response::Response;
-use agent_ask::{Agreed, AskPlan, Asked, Gone, Heard, PromptSpec, Prompter, Test, Tested, ask_consent, ask_pin};
+use agent_ask::{
+    Agreed, AskPlan, Asked, Gone, Heard, PromptSpec, Prompter, Test, Tested, ask_consent, ask_pin,
+};
 use assuan_server::Code;
 use assuan_text::Text;
 use cache_policy::{Desk, Reply, Secret, Step};

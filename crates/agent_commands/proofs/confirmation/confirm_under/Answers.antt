@@ -1,5 +1,4 @@
-use Rattle.std.proofs.Common.{None, refl}
-use Rattle.agent_commands.specs.Exchanges.{EndsConsent}
+use Rattle.std.proofs.Common.{None}
 use Rattle.agent_commands.proofs.Ending.{under, is_agreed, fits_consent, faults_consent, ends_consent, consent_gone}
 use Rattle.agent_commands.proofs.Prompting.{shown}
 use Rattle.agent_commands.proofs.confirmation.confirm_under.Goals as goal

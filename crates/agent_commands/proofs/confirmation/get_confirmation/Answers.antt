@@ -1,5 +1,4 @@
-use Rattle.std.proofs.Common.{sym, ◌∙◌, ap, refl, subst, false, [], inl, inr}
-use Rattle.arrayvec.specs.ArrayVec.{ArrayVec}
+use Rattle.std.proofs.Common.{sym, ◌∙◌, ap, false, [], inl, inr}
 use Rattle.assuan_server.specs.declared.errors.Code.TheVariants.{Cancelled, NoPinentry}
 use Rattle.agent_commands.specs.Exchanges.{Exchange, confirmation, unconfirmed, refusal_of}
 use Rattle.agent_commands.specs.Outside.{prompt_world}
@@ -15,8 +14,16 @@ pub returns-in-Ask-clause-carries : goal.returns-in-Ask-clause-carries
 returns-in-Ask-clause-carries g c =
     let shows = c.prompt_spec-spec.ensures in
     let spec_is : IsSpec c.args.rules.now c.args.options.now c.args.description.now (record { items = [] }) false c.prompt_spec-spec.result =
-        record { title = shows.title; description_is = shows.description_is; prompt_is = shows.prompt_is ∙ ap (λ i. record { items = i }) c.new.ensures; ok = shows.ok; cancel = shows.cancel;
-        quality_is = shows.quality_is; env = shows.env; timeout = shows.timeout } in
+    record {
+      title = shows.title;
+      description_is = shows.description_is;
+      prompt_is = shows.prompt_is ∙ ap (λ i. record { items = i }) c.new.ensures;
+      ok = shows.ok;
+      cancel = shows.cancel;
+      quality_is = shows.quality_is;
+      env = shows.env;
+      timeout = shows.timeout;
+    } in
     carry_as {w = prompt_world g.D.Desk.turned g.P.Prompter.prompted} (λ events wants. confirmation c.prompt_spec-spec.result (sym c.mode.ensures ∙ c.in-Ask.is) spec_is wants)
     (rw c.notify.ensures at c.confirm.ensures.carries)
 

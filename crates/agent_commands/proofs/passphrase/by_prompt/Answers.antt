@@ -1,8 +1,8 @@
-use Rattle.std.proofs.Common.{[], ◌∷◌, None, Some, arith, refl, sym, ◌∙◌, subst}
+use Rattle.std.proofs.Common.{[], ◌∷◌, arith}
 use Rattle.assuan_server.specs.declared.errors.Code.TheVariants.{NoMemory, Cancelled}
-use Rattle.cache_policy.specs.Turns.{Given as TurnGiven, Open, Stopping, Refused}
+use Rattle.cache_policy.specs.Turns.{Open, Stopping, Refused}
 use Rattle.agent_commands.specs.Events.{cache_turn}
-use Rattle.agent_commands.specs.Exchanges.{ByPrompt, cached, prompted, opened, interrupted, stopping, refused, want}
+use Rattle.agent_commands.specs.Exchanges.{prompted, opened, interrupted, stopping, refused, want}
 use Rattle.agent_commands.specs.Outside.{prompt_world}
 use Rattle.agent_commands.proofs.Carrying.{carry_after, carry_turn}
 use Rattle.agent_commands.proofs.Doing.{done_turned}

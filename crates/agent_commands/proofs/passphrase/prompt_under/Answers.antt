@@ -1,5 +1,4 @@
-use Rattle.std.proofs.Common.{None, Some, refl, sym, ◌∙◌, subst}
-use Rattle.agent_ask.specs.Prompts.{AsksPin}
+use Rattle.std.proofs.Common.{None, Some}
 use Rattle.agent_ask.specs.declared.ask.Asked.TheVariants.{Pin}
 use Rattle.agent_commands.specs.Exchanges.{EndsPin, pin}
 use Rattle.agent_commands.specs.declared.response.Response.TheVariants.{Passphrase}

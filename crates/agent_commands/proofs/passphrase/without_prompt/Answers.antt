@@ -1,4 +1,3 @@
-use Rattle.std.proofs.Common.{sym, subst}
 use Rattle.assuan_server.specs.declared.errors.Code.TheVariants.{Cancelled, NoPinentry}
 use Rattle.agent_commands.specs.Exchanges.{WithoutPrompt, cancelled, no_pinentry}
 use Rattle.agent_commands.specs.Outside.{world}

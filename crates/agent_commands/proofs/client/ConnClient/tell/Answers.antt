@@ -17,5 +17,5 @@ pub returns : goal.returns
 returns g c =
     let text = c.as_bytes.ensures.value ∙ c.format.ensures.text in
     let hears : HearsNote c.args.pid c.args.self.now c.inquire_drop.result c.inquire_drop.new.self =
-        record { inquiry = rw text at c.inquire_drop.ensures.inquiry; cut = rw text at c.inquire_drop.ensures.cut } in
+    record { inquiry = rw text at c.inquire_drop.ensures.inquiry; cut = rw text at c.inquire_drop.ensures.cut } in
     rw c.heard_of_dropped.ensures (told_so c.requires hears)
