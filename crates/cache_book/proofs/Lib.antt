@@ -11,3 +11,4 @@ pub mod Ordered
 pub mod Stretch
 pub mod Searching
 pub mod Places
+pub mod Below

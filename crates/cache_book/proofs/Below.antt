@@ -1,0 +1,31 @@
+-- The numbers of the slots on a shelf stay below the next one.
+use Rattle.std.specs.Prelude.{◌≡◌, ℕ, ◌+◌, ◌<◌, List, [], ◌∷◌, Bool, filter, map}
+use Rattle.std.proofs.Common.{sym, subst, arith}
+use Rattle.cache_policy.specs.declared.mode.Mode.{Mode}
+use Rattle.cache_policy.specs.declared.entry.Entry.{Entry}
+use Rattle.cache_policy.proofs.Lists.{all_weaker, all_append}
+use Rattle.cache_book.specs.declared.slot.Slot.{Slot}
+use Rattle.cache_book.specs.Shelves.{touch_slot, touched, cleared, swept, hidden, new_slot, with_entry, AreBelow}
+use Rattle.cache_book.proofs.Kept.{all_filter, all_map}
+use Rattle.cache_book.proofs.Ordered.{touch-entry, below-hidden}
+
+pub below-more : (number : ℕ) (list : List Slot) → AreBelow number list → AreBelow (number + 1) list
+below-more number list h = all_weaker (λ slot. slot.entry.number < number) (λ slot. slot.entry.number < number + 1) (λ slot k. more slot.entry.number k) list h
+  where
+    more : (n : ℕ) → n < number → n < number + 1
+    more n lt = omega arith
+
+pub below-touched : (number used now : ℕ) (list : List Slot) → AreBelow number list → AreBelow number (touched used now list)
+below-touched number used now list h =
+    all_map (λ slot. slot.entry.number < number) (touch_slot used now) (λ slot k. subst (λ (e : Entry). e.number < number) (sym (touch-entry used now slot)) k) list h
+
+pub below-filter : (number : ℕ) (test : Slot → Bool) (list : List Slot) → AreBelow number list → AreBelow number (filter test list)
+below-filter number test list h = all_filter (λ slot. slot.entry.number < number) test list h
+
+pub below-stored : (entry : Entry) (list : List Slot) → AreBelow entry.number list → AreBelow (entry.number + 1) (with_entry entry list)
+below-stored entry list h =
+    all_append (λ slot. slot.entry.number < entry.number + 1) (hidden entry list) (new_slot entry ∷ [])
+    (below-more entry.number (hidden entry list) (below-hidden entry entry.number list h)) (next entry.number, tt)
+  where
+    next : (n : ℕ) → n < n + 1
+    next n = omega arith
