@@ -151,9 +151,7 @@ fn answer_whole<L: Link, D: Desk, P: Prompter>(
     ensures shut { IsShut (P.at prompter.new) }
 {
     match read_request(line) {
-        Request::Cache(command) => {
-            run_cache(&command, rules, options, conn, desk, prompter)
-        }
+        Request::Cache(command) => { run_cache(&command, rules, options, conn, desk, prompter) }
         Request::Bad(code) => match whole(conn.err(code, Origin::Agent)) {
             Ok(()) => Went::On,
             Err(WriteFault) => Went::End(SessionEnd::WriteFault),
