@@ -130,8 +130,9 @@ const ANSWERS: [(&str, &str); 30] = [
         "ERR 67109144 IPC parameter error <GPG Agent>\n",
     ),
     (
-        "GET_PASSPHRASE --data id1 X X X\n",
-        "ERR 67108924 Not supported <GPG Agent>\n",
+        // No child can be launched.
+        "GET_PASSPHRASE --data id1 X X X\nGET_CONFIRMATION X\n",
+        "ERR 67108950 No pinentry <GPG Agent>\nERR 67108950 No pinentry <GPG Agent>\n",
     ),
     (
         "GET_PASSPHRASE --data id1 X X\n",
