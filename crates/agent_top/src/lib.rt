@@ -3,6 +3,8 @@
 
 #[cfg(test)]
 mod dialogues;
+#[cfg(test)]
+mod prompt_tests;
 mod status;
 mod top;
 mod words;
