@@ -5,6 +5,8 @@
 mod dialogues;
 #[cfg(test)]
 mod prompt_tests;
+#[cfg(test)]
+mod script_tests;
 mod status;
 mod top;
 mod words;

@@ -3,6 +3,7 @@
 ghost use Rattle.std.specs.Prelude.{IsSome};
 
 use crate::run_server;
+use crate::tests::long_text;
 use agent_ports::{
     Host, ListClock, ListDice, MapKeys, MemHost, MemLauncher, MemLink, MemSink, MemSource, Parts,
     PlannedChild,
@@ -313,7 +314,7 @@ fn child_of(
 fn were_written(
     alloc: Global,
     launcher: &MemLauncher,
-    children: &[Child],
+    children: &[(Opening, &str, &str)],
 ) -> Result<bool, AllocError> {
     let mut back = 0usize;
     for ((_, opening), _, behind) in children.iter().rev() {
@@ -327,8 +328,14 @@ fn were_written(
 }
 
 /// Whether the session goes as it should where reads of the client and of the children give at most `piece` bytes.
-fn goes(alloc: Global, row: &Row, failing: &[u64], piece: usize) -> Result<bool, AllocError> {
-    let (sent, answered, children) = row;
+fn goes(
+    alloc: Global,
+    sent: &str,
+    answered: &str,
+    children: &[(Opening, &str, &str)],
+    failing: &[u64],
+    piece: usize,
+) -> Result<bool, AllocError> {
     let mut planned = Vec::new(alloc);
     for ((opening, _), behind, _) in children.iter() {
         planned.push(child_of(alloc, opening, behind, piece)?)?;
@@ -343,42 +350,61 @@ fn goes(alloc: Global, row: &Row, failing: &[u64], piece: usize) -> Result<bool,
 }
 
 /// Whether it does so however the bytes are cut.
-fn goes_in_any_pieces(alloc: Global, row: &Row, failing: &[u64]) -> Result<bool, AllocError> {
-    Ok(
-        goes(alloc, row, failing, 1)?
-            && goes(alloc, row, failing, 7)?
-            && goes(alloc, row, failing, 4096)?,
-    )
+fn goes_in_any_pieces(
+    alloc: Global,
+    sent: &str,
+    answered: &str,
+    children: &[(Opening, &str, &str)],
+    failing: &[u64],
+) -> Result<bool, AllocError> {
+    for piece in [1usize, 7, 4096] {
+        if !goes(alloc, sent, answered, children, failing, piece)? {
+            return Ok(false);
+        }
+    }
+    Ok(true)
 }
 
 #[test]
 fn passphrases_are_prompted_for(rt: HostRuntime) -> Result<(), Fail> {
-    for row in &PASSPHRASES {
-        assert!(rt; goes_in_any_pieces(rt.alloc(), row, &[])?, "{}", row.0);
+    for (sent, answered, children) in PASSPHRASES {
+        assert!(rt;
+            goes_in_any_pieces(rt.alloc(), sent, answered, children, &[])?,
+            "{sent}"
+        );
     }
     Ok(())
 }
 
 #[test]
 fn the_client_is_told_of_a_prompt(rt: HostRuntime) -> Result<(), Fail> {
-    for row in &NOTES {
-        assert!(rt; goes_in_any_pieces(rt.alloc(), row, &[])?, "{}", row.0);
+    for (sent, answered, children) in NOTES {
+        assert!(rt;
+            goes_in_any_pieces(rt.alloc(), sent, answered, children, &[])?,
+            "{sent}"
+        );
     }
     Ok(())
 }
 
 #[test]
 fn consent_is_prompted_for(rt: HostRuntime) -> Result<(), Fail> {
-    for row in &CONSENTS {
-        assert!(rt; goes_in_any_pieces(rt.alloc(), row, &[])?, "{}", row.0);
+    for (sent, answered, children) in CONSENTS {
+        assert!(rt;
+            goes_in_any_pieces(rt.alloc(), sent, answered, children, &[])?,
+            "{sent}"
+        );
     }
     Ok(())
 }
 
 #[test]
 fn the_client_gives_the_passphrase_in_loopback(rt: HostRuntime) -> Result<(), Fail> {
-    for row in &LOOPBACKS {
-        assert!(rt; goes_in_any_pieces(rt.alloc(), row, &[])?, "{}", row.0);
+    for (sent, answered, children) in LOOPBACKS {
+        assert!(rt;
+            goes_in_any_pieces(rt.alloc(), sent, answered, children, &[])?,
+            "{sent}"
+        );
     }
     Ok(())
 }
@@ -392,6 +418,49 @@ const LAUNCHES: Row = (
 
 #[test]
 fn the_seat_is_free_behind_a_launch_that_failed(rt: HostRuntime) -> Result<(), Fail> {
-    assert!(rt; goes_in_any_pieces(rt.alloc(), &LAUNCHES, &[0])?);
+    let (sent, answered, children) = LAUNCHES;
+    assert!(rt; goes_in_any_pieces(rt.alloc(), sent, answered, children, &[0])?);
+    Ok(())
+}
+
+#[test]
+fn a_typed_passphrase_has_up_to_255_bytes(rt: HostRuntime) -> Result<(), Fail> {
+    let alloc = rt.alloc();
+    let sent = "GET_PASSPHRASE id1 X X X\nGET_PASSPHRASE --no-ask id1\n";
+    let digits = long_text(alloc, "", "61", 255, "")?;
+    let answered = format!(in alloc; "OK {digits}\nOK {digits}\n")?;
+    let most = long_text(alloc, "D ", "a", 255, "\nOK\n")?;
+    let children = [(PIN, most.as_str(), "GETPIN\nBYE\n")];
+    assert!(rt; goes_in_any_pieces(alloc, sent, &answered, &children, &[])?);
+    // One that is too long is never kept.
+    let answered = "ERR 67108950 No pinentry <GPG Agent>\nERR 67108922 No data <GPG Agent>\n";
+    let more = long_text(alloc, "D ", "a", 256, "\nOK\n")?;
+    let children = [(PIN, more.as_str(), "GETPIN\n")];
+    assert!(rt; goes_in_any_pieces(alloc, sent, answered, &children, &[])?);
+    Ok(())
+}
+
+#[test]
+fn a_note_has_up_to_1000_bytes(rt: HostRuntime) -> Result<(), Fail> {
+    let alloc = rt.alloc();
+    let half = long_text(alloc, "D ", "a", 500, "\n")?;
+    let front = format!(in alloc;
+        "OPTION allow-pinentry-notify\nGET_PASSPHRASE id1 X X X\n{half}{half}"
+    )?;
+    let sent = format!(in alloc; "{front}END\n")?;
+    let answered = "OK\nINQUIRE PINENTRY_LAUNCHED 9\nOK 61\n";
+    assert!(rt;
+        goes_in_any_pieces(
+            alloc,
+            &sent,
+            answered,
+            &[(PIN, "D a\nOK\n", "GETPIN\nBYE\n")],
+            &[]
+        )?
+    );
+    let sent = format!(in alloc; "{front}D a\nEND\n")?;
+    let answered =
+        "OK\nINQUIRE PINENTRY_LAUNCHED 9\nERR 67109137 Too much data for IPC layer <GPG Agent>\n";
+    assert!(rt; goes_in_any_pieces(alloc, &sent, answered, &[(PIN, "", "BYE\n")], &[])?);
     Ok(())
 }
