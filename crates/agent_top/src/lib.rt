@@ -3,6 +3,10 @@
 
 #[cfg(test)]
 mod dialogues;
+#[cfg(test)]
+mod prompt_tests;
+#[cfg(test)]
+mod script_tests;
 mod status;
 mod top;
 mod words;

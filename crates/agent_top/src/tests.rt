@@ -307,7 +307,7 @@ fn no_inquiry_line_is_run(rt: HostRuntime) -> Result<(), Fail> {
 }
 
 /// A part so many times, between two texts.
-fn long_text(
+pub(crate) fn long_text(
     alloc: Global,
     front: &str,
     part: &str,
