@@ -1,7 +1,7 @@
 -- Lists in order: what becomes of them as an element is added, dropped or changed.
-use Rattle.std.specs.Prelude.{◌≡◌, ℕ, ◌<◌, ◌≤◌, List, [], ◌∷◌, ◌++◌, ◌⊎◌, Bool, true, false, map, filter, cond, refl, length, take, drop, get_or, set}
-use Rattle.std.proofs.Common.{ap, sym, ◌∙◌, subst, arith, zero, suc, inl, inr}
-use Rattle.std.specs.List.{AllByRecursion, AllWithin, remove}
+use Rattle.std.specs.Prelude.{◌≡◌, ℕ, ◌≤◌, List, [], ◌∷◌, ◌++◌, Bool, true, false, map, filter, cond, refl, length, take, drop, get_or, set}
+use Rattle.std.proofs.Common.{ap, sym, ◌∙◌, arith, zero, suc}
+use Rattle.std.specs.List.{AllByRecursion, AllWithin}
 use Rattle.std.specs.List.Sorted.{IsPartitionedBy}
 use Rattle.std.proofs.lemmas.List.Elements.{All-from_recursion, recursion_from_All}
 use Rattle.cache_book.specs.Arranged.{placed, arranged, EachPair}
@@ -13,12 +13,6 @@ module _ {A : Type 0} (P : A → Type 0) where
   all_insert zero x xs here h = (here, h)
   all_insert (suc i) x [] here h = (here, tt)
   all_insert (suc i) x (y ∷ ys) here h = (h.0, all_insert i x ys here h.1)
-
-  pub all_remove : (i : ℕ) (xs : List A) → AllByRecursion P xs → AllByRecursion P (remove xs i)
-  all_remove zero [] h = tt
-  all_remove zero (x ∷ xs) h = h.1
-  all_remove (suc i) [] h = tt
-  all_remove (suc i) (x ∷ xs) h = (h.0, all_remove i xs h.1)
 
   pub all_set : (i : ℕ) (x : A) (xs : List A) → P x → AllByRecursion P xs → AllByRecursion P (set xs i x)
   all_set zero x [] here h = tt
@@ -54,12 +48,6 @@ module _ {A : Type 0} (R : A → A → Type 0) where
   pub pairs_map : (f : A → A) → ((x y : A) → R x y → R (f x) (f y)) → (xs : List A) → EachPair R xs → EachPair R (map f xs)
   pairs_map f keeps [] h = tt
   pairs_map f keeps (x ∷ xs) h = (all_moved f keeps x xs h.0, pairs_map f keeps xs h.1)
-
-  pub pairs_remove : (i : ℕ) (xs : List A) → EachPair R xs → EachPair R (remove xs i)
-  pairs_remove zero [] h = tt
-  pairs_remove zero (x ∷ xs) h = h.1
-  pairs_remove (suc i) [] h = tt
-  pairs_remove (suc i) (x ∷ xs) h = (all_remove (R x) i xs h.0, pairs_remove i xs h.1)
 
   pub pairs_insert : (i : ℕ) (x : A) (xs : List A) → AllByRecursion (λ y. R y x) (take i xs) → AllByRecursion (R x) (drop i xs)
       → EachPair R xs → EachPair R (take i xs ++ x ∷ drop i xs)
@@ -212,95 +200,3 @@ module _ {A : Type 0} (before : A → A → Bool) (order : IsOrder before) where
   arranged-last (suc i) x [] h = refl
   arranged-last (suc i) x (y ∷ ys) h =
       ap (placed before y) (arranged-last i x ys h.1) ∙ placed-append before y x (arranged before ys) h.0
-
--- elements of which one comes before the other
-module _ {A : Type 0} (before : A → A → Bool) (order : IsOrder before) where
-  pub placed-swap : (x y : A) (ys : List A) → before x y ≡ true → placed before y (placed before x ys) ≡ placed before x (placed before y ys)
-  placed-swap x y [] h = placed-further before y x [] (order.other x y h) ∙ sym (placed-here before x y [] h)
-  placed-swap x y (z ∷ zs) h =
-      elim (before x z) as (λ b. before x z ≡ b → placed before y (placed before x (z ∷ zs)) ≡ placed before x (placed before y (z ∷ zs))) [
-        | true ↦ λ e. ap (placed before y) (placed-here before x z zs e) ∙ (placed-further before y x (z ∷ zs) (order.other x y h) ∙ sym (front e))
-        | false ↦ λ e. ap (placed before y) (placed-further before x z zs e) ∙ (placed-further before y z (placed before x zs) (later e)
-            ∙ (ap (λ (l : List A). z ∷ l) (placed-swap x y zs h)
-            ∙ (sym (placed-further before x z (placed before y zs) e) ∙ ap (placed before x) (sym (placed-further before y z zs (later e))))))
-      ] refl
-    where
-      front : before x z ≡ true → placed before x (placed before y (z ∷ zs)) ≡ x ∷ placed before y (z ∷ zs)
-      front e =
-          elim (before y z) as (λ b. placed before x (cond b (y ∷ z ∷ zs) (z ∷ placed before y zs)) ≡ x ∷ cond b (y ∷ z ∷ zs) (z ∷ placed before y zs)) [
-            | true ↦ placed-here before x y (z ∷ zs) h
-            | false ↦ placed-here before x z (placed before y zs) e
-          ]
-
-      later : before x z ≡ false → before y z ≡ false
-      later e =
-          elim (before y z) as (λ b. before y z ≡ b → b ≡ false) [
-            | true ↦ λ k. let front : before x z ≡ true = order.through x y z h (order.other y z k) in cc
-            | false ↦ λ k. refl
-          ] refl
-
-  -- an element at its place in a list in order
-  pub placed-at : (i : ℕ) (x : A) (ys : List A) → AllByRecursion (λ y. before x y ≡ false) (take i ys) → AllByRecursion (λ y. before x y ≡ true) (drop i ys)
-      → take i ys ++ x ∷ drop i ys ≡ placed before x ys
-  placed-at zero x ys front back = sym (placed-front before x ys back)
-  placed-at (suc i) x [] front back = refl
-  placed-at (suc i) x (y ∷ ys) front back = ap (λ (l : List A). y ∷ l) (placed-at i x ys front.1 back) ∙ sym (placed-further before x y ys front.0)
-
-  irreflexive : (x : A) → before x x ≡ true → ⊥
-  irreflexive x h = let not : before x x ≡ false = order.other x x h in cc
-
--- a list without the element at a place
-pub record IsWithout {A : Type 0} (list rest : List A) (i : ℕ) : Type 0 where
-  pub within : i < length list
-  pub is : remove list i ≡ rest
-
--- an element is taken from a list in order: it stands after what comes before it
-module _ {A : Type 0} (before : A → A → Bool) (order : IsOrder before) (x : A) where
-  taken_first : (y : A) (ys : List A) (i : ℕ) → AllByRecursion (λ z. before z x ≡ true) (take i (x ∷ y ∷ ys)) → IsWithout (x ∷ y ∷ ys) (y ∷ ys) i
-  taken_first y ys zero front = record { within = omega arith; is = refl }
-  taken_first y ys (suc i) front = absurd (irreflexive before order x front.0)
-
-  taken_later : (y : A) (ys : List A) (i : ℕ) → before x y ≡ false → (before x y ≡ true) ⊎ (before y x ≡ true)
-      → ((j : ℕ) → AllByRecursion (λ z. before z x ≡ true) (take j (placed before x ys)) → AllByRecursion (λ z. before z x ≡ false) (drop j (placed before x ys))
-      → IsWithout (placed before x ys) ys j)
-      → AllByRecursion (λ z. before z x ≡ true) (take i (y ∷ placed before x ys)) → AllByRecursion (λ z. before z x ≡ false) (drop i (y ∷ placed before x ys))
-      → IsWithout (y ∷ placed before x ys) (y ∷ ys) i
-  taken_later y ys zero e apart rec front back = absurd (elim apart [ inl h ↦ cc | inr h ↦ (let k : before y x ≡ false = back.0 in cc) ])
-  taken_later y ys (suc i) e apart rec front back =
-      let out = rec i front.1 back in
-      let within : i < length (placed before x ys) = out.within in
-      record { within = omega arith; is = ap (λ (l : List A). y ∷ l) out.is }
-
-  pub placed-taken : (ys : List A) (i : ℕ) → AllByRecursion (λ y. (before x y ≡ true) ⊎ (before y x ≡ true)) ys
-      → AllByRecursion (λ y. before y x ≡ true) (take i (placed before x ys)) → AllByRecursion (λ y. before y x ≡ false) (drop i (placed before x ys))
-      → IsWithout (placed before x ys) ys i
-  placed-taken [] zero apart front back = record { within = omega arith; is = refl }
-  placed-taken [] (suc i) apart front back = absurd (irreflexive before order x front.0)
-  placed-taken (y ∷ ys) i apart front back =
-      elim (before x y) as (λ b. before x y ≡ b → IsWithout (placed before x (y ∷ ys)) (y ∷ ys) i) [
-        | true ↦ λ e. subst (λ (l : List A). IsWithout l (y ∷ ys) i) (sym (placed-here before x y ys e))
-            (taken_first y ys i (subst (λ (l : List A). AllByRecursion (λ z. before z x ≡ true) (take i l)) (placed-here before x y ys e) front))
-        | false ↦ λ e. subst (λ (l : List A). IsWithout l (y ∷ ys) i) (sym (placed-further before x y ys e))
-            (taken_later y ys i e apart.0 (λ j f b. placed-taken ys j apart.1 f b)
-            (subst (λ (l : List A). AllByRecursion (λ z. before z x ≡ true) (take i l)) (placed-further before x y ys e) front)
-            (subst (λ (l : List A). AllByRecursion (λ z. before z x ≡ false) (drop i l)) (placed-further before x y ys e) back))
-      ] refl
-
--- what a test that parts a list keeps of it
-pub filter-parted : {A : Type 0} (test : A → Bool) (i : ℕ) (xs : List A) → AllByRecursion (λ x. test x ≡ false) (take i xs)
-    → AllByRecursion (λ x. test x ≡ true) (drop i xs) → filter test xs ≡ drop i xs
-filter-parted test zero [] front back = refl
-filter-parted test zero (x ∷ xs) front back =
-    ap (λ b. cond b (x ∷ filter test xs) (filter test xs)) back.0 ∙ ap (λ l. x ∷ l) (filter-parted test zero xs tt back.1)
-filter-parted test (suc i) [] front back = refl
-filter-parted test (suc i) (x ∷ xs) front back =
-    ap (λ b. cond b (x ∷ filter test xs) (filter test xs)) front.0 ∙ filter-parted test i xs front.1 back
-
-pub filter-map : {A B : Type 0} (f : A → B) (test : B → Bool) (xs : List A) → filter test (map f xs) ≡ map f (filter (λ x. test (f x)) xs)
-filter-map f test [] = refl
-filter-map f test (x ∷ xs) =
-    ap (λ l. cond (test (f x)) (f x ∷ l) l) (filter-map f test xs)
-    ∙ elim (test (f x)) as (λ b. cond b (f x ∷ map f (filter (λ y. test (f y)) xs)) (map f (filter (λ y. test (f y)) xs)) ≡ map f (cond b (x ∷ filter (λ y. test (f y)) xs) (filter (λ y. test (f y)) xs))) [
-      | true ↦ refl
-      | false ↦ refl
-    ]

@@ -1,11 +1,10 @@
 -- The numbers of the slots on a shelf stay below the next one.
-use Rattle.std.specs.Prelude.{◌≡◌, ℕ, ◌+◌, ◌<◌, List, [], ◌∷◌, Bool, filter, map}
+use Rattle.std.specs.Prelude.{ℕ, ◌+◌, ◌<◌, List, [], ◌∷◌, Bool, filter}
 use Rattle.std.proofs.Common.{sym, subst, arith}
-use Rattle.cache_policy.specs.declared.mode.Mode.{Mode}
 use Rattle.cache_policy.specs.declared.entry.Entry.{Entry}
 use Rattle.cache_policy.proofs.Lists.{all_weaker, all_append}
 use Rattle.cache_book.specs.declared.slot.Slot.{Slot}
-use Rattle.cache_book.specs.Shelves.{touch_slot, touched, cleared, swept, hidden, new_slot, with_entry, AreBelow}
+use Rattle.cache_book.specs.Shelves.{touch_slot, touched, hidden, new_slot, with_entry, AreBelow}
 use Rattle.cache_book.proofs.Kept.{all_filter, all_map}
 use Rattle.cache_book.proofs.Ordered.{touch-entry, below-hidden}
 

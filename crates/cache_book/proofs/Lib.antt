@@ -10,5 +10,5 @@ pub mod Arranging
 pub mod Ordered
 pub mod Stretch
 pub mod Searching
-pub mod Places
+pub mod Holding
 pub mod Below

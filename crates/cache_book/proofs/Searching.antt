@@ -1,7 +1,7 @@
 -- Searching slots that stand by their ids: what lies outside of the stretch of an id, and what a place says.
 use Rattle.std.specs.Prelude.{◌≡◌, ℕ, ◌<◌, ◌≤◌, ◌==◌, List, [], ◌∷◌, ◌⊎◌, Bool, true, false, ◌&&◌, not, max, map, take, drop, cond, length, get_or, set, refl}
-use Rattle.std.proofs.Common.{ap, ◌∙◌, subst, arith, zero, suc, inl, inr}
-use Rattle.std.specs.List.{AllByRecursion, AllWithin}
+use Rattle.std.proofs.Common.{ap, sym, ◌∙◌, subst, arith, zero, suc, inl, inr}
+use Rattle.std.specs.List.{AllByRecursion, AllWithin, HoldsAt}
 use Rattle.std.specs.List.Sorted.{IsPartitionPoint}
 use Rattle.std.proofs.lemmas.List.Elements.{All-from_recursion, recursion_from_All, AllWithin-upto}
 use Rattle.std.proofs.lemmas.Cmp.{nat_list_eq_equiv}
@@ -71,6 +71,14 @@ module _ (number now : ℕ) where
       (other x.entry.number (get_or xs i d).entry.number
       (All-from_recursion (λ y. (x.entry.number == y.entry.number) ≡ false) xs own.0 i d (omega arith)) is)
       ∙ ap (λ (l : List Slot). x ∷ l) (touched-one i xs d own.1 (omega arith) is)
+
+  -- the slot that was found in a slice of the list
+  pub touched_at : (i : ℕ) (list slice : List Slot) (old new : Slot) → HaveOwnNumbers list → slice ≡ list → i < length slice
+      → HoldsAt (λ slot. (number == slot.entry.number) ≡ true) slice i → old ≡ get_or list i old → new ≡ touch_slot number now old → set list i new ≡ touched number now list
+  touched_at i list slice old new own same lt is found touches =
+      ap (set list i) (touches ∙ ap (touch_slot number now) found)
+      ∙ sym (touched-one i list old own (subst (λ (l : List Slot). i < length l) same lt)
+      (subst (λ (l : List Slot). (number == (get_or l i old).entry.number) ≡ true) same (is old)))
 
 -- slots outside of the stretch of an id are left as they are
 pub cleared-apart : (id : List ℕ) (mode : Mode) (list : List Slot) → AllByRecursion (λ slot. same_id slot.entry.id id ≡ false) list → cleared id mode list ≡ list

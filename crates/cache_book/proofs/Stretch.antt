@@ -2,7 +2,7 @@
 use Rattle.std.specs.Prelude.{◌≡◌, ℕ, ◌+◌, ◌-◌, ◌<◌, ◌≤◌, List, [], ◌∷◌, ◌++◌, Bool, true, false, not, ◌&&◌, cond, refl, length, take, drop, get_or, set}
 use Rattle.std.proofs.Common.{ap, sym, ◌∙◌, subst, arith, zero, suc}
 use Rattle.std.specs.List.{remove}
-use Rattle.std.proofs.lemmas.List.{append_assoc, take-append-drop, length-append, length-take-le, get_or-append_right, set-append_right}
+use Rattle.std.proofs.lemmas.List.{append_assoc, take-append-drop, length-take-le, get_or-append_right, set-append_right}
 use Rattle.std.proofs.lemmas.List.Edits.{remove-append_right}
 use Rattle.cache_policy.specs.declared.mode.Mode.{Mode}
 use Rattle.cache_policy.specs.declared.entry.Entry.{Entry}
@@ -74,13 +74,6 @@ module _ (op : List Slot → List Slot) (slotwise : IsSlotwise op) (i : ℕ) (li
     rest : op (drop i list) ≡ op (slot ∷ []) ++ op (drop (i + 1) list)
     rest = ap op (split_at i list slot in_list ∙ ap (λ (s : Slot). s ∷ drop (i + 1) list) (sym same)) ∙ slotwise.append (slot ∷ []) (drop (i + 1) list)
 
-    -- a place of the list as it lies there
-    pub in_done : i < length done
-    in_done = subst (λ (l : List Slot). i < length l) (sym parts) (longer (take i list) (op (drop (i + 1) list)) front)
-      where
-        longer : (xs ys : List Slot) → length xs ≡ i → i < length (xs ++ get_or list i slot ∷ ys)
-        longer xs ys n = let both : length (xs ++ get_or list i slot ∷ ys) ≡ length xs + length (get_or list i slot ∷ ys) = length-append xs (get_or list i slot ∷ ys) in omega arith
-
     before : i ≤ length list
     before = let lt : i < length list = in_list in omega arith
 
@@ -92,13 +85,6 @@ module _ (op : List Slot → List Slot) (slotwise : IsSlotwise op) (i : ℕ) (li
           ∙ (remove-append_right (take i list) (slot ∷ op (drop (i + 1) list)) i i front (omega arith)
           ∙ (ap (λ (k : ℕ). take i list ++ remove (slot ∷ op (drop (i + 1) list)) k) (no_further i)
           ∙ ap (λ (l : List Slot). take i list ++ l) (ap (λ (l : List Slot). l ++ op (drop (i + 1) list)) (sym none) ∙ sym rest)));
-    }
-
-    -- it stays
-    pub done-kept : op (slot ∷ []) ≡ slot ∷ [] → IsDoneFrom op i list done
-    done-kept stays = record {
-      within = before;
-      is = parted ∙ ap (λ (l : List Slot). take i list ++ l) (ap (λ (l : List Slot). l ++ op (drop (i + 1) list)) (sym stays) ∙ sym rest);
     }
 
     -- it changes

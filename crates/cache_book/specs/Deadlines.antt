@@ -1,9 +1,10 @@
--- The last moments of slots, and the order of their places by them. This is the project's own.
-use Rattle.std.specs.Prelude.{◌≡◌, ℕ, ◌+◌, ◌-◌, ◌^◌, ◌==◌, List, ◌⊎◌, Bool, true, false, ◌&&◌, ◌||◌, Option, Some, None, min, map, nat_lt}
+-- The last moments of slots. This is the project's own.
+use Rattle.std.specs.Prelude.{◌≡◌, ℕ, ◌+◌, ◌-◌, ◌^◌, ◌<◌, ◌==◌, List, Bool, true, Option, Some, None, min, slice_index_or}
+use Rattle.std.specs.declared.cmp.Reverse.{Reverse}
+use Rattle.std.specs.declared.cmp.Ordering.{Ordering}
+use Rattle.std.specs.Ordering.{nat_cmp}
+use Rattle.std.specs.List.{AllByRecursion, list_any}
 use Rattle.cache_book.specs.declared.slot.Slot.{Slot}
-use Rattle.cache_book.specs.declared.place.Place.{Place}
-use Rattle.std.specs.List.{AllByRecursion}
-use Rattle.cache_book.specs.Arranged.{placed, arranged, EachPair}
 
 -- the end of a ttl that is counted from the last use, or of the greatest age, whichever comes first
 abbrev pub lesser_end : Option ℕ → ℕ → ℕ → ℕ
@@ -14,26 +15,24 @@ lesser_end (Some ttl) last oldest = min (last + ttl) oldest
 abbrev pub deadline : Slot → ℕ
 deadline slot = min (lesser_end slot.entry.ttl slot.last (slot.entry.entered + slot.entry.max)) (2 ^ 64 - 1)
 
-abbrev pub place_of : Slot → Place
-place_of slot = record { deadline = deadline slot; number = slot.entry.number }
+-- moments that are kept with the soonest in front, how many they are, and how many there is room for
+pub record AtDeadlines : Type 0 where
+  pub moments : List (Reverse ℕ)
+  pub len : ℕ
+  pub capacity : ℕ
 
--- places by their deadlines, and then by their numbers
-abbrev pub is_sooner : Place → Place → Bool
-is_sooner a b = nat_lt a.deadline b.deadline || (a.deadline == b.deadline && nat_lt a.number b.number)
+-- the later of two moments is the lesser in their order
+abbrev pub soonest_is_greatest : Reverse ℕ → Reverse ℕ → Ordering
+soonest_is_greatest a b = nat_cmp b.0 a.0
 
--- the places of slots in that order
-abbrev pub by_deadline : List Slot → List Place
-by_deadline list = arranged is_sooner (map place_of list)
+-- the moment is one of these
+abbrev pub is_among : ℕ → List (Reverse ℕ) → Bool
+is_among moment list = list_any (λ other. other.0 == moment) list
 
--- no place comes before an earlier one
-abbrev pub AreByDeadline : List Place → Type 0
-AreByDeadline list = EachPair (λ a b. is_sooner b a ≡ false) list
+-- there are moments, and the one in front is before now
+abbrev pub FrontIsPast : ℕ → List (Reverse ℕ) → ℕ → Type 0
+FrontIsPast now list len = (0 < len) × ((default : Reverse ℕ) → (slice_index_or list 0 default).0 < now)
 
--- the list is these places and one more, at its place
-pub record IsPlacedIn (place : Place) (rest list : List Place) : Type 0 where
-  pub apart : AllByRecursion (λ other. (is_sooner place other ≡ true) ⊎ (is_sooner other place ≡ true)) rest
-  pub is : list ≡ placed is_sooner place rest
-
-pub record HasPlace (place : Place) (list : List Place) : Type 0 where
-  pub rest : List Place
-  pub placed_in : IsPlacedIn place rest list
+-- the deadline of each slot is one of these moments
+abbrev pub HaveDeadlines : List (Reverse ℕ) → List Slot → Type 0
+HaveDeadlines moments list = AllByRecursion (λ slot. is_among (deadline slot) moments ≡ true) list

@@ -1,7 +1,7 @@
-ghost use Rattle.std.specs.Prelude.{◌≡◌};
+ghost use Rattle.std.specs.Prelude.{◌≡◌, IfSome, IfNone};
 
 use crate::Slot;
-use crate::place::Place;
+use crate::deadlines::deadline_of;
 use cache_policy::{CacheId, Entry, Mode, Secret};
 use std::alloc::{AllocError, Global};
 use std::marker::Model;
@@ -23,7 +23,7 @@ impl Model for BoxedSlot {
 impl BoxedSlot {
     ghost use Rattle.cache_book.specs.Shelves.{touch_slot, hide, new_slot};
     ghost use Rattle.cache_book.specs.Modes.{has_some};
-    ghost use Rattle.cache_book.specs.Deadlines.{place_of};
+    ghost use Rattle.cache_book.specs.Deadlines.{deadline};
     ghost use Rattle.cache_book.specs.SlotOrders.{wipe_past};
 
     /// Memory for a slot to come.
@@ -81,21 +81,23 @@ impl BoxedSlot {
         self.slot.entry.secret.clear();
     }
 
-    pub(crate) fn place(&self) -> Place
-        ensures { result ≡ place_of self.now }
+    /// The last moment at which it can be given, in seconds.
+    pub(crate) fn deadline(&self) -> u64
+        ensures { result ≡ deadline self.now }
     {
-        Place::of(&self.slot)
+        deadline_of(&self.slot)
     }
 
-    /// Restarts its ttl where it is the entry with this number, and answers its place before and after.
-    pub(crate) fn touch(&mut self, number: u64, now: u64) -> (Place, Place)
+    /// Restarts its ttl where it is the entry with this number, and answers its deadline where that has moved.
+    pub(crate) fn touch(&mut self, number: u64, now: u64) -> Option<u64>
         ensures touched { self.new ≡ touch_slot number now self.old }
-        ensures before { result.0 ≡ place_of self.old }
-        ensures after { result.1 ≡ place_of self.new }
+        ensures moved { IfSome result (λ moment. moment ≡ deadline self.new) }
+        ensures stays { IfNone result (deadline self.new ≡ deadline self.old) }
     {
-        let before = Place::of(&self.slot);
+        let before = self.deadline();
         self.slot.touch(number, now);
-        (before, Place::of(&self.slot))
+        let after = self.deadline();
+        if before == after { None } else { Some(after) }
     }
 
     /// Loses the modes that a later entry takes, and answers whether some are left.

@@ -4,10 +4,10 @@
 #![tactic(auto)]
 
 mod boxed_slot;
+mod deadlines;
 mod laws;
 mod list_shelf;
 mod modes;
-mod place;
 mod search;
 mod shelf;
 mod slot;

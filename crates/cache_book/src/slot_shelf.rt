@@ -1,26 +1,26 @@
-ghost use Rattle.std.specs.Prelude.{◌≡◌, ◌+◌, ◌<◌, ◌≤◌, [], map, OnOk, vec_len, vec_capacity};
-ghost use Rattle.std.specs.List.{insert, remove};
+ghost use Rattle.std.specs.Prelude.{◌≡◌, ◌+◌, ◌<◌, ◌≤◌, ◌^◌, ◌==◌, ◌||◌, [], true, length, map, OnOk, vec_len, vec_capacity};
+ghost use Rattle.std.specs.List.{AllByRecursion, insert, remove};
 ghost use Rattle.cache_book.specs.Shelves.{touched, cleared, hidden, swept, with_entry, AreBelow};
 ghost use Rattle.cache_book.specs.SlotOrders.{by_number, wipe_past, HaveOwnNumbers, AreKept};
-ghost use Rattle.cache_book.specs.Deadlines.{by_deadline};
+ghost use Rattle.cache_book.specs.Deadlines.{deadline, is_among, HaveDeadlines};
 
 use crate::Shelf;
 use crate::boxed_slot::BoxedSlot;
-use crate::place::{Place, add_place, drop_due, move_place, take_place};
+use crate::deadlines::Deadlines;
 use crate::search::{end_of, grant_from, start_of, with_number};
 use cache_policy::{CacheId, Entry, Grant, Mode, NoMemory};
 use std::alloc::Global;
 use std::cell::Cell;
 use std::marker::Model;
 
-/// A shelf whose slots stand in the order of their ids, and are found by binary search. Beside them stand their places in the order
-/// in which they end.
+/// A shelf whose slots stand in the order of their ids, and are found by binary search. Beside them stand their deadlines, the soonest
+/// in front.
 #[derive(Drop)]
 pub struct SlotShelf {
     // By the ids of their entries, and then by their numbers.
     slots: Vec<BoxedSlot>,
-    // A place for each slot, by their deadlines.
-    places: Vec<Place>,
+    // That of each slot, and some that are of no slot any more.
+    deadlines: Deadlines,
     // Memory for slots to come.
     blanks: Vec<BoxedSlot>,
     // Where a slot was found last, which is the one that is touched next. It is a guess: `touch` looks whether it is right.
@@ -28,16 +28,16 @@ pub struct SlotShelf {
 }
 
 impl Model for SlotShelf {
-    ghost use Rattle.std.specs.Prelude.{◌≡◌, ◌-◌, min, vec_len, vec_capacity};
+    ghost use Rattle.std.specs.Prelude.{◌≤◌, ◌-◌, min, vec_len, vec_capacity};
     ghost use Rattle.cache_book.specs.Shelves.{AtShelf};
     ghost use Rattle.cache_book.specs.SlotOrders.{by_number, AreKept};
-    ghost use Rattle.cache_book.specs.Deadlines.{by_deadline};
+    ghost use Rattle.cache_book.specs.Deadlines.{HaveDeadlines};
 
     ghost Value = { AtShelf };
 
-    ghost view = { λ shelf. record { slots = by_number shelf.slots.items; spare = min (vec_len shelf.blanks) (min (vec_capacity shelf.slots - vec_len shelf.slots) (vec_capacity shelf.places - vec_len shelf.places)) } };
+    ghost view = { λ shelf. record { slots = by_number shelf.slots.items; spare = min (vec_len shelf.blanks) (min (vec_capacity shelf.slots - vec_len shelf.slots) (shelf.deadlines.capacity - vec_len shelf.slots)) } };
 
-    ghost invariant = { λ shelf. record { kept : AreKept shelf.slots.items; places : shelf.places.items ≡ by_deadline shelf.slots.items } };
+    ghost invariant = { λ shelf. record { kept : AreKept shelf.slots.items; deadlines : HaveDeadlines shelf.deadlines.moments shelf.slots.items; room : vec_len shelf.slots ≤ shelf.deadlines.capacity } };
 }
 
 impl SlotShelf {
@@ -47,7 +47,7 @@ impl SlotShelf {
     {
         SlotShelf {
             slots: Vec::new(alloc),
-            places: Vec::new(alloc),
+            deadlines: Deadlines::new(alloc),
             blanks: Vec::new(alloc),
             found: Cell::new(0),
         }
@@ -63,40 +63,40 @@ impl Shelf for SlotShelf {
 
     fn touch(&mut self, number: u64, now: u64) {
         let guess = self.found.get();
-        touch_in(&mut self.slots, &mut self.places, guess, number, now);
+        touch_in(&mut self.slots, &mut self.deadlines, guess, number, now);
     }
 
     fn reserve(&mut self, n: usize) -> Result<(), NoMemory> {
         self.slots.reserve(n)?;
-        self.places.reserve(n)?;
+        reserve_deadlines(&mut self.deadlines, self.slots.as_slice(), n)?;
         add_blanks(&mut self.blanks, n)
     }
 
     fn spare(&self) -> usize {
         let slots = self.slots.capacity() - self.slots.len();
-        let places = self.places.capacity() - self.places.len();
-        self.blanks.len().min(slots.min(places))
+        let deadlines = self.deadlines.capacity() - self.slots.len();
+        self.blanks.len().min(slots.min(deadlines))
     }
 
     fn store(&mut self, entry: Entry) {
         let Some(blank) = self.blanks.pop() else {
             unreachable!()
         };
-        store_in(&mut self.slots, &mut self.places, blank, entry);
+        store_in(&mut self.slots, &mut self.deadlines, blank, entry);
     }
 
     fn clear(&mut self, id: &CacheId, mode: Mode) {
-        clear_in(&mut self.slots, &mut self.places, id, mode);
+        clear_in(&mut self.slots, id, mode);
     }
 
     fn flush(&mut self) {
         wipe_each(self.slots.as_mut_slice());
         self.slots.clear();
-        self.places.clear();
+        self.deadlines.clear();
     }
 
     fn sweep(&mut self, now: u64) {
-        sweep_in(&mut self.slots, &mut self.places, now);
+        sweep_in(&mut self.slots, &mut self.deadlines, now);
     }
 }
 
@@ -112,49 +112,97 @@ fn add_blanks(blanks: &mut Vec<BoxedSlot>, n: usize) -> Result<(), NoMemory>
     Ok(())
 }
 
+/// Makes room for the deadlines of `n` slots more. It makes twice as much, so that collecting them anew is rare.
+fn reserve_deadlines(
+    deadlines: &mut Deadlines,
+    slots: &[BoxedSlot],
+    n: usize,
+) -> Result<(), NoMemory>
+    requires sum { length slots.now + n < 2 ^ 64 }
+    requires room { length slots.now ≤ deadlines.old.capacity }
+    requires held { HaveDeadlines deadlines.old.moments slots.now }
+    ensures room { OnOk result (length slots.now + n ≤ deadlines.new.capacity) }
+    ensures held { HaveDeadlines deadlines.new.moments slots.now }
+    ensures capacity { deadlines.old.capacity ≤ deadlines.new.capacity }
+{
+    let wanted = slots.len() + n;
+    if wanted <= deadlines.capacity() / 2 {
+        return Ok(());
+    }
+    collect_anew(deadlines, slots);
+    deadlines.reserve(wanted.saturating_mul(2))
+}
+
+/// Collects the deadlines of the slots, without those that are past use.
+fn collect_anew(deadlines: &mut Deadlines, slots: &[BoxedSlot])
+    requires { length slots.now ≤ deadlines.old.capacity }
+    ensures held { HaveDeadlines deadlines.new.moments slots.now }
+    ensures capacity { deadlines.old.capacity ≤ deadlines.new.capacity }
+{
+    deadlines.clear();
+    for slot in slots {
+        deadlines.add(slot.deadline());
+    }
+}
+
+/// Adds the deadline of a slot among these.
+fn add_deadline(deadlines: &mut Deadlines, slots: &[BoxedSlot], moment: u64)
+    requires room { length slots.now ≤ deadlines.old.capacity }
+    requires held { AllByRecursion (λ slot. ((moment == deadline slot) || is_among (deadline slot) deadlines.old.moments) ≡ true) slots.now }
+    ensures held { HaveDeadlines deadlines.new.moments slots.now }
+    ensures capacity { deadlines.old.capacity ≤ deadlines.new.capacity }
+{
+    if deadlines.is_full() {
+        collect_anew(deadlines, slots);
+        return;
+    }
+    deadlines.add(moment);
+}
+
 /// Restarts the ttl of the entry with this number, whose slot may be at `guess`.
 fn touch_in(
     slots: &mut Vec<BoxedSlot>,
-    places: &mut Vec<Place>,
+    deadlines: &mut Deadlines,
     guess: usize,
     number: u64,
     now: u64,
 )
     requires own { HaveOwnNumbers slots.old.items }
-    requires places { places.old.items ≡ by_deadline slots.old.items }
+    requires held { HaveDeadlines deadlines.old.moments slots.old.items }
+    requires room { vec_len slots.old ≤ deadlines.old.capacity }
     ensures items { slots.new.items ≡ touched number now slots.old.items }
-    ensures places { places.new.items ≡ by_deadline slots.new.items }
+    ensures held { HaveDeadlines deadlines.new.moments slots.new.items }
     ensures len { vec_len slots.new ≡ vec_len slots.old }
     ensures capacity { vec_capacity slots.new ≡ vec_capacity slots.old }
-    ensures places_len { vec_len places.new ≡ vec_len places.old }
-    ensures places_capacity { vec_capacity places.new ≡ vec_capacity places.old }
+    ensures room { deadlines.old.capacity ≤ deadlines.new.capacity }
 {
     if let Some(i) = with_number(slots.as_slice(), guess, number) {
-        let (before, after) = slots[i].touch(number, now);
-        move_place(places, before, after);
+        if let Some(moment) = slots[i].touch(number, now) {
+            add_deadline(deadlines, slots.as_slice(), moment);
+        }
     }
 }
 
 /// Stores an entry in the memory of a blank. It takes the modes that it covers from the others of its id.
-fn store_in(slots: &mut Vec<BoxedSlot>, places: &mut Vec<Place>, blank: BoxedSlot, entry: Entry)
+fn store_in(slots: &mut Vec<BoxedSlot>, deadlines: &mut Deadlines, blank: BoxedSlot, entry: Entry)
     requires kept { AreKept slots.old.items }
-    requires places { places.old.items ≡ by_deadline slots.old.items }
     requires newest { AreBelow entry.number slots.old.items }
-    requires room { vec_len slots.old < vec_capacity slots.old }
-    requires places_room { vec_len places.old < vec_capacity places.old }
+    requires held { HaveDeadlines deadlines.old.moments slots.old.items }
+    requires spare { vec_len slots.old < vec_capacity slots.old }
+    requires room { vec_len slots.old < deadlines.old.capacity }
     ensures kept { AreKept slots.new.items }
     ensures items { by_number slots.new.items ≡ with_entry entry (by_number slots.old.items) }
-    ensures places { places.new.items ≡ by_deadline slots.new.items }
+    ensures held { HaveDeadlines deadlines.new.moments slots.new.items }
     ensures len { vec_len slots.new ≤ vec_len slots.old + 1 }
     ensures capacity { vec_capacity slots.new ≡ vec_capacity slots.old }
-    ensures places_len { vec_len places.new ≤ vec_len places.old + 1 }
-    ensures places_capacity { vec_capacity places.new ≡ vec_capacity places.old }
+    ensures room { deadlines.old.capacity ≤ deadlines.new.capacity }
 {
-    hide_in(slots, places, &entry);
+    hide_in(slots, &entry);
     let end = end_of(slots.as_slice(), &entry.id);
     let slot = blank.filled(entry);
-    add_place(places, slot.place());
+    let deadline = slot.deadline();
     insert_at(slots, end, slot);
+    add_deadline(deadlines, slots.as_slice(), deadline);
 }
 
 /// Inserts a slot, for which there is room.
@@ -171,36 +219,28 @@ fn insert_at(slots: &mut Vec<BoxedSlot>, i: usize, slot: BoxedSlot)
 }
 
 /// Takes the modes of a later entry from the slots of its id, and drops those that are left without one.
-fn hide_in(slots: &mut Vec<BoxedSlot>, places: &mut Vec<Place>, later: &Entry)
-    requires kept { AreKept slots.old.items }
-    requires places { places.old.items ≡ by_deadline slots.old.items }
+fn hide_in(slots: &mut Vec<BoxedSlot>, later: &Entry)
+    requires { AreKept slots.old.items }
     ensures items { slots.new.items ≡ hidden later.now slots.old.items }
-    ensures places { places.new.items ≡ by_deadline slots.new.items }
     ensures len { vec_len slots.new ≤ vec_len slots.old }
     ensures capacity { vec_capacity slots.new ≡ vec_capacity slots.old }
-    ensures places_len { vec_len places.new ≤ vec_len places.old }
-    ensures places_capacity { vec_capacity places.new ≡ vec_capacity places.old }
 {
     let start = start_of(slots.as_slice(), &later.id);
     let mut i = end_of(slots.as_slice(), &later.id);
     while start < i {
         i -= 1;
         if !slots[i].hide(later) {
-            drop_slot(slots, places, i);
+            drop_slot(slots, i);
         }
     }
 }
 
 /// Drops the slots of an id whose mode covers the named one.
-fn clear_in(slots: &mut Vec<BoxedSlot>, places: &mut Vec<Place>, id: &CacheId, mode: Mode)
-    requires kept { AreKept slots.old.items }
-    requires places { places.old.items ≡ by_deadline slots.old.items }
+fn clear_in(slots: &mut Vec<BoxedSlot>, id: &CacheId, mode: Mode)
+    requires { AreKept slots.old.items }
     ensures items { slots.new.items ≡ cleared id.now mode slots.old.items }
-    ensures places { places.new.items ≡ by_deadline slots.new.items }
     ensures len { vec_len slots.new ≤ vec_len slots.old }
     ensures capacity { vec_capacity slots.new ≡ vec_capacity slots.old }
-    ensures places_len { vec_len places.new ≤ vec_len places.old }
-    ensures places_capacity { vec_capacity places.new ≡ vec_capacity places.old }
 {
     let start = start_of(slots.as_slice(), id);
     let mut i = end_of(slots.as_slice(), id);
@@ -208,39 +248,31 @@ fn clear_in(slots: &mut Vec<BoxedSlot>, places: &mut Vec<Place>, id: &CacheId, m
         i -= 1;
         let slot = slots[i].get();
         if slot.entry.id == *id && slot.entry.mode.covers(mode) {
-            drop_slot(slots, places, i);
+            drop_slot(slots, i);
         }
     }
 }
 
-/// Drops a slot and its place.
-fn drop_slot(slots: &mut Vec<BoxedSlot>, places: &mut Vec<Place>, i: usize)
-    requires within { i < vec_len slots.old }
-    requires own { HaveOwnNumbers slots.old.items }
-    requires places { places.old.items ≡ by_deadline slots.old.items }
+/// Drops a slot.
+fn drop_slot(slots: &mut Vec<BoxedSlot>, i: usize)
+    requires { i < vec_len slots.old }
     ensures items { slots.new.items ≡ remove slots.old.items i }
-    ensures places { places.new.items ≡ by_deadline slots.new.items }
     ensures len { vec_len slots.new ≤ vec_len slots.old }
     ensures capacity { vec_capacity slots.new ≡ vec_capacity slots.old }
-    ensures places_len { vec_len places.new ≤ vec_len places.old }
-    ensures places_capacity { vec_capacity places.new ≡ vec_capacity places.old }
 {
-    let slot = slots.remove(i);
-    take_place(places, slot.place());
-    slot.end();
+    slots.remove(i).end();
 }
 
-/// Drops the slots that are past a lifetime at `now`, if the place in front is.
-fn sweep_in(slots: &mut Vec<BoxedSlot>, places: &mut Vec<Place>, now: u64)
-    requires { places.old.items ≡ by_deadline slots.old.items }
+/// Drops the slots that are past a lifetime at `now`, if the deadline in front is.
+fn sweep_in(slots: &mut Vec<BoxedSlot>, deadlines: &mut Deadlines, now: u64)
+    requires { HaveDeadlines deadlines.old.moments slots.old.items }
     ensures items { slots.new.items ≡ swept now slots.old.items }
-    ensures places { places.new.items ≡ by_deadline slots.new.items }
+    ensures held { HaveDeadlines deadlines.new.moments slots.new.items }
     ensures len { vec_len slots.new ≤ vec_len slots.old }
     ensures capacity { vec_capacity slots.new ≡ vec_capacity slots.old }
-    ensures places_len { vec_len places.new ≤ vec_len places.old }
-    ensures places_capacity { vec_capacity places.new ≡ vec_capacity places.old }
+    ensures room { deadlines.new.capacity ≡ deadlines.old.capacity }
 {
-    if !drop_due(places, now) {
+    if !deadlines.drop_past(now) {
         return;
     }
     wipe_past_in(slots, now);

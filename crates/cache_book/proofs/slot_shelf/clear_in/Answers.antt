@@ -1,11 +1,9 @@
-use Rattle.std.specs.Prelude.{◌≡◌, ◌-◌, ◌==◌, ◌&&◌, true, false, get_or, refl}
+use Rattle.std.specs.Prelude.{◌≡◌, ◌-◌, ◌&&◌, true, get_or, refl}
 use Rattle.std.proofs.Common.{ap, sym, ◌∙◌, subst, rules}
 use Rattle.cache_policy.specs.Mode.{covers}
 use Rattle.cache_policy.specs.Entry.{same_id}
 use Rattle.cache_book.specs.declared.slot.Slot.{Slot}
 use Rattle.cache_book.specs.Shelves.{cleared}
-use Rattle.cache_book.specs.SlotOrders.{HaveOwnNumbers}
-use Rattle.cache_book.proofs.Arranging.{pairs_remove}
 use Rattle.cache_book.proofs.Slotwise.{filter_slotwise}
 use Rattle.cache_book.proofs.Stretch.{IsDoneFrom, done-none, done-all, done-removed, from_before, cleared-one}
 use Rattle.cache_book.proofs.Searching.{after_end, before_start, cleared-apart}
@@ -15,12 +13,8 @@ pub loop-i-init : goal.loop-i-init
 loop-i-init c = record {
   done = done-none (cleared c.args.id.now c.args.mode) (filter_slotwise _) c.end_of-i.result c.args.slots.now.items c.args.slots.now.items (search rules)
       (cleared-apart c.args.id.now c.args.mode _ (after_end c.args.id.now c.as_slice-2.result.now c.args.slots.now.items c.end_of-i.result c.as_slice-2.ensures.value c.end_of-i.ensures.parts));
-  own = c.requires.kept.own_numbers;
-  placed = c.requires.places;
   len = search rules;
   capacity = refl;
-  places_len = search rules;
-  places_capacity = refl;
 }
 
 pub returns-clause-items : goal.returns-clause-items
@@ -39,10 +33,6 @@ loop-i-preserved-then-covers c =
           (from_before _ c.loop-i.i c.start_of-start.result _ _ c.loop-i-test.true c.loop-i.invariant.done) c.get-slot.result.now
           (c.get-slot.ensures ∙ (c.index.ensures ∙ ap (λ (slot : Slot). get_or c.loop-i.slots.items (c.loop-i.i - 1) slot) (sym c.get-slot.ensures)))
           (cleared-one c.args.id.now c.args.mode c.get-slot.result.now true (ap (λ b. b && covers c.get-slot.result.now.entry.mode c.args.mode) has_id ∙ covers_it)));
-      own = subst HaveOwnNumbers (sym c.drop_slot.ensures.items) (pairs_remove (λ a b. (a.entry.number == b.entry.number) ≡ false) (c.loop-i.i - 1) c.loop-i.slots.items c.loop-i.invariant.own);
-      placed = c.drop_slot.ensures.places;
       len = search rules;
       capacity = search rules;
-      places_len = search rules;
-      places_capacity = search rules;
     }

@@ -1,88 +1,45 @@
-use Rattle.std.specs.Prelude.{◌≡◌, ◌<◌, ◌-◌, ◌==◌, [], ◌∷◌, false, true, refl, length, set}
+use Rattle.std.specs.Prelude.{◌-◌, [], ◌∷◌, false, true, refl}
 use Rattle.std.proofs.Common.{ap, sym, ◌∙◌, subst, rules}
 use Rattle.cache_book.specs.declared.slot.Slot.{Slot}
 use Rattle.cache_book.specs.Modes.{has_some}
 use Rattle.cache_book.specs.Shelves.{hidden}
-use Rattle.cache_book.specs.SlotOrders.{HaveOwnNumbers}
-use Rattle.cache_book.proofs.Arranging.{pairs_remove}
-use Rattle.cache_book.proofs.Places.{IsHidden, hidden_place, own-set, by_deadline-set}
 use Rattle.cache_book.proofs.Slotwise.{hidden_slotwise}
-use Rattle.cache_book.proofs.Stretch.{IsDoneFrom, done-none, done-all, done-removed, done-set, hidden-one, remove-set, from_before, in_done}
+use Rattle.cache_book.proofs.Stretch.{IsDoneFrom, done-none, done-all, done-removed, done-set, hidden-one, remove-set, from_before}
 use Rattle.cache_book.proofs.Searching.{after_end, before_start, hidden-after, hidden-before}
 use Rattle.cache_book.proofs.slot_shelf.hide_in.Goals as goal
 
 pub loop-i-init : goal.loop-i-init
 loop-i-init c = record {
   done = done-none (hidden c.args.later.now) (hidden_slotwise c.args.later.now) c.end_of-i.result c.args.slots.now.items c.args.slots.now.items (search rules)
-      (hidden-after c.args.later.now c.args.slots.now.items c.end_of-i.result c.requires.kept.serving
+      (hidden-after c.args.later.now c.args.slots.now.items c.end_of-i.result c.requires.serving
       (after_end c.args.later.now.id c.as_slice-2.result.now c.args.slots.now.items c.end_of-i.result c.as_slice-2.ensures.value c.end_of-i.ensures.parts));
-  own = c.requires.kept.own_numbers;
-  placed = c.requires.places;
   len = search rules;
   capacity = refl;
-  places_len = search rules;
-  places_capacity = refl;
 }
 
 pub returns-clause-items : goal.returns-clause-items
 returns-clause-items c =
     done-all (hidden c.args.later.now) (hidden_slotwise c.args.later.now) c.loop-i.i c.args.slots.now.items c.loop-i.slots.items c.loop-i.invariant.done
-    (hidden-before c.args.later.now c.args.slots.now.items c.loop-i.i c.requires.kept.serving
+    (hidden-before c.args.later.now c.args.slots.now.items c.loop-i.i c.requires.serving
     (before_start c.args.later.now.id c.as_slice.result.now c.args.slots.now.items c.start_of-start.result c.loop-i.i c.as_slice.ensures.value c.start_of-start.ensures.within c.loop-i-test.false c.start_of-start.ensures.parts))
 
-pub drop_slot-requires-clause-own : goal.drop_slot-requires-clause-own
-drop_slot-requires-clause-own c =
-    let within : c.loop-i.i - 1 < length c.loop-i.slots.items = in_done (hidden c.args.later.now) (hidden_slotwise c.args.later.now) (c.loop-i.i - 1) c.args.slots.now.items c.loop-i.slots.items
-    (from_before _ c.loop-i.i c.start_of-start.result _ _ c.loop-i-test.true c.loop-i.invariant.done) c.index_mut.result.now c.index_mut.ensures.value in
-    own-set (c.loop-i.i - 1) c.loop-i.slots.items c.hide.new.self
-    (hidden_place c.args.later.now (c.loop-i.i - 1) c.loop-i.slots.items c.index_mut.result.now c.hide.new.self within c.index_mut.ensures.value c.hide.ensures.hidden).entry
-    within c.loop-i.invariant.own
-
-pub drop_slot-requires-clause-places : goal.drop_slot-requires-clause-places
-drop_slot-requires-clause-places c =
-    let within : c.loop-i.i - 1 < length c.loop-i.slots.items = in_done (hidden c.args.later.now) (hidden_slotwise c.args.later.now) (c.loop-i.i - 1) c.args.slots.now.items c.loop-i.slots.items
-    (from_before _ c.loop-i.i c.start_of-start.result _ _ c.loop-i-test.true c.loop-i.invariant.done) c.index_mut.result.now c.index_mut.ensures.value in
-    c.loop-i.invariant.placed
-    ∙ sym (by_deadline-set (c.loop-i.i - 1) c.loop-i.slots.items c.hide.new.self
-    (hidden_place c.args.later.now (c.loop-i.i - 1) c.loop-i.slots.items c.index_mut.result.now c.hide.new.self within c.index_mut.ensures.value c.hide.ensures.hidden).place)
-
 pub loop-i-preserved : goal.loop-i-preserved
-loop-i-preserved c =
-    let within : c.loop-i.i - 1 < length c.loop-i.slots.items = in_done (hidden c.args.later.now) (hidden_slotwise c.args.later.now) (c.loop-i.i - 1) c.args.slots.now.items c.loop-i.slots.items
-    (from_before _ c.loop-i.i c.start_of-start.result _ _ c.loop-i-test.true c.loop-i.invariant.done) c.index_mut.result.now c.index_mut.ensures.value in
-    let hid : IsHidden (c.loop-i.i - 1) c.loop-i.slots.items c.hide.new.self =
-    hidden_place c.args.later.now (c.loop-i.i - 1) c.loop-i.slots.items c.index_mut.result.now c.hide.new.self within c.index_mut.ensures.value c.hide.ensures.hidden in
-    record {
-      done = done-set (hidden c.args.later.now) (hidden_slotwise c.args.later.now) (c.loop-i.i - 1) c.args.slots.now.items c.loop-i.slots.items
-          (from_before _ c.loop-i.i c.start_of-start.result _ _ c.loop-i-test.true c.loop-i.invariant.done) c.index_mut.result.now c.index_mut.ensures.value c.hide.new.self
-          (hidden-one c.args.later.now c.index_mut.result.now true (sym (ap (λ (slot : Slot). has_some slot.modes) c.hide.ensures.hidden) ∙ (sym c.hide.ensures.serves ∙ c.if-not-hide.false))
-          ∙ ap (λ (slot : Slot). slot ∷ []) (sym c.hide.ensures.hidden));
-      own = own-set (c.loop-i.i - 1) c.loop-i.slots.items c.hide.new.self hid.entry within c.loop-i.invariant.own;
-      placed = c.loop-i.invariant.placed ∙ sym (by_deadline-set (c.loop-i.i - 1) c.loop-i.slots.items c.hide.new.self hid.place);
-      len = search rules;
-      capacity = search rules;
-      places_len = search rules;
-      places_capacity = search rules;
-    }
+loop-i-preserved c = record {
+  done = done-set (hidden c.args.later.now) (hidden_slotwise c.args.later.now) (c.loop-i.i - 1) c.args.slots.now.items c.loop-i.slots.items
+      (from_before _ c.loop-i.i c.start_of-start.result _ _ c.loop-i-test.true c.loop-i.invariant.done) c.index_mut.result.now c.index_mut.ensures.value c.hide.new.self
+      (hidden-one c.args.later.now c.index_mut.result.now true (sym (ap (λ (slot : Slot). has_some slot.modes) c.hide.ensures.hidden) ∙ (sym c.hide.ensures.serves ∙ c.if-not-hide.false))
+      ∙ ap (λ (slot : Slot). slot ∷ []) (sym c.hide.ensures.hidden));
+  len = search rules;
+  capacity = search rules;
+}
 
 pub loop-i-preserved-then-not-hide : goal.loop-i-preserved-then-not-hide
-loop-i-preserved-then-not-hide c =
-    let within : c.loop-i.i - 1 < length c.loop-i.slots.items = in_done (hidden c.args.later.now) (hidden_slotwise c.args.later.now) (c.loop-i.i - 1) c.args.slots.now.items c.loop-i.slots.items
-    (from_before _ c.loop-i.i c.start_of-start.result _ _ c.loop-i-test.true c.loop-i.invariant.done) c.index_mut.result.now c.index_mut.ensures.value in
-    let hid : IsHidden (c.loop-i.i - 1) c.loop-i.slots.items c.hide.new.self =
-    hidden_place c.args.later.now (c.loop-i.i - 1) c.loop-i.slots.items c.index_mut.result.now c.hide.new.self within c.index_mut.ensures.value c.hide.ensures.hidden in
-    record {
-      done = subst (IsDoneFrom (hidden c.args.later.now) (c.loop-i.i - 1) c.args.slots.now.items)
-          (sym (c.drop_slot.ensures.items ∙ remove-set (c.loop-i.i - 1) c.loop-i.slots.items c.hide.new.self))
-          (done-removed (hidden c.args.later.now) (hidden_slotwise c.args.later.now) (c.loop-i.i - 1) c.args.slots.now.items c.loop-i.slots.items
-          (from_before _ c.loop-i.i c.start_of-start.result _ _ c.loop-i-test.true c.loop-i.invariant.done) c.index_mut.result.now c.index_mut.ensures.value
-          (hidden-one c.args.later.now c.index_mut.result.now false (sym (ap (λ (slot : Slot). has_some slot.modes) c.hide.ensures.hidden) ∙ (sym c.hide.ensures.serves ∙ c.if-not-hide.true))));
-      own = subst HaveOwnNumbers (sym c.drop_slot.ensures.items)
-          (pairs_remove (λ a b. (a.entry.number == b.entry.number) ≡ false) (c.loop-i.i - 1) (set c.loop-i.slots.items (c.loop-i.i - 1) c.hide.new.self)
-          (own-set (c.loop-i.i - 1) c.loop-i.slots.items c.hide.new.self hid.entry within c.loop-i.invariant.own));
-      placed = c.drop_slot.ensures.places;
-      len = search rules;
-      capacity = search rules;
-      places_len = search rules;
-      places_capacity = search rules;
-    }
+loop-i-preserved-then-not-hide c = record {
+  done = subst (IsDoneFrom (hidden c.args.later.now) (c.loop-i.i - 1) c.args.slots.now.items)
+      (sym (c.drop_slot.ensures.items ∙ remove-set (c.loop-i.i - 1) c.loop-i.slots.items c.hide.new.self))
+      (done-removed (hidden c.args.later.now) (hidden_slotwise c.args.later.now) (c.loop-i.i - 1) c.args.slots.now.items c.loop-i.slots.items
+      (from_before _ c.loop-i.i c.start_of-start.result _ _ c.loop-i-test.true c.loop-i.invariant.done) c.index_mut.result.now c.index_mut.ensures.value
+      (hidden-one c.args.later.now c.index_mut.result.now false (sym (ap (λ (slot : Slot). has_some slot.modes) c.hide.ensures.hidden) ∙ (sym c.hide.ensures.serves ∙ c.if-not-hide.true))));
+  len = search rules;
+  capacity = search rules;
+}

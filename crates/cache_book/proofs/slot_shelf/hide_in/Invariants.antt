@@ -1,19 +1,13 @@
 use Rattle.std.specs.Prelude.{◌≡◌, ◌≤◌, ◌-◌, vec_len, vec_capacity}
 use Rattle.cache_book.specs.Shelves.{hidden}
-use Rattle.cache_book.specs.SlotOrders.{HaveOwnNumbers}
-use Rattle.cache_book.specs.Deadlines.{by_deadline}
 use Rattle.cache_book.proofs.Stretch.{IsDoneFrom}
 use Rattle.cache_book.proofs.slot_shelf.hide_in.Given as goal
 
 abbrev pub invariant-loop-i : goal.invariant-loop-i
 invariant-loop-i l = record {
   done : IsDoneFrom (hidden l.later) l.i l.fn.slots.items l.slots.items;
-  own : HaveOwnNumbers l.slots.items;
-  placed : l.places.items ≡ by_deadline l.slots.items;
   len : vec_len l.slots ≤ vec_len l.fn.slots;
   capacity : vec_capacity l.slots ≡ vec_capacity l.fn.slots;
-  places_len : vec_len l.places ≤ vec_len l.fn.places;
-  places_capacity : vec_capacity l.places ≡ vec_capacity l.fn.places;
 }
 
 abbrev pub decreases-loop-i : goal.decreases-loop-i

@@ -1,4 +1,4 @@
-use Rattle.std.proofs.Common.{ap, sym, ◌∙◌, subst}
+use Rattle.std.proofs.Common.{ap, sym, ◌∙◌, subst, rules}
 use Rattle.cache_book.specs.Shelves.{AtShelf, touched}
 use Rattle.cache_book.specs.SlotOrders.{by_number, AreKept}
 use Rattle.cache_book.proofs.Ordered.{kept-touched, by_number-touched}
@@ -7,7 +7,8 @@ use Rattle.cache_book.proofs.slot_shelf.SlotShelfShelf.touch.Goals as goal
 pub invariant_of-self : goal.invariant_of-self
 invariant_of-self c = record {
   kept = subst AreKept (sym c.touch_in.ensures.items) (kept-touched c.args.number c.args.now c.self.inside.slots.items c.self.invariant.kept);
-  places = c.touch_in.ensures.places;
+  deadlines = c.touch_in.ensures.held;
+  room = search rules;
 }
 
 pub returns-clause-slots : goal.returns-clause-slots
