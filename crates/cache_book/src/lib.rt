@@ -5,6 +5,7 @@
 
 mod boxed_slot;
 mod laws;
+mod lead;
 mod list_shelf;
 mod modes;
 mod place;
