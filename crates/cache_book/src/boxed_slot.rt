@@ -2,6 +2,7 @@ ghost use Rattle.std.specs.Prelude.{◌≡◌, IfSome, IfNone};
 
 use crate::Slot;
 use crate::deadlines::deadline_of;
+use crate::lead::lead_of;
 use cache_policy::{CacheId, Entry, Mode, Secret};
 use std::alloc::{AllocError, Global};
 use std::marker::Model;
@@ -9,15 +10,20 @@ use std::marker::Model;
 /// A slot in memory of its own. So its place among others is small, and a move of it leaves no copy of the passphrase.
 #[derive(Drop)]
 pub(crate) struct BoxedSlot {
+    // That of its entry's id. It stands beside the box, so that a search reads few boxes.
+    lead: u64,
     slot: Box<Slot>,
 }
 
 impl Model for BoxedSlot {
     ghost use Rattle.cache_book.specs.declared.slot.Slot.{Slot};
+    ghost use Rattle.cache_book.specs.Leads.{IsLead};
 
     ghost Value = { Slot };
 
     ghost view = { λ boxed. boxed.slot.value };
+
+    ghost invariant = { λ boxed. IsLead boxed.lead boxed.slot.value.entry.id };
 }
 
 impl BoxedSlot {
@@ -25,6 +31,7 @@ impl BoxedSlot {
     ghost use Rattle.cache_book.specs.Modes.{has_some};
     ghost use Rattle.cache_book.specs.Deadlines.{deadline};
     ghost use Rattle.cache_book.specs.SlotOrders.{wipe_past};
+    ghost use Rattle.cache_book.specs.Leads.{IsLead};
 
     /// Memory for a slot to come.
     pub(crate) fn blank(alloc: Global) -> Result<BoxedSlot, AllocError> {
@@ -34,6 +41,7 @@ impl BoxedSlot {
         let Some(secret) = Secret::of(b"") else {
             unreachable!()
         };
+        let lead = lead_of(id.bytes());
         let entry = Entry {
             number: 0,
             id,
@@ -44,16 +52,24 @@ impl BoxedSlot {
             max: 0,
         };
         let slot = Box::new(alloc, Slot::of(entry))?;
-        Ok(BoxedSlot { slot })
+        Ok(BoxedSlot { lead, slot })
     }
 
     /// The slot of a new entry, in the memory of this one.
     pub(crate) fn filled(self, entry: Entry) -> BoxedSlot
         ensures { result ≡ new_slot entry }
     {
+        let lead = lead_of(entry.id.bytes());
         let mut slot = self.slot;
         *slot = Slot::of(entry);
-        BoxedSlot { slot }
+        BoxedSlot { lead, slot }
+    }
+
+    /// The first bytes of its entry's id, by [`lead_of`].
+    pub(crate) fn lead(&self) -> u64
+        ensures { IsLead result self.now.entry.id }
+    {
+        self.lead
     }
 
     pub(crate) fn get(&self) -> &Slot

@@ -6,6 +6,7 @@
 mod boxed_slot;
 mod deadlines;
 mod laws;
+mod lead;
 mod list_shelf;
 mod modes;
 mod search;

@@ -4,16 +4,23 @@ ghost use Rattle.std.specs.List.{HoldsAt, AllByRecursion};
 ghost use Rattle.std.specs.List.Sorted.{IsPartitionPoint};
 ghost use Rattle.cache_book.specs.Shelves.{serves_at, IsGrantFrom, ServesNone};
 ghost use Rattle.cache_book.specs.SlotOrders.{id_cmp, is_below, is_upto, AreById, AreKept};
+ghost use Rattle.cache_book.specs.Leads.{IsLead};
 
 use crate::boxed_slot::BoxedSlot;
+use crate::lead::lead_of;
 use cache_policy::{CacheId, Grant, Mode};
 use std::cell::Cell;
 use std::cmp::Ordering;
 
-fn compare(id: &CacheId, other: &CacheId) -> Ordering
-    ensures { result ≡ id_cmp id.now other.now }
+/// The order of a slot's id and this one, whose lead is given.
+fn compare(slot: &BoxedSlot, id: &CacheId, lead: u64) -> Ordering
+    requires { IsLead lead id.now }
+    ensures { result ≡ id_cmp slot.now.entry.id id.now }
 {
-    id.bytes().cmp(other.bytes())
+    match slot.lead().cmp(&lead) {
+        Ordering::Equal => slot.get().entry.id.bytes().cmp(id.bytes()),
+        other => other,
+    }
 }
 
 /// The place of the first slot whose id isn't below this one.
@@ -22,7 +29,8 @@ pub(crate) fn start_of(slots: &[BoxedSlot], id: &CacheId) -> usize
     ensures within { result ≤ length slots.now }
     ensures parts { IsPartitionPoint (λ slot. is_below id.now slot ≡ true) (λ slot. is_below id.now slot ≡ false) slots.now result }
 {
-    slots.partition_point(|slot| compare(&slot.get().entry.id, id).is_lt())
+    let lead = lead_of(id.bytes());
+    slots.partition_point(|slot| compare(slot, id, lead).is_lt())
 }
 
 /// The place after the last slot whose id is no higher than this one.
@@ -31,7 +39,8 @@ pub(crate) fn end_of(slots: &[BoxedSlot], id: &CacheId) -> usize
     ensures within { result ≤ length slots.now }
     ensures parts { IsPartitionPoint (λ slot. is_upto id.now slot ≡ true) (λ slot. is_upto id.now slot ≡ false) slots.now result }
 {
-    slots.partition_point(|slot| compare(&slot.get().entry.id, id).is_le())
+    let lead = lead_of(id.bytes());
+    slots.partition_point(|slot| compare(slot, id, lead).is_le())
 }
 
 /// The place of the slot that serves a request at `now`.
