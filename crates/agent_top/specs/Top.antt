@@ -57,7 +57,7 @@ outside input output clock launches = record { input = input; output = output; c
 abbrev pub no_child : Launches → AtPinentry
 no_child launches = record { launches = launches; child = None; ready = false }
 
--- the same with the desk of a cache, and with a pinentry for which no child stands
+-- an `Outside` (this file's, not that of `agent_commands`) as a session's surroundings: with this desk, and a pinentry without a child
 abbrev pub with_desk : AtSolo → Outside → Surroundings (prompt_world TurnsSolo Does)
 with_desk desk around = surroundings TurnsSolo Does around.input around.output desk (no_child around.launches)
 
@@ -91,7 +91,7 @@ pub data RunsServer (rules : Rules) (before : Outside) : ℕ → Outside → Typ
 abbrev pub with_pid : ℕ → Rules → Rules
 with_pid pid rules = record rules { pid = pid }
 
--- The host's parts were taken and given back. The clock and the launcher went on so, and the others are as they were.
+-- The host's parts were taken and given back. `GoesOn` says what became of the launcher and the clock; the others are as they were.
 pub record UsesParts {La C R K : Type 0} (GoesOn : La → C → La → C → Type 0) (before after : Option (Parts La C R K)) : Type 0 where
   pub had : Parts La C R K
   pub has : Parts La C R K

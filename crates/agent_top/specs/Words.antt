@@ -62,5 +62,6 @@ if_built_for rules _ = None
 abbrev pub if_built : Rules → Option Rules
 if_built rules = if_built_for rules rules.run
 
+-- the rules that these words mean, or none where they are refused with status 2
 abbrev pub rules_of : List (List ℕ) → Option Rules
 rules_of words = option_and_then if_built (rules_from (settings words))

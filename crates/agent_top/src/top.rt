@@ -23,8 +23,8 @@ const SESSION: SessionId = SessionId { pass: 0, count: 0 };
 
 /// The agent. It reads its words, which leave out the program's name, and serves a session on standard input and output.
 ///
-/// Its answer is the status of the process: 0 at BYE or the end of the input, 1 where there is no memory for the session, 2 for words
-/// that it doesn't take, 3 and 4 where a read or a write failed, 6 after 2^40 bytes, and 7 at a line of more than 1,000 bytes.
+/// Its answer is the status of the process: 0 at BYE, at KILLAGENT or at the end of the input, 1 where there is no memory for the session,
+/// 2 for words that it doesn't take, 3 and 4 where a read or a write failed, 6 after 2^40 bytes, and 7 at a line of more than 1,000 bytes.
 pub fn run_agent<W: Threads + Wait + rt::Clock + Sync, S: Link, H: Host>(
     _rt: &W,
     alloc: Global,
