@@ -1,4 +1,4 @@
--- What a core with its run keeps.
+-- Private: what a core with its run keeps.
 use Rattle.std.specs.Prelude.{Option}
 use Rattle.std.specs.Global.{Vec}
 use Rattle.cache_policy.specs.declared.mark.Mark.{Mark}

@@ -1,4 +1,4 @@
--- How a core keeps its run, and the room for the marks to come.
+-- Private: how a core keeps its run, and the room for the marks to come.
 use Rattle.std.specs.Prelude.{◌≡◌, ◌<◌, ◌≤◌, List, [], ◌∷◌, Option, Some, None, IsSome, vec_len, vec_capacity, ⊤}
 use Rattle.std.specs.Global.{Vec}
 use Rattle.cache_policy.specs.declared.bounds.TheConstants.{MAX_MARKS}

@@ -1,4 +1,4 @@
--- The last moments of slots. This is the project's own.
+-- Private: the last moments of slots. This is the project's own.
 use Rattle.std.specs.Prelude.{◌≡◌, ℕ, ◌+◌, ◌-◌, ◌^◌, ◌<◌, ◌==◌, List, Bool, true, Option, Some, None, min, slice_index_or}
 use Rattle.std.specs.declared.cmp.Reverse.{Reverse}
 use Rattle.std.specs.declared.cmp.Ordering.{Ordering}

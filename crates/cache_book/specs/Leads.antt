@@ -1,4 +1,4 @@
--- The first bytes of an id as a number, by which most ids are told apart. This is the project's own.
+-- Private: the first bytes of an id as a number, by which most ids are told apart. This is the project's own.
 use Rattle.std.specs.Prelude.{◌≡◌, ℕ, ◌<◌, List, slice_index}
 use Rattle.std.specs.Int.{from_be_bytes, w64}
 
