@@ -30,7 +30,8 @@ use Rattle.agent_commands.specs.Clients.{Hears, note as noted_so, heard_of_dropp
 use Rattle.agent_commands.specs.Events.{Event, Asked as AskedFor, NotAsked, cache_turn}
 use Rattle.agent_commands.specs.Exchanges.{IsUnheard, EndsPin, EndsConsent, cancelled, too_much, unexpected, too_long, ended, spent, read_fault, write_fault, timed_out, no_pinentry, bad, unheard, yes, no}
 use Rattle.agent_commands.specs.Outside.{World, prompt_world}
-use Rattle.agent_commands.specs.Prompting.{UnderTicket, asked as asks_under, cancelled as note_cancelled, too_much as note_too_much, unexpected as note_unexpected, too_long as note_too_long, ended as note_ended, spent as note_spent, read_fault as note_read_fault, write_fault as note_write_fault}
+use Rattle.agent_commands.specs.Prompting.{UnderTicket, asked as asks_under, cancelled as note_cancelled, too_much as note_too_much}
+use Rattle.agent_commands.specs.Prompting.{unexpected as note_unexpected, too_long as note_too_long, ended as note_ended, spent as note_spent, read_fault as note_read_fault, write_fault as note_write_fault}
 use Rattle.agent_commands.specs.States.{SessionState, prompt_state, ReaderAfter, FaultsRise}
 use Rattle.agent_commands.specs.Steps.{Responds, Carries, IsUnheardBy, answer_unheard, HasNoPin, answer_without_pin, IsAgreed, answer_to_consent}
 use Rattle.agent_commands.specs.declared.answer.Answer.{Answer}

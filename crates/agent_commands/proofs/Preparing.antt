@@ -90,7 +90,8 @@ module _ {D E : Type 0} (turned : D → MarkStep → Turn → D → Type 0) (doe
     faults = no_fault one (at_desk desk) (at_desk desk_now);
   }
   answered_so turn answer did (is_interrupted {code} why) =
-      prepared_turned {w = world_with turned does} (Exchange rules before (Cache command)) before (record { response = Some (Failed code); went = On }) (Failed code) step turn conn desk desk_now ends going refl did (λ said is. rw is (one_turn one (interrupted why)))
+      prepared_turned {w = world_with turned does} (Exchange rules before (Cache command)) before (record { response = Some (Failed code); went = On }) (Failed code)
+      step turn conn desk desk_now ends going refl did (λ said is. rw is (one_turn one (interrupted why)))
 
   pub turn_taken : {answer : Answer} → TakesTurn turned step (record { response = Some response; went = went }) desk answer desk_now
       → CarriesOut {w = world_with turned does} (Exchange rules before (Cache command)) (at_desk desk) answer before (at_desk desk_now)

@@ -1,5 +1,6 @@
 -- A step under the lock, from what the core says of it.
-use Rattle.std.proofs.Common.{◌≡◌, ◌≢◌, ◌⊎◌, ℕ, ◌+◌, ◌^◌, ◌%◌, ◌<◌, ◌≤◌, ◌==◌, inl, inr, Bool, true, false, cond, List, [], ◌∷◌, ◌++◌, length, Option, Some, None, refl, ap, sym, ◌∙◌, subst, arith, length-append, add-zero}
+use Rattle.std.proofs.Common.{◌≡◌, ◌≢◌, ◌⊎◌, ℕ, ◌+◌, ◌^◌, ◌%◌, ◌<◌, ◌≤◌, ◌==◌, inl, inr, Bool, true, false, cond, List, [], ◌∷◌, ◌++◌, length, Option, Some, None}
+use Rattle.std.proofs.Common.{refl, ap, sym, ◌∙◌, subst, arith, length-append, add-zero}
 use Rattle.std.specs.Prelude.{vec_capacity}
 use Rattle.std.proofs.lemmas.List.{map-append, length-map}
 use Rattle.std.proofs.lemmas.List.Sums.{fold-append}
@@ -183,6 +184,11 @@ module _ (state : State) (kept : IsKept state) where
       let marks = ap (λ (h : History). length h.marks) kept.stands.bare_is in
       omega (arith, ap (λ (t : Tally). t.marks) kept.total, kept.numbers, base_is, below, few, same, marks)
 
+-- The state after a step is kept, and the journal has the step's mark, if it made one.
+pub record IsStepped (state : State) (session : SessionId) (moment : ℕ) (asked : MarkStep) (turn : Turn) (after : State) : Type 0 where
+  pub kept : IsKept after
+  pub journaled : IsJournaled (seen state) session moment asked turn (seen after)
+
 -- A trace of a step was added.
 pub record IsAdded (state : State) (core : AtCore) (trace : Trace) (stores : Bool) (after : State) : Type 0 where
   pub core_is : after.core ≡ core
@@ -260,25 +266,25 @@ module _ (state : State) (kept : IsKept state) (below : state.core.base < last_b
       let limits_now = ap (λ (l : Limits). with_history l after.carried (journal_of after.start after.traces.items)) core_limits in
       added.total_is ∙ sym (limits_now ∙ carried ∙ now ∙ more ∙ stores_one ∙ before)
 
-  pub marked_kept : IsKept after
-  marked_kept = record {
-    stands = record {
-      history = with_mark (next_history kept.stands.history) own;
-      legal = subst (λ (l : Limits). IsLegal l (with_mark (next_history kept.stands.history) own)) (sym core_limits) legal_after;
-      stands = subst (λ (k : AtCore). StandsFor k (with_mark (next_history kept.stands.history) own)) (sym added.core_is) stands_after;
-      bare_is = bare_after;
+  pub marked_step : IsStepped state session moment asked turn after
+  marked_step = record {
+    kept = record {
+      stands = record {
+        history = with_mark (next_history kept.stands.history) own;
+        legal = subst (λ (l : Limits). IsLegal l (with_mark (next_history kept.stands.history) own)) (sym core_limits) legal_after;
+        stands = subst (λ (k : AtCore). StandsFor k (with_mark (next_history kept.stands.history) own)) (sym added.core_is) stands_after;
+        bare_is = bare_after;
+      };
+      total = total_after;
+      sound = added.sound;
+      numbers = ap (λ (t : Tally). t.marks) (added.carried_is ∙ carried_is state kept) ∙ numbers_next state kept ∙ ap (λ (h : History). h.base) (sym journal_after);
+      room = added.room;
     };
-    total = total_after;
-    sound = added.sound;
-    numbers = ap (λ (t : Tally). t.marks) (added.carried_is ∙ carried_is state kept) ∙ numbers_next state kept ∙ ap (λ (h : History). h.base) (sym journal_after);
-    room = added.room;
+    journaled =
+        marked answer (ap is_spent (sym (next_is state kept)) ∙ made.going)
+        (ap (λ (h : History). policy state.core.limits h (bare_step asked) moment) (sym (next_is state kept)) ∙ policy-bare state.core.limits (next_history kept.stands.history) asked moment ∙ rules)
+        is journal_after (added.carried_is ∙ carried_is state kept);
   }
-
-  pub marked_journaled : IsJournaled (seen state) session moment asked turn (seen after)
-  marked_journaled =
-      marked answer (ap is_spent (sym (next_is state kept)) ∙ made.going)
-      (ap (λ (h : History). policy state.core.limits h (bare_step asked) moment) (sym (next_is state kept)) ∙ policy-bare state.core.limits (next_history kept.stands.history) asked moment ∙ rules)
-      is journal_after (added.carried_is ∙ carried_is state kept)
 
 -- A step that made no mark, and left the core as it was, but for its room.
 as_same : (before after : AtCore) → after ≡ before → IsAsBefore before after
@@ -307,7 +313,7 @@ stands_on before after history same stands =
 abbrev with_core : State → AtCore → State
 with_core state core = record state { core = core }
 
-pub unmarked_kept : (state : State) (core : AtCore) → IsKept state → IsAsBefore state.core core → IsKept (with_core state core)
+unmarked_kept : (state : State) (core : AtCore) → IsKept state → IsAsBefore state.core core → IsKept (with_core state core)
 unmarked_kept state core kept same =
     let limits_same = ap (λ (k : AtCore). k.limits) (sym same.same) in
     record {
@@ -340,10 +346,6 @@ spent_next core history legal stands below all = either (length history.marks ==
       let fits = whole_below history.base legal.base (omega (arith, below, stands.base)) in
       absurd (omega (arith, few, fits, all, stands.base, stands.count))
 
-pub record IsUnmarked (state : State) (session : SessionId) (moment : ℕ) (asked : MarkStep) (turn : Turn) (core : AtCore) : Type 0 where
-  pub same : IsAsBefore state.core core
-  pub journaled : IsJournaled (seen state) session moment asked turn (seen (with_core state core))
-
 module _ (state : State) (kept : IsKept state) where
   next_spent : {b : Bool} → is_spent (next_history kept.stands.history) ≡ b → is_spent (next_history (journal state kept)) ≡ b
   next_spent e = ap is_spent (sym (next_is state kept)) ∙ e
@@ -354,23 +356,29 @@ module _ (state : State) (kept : IsKept state) where
       ap (λ (h : History). policy state.core.limits h (bare_step asked) moment) (sym (next_is state kept)) ∙ policy-bare state.core.limits (next_history kept.stands.history) asked moment ∙ rules
 
   pub unmade : {session : SessionId} {moment : ℕ} {asked : MarkStep} {turn : Turn} {core : AtCore} → state.core.base + state.core.count ≢ last_base
-      → IsStep state.core kept.stands.history session moment asked turn core → reply_of turn ≡ None → IsUnmarked state session moment asked turn core
+      → IsStep state.core kept.stands.history session moment asked turn core → reply_of turn ≡ None → IsStepped state session moment asked turn (with_core state core)
   unmade {session} {moment} {asked} {turn} more (step.marked going made) none =
       absurd (cc (none, shows_reply state.core.limits (next_history kept.stands.history) (mark_of session asked made.reply_is moment) turn made.shows))
   unmade {session} {moment} {asked} {core = core} more (step.stood going rules same) none = record {
-    same = as_same state.core core same;
+    kept = unmarked_kept state core kept (as_same state.core core same);
     journaled = stood (next_spent going) (rules_bare asked moment ruling.Stand rules) (seen_same state core same);
   }
-  unmade {core = core} more (step.refused going wants same) none = record { same = same; journaled = refused (next_spent going) same refl }
+  unmade {core = core} more (step.refused going wants same) none = record {
+    kept = unmarked_kept state core kept same;
+    journaled = refused (next_spent going) same refl;
+  }
   unmade more (step.spent all same) none =
       absurd (more (let every = spent-all state.core.limits kept.stands.history kept.stands.legal all in omega (arith, every, kept.stands.stands.base, kept.stands.stands.count)))
 
   pub given_up : {session : SessionId} {moment : ℕ} {asked : MarkStep} {turn : Turn} {core : AtCore} → state.core.base < last_base → state.core.base + state.core.count ≡ last_base
-      → IsStep state.core kept.stands.history session moment asked turn core → IsUnmarked state session moment asked turn core
+      → IsStep state.core kept.stands.history session moment asked turn core → IsStepped state session moment asked turn (with_core state core)
   given_up below all (step.marked going made) = absurd (cc (spent_next state.core kept.stands.history kept.stands.legal kept.stands.stands below all, going))
   given_up below all (step.stood going rules same) = absurd (cc (spent_next state.core kept.stands.history kept.stands.legal kept.stands.stands below all, going))
   given_up below all (step.refused going wants same) = absurd (cc (spent_next state.core kept.stands.history kept.stands.legal kept.stands.stands below all, going))
-  given_up {core = core} below all (step.spent is same) = record { same = as_same state.core core same; journaled = spent (next_spent is) (seen_same state core same) }
+  given_up {core = core} below all (step.spent is same) = record {
+    kept = unmarked_kept state core kept (as_same state.core core same);
+    journaled = spent (next_spent is) (seen_same state core same);
+  }
 
 counts_are : (a b : Counts) → a.calls ≡ b.calls → a.given ≡ b.given → a.empty ≡ b.empty → a.opened ≡ b.opened → a ≡ b
 counts_are a b calls given empty opened = λ i. record { calls = calls i; given = given i; empty = empty i; opened = opened i }

@@ -5,6 +5,7 @@ use Rattle.assuan_line.specs.Next.{Reader}
 use Rattle.assuan_line.specs.declared.reader.Took.{Took}
 use Rattle.assuan_line.specs.declared.reader.Took.TheVariants as took
 use Rattle.assuan_server.specs.Connections.{Connection}
+use Rattle.assuan_server.specs.Requests.{NextRequest}
 use Rattle.assuan_server.specs.declared.errors.Code.TheVariants.{LineTooLong}
 use Rattle.session_options.specs.Choices.{Choices}
 use Rattle.agent_commands.specs.Answers.{failed}
@@ -17,7 +18,7 @@ use Rattle.agent_commands.specs.declared.went.SessionEnd.{SessionEnd}
 use Rattle.agent_commands.specs.declared.went.SessionEnd.TheVariants.{Bye, Killed, Ended, TooLong, Spent, ReadFault}
 use Rattle.agent_commands.specs.declared.went.SessionEnd.TheVariants as ends
 use Rattle.agent_commands.specs.declared.went.Went.TheVariants.{On, End}
-use Rattle.agent_commands.proofs.Doing.{done_none, done_then, done_wrote, done_stopped, here_going}
+use Rattle.agent_commands.proofs.Doing.{done_none, done_then, done_received, done_wrote, done_stopped, here_going}
 use Rattle.agent_session.specs.Sessions.{LineRelation, Leaves}
 use Rattle.agent_session.specs.Serving.{ServesRequests}
 
@@ -69,65 +70,72 @@ module _ {w : World} (exchange : LineRelation w) (before : Choices) (start : Ses
       };
     }
 
-    -- `read` is the state after the next request was read
-    module _ (read : SessionState w) (answer : Took) (received : EventsLead (Received answer ∷ []) now read) where
-      module _ (line : List ℕ) (is : answer ≡ took.Line line) (after : Choices) (last : SessionState w) where
-        received_line : EventsLead {w = w} (Received (took.Line line) ∷ []) now read
-        received_line = subst (λ t. EventsLead {w = w} (Received t ∷ []) now read) is received
+    -- the next request was read
+    module _ (answer : Took) (conn : Connection) (going : now.conn.reader.ended ≡ None) (next : NextRequest now.conn answer conn) where
+      abbrev read : SessionState w
+      read = record { conn = conn; desk = now.desk; ends = now.ends }
 
+      received : EventsLead {w = w} (Received answer ∷ []) now read
+      received = done_received {w = w} now.desk now.ends now.conn conn answer going next
+
+      received_as : (took : Took) → answer ≡ took → EventsLead {w = w} (Received took ∷ []) now read
+      received_as took is = subst (λ t. EventsLead {w = w} (Received t ∷ []) now read) is received
+
+      module _ (line : List ℕ) (is : answer ≡ took.Line line) (after : Choices) (last : SessionState w) where
         pub serves_on : AnswersRequest {w = w} (λ kept. exchange kept line) choices read On after last → IsServing last after
         serves_on answered = record {
           events = serving.events ++ (Received (took.Line line) ∷ answered.events);
-          done = done_then serving.done (done_then received_line answered.done);
+          done = done_then serving.done (done_then (received_as (took.Line line) is) answered.done);
           continues = λ more end talk.
               subst (λ (d : List (Event w.Further)). Talk exchange before d end) (sym (append_assoc serving.events (Received (took.Line line) ∷ answered.events) more))
               (serving.continues (Received (took.Line line) ∷ (answered.events ++ more)) end (goes_on line answered.exchanges talk));
         }
 
-        pub is_over : (end : SessionEnd) → AnswersRequest {w = w} (λ kept. exchange kept line) choices read (End end) after last → ServesRequests exchange before start end last
+        pub is_over : (end : SessionEnd) → AnswersRequest {w = w} (λ kept. exchange kept line) choices read (End end) after last
+            → ServesRequests exchange before start end last
         is_over end answered =
-            finishes last (Received (took.Line line) ∷ answered.events) end (done_then received_line answered.done) (over line answered.exchanges)
-            (λ left. leaves end read.conn.reader last.conn.reader left answered.fits)
+            finishes last (Received (took.Line line) ∷ answered.events) end (done_then (received_as (took.Line line) is) answered.done)
+            (over line answered.exchanges) (λ left. leaves end conn.reader last.conn.reader left answered.fits)
             (record {
               read = λ e. omega (arith, received.input_faults, answered.faults.read e);
               write = λ e. omega (arith, received.output_faults, answered.faults.write e);
             })
 
       -- no request came
-      pub at_end : answer ≡ took.End → read.conn.reader.ended ≡ Some took.End → ServesRequests exchange before start Ended read
+      pub at_end : answer ≡ took.End → conn.reader.ended ≡ Some took.End → ServesRequests exchange before start Ended read
       at_end is ended_so =
-          finishes read (Received took.End ∷ []) Ended (subst (λ t. EventsLead {w = w} (Received t ∷ []) now read) is received) ended (leaves_all read.conn.reader took.End ended_so)
+          finishes read (Received took.End ∷ []) Ended (received_as took.End is) ended (leaves_all conn.reader took.End ended_so)
           (record { read = λ e. absurd (cc e); write = λ e. absurd (cc e) })
 
-      pub at_spent : answer ≡ took.Spent → read.conn.reader.ended ≡ Some took.Spent → ServesRequests exchange before start Spent read
+      pub at_spent : answer ≡ took.Spent → conn.reader.ended ≡ Some took.Spent → ServesRequests exchange before start Spent read
       at_spent is ended_so =
-          finishes read (Received took.Spent ∷ []) Spent (subst (λ t. EventsLead {w = w} (Received t ∷ []) now read) is received) spent (leaves_all read.conn.reader took.Spent ended_so)
+          finishes read (Received took.Spent ∷ []) Spent (received_as took.Spent is) spent (leaves_all conn.reader took.Spent ended_so)
           (record { read = λ e. absurd (cc e); write = λ e. absurd (cc e) })
 
-      pub at_read_fault : answer ≡ took.ReadFault → read.conn.reader.ended ≡ Some took.ReadFault → Rose now.conn.input.faults read.conn.input.faults → ServesRequests exchange before start ReadFault read
+      pub at_read_fault : answer ≡ took.ReadFault → conn.reader.ended ≡ Some took.ReadFault → Rose now.conn.input.faults conn.input.faults
+          → ServesRequests exchange before start ReadFault read
       at_read_fault is ended_so rose =
-          finishes read (Received took.ReadFault ∷ []) ReadFault (subst (λ t. EventsLead {w = w} (Received t ∷ []) now read) is received) read_fault (leaves_all read.conn.reader took.ReadFault ended_so)
-          (record { read = λ e. rose; write = λ e. absurd (cc e) })
+          finishes read (Received took.ReadFault ∷ []) ReadFault (received_as took.ReadFault is) read_fault
+          (leaves_all conn.reader took.ReadFault ended_so) (record { read = λ e. rose; write = λ e. absurd (cc e) })
 
       module _ (is : answer ≡ took.TooLong) (last : Connection) where
-        received_long : EventsLead {w = w} (Received took.TooLong ∷ []) now read
-        received_long = subst (λ t. EventsLead {w = w} (Received t ∷ []) now read) is received
-
         abbrev after_it : SessionState w
-        after_it = record { conn = last; desk = read.desk; ends = read.ends }
+        after_it = record { conn = last; desk = now.desk; ends = now.ends }
 
-        pub at_too_long : read.conn.reader.ended ≡ Some took.TooLong → WritesText (failed LineTooLong) read.conn (Ok tt) last → ServesRequests exchange before start TooLong after_it
+        pub at_too_long : conn.reader.ended ≡ Some took.TooLong → WritesText (failed LineTooLong) conn (Ok tt) last
+            → ServesRequests exchange before start TooLong after_it
         at_too_long ended_so said =
             finishes after_it (Received took.TooLong ∷ Sent (failed LineTooLong) ∷ []) TooLong
-            (done_then received_long (done_wrote read.desk read.ends (failed LineTooLong) read.conn last said)) too_long
+            (done_then (received_as took.TooLong is) (done_wrote now.desk now.ends (failed LineTooLong) conn last said)) too_long
             (leaves_all last.reader took.TooLong (ap (λ (r : Reader). r.ended) said.reader ∙ ended_so))
             (record { read = λ e. absurd (cc e); write = λ e. absurd (cc e) })
 
-        pub cut_at_too_long : (why : WriteFault) → WritesText (failed LineTooLong) read.conn (Err why) last → ServesRequests exchange before start ends.WriteFault after_it
+        pub cut_at_too_long : (why : WriteFault) → WritesText (failed LineTooLong) conn (Err why) last
+            → ServesRequests exchange before start ends.WriteFault after_it
         cut_at_too_long why said =
-            let stopped : StopsWriting (failed LineTooLong) read.conn.output last.output = said.output in
+            let stopped : StopsWriting (failed LineTooLong) conn.output last.output = said.output in
             finishes after_it (Received took.TooLong ∷ Cut stopped.sent ∷ []) ends.WriteFault
-            (done_then received_long (done_stopped read.desk read.ends (failed LineTooLong) read.conn last why stopped said))
+            (done_then (received_as took.TooLong is) (done_stopped now.desk now.ends (failed LineTooLong) conn last why stopped said))
             (cut_too_long (record {
               before = [];
               sent = stopped.sent;

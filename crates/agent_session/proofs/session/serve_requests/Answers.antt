@@ -2,7 +2,6 @@ use Rattle.std.proofs.Common.{◌<◌, arith, refl}
 use Rattle.assuan_line.specs.Next.{held}
 use Rattle.agent_commands.specs.Exchanges.{LineExchange}
 use Rattle.agent_commands.specs.Outside.{prompt_world}
-use Rattle.agent_commands.proofs.Doing.{done_received}
 use Rattle.agent_session.proofs.Serving.{serves_none, serves_on, is_over, at_end, at_spent, at_read_fault, at_too_long, cut_at_too_long}
 use Rattle.agent_session.proofs.session.serve_requests.Goals as goal
 
@@ -21,17 +20,23 @@ loop-line-smaller g c =
 pub loop-line-preserved : goal.loop-line-preserved
 loop-line-preserved g c =
     let i = c.loop-line.invariant in
-    let received = done_received {w = prompt_world g.D.Desk.turned g.P.Prompter.prompted} c.loop-line.desk c.loop-line.prompter c.loop-line.conn c.next_request.new.self c.next_request.result i.going c.next_request.ensures in
     let answered = rw c.in-On.is at c.answer.ensures.answers in
-    record { serving = serves_on {w = prompt_world g.D.Desk.turned g.P.Prompter.prompted} (LineExchange c.args.rules.now) c.args.options.now _ _ _ i.serving _ c.next_request.result received c.in-Line.line c.in-Line.is _ _ answered; going = answered.fits.0; free = c.answer.ensures.free; shut = c.answer.ensures.shut }
+    record {
+      serving =
+          serves_on {w = prompt_world g.D.Desk.turned g.P.Prompter.prompted} (LineExchange c.args.rules.now) c.args.options.now _ _ _ i.serving
+          _ _ i.going c.next_request.ensures c.in-Line.line c.in-Line.is _ _ answered;
+      going = answered.fits.0;
+      free = c.answer.ensures.free;
+      shut = c.answer.ensures.shut;
+    }
 
 pub returns-in-End-answer : goal.returns-in-End-answer
 returns-in-End-answer g c =
     let i = c.loop-line.invariant in
-    let received = done_received {w = prompt_world g.D.Desk.turned g.P.Prompter.prompted} c.loop-line.desk c.loop-line.prompter c.loop-line.conn c.next_request.new.self c.next_request.result i.going c.next_request.ensures in
     record {
       serves =
-          is_over {w = prompt_world g.D.Desk.turned g.P.Prompter.prompted} (LineExchange c.args.rules.now) c.args.options.now _ _ _ i.serving _ c.next_request.result received c.in-Line.line c.in-Line.is _ _ c.in-End-answer.end (rw c.in-End-answer.is at c.answer.ensures.answers);
+          is_over {w = prompt_world g.D.Desk.turned g.P.Prompter.prompted} (LineExchange c.args.rules.now) c.args.options.now _ _ _ i.serving
+          _ _ i.going c.next_request.ensures c.in-Line.line c.in-Line.is _ _ c.in-End-answer.end (rw c.in-End-answer.is at c.answer.ensures.answers);
       free = c.answer.ensures.free;
       shut = c.answer.ensures.shut;
     }
@@ -39,10 +44,10 @@ returns-in-End-answer g c =
 pub returns-in-Ok : goal.returns-in-Ok
 returns-in-Ok g c =
     let i = c.loop-line.invariant in
-    let received = done_received {w = prompt_world g.D.Desk.turned g.P.Prompter.prompted} c.loop-line.desk c.loop-line.prompter c.loop-line.conn c.next_request.new.self c.next_request.result i.going c.next_request.ensures in
     record {
       serves =
-          at_too_long {w = prompt_world g.D.Desk.turned g.P.Prompter.prompted} (LineExchange c.args.rules.now) c.args.options.now _ _ _ i.serving _ c.next_request.result received c.in-TooLong.is _ c.in-TooLong.ensures.read.ended (c.in-Ok.ensures _ _ _ c.err.ensures);
+          at_too_long {w = prompt_world g.D.Desk.turned g.P.Prompter.prompted} (LineExchange c.args.rules.now) c.args.options.now _ _ _ i.serving
+          _ _ i.going c.next_request.ensures c.in-TooLong.is _ c.in-TooLong.ensures.read.ended (c.in-Ok.ensures _ _ _ c.err.ensures);
       free = i.free;
       shut = i.shut;
     }
@@ -50,10 +55,10 @@ returns-in-Ok g c =
 pub returns-in-Err : goal.returns-in-Err
 returns-in-Err g c =
     let i = c.loop-line.invariant in
-    let received = done_received {w = prompt_world g.D.Desk.turned g.P.Prompter.prompted} c.loop-line.desk c.loop-line.prompter c.loop-line.conn c.next_request.new.self c.next_request.result i.going c.next_request.ensures in
     record {
       serves =
-          cut_at_too_long {w = prompt_world g.D.Desk.turned g.P.Prompter.prompted} (LineExchange c.args.rules.now) c.args.options.now _ _ _ i.serving _ c.next_request.result received c.in-TooLong.is _ _ (c.in-Err.ensures _ _ _ c.err.ensures);
+          cut_at_too_long {w = prompt_world g.D.Desk.turned g.P.Prompter.prompted} (LineExchange c.args.rules.now) c.args.options.now _ _ _ i.serving
+          _ _ i.going c.next_request.ensures c.in-TooLong.is _ _ (c.in-Err.ensures _ _ _ c.err.ensures);
       free = i.free;
       shut = i.shut;
     }
@@ -61,10 +66,10 @@ returns-in-Err g c =
 pub returns-in-End : goal.returns-in-End
 returns-in-End g c =
     let i = c.loop-line.invariant in
-    let received = done_received {w = prompt_world g.D.Desk.turned g.P.Prompter.prompted} c.loop-line.desk c.loop-line.prompter c.loop-line.conn c.next_request.new.self c.next_request.result i.going c.next_request.ensures in
     record {
       serves =
-          at_end {w = prompt_world g.D.Desk.turned g.P.Prompter.prompted} (LineExchange c.args.rules.now) c.args.options.now _ _ _ i.serving _ c.next_request.result received c.in-End.is c.in-End.ensures.read.ended;
+          at_end {w = prompt_world g.D.Desk.turned g.P.Prompter.prompted} (LineExchange c.args.rules.now) c.args.options.now _ _ _ i.serving
+          _ _ i.going c.next_request.ensures c.in-End.is c.in-End.ensures.read.ended;
       free = i.free;
       shut = i.shut;
     }
@@ -72,10 +77,10 @@ returns-in-End g c =
 pub returns-in-Spent : goal.returns-in-Spent
 returns-in-Spent g c =
     let i = c.loop-line.invariant in
-    let received = done_received {w = prompt_world g.D.Desk.turned g.P.Prompter.prompted} c.loop-line.desk c.loop-line.prompter c.loop-line.conn c.next_request.new.self c.next_request.result i.going c.next_request.ensures in
     record {
       serves =
-          at_spent {w = prompt_world g.D.Desk.turned g.P.Prompter.prompted} (LineExchange c.args.rules.now) c.args.options.now _ _ _ i.serving _ c.next_request.result received c.in-Spent.is c.in-Spent.ensures.read.ended;
+          at_spent {w = prompt_world g.D.Desk.turned g.P.Prompter.prompted} (LineExchange c.args.rules.now) c.args.options.now _ _ _ i.serving
+          _ _ i.going c.next_request.ensures c.in-Spent.is c.in-Spent.ensures.read.ended;
       free = i.free;
       shut = i.shut;
     }
@@ -83,10 +88,10 @@ returns-in-Spent g c =
 pub returns-in-ReadFault : goal.returns-in-ReadFault
 returns-in-ReadFault g c =
     let i = c.loop-line.invariant in
-    let received = done_received {w = prompt_world g.D.Desk.turned g.P.Prompter.prompted} c.loop-line.desk c.loop-line.prompter c.loop-line.conn c.next_request.new.self c.next_request.result i.going c.next_request.ensures in
     record {
       serves =
-          at_read_fault {w = prompt_world g.D.Desk.turned g.P.Prompter.prompted} (LineExchange c.args.rules.now) c.args.options.now _ _ _ i.serving _ c.next_request.result received c.in-ReadFault.is c.in-ReadFault.ensures.read.ended (c.in-ReadFault.ensures.read.fault refl);
+          at_read_fault {w = prompt_world g.D.Desk.turned g.P.Prompter.prompted} (LineExchange c.args.rules.now) c.args.options.now _ _ _ i.serving
+          _ _ i.going c.next_request.ensures c.in-ReadFault.is c.in-ReadFault.ensures.read.ended (c.in-ReadFault.ensures.read.fault refl);
       free = i.free;
       shut = i.shut;
     }
