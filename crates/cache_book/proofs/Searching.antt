@@ -5,6 +5,7 @@ use Rattle.std.specs.List.{AllByRecursion, AllWithin, HoldsAt}
 use Rattle.std.specs.List.Sorted.{IsPartitionPoint}
 use Rattle.std.proofs.lemmas.List.Elements.{All-from_recursion, recursion_from_All, AllWithin-upto}
 use Rattle.std.proofs.lemmas.Cmp.{nat_list_eq_equiv}
+use Rattle.std.proofs.lemmas.List.{get_or_default}
 use Rattle.cache_policy.specs.declared.mode.Mode.{Mode}
 use Rattle.cache_policy.specs.declared.entry.Entry.{Entry}
 use Rattle.cache_policy.specs.Mode.{covers}
@@ -13,9 +14,9 @@ use Rattle.cache_policy.proofs.Lists.{all_weaker, all_drop}
 use Rattle.cache_book.specs.declared.slot.Slot.{Slot}
 use Rattle.cache_book.specs.Modes.{holds, has_some, not_covered}
 use Rattle.cache_book.specs.Shelves.{serves_at, ServesNone, IsOneOf, here, further, touch_slot, touched, hidden, cleared, swept}
-use Rattle.cache_book.specs.SlotOrders.{is_below, is_upto, wipe_past, HaveOwnNumbers, AreServing}
-use Rattle.cache_book.proofs.Ordered.{below_apart, past_apart}
-use Rattle.cache_book.proofs.Arranging.{all_take_within, all_drop_within}
+use Rattle.cache_book.specs.SlotOrders.{is_below, is_upto, wipe_past, AreById, HaveOwnNumbers, AreServing}
+use Rattle.cache_book.proofs.Ordered.{upto_back, below_apart, past_apart}
+use Rattle.cache_book.proofs.Arranging.{all_take_within, all_drop_within, pairs_parted}
 
 -- the slot at a place is one of the list
 pub one_at : (i : ℕ) (list : List Slot) (d : Slot) → i < length list → IsOneOf (get_or list i d) list
@@ -29,20 +30,37 @@ pub apart_serves : (id : List ℕ) (mode : Mode) (now : ℕ) (slot : Slot) → s
 apart_serves id mode now slot apart = ap (λ b. (b && holds slot.modes mode) && within slot.entry slot.last now) apart
 
 -- where no slot of the stretch serves a request, none does
-pub none_serving : (id : List ℕ) (mode : Mode) (now : ℕ) (list : List Slot) (start end : ℕ)
-    → IsPartitionPoint (λ slot. is_below id slot ≡ true) (λ slot. is_below id slot ≡ false) list start
-    → IsPartitionPoint (λ slot. is_upto id slot ≡ true) (λ slot. is_upto id slot ≡ false) list end
-    → AllWithin (λ slot. serves_at id mode now slot ≡ false) list start end → ServesNone list id mode now
-none_serving id mode now list start end starts ends none =
-    recursion_from_All (λ slot. serves_at id mode now slot ≡ false) list (λ k d lt. at k d lt (split k start) (split k end))
-  where
-    split : (k n : ℕ) → (k < n) ⊎ (n ≤ k)
-    split k n = search arith
+module _ (id : List ℕ) (mode : Mode) (now : ℕ) (list : List Slot) (start i : ℕ)
+    (starts : IsPartitionPoint (λ slot. is_below id slot ≡ true) (λ slot. is_below id slot ≡ false) list start)
+    (none : AllWithin (λ slot. serves_at id mode now slot ≡ false) list start i) where
+  split : (k n : ℕ) → (k < n) ⊎ (n ≤ k)
+  split k n = search arith
 
-    at : (k : ℕ) (d : Slot) → k < length list → (k < start) ⊎ (start ≤ k) → (k < end) ⊎ (end ≤ k) → serves_at id mode now (get_or list k d) ≡ false
-    at k d lt (inl before) e = apart_serves id mode now (get_or list k d) (below_apart id (get_or list k d) (starts.0 k d (omega arith) before))
-    at k d lt (inr from) (inl before) = none k d from before
-    at k d lt (inr from) (inr past) = apart_serves id mode now (get_or list k d) (past_apart id (get_or list k d) (ends.1 k d past lt))
+  none_if : ((k : ℕ) (d : Slot) → i ≤ k → k < length list → serves_at id mode now (get_or list k d) ≡ false) → ServesNone list id mode now
+  none_if after = recursion_from_All (λ slot. serves_at id mode now slot ≡ false) list (λ k d lt. at k d lt (split k start) (split k i))
+    where
+      at : (k : ℕ) (d : Slot) → k < length list → (k < start) ⊎ (start ≤ k) → (k < i) ⊎ (i ≤ k) → serves_at id mode now (get_or list k d) ≡ false
+      at k d lt (inl before) e = apart_serves id mode now (get_or list k d) (below_apart id (get_or list k d) (starts.0 k d (omega arith) before))
+      at k d lt (inr from) (inl before) = none k d from before
+      at k d lt (inr from) (inr past) = after k d past lt
+
+  -- up to the end of the list
+  pub none_serving : length list ≤ i → ServesNone list id mode now
+  none_serving end = none_if (λ k d past lt. absurd (omega arith))
+
+  -- up to a slot with a higher id
+  pub none_past : AreById list → (slot : Slot) → i < length list → slot ≡ get_or list i slot → is_upto id slot ≡ false → ServesNone list id mode now
+  none_past by_id slot within is higher = none_if (λ k d past lt. apart_serves id mode now (get_or list k d) (past_apart id (get_or list k d) (higher_too k d past lt)))
+    where
+      at_i : (d : Slot) → is_upto id (get_or list i d) ≡ false
+      at_i d = subst (λ (s : Slot). is_upto id s ≡ false) (is ∙ get_or_default list i slot d within) higher
+
+      higher_too : (k : ℕ) (d : Slot) → i ≤ k → k < length list → is_upto id (get_or list k d) ≡ false
+      higher_too k d past lt = elim (is_upto id (get_or list k d)) as (λ b. is_upto id (get_or list k d) ≡ b → b ≡ false) [
+        | true ↦ λ e. let first : is_upto id (get_or list i d) ≡ true = pairs_parted _ (is_upto id) (upto_back id) list by_id i k d past lt e in
+            let not : is_upto id (get_or list i d) ≡ false = at_i d in cc
+        | false ↦ λ e. refl
+      ] refl
 
 -- a use of the slot with a number is that of the one slot
 pub touched-none : (number now : ℕ) (list : List Slot) → AllByRecursion (λ slot. (number == slot.entry.number) ≡ false) list → touched number now list ≡ list

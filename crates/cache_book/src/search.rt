@@ -49,9 +49,12 @@ fn serving(slots: &[BoxedSlot], id: &CacheId, mode: Mode, now: u64) -> Option<us
     ensures found { IfSome result (λ i. (i < length slots.now) × HoldsAt (λ slot. serves_at id.now mode now slot ≡ true) slots.now i) }
     ensures none { IfNone result (ServesNone slots.now id.now mode now) }
 {
+    let lead = lead_of(id.bytes());
     let start = start_of(slots, id);
-    let end = end_of(slots, id);
-    for i in start..end {
+    for i in start..slots.len() {
+        if compare(&slots[i], id, lead).is_gt() {
+            return None;
+        }
         if slots[i].get().serves_at(id, mode, now) {
             return Some(i);
         }
