@@ -37,7 +37,7 @@ pub fn run_agent<W: Threads + Wait + rt::Clock + Sync, S: Link, H: Host>(
     ensures refused { IfNone (rules_of (map string_bytes words.now))
         ((result ≡ number_of Status.BadWords) × (S.input stdio.new ≡ S.input stdio.old) × (S.output stdio.new ≡ S.output stdio.old)
         × (host.new ≡ host.old)) }
-    // The host has its parts again.
+    // Other words: a session was served, or there was no memory and nothing was read or written. The host has its parts again.
     ensures served { IfSome (rules_of (map string_bytes words.now)) (λ rules. UsesParts (λ launcher clock launcher_now clock_now.
         RunsServer (with_pid (H.process host.old) rules)
         (outside (S.input stdio.old) (S.output stdio.old) (H.Clock.readings clock) (H.Launcher.launches launcher)) result
