@@ -1,5 +1,5 @@
 -- Searching slots that stand by their ids: what lies outside of the stretch of an id, and what a place says.
-use Rattle.std.specs.Prelude.{◌≡◌, ℕ, ◌<◌, ◌≤◌, ◌==◌, List, [], ◌∷◌, ◌⊎◌, Bool, true, false, ◌&&◌, not, max, map, take, drop, cond, length, get_or, set, refl}
+use Rattle.std.specs.Prelude.{◌≡◌, ℕ, ◌+◌, ◌<◌, ◌≤◌, ◌==◌, List, [], ◌∷◌, ◌⊎◌, Bool, true, false, ◌&&◌, not, max, map, take, drop, cond, length, get_or, set, refl}
 use Rattle.std.proofs.Common.{ap, sym, ◌∙◌, subst, arith, zero, suc, inl, inr}
 use Rattle.std.specs.List.{AllByRecursion, AllWithin, HoldsAt}
 use Rattle.std.specs.List.Sorted.{IsPartitionPoint}
@@ -15,7 +15,7 @@ use Rattle.cache_book.specs.declared.slot.Slot.{Slot}
 use Rattle.cache_book.specs.Modes.{holds, has_some, not_covered}
 use Rattle.cache_book.specs.Shelves.{serves_at, ServesNone, IsOneOf, here, further, touch_slot, touched, hidden, cleared, swept}
 use Rattle.cache_book.specs.SlotOrders.{is_below, is_upto, wipe_past, AreById, HaveOwnNumbers, AreServing}
-use Rattle.cache_book.proofs.Ordered.{upto_back, below_apart, past_apart}
+use Rattle.cache_book.proofs.Ordered.{below_back, upto_back, below_apart, past_apart}
 use Rattle.cache_book.proofs.Arranging.{all_take_within, all_drop_within, pairs_parted}
 
 -- the slot at a place is one of the list
@@ -28,6 +28,27 @@ one_at (suc i) (x ∷ xs) d lt = further (one_at i xs d (omega arith))
 -- a slot of another id serves no request for this one
 pub apart_serves : (id : List ℕ) (mode : Mode) (now : ℕ) (slot : Slot) → same_id slot.entry.id id ≡ false → serves_at id mode now slot ≡ false
 apart_serves id mode now slot apart = ap (λ b. (b && holds slot.modes mode) && within slot.entry slot.last now) apart
+
+-- the first slot whose id isn't below this one is at low, or among those that are left behind it
+pub record IsNarrowed (id : List ℕ) (list : List Slot) (low left : ℕ) : Type 0 where
+  pub within : low + left ≤ length list
+  pub before : (k : ℕ) (d : Slot) → k < low → is_below id (get_or list k d) ≡ true
+  pub behind : (k : ℕ) (d : Slot) → low + left ≤ k → k < length list → is_below id (get_or list k d) ≡ false
+
+-- where a slot is below, those before it are, and where it isn't, none behind it is
+module _ (id : List ℕ) (list : List Slot) (by_id : AreById list) (i : ℕ) (slot : Slot) (within : i < length list) (is : slot ≡ get_or list i slot) where
+  there : (b : Bool) → is_below id slot ≡ b → (d : Slot) → is_below id (get_or list i d) ≡ b
+  there b h d = subst (λ (s : Slot). is_below id s ≡ b) (is ∙ get_or_default list i slot d within) h
+
+  pub below_before : is_below id slot ≡ true → (k : ℕ) (d : Slot) → k ≤ i → is_below id (get_or list k d) ≡ true
+  below_before below k d le = pairs_parted _ (is_below id) (below_back id) list by_id k i d le within (there true below d)
+
+  pub none_behind : is_below id slot ≡ false → (k : ℕ) (d : Slot) → i ≤ k → k < length list → is_below id (get_or list k d) ≡ false
+  none_behind above k d le lt = elim (is_below id (get_or list k d)) as (λ b. is_below id (get_or list k d) ≡ b → b ≡ false) [
+    | true ↦ λ e. let first : is_below id (get_or list i d) ≡ true = pairs_parted _ (is_below id) (below_back id) list by_id i k d le lt e in
+        let not : is_below id (get_or list i d) ≡ false = there false above d in cc
+    | false ↦ λ e. refl
+  ] refl
 
 -- where no slot of the stretch serves a request, none does
 module _ (id : List ℕ) (mode : Mode) (now : ℕ) (list : List Slot) (start i : ℕ)

@@ -23,14 +23,43 @@ fn compare(slot: &BoxedSlot, id: &CacheId, lead: u64) -> Ordering
     }
 }
 
+fn is_below(slot: &BoxedSlot, id: &CacheId, lead: u64) -> bool
+    requires { IsLead lead id.now }
+    ensures { result ≡ is_below id.now slot.now }
+{
+    compare(slot, id, lead).is_lt()
+}
+
 /// The place of the first slot whose id isn't below this one.
+///
+/// It looks at three slots together, so that over many the memory of one comes while that of another does.
 pub(crate) fn start_of(slots: &[BoxedSlot], id: &CacheId) -> usize
     requires { AreById slots.now }
     ensures within { result ≤ length slots.now }
     ensures parts { IsPartitionPoint (λ slot. is_below id.now slot ≡ true) (λ slot. is_below id.now slot ≡ false) slots.now result }
 {
     let lead = lead_of(id.bytes());
-    slots.partition_point(|slot| compare(slot, id, lead).is_lt())
+    let mut low = 0;
+    let mut left = slots.len();
+    while 0 < left {
+        let step = left / 4;
+        let first = is_below(&slots[low + step], id, lead);
+        let second = is_below(&slots[low + 2 * step], id, lead);
+        let third = is_below(&slots[low + 3 * step], id, lead);
+        if third {
+            low += 3 * step + 1;
+            left -= 3 * step + 1;
+        } else if second {
+            low += 2 * step + 1;
+            left = step.saturating_sub(1);
+        } else if first {
+            low += step + 1;
+            left = step.saturating_sub(1);
+        } else {
+            left = step;
+        }
+    }
+    low
 }
 
 /// The place after the last slot whose id is no higher than this one.

@@ -1,11 +1,52 @@
-use Rattle.std.proofs.Common.{rules}
-use Rattle.std.proofs.lemmas.List.Sorted.{IsPartitionPoint-from_clause}
-use Rattle.cache_book.specs.SlotOrders.{is_below}
-use Rattle.cache_book.proofs.Arranging.{pairs_parted}
-use Rattle.cache_book.proofs.Ordered.{below_back}
+use Rattle.std.specs.Prelude.{◌+◌, ◌*◌, ◌/◌, ◌<◌, ◌≤◌, length}
+use Rattle.std.proofs.Common.{arith, sym, ◌∙◌}
+use Rattle.cache_book.proofs.Searching.{below_before, none_behind}
 use Rattle.cache_book.proofs.search.start_of.Goals as goal
 
-pub returns-clause-parts : goal.returns-clause-parts
-returns-clause-parts c =
-    IsPartitionPoint-from_clause (is_below c.args.id.now) c.args.slots.now c.partition_point.result c.partition_point.ensures.partitioned
-    (pairs_parted _ (is_below c.args.id.now) (below_back c.args.id.now) c.args.slots.now c.requires) (λ a r f' k. search rules)
+pub loop-left-preserved-then-third : goal.loop-left-preserved-then-third
+loop-left-preserved-then-third c =
+    let was : c.loop-left.low + c.loop-left.left ≤ length c.args.slots.now = c.loop-left.invariant.within in
+    let some : 0 < c.loop-left.left = c.loop-left-test.true in
+    record {
+      within = omega arith;
+      before = λ k d lt. below_before c.args.id.now c.args.slots.now c.requires (c.loop-left.low + 3 * (c.loop-left.left / 4)) c.index-slots-low-in-loop-left-2.result (omega arith)
+          c.index-slots-low-in-loop-left-2.is (sym c.is_below-third.ensures ∙ c.if-third.true) k d (omega arith);
+      behind = λ k d le lt. c.loop-left.invariant.behind k d (omega arith) lt;
+    }
+
+pub loop-left-preserved-then-second : goal.loop-left-preserved-then-second
+loop-left-preserved-then-second c =
+    let was : c.loop-left.low + c.loop-left.left ≤ length c.args.slots.now = c.loop-left.invariant.within in
+    let some : 0 < c.loop-left.left = c.loop-left-test.true in
+    let left = c.saturating_sub-left.ensures in
+    record {
+      within = omega arith;
+      before = λ k d lt. below_before c.args.id.now c.args.slots.now c.requires (c.loop-left.low + 2 * (c.loop-left.left / 4)) c.index-slots-low-in-loop-left.result (omega arith)
+          c.index-slots-low-in-loop-left.is (sym c.is_below-second.ensures ∙ c.if-second.true) k d (omega arith);
+      behind = λ k d le lt. none_behind c.args.id.now c.args.slots.now c.requires (c.loop-left.low + 3 * (c.loop-left.left / 4)) c.index-slots-low-in-loop-left-2.result (omega arith)
+          c.index-slots-low-in-loop-left-2.is (sym c.is_below-third.ensures ∙ c.if-third.false) k d (omega arith) lt;
+    }
+
+pub loop-left-preserved-then-first : goal.loop-left-preserved-then-first
+loop-left-preserved-then-first c =
+    let was : c.loop-left.low + c.loop-left.left ≤ length c.args.slots.now = c.loop-left.invariant.within in
+    let some : 0 < c.loop-left.left = c.loop-left-test.true in
+    let left = c.saturating_sub-left-then-first.ensures in
+    record {
+      within = omega arith;
+      before = λ k d lt. below_before c.args.id.now c.args.slots.now c.requires (c.loop-left.low + c.loop-left.left / 4) c.index-slots-low.result (omega arith)
+          c.index-slots-low.is (sym c.is_below-first.ensures ∙ c.if-first.true) k d (omega arith);
+      behind = λ k d le lt. none_behind c.args.id.now c.args.slots.now c.requires (c.loop-left.low + 2 * (c.loop-left.left / 4)) c.index-slots-low-in-loop-left.result (omega arith)
+          c.index-slots-low-in-loop-left.is (sym c.is_below-second.ensures ∙ c.if-second.false) k d (omega arith) lt;
+    }
+
+pub loop-left-preserved : goal.loop-left-preserved
+loop-left-preserved c =
+    let was : c.loop-left.low + c.loop-left.left ≤ length c.args.slots.now = c.loop-left.invariant.within in
+    let some : 0 < c.loop-left.left = c.loop-left-test.true in
+    record {
+      within = omega arith;
+      before = c.loop-left.invariant.before;
+      behind = λ k d le lt. none_behind c.args.id.now c.args.slots.now c.requires (c.loop-left.low + c.loop-left.left / 4) c.index-slots-low.result (omega arith)
+          c.index-slots-low.is (sym c.is_below-first.ensures ∙ c.if-first.false) k d le lt;
+    }
