@@ -1,6 +1,6 @@
 -- A step under the lock, from what the core says of it.
 use Rattle.std.proofs.Common.{◌≡◌, ◌≢◌, ◌⊎◌, ℕ, ◌+◌, ◌^◌, ◌%◌, ◌<◌, ◌≤◌, ◌==◌, inl, inr, Bool, true, false, cond, List, [], ◌∷◌, ◌++◌, length, Option, Some, None}
-use Rattle.std.proofs.Common.{refl, ap, sym, ◌∙◌, subst, arith, length-append, add-zero}
+use Rattle.std.proofs.Common.{refl, ap, sym, ◌∙◌, subst, arith, length-append}
 use Rattle.std.specs.Prelude.{vec_capacity}
 use Rattle.std.proofs.lemmas.List.{map-append, length-map}
 use Rattle.std.proofs.lemmas.List.Sums.{fold-append}
@@ -22,9 +22,8 @@ use Rattle.cache_policy.specs.Legal.{IsLegal}
 use Rattle.cache_policy.specs.Policy.{Reply, policy}
 use Rattle.cache_policy.specs.Policy as ruling
 use Rattle.cache_policy.specs.Runs.{turn_over, next_history, is_spent, last_base, moment_before, moment_of}
-use Rattle.cache_policy.specs.Seat.{seat, is_open, stopped as has_stopped}
-use Rattle.cache_policy.specs.declared.mark.MarkReply.TheVariants as reply
-use Rattle.cache_policy.specs.Tallies.{with_history, with_one, one_if, is_given, is_empty, IsSound}
+use Rattle.cache_policy.specs.Seat.{seat, stopped as has_stopped}
+use Rattle.cache_policy.specs.Tallies.{with_history, with_one, one_if, IsSound}
 use Rattle.cache_policy.specs.Traces.{trace_mark, trace_step, reply_of}
 use Rattle.cache_policy.specs.Turns.{Turn, Given, Empty, Open, Stand, Done, Held as WhetherHeld, Stopping, Refused}
 use Rattle.cache_policy.proofs.BareLemmas.{seat-bare, stopped-bare, policy-bare, legal-bare}
@@ -33,7 +32,6 @@ use Rattle.cache_policy.proofs.GrowingRuns.{spent-all}
 use Rattle.cache_policy.proofs.Tallying.{tally-with_mark, tally-turn_over}
 use Rattle.agent_core.specs.Cores.{AtCore, HasRoom, StandsFor, IsStep, IsMarked, IsAsBefore, mark_of}
 use Rattle.agent_core.specs.Cores as step
-use Rattle.agent_lock.specs.declared.pass.Counts.{Counts}
 use Rattle.agent_lock.specs.declared.state.Start.{Start}
 use Rattle.agent_lock.specs.declared.state.State.{State}
 use Rattle.std.specs.Prelude.{IsTrue, ◌↔◌}
@@ -379,29 +377,6 @@ module _ (state : State) (kept : IsKept state) where
     kept = unmarked_kept state core kept (as_same state.core core same);
     journaled = spent (next_spent is) (seen_same state core same);
   }
-
-counts_are : (a b : Counts) → a.calls ≡ b.calls → a.given ≡ b.given → a.empty ≡ b.empty → a.opened ≡ b.opened → a ≡ b
-counts_are a b calls given empty opened = λ i. record { calls = calls i; given = given i; empty = empty i; opened = opened i }
-
-given_by : (tally : Tally) {a b : MarkReply} → a ≡ b → tally.given + one_if (is_given a) ≡ tally.given + one_if (is_given b)
-given_by tally e = ap (λ (r : MarkReply). tally.given + one_if (is_given r)) e
-
-empty_by : (tally : Tally) {a b : MarkReply} → a ≡ b → tally.empty + one_if (is_empty a) ≡ tally.empty + one_if (is_empty b)
-empty_by tally e = ap (λ (r : MarkReply). tally.empty + one_if (is_empty r)) e
-
-opened_by : (tally : Tally) {a b : MarkReply} → a ≡ b → tally.opened + one_if (is_open a) ≡ tally.opened + one_if (is_open b)
-opened_by tally e = ap (λ (r : MarkReply). tally.opened + one_if (is_open r)) e
-
--- the counts go on as the turn says
-pub totals_one : (tally : Tally) (mark : Mark) (stores : ℕ) (turn : Turn) → reply_of turn ≡ Some mark.reply → totals (with_one tally mark stores) ≡ counted false (totals tally) turn
-totals_one tally mark stores (Given grant) is = let e : mark.reply ≡ reply.Given grant.entry.number = cc (is) in counts_are _ _ refl (given_by tally e) (empty_by tally e ∙ add-zero _) (opened_by tally e ∙ add-zero _)
-totals_one tally mark stores Empty is = let e : mark.reply ≡ reply.Empty = cc (is) in counts_are _ _ refl (given_by tally e ∙ add-zero _) (empty_by tally e) (opened_by tally e ∙ add-zero _)
-totals_one tally mark stores (Open number) is = let e : mark.reply ≡ reply.Open = cc (is) in counts_are _ _ refl (given_by tally e ∙ add-zero _) (empty_by tally e ∙ add-zero _) (opened_by tally e)
-totals_one tally mark stores Stand is = absurd (cc (is))
-totals_one tally mark stores Done is = let e : mark.reply ≡ reply.Done = cc (is) in counts_are _ _ refl (given_by tally e ∙ add-zero _) (empty_by tally e ∙ add-zero _) (opened_by tally e ∙ add-zero _)
-totals_one tally mark stores (WhetherHeld there) is = let e : mark.reply ≡ reply.Held there = cc (is) in counts_are _ _ refl (given_by tally e ∙ add-zero _) (empty_by tally e ∙ add-zero _) (opened_by tally e ∙ add-zero _)
-totals_one tally mark stores Stopping is = let e : mark.reply ≡ reply.Stopping = cc (is) in counts_are _ _ refl (given_by tally e ∙ add-zero _) (empty_by tally e ∙ add-zero _) (opened_by tally e ∙ add-zero _)
-totals_one tally mark stores Refused is = absurd (cc (is))
 
 module _ (state : State) (kept : IsKept state) (below : state.core.base < last_base) where
   pub spent_is : (b : Bool) → (IsTrue b ↔ (state.core.base + state.core.count ≡ last_base)) → b ≡ is_spent (next_history (journal state kept))
