@@ -1,9 +1,10 @@
 -- What the lead of an id says of its order among others.
-use Rattle.std.specs.Prelude.{◌≡◌, ℕ, ◌+◌, ◌*◌, ◌<◌, ◌≤◌, List, [], ◌∷◌, slice_index, refl}
+use Rattle.std.specs.Prelude.{◌≡◌, ℕ, ◌+◌, ◌*◌, ◌<◌, ◌≤◌, List, [], ◌∷◌, slice_index, nat_lt, true, refl}
 use Rattle.std.proofs.Common.{ap, sym, ◌∙◌, subst, arith, zero, suc}
 use Rattle.std.specs.declared.cmp.Ordering.{Ordering}
 use Rattle.std.specs.declared.cmp.Ordering.TheVariants.{Less, Equal}
-use Rattle.std.specs.Ordering.{nat_cmp, ordering_then, ordering_reverse}
+use Rattle.std.specs.Ordering.{nat_cmp, ordering_then, ordering_reverse, is_lt}
+use Rattle.std.proofs.lemmas.Bool.Decides.{nat_tests}
 use Rattle.std.proofs.lemmas.Cmp.{ranked, by_ranked, nat_list_cmp_total}
 use Rattle.cache_book.specs.SlotOrders.{id_cmp}
 use Rattle.cache_book.specs.Leads.{id_lead, IsLead}
@@ -78,3 +79,10 @@ lead_first m n xs ys p q o same apart =
     (λ e h. e ∙ sym (less xs ys p.bytes q.bytes (omega (arith, p.is, q.is))))
     (λ e h. absurd (apart e))
     (λ e h. e ∙ sym (nat_list_cmp_total.antisymm xs ys ∙ ap ordering_reverse (less ys xs q.bytes p.bytes (omega (arith, p.is, q.is)))))
+
+-- an id with a lower lead is below
+pub lead_below : (m n : ℕ) (xs ys : List ℕ) → IsLead m xs → IsLead n ys → nat_lt m n ≡ true → is_lt (id_cmp xs ys) ≡ true
+lead_below m n xs ys p q lower = ap is_lt (less xs ys p.bytes q.bytes (omega (arith, p.is, q.is, before m n lower)))
+  where
+    before : (a b : ℕ) → nat_lt a b ≡ true → a < b
+    before a b h = grind (arith, nat_tests)

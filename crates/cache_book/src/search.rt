@@ -1,10 +1,11 @@
 // Finding slots among slots in the order of their ids.
-ghost use Rattle.std.specs.Prelude.{◌≡◌, ◌<◌, ◌≤◌, ◌==◌, true, false, length, IfSome, IfNone};
+ghost use Rattle.std.specs.Prelude.{◌≡◌, ℕ, ◌<◌, ◌≤◌, ◌==◌, true, false, length, get_or, IfSome, IfNone};
 ghost use Rattle.std.specs.List.{HoldsAt, AllByRecursion};
 ghost use Rattle.std.specs.List.Sorted.{IsPartitionPoint};
 ghost use Rattle.cache_book.specs.Shelves.{serves_at, IsGrantFrom, ServesNone};
 ghost use Rattle.cache_book.specs.SlotOrders.{id_cmp, is_below, is_upto, AreById, AreKept};
 ghost use Rattle.cache_book.specs.Leads.{IsLead};
+ghost use Rattle.cache_book.specs.declared.slot.Slot.{Slot as OneSlot};
 
 use crate::boxed_slot::BoxedSlot;
 use crate::lead::lead_of;
@@ -30,22 +31,22 @@ fn is_below(slot: &BoxedSlot, id: &CacheId, lead: u64) -> bool
     compare(slot, id, lead).is_lt()
 }
 
-/// The place of the first slot whose id isn't below this one.
+/// A place that only slots with lower ids stand before: behind those whose leads are lower, so that no box is read.
 ///
-/// It looks at three slots together, so that over many the memory of one comes while that of another does.
-pub(crate) fn start_of(slots: &[BoxedSlot], id: &CacheId) -> usize
-    requires { AreById slots.now }
+/// It looks at three leads together, so that over many the memory of one comes while that of another does.
+fn behind_lower_leads(slots: &[BoxedSlot], id: &CacheId, lead: u64) -> usize
+    requires by_id { AreById slots.now }
+    requires lead { IsLead lead id.now }
     ensures within { result ≤ length slots.now }
-    ensures parts { IsPartitionPoint (λ slot. is_below id.now slot ≡ true) (λ slot. is_below id.now slot ≡ false) slots.now result }
+    ensures before { (k : ℕ) (default : OneSlot) → k < result → is_below id.now (get_or slots.now k default) ≡ true }
 {
-    let lead = lead_of(id.bytes());
     let mut low = 0;
     let mut left = slots.len();
     while 0 < left {
         let step = left / 4;
-        let first = is_below(&slots[low + step], id, lead);
-        let second = is_below(&slots[low + 2 * step], id, lead);
-        let third = is_below(&slots[low + 3 * step], id, lead);
+        let first = has_lower_lead(&slots[low + step], id, lead);
+        let second = has_lower_lead(&slots[low + 2 * step], id, lead);
+        let third = has_lower_lead(&slots[low + 3 * step], id, lead);
         if third {
             low += 3 * step + 1;
             left -= 3 * step + 1;
@@ -57,6 +58,35 @@ pub(crate) fn start_of(slots: &[BoxedSlot], id: &CacheId) -> usize
             left = step.saturating_sub(1);
         } else {
             left = step;
+        }
+    }
+    low
+}
+
+fn has_lower_lead(slot: &BoxedSlot, id: &CacheId, lead: u64) -> bool
+    requires { IsLead lead id.now }
+    ensures { result ≡ true → is_below id.now slot.now ≡ true }
+{
+    slot.lead() < lead
+}
+
+/// The place of the first slot whose id isn't below this one.
+pub(crate) fn start_of(slots: &[BoxedSlot], id: &CacheId) -> usize
+    requires { AreById slots.now }
+    ensures within { result ≤ length slots.now }
+    ensures parts { IsPartitionPoint (λ slot. is_below id.now slot ≡ true) (λ slot. is_below id.now slot ≡ false) slots.now result }
+{
+    let lead = lead_of(id.bytes());
+    let mut low = behind_lower_leads(slots, id, lead);
+    // Where ids begin alike the boxes decide.
+    let mut left = slots.len() - low;
+    while 0 < left && is_below(&slots[low], id, lead) {
+        let half = left / 2;
+        if is_below(&slots[low + half], id, lead) {
+            low += half + 1;
+            left -= half + 1;
+        } else {
+            left = half;
         }
     }
     low

@@ -1,43 +1,17 @@
-use Rattle.std.specs.Prelude.{◌+◌, ◌*◌, ◌/◌, ◌<◌, ◌≤◌, length}
+use Rattle.std.specs.Prelude.{◌+◌, ◌/◌, ◌<◌, ◌≤◌, length}
 use Rattle.std.proofs.Common.{arith, sym, ◌∙◌}
 use Rattle.cache_book.proofs.Searching.{below_before, none_behind}
 use Rattle.cache_book.proofs.search.start_of.Goals as goal
 
-pub loop-left-preserved-then-third : goal.loop-left-preserved-then-third
-loop-left-preserved-then-third c =
+pub loop-left-preserved-then-is_below-2 : goal.loop-left-preserved-then-is_below-2
+loop-left-preserved-then-is_below-2 c =
     let was : c.loop-left.low + c.loop-left.left ≤ length c.args.slots.now = c.loop-left.invariant.within in
     let some : 0 < c.loop-left.left = c.loop-left-test.true in
     record {
       within = omega arith;
-      before = λ k d lt. below_before c.args.id.now c.args.slots.now c.requires (c.loop-left.low + 3 * (c.loop-left.left / 4)) c.index-slots-low-in-loop-left-2.result (omega arith)
-          c.index-slots-low-in-loop-left-2.is (sym c.is_below-third.ensures ∙ c.if-third.true) k d (omega arith);
+      before = λ k d lt. below_before c.args.id.now c.args.slots.now c.requires (c.loop-left.low + c.loop-left.left / 2) c.index-slots-low-in-loop-left.result (omega arith)
+          c.index-slots-low-in-loop-left.is (sym c.is_below-in-loop-left.ensures ∙ c.if-is_below-2.true) k d (omega arith);
       behind = λ k d le lt. c.loop-left.invariant.behind k d (omega arith) lt;
-    }
-
-pub loop-left-preserved-then-second : goal.loop-left-preserved-then-second
-loop-left-preserved-then-second c =
-    let was : c.loop-left.low + c.loop-left.left ≤ length c.args.slots.now = c.loop-left.invariant.within in
-    let some : 0 < c.loop-left.left = c.loop-left-test.true in
-    let left = c.saturating_sub-left.ensures in
-    record {
-      within = omega arith;
-      before = λ k d lt. below_before c.args.id.now c.args.slots.now c.requires (c.loop-left.low + 2 * (c.loop-left.left / 4)) c.index-slots-low-in-loop-left.result (omega arith)
-          c.index-slots-low-in-loop-left.is (sym c.is_below-second.ensures ∙ c.if-second.true) k d (omega arith);
-      behind = λ k d le lt. none_behind c.args.id.now c.args.slots.now c.requires (c.loop-left.low + 3 * (c.loop-left.left / 4)) c.index-slots-low-in-loop-left-2.result (omega arith)
-          c.index-slots-low-in-loop-left-2.is (sym c.is_below-third.ensures ∙ c.if-third.false) k d (omega arith) lt;
-    }
-
-pub loop-left-preserved-then-first : goal.loop-left-preserved-then-first
-loop-left-preserved-then-first c =
-    let was : c.loop-left.low + c.loop-left.left ≤ length c.args.slots.now = c.loop-left.invariant.within in
-    let some : 0 < c.loop-left.left = c.loop-left-test.true in
-    let left = c.saturating_sub-left-then-first.ensures in
-    record {
-      within = omega arith;
-      before = λ k d lt. below_before c.args.id.now c.args.slots.now c.requires (c.loop-left.low + c.loop-left.left / 4) c.index-slots-low.result (omega arith)
-          c.index-slots-low.is (sym c.is_below-first.ensures ∙ c.if-first.true) k d (omega arith);
-      behind = λ k d le lt. none_behind c.args.id.now c.args.slots.now c.requires (c.loop-left.low + 2 * (c.loop-left.left / 4)) c.index-slots-low-in-loop-left.result (omega arith)
-          c.index-slots-low-in-loop-left.is (sym c.is_below-second.ensures ∙ c.if-second.false) k d (omega arith) lt;
     }
 
 pub loop-left-preserved : goal.loop-left-preserved
@@ -47,6 +21,15 @@ loop-left-preserved c =
     record {
       within = omega arith;
       before = c.loop-left.invariant.before;
-      behind = λ k d le lt. none_behind c.args.id.now c.args.slots.now c.requires (c.loop-left.low + c.loop-left.left / 4) c.index-slots-low.result (omega arith)
-          c.index-slots-low.is (sym c.is_below-first.ensures ∙ c.if-first.false) k d le lt;
+      behind = λ k d le lt. none_behind c.args.id.now c.args.slots.now c.requires (c.loop-left.low + c.loop-left.left / 2) c.index-slots-low-in-loop-left.result (omega arith)
+          c.index-slots-low-in-loop-left.is (sym c.is_below-in-loop-left.ensures ∙ c.if-is_below-2.false) k d le lt;
     }
+
+pub returns-else-is_below-clause-parts : goal.returns-else-is_below-clause-parts
+returns-else-is_below-clause-parts c =
+    let was : c.loop-left.low + c.loop-left.left ≤ length c.args.slots.now = c.loop-left.invariant.within in
+    let some : 0 < c.loop-left.left = c.loop-left-test.true in (
+      (λ k d from lt. c.loop-left.invariant.before k d lt),
+      (λ k d le lt. none_behind c.args.id.now c.args.slots.now c.requires c.loop-left.low c.index-slots-low.result (omega arith) c.index-slots-low.is
+          (sym c.is_below.ensures ∙ c.if-is_below.false) k d le lt),
+    )

@@ -1,0 +1,36 @@
+use Rattle.std.specs.Prelude.{◌+◌, ◌*◌, ◌/◌, ◌<◌, ◌≤◌, length}
+use Rattle.std.proofs.Common.{arith}
+use Rattle.cache_book.proofs.Searching.{below_before}
+use Rattle.cache_book.proofs.search.behind_lower_leads.Goals as goal
+
+pub loop-left-preserved-then-third : goal.loop-left-preserved-then-third
+loop-left-preserved-then-third c =
+    let was : c.loop-left.low + c.loop-left.left ≤ length c.args.slots.now = c.loop-left.invariant.within in
+    let some : 0 < c.loop-left.left = c.loop-left-test.true in
+    record {
+      within = omega arith;
+      before = λ k d lt. below_before c.args.id.now c.args.slots.now c.requires.by_id (c.loop-left.low + 3 * (c.loop-left.left / 4)) c.index-slots-low-in-loop-left-2.result (omega arith)
+          c.index-slots-low-in-loop-left-2.is (c.has_lower_lead-third.ensures c.if-third.true) k d (omega arith);
+    }
+
+pub loop-left-preserved-then-second : goal.loop-left-preserved-then-second
+loop-left-preserved-then-second c =
+    let was : c.loop-left.low + c.loop-left.left ≤ length c.args.slots.now = c.loop-left.invariant.within in
+    let some : 0 < c.loop-left.left = c.loop-left-test.true in
+    let left = c.saturating_sub-left.ensures in
+    record {
+      within = omega arith;
+      before = λ k d lt. below_before c.args.id.now c.args.slots.now c.requires.by_id (c.loop-left.low + 2 * (c.loop-left.left / 4)) c.index-slots-low-in-loop-left.result (omega arith)
+          c.index-slots-low-in-loop-left.is (c.has_lower_lead-second.ensures c.if-second.true) k d (omega arith);
+    }
+
+pub loop-left-preserved-then-first : goal.loop-left-preserved-then-first
+loop-left-preserved-then-first c =
+    let was : c.loop-left.low + c.loop-left.left ≤ length c.args.slots.now = c.loop-left.invariant.within in
+    let some : 0 < c.loop-left.left = c.loop-left-test.true in
+    let left = c.saturating_sub-left-then-first.ensures in
+    record {
+      within = omega arith;
+      before = λ k d lt. below_before c.args.id.now c.args.slots.now c.requires.by_id (c.loop-left.low + c.loop-left.left / 4) c.index-slots-low.result (omega arith)
+          c.index-slots-low.is (c.has_lower_lead-first.ensures c.if-first.true) k d (omega arith);
+    }
