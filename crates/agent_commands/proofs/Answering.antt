@@ -3,7 +3,7 @@ use Rattle.std.proofs.Common.{◌≡◌, ℕ, List, [], ◌∷◌, ◌++◌, Non
 use Rattle.agent_ports.specs.Sides.{Side}
 use Rattle.assuan_line.specs.Next.{Reader, held}
 use Rattle.assuan_server.specs.Connections.{Connection}
-use Rattle.session_options.specs.Choices.{Choices}
+use Rattle.session_options.specs.OptionValues.{OptionValues}
 use Rattle.agent_commands.specs.Events.{Event, Sent, Cut}
 use Rattle.agent_commands.specs.Outside.{World}
 use Rattle.agent_commands.specs.States.{WritesText, StopsWriting, SessionState, AnswersRequest, ReaderAfter}
@@ -16,7 +16,7 @@ use Rattle.agent_commands.specs.declared.went.Went.{Went}
 use Rattle.agent_commands.specs.declared.went.Went.TheVariants.{On, End}
 use Rattle.agent_commands.proofs.Doing.{done_none, done_then, done_wrote, done_stopped}
 
-module _ {w : World} (exchange : Choices → List (Event w.Further) → Choices → Went → Type 0) (before after : Choices) (desk : w.Desk) (ends : w.Ends) where
+module _ {w : World} (exchange : OptionValues → List (Event w.Further) → OptionValues → Went → Type 0) (before after : OptionValues) (desk : w.Desk) (ends : w.Ends) where
   abbrev at_conn : Connection → SessionState w
   at_conn conn = record { conn = conn; desk = desk; ends = ends }
 
@@ -55,7 +55,7 @@ module _ {w : World} (exchange : Choices → List (Event w.Further) → Choices 
         faults = record { read = λ e. absurd (cc e); write = λ e. omega (arith, prepared.done.output_faults, stops.rose) };
       }
 
-module _ {w : World} (exchange : Choices → List (Event w.Further) → Choices → Went → Type 0) (before after : Choices) (start : SessionState w) (now : Connection) (text : List ℕ)
+module _ {w : World} (exchange : OptionValues → List (Event w.Further) → OptionValues → Went → Type 0) (before after : OptionValues) (start : SessionState w) (now : Connection) (text : List ℕ)
     (on : exchange before (Sent text ∷ []) after On) where
   -- nothing is done but to write one text, and the session goes on
   pub answered_text : start.conn.reader.ended ≡ None → WritesText text start.conn (Ok tt) now → AnswersRequest exchange before start On after (record start { conn = now })

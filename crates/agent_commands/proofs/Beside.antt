@@ -4,7 +4,7 @@ use Rattle.agent_ask.specs.Events.{Call, PromptEvent}
 use Rattle.agent_ports.specs.Leads.{Leads, none, one}
 use Rattle.cache_policy.specs.declared.mark.MarkStep.{MarkStep}
 use Rattle.cache_policy.specs.Turns.{Turn}
-use Rattle.session_options.specs.Choices.{Choices}
+use Rattle.session_options.specs.OptionValues.{OptionValues}
 use Rattle.agent_commands.specs.Events.{Event}
 use Rattle.agent_commands.specs.Outside.{world, prompt_world, Outside, Does, received, sent, cut, asked, not_asked, turned as turned_so, further}
 use Rattle.agent_commands.specs.States.{SessionState, prompt_state, EventsLead, AnswersRequest}
@@ -49,7 +49,7 @@ module _ {D P : Type 0} (turned : D → MarkStep → Turn → D → Type 0) (pro
     faults = record { read = done.faults.read; write = done.faults.write };
   }
 
-  pub answered_beside : {exchange : Choices → List (Event PromptEvent) → Choices → Went → Type 0} {before after : Choices} {start now : SessionState (world turned)} {went : Went}
+  pub answered_beside : {exchange : OptionValues → List (Event PromptEvent) → OptionValues → Went → Type 0} {before after : OptionValues} {start now : SessionState (world turned)} {went : Went}
       → AnswersRequest {w = world turned} exchange before start went after now
       → AnswersRequest {w = prompt_world turned prompted} exchange before (state_beside start) went after (state_beside now)
   answered_beside done = record {

@@ -15,7 +15,7 @@ use Rattle.assuan_server.specs.declared.inquiry.InquiredSecret.TheVariants as in
 use Rattle.assuan_text.specs.LineEnds.{line_of}
 use Rattle.cache_policy.specs.declared.secret.TheConstants.{MAX_SECRET_LEN}
 use Rattle.agent_commands.specs.Events.{Event, Sent, Cut, Asked, NotAsked}
-use Rattle.agent_commands.specs.Exchanges.{BringsNone, not_brought, limit_cut, cancelled, too_much, unexpected, too_long, ended, spent, read_fault, write_fault, limit_line, inquiry}
+use Rattle.agent_commands.specs.Exchanges.{BringsNone, no_data, limit_cut, cancelled, too_much, unexpected, too_long, ended, spent, read_fault, write_fault, limit_line, inquiry}
 use Rattle.agent_commands.specs.Outside.{World}
 use Rattle.agent_commands.specs.States.{WritesText, SessionState, EventsLead, ReaderAfter, FaultsRise}
 use Rattle.agent_commands.specs.Steps.{secret_text, Responds, Carries, InquiresSecret, AsksSecret, limit_cut as limit_stopped, asked as asked_for, answer_of}
@@ -87,49 +87,49 @@ module _ (w : World) (desk : w.Desk) (ends : w.Ends) where
     inquired_so going (inquired.Secret secret) inquires = (asked_so going _ inquires (Data secret) refl, goes_on going _ inquires (Data secret) refl refl)
     inquired_so going inquired.Cancelled inquires = record {
       events = Sent limit_line ∷ inquiry (Asked outcome.Cancelled) ∷ [];
-      brings = λ more is. rw (is.2, is.1) (not_brought cancelled);
+      brings = λ more is. rw (is.2, is.1) (no_data cancelled);
       done = asked_so going _ inquires outcome.Cancelled refl;
       fits = goes_on going _ inquires outcome.Cancelled refl refl;
       faults = record { read = λ e. absurd (cc e); write = λ e. absurd (cc e) };
     }
     inquired_so going inquired.TooMuch inquires = record {
       events = Sent limit_line ∷ inquiry (Asked outcome.TooMuch) ∷ [];
-      brings = λ more is. rw (is.2, is.1) (not_brought too_much);
+      brings = λ more is. rw (is.2, is.1) (no_data too_much);
       done = asked_so going _ inquires outcome.TooMuch refl;
       fits = goes_on going _ inquires outcome.TooMuch refl refl;
       faults = record { read = λ e. absurd (cc e); write = λ e. absurd (cc e) };
     }
     inquired_so going inquired.Unexpected inquires = record {
       events = Sent limit_line ∷ inquiry (Asked outcome.Unexpected) ∷ [];
-      brings = λ more is. rw (is.2, is.1) (not_brought unexpected);
+      brings = λ more is. rw (is.2, is.1) (no_data unexpected);
       done = asked_so going _ inquires outcome.Unexpected refl;
       fits = goes_on going _ inquires outcome.Unexpected refl refl;
       faults = record { read = λ e. absurd (cc e); write = λ e. absurd (cc e) };
     }
     inquired_so going inquired.TooLong inquires = record {
       events = Sent limit_line ∷ inquiry (Asked outcome.TooLong) ∷ [];
-      brings = λ more is. rw (is.2, is.1) (not_brought too_long);
+      brings = λ more is. rw (is.2, is.1) (no_data too_long);
       done = asked_so going _ inquires outcome.TooLong refl;
       fits = ended_as going _ inquires outcome.TooLong refl;
       faults = record { read = λ e. absurd (cc e); write = λ e. absurd (cc e) };
     }
     inquired_so going inquired.Ended inquires = record {
       events = Sent limit_line ∷ inquiry (Asked outcome.Ended) ∷ [];
-      brings = λ more is. rw is (not_brought ended);
+      brings = λ more is. rw is (no_data ended);
       done = asked_so going _ inquires outcome.Ended refl;
       fits = ended_as going _ inquires outcome.Ended refl;
       faults = record { read = λ e. absurd (cc e); write = λ e. absurd (cc e) };
     }
     inquired_so going inquired.Spent inquires = record {
       events = Sent limit_line ∷ inquiry (Asked outcome.Spent) ∷ [];
-      brings = λ more is. rw is (not_brought spent);
+      brings = λ more is. rw is (no_data spent);
       done = asked_so going _ inquires outcome.Spent refl;
       fits = ended_as going _ inquires outcome.Spent refl;
       faults = record { read = λ e. absurd (cc e); write = λ e. absurd (cc e) };
     }
     inquired_so going inquired.ReadFault inquires = record {
       events = Sent limit_line ∷ inquiry (Asked outcome.ReadFault) ∷ [];
-      brings = λ more is. rw is (not_brought read_fault);
+      brings = λ more is. rw is (no_data read_fault);
       done = asked_so going _ inquires outcome.ReadFault refl;
       fits = ended_as going _ inquires outcome.ReadFault refl;
       faults = record { read = λ e. read_fault_so going _ inquires outcome.ReadFault refl refl; write = λ e. absurd (cc e) };
@@ -139,7 +139,7 @@ module _ (w : World) (desk : w.Desk) (ends : w.Ends) where
         let cut : HasCut (line_of secret_text) mid.output part.0 now.output = part.1.output in
         record {
           events = Sent limit_line ∷ inquiry (NotAsked cut.sent) ∷ [];
-          brings = λ more is. rw is (not_brought write_fault);
+          brings = λ more is. rw is (no_data write_fault);
           done = done_then (done_wrote desk ends limit_line start mid said) (done_not_asked w desk ends (codes "PASSPHRASE") [] MAX_SECRET_LEN mid now part.0 part.1);
           fits = tt;
           faults = record { read = λ e. absurd (cc e); write = λ e. omega (arith, said.faults, cut.rose) };

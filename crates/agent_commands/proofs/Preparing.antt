@@ -5,7 +5,7 @@ use Rattle.assuan_line.specs.Next.{Reader}
 use Rattle.assuan_server.specs.Connections.{Connection}
 use Rattle.cache_policy.specs.declared.mark.MarkStep.{MarkStep}
 use Rattle.cache_policy.specs.Turns.{Turn, Done}
-use Rattle.session_options.specs.Choices.{Choices}
+use Rattle.session_options.specs.OptionValues.{OptionValues}
 use Rattle.session_options.specs.declared.rules.Rules.{Rules}
 use Rattle.agent_commands.specs.Events.{Event, Sent, cache_turn}
 use Rattle.agent_commands.specs.Exchanges.{Exchange, one_turn, IsOneTurn, preset, clear, reload, kill, done, interrupted}
@@ -23,7 +23,7 @@ use Rattle.agent_commands.specs.declared.went.Went.TheVariants.{On, End}
 use Rattle.agent_commands.proofs.Carrying.{responds, carry_answer}
 use Rattle.agent_commands.proofs.Doing.{done_none, done_turned}
 
-module _ {w : World} (exchange : List (Event w.Further) → Choices → Went → Type 0) (after : Choices) (answer : Answer) (response : Response) where
+module _ {w : World} (exchange : List (Event w.Further) → OptionValues → Went → Type 0) (after : OptionValues) (answer : Answer) (response : Response) where
   module _ (start : SessionState w) (going : start.conn.reader.ended ≡ None) where
     -- nothing is done before the response, and the session goes on
     pub prepared_on : answer ≡ record { response = Some response; went = On } → ((text : List ℕ) → IsText response text → exchange (Sent text ∷ []) after On)
@@ -73,7 +73,7 @@ no_fault reload start now = record { read = λ e. absurd (cc e); write = λ e. a
 no_fault kill start now = record { read = λ e. absurd (cc e); write = λ e. absurd (cc e) }
 
 -- a command that is one turn was carried out
-module _ {D E : Type 0} (turned : D → MarkStep → Turn → D → Type 0) (does : E → PromptEvent → E → Type 0) (rules : Rules) (before : Choices) (conn : Connection)
+module _ {D E : Type 0} (turned : D → MarkStep → Turn → D → Type 0) (does : E → PromptEvent → E → Type 0) (rules : Rules) (before : OptionValues) (conn : Connection)
     (going : conn.reader.ended ≡ None) (desk desk_now : D) (ends : E)
     {command : CacheCommand} {step : MarkStep} {text : List ℕ} {went : Went} (one : IsOneTurn rules command step text went)
     (response : Response) (says : (said : List ℕ) → IsText response said → said ≡ text) where

@@ -4,11 +4,11 @@ use Rattle.assuan_server.specs.Inquiries.{Data}
 use Rattle.cache_policy.specs.declared.life.Life.{Life}
 use Rattle.cache_policy.specs.declared.mark.MarkStep.{MarkStep}
 use Rattle.cache_policy.specs.Turns.{Turn}
-use Rattle.session_options.specs.Choices.{Choices}
+use Rattle.session_options.specs.OptionValues.{OptionValues}
 use Rattle.session_options.specs.declared.rules.Rules.{Rules}
 use Rattle.agent_commands.specs.Answers.{ok}
 use Rattle.agent_commands.specs.Events.{Sent, Asked, cache_turn}
-use Rattle.agent_commands.specs.Exchanges.{Exchange, brought, none_brought, ComesOut, done, interrupted, put, limit_line, inquiry}
+use Rattle.agent_commands.specs.Exchanges.{Exchange, with_data, without_data, ComesOut, done, interrupted, put, limit_line, inquiry}
 use Rattle.agent_commands.specs.Outside.{world}
 use Rattle.agent_commands.specs.States.{SessionState, EventsLead, ReaderAfter}
 use Rattle.agent_commands.specs.Steps.{IsText, CarriesOut, AnswersTurn, is_done, is_interrupted, TakesTurn}
@@ -22,7 +22,7 @@ use Rattle.agent_commands.proofs.Doing.{done_then, done_turned}
 use Rattle.agent_commands.proofs.Inquiring.{InquiresInVain}
 use Rattle.agent_commands.proofs.Carrying.{responds}
 
-module _ {D : Type 0} (turned : D → MarkStep → Turn → D → Type 0) (rules : Rules) (before : Choices) (allowed : rules.allow_preset ≡ true) (id : List ℕ) (life : Life)
+module _ {D : Type 0} (turned : D → MarkStep → Turn → D → Type 0) (rules : Rules) (before : OptionValues) (allowed : rules.allow_preset ≡ true) (id : List ℕ) (life : Life)
     (start : SessionState (world turned)) where
   module _ (mid : SessionState (world turned)) (desk : D) (secret : List ℕ)
       (asked : EventsLead {w = world turned} (Sent limit_line ∷ inquiry (Asked (Data secret)) ∷ []) start mid) (fits : ReaderAfter On start.conn.reader mid.conn.reader) where
@@ -32,7 +32,7 @@ module _ {D : Type 0} (turned : D → MarkStep → Turn → D → Type 0) (rules
       events = Sent limit_line ∷ inquiry (Asked (Data secret)) ∷ cache_turn (put id life secret) turn ∷ [];
       exchanges =
           responds (λ more. Exchange rules before (Cache (PresetPassphrase id life None)) (Sent limit_line ∷ inquiry (Asked (Data secret)) ∷ cache_turn (put id life secret) turn ∷ more) before On) response
-          (λ text is. brought allowed (comes text is));
+          (λ text is. with_data allowed (comes text is));
       done = done_then asked (done_turned {w = world turned} (put id life secret) turn mid.conn mid.desk desk mid.ends did);
       fits = fits;
       faults = record { read = λ e. absurd (cc e); write = λ e. absurd (cc e) };
@@ -44,16 +44,16 @@ module _ {D : Type 0} (turned : D → MarkStep → Turn → D → Type 0) (rules
     stored turn answer did (is_interrupted {code} why) = stored_as turn did (Failed code) (λ text is. rw is (interrupted why))
 
     -- what the client gave was stored
-    pub brought_so : {answer : Answer} → TakesTurn turned (put id life secret) (record { response = Some Ok; went = On }) mid.desk answer desk
+    pub with_data_so : {answer : Answer} → TakesTurn turned (put id life secret) (record { response = Some Ok; went = On }) mid.desk answer desk
         → CarriesOut {w = world turned} (Exchange rules before (Cache (PresetPassphrase id life None))) start answer before (record mid { desk = desk })
-    brought_so taken = stored taken.turn _ taken.turned_so taken.answers
+    with_data_so taken = stored taken.turn _ taken.turned_so taken.answers
 
   -- or it gave none
   pub vain_so : (answer : Answer) (now : SessionState (world turned)) → InquiresInVain {w = world turned} start answer now
       → CarriesOut {w = world turned} (Exchange rules before (Cache (PresetPassphrase id life None))) start answer before now
   vain_so answer now vain = record {
     events = vain.events;
-    exchanges = λ more is. none_brought allowed (vain.brings more is);
+    exchanges = λ more is. without_data allowed (vain.brings more is);
     done = vain.done;
     fits = vain.fits;
     faults = vain.faults;

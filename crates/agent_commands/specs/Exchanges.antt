@@ -28,7 +28,7 @@ use Rattle.cache_policy.specs.declared.mode.Mode.{Mode}
 use Rattle.cache_policy.specs.declared.mode.Mode.TheVariants.{Any, User}
 use Rattle.cache_policy.specs.declared.secret.TheConstants.{MAX_SECRET_LEN}
 use Rattle.cache_policy.specs.Turns.{Turn, Given, Empty, Open, Done, Stopping, Refused}
-use Rattle.session_options.specs.Choices.{Choices, at_start, judged}
+use Rattle.session_options.specs.OptionValues.{OptionValues, at_start, applied}
 use Rattle.session_options.specs.declared.options.OptionAnswer.{OptionAnswer}
 use Rattle.session_options.specs.declared.options.OptionAnswer.TheVariants.{Set, Unknown, Parameter, NotSupported}
 use Rattle.session_options.specs.declared.options.PinMode.{PinMode}
@@ -81,7 +81,7 @@ limit_line = line_of (status_text (codes "INQUIRE_MAXLEN") (codes "255"))
 abbrev pub inquiry : {F : Type 0} → Inquired → Event F
 inquiry inquired = Inquiry (codes "PASSPHRASE") [] MAX_SECRET_LEN inquired
 
--- what is done after an inquiry that brought no data, and how the session goes on
+-- what is done after an inquiry without data, and how the session goes on
 pub data Fails {F : Type 0} : Inquired → List (Event F) → Went → Type 0 where
   cancelled : Fails (Asked outcome.Cancelled) (Sent (failed code.Cancelled) ∷ []) On
   too_much : Fails (Asked outcome.TooMuch) (Sent (failed code.TooMuch) ∷ []) On
@@ -94,7 +94,7 @@ pub data Fails {F : Type 0} : Inquired → List (Event F) → Went → Type 0 wh
 
 -- the client is asked for a passphrase, and gives none
 pub data BringsNone {F : Type 0} : List (Event F) → Went → Type 0 where
-  not_brought : {inquired : Inquired} {events : List (Event F)} {went : Went} → Fails inquired events went
+  no_data : {inquired : Inquired} {events : List (Event F)} {went : Went} → Fails inquired events went
       → BringsNone (Sent limit_line ∷ inquiry inquired ∷ events) went
   -- the write of the limit failed
   limit_cut : {sent : List ℕ} (unsent : List ℕ) → limit_line ≡ sent ++ unsent → BringsNone (Cut sent ∷ []) (End ends.WriteFault)
@@ -140,9 +140,9 @@ pub data Keeps {F : Type 0} (plain : Bool) (secret : List ℕ) : Option (List �
 pub data WithoutPrompt {F : Type 0} (plain : Bool) (id : Option (List ℕ)) : PinMode → List (Event F) → Went → Type 0 where
   cancelled : WithoutPrompt plain id mode.Cancel (Sent (failed code.Cancelled) ∷ []) On
   no_pinentry : WithoutPrompt plain id mode.Error (Sent (failed code.NoPinentry) ∷ []) On
-  brought : {secret : List ℕ} {events : List (Event F)} {went : Went} → Keeps plain secret id events went
+  with_data : {secret : List ℕ} {events : List (Event F)} {went : Went} → Keeps plain secret id events went
       → WithoutPrompt plain id mode.Loopback (Sent limit_line ∷ inquiry (Asked (Data secret)) ∷ events) went
-  none_brought : {events : List (Event F)} {went : Went} → BringsNone events went → WithoutPrompt plain id mode.Loopback events went
+  without_data : {events : List (Event F)} {went : Went} → BringsNone events went → WithoutPrompt plain id mode.Loopback events went
 
 -- the client didn't take note of a prompt
 pub record IsUnheard {F : Type 0} (heard : Heard) (events : List (Event F)) (went : Went) : Type 0 where
@@ -193,17 +193,17 @@ refusal_of mode.Cancel = Some code.Cancelled
 refusal_of mode.Error = Some code.NoPinentry
 refusal_of mode.Loopback = Some code.NoPinentry
 
--- A request: what the client had chosen before it, what the session does for it, what is chosen after it, and how the session
+-- A request: the option values before it, what the session does for it, the values after it, and how the session
 -- goes on.
-pub data Exchange (rules : Rules) (before : Choices) : Request → List (Event PromptEvent) → Choices → Went → Type 0 where
+pub data Exchange (rules : Rules) (before : OptionValues) : Request → List (Event PromptEvent) → OptionValues → Went → Type 0 where
   refused : {code : Code} → Exchange rules before (Bad code) (Sent (failed code) ∷ []) before On
   nop : Exchange rules before (Cache Nop) (Sent ok ∷ []) before On
   -- what the rules said stays
   reset : Exchange rules before (Cache Reset) (Sent ok ∷ []) (at_start before.rules_count before.allow_loopback) On
   bye : Exchange rules before (Cache Bye) (Sent closing ∷ []) before (End ends.Bye)
   help_given : Exchange rules before (Cache Help) (Sent help ∷ []) before On
-  option_judged : {text : _}
-      → Exchange rules before (Cache (SetOption text)) (Sent (option_text (judged before text.items).answer) ∷ []) (judged before text.items).after On
+  option_applied : {text : _}
+      → Exchange rules before (Cache (SetOption text)) (Sent (option_text (applied before text.items).answer) ∷ []) (applied before text.items).after On
   info : {what : Info} {text : List ℕ} → IsInfo rules what text → Exchange rules before (Cache (GetInfo what)) (Sent text ∷ []) before On
   -- a passphrase by the cache alone
   quiet : {plain check no_ask quality : Bool} {repeat : ℕ} {id : Option (List ℕ)} {texts : Option Texts} {events : List (Event PromptEvent)} {went : Went}
@@ -219,10 +219,10 @@ pub data Exchange (rules : Rules) (before : Choices) : Request → List (Event P
       → Exchange rules before (Cache (GetPassphrase plain check false repeat quality id (Some texts))) events before went
   not_allowed : {id : List ℕ} {life : Life} {secret : Option (List ℕ)} → rules.allow_preset ≡ false
       → Exchange rules before (Cache (PresetPassphrase id life secret)) (Sent (failed code.NotSupported) ∷ []) before On
-  brought : {id secret text : List ℕ} {life : Life} {turn : Turn} {went : Went} → rules.allow_preset ≡ true → ComesOut ok On turn text went
+  with_data : {id secret text : List ℕ} {life : Life} {turn : Turn} {went : Went} → rules.allow_preset ≡ true → ComesOut ok On turn text went
       → Exchange rules before (Cache (PresetPassphrase id life None))
       (Sent limit_line ∷ inquiry (Asked (Data secret)) ∷ cache_turn (put id life secret) turn ∷ Sent text ∷ []) before went
-  none_brought : {id : List ℕ} {life : Life} {events : List (Event PromptEvent)} {went : Went} → rules.allow_preset ≡ true → BringsNone events went
+  without_data : {id : List ℕ} {life : Life} {events : List (Event PromptEvent)} {went : Went} → rules.allow_preset ≡ true → BringsNone events went
       → Exchange rules before (Cache (PresetPassphrase id life None)) events before went
   -- consent by a prompt, where the client wants one
   confirmation : {description : ArrayVec ℕ} {events : List (Event PromptEvent)} {went : Went} (spec : PromptSpec)
@@ -242,5 +242,5 @@ quiet_of (Cache (GetPassphrase plain check no_ask repeat quality id texts)) =
 quiet_of _ = None
 
 -- the exchange of a line
-abbrev pub LineExchange : Rules → Choices → List ℕ → List (Event PromptEvent) → Choices → Went → Type 0
+abbrev pub LineExchange : Rules → OptionValues → List ℕ → List (Event PromptEvent) → OptionValues → Went → Type 0
 LineExchange rules before line events after went = Exchange rules before (request_of line) events after went

@@ -12,14 +12,14 @@ use Rattle.assuan_server.specs.Inquiries.{Data}
 use Rattle.assuan_server.specs.Inquiries as outcome
 use Rattle.cache_policy.specs.declared.mark.MarkStep.TheVariants.{Close}
 use Rattle.cache_policy.specs.Turns.{Turn}
-use Rattle.session_options.specs.Choices.{Choices, words_of}
+use Rattle.session_options.specs.OptionValues.{OptionValues, words_of}
 use Rattle.session_options.specs.declared.rules.Rules.{Rules}
 use Rattle.agent_commands.specs.Events.{Event, Inquired, Asked, NotAsked, Inquiry, Further, cache_turn}
 use Rattle.agent_commands.specs.declared.client.TheConstants.{MAX_NOTE_LEN}
 use Rattle.agent_commands.specs.declared.went.Went.{Went}
 
 -- What a prompt says: this description, and this before its field. The title and the buttons are the pinentry's own.
-pub record IsSpec (rules : Rules) (choices : Choices) (description prompt : ArrayVec ℕ) (quality : Bool) (spec : PromptSpec) : Type 0 where
+pub record IsSpec (rules : Rules) (choices : OptionValues) (description prompt : ArrayVec ℕ) (quality : Bool) (spec : PromptSpec) : Type 0 where
   pub title : spec.title.items ≡ []
   pub description_is : spec.description ≡ description
   pub prompt_is : spec.prompt ≡ prompt
@@ -30,7 +30,7 @@ pub record IsSpec (rules : Rules) (choices : Choices) (description prompt : Arra
   pub timeout : spec.timeout ≡ rules.pinentry_timeout
 
 -- how a passphrase is asked for, by what the line says: its first error, whether it is checked, and how often it is repeated
-abbrev pub plan_of : Rules → Choices → ArrayVec ℕ → Bool → ℕ → AskPlan
+abbrev pub plan_of : Rules → OptionValues → ArrayVec ℕ → Bool → ℕ → AskPlan
 plan_of rules choices error check repeat = record {
   notify = choices.notify;
   first_error = error;

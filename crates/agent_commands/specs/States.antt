@@ -10,7 +10,7 @@ use Rattle.assuan_line.specs.declared.reader.Took.TheVariants as took
 use Rattle.assuan_server.specs.Connections.{Connection}
 use Rattle.cache_policy.specs.declared.mark.MarkStep.{MarkStep}
 use Rattle.cache_policy.specs.Turns.{Turn}
-use Rattle.session_options.specs.Choices.{Choices}
+use Rattle.session_options.specs.OptionValues.{OptionValues}
 use Rattle.agent_commands.specs.Events.{Event}
 use Rattle.agent_commands.specs.Outside.{World, world, prompt_world, Outside, Does}
 use Rattle.agent_commands.specs.Reading.{budget}
@@ -100,7 +100,7 @@ pub record FaultsRise {w : World} (went : Went) (start now : SessionState w) : T
   pub write : went ≡ End WriteFault → Rose start.conn.output.faults now.conn.output.faults
 
 -- a request was answered, whole or in part
-pub record AnswersRequest {w : World} (exchange : Choices → List (Event w.Further) → Choices → Went → Type 0) (before : Choices) (start : SessionState w) (went : Went) (after : Choices) (now : SessionState w) : Type 0 where
+pub record AnswersRequest {w : World} (exchange : OptionValues → List (Event w.Further) → OptionValues → Went → Type 0) (before : OptionValues) (start : SessionState w) (went : Went) (after : OptionValues) (now : SessionState w) : Type 0 where
   pub events : List (Event w.Further)
   pub exchanges : WholeOrCut exchange before events after went
   pub done : EventsLead events start now

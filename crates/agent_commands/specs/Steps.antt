@@ -23,7 +23,7 @@ use Rattle.cache_policy.specs.declared.mark.MarkStep.TheVariants.{Put, Clear, Fl
 use Rattle.cache_policy.specs.declared.secret.TheConstants.{MAX_SECRET_LEN}
 use Rattle.cache_policy.specs.declared.mode.Mode.TheVariants.{User}
 use Rattle.cache_policy.specs.Turns.{Turn, Given as TurnGiven, Empty, Done}
-use Rattle.session_options.specs.Choices.{Choices}
+use Rattle.session_options.specs.OptionValues.{OptionValues}
 use Rattle.agent_commands.specs.Answers.{ok, closing, help, failed, failed_at_pinentry, IsData, IsPassphrase}
 use Rattle.agent_commands.specs.Events.{Event, Sent}
 use Rattle.agent_commands.specs.Exchanges.{Interrupts, ask, limit_line}
@@ -67,7 +67,7 @@ pub record Carries {w : World} (part : List (Event w.Further) → Went → Type 
   pub faults : FaultsRise answer.went start now
 
 -- and for all of it
-abbrev pub CarriesOut : {w : World} → (List (Event w.Further) → Choices → Went → Type 0) → SessionState w → Answer → Choices → SessionState w → Type 0
+abbrev pub CarriesOut : {w : World} → (List (Event w.Further) → OptionValues → Went → Type 0) → SessionState w → Answer → OptionValues → SessionState w → Type 0
 CarriesOut exchange start answer after now = Carries (λ events went. exchange events after went) start answer now
 
 -- the response of an answer was written, whole or in part, where there is one
@@ -97,7 +97,7 @@ pub record TakesTurn {D : Type 0} (turned : D → MarkStep → Turn → D → Ty
   pub turned_so : turned before step turn after
   pub answers : AnswersTurn done turn answer
 
--- how an inquiry for a passphrase is answered, where it brought none
+-- how an inquiry for a passphrase is answered, where there is none
 abbrev pub answer_of : InquiredSecret → Result (List ℕ) Answer
 answer_of (secret_inquired.Secret secret) = Whole secret
 answer_of secret_inquired.Cancelled = Part (record { response = Some (Failed code.Cancelled); went = On })

@@ -3,7 +3,7 @@ ghost use Rattle.agent_ask.specs.Prompters.{IsShut};
 ghost use Rattle.assuan_server.specs.Connections.{IsOpen};
 ghost use Rattle.cache_policy.specs.declared.mark.MarkStep.TheVariants.{Clear};
 ghost use Rattle.cache_policy.specs.Turns.{mark_step, closes};
-ghost use Rattle.session_options.specs.Choices.{Choices};
+ghost use Rattle.session_options.specs.OptionValues.{OptionValues};
 ghost use Rattle.session_options.specs.declared.rules.Rules.{Rules as TheRules};
 ghost use Rattle.agent_commands.specs.Answers.{IsInfo};
 ghost use Rattle.agent_commands.specs.Exchanges.{Exchange, LineExchange, quiet_of, option_text, put};
@@ -57,7 +57,7 @@ pub fn run_quiet<L: Link, D: Desk>(
     desk: &mut D,
 ) -> Went
     requires { IsOpen conn.old }
-    ensures answers { (rules : TheRules) (options : Choices) (line : List ℕ) → quiet_of (request_of line) ≡ Some request.now
+    ensures answers { (rules : TheRules) (options : OptionValues) (line : List ℕ) → quiet_of (request_of line) ≡ Some request.now
         → AnswersRequest {w = world D.turned} (λ before. LineExchange rules before line) options (session_state D.turned conn.old desk.old)
         result options (session_state D.turned conn.new desk.new) }
     ensures out { (D.at desk.new).out ≡ (D.at desk.old).out }
@@ -184,7 +184,7 @@ fn preset_passphrase<L: Link, D: Desk>(
     desk: &mut D,
 ) -> Answer
     requires { IsOpen conn.old }
-    ensures carries { (before : Choices) → CarriesOut {w = world D.turned} (Exchange rules.now before (request.Cache (command.PresetPassphrase id.now life secret.now)))
+    ensures carries { (before : OptionValues) → CarriesOut {w = world D.turned} (Exchange rules.now before (request.Cache (command.PresetPassphrase id.now life secret.now)))
         (session_state D.turned conn.old desk.old) result before (session_state D.turned conn.new desk.new) }
     ensures out { (D.at desk.new).out ≡ (D.at desk.old).out }
 {
@@ -205,7 +205,7 @@ fn preset_inquired<L: Link, D: Desk>(
     desk: &mut D,
 ) -> Answer
     requires { IsOpen conn.old }
-    ensures carries { (rules : TheRules) (before : Choices) → rules.allow_preset ≡ true
+    ensures carries { (rules : TheRules) (before : OptionValues) → rules.allow_preset ≡ true
         → CarriesOut {w = world D.turned} (Exchange rules before (request.Cache (command.PresetPassphrase id.now life None)))
         (session_state D.turned conn.old desk.old) result before (session_state D.turned conn.new desk.new) }
     ensures out { (D.at desk.new).out ≡ (D.at desk.old).out }

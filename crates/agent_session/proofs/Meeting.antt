@@ -9,7 +9,7 @@ use Rattle.assuan_line.specs.Next.{Reader}
 use Rattle.assuan_server.specs.Connections.{Connection}
 use Rattle.assuan_server.specs.Written.{greeting}
 use Rattle.assuan_text.specs.LineEnds.{line_of}
-use Rattle.session_options.specs.Choices.{Choices}
+use Rattle.session_options.specs.OptionValues.{OptionValues}
 use Rattle.agent_commands.specs.Events.{Event, Sent, Cut}
 use Rattle.agent_commands.specs.Outside.{World, Outside, Does, received, sent, cut, asked, not_asked, turned, further}
 use Rattle.agent_commands.specs.Reading.{budget}
@@ -70,7 +70,7 @@ taken_known reader None (Some left) known total = known
 taken_known reader (Some bytes) None known total = known
 taken_known reader (Some bytes) (Some left) known total = omega (arith, total)
 
-module _ {w : World} (exchange : LineRelation w) (before : Choices) (start : SessionState w) (new : start.conn.reader ≡ fresh) where
+module _ {w : World} (exchange : LineRelation w) (before : OptionValues) (start : SessionState w) (new : start.conn.reader ≡ fresh) where
   -- what was done, from the first byte on
   module _ (last : SessionState w) (events : List (Event w.Further)) (done : EventsLead events start last) where
     abbrev from_start : Option (List ℕ) → Type 0

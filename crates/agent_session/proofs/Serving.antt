@@ -7,7 +7,7 @@ use Rattle.assuan_line.specs.declared.reader.Took.TheVariants as took
 use Rattle.assuan_server.specs.Connections.{Connection}
 use Rattle.assuan_server.specs.Requests.{NextRequest}
 use Rattle.assuan_server.specs.declared.errors.Code.TheVariants.{LineTooLong}
-use Rattle.session_options.specs.Choices.{Choices}
+use Rattle.session_options.specs.OptionValues.{OptionValues}
 use Rattle.agent_commands.specs.Answers.{failed}
 use Rattle.agent_commands.specs.Events.{Event, Received, Sent, Cut}
 use Rattle.agent_commands.specs.Outside.{World}
@@ -44,9 +44,9 @@ leaves ends.WriteFault before after left is = leaves_part after left
 leaves_all : (reader : Reader) (took : Took) → reader.ended ≡ Some took → (left : List ℕ) → unread reader left ≡ left
 leaves_all reader took is left = rw is refl
 
-module _ {w : World} (exchange : LineRelation w) (before : Choices) (start : SessionState w) where
+module _ {w : World} (exchange : LineRelation w) (before : OptionValues) (start : SessionState w) where
   -- How a session stands between two requests: whatever it does from there on completes what it did so far.
-  pub record IsServing (now : SessionState w) (choices : Choices) : Type 0 where
+  pub record IsServing (now : SessionState w) (choices : OptionValues) : Type 0 where
     pub events : List (Event w.Further)
     pub done : EventsLead events start now
     pub continues : (more : List (Event w.Further)) (end : SessionEnd) → Talk exchange choices more end → Talk exchange before (events ++ more) end
@@ -54,7 +54,7 @@ module _ {w : World} (exchange : LineRelation w) (before : Choices) (start : Ses
   pub serves_none : IsServing start before
   serves_none = record { events = []; done = done_none start; continues = λ more end talk. talk }
 
-  module _ (now : SessionState w) (choices : Choices) (serving : IsServing now choices) where
+  module _ (now : SessionState w) (choices : OptionValues) (serving : IsServing now choices) where
     -- the session's end, after these events more
     finishes : (last : SessionState w) (more : List (Event w.Further)) (end : SessionEnd) → EventsLead more now last
         → Talk exchange choices more end → ((left : List ℕ) → Leaves end (unread last.conn.reader left) left)
@@ -81,7 +81,7 @@ module _ {w : World} (exchange : LineRelation w) (before : Choices) (start : Ses
       received_as : (took : Took) → answer ≡ took → EventsLead {w = w} (Received took ∷ []) now read
       received_as took is = subst (λ t. EventsLead {w = w} (Received t ∷ []) now read) is received
 
-      module _ (line : List ℕ) (is : answer ≡ took.Line line) (after : Choices) (last : SessionState w) where
+      module _ (line : List ℕ) (is : answer ≡ took.Line line) (after : OptionValues) (last : SessionState w) where
         pub serves_on : AnswersRequest {w = w} (λ kept. exchange kept line) choices read On after last → IsServing last after
         serves_on answered = record {
           events = serving.events ++ (Received (took.Line line) ∷ answered.events);

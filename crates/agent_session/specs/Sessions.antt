@@ -7,7 +7,7 @@ use Rattle.agent_ports.specs.Leads.{Leads}
 use Rattle.agent_ports.specs.Sides.{Side, WhereKnown}
 use Rattle.cache_policy.specs.declared.mark.MarkStep.{MarkStep}
 use Rattle.cache_policy.specs.Turns.{Turn}
-use Rattle.session_options.specs.Choices.{Choices, at_start}
+use Rattle.session_options.specs.OptionValues.{OptionValues, at_start}
 use Rattle.session_options.specs.declared.rules.Rules.{Rules}
 use Rattle.agent_commands.specs.Events.{Event, Cut}
 use Rattle.agent_commands.specs.Exchanges.{LineExchange}
@@ -49,14 +49,14 @@ Leaves TooLong rest left = rest ≡ left
 Leaves Spent rest left = rest ≡ left
 Leaves ReadFault rest left = rest ≡ left
 
--- what is done for a line by what was chosen before it, what is chosen after it, and how the session goes on
+-- what is done for a line by the option values before it, the values after it, and how the session goes on
 abbrev pub LineRelation : World → Type 1
-LineRelation w = Choices → List ℕ → List (Event w.Further) → Choices → Went → Type 0
+LineRelation w = OptionValues → List ℕ → List (Event w.Further) → OptionValues → Went → Type 0
 
 -- What a session did to what it has to do with. Its events are a session's, and lead its ends from before to after: the bytes that
 -- were written are theirs, their turns are the desk's, and their requests and inquiries are those of the bytes that were read, of
 -- which each took no more than it may, and all together no more than the budget allows.
-pub record ServesSession {w : World} (exchange : LineRelation w) (start : Choices) (before : Surroundings w) (end : SessionEnd) (after : Surroundings w) : Type 0 where
+pub record ServesSession {w : World} (exchange : LineRelation w) (start : OptionValues) (before : Surroundings w) (end : SessionEnd) (after : Surroundings w) : Type 0 where
   pub events : List (Event w.Further)
   pub session : Session exchange start events end
   -- the bytes from the session's last place on
@@ -73,7 +73,7 @@ pub record ServesSession {w : World} (exchange : LineRelation w) (start : Choice
   pub input_faults : before.input.faults ≤ after.input.faults
   pub output_faults : before.output.faults ≤ after.output.faults
 
--- a session of the agent's: its lines are requests, and nothing is chosen before the first
+-- a session of the agent's: its lines are requests, and no option is set before the first
 abbrev pub ServesRules : {D P : Type 0} (turned : D → MarkStep → Turn → D → Type 0) (prompted : P → Call → P → Type 0) → Rules → Surroundings (prompt_world turned prompted)
     → SessionEnd → Surroundings (prompt_world turned prompted) → Type 0
 ServesRules turned prompted rules before end after =

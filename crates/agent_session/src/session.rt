@@ -1,7 +1,7 @@
 ghost use Rattle.std.specs.Prelude.{◌≡◌, [], None};
 ghost use Rattle.agent_ask.specs.Prompters.{IsShut};
 ghost use Rattle.assuan_server.specs.Connections.{IsOpen};
-ghost use Rattle.session_options.specs.Choices.{at_start};
+ghost use Rattle.session_options.specs.OptionValues.{at_start};
 ghost use Rattle.agent_commands.specs.Exchanges.{LineExchange};
 ghost use Rattle.agent_commands.specs.Outside.{prompt_world};
 ghost use Rattle.agent_commands.specs.Reading.{budget};
@@ -91,10 +91,14 @@ fn serve_requests<L: Link, D: Desk, P: Prompter>(
 {
     loop {
         match conn.next_request() {
-            Took::Line(line) => match answer(&line, rules, options, conn, desk, prompter) {
-                Went::On => {}
-                Went::End(end) => return end,
-            },
+            Took::Line(mut line) => {
+                let went = answer(&line, rules, options, conn, desk, prompter);
+                line.clear();
+                match went {
+                    Went::On => {}
+                    Went::End(end) => return end,
+                }
+            }
             Took::TooLong => {
                 return match whole(conn.err(Code::LineTooLong, Origin::Agent)) {
                     Ok(()) => SessionEnd::TooLong,

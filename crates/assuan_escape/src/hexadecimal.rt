@@ -1,5 +1,6 @@
 ghost use Rattle.std.specs.Prelude.{◌≡◌, ◌≤◌, ◌*◌, false, length};
 ghost use Rattle.assuan_text.specs.LineEnds.{has_lf};
+ghost use Rattle.assuan_text.specs.declared.TheConstants.{MAX_LINE_LEN};
 ghost use Rattle.assuan_escape.specs.Escapes.{hex_text};
 
 use assuan_text::Text;
@@ -8,7 +9,7 @@ use percent_encoding::percent_encode_byte;
 /// Each byte as two uppercase hexadecimal digits.
 #[tactic(auto, unfolding(percent_encoding::specs::Percent::percent_encode_byte))]
 pub fn upper_hex(bytes: &[u8]) -> Text
-    requires { length bytes.now ≤ 500 }
+    requires { 2 * length bytes.now ≤ MAX_LINE_LEN }
     ensures digits { result.items ≡ hex_text bytes.now }
     ensures length { length result.items ≡ 2 * length bytes.now }
     ensures one_line { has_lf result.items ≡ false }

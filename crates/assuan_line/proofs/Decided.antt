@@ -11,12 +11,12 @@ use Rattle.assuan_line.proofs.Places.{place_behind, place_in_front, place_within
 use Rattle.assuan_text.specs.LineEnds.{is_lf, has_lf}
 use Rattle.assuan_line.specs.Lines.{without_cr, first_line, after_line}
 use Rattle.assuan_line.specs.Next.{next_of, OnLine}
-use Rattle.assuan_line.specs.Stops.{judged}
+use Rattle.assuan_line.specs.Stops.{line_or_too_long}
 use Rattle.assuan_line.specs.declared.reader.Took.{Took}
 use Rattle.assuan_line.specs.declared.reader.Took.TheVariants.{Line, TooLong, End, Spent, ReadFault}
 
 next_by : Bool → Bool → List ℕ → Took
-next_by among many line = cond among (judged line) (cond many TooLong End)
+next_by among many line = cond among (line_or_too_long line) (cond many TooLong End)
 
 next_is : (bytes : List ℕ) → next_of bytes ≡ next_by (has_lf (take 1002 bytes)) (leb 1002 (length bytes)) (first_line bytes)
 unfolding next_of next_by
@@ -51,13 +51,13 @@ without_cr_long line = either (slice_index line (length line - 1) == 13) where
   either false = omega arith
 
 -- by the place of the first line feed
-pub next_of_some : (bytes : List ℕ) (end : ℕ) → position is_lf bytes ≡ Some end → next_of bytes ≡ judged (without_cr (take end bytes))
+pub next_of_some : (bytes : List ℕ) (end : ℕ) → position is_lf bytes ≡ Some end → next_of bytes ≡ line_or_too_long (without_cr (take end bytes))
 unfolding next_by
 next_of_some bytes end is =
     let there = some_there is_lf bytes end is in
     let line : first_line bytes ≡ without_cr (take end bytes) = ap (λ (n : ℕ). without_cr (take n bytes)) there.1 in
-    next_is bytes ∙ by_place (has_lf (take 1002 bytes)) refl ∙ ap judged line where
-      by_place : (b : Bool) → has_lf (take 1002 bytes) ≡ b → next_by b (leb 1002 (length bytes)) (first_line bytes) ≡ judged (first_line bytes)
+    next_is bytes ∙ by_place (has_lf (take 1002 bytes)) refl ∙ ap line_or_too_long line where
+      by_place : (b : Bool) → has_lf (take 1002 bytes) ≡ b → next_by b (leb 1002 (length bytes)) (first_line bytes) ≡ line_or_too_long (first_line bytes)
       by_place true e = refl
       by_place false e =
           let there = some_there is_lf bytes end is in
@@ -111,7 +111,7 @@ stays bytes more some = elim (decided bytes some).tells [ inl among ↦ with_lf 
   of_line : has_lf (take 1002 bytes) ≡ true → has_lf (take 1002 (bytes ++ more)) ≡ true → next_of (bytes ++ more) ≡ next_of bytes
   of_line among also =
       let line : first_line (bytes ++ more) ≡ first_line bytes = first_line_stays bytes more (among_all bytes among) in
-      next_is (bytes ++ more) ∙ ap (λ (b : Bool). next_by b (leb 1002 (length (bytes ++ more))) (first_line (bytes ++ more))) also ∙ ap judged line
+      next_is (bytes ++ more) ∙ ap (λ (b : Bool). next_by b (leb 1002 (length (bytes ++ more))) (first_line (bytes ++ more))) also ∙ ap line_or_too_long line
       ∙ sym (next_is bytes ∙ ap (λ (b : Bool). next_by b (leb 1002 (length bytes)) (first_line bytes)) among)
 
   with_lf : has_lf (take 1002 bytes) ≡ true → next_of (bytes ++ more) ≡ next_of bytes
@@ -149,7 +149,7 @@ few_undecided bytes is = by_line (has_lf (take 1002 bytes)) (leb 1002 (length by
 
   by_line : (b c : Bool) → has_lf (take 1002 bytes) ≡ b → leb 1002 (length bytes) ≡ c → length bytes < 1002
   by_line true c e f =
-      let line : judged (first_line bytes) ≡ End = sym (next_is bytes ∙ ap (λ (b : Bool). next_by b (leb 1002 (length bytes)) (first_line bytes)) e) ∙ is in
+      let line : line_or_too_long (first_line bytes) ≡ End = sym (next_is bytes ∙ ap (λ (b : Bool). next_by b (leb 1002 (length bytes)) (first_line bytes)) e) ∙ is in
       absurd (no_end (leb (length (first_line bytes)) 1000) line)
   by_line false true e f = absurd (cc (next_is bytes ∙ ap (λ (b : Bool). next_by b (leb 1002 (length bytes)) (first_line bytes)) e ∙ ap (λ (c : Bool). cond c TooLong End) f, is))
   by_line false false e f = elim (leb_tells 1002 (length bytes)) [ inl t ↦ absurd (false≢true (sym f ∙ t.0)) | inr few ↦ few.1 ]

@@ -5,6 +5,6 @@ pub mod Places
 pub mod OnlyReading
 mod Reading
 pub mod ReadingOn
-mod Sending
+pub mod Sending
 mod SkippedLines
 mod Slices

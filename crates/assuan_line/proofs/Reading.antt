@@ -4,8 +4,8 @@ use Rattle.agent_ports.specs.Counts.{Rose}
 use Rattle.agent_ports.specs.Sides.{Side, followed_by, WhereKnown}
 use Rattle.agent_ports.proofs.Known.{known_by}
 use Rattle.assuan_line.specs.Lines.{after_line}
-use Rattle.assuan_line.specs.Next.{Reader, next_of, Tells, TakesWhatItNeeds, WereNeeded, ended_by, OnLine, held}
-use Rattle.assuan_line.specs.Stops.{unended, HasReadOn, Decides, HasTaken}
+use Rattle.assuan_line.specs.Next.{Reader, next_of, IsNext, TakesWhatItNeeds, WereNeeded, ended_by, OnLine, held}
+use Rattle.assuan_line.specs.Stops.{unended, ReadAhead, Decides, TakeLine}
 use Rattle.assuan_line.specs.declared.buffer.TheConstants.{MAX_AHEAD}
 use Rattle.assuan_line.specs.declared.reader.Took.{Took}
 use Rattle.assuan_line.specs.declared.reader.Took.TheVariants.{Line, TooLong, End, Spent, ReadFault}
@@ -20,7 +20,7 @@ pub record IsRead (before after : Reader) (was is : Side) (read : List ℕ) : Ty
   pub faults : was.faults ≤ is.faults
 
 -- one read, where nothing was decided
-pub one_read : (before after : Reader) (was is : Side) (read : List ℕ) → next_of before.ahead ≡ End → IsRead before after was is read → HasReadOn before was after is
+pub one_read : (before after : Reader) (was is : Side) (read : List ℕ) → next_of before.ahead ≡ End → IsRead before after was is read → ReadAhead before was after is
 one_read before after was is read undecided one = record {
   taken = read;
   ahead = one.ahead;
@@ -36,7 +36,7 @@ one_read before after was is read undecided one = record {
   faults = one.faults;
 }
 
-pub no_read : (before : Reader) (was : Side) → HasReadOn before was before was
+pub no_read : (before : Reader) (was : Side) → ReadAhead before was before was
 no_read before was = record {
   taken = [];
   ahead = sym (append-nil before.ahead);
@@ -54,7 +54,7 @@ followed_then first second None = refl
 followed_then first second (Some rest) = ap (λ (x : List ℕ). Some x) (sym (append_assoc first second rest))
 
 -- one read after another
-pub read_then : (before middle after : Reader) (was mid is : Side) → HasReadOn before was middle mid → HasReadOn middle mid after is → HasReadOn before was after is
+pub read_then : (before middle after : Reader) (was mid is : Side) → ReadAhead before was middle mid → ReadAhead middle mid after is → ReadAhead before was after is
 read_then before middle after was mid is first second = record {
   taken = first.taken ++ second.taken;
   ahead = second.ahead ∙ ap (λ (x : List ℕ). x ++ second.taken) first.ahead ∙ append_assoc before.ahead first.taken second.taken;
@@ -77,7 +77,7 @@ read_then before middle after was mid is first second = record {
   }
 
 -- nothing was decided before a read at which nothing was decided
-pub undecided_before : (before after : Reader) (was is : Side) → HasReadOn before was after is → next_of after.ahead ≡ End → next_of before.ahead ≢ End → ⊥
+pub undecided_before : (before after : Reader) (was is : Side) → ReadAhead before was after is → next_of after.ahead ≡ End → next_of before.ahead ≢ End → ⊥
 undecided_before before after was is read undecided decided =
     decided (sym (stays before.ahead read.taken decided) ∙ ap next_of (sym read.ahead) ∙ undecided)
 
@@ -99,11 +99,11 @@ module _ (before after : Reader) (was is : Side) where
   decides_ahead ReadFault other by line_left left = absurd (no_fault before.ahead (sym by))
 
 -- What an answer says, from the bytes that were taken for it.
-module _ (before after : Reader) (was is : Side) (answer : Took) (given : HasTaken (unended before) was answer (unended after) is) where
+module _ (before after : Reader) (was is : Side) (answer : Took) (given : TakeLine (unended before) was answer (unended after) is) where
   all : (left : List ℕ) → before.ahead ++ (given.read.taken ++ left) ≡ given.middle.ahead ++ left
   all left = sym (append_assoc before.ahead given.read.taken left) ∙ ap (λ (x : List ℕ). x ++ left) (sym given.read.ahead)
 
-  tells : (took : Took) (left : List ℕ) → Decides given.middle was took (unended after) is → is.bytes ≡ Some left → Tells before (given.read.taken ++ left) took after left
+  tells : (took : Took) (left : List ℕ) → Decides given.middle was took (unended after) is → is.bytes ≡ Some left → IsNext before (given.read.taken ++ left) took after left
   tells (Line line) left decides some = (
     ap next_of (all left) ∙ stays given.middle.ahead left (λ end. cc (decides.0, end)) ∙ decides.0,
     ap (λ (x : List ℕ). x ++ left) decides.1 ∙ sym (ap after_line (all left) ∙ after_stays given.middle.ahead left line decides.0),
@@ -117,7 +117,7 @@ module _ (before after : Reader) (was is : Side) (answer : Took) (given : HasTak
   tells ReadFault left decides some =
       (record { taken = given.read.taken; split = refl; none = ap next_of (sym given.read.ahead) ∙ decides.0 }, decides.2)
 
-  pub known : WhereKnown was.bytes is.bytes (λ rest left. Tells before rest answer after left)
+  pub known : WhereKnown was.bytes is.bytes (λ rest left. IsNext before rest answer after left)
   known = known_by given.read.taken was.bytes is.bytes _ given.read.bytes (λ left some. tells answer left given.decides some)
 
   pub known_budget : WhereKnown was.bytes is.bytes (λ rest left. length rest + after.left ≡ length left + before.left)

@@ -3,7 +3,7 @@ use Rattle.std.proofs.Common.{◌≡◌, ◌≤◌, ◌<◌, ◌+◌, ◌⊎◌,
 use Rattle.agent_ports.specs.Counts.{Rose}
 use Rattle.agent_ports.specs.Sides.{Side, WhereKnown}
 use Rattle.agent_ports.proofs.Known.{known_same, known_then, known_both}
-use Rattle.assuan_line.specs.Next.{next_of, Reader, Tells, TakesWhatItNeeds, OnLine, held, ended_by}
+use Rattle.assuan_line.specs.Next.{next_of, Reader, IsNext, TakesWhatItNeeds, OnLine, held, ended_by}
 use Rattle.assuan_line.specs.Reading.{WereNeededBy, HasRead}
 use Rattle.assuan_line.specs.Skipping.{Skipped, none, IsUndecided, Stops, ReadsNext, ReadsOn}
 use Rattle.assuan_line.specs.declared.reader.Took.{Took}
@@ -12,7 +12,7 @@ use Rattle.assuan_line.proofs.Ahead.{cut_short_of_all, too_long_of_all}
 use Rattle.assuan_line.proofs.SkippedLines.{skipped_more, without_last}
 
 -- what an answer says, it says of all the bytes that are there
-reads_next : (before : Reader) (rest : List ℕ) (took : Took) (after : Reader) (left : List ℕ) → Tells before rest took after left → ReadsNext (before.ahead ++ rest) took after left
+reads_next : (before : Reader) (rest : List ℕ) (took : Took) (after : Reader) (left : List ℕ) → IsNext before rest took after left → ReadsNext (before.ahead ++ rest) took after left
 reads_next before rest (Line line) after left known = known
 reads_next before rest TooLong after left known = too_long_of_all known
 reads_next before rest End after left known = known
@@ -34,7 +34,7 @@ on_line ReadFault P Q each p = tt
 
 -- the clauses of a read of a line, as one record
 module _ (before after : Reader) (input input_after : Side) (took : Took) (going : before.ended ≡ None) where
-  pub has_read : (before.ended ≡ None → WhereKnown input.bytes input_after.bytes (λ rest left. Tells before rest took after left))
+  pub has_read : (before.ended ≡ None → WhereKnown input.bytes input_after.bytes (λ rest left. IsNext before rest took after left))
       → WhereKnown input.bytes input_after.bytes (λ rest left. length rest + after.left ≡ length left + before.left)
       → WhereKnown input.bytes input_after.bytes (TakesWhatItNeeds before.ahead)
       → OnLine took (held after < held before) → (before.ended ≡ None → took ≡ Spent → after.left ≡ 0)

@@ -55,13 +55,13 @@ pub record IsTooLong (ahead rest left : List ℕ) : Type 0 where
   pub long : next_of (ahead ++ taken) ≡ TooLong
 
 -- What an answer says: the source held `rest` before it, and holds `left` after it.
-abbrev pub Tells : Reader → List ℕ → Took → Reader → List ℕ → Type 0
-Tells before rest (Line line) after left =
+abbrev pub IsNext : Reader → List ℕ → Took → Reader → List ℕ → Type 0
+IsNext before rest (Line line) after left =
     (next_of (before.ahead ++ rest) ≡ Line line) × (after.ahead ++ left ≡ after_line (before.ahead ++ rest))
-Tells before rest TooLong after left = IsTooLong before.ahead rest left
-Tells before rest End after left = (next_of (before.ahead ++ rest) ≡ End) × (left ≡ []) × (0 < after.left)
-Tells before rest Spent after left = IsCutShort before.ahead rest left × (after.left ≡ 0)
-Tells before rest ReadFault after left = IsCutShort before.ahead rest left × (0 < after.left)
+IsNext before rest TooLong after left = IsTooLong before.ahead rest left
+IsNext before rest End after left = (next_of (before.ahead ++ rest) ≡ End) × (left ≡ []) × (0 < after.left)
+IsNext before rest Spent after left = IsCutShort before.ahead rest left × (after.left ≡ 0)
+IsNext before rest ReadFault after left = IsCutShort before.ahead rest left × (0 < after.left)
 
 -- Bytes were taken that were needed, and then those of one more read: what was there before that read decided nothing.
 pub record WereNeeded (ahead rest left : List ℕ) : Type 0 where

@@ -2,7 +2,7 @@
 -- project's own.
 use Rattle.std.specs.Prelude.{◌≡◌, Bool, true, false, ℕ, List, [], ◌∷◌, ◌++◌, None}
 use Rattle.assuan_line.specs.Lines.{after_line}
-use Rattle.assuan_line.specs.Next.{next_of, Reader, Tells}
+use Rattle.assuan_line.specs.Next.{next_of, Reader, IsNext}
 use Rattle.assuan_line.specs.declared.reader.Took.{Took}
 use Rattle.assuan_line.specs.declared.reader.Took.TheVariants.{Line, End}
 
@@ -27,7 +27,7 @@ Stops skips before _ = Unit {0}
 
 -- what an answer says where these bytes were there, in the reader and in the source, and the source holds `left` after it
 abbrev pub ReadsNext : List ℕ → Took → Reader → List ℕ → Type 0
-ReadsNext bytes took after left = Tells (record { ahead = []; left = 0; ended = None }) bytes took after left
+ReadsNext bytes took after left = IsNext (record { ahead = []; left = 0; ended = None }) bytes took after left
 
 -- what an answer says that comes after these lines, which are skipped
 pub record ReadsAfter (skips : List (List ℕ) → List ℕ → Bool) (before lines : List (List ℕ)) (bytes : List ℕ) (took : Took) (after : Reader) (left : List ℕ) : Type 0 where

@@ -19,8 +19,8 @@ took_of Spent = took.Spent
 took_of ReadFault = took.ReadFault
 
 -- the line, or that it is too long
-abbrev pub judged : List ℕ → Took
-judged line = if nat_le (length line) MAX_LINE_LEN then took.Line line else took.TooLong
+abbrev pub line_or_too_long : List ℕ → Took
+line_or_too_long line = if nat_le (length line) MAX_LINE_LEN then took.Line line else took.TooLong
 
 -- a reader that holds these bytes, may take so many more, and hasn't ended
 abbrev pub reader_at : Ahead → ℕ → Reader
@@ -31,7 +31,7 @@ abbrev pub unended : Reader → Reader
 unended reader = record { ahead = reader.ahead; left = reader.left; ended = None }
 
 -- all that was taken is ahead, each read was needed, and none went beyond the budget
-pub record HasReadOn (before : Reader) (was : Side) (after : Reader) (is : Side) : Type 0 where
+pub record ReadAhead (before : Reader) (was : Side) (after : Reader) (is : Side) : Type 0 where
   pub taken : List ℕ
   pub ahead : after.ahead ≡ before.ahead ++ taken
   pub bytes : was.bytes ≡ followed_by taken is.bytes
@@ -50,8 +50,8 @@ Decides before was took.ReadFault after is =
     (next_of before.ahead ≡ took.End) × (after.ahead ≡ before.ahead) × (0 < after.left) × Rose was.faults is.faults
 
 -- an answer, from what is ahead after the reads for it
-pub record HasTaken (before : Reader) (was : Side) (answer : Took) (after : Reader) (is : Side) : Type 0 where
+pub record TakeLine (before : Reader) (was : Side) (answer : Took) (after : Reader) (is : Side) : Type 0 where
   pub middle : Reader
-  pub read : HasReadOn before was middle is
+  pub read : ReadAhead before was middle is
   pub decides : Decides middle was answer after is
   pub budget : after.left ≡ middle.left

@@ -6,11 +6,12 @@ ghost use Rattle.assuan_line.specs.Ahead.{bytes_ahead, room_ahead, IsWithin};
 ghost use Rattle.assuan_text.specs.LineEnds.{is_lf, has_lf};
 ghost use Rattle.assuan_line.specs.Lines.{without_cr, after_line};
 ghost use Rattle.assuan_line.specs.Next.{next_of, ended_by, OnLine};
-ghost use Rattle.assuan_line.specs.Stops.{judged};
+ghost use Rattle.assuan_line.specs.Stops.{line_or_too_long};
 
 use crate::line::{CR, LF};
 use crate::{Line, Took};
 use agent_ports::{Got, Source};
+use assuan_text::MAX_LINE_LEN;
 use circular_buffer::HeapCircularBuffer;
 use std::alloc::Global;
 use wiping::{Wiped, wipe};
@@ -18,8 +19,8 @@ use wiping::{Wiped, wipe};
 /// The most bytes that a reader holds ahead of the lines that it gave.
 pub const MAX_AHEAD: usize = 4096;
 
-/// So many bytes tell a line, or that it is too long: a line's 1,000, a carriage return and a line feed.
-pub(crate) const MAX_UNDECIDED: usize = 1002;
+/// So many bytes tell a line, or that it is too long: a line's own, a carriage return and a line feed.
+pub(crate) const MAX_UNDECIDED: usize = MAX_LINE_LEN + 2;
 
 /// The bytes that a reader took, and that belong to no line that it gave. They are overwritten when it is dropped.
 pub(crate) enum Ahead {
@@ -124,8 +125,15 @@ impl Ahead {
         ensures within { IsWithin self.new }
     {
         match self {
-            Ahead::Ring(ring) => ring.truncate_front(ring.len() - count),
-            Ahead::Piece(piece) => *piece = Wiped::of(&piece.bytes()[count..]).unwrap(),
+            Ahead::Ring(ring) => {
+                ring.truncate_front(ring.len() - count);
+                overwrite_if_empty(ring);
+            }
+            Ahead::Piece(piece) => {
+                let rest = Wiped::of(&piece.bytes()[count..]).unwrap();
+                piece.clear();
+                *piece = rest;
+            }
         }
     }
 
@@ -166,7 +174,7 @@ impl Ahead {
     fn line_before(&self, end: usize) -> Took
         requires within { end ≤ length (bytes_ahead self.now) }
         requires whole { has_lf (take end (bytes_ahead self.now)) ≡ false }
-        ensures { result ≡ judged (without_cr (take end (bytes_ahead self.now))) }
+        ensures { result ≡ line_or_too_long (without_cr (take end (bytes_ahead self.now))) }
     {
         let (front, back) = self.as_slices();
         if end <= front.len() {
@@ -179,14 +187,28 @@ impl Ahead {
 impl Drop for Ahead {
     fn drop(self) {
         match self {
-            Ahead::Ring(mut ring) => {
-                // A ring leaves the bytes that it gave where they were: so it is filled, and all of it overwritten.
-                ring.fill_from_slice(&[0; MAX_AHEAD]);
-                wipe(ring.make_contiguous());
-            }
+            Ahead::Ring(mut ring) => overwrite(&mut ring),
             Ahead::Piece(_) => {}
         }
     }
+}
+
+/// A ring leaves the bytes that it gave where they were: so one that holds none is overwritten.
+fn overwrite_if_empty(ring: &mut HeapCircularBuffer<u8>)
+    ensures { ring.new ≡ ring.old }
+{
+    if ring.is_empty() {
+        overwrite(ring);
+        ring.clear();
+    }
+}
+
+/// Fills the ring, and overwrites all of it.
+fn overwrite(ring: &mut HeapCircularBuffer<u8>)
+    ensures { ring.new.capacity ≡ ring.old.capacity }
+{
+    ring.fill_from_slice(&[0; MAX_AHEAD]);
+    wipe(ring.make_contiguous());
 }
 
 /// Where the first line feed is.
@@ -199,7 +221,7 @@ fn line_feed(bytes: &[u8]) -> Option<usize>
 /// The line that these bytes before a line feed are, or that it is too long.
 fn line_of(piece: &[u8]) -> Took
     requires { has_lf piece.now ≡ false }
-    ensures { result ≡ judged (without_cr piece.now) }
+    ensures { result ≡ line_or_too_long (without_cr piece.now) }
 {
     let line = match piece {
         [line @ .., CR] => line,
@@ -214,7 +236,7 @@ fn line_of(piece: &[u8]) -> Took
 /// The same of bytes in two slices.
 fn line_across(front: &[u8], back: &[u8]) -> Took
     requires { has_lf (front.now ++ back.now) ≡ false }
-    ensures { result ≡ judged (without_cr (front.now ++ back.now)) }
+    ensures { result ≡ line_or_too_long (without_cr (front.now ++ back.now)) }
 {
     let mut piece: Wiped<MAX_UNDECIDED> = Wiped::new();
     if front.len() > MAX_UNDECIDED || back.len() > MAX_UNDECIDED - front.len() {

@@ -45,12 +45,13 @@ pub fn next_after_skipped<S: Source, F: LineFilter>(
     ensures beside { S.beside_input source.new ≡ S.beside_input source.old }
 {
     loop {
-        let took = reader.next(source);
-        let Took::Line(line) = &took else {
+        let mut took = reader.next(source);
+        let Took::Line(line) = &mut took else {
             return took;
         };
         if !filter.skip(line) {
             return took;
         }
+        line.clear();
     }
 }

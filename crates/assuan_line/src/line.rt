@@ -1,4 +1,4 @@
-ghost use Rattle.std.specs.Prelude.{◌≡◌, ◌↔◌, IsSome, IfSome};
+ghost use Rattle.std.specs.Prelude.{◌≡◌, ◌↔◌, [], IsSome, IfSome};
 ghost use Rattle.assuan_line.specs.Lines.{IsLine};
 
 use assuan_text::MAX_LINE_LEN;
@@ -10,7 +10,7 @@ pub(crate) const LF: u8 = b'\n';
 pub(crate) const CR: u8 = b'\r';
 
 /// A line without its end: at most 1,000 bytes, none of them a line feed. It may hold a passphrase, so it isn't printed, and
-/// its bytes are overwritten when it is dropped.
+/// its bytes are overwritten when it is dropped. A drop is given its value by a move: `clear` overwrites them where they lie.
 #[derive(Drop)]
 pub struct Line {
     bytes: Wiped<MAX_LINE_LEN>,
@@ -48,5 +48,12 @@ impl Line {
         ensures is_line { IsLine self.now }
     {
         self.bytes.bytes()
+    }
+
+    /// Overwrites the bytes where they lie. The line is empty then.
+    pub fn clear(&mut self)
+        ensures { self.new ≡ [] }
+    {
+        self.bytes.clear();
     }
 }

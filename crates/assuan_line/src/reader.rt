@@ -4,8 +4,8 @@ ghost use Rattle.agent_ports.specs.Counts.{Rose};
 ghost use Rattle.agent_ports.specs.Sides.{WhereKnown};
 ghost use Rattle.assuan_line.specs.Ahead.{bytes_ahead, IsWithin};
 ghost use Rattle.assuan_line.specs.Lines.{after_line, lines_of, rest_of};
-ghost use Rattle.assuan_line.specs.Next.{next_of, Tells, TakesWhatItNeeds, ended_by, OnLine, held};
-ghost use Rattle.assuan_line.specs.Stops.{took_of, reader_at, HasReadOn, Decides, HasTaken};
+ghost use Rattle.assuan_line.specs.Next.{next_of, IsNext, TakesWhatItNeeds, ended_by, OnLine, held};
+ghost use Rattle.assuan_line.specs.Stops.{took_of, reader_at, ReadAhead, Decides, TakeLine};
 
 use crate::Line;
 use crate::buffer::{Ahead, MAX_AHEAD};
@@ -113,7 +113,7 @@ impl LineReader {
     pub fn next<S: Source>(&mut self, source: &mut S) -> Took
         // What it says of the bytes, where the source's bytes are known, until it has ended.
         ensures known { self.old.ended ≡ None → WhereKnown (S.input source.old).bytes (S.input source.new).bytes
-            (λ rest left. Tells self.old rest result self.new left) }
+            (λ rest left. IsNext self.old rest result self.new left) }
         // It takes no byte beyond its budget.
         ensures budget { WhereKnown (S.input source.old).bytes (S.input source.new).bytes
             (λ rest left. length rest + self.new.left ≡ length left + self.old.left) }
@@ -159,7 +159,7 @@ pub fn lines_come_in_order()
 /// Reads until the bytes ahead tell a line or that one is too long, or no more can be read.
 fn take_line<S: Source>(ahead: &mut Ahead, left: &mut u64, source: &mut S) -> Took
     requires { IsWithin ahead.old }
-    ensures taken { HasTaken (reader_at ahead.old left.old) (S.input source.old) result (reader_at ahead.new left.new) (S.input source.new) }
+    ensures taken { TakeLine (reader_at ahead.old left.old) (S.input source.old) result (reader_at ahead.new left.new) (S.input source.new) }
     ensures alone { next_of (bytes_ahead ahead.old) ≢ Took.End → source.new ≡ source.old }
     ensures beside { S.beside_input source.new ≡ S.beside_input source.old }
     ensures within { IsWithin ahead.new }
@@ -179,7 +179,7 @@ fn take_line<S: Source>(ahead: &mut Ahead, left: &mut u64, source: &mut S) -> To
 fn read_ahead<S: Source>(ahead: &mut Ahead, left: &mut u64, source: &mut S) -> Result<(), Stop>
     requires undecided { next_of (bytes_ahead ahead.old) ≡ Took.End }
     requires within { IsWithin ahead.old }
-    ensures read { HasReadOn (reader_at ahead.old left.old) (S.input source.old) (reader_at ahead.new left.new) (S.input source.new) }
+    ensures read { ReadAhead (reader_at ahead.old left.old) (S.input source.old) (reader_at ahead.new left.new) (S.input source.new) }
     ensures progress { OnOk result (left.new < left.old) }
     ensures stop { IfErr result (λ stop. Decides (reader_at ahead.new left.new) (S.input source.old) (took_of stop)
         (reader_at ahead.new left.new) (S.input source.new)) }

@@ -21,5 +21,7 @@ pub fn write_text<K: Sink>(sink: &mut K, parts: &[&[u8]]) -> Sent
         line.try_extend_from_slice(part).unwrap();
     }
     line.push(LF);
-    sink.put(line.bytes())
+    let sent = sink.put(line.bytes());
+    line.clear();
+    sent
 }

@@ -5,10 +5,11 @@ ghost use Rattle.agent_ports.specs.Sides.{with_bytes, sent_part, IfCut, IsCut};
 use crate::Line;
 use crate::line::LF;
 use agent_ports::{Sent, Sink};
+use assuan_text::MAX_LINE_LEN;
 use wiping::Wiped;
 
 /// The most bytes that a line is written as: its own, and a line feed.
-pub(crate) const MAX_WRITTEN_LEN: usize = 1001;
+pub(crate) const MAX_WRITTEN_LEN: usize = MAX_LINE_LEN + 1;
 
 /// Writes the line and a line feed. Where the write fails, some first bytes of these went.
 pub fn write_line<K: Sink>(sink: &mut K, line: &Line) -> Sent

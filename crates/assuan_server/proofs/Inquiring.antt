@@ -97,8 +97,8 @@ data_at_end Spent is = absurd is
 data_at_end ReadFault is = absurd is
 
 module _ {limit : ℕ} {keeps : List ℕ → Type 0} {took : Took} (line : List ℕ) (is : took ≡ Line line) (word : IsWord (codes "end") line) where
-  pub brought : (bytes : List ℕ) → ((other : List ℕ) → keeps other → (bytes ≡ other) × (length other ≤ limit)) → IsAnswer limit keeps took (Answers (Some (Data bytes)))
-  brought bytes kept = at_end line is (λ outcome same. subst IsAtEnd same tt) (λ other keeps.
+  pub with_data : (bytes : List ℕ) → ((other : List ℕ) → keeps other → (bytes ≡ other) × (length other ≤ limit)) → IsAnswer limit keeps took (Answers (Some (Data bytes)))
+  with_data bytes kept = at_end line is (λ outcome same. subst IsAtEnd same tt) (λ other keeps.
       let so = kept other keeps in (Data other, end word so.1, ap (λ (b : List ℕ). Data b) so.0))
 
   pub beyond : (Else : Outcome → Type 0) → ((bytes : List ℕ) → keeps bytes → limit < length bytes) → IsAnswer limit keeps took (Names Else (Some TooMuch))

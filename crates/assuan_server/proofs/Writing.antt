@@ -106,19 +106,6 @@ module _ (bytes : List ℕ) (before now : Connection) (rest : List ℕ) (sent : 
           counted = tt;
         }
 
--- what a write in one piece leaves
-pub has_sent : (bytes : List ℕ) (before after : Side) (sent : Sent) → length bytes ≤ 1000 → IfCut sent (λ count. count ≤ length bytes)
-    → after.bytes ≡ with_bytes before.bytes (sent_part bytes sent) → (IsCut sent → Rose before.faults after.faults) → HasSent bytes before sent after
-has_sent bytes before after Whole short cut written failed = written
-has_sent bytes before after (Failed count) short cut written failed = record {
-  sent = take count bytes;
-  unsent = drop count bytes;
-  split = sym (take-append-drop count bytes);
-  written = written;
-  counted = omega (arith, length-take-le count bytes cut);
-  rose = failed tt;
-}
-
 -- a first text was written, and the write of a second one stopped
 pub cut_after : (first second : List ℕ) (before mid after : Connection) (count part : ℕ) → HasWritten first before Whole mid → count ≡ min (length first) (2 ^ 64 - 1)
     → HasWritten second mid (Failed part) after → HasWritten (first ++ second) before (Failed (min (count + part) (2 ^ 64 - 1))) after

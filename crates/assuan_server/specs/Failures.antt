@@ -1,4 +1,4 @@
--- Why an inquiry brought no bytes, and what its answer follows from.
+-- Why an inquiry has no bytes for its caller, and what its answer follows from.
 use Rattle.std.specs.Prelude.{◌≡◌, ℕ, List}
 use Rattle.assuan_line.specs.Next.{ended_by}
 use Rattle.assuan_line.specs.declared.reader.Took.{Took}

@@ -1,4 +1,4 @@
-ghost use Rattle.std.specs.Prelude.{◌≡◌, ◌≤◌, [], length, false, None, Some, List, ℕ, OnSome};
+ghost use Rattle.std.specs.Prelude.{◌≡◌, ◌≤◌, ◌+◌, [], length, false, None, Some, List, ℕ, OnSome};
 ghost use Rattle.std.specs.List.{flat_map};
 ghost use Rattle.assuan_line.specs.Lines.{IsLine};
 ghost use Rattle.assuan_text.specs.LineEnds.{has_lf};
@@ -81,7 +81,7 @@ impl<'a, L: Link> Conn<'a, L> {
 
     /// Says that a command was carried out: `OK`, and the text behind a blank where it isn't empty.
     pub fn ok(&mut self, text: &[u8]) -> Sent
-        requires short { length text.now ≤ 997 }
+        requires short { 3 + length text.now ≤ MAX_LINE_LEN }
         requires one_line { has_lf text.now ≡ false }
         ensures { HasWritten (line_of (ok_text text.now)) self.old result self.new }
     {
@@ -144,7 +144,7 @@ impl<'a, L: Link> Conn<'a, L> {
         write_text(self.link, parts)
     }
     /// Writes these bytes in one piece.
-    #[tactic(auto, using(crate::proofs::Writing::has_sent))]
+    #[tactic(auto, using(assuan_line::proofs::Sending::has_sent))]
     pub(crate) fn put(&mut self, bytes: &[u8]) -> Sent
         requires { length bytes.now ≤ MAX_LINE_LEN }
         ensures { HasWritten bytes.now self.old result self.new }

@@ -49,9 +49,11 @@ impl<'a, L: Link> Conn<'a, L> {
         let mut rest = bytes;
         let mut sent: usize = 0;
         while !rest.is_empty() {
-            let (line, count) = full_line(rest);
+            let (mut line, count) = full_line(rest);
             let whole = line.len() + 1;
-            match self.say(&[line.bytes()]) {
+            let said = self.say(&[line.bytes()]);
+            line.clear();
+            match said {
                 Sent::All => sent = sent.saturating_add(whole),
                 Sent::Failed { sent: part } => return Err(sent.saturating_add(part)),
             }

@@ -14,7 +14,7 @@ use Rattle.assuan_client.specs.Passing.{Tally}
 use Rattle.assuan_client.specs.Writing.{HasExchanged, IsUnanswered}
 use Rattle.assuan_client.specs.declared.answer.Answer.{Answer}
 use Rattle.assuan_client.specs.declared.answer.Answer.TheVariants as answer
-use Rattle.pinentry_client.specs.Answers.{greeted, accepted, judged, data_of, process_of, outcome_of, pin_error, consent_of, consent_error}
+use Rattle.pinentry_client.specs.Answers.{greeted, accepted, applied, data_of, process_of, outcome_of, pin_error, consent_of, consent_error}
 use Rattle.pinentry_client.specs.Talking.{TellsSetting, unsent, sent, Sets, done, next, StartTalk, greets, Replies, Settles, answered, inquired, ErrorTalk, none, shown, PinTalk, ConsentTalk, outcome_by}
 use Rattle.pinentry_client.specs.declared.answers.Trouble.{Trouble}
 use Rattle.pinentry_client.specs.declared.answers.Trouble.TheVariants.{Failed, Broken}
@@ -133,20 +133,20 @@ data_fails : (setting : Setting) (bytes : List ℕ) → fails_by (data_of settin
 data_fails setting.Pid bytes = process_fails (number_of bytes)
 data_fails _ bytes = refl
 
-judged_fails : (setting : Setting) (pid : ℕ) (said : Answer) → fails_by (judged setting pid said) ≡ true → is_fault said ≡ true
-judged_fails setting pid answer.ReadFault failed = refl
-judged_fails setting pid answer.WriteFault failed = refl
-judged_fails setting pid (answer.Got bytes) failed = let never = data_fails setting bytes in absurd (cc (never, failed))
-judged_fails setting pid answer.Ok failed = cc failed
-judged_fails setting pid (answer.Err number) failed = cc failed
-judged_fails setting pid (answer.Asked word text) failed = cc failed
-judged_fails setting pid (answer.Broken why) failed = cc failed
+applied_fails : (setting : Setting) (pid : ℕ) (said : Answer) → fails_by (applied setting pid said) ≡ true → is_fault said ≡ true
+applied_fails setting pid answer.ReadFault failed = refl
+applied_fails setting pid answer.WriteFault failed = refl
+applied_fails setting pid (answer.Got bytes) failed = let never = data_fails setting bytes in absurd (cc (never, failed))
+applied_fails setting pid answer.Ok failed = cc failed
+applied_fails setting pid (answer.Err number) failed = cc failed
+applied_fails setting pid (answer.Asked word text) failed = cc failed
+applied_fails setting pid (answer.Broken why) failed = cc failed
 
 told_grew : {spec : PromptSpec} {setting : Setting} {pid : ℕ} {before after : Connection} {end : Result ℕ Trouble} → TellsSetting spec setting pid before end after
     → Grew (fails_by end) before after
 told_grew (unsent absent) = omega arith
 told_grew {setting} {pid} {before} {after} (sent line said is does) =
-    weaker (is_fault said) (fails_by (judged setting pid said)) (faults before) (faults after) (judged_fails setting pid said) (exchanged_grew said does)
+    weaker (is_fault said) (fails_by (applied setting pid said)) (faults before) (faults after) (applied_fails setting pid said) (exchanged_grew said does)
 
 sets_grew : {spec : PromptSpec} {settings : List Setting} {pid : ℕ} {before after : Connection} {end : Result ℕ Trouble} → Sets spec settings pid before end after
     → Grew (fails_by end) before after

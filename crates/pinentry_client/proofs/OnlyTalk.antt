@@ -9,7 +9,7 @@ use Rattle.assuan_client.specs.Passing.{Tally}
 use Rattle.assuan_client.specs.Writing.{HasExchanged, reply_text, cancel_text}
 use Rattle.assuan_client.specs.declared.answer.Answer.{Answer}
 use Rattle.assuan_client.specs.declared.answer.Answer.TheVariants as answer
-use Rattle.pinentry_client.specs.Answers.{greeted, accepted, judged, outcome_of, consent_of}
+use Rattle.pinentry_client.specs.Answers.{greeted, accepted, applied, outcome_of, consent_of}
 use Rattle.pinentry_client.specs.Dialogues.{stays_ready, stays_open}
 use Rattle.pinentry_client.specs.Settings.{IsSettingLine, IsWhereGiven}
 use Rattle.pinentry_client.specs.Talking.{TellsSetting, unsent, sent, Sets, done, next, StartTalk, greets, Replies, Settles, answered, inquired, ErrorTalk, none, shown, PinTalk, ConsentTalk, outcome_by}
@@ -48,23 +48,23 @@ sent_or_not spec setting.Ok line not there = given_or_not spec.ok.items line _ n
 sent_or_not spec setting.Cancel line not there = given_or_not spec.cancel.items line _ not there
 sent_or_not spec setting.QualityBar line not there = some_not_none not there
 
-judged_fine : (which : Setting) (pid : ℕ) (said : Answer) → fails_by (judged which pid said) ≡ false → is_fault said ≡ false
-judged_fine which pid answer.Ok fine = refl
-judged_fine which pid (answer.Got bytes) fine = refl
-judged_fine which pid (answer.Err number) fine = refl
-judged_fine which pid (answer.Asked word text) fine = refl
-judged_fine which pid (answer.Broken why) fine = refl
-judged_fine which pid answer.ReadFault fine = cc fine
-judged_fine which pid answer.WriteFault fine = cc fine
+applied_fine : (which : Setting) (pid : ℕ) (said : Answer) → fails_by (applied which pid said) ≡ false → is_fault said ≡ false
+applied_fine which pid answer.Ok fine = refl
+applied_fine which pid (answer.Got bytes) fine = refl
+applied_fine which pid (answer.Err number) fine = refl
+applied_fine which pid (answer.Asked word text) fine = refl
+applied_fine which pid (answer.Broken why) fine = refl
+applied_fine which pid answer.ReadFault fine = cc fine
+applied_fine which pid answer.WriteFault fine = cc fine
 
-judged_on : (which : Setting) (pid : ℕ) (said : Answer) → is_ok (judged which pid said) ≡ true → goes_on said ≡ true
-judged_on which pid answer.Ok well = refl
-judged_on which pid (answer.Got bytes) well = refl
-judged_on which pid (answer.Err number) well = refl
-judged_on which pid (answer.Asked word text) well = refl
-judged_on which pid (answer.Broken why) well = cc well
-judged_on which pid answer.ReadFault well = cc well
-judged_on which pid answer.WriteFault well = cc well
+applied_on : (which : Setting) (pid : ℕ) (said : Answer) → is_ok (applied which pid said) ≡ true → goes_on said ≡ true
+applied_on which pid answer.Ok well = refl
+applied_on which pid (answer.Got bytes) well = refl
+applied_on which pid (answer.Err number) well = refl
+applied_on which pid (answer.Asked word text) well = refl
+applied_on which pid (answer.Broken why) well = cc well
+applied_on which pid answer.ReadFault well = cc well
+applied_on which pid answer.WriteFault well = cc well
 
 accepted_fine : (said : Answer) → fails_at (accepted said) ≡ false → is_fault said ≡ false
 accepted_fine answer.Ok fine = refl
@@ -108,8 +108,8 @@ told_alike alike fine fine' (unsent absent) (unsent absent') = record { is = ref
 told_alike {spec} {which} alike fine fine' (unsent absent) (sent line said is does) = absurd (sent_or_not spec which line absent is)
 told_alike {spec} {which} alike fine fine' (sent line said is does) (unsent absent) = absurd (sent_or_not spec which line absent is)
 told_alike {spec} {which} {pid} alike fine fine' (sent line said is does) (sent line' again is' does') =
-    let same = exchanged_alike said again (judged_fine which pid said fine) (judged_fine which pid again fine') alike does does' in
-    record { is = ap (judged which pid) same.is; alike = λ well. same.alike (judged_on which pid said well) }
+    let same = exchanged_alike said again (applied_fine which pid said fine) (applied_fine which pid again fine') alike does does' in
+    record { is = ap (applied which pid) same.is; alike = λ well. same.alike (applied_on which pid said well) }
 
 known_is : {known other : ℕ} → (let end : Result ℕ Trouble = Ok known in end) ≡ Ok other → known ≡ other
 known_is same = cc same

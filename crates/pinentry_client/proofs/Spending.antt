@@ -20,7 +20,7 @@ use Rattle.assuan_line.specs.declared.breach.Breach.TheVariants as breach
 use Rattle.assuan_line.specs.declared.reader.Took.{Took as Took'}
 use Rattle.assuan_line.specs.declared.reader.Took.TheVariants as took
 use Rattle.assuan_text.specs.Numbers.{number_of}
-use Rattle.pinentry_client.specs.Answers.{greeted, accepted, judged, data_of, process_of, outcome_of, consent_of}
+use Rattle.pinentry_client.specs.Answers.{greeted, accepted, applied, data_of, process_of, outcome_of, consent_of}
 use Rattle.pinentry_client.specs.Talking.{TellsSetting, unsent, sent, Sets, done, next, StartTalk, greets, Replies, Settles, answered, inquired, ErrorTalk, none, shown, PinTalk, ConsentTalk, outcome_by}
 use Rattle.pinentry_client.specs.Dialogues.{opened_of, stays_ready, stays_open}
 use Rattle.pinentry_client.specs.Whole.{Questions, Dialogue, IsSpent, HasSpent, here, later}
@@ -112,14 +112,14 @@ data_never : (which : Setting) (bytes : List ℕ) → data_of which bytes ≡ Er
 data_never setting.Pid bytes is = number_never (number_of bytes) is
 data_never _ bytes is = cc is
 
-judged_spent : (which : Setting) (pid : ℕ) (said : Answer) → judged which pid said ≡ Err (Broken breach.Spent) → said ≡ spent_answer
-judged_spent which pid answer.Ok is = cc is
-judged_spent which pid (answer.Got bytes) is = absurd (data_never which bytes is)
-judged_spent which pid (answer.Err number) is = cc is
-judged_spent which pid (answer.Asked word text) is = cc is
-judged_spent which pid (answer.Broken why) is = cc is
-judged_spent which pid answer.ReadFault is = cc is
-judged_spent which pid answer.WriteFault is = cc is
+applied_spent : (which : Setting) (pid : ℕ) (said : Answer) → applied which pid said ≡ Err (Broken breach.Spent) → said ≡ spent_answer
+applied_spent which pid answer.Ok is = cc is
+applied_spent which pid (answer.Got bytes) is = absurd (data_never which bytes is)
+applied_spent which pid (answer.Err number) is = cc is
+applied_spent which pid (answer.Asked word text) is = cc is
+applied_spent which pid (answer.Broken why) is = cc is
+applied_spent which pid answer.ReadFault is = cc is
+applied_spent which pid answer.WriteFault is = cc is
 
 accepted_spent : (said : Answer) → accepted said ≡ Err (Broken breach.Spent) → said ≡ spent_answer
 accepted_spent answer.Ok is = cc is
@@ -142,7 +142,7 @@ greeted_spent answer.WriteFault is = cc is
 told_all : {spec : PromptSpec} {which : Setting} {pid : ℕ} {end : Result ℕ Trouble} {rest : List ℕ} {before after : Connection} → before.input.bytes ≡ Some rest
     → TellsSetting spec which pid before end after → TookAll (end ≡ Err (Broken breach.Spent)) rest before after
 told_all {before} is (unsent absent) = record { took = took_none before is; spent = λ same. absurd (cc same) }
-told_all {which} {pid} is (sent line said sends does) = all_as (judged_spent which pid said) (exchanged_all said is does)
+told_all {which} {pid} is (sent line said sends does) = all_as (applied_spent which pid said) (exchanged_all said is does)
 
 sets_all : {spec : PromptSpec} {settings : List Setting} {pid : ℕ} {end : Result ℕ Trouble} {rest : List ℕ} {before after : Connection} → before.input.bytes ≡ Some rest
     → Sets spec settings pid before end after → TookAll (end ≡ Err (Broken breach.Spent)) rest before after

@@ -49,9 +49,9 @@ with_pid pid (Ok done) = Ok pid
 with_pid pid (Err trouble) = Err trouble
 
 -- The process that is known after the answer to a setting, where this one was known before it: 0 as long as none is told.
-abbrev pub judged : Setting → ℕ → Answer → Result ℕ Trouble
-judged setting pid (answer.Got bytes) = data_of setting bytes
-judged setting pid other = with_pid pid (accepted other)
+abbrev pub applied : Setting → ℕ → Answer → Result ℕ Trouble
+applied setting pid (answer.Got bytes) = data_of setting bytes
+applied setting pid other = with_pid pid (accepted other)
 
 -- an error of this number: 99 and 198 mean that the user cancelled, and 62 that the time is over
 abbrev pub pin_error : ℕ → Outcome

@@ -14,7 +14,7 @@ use Rattle.assuan_client.specs.declared.answer.Answer.{Answer}
 use Rattle.assuan_client.specs.declared.answer.Answer.TheVariants as answer
 use Rattle.assuan_escape.specs.Escapes.{unescaped}
 use Rattle.assuan_text.specs.LineEnds.{line_of}
-use Rattle.pinentry_client.specs.Answers.{greeted, accepted, judged, outcome_of, consent_of}
+use Rattle.pinentry_client.specs.Answers.{greeted, accepted, applied, outcome_of, consent_of}
 use Rattle.pinentry_client.specs.Settings.{IsSettingLine, IsTextLine, all_settings}
 use Rattle.pinentry_client.specs.declared.answers.Trouble.{Trouble}
 use Rattle.pinentry_client.specs.declared.answers.Trouble.TheVariants.{Failed, Broken}
@@ -28,7 +28,7 @@ Commands line answer before after = HasExchanged (line_of line) nothing answer b
 pub data TellsSetting (spec : PromptSpec) (setting : Setting) (pid : ℕ) : Connection → Result ℕ Trouble → Connection → Type 0 where
   unsent : {now : Connection} → IsSettingLine spec setting None → TellsSetting spec setting pid now (Ok pid) now
   sent : {before after : Connection} (line : List ℕ) (said : Answer) → IsSettingLine spec setting (Some line) → Commands line said before after
-      → TellsSetting spec setting pid before (judged setting pid said) after
+      → TellsSetting spec setting pid before (applied setting pid said) after
 
 -- These settings are told, one after another.
 pub data Sets (spec : PromptSpec) : List Setting → ℕ → Connection → Result ℕ Trouble → Connection → Type 0 where

@@ -1,6 +1,6 @@
 ghost use Rattle.std.specs.Prelude.{◌≡◌, []};
 ghost use Rattle.assuan_text.specs.Numbers.{number_of};
-ghost use Rattle.pinentry_client.specs.Answers.{greeted, accepted, judged, refused, process_of, outcome_of, consent_of};
+ghost use Rattle.pinentry_client.specs.Answers.{greeted, accepted, applied, refused, process_of, outcome_of, consent_of};
 
 use crate::settings::Setting;
 use agent_ask::{Consent, Outcome};
@@ -53,8 +53,8 @@ pub(crate) fn accepted(answer: Answer) -> Result<(), Trouble>
 }
 
 /// The process that is known after the answer to a setting, or why the dialogue can't go on.
-pub(crate) fn judged(setting: Setting, pid: u32, answer: Answer) -> Result<u32, Trouble>
-    ensures { result ≡ judged setting pid answer }
+pub(crate) fn applied(setting: Setting, pid: u32, answer: Answer) -> Result<u32, Trouble>
+    ensures { result ≡ applied setting pid answer }
 {
     match answer {
         Answer::Got(digits) if setting == Setting::Pid => process_of(&digits),

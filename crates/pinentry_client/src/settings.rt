@@ -1,6 +1,7 @@
 ghost use Rattle.std.specs.Prelude.{◌≡◌, ◌≤◌, ◌+◌, ◌++◌, length, false};
 ghost use Rattle.assuan_line.specs.Lines.{IsLine};
 ghost use Rattle.assuan_text.specs.LineEnds.{has_lf};
+ghost use Rattle.assuan_text.specs.declared.TheConstants.{MAX_LINE_LEN};
 ghost use Rattle.session_options.specs.Text.{has_line_end};
 ghost use Rattle.pinentry_client.specs.Settings.{IsSettingLine, IsWhereGiven, IsTextLine, IsTimeoutLine, IsJust};
 
@@ -76,7 +77,7 @@ pub(crate) fn setting_line(spec: &PromptSpec, setting: Setting) -> Option<Line>
 
 /// An option with its value, which is written as it stands, where that isn't empty.
 fn option_line(word: &[u8], value: &[u8]) -> Option<Line>
-    requires short { length word.now + length value.now ≤ 1000 }
+    requires short { length word.now + length value.now ≤ MAX_LINE_LEN }
     requires word { has_lf word.now ≡ false }
     requires value { has_line_end value.now ≡ false }
     ensures { IsWhereGiven value.now (IsJust (word.now ++ value.now)) result }
@@ -110,7 +111,7 @@ fn timeout_line(timeout: u32) -> Option<Line>
 
 /// A text, where it isn't empty.
 fn given_line(word: &[u8], text: &[u8]) -> Option<Line>
-    requires short { length word.now ≤ 1000 }
+    requires short { length word.now ≤ MAX_LINE_LEN }
     requires word { has_lf word.now ≡ false }
     ensures { IsWhereGiven text.now (IsTextLine word.now text.now) result }
 {
@@ -122,7 +123,7 @@ fn given_line(word: &[u8], text: &[u8]) -> Option<Line>
 
 /// A line of a word and a text, which is escaped. It is cut after the last escape that fits.
 pub(crate) fn text_line(word: &[u8], text: &[u8]) -> Line
-    requires short { length word.now ≤ 1000 }
+    requires short { length word.now ≤ MAX_LINE_LEN }
     requires word { has_lf word.now ≡ false }
     ensures { IsTextLine word.now text.now result }
 {

@@ -8,7 +8,7 @@ ghost use Rattle.pinentry_client.specs.Dialogues.{stays_ready, stays_open};
 ghost use Rattle.pinentry_client.specs.Talking.{TellsSetting, Sets, StartTalk, Inquires, Settles, is_asked, ErrorTalk, PinTalk, ConsentTalk};
 ghost use Rattle.pinentry_client.specs.Settings.{all_settings};
 
-use crate::answers::{Trouble, accepted, consent_of, greeted, judged, outcome_of};
+use crate::answers::{Trouble, accepted, applied, consent_of, greeted, outcome_of};
 use crate::settings::{SETTINGS, Setting, plain_line, setting_line, text_line};
 use agent_ask::{Consent, Outcome, PromptSpec};
 use agent_ports::Link;
@@ -54,7 +54,7 @@ fn tell_setting<L: Link>(
     ensures ready { OnOk result (peer.new.state ≡ state.Ready) }
 {
     match setting_line(spec, setting) {
-        Some(line) => judged(setting, pid, peer.command(&line)),
+        Some(line) => applied(setting, pid, peer.command(&line)),
         None => Ok(pid),
     }
 }

@@ -7,7 +7,7 @@ use Rattle.std.proofs.lemmas.Bool.{or_parts, and_parts, ne_eqb}
 use Rattle.std.proofs.Math.Seq.{take-append_seam, drop-append_seam}
 use Rattle.assuan_text.specs.Blanks.{is_blank, without_blanks}
 use Rattle.session_options.specs.Text.{ends_name, without, name_of, after_name, value_of}
-use Rattle.session_options.specs.Choices.{Choices, judged_as, judged}
+use Rattle.session_options.specs.OptionValues.{OptionValues, applied_as, applied}
 
 -- what may come behind a name: nothing, or what begins with an end of names
 abbrev pub ends : List ℕ → Bool
@@ -39,10 +39,10 @@ without_blanks-append (byte ∷ blanks) rest h =
     ∙ without_blanks-append blanks rest parts.1
 
 -- what is left without the dashes decides
-pub judged_parts : (old : Choices) (text name rest value : List ℕ) → without (codes "--") text ≡ name ++ rest → list_any ends_name name ≡ false
-    → ends rest ≡ true → without_blanks (without (codes "=") (without_blanks rest)) ≡ value → judged old text ≡ judged_as old name value
-unfolding judged
-judged_parts old text name rest value bare whole ended is =
+pub applied_parts : (old : OptionValues) (text name rest value : List ℕ) → without (codes "--") text ≡ name ++ rest → list_any ends_name name ≡ false
+    → ends rest ≡ true → without_blanks (without (codes "=") (without_blanks rest)) ≡ value → applied old text ≡ applied_as old name value
+unfolding applied
+applied_parts old text name rest value bare whole ended is =
     let place = name_ends name rest whole ended in
     let is_name : name_of text ≡ name =
     ap (λ (t : List ℕ). take (position_or_len ends_name t) t) bare
@@ -53,7 +53,7 @@ judged_parts old text name rest value bare whole ended is =
     ∙ ap (λ (k : ℕ). drop k (name ++ rest)) place
     ∙ drop-append_seam name rest in
     let is_value : value_of text ≡ value = ap (λ (r : List ℕ). without_blanks (without (codes "=") (without_blanks r))) is_rest ∙ is in
-    ap (λ (x : List ℕ). judged_as old x (value_of text)) is_name ∙ ap (judged_as old name) is_value
+    ap (λ (x : List ℕ). applied_as old x (value_of text)) is_name ∙ ap (applied_as old name) is_value
 
 -- blanks, the mark and blanks before a value fall away
 pub marked : (before after value : List ℕ) → list_all is_blank before ≡ true → list_all is_blank after ≡ true → is_blank (get_or value 0 0) ≡ false

@@ -2,4 +2,4 @@ pub mod Counts
 pub mod Defaults
 pub mod Text
 pub mod Table
-pub mod Choices
+pub mod OptionValues

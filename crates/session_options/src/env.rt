@@ -18,7 +18,7 @@ pub struct Env {
 }
 
 impl Env {
-    ghost use Rattle.session_options.specs.Choices.{words_of};
+    ghost use Rattle.session_options.specs.OptionValues.{words_of};
 
     /// No terminal and no locale.
     pub(crate) fn none() -> Self

@@ -3,7 +3,7 @@ ghost use Rattle.std.specs.List.{list_any, list_all};
 ghost use Rattle.session_options.specs.Counts.{IsS2kCount};
 ghost use Rattle.assuan_text.specs.Blanks.{is_blank};
 ghost use Rattle.session_options.specs.Text.{ends_name};
-ghost use Rattle.session_options.specs.Choices.{Choices, judged, judged_as};
+ghost use Rattle.session_options.specs.OptionValues.{OptionValues, applied, applied_as};
 
 use crate::names::OptionName;
 use crate::text::{name_and_value, word_of};
@@ -37,7 +37,7 @@ pub enum OptionAnswer {
     NotSupported,
 }
 
-/// What the client of a session has chosen.
+/// The option values of a session.
 #[derive(Debug, Drop)]
 pub struct Options {
     env: Env,
@@ -50,10 +50,10 @@ pub struct Options {
 }
 
 impl Model for Options {
-    ghost use Rattle.session_options.specs.Choices.{Choices, words_of};
+    ghost use Rattle.session_options.specs.OptionValues.{OptionValues, words_of};
     ghost use Rattle.session_options.specs.Counts.{IsS2kCount};
 
-    ghost Value = { Choices };
+    ghost Value = { OptionValues };
 
     ghost view = { λ o. record {
       env = words_of o.env;
@@ -68,10 +68,10 @@ impl Model for Options {
 }
 
 impl Options {
-    ghost use Rattle.session_options.specs.Choices.{at_start, words_of, with_mode, with_count};
+    ghost use Rattle.session_options.specs.OptionValues.{at_start, words_of, with_mode, with_count};
     ghost use Rattle.session_options.specs.Table.{mode_of, count_of};
 
-    /// Nothing is chosen yet.
+    /// Those before any option.
     pub fn new(rules: &Rules) -> Self
         ensures { result ≡ at_start rules.now.s2k_count rules.now.allow_loopback }
     {
@@ -86,10 +86,10 @@ impl Options {
     }
 
     /// Sets the option that the text names, the rest of an OPTION line. A refusal changes nothing.
-    #[tactic(auto, unfolding(crate::specs::Choices::judged))]
+    #[tactic(auto, unfolding(crate::specs::OptionValues::applied))]
     pub fn set(&mut self, text: &[u8]) -> OptionAnswer
-        ensures answer { result ≡ (judged self.old text.now).answer }
-        ensures after { self.new ≡ (judged self.old text.now).after }
+        ensures answer { result ≡ (applied self.old text.now).answer }
+        ensures after { self.new ≡ (applied self.old text.now).after }
         ensures refused { result ≢ OptionAnswer.Set → self.new ≡ self.old }
 
         // What the rules said stays.
@@ -153,7 +153,7 @@ impl Options {
         OptionAnswer::Set
     }
 
-    /// Nothing is chosen any more.
+    /// Those before any option once more.
     pub fn reset(&mut self)
         ensures { self.new ≡ at_start self.old.rules_count self.old.allow_loopback }
     {
@@ -194,16 +194,16 @@ impl Options {
 /// A law: two dashes before the name, blanks around `=`, and leaving `=` out between name and value change nothing, and a name
 /// alone has an empty value.
 pub fn spelling_is_plain()
-    ensures bare { (old : Choices) (name before after value : List ℕ) → list_any ends_name name ≡ false
+    ensures bare { (old : OptionValues) (name before after value : List ℕ) → list_any ends_name name ≡ false
         → slice_index name 0 ≢ 45 → list_all is_blank before ≡ true → list_all is_blank after ≡ true
         → is_blank (slice_index value 0) ≡ false
-        → judged old (name ++ (before ++ (61 ∷ (after ++ value)))) ≡ judged_as old name value }
-    ensures dashed { (old : Choices) (name before after value : List ℕ) → list_any ends_name name ≡ false
+        → applied old (name ++ (before ++ (61 ∷ (after ++ value)))) ≡ applied_as old name value }
+    ensures dashed { (old : OptionValues) (name before after value : List ℕ) → list_any ends_name name ≡ false
         → list_all is_blank before ≡ true → list_all is_blank after ≡ true → is_blank (slice_index value 0) ≡ false
-        → judged old (45 ∷ 45 ∷ (name ++ (before ++ (61 ∷ (after ++ value))))) ≡ judged_as old name value }
-    ensures unmarked { (old : Choices) (name value : List ℕ) (blank : ℕ) (before : List ℕ) → list_any ends_name name ≡ false
+        → applied old (45 ∷ 45 ∷ (name ++ (before ++ (61 ∷ (after ++ value))))) ≡ applied_as old name value }
+    ensures unmarked { (old : OptionValues) (name value : List ℕ) (blank : ℕ) (before : List ℕ) → list_any ends_name name ≡ false
         → is_blank blank ≡ true → list_all is_blank before ≡ true → ends_name (slice_index value 0) ≡ false
-        → judged old (45 ∷ 45 ∷ (name ++ (blank ∷ (before ++ value)))) ≡ judged_as old name value }
-    ensures alone { (old : Choices) (name : List ℕ) → list_any ends_name name ≡ false
-        → judged old (45 ∷ 45 ∷ name) ≡ judged_as old name [] }
+        → applied old (45 ∷ 45 ∷ (name ++ (blank ∷ (before ++ value)))) ≡ applied_as old name value }
+    ensures alone { (old : OptionValues) (name : List ℕ) → list_any ends_name name ≡ false
+        → applied old (45 ∷ 45 ∷ name) ≡ applied_as old name [] }
 {}

@@ -4,7 +4,7 @@ ghost use Rattle.assuan_text.specs.Blanks.{without_blanks};
 ghost use Rattle.session_options.specs.Text.{ends_name, without, name_of, value_of, ends_line, has_line_end, can_be_kept};
 
 use crate::Word;
-use assuan_text::without_blanks;
+use assuan_text::{is_blank, without_blanks};
 
 /// An option's name, and its value.
 pub(crate) fn name_and_value(text: &[u8]) -> (&[u8], &[u8])
@@ -28,7 +28,7 @@ fn name_len(text: &[u8]) -> usize
 fn ends_name(byte: u8) -> bool
     ensures { result ≡ ends_name byte }
 {
-    matches!(byte, b' ' | b'\t' | b'=')
+    is_blank(byte) || byte == b'='
 }
 
 /// The bytes after the mark, where they begin with it.

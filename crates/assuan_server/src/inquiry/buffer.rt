@@ -41,8 +41,9 @@ impl<B: Buffer + Drop> LineFilter for InquiryLines<B> {
 
     fn skip(&mut self, line: &Line) -> bool {
         match data_of(line.bytes()) {
-            Some(bytes) => {
+            Some(mut bytes) => {
                 self.buffer.add(bytes.bytes());
+                bytes.clear();
                 true
             }
             None => is_idle(line.bytes()),

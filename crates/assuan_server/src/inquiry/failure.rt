@@ -6,7 +6,7 @@ use crate::{Dropped, Inquired, InquiredSecret};
 use assuan_line::Took;
 use assuan_text::first_word;
 
-/// Why an inquiry brought no bytes.
+/// Why an inquiry has no bytes for its caller.
 #[derive(Clone, Copy, Debug, PartialEq, Eq)]
 pub(crate) enum Failure {
     Cancelled,
@@ -74,7 +74,7 @@ impl From<Failure> for Dropped {
     }
 }
 
-/// Whether the answer after an inquiry's data lines is END, or why the inquiry brought no bytes.
+/// Whether the answer after an inquiry's data lines is END, or why the inquiry has none for its caller.
 pub(crate) fn end_of(took: Took) -> Result<(), Failure>
     ensures end { OnOk result ((line : List ℕ) × (took ≡ Took.Line line) × IsWord (codes "end") line) }
     ensures failure { IfErr result (λ failure. (limit : ℕ) (bytes : List ℕ) → ComesTo limit bytes took (without failure)) }

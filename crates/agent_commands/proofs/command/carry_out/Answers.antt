@@ -1,6 +1,6 @@
 use Rattle.std.proofs.Common.{sym, ◌∙◌, subst, refl}
 use Rattle.agent_ask.specs.Doing.{DoesCall}
-use Rattle.agent_commands.specs.Exchanges.{Exchange, LooksFirst, WithoutPrompt, by_prompt, without_prompt, quiet, nop, reset, bye, help_given, option_judged, info, clear, reload, kill}
+use Rattle.agent_commands.specs.Exchanges.{Exchange, LooksFirst, WithoutPrompt, by_prompt, without_prompt, quiet, nop, reset, bye, help_given, option_applied, info, clear, reload, kill}
 use Rattle.agent_commands.specs.Outside.{world, prompt_world}
 use Rattle.agent_commands.specs.States.{session_state}
 use Rattle.agent_commands.specs.Steps.{Carries}
@@ -39,7 +39,7 @@ pub returns-in-SetOption-clause-carries : goal.returns-in-SetOption-clause-carri
 returns-in-SetOption-clause-carries g c =
     prepared_on {w = prompt_world g.D.Desk.turned g.P.Prompter.prompted} (Exchange c.args.rules.now c.args.options.now (Cache c.args.command.now))
     _ c.on-in-SetOption.result c.option_response.result _ c.requires.open c.on-in-SetOption.ensures
-    (λ text is. rw (c.option_response.ensures text is, c.set.ensures.answer, c.set.ensures.after, c.deref.ensures.0, c.in-SetOption.is) option_judged)
+    (λ text is. rw (c.option_response.ensures text is, c.set.ensures.answer, c.set.ensures.after, c.deref.ensures.0, c.in-SetOption.is) option_applied)
 
 pub returns-in-GetInfo-clause-carries : goal.returns-in-GetInfo-clause-carries
 returns-in-GetInfo-clause-carries g c =

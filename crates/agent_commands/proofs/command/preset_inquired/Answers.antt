@@ -1,13 +1,13 @@
 use Rattle.std.proofs.Common.{Ok, Err}
 use Rattle.agent_commands.specs.Outside.{world}
 use Rattle.agent_commands.proofs.Inquiring.{asks_secret}
-use Rattle.agent_commands.proofs.Presetting.{brought_so, vain_so}
+use Rattle.agent_commands.proofs.Presetting.{with_data_so, vain_so}
 use Rattle.agent_commands.proofs.command.preset_inquired.Goals as goal
 
 pub returns-in-Ok-clause-carries : goal.returns-in-Ok-clause-carries
 returns-in-Ok-clause-carries g c = λ rules before allowed.
     let asked = asks_secret (world g.D.Desk.turned) c.args.desk.now tt c.args.conn.now c.inquire_passphrase.new.conn (Ok c.in-Ok.secret) c.requires c.in-Ok.ensures in
-    brought_so g.D.Desk.turned rules before allowed c.args.id.now c.args.life _ _ c.store.new.desk c.in-Ok.secret asked.0 asked.1 c.store.ensures.takes
+    with_data_so g.D.Desk.turned rules before allowed c.args.id.now c.args.life _ _ c.store.new.desk c.in-Ok.secret asked.0 asked.1 c.store.ensures.takes
 
 pub returns-in-Err-clause-carries : goal.returns-in-Err-clause-carries
 returns-in-Err-clause-carries g c = λ rules before allowed.

@@ -14,31 +14,31 @@ next_request-requires g c = c.loop-line.invariant.going
 pub loop-line-smaller : goal.loop-line-smaller
 loop-line-smaller g c =
     let fewer : held c.next_request.new.self.reader < held c.loop-line.conn.reader = rw c.in-Line.is at c.next_request.ensures.read.progress in
-    let answered = rw c.in-On.is at c.answer.ensures.answers in
+    let answered = rw c.in-On.is at c.answer-went.ensures.answers in
     omega (arith, fewer, answered.fits.1)
 
 pub loop-line-preserved : goal.loop-line-preserved
 loop-line-preserved g c =
     let i = c.loop-line.invariant in
-    let answered = rw c.in-On.is at c.answer.ensures.answers in
+    let answered = rw c.in-On.is at c.answer-went.ensures.answers in
     record {
       serving =
           serves_on {w = prompt_world g.D.Desk.turned g.P.Prompter.prompted} (LineExchange c.args.rules.now) c.args.options.now _ _ _ i.serving
           _ _ i.going c.next_request.ensures c.in-Line.line c.in-Line.is _ _ answered;
       going = answered.fits.0;
-      free = c.answer.ensures.free;
-      shut = c.answer.ensures.shut;
+      free = c.answer-went.ensures.free;
+      shut = c.answer-went.ensures.shut;
     }
 
-pub returns-in-End-answer : goal.returns-in-End-answer
-returns-in-End-answer g c =
+pub returns-in-End-went : goal.returns-in-End-went
+returns-in-End-went g c =
     let i = c.loop-line.invariant in
     record {
       serves =
           is_over {w = prompt_world g.D.Desk.turned g.P.Prompter.prompted} (LineExchange c.args.rules.now) c.args.options.now _ _ _ i.serving
-          _ _ i.going c.next_request.ensures c.in-Line.line c.in-Line.is _ _ c.in-End-answer.end (rw c.in-End-answer.is at c.answer.ensures.answers);
-      free = c.answer.ensures.free;
-      shut = c.answer.ensures.shut;
+          _ _ i.going c.next_request.ensures c.in-Line.line c.in-Line.is _ _ c.in-End-went.end (rw c.in-End-went.is at c.answer-went.ensures.answers);
+      free = c.answer-went.ensures.free;
+      shut = c.answer-went.ensures.shut;
     }
 
 pub returns-in-Ok : goal.returns-in-Ok

@@ -1,4 +1,7 @@
-use Rattle.std.proofs.Common.{◌∙◌, refl, sym}
+use Rattle.std.proofs.Common.{◌∙◌, refl, subst, sym}
+use Rattle.assuan_line.specs.Reading.{HasRead}
+use Rattle.assuan_line.specs.Skipping.{IsUndecided, ReadsOn}
+use Rattle.assuan_line.specs.declared.reader.Took.{Took}
 use Rattle.assuan_line.proofs.ReadingOn.{has_read, stops_no_line, skipping_none, skipping_more, read_on}
 use Rattle.assuan_line.proofs.filter.next_after_skipped.Goals as goal
 
@@ -43,5 +46,7 @@ returns-then-not-skip-clause-read g c = λ before kept.
     let e = c.next-took.ensures in
     let skip = c.skip.ensures in
     let read = has_read _ _ _ _ _ i.going e.known e.budget e.needed e.progress e.spent e.fault e.faults e.ended in
-    read_on _ before _ (g.F.LineFilter.keeps c.skip.new.self) _ _ _ _ _ _ _ (i.skipping before kept) read
-    (λ lines keeps. rw c.in-Line.is (sym (skip.known lines keeps) ∙ c.if-not-skip.true)) (λ lines keeps. skip.stays lines keeps c.if-not-skip.true)
+    subst (λ (took : Took). HasRead (IsUndecided g.F.LineFilter.skips before) (ReadsOn g.F.LineFilter.skips before (g.F.LineFilter.keeps c.skip.new.self))
+    c.args.reader.now (g.S.Source.input c.args.source.now) took c.next-took.new.self (g.S.Source.input c.next-took.new.source)) c.in-Line.is
+    (read_on _ before _ (g.F.LineFilter.keeps c.skip.new.self) _ _ _ _ _ _ _ (i.skipping before kept) read
+    (λ lines keeps. rw c.in-Line.is (sym (skip.known lines keeps) ∙ c.if-not-skip.true)) (λ lines keeps. skip.stays lines keeps c.if-not-skip.true))

@@ -1,6 +1,6 @@
 use Rattle.std.proofs.Common.{◌≡◌, refl, ap, sym, ◌∙◌, subst}
 use Rattle.assuan_line.specs.Ahead.{bytes_ahead}
-use Rattle.assuan_line.specs.Stops.{reader_at, HasReadOn, Decides}
+use Rattle.assuan_line.specs.Stops.{reader_at, ReadAhead, Decides}
 use Rattle.assuan_line.specs.declared.buffer.Ahead.{Ahead}
 use Rattle.assuan_line.specs.declared.reader.Took.{Took}
 use Rattle.assuan_line.proofs.Reading.{read_then, undecided_before, decides_since, decides_ahead}
@@ -31,7 +31,7 @@ returns-in-Err-clause-taken g c =
     let i = c.loop-took.invariant in
     let e = c.read_ahead.ensures in
     let same : c.take_line.new.self ≡ c.loop-took.ahead = c.in-End.ensures.others refl in
-    let next = subst (λ (a : Ahead). HasReadOn (reader_at a c.loop-took.left) (g.S.Source.input c.loop-took.source) (reader_at c.read_ahead.new.ahead c.read_ahead.new.left) (g.S.Source.input c.read_ahead.new.source)) same e.read in
+    let next = subst (λ (a : Ahead). ReadAhead (reader_at a c.loop-took.left) (g.S.Source.input c.loop-took.source) (reader_at c.read_ahead.new.ahead c.read_ahead.new.left) (g.S.Source.input c.read_ahead.new.source)) same e.read in
     let after = reader_at c.read_ahead.new.ahead c.read_ahead.new.left in
     record {
       middle = after;
@@ -49,7 +49,7 @@ loop-took-preserved g c =
     let i = c.loop-took.invariant in
     let e = c.read_ahead.ensures in
     let same : c.take_line.new.self ≡ c.loop-took.ahead = c.in-End.ensures.others refl in
-    let next = subst (λ (a : Ahead). HasReadOn (reader_at a c.loop-took.left) (g.S.Source.input c.loop-took.source) (reader_at c.read_ahead.new.ahead c.read_ahead.new.left) (g.S.Source.input c.read_ahead.new.source)) same e.read in
+    let next = subst (λ (a : Ahead). ReadAhead (reader_at a c.loop-took.left) (g.S.Source.input c.loop-took.source) (reader_at c.read_ahead.new.ahead c.read_ahead.new.left) (g.S.Source.input c.read_ahead.new.source)) same e.read in
     record {
       read = read_then _ (reader_at c.loop-took.ahead c.loop-took.left) (reader_at c.read_ahead.new.ahead c.read_ahead.new.left) _ (g.S.Source.input c.loop-took.source) _ i.read next;
       alone = λ decided. absurd (undecided_before _ _ _ _ i.read (sym c.in-End.ensures.took) decided);

@@ -1,7 +1,7 @@
 use Rattle.std.proofs.Common.{◌≡◌, ◌≢◌}
 use Rattle.assuan_line.specs.Ahead.{bytes_ahead, IsWithin}
 use Rattle.assuan_line.specs.Next.{next_of}
-use Rattle.assuan_line.specs.Stops.{reader_at, HasReadOn}
+use Rattle.assuan_line.specs.Stops.{reader_at, ReadAhead}
 use Rattle.assuan_line.specs.declared.reader.Took.TheVariants.{End}
 use Rattle.assuan_line.proofs.reader.take_line.Given as goal
 
@@ -9,7 +9,7 @@ use Rattle.assuan_line.proofs.reader.take_line.Given as goal
 abbrev pub invariant-loop-took : goal.invariant-loop-took
 invariant-loop-took g l =
     record {
-      read : HasReadOn (reader_at l.fn.ahead l.fn.left) (g.S.Source.input l.fn.source) (reader_at l.ahead l.left) (g.S.Source.input l.source);
+      read : ReadAhead (reader_at l.fn.ahead l.fn.left) (g.S.Source.input l.fn.source) (reader_at l.ahead l.left) (g.S.Source.input l.source);
       alone : next_of (bytes_ahead l.fn.ahead) ≢ End → l.source ≡ l.fn.source;
       beside : g.S.Source.beside_input l.source ≡ g.S.Source.beside_input l.fn.source;
       within : IsWithin l.ahead;

@@ -15,4 +15,4 @@ returns-clause-sent g c =
     let all = take_all c.loop-part.part-index c.args.parts.now c.loop-part-test.false in
     let text = rw all at c.loop-part.invariant in
     let line = rw text at (c.bytes.ensures.value ∙ c.push.ensures) in
-    has_sent _ _ _ c.put.result (omega (arith, length_push (flat_map (λ part. part.now) c.args.parts.now) 10, c.requires.short)) (rw line at c.put.ensures.cut) (rw line at c.put.ensures.written) c.put.ensures.failed
+    has_sent _ _ _ c.put-sent.result (omega (arith, length_push (flat_map (λ part. part.now) c.args.parts.now) 10, c.requires.short)) (rw line at c.put-sent.ensures.cut) (rw line at c.put-sent.ensures.written) c.put-sent.ensures.failed

@@ -1,5 +1,5 @@
 use Rattle.assuan_server.specs.Inquiries.{IsAtEnd}
-use Rattle.assuan_server.proofs.Inquiring.{failed, brought, beyond}
+use Rattle.assuan_server.proofs.Inquiring.{failed, with_data, beyond}
 use Rattle.assuan_server.proofs.inquiry.buffered.Goals as goal
 
 pub returns-in-Err-clause-answer : goal.returns-in-Err-clause-answer
@@ -8,7 +8,7 @@ returns-in-Err-clause-answer c = rw c.into.ensures (failed IsAtEnd c.in-Err.ensu
 pub returns-in-Some-clause-answer : goal.returns-in-Some-clause-answer
 returns-in-Some-clause-answer c =
     let end = c.in_default.ensures.end in
-    brought end.0 end.1 end.2 c.in-Some.secret c.in-Some.ensures
+    with_data end.0 end.1 end.2 c.in-Some.secret c.in-Some.ensures
 
 pub returns-in-None-clause-answer : goal.returns-in-None-clause-answer
 returns-in-None-clause-answer c =

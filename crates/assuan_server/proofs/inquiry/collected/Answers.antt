@@ -1,6 +1,6 @@
 use Rattle.std.proofs.Common.{◌≡◌, ◌≤◌, List, ℕ, rules, subst, length}
 use Rattle.assuan_server.specs.Inquiries.{IsAtEnd}
-use Rattle.assuan_server.proofs.Inquiring.{failed, brought, beyond, without_memory}
+use Rattle.assuan_server.proofs.Inquiring.{failed, with_data, beyond, without_memory}
 use Rattle.assuan_server.proofs.inquiry.collected.Goals as goal
 
 pub returns-in-Err-clause-answer : goal.returns-in-Err-clause-answer
@@ -11,7 +11,7 @@ returns-in-None-clause-answer c =
     let end = c.in_default.ensures.end in
     let short : length c.args.buffer.bytes.items ≤ c.args.buffer.limit = search rules in
     rw c.into_bytes.ensures.bytes
-    (brought end.0 end.1 end.2 c.args.buffer.bytes.items (λ other kept.
+    (with_data end.0 end.1 end.2 c.args.buffer.bytes.items (λ other kept.
     let same : c.args.buffer.bytes.items ≡ other = rw c.in-None.is at kept in (same, subst (λ (b : List ℕ). length b ≤ c.args.buffer.limit) same short)))
 
 pub returns-in-TooMuch-clause-answer : goal.returns-in-TooMuch-clause-answer

@@ -1,7 +1,7 @@
 use Rattle.std.proofs.Common.{◌∙◌, ap, sym, arith, List, ℕ}
 use Rattle.assuan_text.specs.LineEnds.{has_lf}
 use Rattle.assuan_line.specs.Lines.{without_cr}
-use Rattle.assuan_line.specs.Stops.{judged}
+use Rattle.assuan_line.specs.Stops.{line_or_too_long}
 use Rattle.assuan_line.proofs.Slices.{take_across}
 use Rattle.assuan_line.proofs.buffer.Ahead.line_before.Goals as goal
 
@@ -12,4 +12,4 @@ line_across-requires c =
 pub returns : goal.returns
 returns c =
     c.line_across.ensures
-    ∙ ap (λ (l : List ℕ). judged (without_cr l)) (sym (take_across c.as_slices.result.0.now c.as_slices.result.1.now _ c.args.end c.as_slices.ensures (omega arith)))
+    ∙ ap (λ (l : List ℕ). line_or_too_long (without_cr l)) (sym (take_across c.as_slices.result.0.now c.as_slices.result.1.now _ c.args.end c.as_slices.ensures (omega arith)))

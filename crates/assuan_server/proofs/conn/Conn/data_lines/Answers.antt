@@ -9,7 +9,7 @@ pub returns-in-Failed : goal.returns-in-Failed
 returns-in-Failed g c =
     let line = c.full_line-line.ensures in
     rw c.saturating_add.ensures
-    (written_cut c.args.bytes.now c.args.self.now c.loop-rest.self c.loop-rest.rest.now c.loop-rest.sent c.loop-rest.invariant c.full_line-line.result.1 line.first c.say.new.self c.in-Failed.part line.others
+    (written_cut c.args.bytes.now c.args.self.now c.loop-rest.self c.loop-rest.rest.now c.loop-rest.sent c.loop-rest.invariant c.full_line-line.result.1 line.first c.say-said.new.self c.in-Failed.part line.others
     (written_alone (data_line (take c.full_line-line.result.1 c.loop-rest.rest.now)) (rw (c.bytes.ensures.value, line.text) at c.in-Failed.ensures)))
 
 pub loop-rest-preserved : goal.loop-rest-preserved
@@ -17,7 +17,7 @@ loop-rest-preserved g c =
     let line = c.full_line-line.ensures in
     let len : c.len-whole.result ≡ length (data_line (take c.full_line-line.result.1 c.loop-rest.rest.now)) = c.len-whole.ensures.value ∙ ap (λ (x : List ℕ). length x) line.text in
     rw (c.split_at.ensures.back, c.saturating_add-sent.ensures, len)
-    (writing_more c.args.bytes.now c.args.self.now c.loop-rest.self c.loop-rest.rest.now c.loop-rest.sent c.loop-rest.invariant c.full_line-line.result.1 line.first c.say.new.self
+    (writing_more c.args.bytes.now c.args.self.now c.loop-rest.self c.loop-rest.rest.now c.loop-rest.sent c.loop-rest.invariant c.full_line-line.result.1 line.first c.say-said.new.self
     (written_alone (data_line (take c.full_line-line.result.1 c.loop-rest.rest.now)) (rw (c.bytes.ensures.value, line.text) at c.in-All.ensures)))
 
 pub returns : goal.returns

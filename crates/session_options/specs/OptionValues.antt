@@ -1,4 +1,4 @@
--- What a session's client has chosen, and what an option makes of it (GnuPG manual, "Agent OPTION"). What is refused is this
+-- The option values of a session, and what an option makes of them (GnuPG manual, "Agent OPTION"). What is refused is this
 -- project's own.
 use Rattle.std.specs.Prelude.{ℕ, Bool, true, false, List, [], Option, Some, None, if◌then◌else◌}
 use Rattle.session_options.specs.Text.{name_of, value_of, can_be_kept}
@@ -26,8 +26,8 @@ words_of env = record {
   lc_messages = env.lc_messages.items;
 }
 
--- what is chosen, and what the rules said of it
-pub record Choices : Type 0 where
+-- the option values, and what the rules said of them
+pub record OptionValues : Type 0 where
   pub env : EnvWords
   pub notify : Bool
   pub mode : PinMode
@@ -35,8 +35,8 @@ pub record Choices : Type 0 where
   pub rules_count : ℕ
   pub allow_loopback : Bool
 
--- nothing is chosen yet, under these rules
-abbrev pub at_start : ℕ → Bool → Choices
+-- before any option, under these rules
+abbrev pub at_start : ℕ → Bool → OptionValues
 at_start rules_count allow_loopback = record {
   env = record { ttyname = []; ttytype = []; lc_ctype = []; lc_messages = [] };
   notify = false;
@@ -46,52 +46,52 @@ at_start rules_count allow_loopback = record {
   allow_loopback = allow_loopback;
 }
 
--- what an option is answered, and what is chosen after it
-pub record Judged : Type 0 where
+-- what an option is answered, and the option values after it
+pub record Applied : Type 0 where
   pub answer : OptionAnswer
-  pub after : Choices
+  pub after : OptionValues
 
--- the option is set, and this is chosen now
-abbrev pub set_to : Choices → Judged
+-- the option is set, with these values now
+abbrev pub set_to : OptionValues → Applied
 set_to after = record { answer = Set; after = after }
 
--- a refusal leaves what was chosen
-abbrev pub refused : OptionAnswer → Choices → Judged
+-- a refusal leaves the values as they were
+abbrev pub refused : OptionAnswer → OptionValues → Applied
 refused answer old = record { answer = answer; after = old }
 
-abbrev pub with_mode : Choices → Option PinMode → Judged
+abbrev pub with_mode : OptionValues → Option PinMode → Applied
 with_mode old None = refused Parameter old
 with_mode old (Some Loopback) =
     if old.allow_loopback then set_to (record old { mode = Loopback }) else refused NotSupported old
 with_mode old (Some mode) = set_to (record old { mode = mode })
 
-abbrev pub with_count : Choices → Option ℕ → Judged
+abbrev pub with_count : OptionValues → Option ℕ → Applied
 with_count old None = refused Parameter old
 with_count old (Some count) = set_to (record old { s2k_count = count })
 
 -- what a known option makes of a value that can be kept
-abbrev pub chosen : Choices → List ℕ → OptionName → Judged
-chosen old value TtyName = set_to (record old { env = record old.env { ttyname = value } })
-chosen old value TtyType = set_to (record old { env = record old.env { ttytype = value } })
-chosen old value LcCtype = set_to (record old { env = record old.env { lc_ctype = value } })
-chosen old value LcMessages = set_to (record old { env = record old.env { lc_messages = value } })
-chosen old value NoEffect = set_to old
-chosen old value AllowPinentryNotify = set_to (record old { notify = true })
-chosen old value PinentryMode = with_mode old (mode_of value)
-chosen old value S2kCount = with_count old (count_of old.rules_count value)
+abbrev pub with_value : OptionValues → List ℕ → OptionName → Applied
+with_value old value TtyName = set_to (record old { env = record old.env { ttyname = value } })
+with_value old value TtyType = set_to (record old { env = record old.env { ttytype = value } })
+with_value old value LcCtype = set_to (record old { env = record old.env { lc_ctype = value } })
+with_value old value LcMessages = set_to (record old { env = record old.env { lc_messages = value } })
+with_value old value NoEffect = set_to old
+with_value old value AllowPinentryNotify = set_to (record old { notify = true })
+with_value old value PinentryMode = with_mode old (mode_of value)
+with_value old value S2kCount = with_count old (count_of old.rules_count value)
 
 -- a known option, whose value can be kept or not
-abbrev pub valued : Choices → List ℕ → Option OptionName → Judged
+abbrev pub valued : OptionValues → List ℕ → Option OptionName → Applied
 valued old value None = refused Unknown old
 valued old value (Some name) =
-    if can_be_kept value then chosen old value name else refused Parameter old
+    if can_be_kept value then with_value old value name else refused Parameter old
 
 -- an option with this name and value: an empty name comes before all, an unknown one before the value. The order is this
 -- project's own
-abbrev pub judged_as : Choices → List ℕ → List ℕ → Judged
-judged_as old [] value = refused Parameter old
-judged_as old name value = valued old value (named name)
+abbrev pub applied_as : OptionValues → List ℕ → List ℕ → Applied
+applied_as old [] value = refused Parameter old
+applied_as old name value = valued old value (named name)
 
 -- the text of an option
-unfoldable pub judged : Choices → List ℕ → Judged
-judged old text = judged_as old (name_of text) (value_of text)
+unfoldable pub applied : OptionValues → List ℕ → Applied
+applied old text = applied_as old (name_of text) (value_of text)
