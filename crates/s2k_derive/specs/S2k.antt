@@ -2,6 +2,7 @@
 use Rattle.std.specs.Prelude.{ℕ, ◌+◌, ◌*◌, ◌/◌, ◌%◌, ◌^◌, List, ◌++◌, length, take, map, max, nat_lt, slice_index, ◌≤◌, if◌then◌else◌}
 use Rattle.std.specs.List.{range_with_len}
 use Rattle.sha1.specs.Sha1.{sha1}
+use Rattle.s2k_derive.specs.declared.TheConstants.{MIN_COUNT, MAX_COUNT}
 
 -- the first n bytes of a text repeated without end: at place i stands byte i modulo its length
 unfoldable pub repeated : List ℕ → ℕ → List ℕ
@@ -20,5 +21,5 @@ octets n = if nat_lt n 256 then (16 + n % 16) * 2 ^ (n / 16 + 6) else n
 
 -- a count of bytes that is accepted; the bounds are this project's own
 pub record IsAccepted (count : ℕ) : Type 0 where
-  pub least : 65536 ≤ count
-  pub greatest : count ≤ 2 ^ 32
+  pub least : MIN_COUNT ≤ count
+  pub greatest : count ≤ MAX_COUNT

@@ -1,22 +1,28 @@
 //! The key that a passphrase gives: iterated and salted S2K (RFC 4880, 3.7.1.3) with SHA-1.
 #![tactic(auto)]
 
-ghost use Rattle.std.specs.Prelude.{◌≡◌, ◌+◌, ◌^◌, ◌<◌, ◌≤◌, ◌++◌, length, slice_index, SomeIff};
+ghost use Rattle.std.specs.Prelude.{◌≡◌, ◌+◌, ◌<◌, ◌≤◌, ◌++◌, length, slice_index, SomeIff};
 ghost use Rattle.sha1.specs.Sha1.{sha1};
 ghost use Rattle.s2k_derive.specs.S2k.{repeated, derived_key, octets, IsAccepted};
-ghost use Rattle.s2k_derive.specs.declared.TheConstants.{PIECE_LEN};
+ghost use Rattle.s2k_derive.specs.declared.TheConstants.{MAX_PASSPHRASE_LEN, MAX_COUNT, PIECE_LEN};
 
 use sha1::Sha1;
 use wiping::wipe;
 
+/// How many bytes a passphrase has at most.
+pub const MAX_PASSPHRASE_LEN: usize = 255;
+
+/// The fewest bytes that an accepted count stands for. The bound is this project's own: an octet codes counts from 1024
+/// on (RFC 4880, 3.7.1.3).
+pub const MIN_COUNT: u64 = 65_536;
+
+/// The most bytes that an accepted count stands for. The bound is this project's own: an octet codes counts up to
+/// 65,011,712 (RFC 4880, 3.7.1.3).
+pub const MAX_COUNT: u64 = 4_294_967_296;
+
 const SALT_LEN: usize = 8;
 
 const KEY_LEN: usize = 16;
-
-// The bounds of an accepted count, in bytes.
-const MIN_COUNT: u64 = 65_536;
-
-const MAX_COUNT: u64 = 4_294_967_296;
 
 // Copies of salt and passphrase are hashed in pieces of about this many bytes, so that what a piece
 // costs beside its hash does not count.
@@ -28,8 +34,8 @@ const PIECE_LEN: usize = 2048;
 /// The copies of the passphrase that it makes are overwritten; the key is the caller's to overwrite. What the hasher
 /// keeps of the last 64 bytes isn't.
 pub fn derive(pass: &[u8], salt: &[u8; 8], count: u64) -> [u8; 16]
-    requires short { length pass.now ≤ 255 }
-    requires bounded { count ≤ 2 ^ 32 }
+    requires short { length pass.now ≤ MAX_PASSPHRASE_LEN }
+    requires bounded { count ≤ MAX_COUNT }
     ensures { result ≡ derived_key pass.now salt.now count }
 {
     let copy_len = SALT_LEN + pass.len();
@@ -52,7 +58,7 @@ pub fn derive(pass: &[u8], salt: &[u8; 8], count: u64) -> [u8; 16]
 
 // Salt and passphrase over and over, as far as there is room.
 fn write_copies(copies: &mut [u8; PIECE_LEN], pass: &[u8], salt: &[u8; 8])
-    requires { length pass.now ≤ 255 }
+    requires { length pass.now ≤ MAX_PASSPHRASE_LEN }
     ensures { copies.new ≡ repeated (salt.now ++ pass.now) PIECE_LEN }
 {
     let copy_len = SALT_LEN + pass.len();

@@ -1,9 +1,10 @@
 -- What is made of a key opens to it.
-use Rattle.std.proofs.Common.{◌≡◌, ℕ, ◌+◌, ◌-◌, ◌%◌, ◌^◌, ◌<◌, ◌≤◌, Bool, true, false, List, [], ◌∷◌, ◌++◌, length, take, Result, Ok, Err, IfOk, IfSome, Option, Some, None, refl, sym, ap, subst, ◌∙◌, arith, length-append}
+use Rattle.std.proofs.Common.{◌≡◌, ℕ, ◌+◌, ◌-◌, ◌%◌, ◌<◌, ◌≤◌, Bool, true, false, List, [], ◌∷◌, ◌++◌, length, take, Result, Ok, Err, IfOk, IfSome, Option, Some, None, refl, sym, ap, subst, ◌∙◌, arith, length-append}
 use Rattle.std.proofs.lemmas.List.{length-take}
 use Rattle.std.specs.List.{flat_map}
 use Rattle.std.proofs.lemmas.Bool.{le-ltb}
 use Rattle.s2k_derive.specs.S2k.{octets}
+use Rattle.s2k_derive.specs.declared.TheConstants.{MIN_COUNT, MAX_COUNT}
 use Rattle.sha1.specs.Sha1.{sha1}
 use Rattle.sexp_canonical.specs.Tree.{Tree, leaf, list_of}
 use Rattle.sexp_canonical.specs.Spelling.{numeral, spelling, depth}
@@ -21,7 +22,7 @@ use Rattle.secret_file.proofs.Fits.{FitsLocked, list_some, times_len, locked_len
 large_count : (n : ℕ) → 256 ≤ n → octets n ≡ n
 large_count n h = let no = le-ltb n 256 h in rw no refl
 
-count_written : (count : ℕ) → 65536 ≤ count → count ≤ 2 ^ 32 → IsCount (numeral count) count
+count_written : (count : ℕ) → MIN_COUNT ≤ count → count ≤ MAX_COUNT → IsCount (numeral count) count
 count_written count low high = record {
   written = count;
   spelled = refl;
@@ -33,8 +34,8 @@ count_written count low high = record {
 -- what is known of the parts of a protection that is made
 pub record IsMade (key : Key) (p : Protection) (time : Option (List ℕ)) (plain : List ℕ) (pass : List ℕ) : Type 0 where
   pub fits : FitsLocked key p time
-  pub low : 65536 ≤ p.count
-  pub high : p.count ≤ 2 ^ 32
+  pub low : MIN_COUNT ≤ p.count
+  pub high : p.count ≤ MAX_COUNT
   pub blocks : AreBlocks p.encrypted
   pub opens : opened pass p ≡ plain
 
@@ -88,7 +89,7 @@ made_opens key p time pass plain padding formed clear short shallow h e =
       };
     }
 
-pub fits_made : (key : Key) (p : Protection) (time : Option (List ℕ)) (plain pass text padding : List ℕ) → length p.salt ≡ 8 → length p.iv ≡ 16 → 65536 ≤ p.count → p.count ≤ 2 ^ 32
+pub fits_made : (key : Key) (p : Protection) (time : Option (List ℕ)) (plain pass text padding : List ℕ) → length p.salt ≡ 8 → length p.iv ≡ 16 → MIN_COUNT ≤ p.count → p.count ≤ MAX_COUNT
     → length (flat_map spelling (time_lists time)) ≤ 41 → length text ≤ length (flat_map spelling key.private) + 52 → 0 < length text → plain ≡ padded text padding → length plain % 16 ≡ 0 → length p.encrypted ≡ length plain
     → opened pass p ≡ plain → IsMade key p time plain pass
 fits_made key p time plain pass text padding salt iv low high times text-len some e whole len opens =
@@ -110,7 +111,7 @@ pub text_some : (key : Key) (time : Option (List ℕ)) (text : List ℕ) → tex
 text_some key time text e = omega (arith, ap length e, list_some (list_of key.private ∷ hash_tree (sha1 (hashed_list_of key time)) ∷ []))
 
 pub file_opens : (key : Key) (p : Protection) (time : Option (List ℕ)) (pass text plain padding file : List ℕ) (lists : List Tree) → IsFormed key → key.is_clear ≡ true → length (spelling (key_tree key)) ≤ 65000 → depth (key_tree key) ≤ 64
-    → length p.salt ≡ 8 → length p.iv ≡ 16 → 65536 ≤ p.count → p.count ≤ 2 ^ 32 → IfSome time (λ t. length t ≡ 15) → text ≡ secret_text key time → length text ≤ length (flat_map spelling key.private) + 52
+    → length p.salt ≡ 8 → length p.iv ≡ 16 → MIN_COUNT ≤ p.count → p.count ≤ MAX_COUNT → IfSome time (λ t. length t ≡ 15) → text ≡ secret_text key time → length text ≤ length (flat_map spelling key.private) + 52
     → plain ≡ padded text padding → length plain % 16 ≡ 0 → length p.encrypted ≡ length plain → opened pass p ≡ plain
     → lists ≡ written_protection p ∷ time_lists time → file ≡ key_list_of (protected_with key lists) → Opens file pass key
 file_opens key p time pass text plain padding file lists formed clear short shallow salt iv low high times text-is text-len plain-is whole len opens lists-are file-is =

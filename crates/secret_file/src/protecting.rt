@@ -1,6 +1,6 @@
 //! A clear key is protected.
 
-ghost use Rattle.std.specs.Prelude.{◌≡◌, ◌≤◌, ◌%◌, ◌^◌, ◌+◌, ◌<◌, ℕ, [], ◌∷◌, ◌++◌, length, IfOk, IfSome, OnOk, IsTrue};
+ghost use Rattle.std.specs.Prelude.{◌≡◌, ◌≤◌, ◌%◌, ◌+◌, ◌<◌, ℕ, [], ◌∷◌, ◌++◌, length, IfOk, IfSome, OnOk, IsTrue};
 ghost use Rattle.std.specs.List.{flat_map};
 ghost use Rattle.std.specs.Option.{option_copied};
 ghost use Rattle.sexp_canonical.specs.Tree.{leaf, list_of};
@@ -8,6 +8,7 @@ ghost use Rattle.sexp_canonical.specs.declared.tree.Sexp.{Sexp};
 ghost use Rattle.sexp_canonical.specs.View.{tree_of, trees};
 ghost use Rattle.sexp_canonical.specs.Spelling.{most_depth, depth, spelling};
 ghost use Rattle.s2k_derive.specs.S2k.{derived_key};
+ghost use Rattle.s2k_derive.specs.declared.TheConstants.{MAX_PASSPHRASE_LEN, MIN_COUNT, MAX_COUNT};
 ghost use Rattle.aes_modes.specs.Cbc.{cbc_encrypted, cbc_decrypted};
 ghost use Rattle.sexp_keys.specs.Names.{time_name};
 ghost use Rattle.sexp_keys.specs.Key.{key_tree};
@@ -74,8 +75,8 @@ fn is_undone(key: &[u8; 16], iv: &[u8; 16], plain: &[u8])
 
 // Encrypts the bytes in their place.
 fn encrypted_by(pass: &[u8], salt: &[u8; 8], count: u64, iv: &[u8; 16], plain: Bytes) -> Vec<u8>
-    requires short { length pass.now ≤ 255 }
-    requires bounded { count ≤ 2 ^ 32 }
+    requires short { length pass.now ≤ MAX_PASSPHRASE_LEN }
+    requires bounded { count ≤ MAX_COUNT }
     requires whole { length plain % 16 ≡ 0 }
     ensures value { result.items ≡ cbc_encrypted (derived_key pass.now salt.now count) iv.now plain }
     ensures undone { let key = derived_key pass.now salt.now count in cbc_decrypted key iv.now (cbc_encrypted key iv.now plain) ≡ plain }
@@ -197,9 +198,9 @@ pub fn protect(
     requires clear { IsTrue key.now.is_clear }
     requires short { length (key_list_of key.now) ≤ 65000 }
     requires shallow { depth (key_tree key.now) ≤ most_depth }
-    requires pass { length pass.now ≤ 255 }
-    requires least { 65536 ≤ count }
-    requires greatest { count ≤ 2 ^ 32 }
+    requires pass { length pass.now ≤ MAX_PASSPHRASE_LEN }
+    requires least { MIN_COUNT ≤ count }
+    requires greatest { count ≤ MAX_COUNT }
     ensures file { IfOk result (λ file. file.items ≡ protected_file key.now
         (protection_by key.now pass.now salt.now iv.now padding.now count (option_copied time.entry)) (option_copied time.entry)) }
 

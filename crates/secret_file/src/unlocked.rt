@@ -1,5 +1,6 @@
-ghost use Rattle.std.specs.Prelude.{◌≡◌, ◌≤◌, ◌⊎◌, ◌%◌, ℕ, ◌^◌, false, length, IfOk, IfErr};
+ghost use Rattle.std.specs.Prelude.{◌≡◌, ◌≤◌, ◌⊎◌, ◌%◌, ℕ, false, length, IfOk, IfErr};
 ghost use Rattle.s2k_derive.specs.S2k.{derived_key};
+ghost use Rattle.s2k_derive.specs.declared.TheConstants.{MAX_PASSPHRASE_LEN, MAX_COUNT};
 ghost use Rattle.aes_modes.specs.Cbc.{cbc_decrypted};
 ghost use Rattle.sexp_canonical.specs.Spelling.{most_bytes};
 ghost use Rattle.sexp_keys.specs.Key.{Key};
@@ -42,7 +43,7 @@ pub enum Unlocked {
 
 /// Opens a protected key file by a passphrase. What is decrypted is overwritten, and so is the key when it is dropped.
 pub fn unprotect(alloc: Global, file: &[u8], pass: &[u8]) -> Unlocked
-    requires { length pass.now ≤ 255 }
+    requires { length pass.now ≤ MAX_PASSPHRASE_LEN }
 
     // The key, or else the first fault. Only want of memory may come at any time.
     ensures answer { (result ≡ Unlocked.NoMemory) ⊎ Answers file.now pass.now result }
@@ -55,7 +56,7 @@ pub fn unprotect(alloc: Global, file: &[u8], pass: &[u8]) -> Unlocked
 }
 
 fn answer_for_file(alloc: Global, file: &[u8], pass: &[u8]) -> Unlocked
-    requires { length pass.now ≤ 255 }
+    requires { length pass.now ≤ MAX_PASSPHRASE_LEN }
     ensures { (result ≡ Unlocked.NoMemory) ⊎ Answers file.now pass.now result }
 {
     match key_of(alloc, file) {
@@ -92,7 +93,7 @@ fn key_of(alloc: Global, file: &[u8]) -> Result<KeyList, KeyFault>
 }
 
 fn answer_for_key(alloc: Global, key: KeyList, pass: &[u8]) -> Unlocked
-    requires short { length pass.now ≤ 255 }
+    requires short { length pass.now ≤ MAX_PASSPHRASE_LEN }
     requires within { (p : parts.Protection) → IsProtection (first_of key.private) p → length p.encrypted ≤ most_bytes }
     ensures { (result ≡ Unlocked.NoMemory) ⊎ AnswersKey key pass.now result }
 {
@@ -118,7 +119,7 @@ fn answer_for_bytes(alloc: Global, locked: KeyList, bytes: &[u8]) -> Unlocked
 }
 
 fn decrypted(alloc: Global, key: &KeyList, pass: &[u8]) -> Result<Bytes, KeyFault>
-    requires { length pass.now ≤ 255 }
+    requires { length pass.now ≤ MAX_PASSPHRASE_LEN }
     ensures found { IfOk result (IsDecrypted key.now.private pass.now) }
     ensures fault { IfErr result (λ fault. (fault ≡ KeyFault.NoMemory) ⊎ IsProtectionFault (first_of key.now.private) fault) }
 {
@@ -133,8 +134,8 @@ fn decrypted_by(
     protection: &Protection<'_>,
     pass: &[u8],
 ) -> Result<Bytes, AllocError>
-    requires short { length pass.now ≤ 255 }
-    requires bounded { protection.now.count ≤ 2 ^ 32 }
+    requires short { length pass.now ≤ MAX_PASSPHRASE_LEN }
+    requires bounded { protection.now.count ≤ MAX_COUNT }
     requires whole { length protection.now.encrypted.now % 16 ≡ 0 }
     ensures value { IfOk result (λ bytes. bytes ≡ cbc_decrypted (derived_key pass.now protection.now.salt protection.now.count)
         protection.now.iv protection.now.encrypted.now) }
