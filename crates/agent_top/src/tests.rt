@@ -402,30 +402,27 @@ fn a_line_has_up_to_1000_bytes(rt: HostRuntime) -> Result<(), Fail> {
 #[test]
 fn faults_of_the_link_have_their_statuses(rt: HostRuntime) -> Result<(), Fail> {
     let alloc = rt.alloc();
-    for (reads, writes, written, status) in [
-        (
-            // What one read brought ahead is answered before the next one fails.
-            vec![in alloc; 1u64]?,
-            Vec::new(alloc),
-            "OK Pleased to meet you\nERR",
-            3u8,
-        ),
-        (
-            Vec::new(alloc),
-            vec![in alloc; 1u64]?,
-            "OK Pleased to meet you\nER",
-            4,
-        ),
-        (Vec::new(alloc), vec![in alloc; 0u64]?, "OK", 4),
+    let never = 99u64;
+    // The most bytes that a read gives, the numbers of the read and of the write that fail, and what comes of it.
+    for (piece, read, write, written, status) in [
+        // The line that came before the read that fails is answered.
+        (1usize, 6u64, never, "OK Pleased to meet you\nOK\n", 3u8),
+        (7, 1, never, "OK Pleased to meet you\nOK\n", 3),
+        (4096, 1, never, "OK Pleased to meet you\nOK\n", 3),
+        (4096, never, 1, "OK Pleased to meet you\nOK", 4),
+        (4096, never, 0, "OK", 4),
     ] {
-        let source = MemSource::new(Vec::from_slice(alloc, b"FOO\nNO")?, 9, reads);
-        let mut stdio = MemLink::new(source, MemSink::new(alloc, 2, writes));
+        let input = Vec::from_slice(alloc, b"NOP\nNO")?;
+        let source = MemSource::new(input, piece, vec![in alloc; read]?);
+        let sink = MemSink::new(alloc, 2, vec![in alloc; write]?);
+        let mut stdio = MemLink::new(source, sink);
         let mut host = host_with(alloc, Vec::new(alloc));
         let got = run_server(alloc, &rules(true), &mut stdio, &mut host);
-        assert_eq!(rt; got, status);
-        assert!(rt;
-            stdio.written().starts_with(written.as_bytes()),
-            "status {status}"
+        assert_eq!(rt; got, status, "{piece}, {read}, {write}");
+        assert_eq!(rt;
+            stdio.written(),
+            written.as_bytes(),
+            "{piece}, {read}, {write}"
         );
     }
     Ok(())

@@ -143,6 +143,58 @@ fn reads_are_few(rt: HostRuntime) -> Result<(), Fail> {
     Ok(())
 }
 
+/// What a client sends that has a passphrase asked for.
+const SESSION: &[u8] =
+    b"RESET\nOPTION ttyname=/dev/pts/1\nOPTION ttytype=xterm\nOPTION lc-ctype=C.UTF-8\nOPTION lc-messages=C.UTF-8\n\
+    GETINFO version\nOPTION allow-pinentry-notify\nOPTION agent-awareness=2.1.0\n\
+    GET_PASSPHRASE --data --repeat=0 -- S1234 X X Enter+passphrase%0AFor+backup\nEND\nBYE\n";
+
+/// The lines that a reader gives, each with a line feed.
+fn given<S: Source>(
+    alloc: Global,
+    reader: &mut LineReader,
+    source: &mut S,
+) -> Result<Vec<u8>, AllocError> {
+    let mut all = Vec::new(alloc);
+    for _ in 0..200 {
+        match reader.next(source) {
+            Took::Line(line) => {
+                all.extend_from_slice(line.bytes())?;
+                all.push(b'\n')?;
+            }
+            _ => break,
+        }
+    }
+    Ok(all)
+}
+
+#[test]
+fn a_session_comes_whole_and_with_a_ring_in_few_reads(rt: HostRuntime) -> Result<(), Fail> {
+    let alloc = rt.alloc();
+    // Whether there is a ring, the most bytes that a read gives, and how many reads there are at least and at most.
+    for (ring, piece, least, most) in [
+        (true, 1usize, 201u64, 400u64),
+        (true, 7, 20, 60),
+        (true, 4096, 1, 19),
+        (false, 1, 201, 400),
+        (false, 7, 201, 400),
+        (false, 4096, 201, 400),
+    ] {
+        let source = MemSource::new(Vec::from_slice(alloc, SESSION)?, piece, Vec::new(alloc));
+        let mut counting = Counting { source, reads: 0 };
+        let mut reader = reader_of(alloc, ring, 1 << 40);
+        let lines = given(alloc, &mut reader, &mut counting)?;
+        assert_eq!(rt; lines.as_slice(), SESSION, "in pieces of {piece}, {ring}");
+        assert_eq!(rt; name(&reader.next(&mut counting)), "end");
+        let reads = counting.reads;
+        assert!(rt;
+            least <= reads && reads <= most,
+            "{reads} reads, {piece}, {ring}"
+        );
+    }
+    Ok(())
+}
+
 #[test]
 fn a_line_is_written_with_its_end(rt: HostRuntime) -> Result<(), Fail> {
     let alloc = rt.alloc();
