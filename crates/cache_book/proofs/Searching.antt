@@ -14,7 +14,7 @@ use Rattle.cache_policy.proofs.Lists.{all_weaker, all_drop}
 use Rattle.cache_book.specs.declared.slot.Slot.{Slot}
 use Rattle.cache_book.specs.Modes.{holds, has_some, not_covered}
 use Rattle.cache_book.specs.Shelves.{serves_at, ServesNone, IsOneOf, here, further, touch_slot, touched, hidden, cleared, swept}
-use Rattle.cache_book.specs.SlotOrders.{is_below, is_upto, wipe_past, AreById, HaveOwnNumbers, AreServing}
+use Rattle.cache_book.specs.SlotOrders.{is_below, is_upto, wiped, wipe_past, AreById, HaveOwnNumbers, AreServing}
 use Rattle.cache_book.proofs.Ordered.{below_back, upto_back, below_apart, past_apart}
 use Rattle.cache_book.proofs.Arranging.{all_take_within, all_drop_within, pairs_parted}
 
@@ -141,9 +141,9 @@ pub swept-wiped : (now : ℕ) (list : List Slot) → swept now (map (wipe_past n
 swept-wiped now [] = refl
 swept-wiped now (slot ∷ later) =
     elim (within slot.entry slot.last now) as (λ b. within slot.entry slot.last now ≡ b
-    → swept now (cond b slot (record slot { entry = record slot.entry { secret = [] } }) ∷ map (wipe_past now) later) ≡ cond b (slot ∷ swept now later) (swept now later)) [
+    → swept now (cond b slot (wiped slot) ∷ map (wipe_past now) later) ≡ cond b (slot ∷ swept now later) (swept now later)) [
       | true ↦ λ e. ap (λ b. cond b (slot ∷ swept now (map (wipe_past now) later)) (swept now (map (wipe_past now) later))) e ∙ ap (λ (l : List Slot). slot ∷ l) (swept-wiped now later)
-      | false ↦ λ e. ap (λ b. cond b (record slot { entry = record slot.entry { secret = [] } } ∷ swept now (map (wipe_past now) later)) (swept now (map (wipe_past now) later))) e ∙ swept-wiped now later
+      | false ↦ λ e. ap (λ b. cond b (wiped slot ∷ swept now (map (wipe_past now) later)) (swept now (map (wipe_past now) later))) e ∙ swept-wiped now later
     ] refl
 
 -- the ends of a stretch

@@ -50,6 +50,10 @@ pub record AreKept (list : List Slot) : Type 0 where
   pub serving : AreServing list
   pub within_mode : AreWithinMode list
 
--- a slot without its passphrase, where it is past a lifetime
+-- a slot without its passphrase
+abbrev pub wiped : Slot → Slot
+wiped slot = record slot { entry = record slot.entry { secret = [] } }
+
+-- the same where it is past a lifetime
 abbrev pub wipe_past : ℕ → Slot → Slot
-wipe_past now slot = if within slot.entry slot.last now then slot else record slot { entry = record slot.entry { secret = [] } }
+wipe_past now slot = if within slot.entry slot.last now then slot else wiped slot

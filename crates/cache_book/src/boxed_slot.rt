@@ -30,7 +30,7 @@ impl BoxedSlot {
     ghost use Rattle.cache_book.specs.Shelves.{touch_slot, hide, new_slot};
     ghost use Rattle.cache_book.specs.Modes.{has_some};
     ghost use Rattle.cache_book.specs.Deadlines.{deadline};
-    ghost use Rattle.cache_book.specs.SlotOrders.{wipe_past};
+    ghost use Rattle.cache_book.specs.SlotOrders.{wiped, wipe_past};
     ghost use Rattle.cache_book.specs.Leads.{IsLead};
 
     /// Memory for a slot to come.
@@ -78,11 +78,6 @@ impl BoxedSlot {
         &self.slot
     }
 
-    /// Ends a slot that leaves the shelf: its passphrase is overwritten where it lies.
-    pub(crate) fn end(mut self) {
-        self.slot.entry.secret.clear();
-    }
-
     /// Overwrites the passphrase of a slot that is past a lifetime at `now`, and leaves any other.
     pub(crate) fn wipe_past(&mut self, now: u64)
         ensures { self.new ≡ wipe_past now self.old }
@@ -93,7 +88,9 @@ impl BoxedSlot {
     }
 
     /// Overwrites the passphrase.
-    pub(crate) fn wipe(&mut self) {
+    pub(crate) fn wipe(&mut self)
+        ensures { self.new ≡ wiped self.old }
+    {
         self.slot.entry.secret.clear();
     }
 

@@ -5,7 +5,7 @@ use cache_policy::{CacheId, Entry, Grant, Mode, NoMemory};
 
 /// The entries that can still be given. Moments are in seconds.
 ///
-/// An entry that leaves the shelf is dropped there and then, so that its passphrase is overwritten.
+/// An entry that leaves the shelf is dropped there and then. A `SlotShelf` overwrites its passphrase where it lies, before the slot is freed.
 pub trait Shelf {
     /// The slots, and how many entries can be stored without taking memory.
     ghost at: { Self → AtShelf };

@@ -1,7 +1,7 @@
 ghost use Rattle.std.specs.Prelude.{◌≡◌, ◌+◌, ◌<◌, ◌≤◌, ◌^◌, ◌==◌, ◌||◌, [], true, length, map, OnOk, vec_len, vec_capacity};
 ghost use Rattle.std.specs.List.{AllByRecursion, insert, remove};
 ghost use Rattle.cache_book.specs.Shelves.{touched, cleared, hidden, swept, with_entry, AreBelow};
-ghost use Rattle.cache_book.specs.SlotOrders.{by_number, wipe_past, HaveOwnNumbers, AreKept};
+ghost use Rattle.cache_book.specs.SlotOrders.{by_number, wiped, wipe_past, HaveOwnNumbers, AreKept};
 ghost use Rattle.cache_book.specs.Deadlines.{deadline, is_among, HaveDeadlines};
 
 use crate::Shelf;
@@ -253,14 +253,15 @@ fn clear_in(slots: &mut Vec<BoxedSlot>, id: &CacheId, mode: Mode)
     }
 }
 
-/// Drops a slot.
+/// Drops a slot. Its passphrase is overwritten where it lies.
 fn drop_slot(slots: &mut Vec<BoxedSlot>, i: usize)
     requires { i < vec_len slots.old }
     ensures items { slots.new.items ≡ remove slots.old.items i }
     ensures len { vec_len slots.new ≤ vec_len slots.old }
     ensures capacity { vec_capacity slots.new ≡ vec_capacity slots.old }
 {
-    slots.remove(i).end();
+    slots[i].wipe();
+    let _ = slots.remove(i);
 }
 
 /// Drops the slots that are past a lifetime at `now`, if the deadline in front is.
@@ -295,7 +296,9 @@ fn wipe_past_each(slots: &mut [BoxedSlot], now: u64)
     }
 }
 
-fn wipe_each(slots: &mut [BoxedSlot]) {
+fn wipe_each(slots: &mut [BoxedSlot])
+    ensures { slots.new ≡ map wiped slots.old }
+{
     for slot in slots.iter_mut() {
         slot.wipe();
     }

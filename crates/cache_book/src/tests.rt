@@ -9,17 +9,37 @@ use std::test::Fail;
 
 const MODES: [Mode; 5] = [Mode::Normal, Mode::User, Mode::Ssh, Mode::Nonce, Mode::Any];
 
-/// How many ids the generated calls name.
-const IDS: u32 = 7;
+/// The ids that the generated calls name. Some begin alike for more than 8 bytes, and one is the beginning of others.
+const NAMES: [&[u8]; 7] = [
+    b"k1",
+    b"k10",
+    b"k2",
+    b"passphrase-of-",
+    b"passphrase-of-1",
+    b"passphrase-of-10",
+    b"passphrase-of-2",
+];
 
-fn id(k: u32) -> Result<CacheId, Fail> {
-    let name = [
-        b'k',
-        b'0' + (k / 100 % 10) as u8,
-        b'0' + (k / 10 % 10) as u8,
-        b'0' + (k % 10) as u8,
-    ];
-    Ok(CacheId::of(&name).ok_or("an id")?)
+fn named(k: u32) -> Result<CacheId, Fail> {
+    Ok(CacheId::of(NAMES[(k % 7) as usize]).ok_or("an id")?)
+}
+
+/// The ids k0 to k999, whose order is not that of their numbers.
+fn numbered(k: u32) -> Result<CacheId, Fail> {
+    let hundreds = b'0' + (k / 100 % 10) as u8;
+    let tens = b'0' + (k / 10 % 10) as u8;
+    let ones = b'0' + (k % 10) as u8;
+    let id = match k {
+        0..=9 => CacheId::of(&[b'k', ones]),
+        10..=99 => CacheId::of(&[b'k', tens, ones]),
+        _ => CacheId::of(&[b'k', hundreds, tens, ones]),
+    };
+    Ok(id.ok_or("an id")?)
+}
+
+/// The passphrase of the entry with this number.
+fn passphrase(number: u64) -> [u8; 8] {
+    number.to_be_bytes()
 }
 
 fn mode(k: u32) -> Mode {
@@ -36,7 +56,7 @@ struct Lives {
 /// Stores an entry with this number, which is above all others.
 fn put<S: Shelf>(
     shelf: &mut S,
-    k: u32,
+    id: CacheId,
     mode: Mode,
     lives: Lives,
     number: u64,
@@ -45,8 +65,7 @@ fn put<S: Shelf>(
     requires { AreBelow number (S.at shelf.old).slots }
     ensures { OnOk result (AreBelow (number + 1) (S.at shelf.new).slots) }
 {
-    let id = id(k)?;
-    let secret = Secret::of(b"passphrase").ok_or("a secret")?;
+    let secret = Secret::of(&passphrase(number)).ok_or("a secret")?;
     shelf.reserve(1)?;
     shelf.store(Entry {
         number,
@@ -81,7 +100,7 @@ fn call<S: Shelf>(shelf: &mut S, word: u32, number: u64, now: u64) -> Result<(),
     requires { AreBelow number (S.at shelf.old).slots }
     ensures { OnOk result (AreBelow (number + 1) (S.at shelf.new).slots) }
 {
-    let k = word % IDS;
+    let id = named(word)?;
     let mode = mode(word >> 4);
     let ttl = match word >> 8 & 3 {
         0 => None,
@@ -89,7 +108,7 @@ fn call<S: Shelf>(shelf: &mut S, word: u32, number: u64, now: u64) -> Result<(),
     };
     if word >> 12 & 1 == 0 {
         let max = word >> 16 & 15;
-        return put(shelf, k, mode, Lives { ttl, max }, number, now);
+        return put(shelf, id, mode, Lives { ttl, max }, number, now);
     }
     // A flush is rare.
     let kind = match word >> 13 & 63 {
@@ -97,16 +116,24 @@ fn call<S: Shelf>(shelf: &mut S, word: u32, number: u64, now: u64) -> Result<(),
         other if other % 9 == 1 => 0,
         other => other % 9,
     };
-    change(shelf, kind, &id(k)?, mode, now);
+    change(shelf, kind, &id, mode, now);
     Ok(())
 }
 
-/// The number and the last use of what is found.
-fn found<S: Shelf>(shelf: &S, k: u32, mode: Mode, now: u64) -> Result<Option<(u64, u64)>, Fail> {
-    match shelf.find(&id(k)?, mode, now) {
-        Some(grant) => Ok(Some((grant.number(), grant.last))),
-        None => Ok(None),
+/// The number and the last use of what is found, whose passphrase is that of the number.
+fn found<S: Shelf>(
+    shelf: &S,
+    id: &CacheId,
+    mode: Mode,
+    now: u64,
+) -> Result<Option<(u64, u64)>, Fail> {
+    let Some(grant) = shelf.find(id, mode, now) else {
+        return Ok(None);
+    };
+    if grant.secret().bytes() != passphrase(grant.number()).as_slice() {
+        return Err("another passphrase".into());
     }
+    Ok(Some((grant.number(), grant.last)))
 }
 
 #[test]
@@ -119,11 +146,12 @@ fn both_shelves_find_the_same_after_each_call(rt: HostRuntime) -> Result<(), Fai
         let now = number / 3;
         call(&mut list, word, number, now)?;
         call(&mut slots, word, number, now)?;
-        for k in 0..IDS {
+        for k in 0..7 {
+            let id = named(k)?;
             for mode in MODES {
-                let there = found(&list, k, mode, now)?;
+                let there = found(&list, &id, mode, now)?;
                 assert!(rt;
-                    found(&slots, k, mode, now)? == there,
+                    found(&slots, &id, mode, now)? == there,
                     "{k} {mode:?} at {now}"
                 );
             }
@@ -142,8 +170,8 @@ fn a_thousand_lives_end_in_turn(rt: HostRuntime) -> Result<(), Fail> {
             ttl: Some(k + 1),
             max: 7200,
         };
-        put(&mut list, k, Mode::User, lives, number, 0)?;
-        put(&mut slots, k, Mode::User, lives, number, 0)?;
+        put(&mut list, numbered(k)?, Mode::User, lives, number, 0)?;
+        put(&mut slots, numbered(k)?, Mode::User, lives, number, 0)?;
     }
     for sweeps in [false, true] {
         if sweeps {
@@ -151,13 +179,28 @@ fn a_thousand_lives_end_in_turn(rt: HostRuntime) -> Result<(), Fail> {
             slots.sweep(500);
         }
         for k in 0..1000_u32 {
+            let id = numbered(k)?;
             let there = k >= 499;
-            assert!(rt; found(&list, k, Mode::User, 500)?.is_some() == there, "{k}");
             assert!(rt;
-                found(&slots, k, Mode::User, 500)?.is_some() == there,
+                found(&list, &id, Mode::User, 500)?.is_some() == there,
+                "{k}"
+            );
+            assert!(rt;
+                found(&slots, &id, Mode::User, 500)?.is_some() == there,
                 "{k}"
             );
         }
     }
+    Ok(())
+}
+
+#[test]
+fn an_entry_takes_the_room_of_one(rt: HostRuntime) -> Result<(), Fail> {
+    let mut slots = SlotShelf::new(rt.alloc());
+    let lives = Lives { ttl: None, max: 9 };
+    slots.reserve(3)?;
+    let room = slots.spare();
+    put(&mut slots, named(0)?, Mode::User, lives, 0, 0)?;
+    assert!(rt; 3 <= room && room - 1 <= slots.spare());
     Ok(())
 }

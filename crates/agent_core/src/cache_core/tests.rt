@@ -253,3 +253,39 @@ fn a_ticket_is_known_by_its_number(rt: HostRuntime) -> Result<(), Fail> {
     );
     Ok(())
 }
+
+/// The ids k0 to k999, whose order is not that of their numbers.
+fn numbered(k: u32) -> Result<CacheId, Fail> {
+    let hundreds = b'0' + (k / 100 % 10) as u8;
+    let tens = b'0' + (k / 10 % 10) as u8;
+    let ones = b'0' + (k % 10) as u8;
+    let id = match k {
+        0..=9 => CacheId::of(&[b'k', ones]),
+        10..=99 => CacheId::of(&[b'k', tens, ones]),
+        _ => CacheId::of(&[b'k', hundreds, tens, ones]),
+    };
+    Ok(id.ok_or("an id")?)
+}
+
+#[test]
+fn a_thousand_lives_end_in_turn(rt: HostRuntime) -> Result<(), Fail> {
+    let mut core = Core::new(rt.alloc(), Limits::default());
+    for k in 0..1000_u32 {
+        let step = Step::Put {
+            id: numbered(k)?,
+            mode: Mode::User,
+            life: Life::Seconds(k + 1),
+            secret: secret(b"new")?,
+        };
+        assert_eq!(rt; name(core.step(0, ALICE, step)), "done", "{k}");
+    }
+    for k in 0..1000_u32 {
+        let step = Step::Peek {
+            id: numbered(k)?,
+            mode: Mode::User,
+        };
+        let then = if k < 499 { "not held" } else { "held" };
+        assert_eq!(rt; name(core.step(500, BOB, step)), then, "{k}");
+    }
+    Ok(())
+}

@@ -1,0 +1,11 @@
+use Rattle.std.proofs.Common.{sym, ap, ◌∙◌}
+use Rattle.std.proofs.Math.ListN.{set}
+use Rattle.std.proofs.lemmas.List.Edits.{map_over_more}
+use Rattle.cache_book.specs.declared.slot.Slot.{Slot}
+use Rattle.cache_book.specs.SlotOrders.{wiped}
+use Rattle.cache_book.proofs.slot_shelf.wipe_each.Goals as goal
+
+pub loop-slot-preserved : goal.loop-slot-preserved
+loop-slot-preserved c =
+    ap (λ (slot : Slot). set c.loop-slot.slots c.loop-slot.slot-index slot) (c.wipe.ensures ∙ sym (ap wiped c.slot-item.is))
+    ∙ map_over_more wiped c.args.slots.now c.loop-slot.slots c.loop-slot.slot-index c.slot-item.result c.loop-slot-test.true c.loop-slot.invariant c.slot-item.is
