@@ -37,7 +37,7 @@ use Rattle.session_options.specs.declared.rules.Rules.{Rules}
 use Rattle.agent_commands.specs.Answers.{ok, closing, failed, failed_at_pinentry, help, IsInfo, IsPassphrase}
 use Rattle.agent_commands.specs.Events.{Event, Sent, Cut, Inquiry, Inquired, Asked, NotAsked, cache_turn}
 use Rattle.agent_commands.specs.Prompting.{IsSpec, Notes, UnderTicket, plan_of}
-use Rattle.agent_commands.specs.Requests.{request_of}
+use Rattle.agent_commands.specs.Requests.{GetFields, get_passphrase, request_of}
 use Rattle.agent_commands.specs.declared.request.CacheCommand.{CacheCommand}
 use Rattle.agent_commands.specs.declared.request.CacheCommand.TheVariants.{Nop, Reset, Bye, Help, SetOption, GetInfo, GetPassphrase, PresetPassphrase, ClearPassphrase, GetConfirmation, ReloadAgent, KillAgent}
 use Rattle.agent_commands.specs.declared.request.Info.{Info}
@@ -206,17 +206,18 @@ pub data Exchange (rules : Rules) (before : OptionValues) : Request → List (Ev
       → Exchange rules before (Cache (SetOption text)) (Sent (option_text (applied before text.items).answer) ∷ []) (applied before text.items).after On
   info : {what : Info} {text : List ℕ} → IsInfo rules what text → Exchange rules before (Cache (GetInfo what)) (Sent text ∷ []) before On
   -- a passphrase by the cache alone
-  quiet : {plain check no_ask quality : Bool} {repeat : ℕ} {id : Option (List ℕ)} {texts : Option Texts} {events : List (Event PromptEvent)} {went : Went}
-      → is_quiet no_ask texts ≡ true → LooksFirst plain id (Refuses code.NoData) events went
-      → Exchange rules before (Cache (GetPassphrase plain check no_ask repeat quality id texts)) events before went
+  quiet : {fields : GetFields} {events : List (Event PromptEvent)} {went : Went}
+      → is_quiet fields.no_ask fields.texts ≡ true → LooksFirst fields.plain fields.id (Refuses code.NoData) events went
+      → Exchange rules before (Cache (get_passphrase fields)) events before went
   -- by the cache, or else by a prompt, where the client wants one
-  by_prompt : {plain check quality : Bool} {repeat : ℕ} {id : Option (List ℕ)} {texts : Texts} {events : List (Event PromptEvent)} {went : Went} (spec : PromptSpec)
-      → before.mode ≡ mode.Ask → IsSpec rules before texts.description texts.prompt quality spec
-      → ByPrompt spec (plan_of rules before texts.error check repeat) plain id events went
-      → Exchange rules before (Cache (GetPassphrase plain check false repeat quality id (Some texts))) events before went
-  without_prompt : {plain check quality : Bool} {repeat : ℕ} {id : Option (List ℕ)} {texts : Texts} {events : List (Event PromptEvent)} {went : Went}
-      → before.mode ≢ mode.Ask → LooksFirst plain id (WithoutPrompt plain id before.mode) events went
-      → Exchange rules before (Cache (GetPassphrase plain check false repeat quality id (Some texts))) events before went
+  by_prompt : {fields : GetFields} {texts : Texts} {events : List (Event PromptEvent)} {went : Went} (spec : PromptSpec)
+      → fields.no_ask ≡ false → fields.texts ≡ Some texts → before.mode ≡ mode.Ask → IsSpec rules before texts.description texts.prompt fields.quality spec
+      → ByPrompt spec (plan_of rules before texts.error fields.check fields.repeat) fields.plain fields.id events went
+      → Exchange rules before (Cache (get_passphrase fields)) events before went
+  without_prompt : {fields : GetFields} {texts : Texts} {events : List (Event PromptEvent)} {went : Went}
+      → fields.no_ask ≡ false → fields.texts ≡ Some texts → before.mode ≢ mode.Ask
+      → LooksFirst fields.plain fields.id (WithoutPrompt fields.plain fields.id before.mode) events went
+      → Exchange rules before (Cache (get_passphrase fields)) events before went
   not_allowed : {id : List ℕ} {life : Life} {secret : Option (List ℕ)} → rules.allow_preset ≡ false
       → Exchange rules before (Cache (PresetPassphrase id life secret)) (Sent (failed code.NotSupported) ∷ []) before On
   with_data : {id secret text : List ℕ} {life : Life} {turn : Turn} {went : Went} → rules.allow_preset ≡ true → ComesOut ok On turn text went

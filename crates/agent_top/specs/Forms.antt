@@ -5,6 +5,7 @@ use Rattle.std.specs.Option.{option_and_then, option_map_or}
 use Rattle.assuan_text.specs.Rows.{found}
 use Rattle.assuan_text.specs.Numbers.{number_of}
 use Rattle.cache_policy.specs.declared.life.TheConstants.{MAX_SECONDS}
+use Rattle.cache_policy.specs.declared.secret.TheConstants.{MAX_SECRET_LEN}
 use Rattle.session_options.specs.declared.rules.TheConstants.{MIN_S2K_COUNT, MAX_S2K_COUNT, MIN_WORKERS, MAX_WORKERS}
 use Rattle.agent_top.specs.Settings.{Setting, value_given}
 use Rattle.agent_top.specs.declared.words.forms.Form.{Form}
@@ -27,8 +28,8 @@ forms =
     ∷ (codes "--max-cache-ttl-ssh", seconds)
     ∷ (codes "--allow-preset-passphrase", Flag)
     ∷ (codes "--no-allow-loopback-pinentry", Flag)
-    ∷ (codes "--min-passphrase-len", Number 0 255)
-    ∷ (codes "--min-passphrase-nonalpha", Number 0 255)
+    ∷ (codes "--min-passphrase-len", Number 0 MAX_SECRET_LEN)
+    ∷ (codes "--min-passphrase-nonalpha", Number 0 MAX_SECRET_LEN)
     ∷ (codes "--pinentry-timeout", seconds)
     ∷ (codes "--s2k-count", Number MIN_S2K_COUNT MAX_S2K_COUNT)
     ∷ (codes "--workers", Number MIN_WORKERS MAX_WORKERS)

@@ -5,7 +5,7 @@ ghost use Rattle.agent_top.specs.Settings.{setting_of};
 
 use super::settings::Setting;
 use assuan_text::{found, number_of};
-use cache_policy::MAX_SECONDS;
+use cache_policy::{MAX_SECONDS, MAX_SECRET_LEN};
 use session_options::{MAX_S2K_COUNT, MAX_WORKERS, MIN_S2K_COUNT, MIN_WORKERS};
 
 /// What an option takes.
@@ -24,9 +24,9 @@ const SECONDS: Form = Form::Number {
     greatest: MAX_SECONDS as u64,
 };
 
-const UP_TO_255: Form = Form::Number {
+const PASSPHRASE_LEN: Form = Form::Number {
     least: 0,
-    greatest: 255,
+    greatest: MAX_SECRET_LEN as u64,
 };
 
 const LOAD: Form = Form::Number {
@@ -56,8 +56,8 @@ const FORMS: [(&[u8], Form); 16] = [
     (b"--max-cache-ttl-ssh", SECONDS),
     (b"--allow-preset-passphrase", Form::Flag),
     (b"--no-allow-loopback-pinentry", Form::Flag),
-    (b"--min-passphrase-len", UP_TO_255),
-    (b"--min-passphrase-nonalpha", UP_TO_255),
+    (b"--min-passphrase-len", PASSPHRASE_LEN),
+    (b"--min-passphrase-nonalpha", PASSPHRASE_LEN),
     (b"--pinentry-timeout", SECONDS),
     (b"--s2k-count", S2K_COUNT),
     (b"--workers", WORKERS),
