@@ -10,7 +10,7 @@ use Rattle.assuan_line.specs.declared.reader.Took.TheVariants.{Line, TooLong, En
 use Rattle.assuan_escape.specs.DataLines.{carried}
 use Rattle.assuan_server.specs.Inquiries.{Outcome, ComesTo, is_skipped}
 use Rattle.assuan_text.specs.Forms.{is_ignored}
-use Rattle.agent_commands.specs.declared.went.TheConstants.{BUDGET}
+use Rattle.assuan_line.specs.declared.reader.TheConstants.{BUDGET}
 
 -- how many bytes a session may take
 abbrev pub budget : ℕ

@@ -24,4 +24,4 @@ pub use names::{COMMANDS, CommandName, commands_are_as_defined};
 pub use read::{read_quiet, read_request};
 pub use request::{CacheCommand, Info, QuietRequest, Request, Texts};
 pub use response::{WriteFault, whole};
-pub use went::{BUDGET, SessionEnd, Went};
+pub use went::{SessionEnd, Went};

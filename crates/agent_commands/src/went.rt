@@ -1,6 +1,3 @@
-/// How many bytes a session may take.
-pub const BUDGET: u64 = 1 << 40;
-
 /// How a session ended.
 #[derive(Clone, Copy, Debug, PartialEq, Eq)]
 pub enum SessionEnd {

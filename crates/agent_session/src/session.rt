@@ -11,11 +11,10 @@ ghost use Rattle.agent_session.specs.Serving.{ServesConn, ServesRequests};
 
 use agent_ask::Prompter;
 use agent_commands::{
-    BUDGET, Request, SessionEnd, Went, WriteFault, read_quiet, read_request, run_cache, run_quiet,
-    whole,
+    Request, SessionEnd, Went, WriteFault, read_quiet, read_request, run_cache, run_quiet, whole,
 };
 use agent_ports::{Dice, Keys, Link};
-use assuan_line::{Line, Took};
+use assuan_line::{BUDGET, Line, Took};
 use assuan_server::{Code, Conn, Origin};
 use cache_policy::Desk;
 use session_options::{Options, Rules};

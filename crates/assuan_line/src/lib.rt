@@ -13,7 +13,7 @@ pub use breach::Breach;
 pub use buffer::MAX_AHEAD;
 pub use filter::{LineFilter, next_after_skipped};
 pub use line::Line;
-pub use reader::{LineReader, Took, lines_come_in_order};
+pub use reader::{BUDGET, LineReader, Took, lines_come_in_order};
 pub use text::write_text;
 pub use writer::write_line;
 

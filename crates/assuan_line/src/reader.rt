@@ -13,6 +13,9 @@ use agent_ports::{Got, Source};
 use std::alloc::Global;
 use std::marker::Model;
 
+/// How many bytes one side of a connection takes from the other at most.
+pub const BUDGET: u64 = 1 << 40;
+
 /// What a read of a line gave.
 #[derive(Drop)]
 pub enum Took {

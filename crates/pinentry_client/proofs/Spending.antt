@@ -24,7 +24,7 @@ use Rattle.pinentry_client.specs.Answers.{greeted, accepted, applied, data_of, p
 use Rattle.pinentry_client.specs.Talking.{TellsSetting, unsent, sent, Sets, done, next, StartTalk, greets, Replies, Settles, answered, inquired, ErrorTalk, none, shown, PinTalk, ConsentTalk, outcome_by}
 use Rattle.pinentry_client.specs.Dialogues.{opened_of, stays_ready, stays_open}
 use Rattle.pinentry_client.specs.Whole.{Questions, Dialogue, IsSpent, HasSpent, here, later}
-use Rattle.pinentry_client.specs.declared.pinentry.TheConstants.{BUDGET}
+use Rattle.assuan_line.specs.declared.reader.TheConstants.{BUDGET}
 use Rattle.pinentry_client.specs.declared.answers.Trouble.{Trouble}
 use Rattle.pinentry_client.specs.declared.answers.Trouble.TheVariants.{Failed, Broken}
 use Rattle.pinentry_client.specs.declared.settings.Setting.{Setting}

@@ -21,7 +21,7 @@ use Rattle.pinentry_client.specs.States.{PinentryState, AtPinentry, seen, at_pro
 use Rattle.pinentry_client.specs.Talking.{StartTalk, PinTalk, ConsentTalk}
 use Rattle.pinentry_client.specs.declared.answers.Trouble.{Trouble}
 use Rattle.pinentry_client.specs.declared.answers.Trouble.TheVariants.{Failed, Broken}
-use Rattle.pinentry_client.specs.declared.pinentry.TheConstants.{BUDGET}
+use Rattle.assuan_line.specs.declared.reader.TheConstants.{BUDGET}
 
 -- a launch gave no child
 pub record HasNoChild (before after : Launches) : Type 0 where

@@ -18,7 +18,7 @@ use Rattle.assuan_line.specs.declared.breach.Breach.TheVariants as breach
 use Rattle.pinentry_client.specs.Dialogues.{SaysBye, opened_of, stays_ready, stays_open}
 use Rattle.pinentry_client.specs.Talking.{StartTalk, PinTalk, ConsentTalk}
 use Rattle.pinentry_client.specs.declared.answers.Trouble.{Trouble}
-use Rattle.pinentry_client.specs.declared.pinentry.TheConstants.{BUDGET}
+use Rattle.assuan_line.specs.declared.reader.TheConstants.{BUDGET}
 
 -- the questions of a prompt, and its end
 pub data AreQuestions : List Call → Type 0 where

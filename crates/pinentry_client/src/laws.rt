@@ -6,7 +6,7 @@ ghost use Rattle.agent_ports.specs.Leads.{Leads};
 ghost use Rattle.pinentry_client.specs.Dialogues.{PinentryCall};
 ghost use Rattle.pinentry_client.specs.States.{PinentryState};
 ghost use Rattle.pinentry_client.specs.Whole.{IsOnePrompt, HasItsChild, Dialogue, AskAlike, HasSpent};
-ghost use Rattle.pinentry_client.specs.declared.pinentry.TheConstants.{BUDGET};
+ghost use Rattle.assuan_line.specs.declared.reader.TheConstants.{BUDGET};
 
 use agent_ports::Launcher;
 

@@ -16,4 +16,4 @@ use session_options::MAX_VALUE_LEN;
 pub type Word = ArrayVec<u8, MAX_VALUE_LEN>;
 
 pub use laws::{a_dialogue_has_one_outcome, a_prompt_has_its_child, a_spent_child_gave_all};
-pub use pinentry::{BUDGET, Pinentry};
+pub use pinentry::Pinentry;

@@ -8,13 +8,10 @@ use crate::talk::{consent_talk, pin_talk, start_talk};
 use agent_ask::{Consent, Opened, Outcome, PromptSpec, Prompter};
 use agent_ports::{Launcher, Link};
 use assuan_client::Peer;
-use assuan_line::write_line;
+use assuan_line::{BUDGET, write_line};
 use prompt_seat::Ticket;
 use std::alloc::Global;
 use std::marker::Model;
-
-/// How many bytes are taken of a child.
-pub const BUDGET: u64 = 1_099_511_627_776;
 
 /// Prompts by children of a launcher, one for each prompt (pinentry manual, "protocol").
 ///

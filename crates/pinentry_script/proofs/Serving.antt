@@ -12,7 +12,7 @@ use Rattle.assuan_line.specs.Skipping.{ReadsNext}
 use Rattle.assuan_line.specs.declared.reader.Took.{Took}
 use Rattle.assuan_line.specs.declared.reader.Took.TheVariants as took
 use Rattle.assuan_text.specs.LineEnds.{line_of}
-use Rattle.pinentry_script.specs.declared.end.TheConstants.{BUDGET}
+use Rattle.assuan_line.specs.declared.reader.TheConstants.{BUDGET}
 use Rattle.pinentry_script.specs.declared.end.ScriptEnd.{ScriptEnd}
 use Rattle.pinentry_script.specs.declared.end.ScriptEnd.TheVariants.{Bye, Ended, TooLong, Spent, ReadFault, WriteFault}
 use Rattle.pinentry_script.specs.declared.response.Phrase.TheVariants.{Greeting}

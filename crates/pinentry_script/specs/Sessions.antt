@@ -9,7 +9,7 @@ use Rattle.assuan_line.specs.Next.{next_of, IsCutShort, IsTooLong}
 use Rattle.assuan_line.specs.Reading.{WereNeededBy}
 use Rattle.assuan_line.specs.declared.reader.Took.TheVariants as took
 use Rattle.assuan_text.specs.LineEnds.{line_of}
-use Rattle.pinentry_script.specs.declared.end.TheConstants.{BUDGET}
+use Rattle.assuan_line.specs.declared.reader.TheConstants.{BUDGET}
 use Rattle.pinentry_script.specs.declared.end.ScriptEnd.{ScriptEnd}
 use Rattle.pinentry_script.specs.declared.end.ScriptEnd.TheVariants.{Bye, Ended, TooLong, Spent, ReadFault, WriteFault}
 use Rattle.pinentry_script.specs.declared.response.Phrase.TheVariants.{Greeting}

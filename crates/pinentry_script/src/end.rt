@@ -1,9 +1,6 @@
 ghost use Rattle.std.specs.Prelude.{◌≡◌};
 ghost use Rattle.pinentry_script.specs.Sessions.{status_of};
 
-/// How many bytes a session may take.
-pub const BUDGET: u64 = 1 << 40;
-
 /// How a session ended.
 #[derive(Clone, Copy, Debug, PartialEq, Eq)]
 pub enum ScriptEnd {

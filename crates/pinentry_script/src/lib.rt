@@ -7,7 +7,7 @@ mod response;
 mod run;
 mod session;
 
-pub use end::{BUDGET, ScriptEnd};
+pub use end::ScriptEnd;
 pub use entries::MAX_ENTRY_LEN;
 pub use run::{BAD_SCRIPT, run_script};
 

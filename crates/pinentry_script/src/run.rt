@@ -5,12 +5,12 @@ ghost use Rattle.assuan_line.specs.Skipping.{ReadsNext};
 ghost use Rattle.pinentry_script.specs.Entries.{is_script};
 ghost use Rattle.pinentry_script.specs.Sessions.{RunsSession, status_of};
 
+use crate::ScriptEnd;
 use crate::entries::is_script;
 use crate::response::{Phrase, Response, Unsent, write_response};
 use crate::session::{Session, Stage};
-use crate::{BUDGET, ScriptEnd};
 use agent_ports::Link;
-use assuan_line::{LineReader, Took};
+use assuan_line::{BUDGET, LineReader, Took};
 use std::alloc::Global;
 
 /// The status where the file is no script. Nothing is read or written then.
