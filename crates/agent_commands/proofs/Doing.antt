@@ -6,8 +6,7 @@ use Rattle.agent_ports.specs.Leads.{none, one}
 use Rattle.agent_ports.specs.Sides.{Side, WhereKnown}
 use Rattle.agent_ports.specs.declared.link.Sent.TheVariants.{Failed}
 use Rattle.agent_ports.proofs.Leading.{leads_then}
-use Rattle.assuan_line.specs.Next.{Reader, ended_by}
-use Rattle.assuan_line.specs.Reading.{WereNeededBy}
+use Rattle.assuan_line.specs.Next.{Reader, WereNeeded, ended_by}
 use Rattle.assuan_line.specs.Skipping.{ReadsNext, ReadsAfter}
 use Rattle.assuan_line.specs.Written.{HasCut}
 use Rattle.assuan_line.specs.declared.reader.Took.{Took}
@@ -77,7 +76,7 @@ here_going reader left going = rw going refl
 
 -- what a read took
 pub needed_known : (Undecided : List ℕ → Type 0) (reader : Reader) (before after : Option (List ℕ)) → reader.ended ≡ None
-    → WhereKnown before after (λ rest left. (rest ≡ left) ⊎ WereNeededBy Undecided reader.ahead rest left)
+    → WhereKnown before after (λ rest left. (rest ≡ left) ⊎ WereNeeded Undecided reader.ahead rest left)
     → TakesNeeded Undecided (option_map (unread reader) before) before after
 needed_known Undecided reader None None going needed = tt
 needed_known Undecided reader None (Some left) going needed = needed

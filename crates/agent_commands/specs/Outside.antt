@@ -4,7 +4,7 @@ use Rattle.std.specs.Prelude.{◌≡◌, ◌⊎◌, ℕ, List, [], ◌++◌, Opt
 use Rattle.agent_ask.specs.Doing.{DoesCall}
 use Rattle.agent_ask.specs.Events.{Call, PromptEvent}
 use Rattle.agent_ports.specs.Sides.{with_bytes, WhereKnown}
-use Rattle.assuan_line.specs.Reading.{WereNeededBy}
+use Rattle.assuan_line.specs.Next.{WereNeeded}
 use Rattle.assuan_line.specs.Skipping.{IsUndecided}
 use Rattle.assuan_line.specs.declared.reader.Took.{Took}
 use Rattle.assuan_server.specs.Inquiries.{Outcome, inquire_text, is_skipped}
@@ -50,7 +50,7 @@ pub record Outside (w : World) : Type 0 where
 -- piece decided nothing.
 abbrev pub TakesNeeded : (List ℕ → Type 0) → Option (List ℕ) → Option (List ℕ) → Option (List ℕ) → Type 0
 TakesNeeded Undecided input before after =
-    WhereKnown before after (λ rest left. (rest ≡ left) ⊎ ((ahead : List ℕ) × (input ≡ Some (ahead ++ rest)) × WereNeededBy Undecided ahead rest left))
+    WhereKnown before after (λ rest left. (rest ≡ left) ⊎ ((ahead : List ℕ) × (input ≡ Some (ahead ++ rest)) × WereNeeded Undecided ahead rest left))
 
 -- what an event does. `total` is how many bytes there were at the start of the session, where they are known.
 pub data Does (w : World) (total : ℕ) : Outside w → Event w.Further → Outside w → Type 0 where

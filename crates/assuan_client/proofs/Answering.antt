@@ -1,8 +1,8 @@
 -- From the lines that were read to the answer.
 use Rattle.std.proofs.Common.{◌≡◌, ◌≢◌, ℕ, List, [], ◌∷◌, Option, Some, None, ◌⊎◌, inl, inr, refl, ap, sym, ◌∙◌, subst}
 use Rattle.agent_ports.specs.Sides.{Side, WhereKnown}
-use Rattle.assuan_line.specs.Next.{Reader, ended_by}
-use Rattle.assuan_line.specs.Reading.{HasRead, WereNeededBy}
+use Rattle.assuan_line.specs.Next.{Reader, WereNeeded, ended_by}
+use Rattle.assuan_line.specs.Reading.{HasRead}
 use Rattle.assuan_line.specs.Skipping.{IsUndecided, Stops, ReadsOn}
 use Rattle.assuan_line.specs.declared.reader.Took.{Took}
 use Rattle.assuan_line.specs.declared.reader.Took.TheVariants as took
@@ -73,8 +73,8 @@ where_known (Some rest) None P Q known each = known
 where_known (Some rest) (Some left) P Q known each = each rest left known
 
 -- what decides nothing, seen otherwise
-undecided_by : {Some Other : List ℕ → Type 0} {ahead rest left : List ℕ} → ((bytes : List ℕ) → Some bytes → Other bytes) → (rest ≡ left) ⊎ WereNeededBy Some ahead rest left
-    → (rest ≡ left) ⊎ WereNeededBy Other ahead rest left
+undecided_by : {Some Other : List ℕ → Type 0} {ahead rest left : List ℕ} → ((bytes : List ℕ) → Some bytes → Other bytes) → (rest ≡ left) ⊎ WereNeeded Some ahead rest left
+    → (rest ≡ left) ⊎ WereNeeded Other ahead rest left
 undecided_by each (inl none) = inl none
 undecided_by each (inr were) = inr (record { early = were.early; late = were.late; split = were.split; undecided = each _ were.undecided; few = were.few })
 

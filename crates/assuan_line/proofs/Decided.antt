@@ -1,5 +1,5 @@
 -- What the next line is, by the place of the first line feed, and that bytes which decide it stay decided.
-use Rattle.std.proofs.Common.{◌≡◌, ◌≢◌, ℕ, ◌+◌, ◌-◌, ◌<◌, ◌≤◌, ◌||◌, ◌⊎◌, Bool, true, false, cond, leb, ◌==◌, slice_index, List, ◌++◌, length, take, drop, Option, Some, None, IsSome, IfSome, ◌↔◌, inl, inr, refl, ap, sym, ◌∙◌, arith, le-leb}
+use Rattle.std.proofs.Common.{◌≡◌, ◌≢◌, ℕ, ◌+◌, ◌-◌, ◌<◌, ◌≤◌, ◌||◌, ◌⊎◌, Bool, true, false, cond, leb, ◌==◌, slice_index, List, ◌++◌, length, take, drop, Some, None, inl, inr, refl, ap, sym, ◌∙◌, arith, le-leb}
 use Rattle.std.specs.List.{position, position_or_len}
 use Rattle.std.proofs.lemmas.Bool.{lt-leb, false≢true}
 use Rattle.std.proofs.lemmas.Bool.Decides.{leb_tells}

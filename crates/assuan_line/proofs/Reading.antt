@@ -67,7 +67,7 @@ read_then before middle after was mid is first second = record {
   as_before none =
       subst (λ (x : List ℕ). TakesWhatItNeeds before.ahead x []) (sym (ap (λ (x : List ℕ). first.taken ++ x) none ∙ append-nil first.taken)) first.needed
 
-  of_more : WereNeeded middle.ahead second.taken [] → WereNeeded before.ahead (first.taken ++ second.taken) []
+  of_more : WereNeeded (λ bytes. next_of bytes ≡ End) middle.ahead second.taken [] → WereNeeded (λ bytes. next_of bytes ≡ End) before.ahead (first.taken ++ second.taken) []
   of_more more = record {
     early = first.taken ++ more.early;
     late = more.late;

@@ -3,8 +3,8 @@ use Rattle.std.proofs.Common.{◌≡◌, ◌≤◌, ◌<◌, ◌+◌, ◌⊎◌,
 use Rattle.agent_ports.specs.Counts.{Rose}
 use Rattle.agent_ports.specs.Sides.{Side, WhereKnown}
 use Rattle.agent_ports.proofs.Known.{known_same, known_then, known_both}
-use Rattle.assuan_line.specs.Next.{next_of, Reader, IsNext, TakesWhatItNeeds, OnLine, held, ended_by}
-use Rattle.assuan_line.specs.Reading.{WereNeededBy, HasRead}
+use Rattle.assuan_line.specs.Next.{next_of, Reader, IsNext, WereNeeded, TakesWhatItNeeds, OnLine, held, ended_by}
+use Rattle.assuan_line.specs.Reading.{HasRead}
 use Rattle.assuan_line.specs.Skipping.{Skipped, none, IsUndecided, Stops, ReadsNext, ReadsOn}
 use Rattle.assuan_line.specs.declared.reader.Took.{Took}
 use Rattle.assuan_line.specs.declared.reader.Took.TheVariants.{Line, TooLong, End, Spent, ReadFault}
@@ -43,10 +43,7 @@ module _ (before after : Reader) (input input_after : Side) (took : Took) (going
   has_read known budget needed progress spent fault faults ended = record {
     known = where_known input.bytes input_after.bytes _ _ (known going) (λ rest left. reads_next before rest took after left);
     budget = budget;
-    needed = where_known input.bytes input_after.bytes _ _ needed (λ rest left needs. elim needs [
-      | inl same ↦ inl same
-      | inr more ↦ inr (record { early = more.early; late = more.late; split = more.split; undecided = more.undecided; few = more.few })
-    ]);
+    needed = needed;
     progress = progress;
     spent = spent going;
     fault = fault going;
@@ -65,7 +62,7 @@ module _ (skips : List (List ℕ) → List ℕ → Bool) where
 
   -- nothing was taken from the source, or what is needed, and of one read at most more
   abbrev TakesNeeded : List (List ℕ) → List ℕ → List ℕ → List ℕ → Type 0
-  TakesNeeded before ahead rest left = (rest ≡ left) ⊎ WereNeededBy (IsUndecided skips before) ahead rest left
+  TakesNeeded before ahead rest left = (rest ≡ left) ⊎ WereNeeded (IsUndecided skips before) ahead rest left
 
   -- what was taken so far
   taken_so_far : (before : List (List ℕ)) (ahead rest left : List ℕ) → TakesNeeded before ahead rest left → (taken : List ℕ) × (rest ≡ taken ++ left)
@@ -75,7 +72,7 @@ module _ (skips : List (List ℕ) → List ℕ → Bool) where
   -- what the next line takes is needed after the lines that are skipped
   module _ (before lines : List (List ℕ)) (ahead now_ahead rest left last : List ℕ)
       (skipped : Skipped skips before (ahead ++ rest) lines (now_ahead ++ left)) (first : TakesNeeded before ahead rest left) where
-    needed_then : (left ≡ last) ⊎ WereNeededBy (λ bytes. next_of bytes ≡ End) now_ahead left last → TakesNeeded before ahead rest last
+    needed_then : (left ≡ last) ⊎ WereNeeded (λ bytes. next_of bytes ≡ End) now_ahead left last → TakesNeeded before ahead rest last
     needed_then (inl same) = subst (λ (l : List ℕ). TakesNeeded before ahead rest l) same first
     needed_then (inr more) =
         let so_far = taken_so_far before ahead rest left first in

@@ -64,13 +64,13 @@ IsNext before rest Spent after left = IsCutShort before.ahead rest left × (afte
 IsNext before rest ReadFault after left = IsCutShort before.ahead rest left × (0 < after.left)
 
 -- Bytes were taken that were needed, and then those of one more read: what was there before that read decided nothing.
-pub record WereNeeded (ahead rest left : List ℕ) : Type 0 where
+pub record WereNeeded (Undecided : List ℕ → Type 0) (ahead rest left : List ℕ) : Type 0 where
   pub early : List ℕ
   pub late : List ℕ
   pub split : rest ≡ early ++ (late ++ left)
-  pub undecided : next_of (ahead ++ early) ≡ End
+  pub undecided : Undecided (ahead ++ early)
   pub few : length late ≤ MAX_AHEAD
 
 -- What an answer took from the source: nothing, or at most so many bytes more than it needed.
 abbrev pub TakesWhatItNeeds : List ℕ → List ℕ → List ℕ → Type 0
-TakesWhatItNeeds ahead rest left = (rest ≡ left) ⊎ WereNeeded ahead rest left
+TakesWhatItNeeds ahead rest left = (rest ≡ left) ⊎ WereNeeded (λ bytes. next_of bytes ≡ End) ahead rest left

@@ -1,16 +1,15 @@
 -- A write of data lines that is under way.
 use Rattle.std.proofs.Common.{◌≡◌, ℕ, ◌+◌, ◌-◌, ◌^◌, ◌≤◌, min, List, [], ◌∷◌, ◌++◌, length, take, drop, Option, Some, None, Ok, Err, refl, ap, sym, ◌∙◌, subst, arith, append_assoc, append-nil, length-append}
-use Rattle.std.proofs.lemmas.List.{length_push, take-append-drop, length-take-le}
+use Rattle.std.proofs.lemmas.List.{length_push}
 use Rattle.std.proofs.lemmas.List.Concat.{flat_map-append}
-use Rattle.agent_ports.specs.Counts.{Rose}
-use Rattle.agent_ports.specs.Sides.{Side, with_bytes, sent_part, IfCut, IsCut}
+use Rattle.agent_ports.specs.Sides.{with_bytes}
 use Rattle.agent_ports.proofs.Known.{with_bytes-append}
 use Rattle.agent_ports.specs.declared.link.Sent.{Sent}
 use Rattle.agent_ports.specs.declared.link.Sent.TheVariants.{All as Whole, Failed}
 use Rattle.assuan_server.specs.Connections.{Connection}
 use Rattle.assuan_escape.specs.DataLines.{data_line, AreData, data_text}
 use Rattle.assuan_text.specs.LineEnds.{line_of}
-use Rattle.assuan_line.specs.Written.{HasCut, HasSent}
+use Rattle.assuan_line.specs.Written.{HasCut}
 use Rattle.assuan_server.specs.Written.{HasWritten, WritesData}
 
 -- the lines so far: whatever pieces the rest is sent in, they complete these

@@ -6,7 +6,7 @@ use Rattle.agent_ports.specs.Counts.{Rose}
 use Rattle.agent_ports.specs.Sides.{Side, with_bytes, WhereKnown}
 use Rattle.agent_ports.proofs.Known.{known_then, known_both, known_same, with_bytes-append}
 use Rattle.assuan_line.specs.Lines.{pieces_of}
-use Rattle.assuan_line.specs.Next.{Reader, next_of}
+use Rattle.assuan_line.specs.Next.{Reader, next_of, TakesWhatItNeeds}
 use Rattle.assuan_line.specs.Reading.{HasRead}
 use Rattle.assuan_line.specs.Skipping.{ReadsNext}
 use Rattle.assuan_line.specs.declared.reader.Took.{Took}
@@ -21,7 +21,7 @@ use Rattle.pinentry_script.specs.declared.session.Session.{Session as Code}
 use Rattle.pinentry_script.specs.declared.session.Stage.TheVariants.{Closed}
 use Rattle.pinentry_script.specs.Entries.{answers_in, entries_of, pid_of}
 use Rattle.pinentry_script.specs.Responses.{phrase_text, says}
-use Rattle.pinentry_script.specs.Sessions.{Session, TakesNeeded, ReadsLines, none, more, greeting, answer, Leaves, IsClosedBy, last_line, Writes, RunsSession, session_of, after_one, text_of, with_turn}
+use Rattle.pinentry_script.specs.Sessions.{Session, ReadsLines, none, more, greeting, answer, Leaves, IsClosedBy, last_line, Writes, RunsSession, session_of, after_one, text_of, with_turn}
 use Rattle.pinentry_script.specs.Steps.{IsTurn}
 use Rattle.pinentry_script.specs.Turns.{turn_of}
 use Rattle.pinentry_script.specs.Writing.{HasSaid, StopsWriting, IsShortText}
@@ -89,13 +89,13 @@ module _ (file : List ℕ) (input output : Side) (session : Code) (reader : Read
     (answer_took : Took) (reader_after : Reader) (input_after output_after : Side)
     (has_read : HasRead (λ bytes. next_of bytes ≡ took.End) ReadsNext reader input_now answer_took reader_after input_after) (same : output_after ≡ output_now) where
   -- what was read, and what it took
-  reads : WhereKnown input_now.bytes input_after.bytes (λ rest left. ReadsNext (reader.ahead ++ rest) answer_took reader_after left × TakesNeeded reader.ahead rest left)
+  reads : WhereKnown input_now.bytes input_after.bytes (λ rest left. ReadsNext (reader.ahead ++ rest) answer_took reader_after left × TakesWhatItNeeds reader.ahead rest left)
   reads = known_both _ _ _ _ has_read.known has_read.needed
 
   -- the session at an end of its input
   ends : (end : ScriptEnd) → session.stage ≢ Closed
       → ((sent : List ℕ) → sent ≡ text_of (session_of file serving.lines).said → (session_of file serving.lines).stage ≢ Closed → Writes file serving.lines end sent)
-      → ((total : ℕ) (rest left : List ℕ) → ReadsNext (reader.ahead ++ rest) answer_took reader_after left → TakesNeeded reader.ahead rest left
+      → ((total : ℕ) (rest left : List ℕ) → ReadsNext (reader.ahead ++ rest) answer_took reader_after left → TakesWhatItNeeds reader.ahead rest left
       → total + reader_after.left ≡ length left + BUDGET → Leaves total end reader.ahead rest left)
       → (end ≡ ReadFault → Rose input_now.faults input_after.faults) → (end ≡ WriteFault → ⊥)
       → RunsSession file input output end input_after output_after
@@ -106,7 +106,7 @@ module _ (file : List ℕ) (input output : Side) (session : Code) (reader : Read
     written = ap (λ (s : Side). s.bytes) same ∙ serving.written;
     read = known_then input.bytes input_now.bytes input_after.bytes
         (λ bytes left. ReadsLines bytes serving.lines reader.ahead left × (length bytes + reader.left ≡ length left + BUDGET))
-        (λ rest left. (ReadsNext (reader.ahead ++ rest) answer_took reader_after left × TakesNeeded reader.ahead rest left) × (length rest + reader_after.left ≡ length left + reader.left))
+        (λ rest left. (ReadsNext (reader.ahead ++ rest) answer_took reader_after left × TakesWhatItNeeds reader.ahead rest left) × (length rest + reader_after.left ≡ length left + reader.left))
         (λ bytes left. (ahead : List ℕ) × (rest : List ℕ) × ReadsLines bytes serving.lines ahead rest × Leaves (length bytes) end ahead rest left)
         (known_both _ _ _ _ serving.read serving.budget) (known_both _ _ _ _ reads has_read.budget)
         (λ bytes rest left first second. (reader.ahead, rest, first.0, leaves (length bytes) rest left second.0.0 second.0.1 (omega (arith, first.1, second.1))));
@@ -157,7 +157,7 @@ module _ (file : List ℕ) (input output : Side) (session : Code) (reader : Read
     lines_read =
         rw unread (known_then input.bytes input_now.bytes input_after.bytes
         (λ bytes left. ReadsLines bytes serving.lines reader.ahead left)
-        (λ rest left. ReadsNext (reader.ahead ++ rest) answer_took reader_after left × TakesNeeded reader.ahead rest left)
+        (λ rest left. ReadsNext (reader.ahead ++ rest) answer_took reader_after left × TakesWhatItNeeds reader.ahead rest left)
         (λ bytes left. ReadsLines bytes (serving.lines ++ line ∷ []) reader_after.ahead left)
         serving.read reads (λ bytes rest left first second.
         let r = subst (λ (t : Took). ReadsNext (reader.ahead ++ rest) t reader_after left) is second.0 in

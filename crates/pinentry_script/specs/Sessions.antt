@@ -1,12 +1,11 @@
 -- A session of a scripted pinentry, from its file and the bytes that it reads to the bytes that it writes. How it ends is this
 -- project's own.
-use Rattle.std.specs.Prelude.{◌≡◌, ◌≢◌, ◌≤◌, ◌<◌, ◌+◌, ◌⊎◌, ℕ, List, [], ◌∷◌, ◌++◌, length}
+use Rattle.std.specs.Prelude.{◌≡◌, ◌≢◌, ◌≤◌, ◌<◌, ◌+◌, ℕ, List, [], ◌∷◌, ◌++◌, length}
 use Rattle.std.specs.List.{flat_map, fold}
 use Rattle.agent_ports.specs.Counts.{Rose}
 use Rattle.agent_ports.specs.Sides.{Side, with_bytes, WhereKnown}
 use Rattle.assuan_line.specs.Lines.{after_line, pieces_of}
-use Rattle.assuan_line.specs.Next.{next_of, IsCutShort, IsTooLong}
-use Rattle.assuan_line.specs.Reading.{WereNeededBy}
+use Rattle.assuan_line.specs.Next.{next_of, TakesWhatItNeeds, IsCutShort, IsTooLong}
 use Rattle.assuan_line.specs.declared.reader.Took.TheVariants as took
 use Rattle.assuan_text.specs.LineEnds.{line_of}
 use Rattle.assuan_line.specs.declared.reader.TheConstants.{BUDGET}
@@ -43,22 +42,18 @@ session_of file lines =
 abbrev pub text_of : List (List ℕ) → List ℕ
 text_of lines = flat_map line_of lines
 
--- A read takes nothing, or the bytes that it needs, and of its last piece at most so many more: what was there before that piece told nothing.
-abbrev pub TakesNeeded : List ℕ → List ℕ → List ℕ → Type 0
-TakesNeeded ahead rest left = (rest ≡ left) ⊎ WereNeededBy (λ bytes. next_of bytes ≡ took.End) ahead rest left
-
 -- The first lines of the bytes were read, one after another. Of the bytes behind them `ahead` were taken, and the source holds those behind.
 pub data ReadsLines (bytes : List ℕ) : List (List ℕ) → List ℕ → List ℕ → Type 0 where
   none : ReadsLines bytes [] [] bytes
   more : {lines : List (List ℕ)} {ahead rest line later left : List ℕ} → ReadsLines bytes lines ahead rest → next_of (ahead ++ rest) ≡ took.Line line
-      → TakesNeeded ahead rest left → later ++ left ≡ after_line (ahead ++ rest) → ReadsLines bytes (lines ++ line ∷ []) later left
+      → TakesWhatItNeeds ahead rest left → later ++ left ≡ after_line (ahead ++ rest) → ReadsLines bytes (lines ++ line ∷ []) later left
 
 -- Why a session ended. Behind its lines `ahead` were taken, and the source held `rest`; it holds `left` at the end, and held `total` bytes at first.
 abbrev pub Leaves : ℕ → ScriptEnd → List ℕ → List ℕ → List ℕ → Type 0
 Leaves total Bye ahead rest left = (rest ≡ left) × (total ≤ BUDGET + length left)
 Leaves total WriteFault ahead rest left = (rest ≡ left) × (total ≤ BUDGET + length left)
 Leaves total Ended ahead rest left = (next_of (ahead ++ rest) ≡ took.End) × (left ≡ []) × (total < BUDGET + length left)
-Leaves total TooLong ahead rest left = IsTooLong [] (ahead ++ rest) left × TakesNeeded ahead rest left × (total ≤ BUDGET + length left)
+Leaves total TooLong ahead rest left = IsTooLong [] (ahead ++ rest) left × TakesWhatItNeeds ahead rest left × (total ≤ BUDGET + length left)
 Leaves total Spent ahead rest left = IsCutShort [] (ahead ++ rest) left × (total ≡ BUDGET + length left)
 Leaves total ReadFault ahead rest left = IsCutShort [] (ahead ++ rest) left × (total < BUDGET + length left)
 

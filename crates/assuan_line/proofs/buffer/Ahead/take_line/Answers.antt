@@ -1,4 +1,4 @@
-use Rattle.std.proofs.Common.{◌≡◌, ◌∙◌, ap, sym, ℕ, cond, Bool, le-leb, refl, arith}
+use Rattle.std.proofs.Common.{◌∙◌, ap, sym, cond, Bool, le-leb, refl, arith}
 use Rattle.std.proofs.lemmas.Bool.{lt-leb}
 use Rattle.assuan_line.specs.Ahead.{bytes_ahead}
 use Rattle.assuan_line.specs.declared.reader.Took.TheVariants.{TooLong, End}
