@@ -86,13 +86,15 @@ returns-in-PresetPassphrase-clause-carries g c =
 pub returns-in_default-clause-carries : goal.returns-in_default-clause-carries
 returns-in_default-clause-carries g c =
     rw (c.in-GetPassphrase.is, c.in_default.is)
-    (carry_as {w = prompt_world g.D.Desk.turned g.P.Prompter.prompted} (λ events looks. quiet {fields = fields c.in-GetPassphrase.plain c.in-GetPassphrase.check c.in-GetPassphrase.no_ask c.in-GetPassphrase.repeat c.in-GetPassphrase.quality c.in-GetPassphrase.id None} refl looks)
+    (carry_as {w = prompt_world g.D.Desk.turned g.P.Prompter.prompted} (λ events looks. quiet
+    {fields = fields c.in-GetPassphrase.plain c.in-GetPassphrase.check c.in-GetPassphrase.no_ask c.in-GetPassphrase.repeat c.in-GetPassphrase.quality c.in-GetPassphrase.id None} refl looks)
     (carry_beside g.D.Desk.turned g.P.Prompter.prompted c.args.prompter.now (c.ask_cache.ensures.carries c.args.conn.now c.requires.open)))
 
 pub returns-then-no_ask-clause-carries : goal.returns-then-no_ask-clause-carries
 returns-then-no_ask-clause-carries g c =
     rw (c.in-GetPassphrase.is, c.in-Some.is, c.if-no_ask.true)
-    (carry_as {w = prompt_world g.D.Desk.turned g.P.Prompter.prompted} (λ events looks. quiet {fields = fields c.in-GetPassphrase.plain c.in-GetPassphrase.check true c.in-GetPassphrase.repeat c.in-GetPassphrase.quality c.in-GetPassphrase.id (Some c.in-Some.texts)} refl looks)
+    (carry_as {w = prompt_world g.D.Desk.turned g.P.Prompter.prompted} (λ events looks. quiet
+    {fields = fields c.in-GetPassphrase.plain c.in-GetPassphrase.check true c.in-GetPassphrase.repeat c.in-GetPassphrase.quality c.in-GetPassphrase.id (Some c.in-Some.texts)} refl looks)
     (carry_beside g.D.Desk.turned g.P.Prompter.prompted c.args.prompter.now (c.ask_cache-then-no_ask.ensures.carries c.args.conn.now c.requires.open)))
 
 pub returns-in-Ask-clause-carries : goal.returns-in-Ask-clause-carries
@@ -109,7 +111,8 @@ returns-in_default-mode g c =
       carries =
           rw (c.in-GetPassphrase.is, c.in-Some.is, c.if-no_ask.false)
           (carry_as {w = prompt_world g.D.Desk.turned g.P.Prompter.prompted} (λ events looks. without_prompt
-          {fields = fields c.in-GetPassphrase.plain c.in-GetPassphrase.check false c.in-GetPassphrase.repeat c.in-GetPassphrase.quality c.in-GetPassphrase.id (Some c.in-Some.texts)} refl refl (λ is. c.in_default-mode.not-Ask (c.mode.ensures ∙ is)) looks)
+          {fields = fields c.in-GetPassphrase.plain c.in-GetPassphrase.check false c.in-GetPassphrase.repeat c.in-GetPassphrase.quality c.in-GetPassphrase.id (Some c.in-Some.texts)}
+          refl refl (λ is. c.in_default-mode.not-Ask (c.mode.ensures ∙ is)) looks)
           (carry_beside g.D.Desk.turned g.P.Prompter.prompted c.args.prompter.now
           (subst (λ m. Carries {w = world g.D.Desk.turned} (LooksFirst c.in-GetPassphrase.plain c.in-GetPassphrase.id (WithoutPrompt c.in-GetPassphrase.plain c.in-GetPassphrase.id m))
           (session_state g.D.Desk.turned c.args.conn.now c.args.desk.now) c.without_prompt.result (session_state g.D.Desk.turned c.without_prompt.new.conn c.without_prompt.new.desk))
