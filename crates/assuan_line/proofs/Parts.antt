@@ -8,6 +8,7 @@ use Rattle.std.proofs.lemmas.List.Folds.{list_any-append}
 use Rattle.assuan_text.specs.LineEnds.{is_lf, has_lf}
 use Rattle.assuan_line.specs.Lines.{without_cr, first_line, after_line, pieces_of, lines_of, rest_of}
 use Rattle.assuan_line.specs.Next.{next_of}
+use Rattle.assuan_line.specs.declared.buffer.TheConstants.{MAX_UNDECIDED}
 use Rattle.assuan_line.specs.declared.reader.Took.TheVariants.{Line, TooLong, End}
 
 module _ {X : Type 0} (p : X → Bool) where
@@ -94,19 +95,19 @@ rest_some bytes some =
     last (before_first is_lf bytes) h.first h.others _ _ h.parts (split_first is_lf bytes some)
 
 -- what the next line tells of the line feeds
-among_all : (bytes : List ℕ) → has_lf (take 1002 bytes) ≡ true → has_lf bytes ≡ true
+among_all : (bytes : List ℕ) → has_lf (take MAX_UNDECIDED bytes) ≡ true → has_lf bytes ≡ true
 among_all bytes some =
-    ap has_lf (sym (take-append-drop 1002 bytes)) ∙ list_any-append is_lf (take 1002 bytes) (drop 1002 bytes)
-    ∙ ap (λ (b : Bool). b || has_lf (drop 1002 bytes)) some
+    ap has_lf (sym (take-append-drop MAX_UNDECIDED bytes)) ∙ list_any-append is_lf (take MAX_UNDECIDED bytes) (drop MAX_UNDECIDED bytes)
+    ∙ ap (λ (b : Bool). b || has_lf (drop MAX_UNDECIDED bytes)) some
 
 pub line_tells : (bytes line : List ℕ) → next_of bytes ≡ Line line → (has_lf bytes ≡ true) × (first_line bytes ≡ line)
 unfolding next_of
 line_tells bytes line is =
-    elim (has_lf (take 1002 bytes)) as (λ b. has_lf (take 1002 bytes) ≡ b
-    → cond b (cond (leb (length (first_line bytes)) 1000) (Line (first_line bytes)) TooLong) (cond (leb 1002 (length bytes)) TooLong End) ≡ Line line
+    elim (has_lf (take MAX_UNDECIDED bytes)) as (λ b. has_lf (take MAX_UNDECIDED bytes) ≡ b
+    → cond b (cond (leb (length (first_line bytes)) 1000) (Line (first_line bytes)) TooLong) (cond (leb MAX_UNDECIDED (length bytes)) TooLong End) ≡ Line line
     → (has_lf bytes ≡ true) × (first_line bytes ≡ line)) [
       | true ↦ λ some e. (among_all bytes some, of_line (leb (length (first_line bytes)) 1000) e)
-      | false ↦ λ none e. absurd (no_line (leb 1002 (length bytes)) e)
+      | false ↦ λ none e. absurd (no_line (leb MAX_UNDECIDED (length bytes)) e)
     ] refl is where
       of_line : (b : Bool) → cond b (Line (first_line bytes)) TooLong ≡ Line line → first_line bytes ≡ line
       of_line true e = cc e
@@ -119,16 +120,16 @@ line_tells bytes line is =
 pub end_tells : (bytes : List ℕ) → next_of bytes ≡ End → has_lf bytes ≡ false
 unfolding next_of
 end_tells bytes is =
-    elim (has_lf (take 1002 bytes)) as (λ b. has_lf (take 1002 bytes) ≡ b
-    → cond b (cond (leb (length (first_line bytes)) 1000) (Line (first_line bytes)) TooLong) (cond (leb 1002 (length bytes)) TooLong End) ≡ End
+    elim (has_lf (take MAX_UNDECIDED bytes)) as (λ b. has_lf (take MAX_UNDECIDED bytes) ≡ b
+    → cond b (cond (leb (length (first_line bytes)) 1000) (Line (first_line bytes)) TooLong) (cond (leb MAX_UNDECIDED (length bytes)) TooLong End) ≡ End
     → has_lf bytes ≡ false) [
       | true ↦ λ some e. absurd (no_end (leb (length (first_line bytes)) 1000) e)
-      | false ↦ λ none e. ap has_lf (sym (take_all 1002 bytes (short (leb 1002 (length bytes)) refl e))) ∙ none
+      | false ↦ λ none e. ap has_lf (sym (take_all MAX_UNDECIDED bytes (short (leb MAX_UNDECIDED (length bytes)) refl e))) ∙ none
     ] refl is where
       no_end : (b : Bool) → cond b (Line (first_line bytes)) TooLong ≡ End → ⊥
       no_end true e = cc e
       no_end false e = cc e
 
-      short : (b : Bool) → leb 1002 (length bytes) ≡ b → cond b TooLong End ≡ End → length bytes ≤ 1002
+      short : (b : Bool) → leb MAX_UNDECIDED (length bytes) ≡ b → cond b TooLong End ≡ End → length bytes ≤ MAX_UNDECIDED
       short true at e = absurd (cc e)
-      short false at e = elim (leb_tells 1002 (length bytes)) [ inl t ↦ absurd (false≢true (sym at ∙ t.0)) | inr f ↦ omega (arith, f.1) ]
+      short false at e = elim (leb_tells MAX_UNDECIDED (length bytes)) [ inl t ↦ absurd (false≢true (sym at ∙ t.0)) | inr f ↦ omega (arith, f.1) ]

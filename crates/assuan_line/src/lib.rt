@@ -10,7 +10,7 @@ mod text;
 mod writer;
 
 pub use breach::Breach;
-pub use buffer::MAX_AHEAD;
+pub use buffer::{MAX_AHEAD, MAX_UNDECIDED};
 pub use filter::{LineFilter, next_after_skipped};
 pub use line::Line;
 pub use reader::{BUDGET, LineReader, Took, lines_come_in_order};

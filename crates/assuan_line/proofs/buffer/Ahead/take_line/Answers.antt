@@ -1,6 +1,7 @@
 use Rattle.std.proofs.Common.{◌∙◌, ap, sym, cond, Bool, le-leb, refl, arith}
 use Rattle.std.proofs.lemmas.Bool.{lt-leb}
 use Rattle.assuan_line.specs.Ahead.{bytes_ahead}
+use Rattle.assuan_line.specs.declared.buffer.TheConstants.{MAX_UNDECIDED}
 use Rattle.assuan_line.specs.declared.reader.Took.TheVariants.{TooLong, End}
 use Rattle.assuan_line.proofs.Decided.{whole_before, next_of_some, next_of_none, on_no_line}
 use Rattle.assuan_line.proofs.buffer.Ahead.take_line.Goals as goal
@@ -23,9 +24,9 @@ returns-in_default c = record {
 pub returns-in-None-clause-took : goal.returns-in-None-clause-took
 returns-in-None-clause-took c =
     sym (next_of_none (bytes_ahead c.args.self.now) (sym c.line_feed.ensures ∙ c.in-None.is)
-    ∙ ap (λ (b : Bool). cond b TooLong End) (lt-leb 1002 _ (omega arith)))
+    ∙ ap (λ (b : Bool). cond b TooLong End) (lt-leb MAX_UNDECIDED _ (omega arith)))
 
 pub returns-in-None-2-clause-took : goal.returns-in-None-2-clause-took
 returns-in-None-2-clause-took c =
     sym (next_of_none (bytes_ahead c.args.self.now) (sym c.line_feed.ensures ∙ c.in-None.is)
-    ∙ ap (λ (b : Bool). cond b TooLong End) (le-leb 1002 _ (omega arith)))
+    ∙ ap (λ (b : Bool). cond b TooLong End) (le-leb MAX_UNDECIDED _ (omega arith)))
