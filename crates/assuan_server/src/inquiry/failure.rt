@@ -80,7 +80,11 @@ pub(crate) fn end_of(took: Took) -> Result<(), Failure>
     ensures failure { IfErr result (λ failure. (limit : ℕ) (bytes : List ℕ) → ComesTo limit bytes took (without failure)) }
 {
     match took {
-        Took::Line(line) => end_of_line(line.bytes()),
+        Took::Line(mut line) => {
+            let end = end_of_line(line.bytes());
+            line.clear();
+            end
+        }
         Took::TooLong => Err(Failure::TooLong),
         Took::End => Err(Failure::Ended),
         Took::Spent => Err(Failure::Spent),
