@@ -7,13 +7,13 @@ use Rattle.assuan_line.specs.Skipping.{IsUndecided, Stops, ReadsOn}
 use Rattle.assuan_line.specs.declared.reader.Took.{Took}
 use Rattle.assuan_line.specs.declared.reader.Took.TheVariants as took
 use Rattle.assuan_line.proofs.ReadingOn.{read_so}
-use Rattle.assuan_client.specs.Answers.{Answers, HasAnswered, IsStop, Says, ended_of, state_after}
+use Rattle.assuan_client.specs.Answers.{Answers, ReadOn, IsStop, Says, ended_of, state_after}
 use Rattle.assuan_client.specs.Connections.{Connection}
-use Rattle.assuan_client.specs.Passing.{Tally, with_lines, with_inquiry, passes_after, passes_behind, coded, IsBehind, nothing}
+use Rattle.assuan_client.specs.Skipping.{Tally, with_lines, with_inquiry, skips_after, skips_behind, coded, IsBehind, nothing}
 use Rattle.assuan_client.specs.declared.answer.Answer.{Answer}
 use Rattle.assuan_client.specs.declared.answer.Answer.TheVariants.{Ok, Got, Err, Asked, Broken, ReadFault, WriteFault}
 use Rattle.assuan_client.specs.declared.answer.State.TheVariants as state
-use Rattle.assuan_client.proofs.Passing.{skipped_after}
+use Rattle.assuan_client.proofs.Skipping.{skipped_after}
 
 -- after an answer that leaves the connection whole, the reader goes on
 pub goes_on : (answer : Answer) → state_after answer ≢ state.Broken → ended_of answer ≡ None
@@ -32,14 +32,14 @@ is_fault took.End is = cc is
 is_fault took.Spent is = cc is
 is_fault took.ReadFault is = refl
 
-stops_after : (tally : Tally) (lines : List (List ℕ)) (t : Took) → Stops passes_behind (coded tally ∷ lines) t → Stops (passes_after tally) lines t
+stops_after : (tally : Tally) (lines : List (List ℕ)) (t : Took) → Stops skips_behind (coded tally ∷ lines) t → Stops (skips_after tally) lines t
 stops_after tally lines (took.Line line) stops = stops
 stops_after tally lines took.TooLong stops = tt
 stops_after tally lines took.End stops = tt
 stops_after tally lines took.Spent stops = tt
 stops_after tally lines took.ReadFault stops = tt
 
-is_stop : (tally : Tally) (lines : List (List ℕ)) (t : Took) → Stops (passes_after tally) lines t → IsStop (with_lines tally lines) t
+is_stop : (tally : Tally) (lines : List (List ℕ)) (t : Took) → Stops (skips_after tally) lines t → IsStop (with_lines tally lines) t
 is_stop tally lines (took.Line line) stops = stops
 is_stop tally lines took.TooLong stops = tt
 is_stop tally lines took.End stops = tt
@@ -54,7 +54,7 @@ pub record IsBy (behind after : Tally) (t : Took) (answer : Answer) : Type 0 whe
   pub no_write : answer ≢ WriteFault
 
 answers_by : (tally behind after : Tally) (t : Took) (answer : Answer) → IsBy behind after t answer
-    → (bytes left : List ℕ) (reader : Reader) → ReadsOn passes_behind (coded tally ∷ []) (IsBehind behind) bytes t reader left → Answers tally bytes t answer after reader left
+    → (bytes left : List ℕ) (reader : Reader) → ReadsOn skips_behind (coded tally ∷ []) (IsBehind behind) bytes t reader left → Answers tally bytes t answer after reader left
 answers_by tally behind after t answer by bytes left reader on =
     let lines = on.0 in
     let stops = stops_after tally lines t on.1.stops in
@@ -92,8 +92,8 @@ undecided_so {before = before} {input = input} {input_after = input_after} each 
 }
 
 pub answered : (tally behind : Tally) (t : Took) (answer : Answer) (before after : Connection)
-    → HasRead (IsUndecided passes_behind (coded tally ∷ [])) (ReadsOn passes_behind (coded tally ∷ []) (IsBehind behind)) before.reader before.input t after.reader after.input
-    → IsBy behind after.tally t answer → after.output ≡ before.output → after.state ≡ state_after answer → (state_after answer ≢ state.Asked → after.tally ≡ nothing) → HasAnswered tally answer before after
+    → HasRead (IsUndecided skips_behind (coded tally ∷ [])) (ReadsOn skips_behind (coded tally ∷ []) (IsBehind behind)) before.reader before.input t after.reader after.input
+    → IsBy behind after.tally t answer → after.output ≡ before.output → after.state ≡ state_after answer → (state_after answer ≢ state.Asked → after.tally ≡ nothing) → ReadOn tally answer before after
 answered tally behind t answer before after read by output stands cleared =
     let answers = read_so (λ bytes left on. answers_by tally behind after.tally t answer by bytes left after.reader on) read in
     record {

@@ -1,5 +1,5 @@
 mod Answering
 pub mod OnlyAnswer
-mod Passing
 mod Sending
+mod Skipping
 mod WorkedExamples

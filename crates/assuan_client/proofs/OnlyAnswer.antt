@@ -7,13 +7,13 @@ use Rattle.assuan_line.proofs.OnlyReading.{only_reading}
 use Rattle.assuan_client.specs.Answers.{Answers, Says}
 use Rattle.assuan_client.specs.Forms as form
 use Rattle.assuan_client.specs.Forms.{Form, form_of}
-use Rattle.assuan_client.specs.Passing.{Tally, with_lines, passes_after}
+use Rattle.assuan_client.specs.Skipping.{Tally, with_lines, skips_after}
 use Rattle.assuan_client.specs.declared.answer.Answer.{Answer}
 use Rattle.assuan_client.specs.declared.answer.Answer.TheVariants as answer
 use Rattle.std.proofs.lemmas.Bool.{le-leb, lt-leb, ne_eqb}
 use Rattle.assuan_client.specs.Answers.{success_of, inquiry_after}
 
--- the answer by a line of this form that isn't passed over
+-- the answer by a line of this form that isn't skipped
 abbrev pub by_form : Tally → List ℕ → Form → Answer
 by_form tally line form.Data = answer.Broken breach.TooMuch
 by_form tally line form.Note = answer.Broken breach.Many
@@ -36,7 +36,7 @@ pub only_answer : (tally after later : Tally) (bytes line other : List ℕ) (fir
     → Answers tally bytes (Line line) first after reader left
     → Answers tally bytes (Line other) second later reader_later rest → (first ≡ second) × (reader.ahead ++ left ≡ reader_later.ahead ++ rest)
 only_answer tally after later bytes line other first second reader reader_later left rest one two =
-    let same = only_reading (passes_after tally) [] one.lines two.lines bytes line other reader reader_later left rest one.reads two.reads in
+    let same = only_reading (skips_after tally) [] one.lines two.lines bytes line other reader reader_later left rest one.reads two.reads in
     let says : first ≡ by_form (with_lines tally one.lines) line (form_of line) = is_by_form one.says in
     let says' : second ≡ by_form (with_lines tally two.lines) other (form_of other) = is_by_form two.says in (
       says ∙ ap (λ (lines : List (List ℕ)). by_form (with_lines tally lines) line (form_of line)) same.skipped

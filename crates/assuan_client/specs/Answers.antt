@@ -13,13 +13,13 @@ use Rattle.assuan_line.specs.declared.reader.Took.TheVariants as took
 use Rattle.assuan_client.specs.Connections.{Connection}
 use Rattle.assuan_client.specs.Forms as form
 use Rattle.assuan_client.specs.Forms.{form_of}
-use Rattle.assuan_client.specs.Passing.{Tally, nothing, with_lines, with_inquiry, passes, passes_after}
+use Rattle.assuan_client.specs.Skipping.{Tally, nothing, with_lines, with_inquiry, skips, skips_after}
 use Rattle.assuan_client.specs.declared.answer.Answer.{Answer}
 use Rattle.assuan_client.specs.declared.answer.Answer.TheVariants.{Ok, Got, Err, Asked, Broken, ReadFault, WriteFault}
 use Rattle.assuan_client.specs.declared.answer.State.{State}
 use Rattle.assuan_client.specs.declared.answer.State.TheVariants as turn
 
--- the answer by the line that isn't passed over, or by the end of the lines, where this came before it
+-- the answer by the line that isn't skipped, or by the end of the lines, where this came before it
 pub data Says (tally : Tally) : Took → Answer → Type 0 where
   ok : {line : List ℕ} → form_of line ≡ form.Ok → length tally.bytes ≡ 0 → Says tally (took.Line line) Ok
   got : {line : List ℕ} → form_of line ≡ form.Ok → 0 < length tally.bytes → Says tally (took.Line line) (Got tally.bytes)
@@ -43,15 +43,15 @@ success_of bytes = if length bytes == 0 then Ok else Got bytes
 abbrev pub inquiry_after : Tally → List ℕ → List ℕ → Answer
 inquiry_after tally word text = if nat_le (tally.notes + 1) MAX_NOTES then Asked word text else Broken breach.Many
 
--- it is no line that is passed over
+-- it is no line that is skipped
 abbrev pub IsStop : Tally → Took → Type 0
-IsStop tally (took.Line line) = passes tally (form_of line) (length (carried line)) ≡ false
+IsStop tally (took.Line line) = skips tally (form_of line) (length (carried line)) ≡ false
 IsStop tally _ = Unit {0}
 
 -- an answer over these bytes, where this came before them in the command, with what has come then and how the reader stands
 pub record Answers (tally : Tally) (bytes : List ℕ) (took : Took) (answer : Answer) (after : Tally) (reader : Reader) (left : List ℕ) : Type 0 where
   pub lines : List (List ℕ)
-  pub reads : ReadsAfter (passes_after tally) [] lines bytes took reader left
+  pub reads : ReadsAfter (skips_after tally) [] lines bytes took reader left
   pub says : Says (with_lines tally lines) took answer
   pub asked : (word text : List ℕ) → answer ≡ Asked word text → after ≡ with_inquiry (with_lines tally lines)
 
@@ -74,9 +74,9 @@ ended_of ReadFault = Some took.ReadFault
 ended_of _ = None
 
 -- Lines were read up to an answer, where this came before them in the command.
-pub record HasAnswered (tally : Tally) (answer : Answer) (before after : Connection) : Type 0 where
+pub record ReadOn (tally : Tally) (answer : Answer) (before after : Connection) : Type 0 where
   pub took : Took
-  pub read : HasRead (IsUndecided (passes_after tally) []) (λ bytes took reader left. Answers tally bytes took answer after.tally reader left) before.reader before.input took after.reader after.input
+  pub read : HasRead (IsUndecided (skips_after tally) []) (λ bytes took reader left. Answers tally bytes took answer after.tally reader left) before.reader before.input took after.reader after.input
   pub ended : after.reader.ended ≡ ended_of answer
   pub fault : answer ≡ ReadFault → Rose before.input.faults after.input.faults
   pub no_write : answer ≢ WriteFault

@@ -2,7 +2,7 @@
 use Rattle.std.specs.Prelude.{◌≡◌, ◌≢◌, None}
 use Rattle.agent_ports.specs.Sides.{Side}
 use Rattle.assuan_line.specs.Next.{Reader}
-use Rattle.assuan_client.specs.Passing.{Tally}
+use Rattle.assuan_client.specs.Skipping.{Tally}
 use Rattle.assuan_client.specs.declared.answer.State.{State}
 use Rattle.assuan_client.specs.declared.answer.State.TheVariants.{Broken}
 

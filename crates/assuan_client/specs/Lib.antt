@@ -1,5 +1,5 @@
 pub mod Answers
 pub mod Connections
 pub mod Forms
-pub mod Passing
+pub mod Skipping
 pub mod Writing

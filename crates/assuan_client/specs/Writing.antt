@@ -4,9 +4,9 @@ use Rattle.agent_ports.specs.Counts.{Rose}
 use Rattle.agent_ports.specs.Sides.{Side, with_bytes}
 use Rattle.assuan_escape.specs.DataLines.{AreData, data_text}
 use Rattle.assuan_text.specs.LineEnds.{line_of}
-use Rattle.assuan_client.specs.Answers.{HasAnswered, state_after}
+use Rattle.assuan_client.specs.Answers.{ReadOn, state_after}
 use Rattle.assuan_client.specs.Connections.{Connection}
-use Rattle.assuan_client.specs.Passing.{Tally, nothing}
+use Rattle.assuan_client.specs.Skipping.{Tally, nothing}
 use Rattle.assuan_client.specs.declared.answer.Answer.{Answer}
 use Rattle.assuan_client.specs.declared.answer.Answer.TheVariants.{WriteFault}
 use Rattle.assuan_client.specs.declared.«data».Unsent.{Unsent}
@@ -35,7 +35,7 @@ HasPut bytes before (Err unsent) after = IsCutOff bytes before after
 pub record IsAnswered (bytes : List ℕ) (tally : Tally) (answer : Answer) (before after : Connection) : Type 0 where
   pub written : after.output.bytes ≡ with_bytes before.output.bytes bytes
   pub faults : before.output.faults ≤ after.output.faults
-  pub answered : HasAnswered tally answer (record { input = before.input; output = after.output; reader = before.reader; tally = before.tally; state = before.state }) after
+  pub answered : ReadOn tally answer (record { input = before.input; output = after.output; reader = before.reader; tally = before.tally; state = before.state }) after
 
 -- the bytes weren't written whole, and nothing was read
 pub record IsUnanswered (bytes : List ℕ) (before after : Connection) : Type 0 where
@@ -45,12 +45,12 @@ pub record IsUnanswered (bytes : List ℕ) (before after : Connection) : Type 0 
   pub cleared : after.tally ≡ nothing
 
 -- These bytes were written, or the write of them failed.
-pub record HasExchanged (bytes : List ℕ) (tally : Tally) (answer : Answer) (before after : Connection) : Type 0 where
+pub record Command (bytes : List ℕ) (tally : Tally) (answer : Answer) (before after : Connection) : Type 0 where
   pub answered : answer ≢ WriteFault → IsAnswered bytes tally answer before after
   pub unanswered : answer ≡ WriteFault → IsUnanswered bytes before after
   pub state : after.state ≡ state_after answer
 
 -- The bytes were sent as data lines and END, or the write of these failed.
-abbrev pub HasReplied : List ℕ → Answer → Connection → Connection → Type 0
-HasReplied bytes answer before after =
-    (pieces : List (List ℕ)) × AreData bytes pieces × HasExchanged (reply_text pieces) before.tally answer before after
+abbrev pub Reply : List ℕ → Answer → Connection → Connection → Type 0
+Reply bytes answer before after =
+    (pieces : List (List ℕ)) × AreData bytes pieces × Command (reply_text pieces) before.tally answer before after

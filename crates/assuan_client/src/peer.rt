@@ -1,9 +1,9 @@
 ghost use Rattle.std.specs.Prelude.{◌≡◌, ◌≢◌, ◌++◌, [], None, List, ℕ};
 ghost use Rattle.assuan_line.specs.Next.{Reader};
 ghost use Rattle.assuan_text.specs.LineEnds.{line_of};
-ghost use Rattle.assuan_client.specs.Answers.{Answers, HasAnswered};
-ghost use Rattle.assuan_client.specs.Passing.{Tally as Passed, nothing};
-ghost use Rattle.assuan_client.specs.Writing.{HasExchanged, HasReplied, cancel_text};
+ghost use Rattle.assuan_client.specs.Answers.{Answers, ReadOn};
+ghost use Rattle.assuan_client.specs.Skipping.{Tally as TallyValue, nothing};
+ghost use Rattle.assuan_client.specs.Writing.{Command, Reply, cancel_text};
 
 use crate::data::{send_line, send_reply};
 use crate::tally::Tally;
@@ -17,7 +17,7 @@ use std::marker::Model;
 /// "client requests"). Each line has at most 1,000 bytes before its line feed.
 ///
 /// A session goes so: `hello` once, then `command` for each command. Each call gives the one answer that the server's lines
-/// come to: comments, status lines and data lines are passed over up to the next end, at most 10,000 comments, status lines
+/// come to: comments, status lines and data lines are skipped up to the next end, at most 10,000 comments, status lines
 /// and inquiries and at most 255 bytes of data for one command. Where the answer is an inquiry, `reply` or `cancel` goes on with
 /// the same command. After `Broken`, `ReadFault` or `WriteFault` nothing more may be said. At the end `into_link` gives the
 /// link back.
@@ -83,7 +83,7 @@ impl<L: Link> Peer<L> {
     /// Reads the greeting.
     pub fn hello(&mut self) -> Answer
         requires { self.old.state ≢ State.Broken }
-        ensures { HasAnswered nothing result self.old self.new }
+        ensures { ReadOn nothing result self.old self.new }
     {
         self.tally.clear();
         self.read_on()
@@ -92,7 +92,7 @@ impl<L: Link> Peer<L> {
     /// Writes the line, and reads up to the next end.
     pub fn command(&mut self, line: &Line) -> Answer
         requires { self.old.state ≢ State.Broken }
-        ensures { HasExchanged (line_of line.now) nothing result self.old self.new }
+        ensures { Command (line_of line.now) nothing result self.old self.new }
     {
         if send_line(&mut self.link, line.bytes()).is_err() {
             return self.cut();
@@ -104,7 +104,7 @@ impl<L: Link> Peer<L> {
     /// Answers the inquiry by these bytes, as data lines and `END`, and reads on.
     pub fn reply(&mut self, bytes: &[u8]) -> Answer
         requires { self.old.state ≡ State.Asked }
-        ensures { HasReplied bytes.now result self.old self.new }
+        ensures { Reply bytes.now result self.old self.new }
     {
         if send_reply(&mut self.link, bytes).is_err() {
             return self.cut();
@@ -115,7 +115,7 @@ impl<L: Link> Peer<L> {
     /// Answers the inquiry by `CAN`, and reads on.
     pub fn cancel(&mut self) -> Answer
         requires { self.old.state ≡ State.Asked }
-        ensures { HasExchanged cancel_text self.old.tally result self.old self.new }
+        ensures { Command cancel_text self.old.tally result self.old self.new }
     {
         if send_line(&mut self.link, b"CAN").is_err() {
             return self.cut();
@@ -126,7 +126,7 @@ impl<L: Link> Peer<L> {
     /// Reads up to the next end. What came is kept only for an inquiry.
     fn read_on(&mut self) -> Answer
         requires { self.old.state ≢ State.Broken }
-        ensures { HasAnswered self.old.tally result self.old self.new }
+        ensures { ReadOn self.old.tally result self.old self.new }
     {
         let took = next_after_skipped(&mut self.reader, &mut self.link, &mut self.tally);
         let answer = self.tally.answer(took);
@@ -148,7 +148,7 @@ impl<L: Link> Peer<L> {
 
 /// A law: the bytes decide which answer a line gives, and which bytes are left behind it.
 pub fn answers_are_the_only_ones()
-    ensures { (tally after later : Passed) (bytes line other : List ℕ) (first second : Answer) (reader reader_later : Reader)
+    ensures { (tally after later : TallyValue) (bytes line other : List ℕ) (first second : Answer) (reader reader_later : Reader)
         (left rest : List ℕ)
         → Answers tally bytes (Took.Line line) first after reader left
         → Answers tally bytes (Took.Line other) second later reader_later rest

@@ -6,7 +6,7 @@ ghost use Rattle.assuan_escape.specs.DataLines.{carried};
 ghost use Rattle.assuan_client.specs.Answers.{Says, IsStop, ended_of, state_after, success_of, inquiry_after};
 ghost use Rattle.cache_policy.specs.declared.secret.TheConstants.{MAX_SECRET_LEN};
 ghost use Rattle.assuan_client.specs.declared.tally.TheConstants.{MAX_NOTES};
-ghost use Rattle.assuan_client.specs.Passing.{nothing, with_inquiry, passes_behind, IsBehind};
+ghost use Rattle.assuan_client.specs.Skipping.{nothing, with_inquiry, skips_behind, IsBehind};
 
 use crate::form::{Form, form_of};
 use crate::{Answer, State};
@@ -19,7 +19,7 @@ use wiping::Wiped;
 /// How many comments, status lines and inquiries a command may have.
 pub const MAX_NOTES: u16 = 10_000;
 
-/// What came in a command so far, of the lines that are passed over and of inquiries.
+/// What came in a command so far, of the lines that are skipped and of inquiries.
 #[derive(Drop)]
 pub(crate) struct Tally {
     notes: u16,
@@ -28,11 +28,11 @@ pub(crate) struct Tally {
 
 impl Model for Tally {
     ghost use Rattle.std.specs.Prelude.{◌≤◌, length};
-    ghost use Rattle.assuan_client.specs.Passing.{Tally as Passed};
+    ghost use Rattle.assuan_client.specs.Skipping.{Tally as TallyValue};
     ghost use Rattle.assuan_client.specs.declared.tally.TheConstants.{MAX_NOTES};
     ghost use Rattle.cache_policy.specs.declared.secret.TheConstants.{MAX_SECRET_LEN};
 
-    ghost Value = { Passed };
+    ghost Value = { TallyValue };
 
     ghost view = { λ t. record { notes = t.notes; bytes = t.bytes } };
 
@@ -97,7 +97,7 @@ impl Tally {
         }
     }
 
-    /// The answer by the line that isn't passed over, or by the end of the lines.
+    /// The answer by the line that isn't skipped, or by the end of the lines.
     pub(crate) fn answer(&mut self, took: Took) -> Answer
         ensures says { IsStop self.old took → Says self.old took result }
         ensures asked { (word text : List ℕ) → result ≡ Answer.Asked word text → self.new ≡ with_inquiry self.old }
@@ -113,7 +113,7 @@ impl Tally {
         }
     }
 
-    /// The answer by a line that isn't passed over.
+    /// The answer by a line that isn't skipped.
     fn answer_by(&mut self, line: Line) -> Answer
         ensures says { IsStop self.old (Took.Line line) → Says self.old (Took.Line line) result }
         ensures asked { (word text : List ℕ) → result ≡ Answer.Asked word text → self.new ≡ with_inquiry self.old }
@@ -157,7 +157,7 @@ impl Tally {
 }
 
 impl LineFilter for Tally {
-    ghost skips = { λ before line. passes_behind before line };
+    ghost skips = { λ before line. skips_behind before line };
 
     ghost keeps = { λ tally before. IsBehind tally before };
 

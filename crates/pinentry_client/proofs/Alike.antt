@@ -1,11 +1,11 @@
 -- Connections to which the same bytes come are answered the same, unless a read or a write failed.
 use Rattle.std.proofs.Common.{◌≡◌, ◌≢◌, ◌+◌, ℕ, Bool, true, false, List, ◌++◌, length, Option, Some, None, refl, ap, sym, subst, ◌∙◌, arith}
 use Rattle.agent_ports.specs.Sides.{WhereKnown}
-use Rattle.assuan_client.specs.Answers.{Says, Answers, HasAnswered}
+use Rattle.assuan_client.specs.Answers.{Says, Answers, ReadOn}
 use Rattle.assuan_client.specs.Connections.{Connection}
 use Rattle.assuan_client.specs.Forms.{form_of}
-use Rattle.assuan_client.specs.Passing.{Tally, nothing, with_lines, with_inquiry, passes_after}
-use Rattle.assuan_client.specs.Writing.{HasExchanged}
+use Rattle.assuan_client.specs.Skipping.{Tally, nothing, with_lines, with_inquiry, skips_after}
+use Rattle.assuan_client.specs.Writing.{Command}
 use Rattle.assuan_client.specs.declared.answer.Answer.{Answer}
 use Rattle.assuan_client.specs.declared.answer.Answer.TheVariants as answer
 use Rattle.assuan_client.specs.declared.answer.State.{State}
@@ -97,7 +97,7 @@ tally_by tally lines said = nothing
 not_asked_state : {now stands : State} → now ≡ stands → stands ≢ state.Asked → now ≢ state.Asked
 not_asked_state is not same = not (sym is ∙ same)
 
-tally_after : {tally : Tally} (said : Answer) {before after : Connection} (lines : List (List ℕ)) → HasAnswered tally said before after
+tally_after : {tally : Tally} (said : Answer) {before after : Connection} (lines : List (List ℕ)) → ReadOn tally said before after
     → ((word text : List ℕ) → said ≡ answer.Asked word text → after.tally ≡ with_inquiry (with_lines tally lines)) → goes_on said ≡ true → after.tally ≡ tally_by tally lines said
 tally_after answer.Ok lines has asked going = has.cleared (not_asked_state has.state (λ same. absurd (cc same)))
 tally_after (answer.Got bytes) lines has asked going = has.cleared (not_asked_state has.state (λ same. absurd (cc same)))
@@ -113,7 +113,7 @@ pub record SaidAlike (said again : Answer) (one two : Connection) : Type 0 where
   pub alike : goes_on said ≡ true → Alike one two
 
 pub answered_alike : {tally : Tally} (said again : Answer) {before after start end : Connection} → is_fault said ≡ false → is_fault again ≡ false → Alike before start
-    → HasAnswered tally said before after → HasAnswered tally again start end → SaidAlike said again after end
+    → ReadOn tally said before after → ReadOn tally again start end → SaidAlike said again after end
 answered_alike {tally} said again {before} {after} {start} {end} fine fine' alike has has' =
     let first = both_known before.input.bytes after.input.bytes (λ bytes left. Answers tally (before.reader.ahead ++ bytes) has.took said after.tally after.reader left)
     (λ bytes left. length bytes + after.reader.left ≡ length left + before.reader.left) alike.rest alike.known has.read.known has.read.budget in
@@ -122,7 +122,7 @@ answered_alike {tally} said again {before} {after} {start} {end} fine fine' alik
     let one = first.2 in
     let two = subst (λ (b : List ℕ). Answers tally b has'.took again end.tally end.reader second.0) (sym alike.bytes) second.2 in
     let fits : Fits after.reader end.reader first.0 second.0 = omega (arith, first.3, second.3, alike.fits) in
-    let same = same_reading (passes_after tally) (before.reader.ahead ++ alike.rest) has.took has'.took after.reader end.reader first.0 second.0
+    let same = same_reading (skips_after tally) (before.reader.ahead ++ alike.rest) has.took has'.took after.reader end.reader first.0 second.0
     (took_fine one.says fine) (took_fine two.says fine') one.reads two.reads fits in
     let says = says_is (with_lines tally one.lines) has.took said one.says in
     let says' = says_is (with_lines tally two.lines) has'.took again two.says in
@@ -147,7 +147,7 @@ no_cut : (said : Answer) → is_fault said ≡ false → said ≢ answer.WriteFa
 no_cut said fine same = let never = sym fine ∙ ap is_fault same in absurd (cc never)
 
 pub exchanged_alike : {text other : List ℕ} {tally : Tally} (said again : Answer) {before after start end : Connection} → is_fault said ≡ false → is_fault again ≡ false
-    → Alike before start → HasExchanged text tally said before after → HasExchanged other tally again start end → SaidAlike said again after end
+    → Alike before start → Command text tally said before after → Command other tally again start end → SaidAlike said again after end
 exchanged_alike said again fine fine' alike has has' =
     let whole = has.answered (no_cut said fine) in
     let whole' = has'.answered (no_cut again fine') in

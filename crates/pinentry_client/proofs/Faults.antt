@@ -8,10 +8,10 @@ use Rattle.agent_ask.specs.declared.prompter.Outcome.{Outcome}
 use Rattle.agent_ask.specs.declared.prompter.Outcome.TheVariants as outcome
 use Rattle.agent_ports.specs.Counts.{Rose, RoseBy}
 use Rattle.agent_ports.specs.Sides.{Side}
-use Rattle.assuan_client.specs.Answers.{HasAnswered}
+use Rattle.assuan_client.specs.Answers.{ReadOn}
 use Rattle.assuan_client.specs.Connections.{Connection}
-use Rattle.assuan_client.specs.Passing.{Tally}
-use Rattle.assuan_client.specs.Writing.{HasExchanged, IsUnanswered}
+use Rattle.assuan_client.specs.Skipping.{Tally}
+use Rattle.assuan_client.specs.Writing.{Command, IsUnanswered}
 use Rattle.assuan_client.specs.declared.answer.Answer.{Answer}
 use Rattle.assuan_client.specs.declared.answer.Answer.TheVariants as answer
 use Rattle.pinentry_client.specs.Answers.{greeted, accepted, applied, data_of, process_of, outcome_of, pin_error, consent_of, consent_error}
@@ -61,12 +61,12 @@ only_read (answer.Broken why) not fault = cc fault
 only_read answer.ReadFault not fault = refl
 only_read answer.WriteFault not fault = absurd (not refl)
 
-pub answered_grew : {tally : Tally} (said : Answer) {before after : Connection} → HasAnswered tally said before after → Grew (is_fault said) before after
+pub answered_grew : {tally : Tally} (said : Answer) {before after : Connection} → ReadOn tally said before after → Grew (is_fault said) before after
 answered_grew said {before} {after} has =
     read_grew (is_fault said) before.input.faults before.output.faults after.input.faults after.output.faults has.read.faults
     (ap (λ (s : Side). s.faults) has.output) (λ failed. has.fault (only_read said has.no_write failed))
 
-written_grew : {bytes : List ℕ} {tally : Tally} (said : Answer) {before after : Connection} → said ≢ answer.WriteFault → HasExchanged bytes tally said before after
+written_grew : {bytes : List ℕ} {tally : Tally} (said : Answer) {before after : Connection} → said ≢ answer.WriteFault → Command bytes tally said before after
     → Grew (is_fault said) before after
 written_grew said {before} {after} not has =
     let whole = has.answered not in
@@ -78,7 +78,7 @@ cut_grew {before} {after} cut =
     let input = ap (λ (s : Side). s.faults) cut.input in
     let rose = cut.cut.rose in omega (arith, rose, input)
 
-pub exchanged_grew : {bytes : List ℕ} {tally : Tally} (said : Answer) {before after : Connection} → HasExchanged bytes tally said before after → Grew (is_fault said) before after
+pub exchanged_grew : {bytes : List ℕ} {tally : Tally} (said : Answer) {before after : Connection} → Command bytes tally said before after → Grew (is_fault said) before after
 exchanged_grew answer.WriteFault has = cut_grew (has.unanswered refl)
 exchanged_grew answer.Ok has = written_grew answer.Ok (λ same. absurd (cc same)) has
 exchanged_grew (answer.Got bytes) has = written_grew (answer.Got bytes) (λ same. absurd (cc same)) has

@@ -5,8 +5,8 @@ use Rattle.agent_ask.specs.declared.prompter.Consent.{Consent}
 use Rattle.agent_ask.specs.declared.prompter.Outcome.{Outcome}
 use Rattle.agent_ask.specs.declared.spec.PromptSpec.{PromptSpec}
 use Rattle.assuan_client.specs.Connections.{Connection}
-use Rattle.assuan_client.specs.Passing.{Tally}
-use Rattle.assuan_client.specs.Writing.{HasExchanged, reply_text, cancel_text}
+use Rattle.assuan_client.specs.Skipping.{Tally}
+use Rattle.assuan_client.specs.Writing.{Command, reply_text, cancel_text}
 use Rattle.assuan_client.specs.declared.answer.Answer.{Answer}
 use Rattle.assuan_client.specs.declared.answer.Answer.TheVariants as answer
 use Rattle.pinentry_client.specs.Answers.{greeted, accepted, applied, outcome_of, consent_of}
@@ -150,9 +150,9 @@ start_alike alike fine fine' (StartTalk.stopped {trouble} said has is) (StartTal
 replied_alike : (rated : Bool) (text : List ℕ) (said again : Answer) {before after start stop : Connection} → is_fault said ≡ false → is_fault again ≡ false → Alike before start
     → Replies rated text said before after → Replies rated text again start stop → SaidAlike said again after stop
 replied_alike true text said again {before} {start} {stop} fine fine' alike (pieces, are, does) (pieces', are', does') =
-    exchanged_alike said again fine fine' alike does (subst (λ (t : Tally). HasExchanged (reply_text pieces') t again start stop) (sym alike.tally) does')
+    exchanged_alike said again fine fine' alike does (subst (λ (t : Tally). Command (reply_text pieces') t again start stop) (sym alike.tally) does')
 replied_alike false text said again {before} {start} {stop} fine fine' alike does does' =
-    exchanged_alike said again fine fine' alike does (subst (λ (t : Tally). HasExchanged cancel_text t again start stop) (sym alike.tally) does')
+    exchanged_alike said again fine fine' alike does (subst (λ (t : Tally). Command cancel_text t again start stop) (sym alike.tally) does')
 
 settled_fine : {rates : Bool} {said final : Answer} {before after : Connection} → is_fault final ≡ false → Settles rates said before final after → is_fault said ≡ false
 settled_fine fine (answered last) = fine

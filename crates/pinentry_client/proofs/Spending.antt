@@ -9,10 +9,10 @@ use Rattle.agent_ask.specs.declared.prompter.Consent.TheVariants as consent
 use Rattle.agent_ask.specs.declared.prompter.Outcome.{Outcome}
 use Rattle.agent_ask.specs.declared.prompter.Outcome.TheVariants as outcome
 use Rattle.agent_ask.specs.declared.spec.PromptSpec.{PromptSpec}
-use Rattle.assuan_client.specs.Answers.{HasAnswered, ended_of}
+use Rattle.assuan_client.specs.Answers.{ReadOn, ended_of}
 use Rattle.assuan_client.specs.Connections.{Connection}
-use Rattle.assuan_client.specs.Passing.{Tally}
-use Rattle.assuan_client.specs.Writing.{HasExchanged, IsUnanswered}
+use Rattle.assuan_client.specs.Skipping.{Tally}
+use Rattle.assuan_client.specs.Writing.{Command, IsUnanswered}
 use Rattle.assuan_client.specs.declared.answer.Answer.{Answer}
 use Rattle.assuan_client.specs.declared.answer.Answer.TheVariants as answer
 use Rattle.assuan_line.specs.Next.{Reader, ended_by}
@@ -64,7 +64,7 @@ spent_took took.End is = cc is
 spent_took took.Spent is = refl
 spent_took took.ReadFault is = cc is
 
-answered_all : {tally : Tally} {said : Answer} {rest : List ℕ} {before after : Connection} → before.input.bytes ≡ Some rest → HasAnswered tally said before after
+answered_all : {tally : Tally} {said : Answer} {rest : List ℕ} {before after : Connection} → before.input.bytes ≡ Some rest → ReadOn tally said before after
     → TookAll (said ≡ spent_answer) rest before after
 answered_all {rest} {before} {after} is has =
     let known = both_known before.input.bytes after.input.bytes (λ bytes left. length bytes + after.reader.left ≡ length left + before.reader.left)
@@ -75,7 +75,7 @@ answered_all {rest} {before} {after} is has =
     }
 
 written_all : {text : List ℕ} {tally : Tally} (said : Answer) {rest : List ℕ} {before after : Connection} → said ≢ answer.WriteFault → before.input.bytes ≡ Some rest
-    → HasExchanged text tally said before after → TookAll (said ≡ spent_answer) rest before after
+    → Command text tally said before after → TookAll (said ≡ spent_answer) rest before after
 written_all said not is has =
     let whole = answered_all is (has.answered not).answered in
     record { took = record { left = whole.took.left; known = whole.took.known; budget = whole.took.budget }; spent = whole.spent }
@@ -91,7 +91,7 @@ cut_all {rest} {before} {after} never is cut = record {
 }
 
 exchanged_all : {text : List ℕ} {tally : Tally} (said : Answer) {rest : List ℕ} {before after : Connection} → before.input.bytes ≡ Some rest
-    → HasExchanged text tally said before after → TookAll (said ≡ spent_answer) rest before after
+    → Command text tally said before after → TookAll (said ≡ spent_answer) rest before after
 exchanged_all answer.WriteFault is has = cut_all (λ same. cc same) is (has.unanswered refl)
 exchanged_all answer.Ok is has = written_all answer.Ok (λ same. absurd (cc same)) is has
 exchanged_all (answer.Got bytes) is has = written_all (answer.Got bytes) (λ same. absurd (cc same)) is has

@@ -14,7 +14,7 @@ use Rattle.agent_ports.specs.Launches.{Launches, IsFresh, child_then, then_finis
 use Rattle.agent_ports.specs.Sides.{Side, with_bytes, sent_part, IsCut}
 use Rattle.agent_ports.specs.declared.link.Sent.{Sent}
 use Rattle.assuan_client.specs.Connections.{Connection}
-use Rattle.assuan_client.specs.Passing.{nothing}
+use Rattle.assuan_client.specs.Skipping.{nothing}
 use Rattle.assuan_client.specs.declared.answer.State.TheVariants as state
 use Rattle.assuan_text.specs.LineEnds.{line_of}
 use Rattle.pinentry_client.specs.States.{PinentryState, AtPinentry, seen, at_prompter}

@@ -6,10 +6,10 @@ use Rattle.agent_ask.specs.declared.prompter.Consent.{Consent}
 use Rattle.agent_ask.specs.declared.prompter.Outcome.{Outcome}
 use Rattle.agent_ask.specs.declared.prompter.Outcome.TheVariants as outcome
 use Rattle.agent_ask.specs.declared.spec.PromptSpec.{PromptSpec}
-use Rattle.assuan_client.specs.Answers.{HasAnswered}
+use Rattle.assuan_client.specs.Answers.{ReadOn}
 use Rattle.assuan_client.specs.Connections.{Connection}
-use Rattle.assuan_client.specs.Passing.{nothing}
-use Rattle.assuan_client.specs.Writing.{HasExchanged, HasReplied, cancel_text}
+use Rattle.assuan_client.specs.Skipping.{nothing}
+use Rattle.assuan_client.specs.Writing.{Command, Reply, cancel_text}
 use Rattle.assuan_client.specs.declared.answer.Answer.{Answer}
 use Rattle.assuan_client.specs.declared.answer.Answer.TheVariants as answer
 use Rattle.assuan_escape.specs.Escapes.{unescaped}
@@ -22,7 +22,7 @@ use Rattle.pinentry_client.specs.declared.settings.Setting.{Setting}
 
 -- a command was written, and answered, or its write failed
 abbrev pub Commands : List ℕ → Answer → Connection → Connection → Type 0
-Commands line answer before after = HasExchanged (line_of line) nothing answer before after
+Commands line answer before after = Command (line_of line) nothing answer before after
 
 -- A setting is told, if it is sent, where this process was known before: the process that is known then, or why the dialogue can't go on.
 pub data TellsSetting (spec : PromptSpec) (setting : Setting) (pid : ℕ) : Connection → Result ℕ Trouble → Connection → Type 0 where
@@ -40,9 +40,9 @@ pub data Sets (spec : PromptSpec) : List Setting → ℕ → Connection → Resu
 
 -- A child greets, and is told all settings.
 pub data StartTalk (spec : PromptSpec) : Connection → Result ℕ Trouble → Connection → Type 0 where
-  greets : {before mid after : Connection} {end : Result ℕ Trouble} (said : Answer) → HasAnswered nothing said before mid → greeted said ≡ Ok tt
+  greets : {before mid after : Connection} {end : Result ℕ Trouble} (said : Answer) → ReadOn nothing said before mid → greeted said ≡ Ok tt
       → Sets spec all_settings 0 mid end after → StartTalk spec before end after
-  stopped : {before after : Connection} {trouble : Trouble} (said : Answer) → HasAnswered nothing said before after → greeted said ≡ Err trouble
+  stopped : {before after : Connection} {trouble : Trouble} (said : Answer) → ReadOn nothing said before after → greeted said ≡ Err trouble
       → StartTalk spec before (Err trouble) after
 
 -- how good a text would be as a passphrase, ten for each byte and at most 100
@@ -51,8 +51,8 @@ quality_text text = decimal (min 100 (10 * length (unescaped false text)))
 
 -- The child's inquiry is answered: how good its text is, where that is asked and told, and else by CAN.
 abbrev pub Replies : Bool → List ℕ → Answer → Connection → Connection → Type 0
-Replies true text said before after = HasReplied (quality_text text) said before after
-Replies false text said before after = HasExchanged cancel_text before.tally said before after
+Replies true text said before after = Reply (quality_text text) said before after
+Replies false text said before after = Command cancel_text before.tally said before after
 
 abbrev pub Inquires : Bool → List ℕ → List ℕ → Answer → Connection → Connection → Type 0
 Inquires rates word text said before after = Replies (rates && bytes_eq word (codes "QUALITY")) text said before after

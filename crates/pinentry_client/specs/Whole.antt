@@ -12,7 +12,7 @@ use Rattle.agent_ask.specs.declared.spec.PromptSpec.{PromptSpec}
 use Rattle.agent_ports.specs.Launches.{Launches, IsFresh, child_then, then_finished}
 use Rattle.agent_ports.specs.Sides.{Side}
 use Rattle.assuan_client.specs.Connections.{Connection}
-use Rattle.assuan_client.specs.Passing.{nothing}
+use Rattle.assuan_client.specs.Skipping.{nothing}
 use Rattle.assuan_client.specs.declared.answer.State.TheVariants.{Ready}
 use Rattle.assuan_line.specs.declared.breach.Breach.TheVariants as breach
 use Rattle.pinentry_client.specs.Dialogues.{SaysBye, opened_of, stays_ready, stays_open}

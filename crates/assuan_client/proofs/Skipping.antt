@@ -1,4 +1,4 @@
--- Lines that are passed over, one after another, and the answer behind them.
+-- Lines that are skipped, one after another, and the answer behind them.
 use Rattle.std.proofs.Common.{◌≡◌, ℕ, ◌+◌, List, [], ◌∷◌, ◌++◌, length, refl, ap, sym, ◌∙◌, subst, arith, append_assoc, append-nil, inl, inr}
 use Rattle.std.specs.Prelude.{cond}
 use Rattle.std.specs.List.{flat_map}
@@ -12,7 +12,7 @@ use Rattle.assuan_line.specs.declared.breach.Breach.TheVariants.{Many, TooMuch}
 use Rattle.assuan_line.specs.declared.reader.Took.TheVariants.{Line}
 use Rattle.assuan_client.specs.Answers.{IsStop, Says, ok, got, asked, many_notes, many_inquiries, too_much, success_of, inquiry_after}
 use Rattle.assuan_client.specs.Forms.{form_of, Data, Note, Ok, Inquiry}
-use Rattle.assuan_client.specs.Passing.{Tally, with_lines, is_note, passes_after, passes_behind, coded, decoded, IsBehind, with_inquiry}
+use Rattle.assuan_client.specs.Skipping.{Tally, with_lines, is_note, skips_after, skips_behind, coded, decoded, IsBehind, with_inquiry}
 use Rattle.assuan_client.specs.declared.answer.Answer.TheVariants.{Broken}
 
 -- a tally by its parts
@@ -25,7 +25,7 @@ tally_by first second notes bytes =
 pub behind_itself : (tally : Tally) → tally ≡ with_lines tally []
 behind_itself tally = tally_by tally (with_lines tally []) (omega arith) (sym (append-nil tally.bytes))
 
-pub skipped_after : (tally : Tally) {before lines : List (List ℕ)} {bytes later : List ℕ} → Skipped passes_behind (coded tally ∷ before) bytes lines later → Skipped (passes_after tally) before bytes lines later
+pub skipped_after : (tally : Tally) {before lines : List (List ℕ)} {bytes later : List ℕ} → Skipped skips_behind (coded tally ∷ before) bytes lines later → Skipped (skips_after tally) before bytes lines later
 skipped_after tally none = none
 skipped_after tally (one line next skip more) = one line next skip (skipped_after tally more)
 
@@ -51,7 +51,7 @@ says_inquiry tally line word text is = elim (cases_lt tally.notes 10000) [
   | inr many ↦ rw (lt-leb (tally.notes + 1) 10000 (omega (arith, many))) (many_inquiries is many)
 ]
 
--- one line more that is passed over
+-- one line more that is skipped
 carries_nothing : (line : List ℕ) → form_of line ≡ Note → carried line ≡ []
 carries_nothing line is = elim (cases_Bool (is_data line)) [
   | inl data_ ↦

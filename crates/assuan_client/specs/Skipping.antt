@@ -1,4 +1,4 @@
--- The lines of a command that are passed over before its end: data, comments and status lines. How many there may be is this
+-- The lines of a command that are skipped before its end: data, comments and status lines. How many there may be is this
 -- project's own rule.
 use Rattle.std.specs.Prelude.{◌≡◌, ℕ, ◌+◌, Bool, true, false, List, [], ◌∷◌, ◌++◌, length, nat_le}
 use Rattle.std.specs.List.{flat_map, count_by}
@@ -33,15 +33,15 @@ with_lines tally lines = record {
 abbrev pub with_inquiry : Tally → Tally
 with_inquiry tally = record { notes = tally.notes + 1; bytes = tally.bytes }
 
--- A line of this form, that carries so many bytes, is passed over: up to 10,000 comments, status lines and inquiries, and 255 bytes.
-abbrev pub passes : Tally → Form → ℕ → Bool
-passes tally Note count = nat_le (tally.notes + 1) MAX_NOTES
-passes tally Data count = nat_le (length tally.bytes + count) MAX_SECRET_LEN
-passes tally _ count = false
+-- A line of this form, that carries so many bytes, is skipped: up to 10,000 comments, status lines and inquiries, and 255 bytes.
+abbrev pub skips : Tally → Form → ℕ → Bool
+skips tally Note count = nat_le (tally.notes + 1) MAX_NOTES
+skips tally Data count = nat_le (length tally.bytes + count) MAX_SECRET_LEN
+skips tally _ count = false
 
--- a line is passed over, where this came before the lines before it
-abbrev pub passes_after : Tally → List (List ℕ) → List ℕ → Bool
-passes_after tally before line = passes (with_lines tally before) (form_of line) (length (carried line))
+-- a line is skipped, where this came before the lines before it
+abbrev pub skips_after : Tally → List (List ℕ) → List ℕ → Bool
+skips_after tally before line = skips (with_lines tally before) (form_of line) (length (carried line))
 
 -- The same, where the first of the lines before stands for what came before them: its count, and then its bytes.
 abbrev pub coded : Tally → List ℕ
@@ -51,9 +51,9 @@ abbrev pub decoded : List ℕ → Tally
 decoded [] = nothing
 decoded (notes ∷ bytes) = record { notes = notes; bytes = bytes }
 
-abbrev pub passes_behind : List (List ℕ) → List ℕ → Bool
-passes_behind [] line = false
-passes_behind (start ∷ lines) line = passes_after (decoded start) lines line
+abbrev pub skips_behind : List (List ℕ) → List ℕ → Bool
+skips_behind [] line = false
+skips_behind (start ∷ lines) line = skips_after (decoded start) lines line
 
 abbrev pub IsBehind : Tally → List (List ℕ) → Type 0
 IsBehind tally [] = ⊥
