@@ -1,4 +1,4 @@
--- The lines that tell a client of a prompt, or ask it for a passphrase.
+-- The lines that tell a client of a prompt or of a limit, or ask it for a passphrase.
 use Rattle.std.proofs.Common.{◌≡◌, ◌+◌, ◌≤◌, ◌<◌, ◌^◌, ℕ, Bool, true, false, List, [], ◌∷◌, ◌++◌, length, inl, inr, refl, sym, subst, ◌∙◌, arith, length-append}
 use Rattle.std.specs.Prelude.{codes, decimal}
 use Rattle.std.specs.Char.{is_ascii_digit}
@@ -10,6 +10,7 @@ use Rattle.std.proofs.lemmas.List.Folds.{list_any-append}
 use Rattle.std.proofs.lemmas.Str.Parse.{tells_all_ascii_digits, numerals_by_value}
 use Rattle.assuan_line.specs.Lines.{IsLine}
 use Rattle.assuan_server.specs.Inquiries.{inquire_text}
+use Rattle.assuan_server.specs.Written.{status_text}
 use Rattle.assuan_text.specs.LineEnds.{is_lf, has_lf}
 use Rattle.agent_commands.specs.Clients.{note_text}
 
@@ -44,6 +45,9 @@ pub note_is_line : (pid : ℕ) → pid < 2 ^ 64 → 0 < length (decimal pid) →
 note_is_line pid small some short =
     subst IsLine (sym (text_is (length (decimal pid)) (decimal pid) refl some))
     (joined_line (codes "INQUIRE PINENTRY_LAUNCHED ") (decimal pid) (omega (arith, short)) refl (decimal_no_lf pid small))
+
+pub limit_is_line : (limit : ℕ) → limit < 2 ^ 64 → length (decimal limit) ≤ 40 → IsLine (status_text (codes "INQUIRE_MAXLEN") (decimal limit))
+limit_is_line limit small short = joined_line (codes "S INQUIRE_MAXLEN ") (decimal limit) (omega (arith, short)) refl (decimal_no_lf limit small)
 
 pub wish_is_line : (word : List ℕ) → length word ≤ 992 → IsLine word → IsLine (inquire_text word [])
 wish_is_line word short line = joined_line (codes "INQUIRE ") word (omega (arith, short)) refl line.whole

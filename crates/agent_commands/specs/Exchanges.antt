@@ -1,6 +1,6 @@
 -- Requests and what is done for them, as the GnuPG manual has them ("Agent's Assuan protocol"). The codes, the texts and the order of
 -- what is done are this project's own.
-use Rattle.std.specs.Prelude.{◌≡◌, ◌≢◌, ◌++◌, ℕ, Bool, true, false, List, [], ◌∷◌, codes, Option, Some, None, if◌then◌else◌, ⊤}
+use Rattle.std.specs.Prelude.{◌≡◌, ◌≢◌, ◌++◌, ℕ, Bool, true, false, List, [], ◌∷◌, codes, decimal, Option, Some, None, if◌then◌else◌, ⊤}
 use Rattle.arrayvec.specs.ArrayVec.{ArrayVec}
 use Rattle.agent_ask.specs.Consents.{AsksConsent}
 use Rattle.agent_ask.specs.Events.{PromptEvent}
@@ -75,7 +75,7 @@ pub data Interrupts : Turn → Code → Type 0 where
 
 -- how long a passphrase may be is told before the client is asked for it
 abbrev pub limit_line : List ℕ
-limit_line = line_of (status_text (codes "INQUIRE_MAXLEN") (codes "255"))
+limit_line = line_of (status_text (codes "INQUIRE_MAXLEN") (decimal MAX_SECRET_LEN))
 
 -- the client is asked for a passphrase
 abbrev pub inquiry : {F : Type 0} → Inquired → Event F

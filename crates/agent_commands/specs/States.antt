@@ -100,7 +100,8 @@ pub record FaultsRise {w : World} (went : Went) (start now : SessionState w) : T
   pub write : went ≡ End WriteFault → Rose start.conn.output.faults now.conn.output.faults
 
 -- a request was answered, whole or in part
-pub record AnswersRequest {w : World} (exchange : OptionValues → List (Event w.Further) → OptionValues → Went → Type 0) (before : OptionValues) (start : SessionState w) (went : Went) (after : OptionValues) (now : SessionState w) : Type 0 where
+pub record AnswersRequest {w : World} (exchange : OptionValues → List (Event w.Further) → OptionValues → Went → Type 0)
+    (before : OptionValues) (start : SessionState w) (went : Went) (after : OptionValues) (now : SessionState w) : Type 0 where
   pub events : List (Event w.Further)
   pub exchanges : WholeOrCut exchange before events after went
   pub done : EventsLead events start now

@@ -24,7 +24,8 @@ use crate::{CacheCommand, Info, QuietRequest, SessionEnd, Went};
 use agent_ask::Prompter;
 use agent_ports::{Link, Sent};
 use assuan_server::{Code, Conn, InquiredSecret};
-use cache_policy::{CacheId, Desk, Life, Mode, Refused, Reply, Secret, Step};
+use cache_policy::{CacheId, Desk, Life, MAX_SECRET_LEN, Mode, Refused, Reply, Secret, Step};
+use itoa::Buffer;
 use session_options::{OptionAnswer, Options, PinMode, Rules};
 
 /// Does what a command asks for, answers it, and says how the session goes on. No ticket is out and no prompt is open when it returns.
@@ -261,7 +262,8 @@ pub(crate) fn inquire_passphrase<L: Link>(conn: &mut Conn<'_, L>) -> Result<Secr
     requires { IsOpen conn.old }
     ensures { AsksSecret conn.old result conn.new }
 {
-    match conn.status(b"INQUIRE_MAXLEN", b"255") {
+    let mut digits = Buffer::new();
+    match conn.status(b"INQUIRE_MAXLEN", digits.format(MAX_SECRET_LEN).as_bytes()) {
         Sent::All => passphrase_of(conn.inquire_secret(b"PASSPHRASE", b"")),
         Sent::Failed { .. } => Err(Answer::silent(SessionEnd::WriteFault)),
     }
