@@ -3,7 +3,8 @@ use Rattle.std.proofs.Common.{◌≡◌, ℕ, ◌+◌, ◌-◌, ◌≤◌, List,
 use Rattle.std.proofs.lemmas.List.{take-append-le, length-take-le, take-append-drop, drop-drop, length-drop, take_all}
 
 -- what was copied, and what is left, make what was there
-pub front_copied : (bytes : List ℕ) (taken n : ℕ) (part buffer : List ℕ) → part ≡ take n (take (length bytes - taken) (drop taken bytes)) → n ≤ length bytes - taken → drop taken bytes ≡ take n (part ++ buffer) ++ drop (taken + n) bytes
+pub front_copied : (bytes : List ℕ) (taken n : ℕ) (part buffer : List ℕ)
+    → part ≡ take n (take (length bytes - taken) (drop taken bytes)) → n ≤ length bytes - taken → drop taken bytes ≡ take n (part ++ buffer) ++ drop (taken + n) bytes
 front_copied bytes taken n part buffer is within =
     let rest : List ℕ = drop taken bytes in
     let room : n ≤ length rest = omega (arith, length-drop taken bytes) in
@@ -13,7 +14,8 @@ front_copied bytes taken n part buffer is within =
     sym (ap (λ x. x ++ drop (taken + n) bytes) front ∙ ap (λ x. take n rest ++ x) (sym (drop-drop n taken bytes)) ∙ take-append-drop n rest)
 
 -- what a whole buffer was filled with, and what is left, make what was there
-pub next_drawn : (bytes : List ℕ) (taken room : ℕ) (buffer : List ℕ) → buffer ≡ take room (take (length bytes - taken) (drop taken bytes)) → room ≤ length bytes - taken → drop taken bytes ≡ buffer ++ drop (taken + length buffer) bytes
+pub next_drawn : (bytes : List ℕ) (taken room : ℕ) (buffer : List ℕ)
+    → buffer ≡ take room (take (length bytes - taken) (drop taken bytes)) → room ≤ length bytes - taken → drop taken bytes ≡ buffer ++ drop (taken + length buffer) bytes
 next_drawn bytes taken room buffer is within =
     let rest : List ℕ = drop taken bytes in
     let fits : room ≤ length rest = omega (arith, length-drop taken bytes) in
