@@ -2,8 +2,6 @@
 use Rattle.std.specs.Prelude.{◌≡◌, ℕ, List, [], ◌∷◌, ◌++◌, replicate, codes, true, false, Some, None, refl}
 use Rattle.percent_encoding.proofs.OnLiterals.{percent_encoding_on_literals}
 use Rattle.hex.proofs.OnLiterals.{hex_on_literals}
-use Rattle.session_options.specs.Defaults.{default_rules}
-use Rattle.cache_policy.specs.Lifetimes.{default_limits}
 use Rattle.cache_policy.specs.declared.life.Life.TheVariants.{Default, Endless, Seconds}
 use Rattle.cache_policy.specs.declared.mode.Mode.TheVariants.{User, Normal, Ssh}
 use Rattle.agent_commands.specs.Names.{command_named, info_named, is_listed}
@@ -174,12 +172,3 @@ usual_confirmation = refl
 kill : request_of (codes "KILLAGENT") ≡ Cache KillAgent
 unfolding request_of command_named
 kill = refl
-
--- the lifetimes by default are those of the cache
-same_lifetimes : default_limits ≡ record {
-  ttl = default_rules.default_ttl;
-  max = default_rules.max_ttl;
-  ttl_ssh = default_rules.default_ttl_ssh;
-  max_ssh = default_rules.max_ttl_ssh;
-}
-same_lifetimes = refl

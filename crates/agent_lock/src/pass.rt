@@ -1,6 +1,5 @@
 ghost use Rattle.std.specs.Prelude.{◌≡◌};
 ghost use Rattle.cache_policy.specs.declared.life.Limits.{Limits};
-ghost use Rattle.cache_policy.specs.Lifetimes.{default_limits};
 
 use std::marker::Brand;
 use std::sync::ledger::{Ledger, Share};
@@ -10,8 +9,9 @@ pub trait Marks: Ledger {
     ghost limits: { Limits };
 }
 
+// Each use of a brand picks its own ghosts, so these numbers are nobody's.
 impl Marks for Brand {
-    ghost limits = { default_limits };
+    ghost limits = { record { ttl = 0; max = 0; ttl_ssh = 0; max_ssh = 0 } };
 }
 
 /// What one worker's turns came to.

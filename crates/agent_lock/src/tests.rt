@@ -1,5 +1,4 @@
 ghost use Rattle.std.specs.Prelude.{◌≡◌, false, None};
-ghost use Rattle.cache_policy.specs.Lifetimes.{default_limits};
 ghost use Rattle.cache_policy.specs.Turns.{mark_step, opens, closes};
 
 use super::*;
@@ -13,6 +12,14 @@ use std::sync::ledger::{Blank, Ledger};
 use std::test::Fail;
 use std::thread;
 use std::thread::Threads;
+
+/// The manual's lifetimes.
+const LIMITS: Limits = Limits {
+    ttl: 600,
+    max: 7200,
+    ttl_ssh: 1800,
+    max_ssh: 7200,
+};
 
 /// What a turn was answered, without what it hands over.
 #[derive(Clone, Copy, Debug, PartialEq, Eq)]
@@ -124,15 +131,16 @@ fn plain<W: Wait, M: Marks, G: Ledger, E: Ledger, O: Ledger>(
 fn three_desks<W: Wait, M: Marks, G: Ledger, E: Ledger, O: Ledger>(
     rt: &W,
     alloc: Global,
+    limits: Limits,
     blanks: Blanks,
 ) -> Result<Option<([Kind; 4], Tally)>, AllocError>
-    requires limits { default_limits ≡ M.limits }
+    requires limits { limits ≡ M.limits }
     requires calls { (blanks.calls.name ≡ M.name) × (blanks.calls.parts ≡ M.parts) × (3 ≡ M.parts) }
     requires given { (blanks.given.name ≡ G.name) × (blanks.given.parts ≡ G.parts) × (3 ≡ G.parts) }
     requires empty { (blanks.empty.name ≡ E.name) × (blanks.empty.parts ≡ E.parts) × (3 ≡ E.parts) }
     requires opened { (blanks.opened.name ≡ O.name) × (blanks.opened.parts ≡ O.parts) × (3 ≡ O.parts) }
 {
-    let (shared, mut all) = Shared::<M, G, E, O>::new(alloc, Limits::default(), blanks, 3)?;
+    let (shared, mut all) = Shared::<M, G, E, O>::new(alloc, limits, blanks, 3)?;
     let (Some(third), Some(second), Some(first)) = (all.pop(), all.pop(), all.pop()) else {
         return Ok(None);
     };
@@ -172,7 +180,7 @@ fn three_desks<W: Wait, M: Marks, G: Ledger, E: Ledger, O: Ledger>(
 }
 
 fn run_three<W: Wait>(rt: &W, alloc: Global) -> Result<Option<([Kind; 4], Tally)>, AllocError> {
-    three_desks::<W, Brand, Brand, Brand, Brand>(rt, alloc, blanks(3))
+    three_desks::<W, Brand, Brand, Brand, Brand>(rt, alloc, LIMITS, blanks(3))
 }
 
 #[test]
@@ -237,11 +245,7 @@ fn the_lifetimes_are_those_that_were_handed_in(rt: HostRuntime) -> Result<(), Fa
         (5, 9, [Kind::Given, Kind::Empty]),
         (600, 7200, [Kind::Given, Kind::Given]),
     ] {
-        let limits = Limits {
-            ttl,
-            max,
-            ..Limits::default()
-        };
+        let limits = Limits { ttl, max, ..LIMITS };
         assert_eq!(rt; run_short(&rt, rt.alloc(), limits)?, Some(kinds));
     }
     Ok(())
@@ -251,15 +255,16 @@ fn the_lifetimes_are_those_that_were_handed_in(rt: HostRuntime) -> Result<(), Fa
 fn stopped<W: Wait, M: Marks, G: Ledger, E: Ledger, O: Ledger>(
     rt: &W,
     alloc: Global,
+    limits: Limits,
     blanks: Blanks,
 ) -> Result<Option<Tally>, AllocError>
-    requires limits { default_limits ≡ M.limits }
+    requires limits { limits ≡ M.limits }
     requires calls { (blanks.calls.name ≡ M.name) × (blanks.calls.parts ≡ M.parts) × (1 ≡ M.parts) }
     requires given { (blanks.given.name ≡ G.name) × (blanks.given.parts ≡ G.parts) × (1 ≡ G.parts) }
     requires empty { (blanks.empty.name ≡ E.name) × (blanks.empty.parts ≡ E.parts) × (1 ≡ E.parts) }
     requires opened { (blanks.opened.name ≡ O.name) × (blanks.opened.parts ≡ O.parts) × (1 ≡ O.parts) }
 {
-    let (shared, mut all) = Shared::<M, G, E, O>::new(alloc, Limits::default(), blanks, 1)?;
+    let (shared, mut all) = Shared::<M, G, E, O>::new(alloc, limits, blanks, 1)?;
     let Some(pass) = all.pop() else {
         return Ok(None);
     };
@@ -278,7 +283,7 @@ fn stopped<W: Wait, M: Marks, G: Ledger, E: Ledger, O: Ledger>(
 }
 
 fn run_stopped<W: Wait>(rt: &W, alloc: Global) -> Result<Option<Tally>, AllocError> {
-    stopped::<W, Brand, Brand, Brand, Brand>(rt, alloc, blanks(1))
+    stopped::<W, Brand, Brand, Brand, Brand>(rt, alloc, LIMITS, blanks(1))
 }
 
 #[test]
@@ -318,14 +323,14 @@ fn two_threads<
     G: Ledger + Send + Sync,
     E: Ledger + Send + Sync,
     O: Ledger + Send + Sync,
->(rt: &W, alloc: Global, blanks: Blanks) -> Result<Option<Tally>, AllocError>
-    requires limits { default_limits ≡ M.limits }
+>(rt: &W, alloc: Global, limits: Limits, blanks: Blanks) -> Result<Option<Tally>, AllocError>
+    requires limits { limits ≡ M.limits }
     requires calls { (blanks.calls.name ≡ M.name) × (blanks.calls.parts ≡ M.parts) × (2 ≡ M.parts) }
     requires given { (blanks.given.name ≡ G.name) × (blanks.given.parts ≡ G.parts) × (2 ≡ G.parts) }
     requires empty { (blanks.empty.name ≡ E.name) × (blanks.empty.parts ≡ E.parts) × (2 ≡ E.parts) }
     requires opened { (blanks.opened.name ≡ O.name) × (blanks.opened.parts ≡ O.parts) × (2 ≡ O.parts) }
 {
-    let (shared, mut all) = Shared::<M, G, E, O>::new(alloc, Limits::default(), blanks, 2)?;
+    let (shared, mut all) = Shared::<M, G, E, O>::new(alloc, limits, blanks, 2)?;
     let (Some(second), Some(first)) = (all.pop(), all.pop()) else {
         return Ok(None);
     };
@@ -343,7 +348,7 @@ fn two_threads<
 }
 
 fn run_two<W: Threads + Wait + Sync>(rt: &W, alloc: Global) -> Result<Option<Tally>, AllocError> {
-    two_threads::<W, Brand, Brand, Brand, Brand>(rt, alloc, blanks(2))
+    two_threads::<W, Brand, Brand, Brand, Brand>(rt, alloc, LIMITS, blanks(2))
 }
 
 #[test]
@@ -465,14 +470,19 @@ fn four_threads<
     G: Ledger + Send + Sync,
     E: Ledger + Send + Sync,
     O: Ledger + Send + Sync,
->(rt: &W, alloc: Global, blanks: Blanks) -> Result<Option<(Answered, Tally)>, AllocError>
-    requires limits { default_limits ≡ M.limits }
+>(
+    rt: &W,
+    alloc: Global,
+    limits: Limits,
+    blanks: Blanks,
+) -> Result<Option<(Answered, Tally)>, AllocError>
+    requires limits { limits ≡ M.limits }
     requires calls { (blanks.calls.name ≡ M.name) × (blanks.calls.parts ≡ M.parts) × (4 ≡ M.parts) }
     requires given { (blanks.given.name ≡ G.name) × (blanks.given.parts ≡ G.parts) × (4 ≡ G.parts) }
     requires empty { (blanks.empty.name ≡ E.name) × (blanks.empty.parts ≡ E.parts) × (4 ≡ E.parts) }
     requires opened { (blanks.opened.name ≡ O.name) × (blanks.opened.parts ≡ O.parts) × (4 ≡ O.parts) }
 {
-    let (shared, mut all) = Shared::<M, G, E, O>::new(alloc, Limits::default(), blanks, 4)?;
+    let (shared, mut all) = Shared::<M, G, E, O>::new(alloc, limits, blanks, 4)?;
     let (Some(fourth), Some(third), Some(second), Some(first)) = (
         all.pop(),
         all.pop(),
@@ -511,7 +521,7 @@ fn run_four<W: Threads + Wait + Sync>(
     rt: &W,
     alloc: Global,
 ) -> Result<Option<(Answered, Tally)>, AllocError> {
-    four_threads::<W, Brand, Brand, Brand, Brand>(rt, alloc, blanks(4))
+    four_threads::<W, Brand, Brand, Brand, Brand>(rt, alloc, LIMITS, blanks(4))
 }
 
 #[test]

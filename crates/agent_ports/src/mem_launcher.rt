@@ -118,7 +118,7 @@ impl Launcher for MemLauncher {
       faults = l.plan.faults;
     } };
 
-    /// Want of memory is a fault like any other.
+    /// Running out of memory is a fault like any other.
     fn launch(&mut self, _program: &[u8]) -> Option<MemChild> {
         if self.plan.next_fails() {
             return None;

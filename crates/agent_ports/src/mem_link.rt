@@ -112,7 +112,7 @@ impl Sink for MemSink {
 
     ghost beside_output = { λ _. record { bytes = None; faults = 0 } };
 
-    /// Want of memory is a fault like any other.
+    /// Running out of memory is a fault like any other.
     fn put(&mut self, bytes: &[u8]) -> Sent
         ensures cut { IfCut result (λ sent. sent ≤ length bytes.now) }
         ensures written { (⟦<MemSink as Sink>⟧.output self.new).bytes ≡ with_bytes (⟦<MemSink as Sink>⟧.output self.old).bytes (sent_part bytes.now result) }

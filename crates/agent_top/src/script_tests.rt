@@ -17,6 +17,14 @@ use session_options::Rules;
 use std::alloc::AllocError;
 use std::test::Fail;
 
+/// The manual's lifetimes.
+const LIMITS: Limits = Limits {
+    ttl: 600,
+    max: 7200,
+    ttl_ssh: 1800,
+    max_ssh: 7200,
+};
+
 const ALICE: SessionId = SessionId { pass: 0, count: 0 };
 
 const BOB: SessionId = SessionId { pass: 1, count: 0 };
@@ -81,7 +89,7 @@ fn a_clear_under_an_open_prompt_leaves_what_is_typed(rt: HostRuntime) -> Result<
     let mut dice = ListDice::new(Vec::new(alloc), Vec::new(alloc));
     let rules = Rules::default();
     let mut clock = StepClock::new(0, 1);
-    let mut desk = Solo::new(alloc, Limits::default(), &mut clock, ALICE, script)?;
+    let mut desk = Solo::new(alloc, LIMITS, &mut clock, ALICE, script)?;
     let mut pinentry = Pinentry::new(alloc, &mut launcher, Word::new());
     let end = serve_session(
         alloc,

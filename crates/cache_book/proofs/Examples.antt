@@ -11,11 +11,15 @@ use Rattle.cache_policy.specs.declared.mark.MarkStep.TheVariants.{Ask, Put, Clea
 use Rattle.cache_policy.specs.declared.mark.MarkReply.{MarkReply}
 use Rattle.cache_policy.specs.declared.mark.MarkReply.TheVariants.{Given, Done}
 use Rattle.cache_policy.specs.declared.entry.Entry.{Entry}
-use Rattle.cache_policy.specs.Lifetimes.{default_limits, ttl_of}
+use Rattle.cache_policy.specs.declared.life.Limits.{Limits}
+use Rattle.cache_policy.specs.Lifetimes.{ttl_of}
 use Rattle.cache_book.specs.declared.modes.Modes.{Modes}
 use Rattle.cache_book.specs.declared.slot.Slot.{Slot}
 use Rattle.cache_book.specs.Slots.{slots}
 use Rattle.cache_book.specs.Shelves.{touched, with_entry, cleared, swept}
+
+abbrev limits : Limits
+limits = record { ttl = 600; max = 7200; ttl_ssh = 1800; max_ssh = 7200 }
 
 abbrev name : List ℕ
 name = 105 ∷ 100 ∷ 49 ∷ []
@@ -27,11 +31,11 @@ abbrev put : Mode → Life → ℕ → Mark
 put mode life moment = mark (Put name mode life []) Done moment
 
 abbrev shown : List Mark → ℕ → List Slot
-shown marks moment = slots default_limits (record { base = 0; held = None; stopped = false; marks = marks }) moment
+shown marks moment = slots limits (record { base = 0; held = None; stopped = false; marks = marks }) moment
 
 abbrev entry : ℕ → Mode → Life → ℕ → Entry
 entry number mode life moment =
-    record { number = number; id = name; mode = mode; secret = []; entered = moment; ttl = ttl_of default_limits mode life; max = 7200 }
+    record { number = number; id = name; mode = mode; secret = []; entered = moment; ttl = ttl_of limits mode life; max = 7200 }
 
 abbrev all_modes : Modes
 all_modes = record { normal = true; user = true; ssh = true; nonce = true; any = true }

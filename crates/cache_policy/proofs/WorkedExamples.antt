@@ -12,7 +12,7 @@ use Rattle.cache_policy.specs.declared.mark.MarkStep.TheVariants.{Ask, Seat, Clo
 use Rattle.cache_policy.specs.declared.mark.MarkReply.{MarkReply}
 use Rattle.cache_policy.specs.declared.mark.MarkReply.TheVariants.{Given, Empty, Open, Done, Held as WhetherHeld, Stopping}
 use Rattle.cache_policy.specs.Histories.{History}
-use Rattle.cache_policy.specs.Lifetimes.{default_limits}
+use Rattle.cache_policy.specs.declared.life.Limits.{Limits}
 use Rattle.cache_policy.specs.Entries.{entries}
 use Rattle.cache_policy.specs.Seat.{seat, stopped}
 use Rattle.cache_policy.specs.Policy.{Ruling, Reply, Stand, policy}
@@ -20,6 +20,9 @@ use Rattle.cache_policy.specs.declared.bounds.TheConstants.{MAX_MARKS}
 use Rattle.cache_policy.specs.Runs.{turn_over, joined, last_base, moment_before, moment_of}
 use Rattle.cache_policy.specs.Legal.{FollowsPolicy, IsLegal, IsLegalRun}
 use Rattle.cache_policy.specs.OnePrompt.{before_close, NoneOpens, HasOnePrompt}
+
+abbrev limits : Limits
+limits = record { ttl = 600; max = 7200; ttl_ssh = 1800; max_ssh = 7200 }
 
 abbrev name : List ℕ
 name = 105 ∷ 100 ∷ 49 ∷ []
@@ -36,7 +39,7 @@ of marks = record { base = 0; held = None; stopped = false; marks = marks }
 
 -- after these marks, the policy's answer to a step at a moment
 abbrev answer : List Mark → MarkStep → ℕ → Ruling
-answer marks step moment = policy default_limits (of marks) step moment
+answer marks step moment = policy limits (of marks) step moment
 
 abbrev put : Mode → Life → ℕ → Mark
 put mode life moment = mark (Put name mode life word) Done moment
@@ -61,7 +64,7 @@ used_late : answer (put Any Default 0 ∷ ask (Given 0) 600 ∷ ask (Given 0) 12
 used_late = refl
 
 -- uses keep an entry up to its greatest age, and no longer
-used_throughout : FollowsPolicy default_limits (of [])
+used_throughout : FollowsPolicy limits (of [])
     (put Any Default 0 ∷ ask (Given 0) 500 ∷ ask (Given 0) 1000 ∷ ask (Given 0) 1500 ∷ ask (Given 0) 2000 ∷ ask (Given 0) 2500
     ∷ ask (Given 0) 3000 ∷ ask (Given 0) 3500 ∷ ask (Given 0) 4000 ∷ ask (Given 0) 4500 ∷ ask (Given 0) 5000 ∷ ask (Given 0) 5500
     ∷ ask (Given 0) 6000 ∷ ask (Given 0) 6500 ∷ ask (Given 0) 7000 ∷ ask (Given 0) 7200 ∷ ask Empty 7201 ∷ [])
@@ -85,12 +88,12 @@ ssh_ttl : answer (put Ssh Default 0 ∷ []) (Peek name Ssh) 1800 ≡ Reply (Whet
 ssh_ttl = refl
 
 -- a longer life under Any is hidden by a shorter one under User, for User alone and for good
-hidden : FollowsPolicy default_limits (of [])
+hidden : FollowsPolicy limits (of [])
     (put Any Endless 0 ∷ put User (Seconds 10) 5 ∷ ask Empty 20 ∷ mark (Peek name Normal) (WhetherHeld true) 21 ∷ [])
 hidden = (refl, (refl, (refl, (refl, tt))))
 
 -- a Clear in User takes the one under Any too
-cleared : FollowsPolicy default_limits (of [])
+cleared : FollowsPolicy limits (of [])
     (put Any Endless 0 ∷ put User (Seconds 10) 5 ∷ mark (Clear name User) Done 6 ∷ ask Empty 7
     ∷ mark (Peek name Normal) (WhetherHeld false) 8 ∷ [])
 cleared = (refl, (refl, (refl, (refl, (refl, tt)))))
@@ -128,7 +131,7 @@ not_kept = refl
 foreign_ticket : answer (opened ++ mark (Close 5 (Some word)) Done 1 ∷ []) (Seat None) 2 ≡ Stand
 foreign_ticket = refl
 
-kept_without_name : entries default_limits (of (mark (Seat None) Open 0 ∷ mark (Close 0 (Some word)) Done 1 ∷ []))
+kept_without_name : entries limits (of (mark (Seat None) Open 0 ∷ mark (Close 0 (Some word)) Done 1 ∷ []))
     ≡ []
 kept_without_name = refl
 
@@ -173,10 +176,10 @@ later_history marks = record {
   marks = marks;
 }
 
-still_out : policy default_limits (later_history []) (Seat None) 9 ≡ Stand
+still_out : policy limits (later_history []) (Seat None) 9 ≡ Stand
 still_out = refl
 
-closed_later : policy default_limits (later_history (mark (Close 0 (Some word)) Done 9 ∷ []))
+closed_later : policy limits (later_history (mark (Close 0 (Some word)) Done 9 ∷ []))
     (Ask name User Quiet) 9 ≡ Reply (Given 131072)
 closed_later = refl
 
@@ -184,7 +187,7 @@ closed_later = refl
 abbrev one_close : History
 one_close = later_history (mark (Close 0 (Some word)) Done 9 ∷ ask (Given 131072) 10 ∷ [])
 
-legal : IsLegal default_limits one_close
+legal : IsLegal limits one_close
 legal = record {
   replies = (refl, (refl, tt));
   moments = (lit≤ tt, lit≤ tt, (lit≤ tt, lit≤ tt, tt));
@@ -194,7 +197,7 @@ legal = record {
   held = lit< tt;
 }
 
-legal_run : IsLegalRun default_limits (one_close ∷ [])
+legal_run : IsLegalRun limits (one_close ∷ [])
 legal_run = record { turns_over = tt; each = (legal, tt); moments = legal.moments }
 
 -- one prompt: the marks before the first Close of a ticket, or all where there is none

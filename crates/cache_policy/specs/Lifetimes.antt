@@ -7,10 +7,6 @@ use Rattle.cache_policy.specs.declared.life.Life.{Life}
 use Rattle.cache_policy.specs.declared.life.Life.TheVariants.{Default, Endless, Seconds}
 use Rattle.cache_policy.specs.declared.life.Limits.{Limits}
 
--- ten minutes and two hours; for ssh, half an hour and two hours
-abbrev pub default_limits : Limits
-default_limits = record { ttl = 600; max = 7200; ttl_ssh = 1800; max_ssh = 7200 }
-
 -- the ttl of an entry whose life names none
 abbrev pub default_ttl : Limits → Mode → ℕ
 default_ttl limits Ssh = limits.ttl_ssh

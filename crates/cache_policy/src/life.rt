@@ -29,22 +29,6 @@ pub struct Limits {
     pub max_ssh: u32,
 }
 
-impl Default for Limits {
-    ghost use Rattle.cache_policy.specs.Lifetimes.{default_limits};
-
-    ghost is_default = { λ limits. limits ≡ default_limits };
-
-    /// The numbers of the GnuPG manual.
-    fn default() -> Limits {
-        Limits {
-            ttl: 600,
-            max: 7200,
-            ttl_ssh: 1800,
-            max_ssh: 7200,
-        }
-    }
-}
-
 impl Limits {
     ghost use Rattle.cache_policy.specs.Lifetimes.{ttl_of, max_of};
 

@@ -45,7 +45,7 @@ pub enum Unlocked {
 pub fn unprotect(alloc: Global, file: &[u8], pass: &[u8]) -> Unlocked
     requires { length pass.now ≤ MAX_PASSPHRASE_LEN }
 
-    // The key, or else the first fault. Only want of memory may come at any time.
+    // The key, or else the first fault. Only a lack of memory may come at any time.
     ensures answer { (result ≡ Unlocked.NoMemory) ⊎ Answers file.now pass.now result }
 
     // It is the key exactly where the file opens by this passphrase.

@@ -17,7 +17,7 @@ pub fn read(alloc: Global, bytes: &[u8]) -> Result<(Sexp, usize), SexpFault>
     // The first bytes spell the expression, within the limits.
     ensures found { IfOk result (λ read. (read.1 ≤ length bytes.now) × IsReadable (take read.1 bytes.now) read.0) }
 
-    // Else the fault is the first one from the left of the bytes that are looked at. Only want of memory may come at
+    // Else the fault is the first one from the left of the bytes that are looked at. Only a lack of memory may come at
     // any time.
     ensures fault { IfErr result (λ fault. (fault ≡ SexpFault.NoMemory) ⊎ IsFirstFault (take most_bytes bytes.now) fault) }
 

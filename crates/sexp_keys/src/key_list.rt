@@ -41,7 +41,7 @@ impl KeyList {
     pub fn of(alloc: Global, tree: &Sexp) -> Result<KeyList, KeyFault>
         ensures found { IfOk result (IsKey (tree_of tree.now)) }
 
-        // Else the fault is the first one. Only want of memory may come at any time.
+        // Else the fault is the first one. Only a lack of memory may come at any time.
         ensures fault { IfErr result (λ fault. (fault ≡ KeyFault.NoMemory) ⊎ IsFirstFault (tree_of tree.now) fault) }
 
         // An expression has one answer, so no fault hides a key.

@@ -15,6 +15,14 @@ use rand_pcg::Pcg32;
 use std::alloc::Global;
 use std::test::Fail;
 
+/// The manual's lifetimes.
+const LIMITS: Limits = Limits {
+    ttl: 600,
+    max: 7200,
+    ttl_ssh: 1800,
+    max_ssh: 7200,
+};
+
 const ALICE: SessionId = SessionId { pass: 0, count: 1 };
 
 /// What a mark stored.
@@ -391,7 +399,7 @@ fn gives_right(marks: &[Mark], reply: &Reply) -> bool {
 
 /// How many of these steps were replied alike by the core and by the plain program.
 fn replied_alike(alloc: Global, seed: u64, steps: u64) -> u64 {
-    let limits = Limits::default();
+    let limits = LIMITS;
     let mut core = Core::new(alloc, limits);
     let mut marks: Vec<Mark> = Vec::new(alloc);
     let mut maker = Maker {

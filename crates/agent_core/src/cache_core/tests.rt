@@ -6,6 +6,14 @@ use cache_policy::{
 use prompt_seat::Ticket;
 use std::test::Fail;
 
+/// The manual's lifetimes.
+const LIMITS: Limits = Limits {
+    ttl: 600,
+    max: 7200,
+    ttl_ssh: 1800,
+    max_ssh: 7200,
+};
+
 const ALICE: SessionId = SessionId { pass: 0, count: 1 };
 
 const BOB: SessionId = SessionId { pass: 1, count: 1 };
@@ -84,13 +92,13 @@ fn peek_times(core: &mut Core, times: u64) {
 
 #[test]
 fn the_newest_hides_the_older(rt: HostRuntime) -> Result<(), Fail> {
-    let mut core = Core::new(rt.alloc(), Limits::default());
+    let mut core = Core::new(rt.alloc(), LIMITS);
     put(&mut core, 0, Mode::Any, Life::Endless, b"old")?;
     put(&mut core, 5, Mode::User, Life::Seconds(10), b"new")?;
     assert_eq!(rt; name(core.step(20, ALICE, ask(Way::Quiet)?)), "empty");
     assert_eq!(rt; name(core.step(21, ALICE, peek(Mode::Normal)?)), "held");
 
-    let mut core = Core::new(rt.alloc(), Limits::default());
+    let mut core = Core::new(rt.alloc(), LIMITS);
     put(&mut core, 0, Mode::Any, Life::Endless, b"old")?;
     put(&mut core, 5, Mode::User, Life::Seconds(10), b"new")?;
     let clear = Step::Clear {
@@ -105,7 +113,7 @@ fn the_newest_hides_the_older(rt: HostRuntime) -> Result<(), Fail> {
 
 #[test]
 fn a_use_restarts_the_ttl_and_not_the_greatest_age(rt: HostRuntime) -> Result<(), Fail> {
-    let mut core = Core::new(rt.alloc(), Limits::default());
+    let mut core = Core::new(rt.alloc(), LIMITS);
     put(&mut core, 0, Mode::Any, Life::Default, b"old")?;
     for (reading, then) in [(600, "given old"), (1200, "given old"), (1801, "empty")] {
         assert_eq!(rt;
@@ -115,7 +123,7 @@ fn a_use_restarts_the_ttl_and_not_the_greatest_age(rt: HostRuntime) -> Result<()
         );
     }
 
-    let mut core = Core::new(rt.alloc(), Limits::default());
+    let mut core = Core::new(rt.alloc(), LIMITS);
     put(&mut core, 0, Mode::Any, Life::Default, b"old")?;
     for use_ in 1..=14 {
         let reading = use_ * 500;
@@ -138,7 +146,7 @@ fn a_use_restarts_the_ttl_and_not_the_greatest_age(rt: HostRuntime) -> Result<()
 #[test]
 fn a_history_has_room_for_131072_marks(rt: HostRuntime) -> Result<(), Fail> {
     for (peeks, then, base) in [(131_070, "given old", 0), (131_071, "empty", MAX_MARKS)] {
-        let mut core = Core::new(rt.alloc(), Limits::default());
+        let mut core = Core::new(rt.alloc(), LIMITS);
         put(&mut core, 0, Mode::Any, Life::Endless, b"old")?;
         peek_times(&mut core, peeks);
         assert_eq!(rt; name(core.step(0, ALICE, ask(Way::Quiet)?)), then);
@@ -147,7 +155,7 @@ fn a_history_has_room_for_131072_marks(rt: HostRuntime) -> Result<(), Fail> {
     }
 
     // A ticket stays out over a turn-over, and what was typed is kept then.
-    let mut core = Core::new(rt.alloc(), Limits::default());
+    let mut core = Core::new(rt.alloc(), LIMITS);
     let keep = Some(secret(b"new")?);
     let (_, Some(ticket)) = shown(core.step(0, ALICE, ask(Way::Prompt)?)) else {
         return Err("no ticket".into());
@@ -163,7 +171,7 @@ fn a_history_has_room_for_131072_marks(rt: HostRuntime) -> Result<(), Fail> {
 #[test]
 fn one_prompt_at_a_time(rt: HostRuntime) -> Result<(), Fail> {
     for (keeps, then) in [(true, "given new"), (false, "open")] {
-        let mut core = Core::new(rt.alloc(), Limits::default());
+        let mut core = Core::new(rt.alloc(), LIMITS);
         let keep = if keeps { Some(secret(b"new")?) } else { None };
         let again = id()?;
         let (_, Some(ticket)) = shown(core.step(0, ALICE, ask(Way::Prompt)?)) else {
@@ -184,8 +192,8 @@ fn one_prompt_at_a_time(rt: HostRuntime) -> Result<(), Fail> {
 
 #[test]
 fn a_ticket_of_another_core_frees_nothing(rt: HostRuntime) -> Result<(), Fail> {
-    let mut core = Core::new(rt.alloc(), Limits::default());
-    let mut other = Core::new(rt.alloc(), Limits::default());
+    let mut core = Core::new(rt.alloc(), LIMITS);
+    let mut other = Core::new(rt.alloc(), LIMITS);
     for _ in 0..5 {
         let _ = name(other.step(0, BOB, Step::Flush));
     }
@@ -235,8 +243,8 @@ fn prompt(id: CacheId) -> Step {
 
 #[test]
 fn a_ticket_is_known_by_its_number(rt: HostRuntime) -> Result<(), Fail> {
-    let mut core = Core::new(rt.alloc(), Limits::default());
-    let mut other = Core::new(rt.alloc(), Limits::default());
+    let mut core = Core::new(rt.alloc(), LIMITS);
+    let mut other = Core::new(rt.alloc(), LIMITS);
     let (a, b) = (id()?, id()?);
     let (first, second) = (secret(b"new")?, secret(b"old")?);
     let (_, own) = shown(core.step(0, ALICE, prompt(a)));
@@ -269,7 +277,7 @@ fn numbered(k: u32) -> Result<CacheId, Fail> {
 
 #[test]
 fn a_thousand_lives_end_in_turn(rt: HostRuntime) -> Result<(), Fail> {
-    let mut core = Core::new(rt.alloc(), Limits::default());
+    let mut core = Core::new(rt.alloc(), LIMITS);
     for k in 0..1000_u32 {
         let step = Step::Put {
             id: numbered(k)?,

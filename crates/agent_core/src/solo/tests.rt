@@ -12,6 +12,14 @@ use prompt_seat::Ticket;
 use std::alloc::{AllocError, Global};
 use std::test::Fail;
 
+/// The manual's lifetimes.
+const LIMITS: Limits = Limits {
+    ttl: 600,
+    max: 7200,
+    ttl_ssh: 1800,
+    max_ssh: 7200,
+};
+
 const ALICE: SessionId = SessionId { pass: 0, count: 0 };
 
 const BOB: SessionId = SessionId { pass: 1, count: 0 };
@@ -177,7 +185,7 @@ fn others_take_their_steps_between_the_turns(rt: HostRuntime) -> Result<(), Fail
 
     let (a, b, c, d) = (id()?, id()?, id()?, id()?);
     let mut clock = StepClock::new(0, 1);
-    let mut desk = Solo::new(alloc, Limits::default(), &mut clock, ALICE, script)?;
+    let mut desk = Solo::new(alloc, LIMITS, &mut clock, ALICE, script)?;
     let first = take(&mut desk, ask(a));
     let second = take(&mut desk, ask(b));
     let third = take(&mut desk, ask(c));
@@ -219,7 +227,7 @@ fn prompted(alloc: Global, script: Vec<Vec<Foreign>>) -> Result<(&'static str, u
 {
     let id = id()?;
     let mut clock = StepClock::new(0, 1);
-    let mut desk = Solo::new(alloc, Limits::default(), &mut clock, ALICE, script)?;
+    let mut desk = Solo::new(alloc, LIMITS, &mut clock, ALICE, script)?;
     let reply = prompt(&mut desk, id);
     let (marks, moment) = seen(&desk);
     desk.end();
@@ -272,7 +280,7 @@ fn sessions_follow_one_another(rt: HostRuntime) -> Result<(), Fail> {
     let alloc = rt.alloc();
     let (a, b) = (id()?, id()?);
     let mut clock = StepClock::new(0, 1);
-    let mut desk = Solo::new(alloc, Limits::default(), &mut clock, ALICE, Vec::new(alloc))?;
+    let mut desk = Solo::new(alloc, LIMITS, &mut clock, ALICE, Vec::new(alloc))?;
     desk.begin_session(BOB);
     let replies = (take(&mut desk, ask(a)), prompt(&mut desk, b));
     let by = match desk.histories().last() {
@@ -302,7 +310,7 @@ fn a_prompt_stays_open_over_a_turn_over(rt: HostRuntime) -> Result<(), Fail> {
     add_list(&mut script, list)?;
     let (a, b) = (id()?, id()?);
     let mut clock = StepClock::new(0, 0);
-    let mut desk = Solo::new(alloc, Limits::default(), &mut clock, ALICE, script)?;
+    let mut desk = Solo::new(alloc, LIMITS, &mut clock, ALICE, script)?;
     let replies = (take(&mut desk, ask(a)), prompt(&mut desk, b));
     let histories = desk.histories().len();
     let (marks, _) = seen(&desk);

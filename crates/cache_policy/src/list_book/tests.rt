@@ -1,6 +1,14 @@
 use crate::{CacheId, Life, Limits, ListBook, Mode, Secret};
 use std::test::Fail;
 
+/// The manual's lifetimes.
+const LIMITS: Limits = Limits {
+    ttl: 600,
+    max: 7200,
+    ttl_ssh: 1800,
+    max_ssh: 7200,
+};
+
 fn id(name: &[u8]) -> Result<CacheId, Fail> {
     Ok(CacheId::of(name).ok_or("an id")?)
 }
@@ -24,14 +32,7 @@ fn found_until_the_last_second(rt: HostRuntime) -> Result<(), Fail> {
     ];
     for (mode, life, moment, there) in cases {
         let mut book = ListBook::new(rt.alloc());
-        book.put(
-            5,
-            id(b"id1")?,
-            mode,
-            life,
-            secret(b"pw")?,
-            &Limits::default(),
-        )?;
+        book.put(5, id(b"id1")?, mode, life, secret(b"pw")?, &LIMITS)?;
         let found = book.find(moment, &id(b"id1")?, mode);
         assert_eq!(rt; found.is_some(), there, "{mode:?} {life:?} at {moment}");
     }
@@ -40,7 +41,7 @@ fn found_until_the_last_second(rt: HostRuntime) -> Result<(), Fail> {
 
 #[test]
 fn a_shorter_life_hides_a_longer_one(rt: HostRuntime) -> Result<(), Fail> {
-    let limits = Limits::default();
+    let limits = LIMITS;
     let mut book = ListBook::new(rt.alloc());
     book.put(
         0,
