@@ -1,8 +1,9 @@
 -- Slots by their ids and numbers: what the order of ids says, and that each call keeps slots in order.
-use Rattle.std.specs.Prelude.{◌≡◌, ℕ, ◌<◌, ◌==◌, List, [], ◌∷◌, ◌++◌, ◌⊎◌, Bool, true, false, max, map, filter, take, drop, cond, nat_lt, refl}
+use Rattle.std.specs.Prelude.{◌≡◌, ℕ, ◌<◌, ◌≤◌, ◌==◌, List, [], ◌∷◌, ◌++◌, ◌⊎◌, Bool, true, false, max, map, filter, take, drop, cond, nat_lt, refl}
 use Rattle.std.proofs.Common.{ap, sym, ◌∙◌, subst, arith, zero, suc, inl, inr}
 use Rattle.std.proofs.lemmas.Bool.Decides.{nat_tests}
-use Rattle.std.proofs.lemmas.Cmp.{nat_list_cmp_total, tied_itself, alike_right}
+use Rattle.std.specs.Cmp.Lexicographic.{slice_cmp}
+use Rattle.std.proofs.lemmas.Cmp.{ranked, by_ranked, tied_itself, alike_right}
 use Rattle.std.specs.declared.cmp.Ordering.{Ordering}
 use Rattle.std.specs.declared.cmp.Ordering.TheVariants.{Less, Equal, Greater}
 use Rattle.std.specs.Ordering.{nat_cmp, ordering_then, ordering_reverse, is_lt, is_le}
@@ -13,10 +14,12 @@ use Rattle.cache_policy.specs.Mode.{covers}
 use Rattle.cache_policy.specs.Entry.{same_id}
 use Rattle.cache_policy.proofs.Lists.{all_weaker}
 use Rattle.cache_book.specs.declared.slot.Slot.{Slot}
+use Rattle.cache_book.specs.Hashes.{id_hash}
 use Rattle.cache_book.specs.Modes.{modes_where, has_some, not_covered}
 use Rattle.cache_book.specs.Shelves.{IsOneOf, here, further, touch_slot, touched, hide, hidden, new_slot, AreBelow}
 use Rattle.cache_book.specs.Arranged.{placed}
-use Rattle.cache_book.specs.SlotOrders.{id_cmp, is_below, is_upto, comes_before, is_older, by_number, AreById, HaveOwnNumbers, AreKept}
+use Rattle.cache_book.specs.SlotOrders.{id_cmp, is_below, is_upto, has_lower_hash, comes_before, is_older, by_number, AreById, HaveOwnNumbers, AreKept}
+use Rattle.cache_book.proofs.Hashes.{id_cmp_total}
 use Rattle.cache_book.proofs.Kept.{all_filter, all_map, within-touched, within-hide, within-new_slot, within-filter}
 use Rattle.cache_book.proofs.Live.{same_ids}
 use Rattle.cache_book.proofs.Arranging.{IsOrder, all_insert, pairs_filter, pairs_map, pairs_insert, arranged-map, arranged-filter, arranged-last}
@@ -42,27 +45,39 @@ is_greater Less h = cc
 is_greater Equal h = cc
 is_greater Greater h = refl
 
+-- the hashes of slots in order rise
+hash_upto : (m n : ℕ) (o p : Ordering) → is_lt (ordering_then (ordering_then (nat_cmp m n) o) p) ≡ true → m ≤ n
+hash_upto m n o p h = by_ranked (m < n) (m ≡ n) (n < m) (nat_cmp m n) (ranked m n (nat_cmp m n) refl)
+  (λ e lt. omega arith) (λ e same. omega arith)
+  (λ e gt. let not : is_lt (ordering_then (ordering_then (nat_cmp m n) o) p) ≡ false = ap (λ (q : Ordering). is_lt (ordering_then (ordering_then q o) p)) e in cc)
+
+hashes_rise : (a b : Slot) → comes_before a b ≡ true → id_hash a.entry.id ≤ id_hash b.entry.id
+hashes_rise a b h = hash_upto (id_hash a.entry.id) (id_hash b.entry.id) (slice_cmp nat_cmp a.entry.id b.entry.id) (nat_cmp a.entry.number b.entry.number) h
+
 -- what comes before a slot whose id is below, or no higher, is so too
 pub below_back : (id : List ℕ) (a b : Slot) → comes_before a b ≡ true → is_below id b ≡ true → is_below id a ≡ true
 below_back id a b h below =
     elim (less_or_equal (id_cmp a.entry.id b.entry.id) (nat_cmp a.entry.number b.entry.number) h) [
-      | inl less ↦ ap is_lt (nat_list_cmp_total.trans a.entry.id b.entry.id id less (is_less (id_cmp b.entry.id id) below))
-      | inr equal ↦ ap is_lt (nat_list_cmp_total.congr a.entry.id b.entry.id id equal) ∙ below
+      | inl less ↦ ap is_lt (id_cmp_total.trans a.entry.id b.entry.id id less (is_less (id_cmp b.entry.id id) below))
+      | inr equal ↦ ap is_lt (id_cmp_total.congr a.entry.id b.entry.id id equal) ∙ below
     ]
 
 pub upto_back : (id : List ℕ) (a b : Slot) → comes_before a b ≡ true → is_upto id b ≡ true → is_upto id a ≡ true
 upto_back id a b h upto =
     elim (less_or_equal (id_cmp a.entry.id b.entry.id) (nat_cmp a.entry.number b.entry.number) h) [
       | inl less ↦ elim (upto_cases (id_cmp b.entry.id id) upto) [
-        | inl below ↦ ap is_le (nat_list_cmp_total.trans a.entry.id b.entry.id id less below)
-        | inr equal ↦ ap is_le (sym (alike_right nat_list_cmp_total b.entry.id id a.entry.id equal) ∙ less)
+        | inl below ↦ ap is_le (id_cmp_total.trans a.entry.id b.entry.id id less below)
+        | inr equal ↦ ap is_le (sym (alike_right id_cmp_total b.entry.id id a.entry.id equal) ∙ less)
       ]
-      | inr equal ↦ ap is_le (nat_list_cmp_total.congr a.entry.id b.entry.id id equal) ∙ upto
+      | inr equal ↦ ap is_le (id_cmp_total.congr a.entry.id b.entry.id id equal) ∙ upto
     ]
+
+pub lower_back : (hash : ℕ) (a b : Slot) → comes_before a b ≡ true → has_lower_hash hash b ≡ true → has_lower_hash hash a ≡ true
+lower_back hash a b h lower = let rise = hashes_rise a b h in grind (arith, nat_tests)
 
 -- a slot outside of the stretch of an id has another id
 tied : (id other : List ℕ) → same_id id other ≡ true → id_cmp id other ≡ Equal
-tied id other h = ap (id_cmp id) (sym (same_ids id other h)) ∙ tied_itself nat_list_cmp_total id
+tied id other h = ap (id_cmp id) (sym (same_ids id other h)) ∙ tied_itself id_cmp_total id
 
 pub below_apart : (id : List ℕ) (slot : Slot) → is_below id slot ≡ true → same_id slot.entry.id id ≡ false
 below_apart id slot below =
@@ -92,7 +107,7 @@ older_first a b upto older =
 higher_later : (a b : Slot) → is_upto b.entry.id a ≡ false → comes_before b a ≡ true
 higher_later a b past =
     ap (λ (o : Ordering). is_lt (ordering_then o (nat_cmp b.entry.number a.entry.number)))
-    (nat_list_cmp_total.antisymm b.entry.id a.entry.id ∙ ap ordering_reverse (is_greater (id_cmp a.entry.id b.entry.id) past))
+    (id_cmp_total.antisymm b.entry.id a.entry.id ∙ ap ordering_reverse (is_greater (id_cmp a.entry.id b.entry.id) past))
 
 -- the order of numbers
 pub older_order : IsOrder is_older

@@ -1,5 +1,5 @@
 -- Searching slots that stand by their ids: what lies outside of the stretch of an id, and what a place says.
-use Rattle.std.specs.Prelude.{◌≡◌, ℕ, ◌+◌, ◌<◌, ◌≤◌, ◌==◌, List, [], ◌∷◌, ◌⊎◌, Bool, true, false, ◌&&◌, not, max, map, take, drop, cond, length, get_or, set, refl}
+use Rattle.std.specs.Prelude.{◌≡◌, ℕ, ◌+◌, ◌<◌, ◌≤◌, ◌==◌, List, [], ◌∷◌, ◌⊎◌, Bool, true, false, ◌&&◌, not, max, map, take, drop, cond, nat_lt, length, get_or, set, refl}
 use Rattle.std.proofs.Common.{ap, sym, ◌∙◌, subst, arith, zero, suc, inl, inr}
 use Rattle.std.specs.List.{AllByRecursion, AllWithin, HoldsAt}
 use Rattle.std.specs.List.Sorted.{IsPartitionPoint}
@@ -14,8 +14,10 @@ use Rattle.cache_policy.proofs.Lists.{all_weaker, all_drop}
 use Rattle.cache_book.specs.declared.slot.Slot.{Slot}
 use Rattle.cache_book.specs.Modes.{holds, has_some, not_covered}
 use Rattle.cache_book.specs.Shelves.{serves_at, ServesNone, IsOneOf, here, further, touch_slot, touched, hidden, cleared, swept}
-use Rattle.cache_book.specs.SlotOrders.{is_below, is_upto, wiped, wipe_past, AreById, HaveOwnNumbers, AreServing}
-use Rattle.cache_book.proofs.Ordered.{below_back, upto_back, below_apart, past_apart}
+use Rattle.cache_book.specs.Hashes.{id_hash}
+use Rattle.cache_book.specs.SlotOrders.{is_below, is_upto, has_lower_hash, wiped, wipe_past, AreById, HaveOwnNumbers, AreServing}
+use Rattle.cache_book.proofs.Hashes.{lower_is_below, higher_is_above}
+use Rattle.cache_book.proofs.Ordered.{below_back, upto_back, lower_back, below_apart, past_apart}
 use Rattle.cache_book.proofs.Arranging.{all_take_within, all_drop_within, pairs_parted}
 
 -- the slot at a place is one of the list
@@ -50,9 +52,25 @@ module _ (id : List ℕ) (list : List Slot) (by_id : AreById list) (i : ℕ) (sl
     | false ↦ λ e. refl
   ] refl
 
+-- by the hash of an id, a slot is below it or past it
+pub below_start : (id : List ℕ) (hash : ℕ) (list : List Slot) (start : ℕ) → hash ≡ id_hash id → ((k : ℕ) (d : Slot) → k < start → has_lower_hash hash (get_or list k d) ≡ true)
+    → (k : ℕ) (d : Slot) → k < start → is_below id (get_or list k d) ≡ true
+below_start id hash list start is lower k d lt =
+    lower_is_below (get_or list k d).entry.id id (subst (λ h. has_lower_hash h (get_or list k d) ≡ true) is (lower k d lt))
+
+pub past_higher : (id : List ℕ) (hash : ℕ) (slot : Slot) → hash ≡ id_hash id → nat_lt hash (id_hash slot.entry.id) ≡ true → is_upto id slot ≡ false
+past_higher id hash slot is higher = higher_is_above slot.entry.id id (subst (λ h. nat_lt h (id_hash slot.entry.id) ≡ true) is higher)
+
+-- where a slot has a lower hash, those before it have
+pub lower_before : (hash : ℕ) (list : List Slot) → AreById list → (i : ℕ) (slot : Slot) → i < length list → slot ≡ get_or list i slot → has_lower_hash hash slot ≡ true
+    → (k : ℕ) (d : Slot) → k ≤ i → has_lower_hash hash (get_or list k d) ≡ true
+lower_before hash list by_id i slot within is lower k d le =
+    pairs_parted _ (has_lower_hash hash) (lower_back hash) list by_id k i d le within
+    (subst (λ (s : Slot). has_lower_hash hash s ≡ true) (is ∙ get_or_default list i slot d within) lower)
+
 -- where no slot of the stretch serves a request, none does
 module _ (id : List ℕ) (mode : Mode) (now : ℕ) (list : List Slot) (start i : ℕ)
-    (starts : IsPartitionPoint (λ slot. is_below id slot ≡ true) (λ slot. is_below id slot ≡ false) list start)
+    (starts : (k : ℕ) (d : Slot) → k < start → is_below id (get_or list k d) ≡ true)
     (none : AllWithin (λ slot. serves_at id mode now slot ≡ false) list start i) where
   split : (k n : ℕ) → (k < n) ⊎ (n ≤ k)
   split k n = search arith
@@ -61,7 +79,7 @@ module _ (id : List ℕ) (mode : Mode) (now : ℕ) (list : List Slot) (start i :
   none_if after = recursion_from_All (λ slot. serves_at id mode now slot ≡ false) list (λ k d lt. at k d lt (split k start) (split k i))
     where
       at : (k : ℕ) (d : Slot) → k < length list → (k < start) ⊎ (start ≤ k) → (k < i) ⊎ (i ≤ k) → serves_at id mode now (get_or list k d) ≡ false
-      at k d lt (inl before) e = apart_serves id mode now (get_or list k d) (below_apart id (get_or list k d) (starts.0 k d (omega arith) before))
+      at k d lt (inl before) e = apart_serves id mode now (get_or list k d) (below_apart id (get_or list k d) (starts k d before))
       at k d lt (inr from) (inl before) = none k d from before
       at k d lt (inr from) (inr past) = after k d past lt
 
@@ -69,7 +87,7 @@ module _ (id : List ℕ) (mode : Mode) (now : ℕ) (list : List Slot) (start i :
   pub none_serving : length list ≤ i → ServesNone list id mode now
   none_serving end = none_if (λ k d past lt. absurd (omega arith))
 
-  -- up to a slot with a higher id
+  -- up to a slot with a higher id, as one with a higher hash is
   pub none_past : AreById list → (slot : Slot) → i < length list → slot ≡ get_or list i slot → is_upto id slot ≡ false → ServesNone list id mode now
   none_past by_id slot within is higher = none_if (λ k d past lt. apart_serves id mode now (get_or list k d) (past_apart id (get_or list k d) (higher_too k d past lt)))
     where

@@ -2,6 +2,6 @@ pub mod Modes
 pub mod Slots
 pub mod Shelves
 pub mod Arranged
-pub mod Leads
+pub mod Hashes
 pub mod SlotOrders
 pub mod Deadlines

@@ -1,18 +1,19 @@
 -- The orders in which slots are kept. This is the project's own.
-use Rattle.std.specs.Prelude.{◌≡◌, ℕ, List, [], Bool, true, false, ◌==◌, nat_lt, if◌then◌else◌}
+use Rattle.std.specs.Prelude.{◌≡◌, ℕ, List, [], Bool, true, false, ◌==◌, nat_lt, nat_le, if◌then◌else◌}
 use Rattle.std.specs.Cmp.Lexicographic.{slice_cmp}
 use Rattle.std.specs.declared.cmp.Ordering.{Ordering}
-use Rattle.std.specs.Ordering.{nat_cmp, ordering_then, is_lt, is_le}
+use Rattle.std.specs.Ordering.{nat_cmp, ordering_then, then_cmp, on, is_lt, is_le}
 use Rattle.std.specs.List.{AllByRecursion}
 use Rattle.cache_policy.specs.Entry.{within}
 use Rattle.cache_book.specs.declared.slot.Slot.{Slot}
+use Rattle.cache_book.specs.Hashes.{id_hash}
 use Rattle.cache_book.specs.Modes.{has_some}
 use Rattle.cache_book.specs.Shelves.{AreWithinMode}
 use Rattle.cache_book.specs.Arranged.{arranged, EachPair}
 
--- ids by their bytes, the first that differs
+-- ids by their hashes, and those that have one hash by their bytes, the first that differs
 abbrev pub id_cmp : List ℕ → List ℕ → Ordering
-id_cmp = slice_cmp nat_cmp
+id_cmp = then_cmp (on id_hash nat_cmp) (slice_cmp nat_cmp)
 
 -- the slot's id is below this one, or no higher
 abbrev pub is_below : List ℕ → Slot → Bool
@@ -20,6 +21,13 @@ is_below id slot = is_lt (id_cmp slot.entry.id id)
 
 abbrev pub is_upto : List ℕ → Slot → Bool
 is_upto id slot = is_le (id_cmp slot.entry.id id)
+
+-- the hash of the slot's id is below this one, or no higher
+abbrev pub has_lower_hash : ℕ → Slot → Bool
+has_lower_hash hash slot = nat_lt (id_hash slot.entry.id) hash
+
+abbrev pub has_hash_upto : ℕ → Slot → Bool
+has_hash_upto hash slot = nat_le (id_hash slot.entry.id) hash
 
 -- slots by their ids, and then by their numbers
 abbrev pub comes_before : Slot → Slot → Bool

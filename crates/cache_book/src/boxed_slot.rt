@@ -2,7 +2,7 @@ ghost use Rattle.std.specs.Prelude.{◌≡◌, IfSome, IfNone};
 
 use crate::Slot;
 use crate::deadlines::deadline_of;
-use crate::lead::lead_of;
+use crate::id_hash::hash_of;
 use cache_policy::{CacheId, Entry, Mode, Secret};
 use std::alloc::{AllocError, Global};
 use std::marker::Model;
@@ -11,19 +11,20 @@ use std::marker::Model;
 #[derive(Drop)]
 pub(crate) struct BoxedSlot {
     // That of its entry's id. It stands beside the box, so that a search reads few boxes.
-    lead: u64,
+    hash: u64,
     slot: Box<Slot>,
 }
 
 impl Model for BoxedSlot {
+    ghost use Rattle.std.specs.Prelude.{◌≡◌};
     ghost use Rattle.cache_book.specs.declared.slot.Slot.{Slot};
-    ghost use Rattle.cache_book.specs.Leads.{IsLead};
+    ghost use Rattle.cache_book.specs.Hashes.{id_hash};
 
     ghost Value = { Slot };
 
     ghost view = { λ boxed. boxed.slot.value };
 
-    ghost invariant = { λ boxed. IsLead boxed.lead boxed.slot.value.entry.id };
+    ghost invariant = { λ boxed. boxed.hash ≡ id_hash boxed.slot.value.entry.id };
 }
 
 impl BoxedSlot {
@@ -31,7 +32,7 @@ impl BoxedSlot {
     ghost use Rattle.cache_book.specs.Modes.{has_some};
     ghost use Rattle.cache_book.specs.Deadlines.{deadline};
     ghost use Rattle.cache_book.specs.SlotOrders.{wiped, wipe_past};
-    ghost use Rattle.cache_book.specs.Leads.{IsLead};
+    ghost use Rattle.cache_book.specs.Hashes.{id_hash};
 
     /// Memory for a slot to come.
     pub(crate) fn blank(alloc: Global) -> Result<BoxedSlot, AllocError> {
@@ -41,7 +42,7 @@ impl BoxedSlot {
         let Some(secret) = Secret::of(b"") else {
             unreachable!()
         };
-        let lead = lead_of(id.bytes());
+        let hash = hash_of(&id);
         let entry = Entry {
             number: 0,
             id,
@@ -52,24 +53,24 @@ impl BoxedSlot {
             max: 0,
         };
         let slot = Box::new(alloc, Slot::of(entry))?;
-        Ok(BoxedSlot { lead, slot })
+        Ok(BoxedSlot { hash, slot })
     }
 
     /// The slot of a new entry, in the memory of this one.
     pub(crate) fn filled(self, entry: Entry) -> BoxedSlot
         ensures { result ≡ new_slot entry }
     {
-        let lead = lead_of(entry.id.bytes());
+        let hash = hash_of(&entry.id);
         let mut slot = self.slot;
         *slot = Slot::of(entry);
-        BoxedSlot { lead, slot }
+        BoxedSlot { hash, slot }
     }
 
-    /// The first bytes of its entry's id, by [`lead_of`].
-    pub(crate) fn lead(&self) -> u64
-        ensures { IsLead result self.now.entry.id }
+    /// That of its entry's id, by [`hash_of`].
+    pub(crate) fn hash(&self) -> u64
+        ensures { result ≡ id_hash self.now.entry.id }
     {
-        self.lead
+        self.hash
     }
 
     pub(crate) fn get(&self) -> &Slot

@@ -5,8 +5,8 @@
 
 mod boxed_slot;
 mod deadlines;
+mod id_hash;
 mod laws;
-mod lead;
 mod list_shelf;
 mod modes;
 mod search;

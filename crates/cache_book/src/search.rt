@@ -1,52 +1,51 @@
 // Finding slots among slots in the order of their ids.
-ghost use Rattle.std.specs.Prelude.{◌≡◌, ℕ, ◌<◌, ◌≤◌, ◌==◌, true, false, length, get_or, IfSome, IfNone};
+ghost use Rattle.std.specs.Prelude.{◌≡◌, ℕ, ◌+◌, ◌<◌, ◌≤◌, ◌==◌, true, false, length, get_or, IfSome, IfNone};
 ghost use Rattle.std.specs.List.{HoldsAt, AllByRecursion};
 ghost use Rattle.std.specs.List.Sorted.{IsPartitionPoint};
 ghost use Rattle.cache_book.specs.Shelves.{serves_at, IsGrantFrom, ServesNone};
-ghost use Rattle.cache_book.specs.SlotOrders.{id_cmp, is_below, is_upto, AreById, AreKept};
-ghost use Rattle.cache_book.specs.Leads.{IsLead};
+ghost use Rattle.cache_book.specs.SlotOrders.{id_cmp, is_below, is_upto, has_lower_hash, AreById, AreKept};
+ghost use Rattle.cache_book.specs.Hashes.{id_hash};
 ghost use Rattle.cache_book.specs.declared.slot.Slot.{Slot as OneSlot};
 
 use crate::boxed_slot::BoxedSlot;
-use crate::lead::lead_of;
+use crate::id_hash::hash_of;
 use cache_policy::{CacheId, Grant, Mode};
 use std::cell::Cell;
 use std::cmp::Ordering;
 
-/// The order of a slot's id and this one, whose lead is given.
-fn compare(slot: &BoxedSlot, id: &CacheId, lead: u64) -> Ordering
-    requires { IsLead lead id.now }
+/// The order of a slot's id and this one, whose hash is given.
+fn compare(slot: &BoxedSlot, id: &CacheId, hash: u64) -> Ordering
+    requires { hash ≡ id_hash id.now }
     ensures { result ≡ id_cmp slot.now.entry.id id.now }
 {
-    match slot.lead().cmp(&lead) {
+    match slot.hash().cmp(&hash) {
         Ordering::Equal => slot.get().entry.id.bytes().cmp(id.bytes()),
         other => other,
     }
 }
 
-fn is_below(slot: &BoxedSlot, id: &CacheId, lead: u64) -> bool
-    requires { IsLead lead id.now }
+fn is_below(slot: &BoxedSlot, id: &CacheId, hash: u64) -> bool
+    requires { hash ≡ id_hash id.now }
     ensures { result ≡ is_below id.now slot.now }
 {
-    compare(slot, id, lead).is_lt()
+    compare(slot, id, hash).is_lt()
 }
 
-/// A place that only slots with lower ids stand before: behind those whose leads are lower, so that no box is read.
+/// A place that only slots with lower hashes stand before: behind all of those. No box is read.
 ///
-/// It looks at three leads together, so that over many the memory of one comes while that of another does.
-fn behind_lower_leads(slots: &[BoxedSlot], id: &CacheId, lead: u64) -> usize
-    requires by_id { AreById slots.now }
-    requires lead { IsLead lead id.now }
+/// It looks at three hashes together, so that over many the memory of one comes while that of another does.
+fn behind_lower_hashes(slots: &[BoxedSlot], hash: u64) -> usize
+    requires { AreById slots.now }
     ensures within { result ≤ length slots.now }
-    ensures before { (k : ℕ) (default : OneSlot) → k < result → is_below id.now (get_or slots.now k default) ≡ true }
+    ensures before { (k : ℕ) (default : OneSlot) → k < result → has_lower_hash hash (get_or slots.now k default) ≡ true }
 {
     let mut low = 0;
     let mut left = slots.len();
     while 0 < left {
         let step = left / 4;
-        let first = has_lower_lead(&slots[low + step], id, lead);
-        let second = has_lower_lead(&slots[low + 2 * step], id, lead);
-        let third = has_lower_lead(&slots[low + 3 * step], id, lead);
+        let first = slots[low + step].hash() < hash;
+        let second = slots[low + 2 * step].hash() < hash;
+        let third = slots[low + 3 * step].hash() < hash;
         if third {
             low += 3 * step + 1;
             left -= 3 * step + 1;
@@ -63,26 +62,19 @@ fn behind_lower_leads(slots: &[BoxedSlot], id: &CacheId, lead: u64) -> usize
     low
 }
 
-fn has_lower_lead(slot: &BoxedSlot, id: &CacheId, lead: u64) -> bool
-    requires { IsLead lead id.now }
-    ensures { result ≡ true → is_below id.now slot.now ≡ true }
-{
-    slot.lead() < lead
-}
-
 /// The place of the first slot whose id isn't below this one.
 pub(crate) fn start_of(slots: &[BoxedSlot], id: &CacheId) -> usize
     requires { AreById slots.now }
     ensures within { result ≤ length slots.now }
     ensures parts { IsPartitionPoint (λ slot. is_below id.now slot ≡ true) (λ slot. is_below id.now slot ≡ false) slots.now result }
 {
-    let lead = lead_of(id.bytes());
-    let mut low = behind_lower_leads(slots, id, lead);
-    // Where ids begin alike the boxes decide.
+    let hash = hash_of(id);
+    let mut low = behind_lower_hashes(slots, hash);
+    // Among ids of one hash the boxes decide.
     let mut left = slots.len() - low;
-    while 0 < left && is_below(&slots[low], id, lead) {
+    while 0 < left && is_below(&slots[low], id, hash) {
         let half = left / 2;
-        if is_below(&slots[low + half], id, lead) {
+        if is_below(&slots[low + half], id, hash) {
             low += half + 1;
             left -= half + 1;
         } else {
@@ -98,20 +90,22 @@ pub(crate) fn end_of(slots: &[BoxedSlot], id: &CacheId) -> usize
     ensures within { result ≤ length slots.now }
     ensures parts { IsPartitionPoint (λ slot. is_upto id.now slot ≡ true) (λ slot. is_upto id.now slot ≡ false) slots.now result }
 {
-    let lead = lead_of(id.bytes());
-    slots.partition_point(|slot| compare(slot, id, lead).is_le())
+    let hash = hash_of(id);
+    slots.partition_point(|slot| compare(slot, id, hash).is_le())
 }
 
 /// The place of the slot that serves a request at `now`.
+///
+/// Nearly always the asked id is the only one of its hash, so its box is the first that is read.
 fn serving(slots: &[BoxedSlot], id: &CacheId, mode: Mode, now: u64) -> Option<usize>
     requires { AreById slots.now }
     ensures found { IfSome result (λ i. (i < length slots.now) × HoldsAt (λ slot. serves_at id.now mode now slot ≡ true) slots.now i) }
     ensures none { IfNone result (ServesNone slots.now id.now mode now) }
 {
-    let lead = lead_of(id.bytes());
-    let start = start_of(slots, id);
+    let hash = hash_of(id);
+    let start = behind_lower_hashes(slots, hash);
     for i in start..slots.len() {
-        if compare(&slots[i], id, lead).is_gt() {
+        if hash < slots[i].hash() {
             return None;
         }
         if slots[i].get().serves_at(id, mode, now) {

@@ -29,7 +29,8 @@ impl Slot {
     pub fn serves_at(&self, id: &CacheId, mode: Mode, now: u64) -> bool
         ensures { result ≡ serves_at id.now mode now self.now }
     {
-        self.entry.id == *id && self.modes.holds(mode) && self.entry.within(self.last, now)
+        // The id comes last: a processor fetches the memory of all three at once.
+        self.modes.holds(mode) && self.entry.within(self.last, now) && self.entry.id == *id
     }
 
     /// Its ttl starts again where it is the entry with this number.

@@ -1,7 +1,7 @@
 use Rattle.std.specs.Prelude.{◌+◌, ◌*◌, ◌/◌, ◌<◌, ◌≤◌, length}
-use Rattle.std.proofs.Common.{arith}
-use Rattle.cache_book.proofs.Searching.{below_before}
-use Rattle.cache_book.proofs.search.behind_lower_leads.Goals as goal
+use Rattle.std.proofs.Common.{arith, rules}
+use Rattle.cache_book.proofs.Searching.{lower_before}
+use Rattle.cache_book.proofs.search.behind_lower_hashes.Goals as goal
 
 pub loop-left-preserved-then-third : goal.loop-left-preserved-then-third
 loop-left-preserved-then-third c =
@@ -9,8 +9,8 @@ loop-left-preserved-then-third c =
     let some : 0 < c.loop-left.left = c.loop-left-test.true in
     record {
       within = omega arith;
-      before = λ k d lt. below_before c.args.id.now c.args.slots.now c.requires.by_id (c.loop-left.low + 3 * (c.loop-left.left / 4)) c.index-slots-low-in-loop-left-2.result (omega arith)
-          c.index-slots-low-in-loop-left-2.is (c.has_lower_lead-third.ensures c.if-third.true) k d (omega arith);
+      before = λ k d lt. lower_before c.args.hash c.args.slots.now c.requires (c.loop-left.low + 3 * (c.loop-left.left / 4)) c.index-slots-low-in-loop-left-2.result (omega arith)
+          c.index-slots-low-in-loop-left-2.is (search rules) k d (omega arith);
     }
 
 pub loop-left-preserved-then-second : goal.loop-left-preserved-then-second
@@ -20,8 +20,8 @@ loop-left-preserved-then-second c =
     let left = c.saturating_sub-left.ensures in
     record {
       within = omega arith;
-      before = λ k d lt. below_before c.args.id.now c.args.slots.now c.requires.by_id (c.loop-left.low + 2 * (c.loop-left.left / 4)) c.index-slots-low-in-loop-left.result (omega arith)
-          c.index-slots-low-in-loop-left.is (c.has_lower_lead-second.ensures c.if-second.true) k d (omega arith);
+      before = λ k d lt. lower_before c.args.hash c.args.slots.now c.requires (c.loop-left.low + 2 * (c.loop-left.left / 4)) c.index-slots-low-in-loop-left.result (omega arith)
+          c.index-slots-low-in-loop-left.is (search rules) k d (omega arith);
     }
 
 pub loop-left-preserved-then-first : goal.loop-left-preserved-then-first
@@ -31,6 +31,6 @@ loop-left-preserved-then-first c =
     let left = c.saturating_sub-left-then-first.ensures in
     record {
       within = omega arith;
-      before = λ k d lt. below_before c.args.id.now c.args.slots.now c.requires.by_id (c.loop-left.low + c.loop-left.left / 4) c.index-slots-low.result (omega arith)
-          c.index-slots-low.is (c.has_lower_lead-first.ensures c.if-first.true) k d (omega arith);
+      before = λ k d lt. lower_before c.args.hash c.args.slots.now c.requires (c.loop-left.low + c.loop-left.left / 4) c.index-slots-low.result (omega arith)
+          c.index-slots-low.is (search rules) k d (omega arith);
     }

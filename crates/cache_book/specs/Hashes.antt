@@ -1,0 +1,6 @@
+-- Private: a number of each id, by which ids are told apart without their bytes. This is the project's own.
+use Rattle.std.specs.Prelude.{ℕ, List}
+use Rattle.std.specs.Hash.FoldHasher.{initial, write, finish}
+
+unfoldable pub id_hash : List ℕ → ℕ
+id_hash id = finish (write initial id)
