@@ -1,10 +1,12 @@
-ghost use Rattle.std.specs.Prelude.{◌≡◌, ℕ, ◌+◌, OnOk};
+ghost use Rattle.std.specs.Prelude.{◌≡◌, ℕ, ◌+◌, ◌≤◌, [], OnOk};
+ghost use Rattle.cache_policy.specs.declared.bounds.TheConstants.{MAX_MARKS};
 ghost use Rattle.cache_book.specs.Shelves.{AreBelow};
 
 use crate::{ListShelf, Shelf, SlotShelf};
-use cache_policy::{CacheId, Entry, Mode, Secret};
+use cache_policy::{CacheId, Entry, MAX_MARKS, Mode, Secret};
 use rand_core::utils::NextWord;
 use rand_pcg::Pcg32;
+use std::alloc::Global;
 use std::test::Fail;
 
 const MODES: [Mode; 5] = [Mode::Normal, Mode::User, Mode::Ssh, Mode::Nonce, Mode::Any];
@@ -65,8 +67,24 @@ fn put<S: Shelf>(
     requires { AreBelow number (S.at shelf.old).slots }
     ensures { OnOk result (AreBelow (number + 1) (S.at shelf.new).slots) }
 {
-    let secret = Secret::of(&passphrase(number)).ok_or("a secret")?;
     shelf.reserve(1)?;
+    put_in_room(shelf, id, mode, lives, number, now)
+}
+
+/// The same where there is room for the entry.
+fn put_in_room<S: Shelf>(
+    shelf: &mut S,
+    id: CacheId,
+    mode: Mode,
+    lives: Lives,
+    number: u64,
+    now: u64,
+) -> Result<(), Fail>
+    requires room { 1 ≤ (S.at shelf.old).spare }
+    requires newest { AreBelow number (S.at shelf.old).slots }
+    ensures { OnOk result (AreBelow (number + 1) (S.at shelf.new).slots) }
+{
+    let secret = Secret::of(&passphrase(number)).ok_or("a secret")?;
     shelf.store(Entry {
         number,
         id,
@@ -202,5 +220,245 @@ fn an_entry_takes_the_room_of_one(rt: HostRuntime) -> Result<(), Fail> {
     let room = slots.spare();
     put(&mut slots, named(0)?, Mode::User, lives, 0, 0)?;
     assert!(rt; 3 <= room && room - 1 <= slots.spare());
+    Ok(())
+}
+
+/// The manual's lifetimes.
+const USUAL: Lives = Lives {
+    ttl: Some(600),
+    max: 7200,
+};
+
+const ENDLESS: Lives = Lives {
+    ttl: None,
+    max: 7200,
+};
+
+const TEN_SECONDS: Lives = Lives {
+    ttl: Some(10),
+    max: 7200,
+};
+
+/// A step of the cache core, all under one id.
+#[derive(Clone, Copy)]
+enum Step {
+    Put(Mode, Lives),
+    Ask(Mode),
+    Peek(Mode),
+    Clear(Mode),
+}
+
+/// A step, its moment, and the number of the entry that it is to find.
+type Planned = (u64, Step, Option<u64>);
+
+/// Takes a step with this number by the calls that the cache core makes of it, and says the number of the entry that it finds.
+fn taken<S: Shelf>(shelf: &mut S, number: u64, now: u64, step: Step) -> Result<Option<u64>, Fail>
+    requires { AreBelow number (S.at shelf.old).slots }
+    ensures { OnOk result (AreBelow (number + 1) (S.at shelf.new).slots) }
+{
+    let id = named(0)?;
+    let there = match step {
+        Step::Ask(mode) => ask(shelf, &id, mode, now)?,
+        Step::Peek(mode) => peek(shelf, &id, mode, now)?,
+        Step::Clear(mode) => {
+            shelf.sweep(now);
+            shelf.clear(&id, mode);
+            None
+        }
+        Step::Put(mode, lives) => {
+            shelf.sweep(now);
+            put(shelf, id, mode, lives, number, now)?;
+            None
+        }
+    };
+    Ok(there)
+}
+
+/// The number of what is found, whose ttl begins anew.
+fn ask<S: Shelf>(shelf: &mut S, id: &CacheId, mode: Mode, now: u64) -> Result<Option<u64>, Fail>
+    ensures { (number : ℕ) → AreBelow number (S.at shelf.old).slots → AreBelow number (S.at shelf.new).slots }
+{
+    let there = peek(shelf, id, mode, now)?;
+    if let Some(number) = there {
+        shelf.touch(number, now);
+    }
+    Ok(there)
+}
+
+/// The number of what is found. What is past a lifetime is dropped behind it.
+fn peek<S: Shelf>(shelf: &mut S, id: &CacheId, mode: Mode, now: u64) -> Result<Option<u64>, Fail>
+    ensures below { (number : ℕ) → AreBelow number (S.at shelf.old).slots → AreBelow number (S.at shelf.new).slots }
+    ensures spare { (S.at shelf.old).spare ≤ (S.at shelf.new).spare }
+{
+    let there = found(shelf, id, mode, now)?;
+    shelf.sweep(now);
+    Ok(there.map(|(number, _)| number))
+}
+
+/// The place of the first of these steps that finds something else, on a shelf without entries.
+fn first_wrong<S: Shelf>(shelf: &mut S, steps: &[Planned]) -> Result<Option<usize>, Fail>
+    requires { (S.at shelf.old).slots ≡ [] }
+{
+    for place in 0..steps.len() {
+        let (now, step, then) = steps[place];
+        if taken(shelf, place as u64, now, step)? != then {
+            return Ok(Some(place));
+        }
+    }
+    Ok(None)
+}
+
+/// The same of both shelves.
+fn first_wrong_of_both(
+    alloc: Global,
+    steps: &[Planned],
+) -> Result<(Option<usize>, Option<usize>), Fail> {
+    let list = first_wrong(&mut ListShelf::new(alloc), steps)?;
+    let slots = first_wrong(&mut SlotShelf::new(alloc), steps)?;
+    Ok((list, slots))
+}
+
+/// An entry that is used often enough ends with its greatest age.
+const OFTEN: [Planned; 17] = [
+    (0, Step::Put(Mode::Any, USUAL), None),
+    (500, Step::Ask(Mode::User), Some(0)),
+    (1000, Step::Ask(Mode::User), Some(0)),
+    (1500, Step::Ask(Mode::User), Some(0)),
+    (2000, Step::Ask(Mode::User), Some(0)),
+    (2500, Step::Ask(Mode::User), Some(0)),
+    (3000, Step::Ask(Mode::User), Some(0)),
+    (3500, Step::Ask(Mode::User), Some(0)),
+    (4000, Step::Ask(Mode::User), Some(0)),
+    (4500, Step::Ask(Mode::User), Some(0)),
+    (5000, Step::Ask(Mode::User), Some(0)),
+    (5500, Step::Ask(Mode::User), Some(0)),
+    (6000, Step::Ask(Mode::User), Some(0)),
+    (6500, Step::Ask(Mode::User), Some(0)),
+    (7000, Step::Ask(Mode::User), Some(0)),
+    (7200, Step::Ask(Mode::User), Some(0)),
+    (7201, Step::Ask(Mode::User), None),
+];
+
+#[test]
+fn a_use_restarts_the_ttl_and_not_the_greatest_age(rt: HostRuntime) -> Result<(), Fail> {
+    let in_time = [
+        (0, Step::Put(Mode::Any, USUAL), None),
+        (600, Step::Ask(Mode::User), Some(0)),
+        (1200, Step::Ask(Mode::User), Some(0)),
+        (1801, Step::Ask(Mode::User), None),
+    ];
+    assert_eq!(rt; first_wrong_of_both(rt.alloc(), &in_time)?, (None, None));
+    assert_eq!(rt; first_wrong_of_both(rt.alloc(), &OFTEN)?, (None, None));
+    Ok(())
+}
+
+#[test]
+fn the_newest_hides_the_older(rt: HostRuntime) -> Result<(), Fail> {
+    let ended = [
+        (0, Step::Put(Mode::Any, ENDLESS), None),
+        (5, Step::Put(Mode::User, TEN_SECONDS), None),
+        (20, Step::Ask(Mode::User), None),
+        (21, Step::Peek(Mode::Normal), Some(0)),
+    ];
+    assert_eq!(rt; first_wrong_of_both(rt.alloc(), &ended)?, (None, None));
+
+    let cleared = [
+        (0, Step::Put(Mode::Any, ENDLESS), None),
+        (5, Step::Put(Mode::User, TEN_SECONDS), None),
+        (6, Step::Clear(Mode::User), None),
+        (7, Step::Ask(Mode::User), None),
+        (8, Step::Peek(Mode::Normal), None),
+    ];
+    assert_eq!(rt; first_wrong_of_both(rt.alloc(), &cleared)?, (None, None));
+    Ok(())
+}
+
+/// Whether each of these peeks at moment 0 finds the entry with this number.
+fn peeks_find<S: Shelf>(shelf: &mut S, times: u64, then: Option<u64>) -> Result<bool, Fail>
+    ensures below { (number : ℕ) → AreBelow number (S.at shelf.old).slots → AreBelow number (S.at shelf.new).slots }
+    ensures spare { (S.at shelf.old).spare ≤ (S.at shelf.new).spare }
+{
+    let id = named(0)?;
+    let mut all = true;
+    for _ in 0..times {
+        all = peek(shelf, &id, Mode::User, 0)? == then && all;
+    }
+    Ok(all)
+}
+
+/// Begins the next history where this many marks fill one.
+fn turn_over<S: Shelf>(shelf: &mut S, marks: u64)
+    ensures below { (number : ℕ) → AreBelow number (S.at shelf.old).slots → AreBelow number (S.at shelf.new).slots }
+    ensures spare { (S.at shelf.old).spare ≤ (S.at shelf.new).spare }
+{
+    if marks == MAX_MARKS {
+        shelf.flush();
+    }
+}
+
+/// What is found at the end of a history that has a put and this many peeks, each of which finds what was put.
+fn found_behind_peeks<S: Shelf>(shelf: &mut S, peeks: u64) -> Result<Option<u64>, Fail>
+    requires few { peeks ≤ MAX_MARKS }
+    requires new { (S.at shelf.old).slots ≡ [] }
+{
+    let id = named(0)?;
+    put(shelf, id.copy(), Mode::Any, ENDLESS, 0, 0)?;
+    if !peeks_find(shelf, peeks, Some(0))? {
+        return Err("a peek that doesn't find it".into());
+    }
+    turn_over(shelf, 1 + peeks);
+    peek(shelf, &id, Mode::User, 0)
+}
+
+#[test]
+fn nothing_is_found_behind_a_full_history(rt: HostRuntime) -> Result<(), Fail> {
+    for (peeks, then) in [(131_070, Some(0)), (131_071, None)] {
+        let mut list = ListShelf::new(rt.alloc());
+        let mut slots = SlotShelf::new(rt.alloc());
+        assert_eq!(rt; found_behind_peeks(&mut list, peeks)?, then);
+        assert_eq!(rt; found_behind_peeks(&mut slots, peeks)?, then);
+    }
+    Ok(())
+}
+
+/// What the next request finds behind a prompt that this many peeks were made under. Its room is made as it opens, and until what is
+/// typed is kept, nothing is found, by a request that has to stand either.
+fn found_behind_a_prompt<S: Shelf>(
+    shelf: &mut S,
+    peeks: u64,
+    keeps: bool,
+) -> Result<Option<u64>, Fail>
+    requires few { peeks ≤ MAX_MARKS }
+    requires new { (S.at shelf.old).slots ≡ [] }
+{
+    let id = named(0)?;
+    let asked = peek(shelf, &id, Mode::User, 0)?;
+    shelf.reserve(1)?;
+    let stands = found(shelf, &id, Mode::User, 0)?;
+    let peeked = peeks_find(shelf, peeks, None)?;
+    if asked.is_some() || stands.is_some() || !peeked {
+        return Err("found while the prompt is open".into());
+    }
+    let marks = 1 + peeks;
+    turn_over(shelf, marks);
+    if keeps {
+        put_in_room(shelf, id.copy(), Mode::User, USUAL, marks, 0)?;
+    }
+    peek(shelf, &id, Mode::User, 0)
+}
+
+#[test]
+fn what_is_kept_of_a_prompt_is_found_by_the_next(rt: HostRuntime) -> Result<(), Fail> {
+    // The last prompt stays open until its history is full.
+    for (peeks, keeps, then) in [
+        (0, true, Some(1)),
+        (0, false, None),
+        (131_071, true, Some(131_072)),
+    ] {
+        let mut list = ListShelf::new(rt.alloc());
+        let mut slots = SlotShelf::new(rt.alloc());
+        assert_eq!(rt; found_behind_a_prompt(&mut list, peeks, keeps)?, then);
+        assert_eq!(rt; found_behind_a_prompt(&mut slots, peeks, keeps)?, then);
+    }
     Ok(())
 }
