@@ -18,7 +18,7 @@ use Rattle.cache_book.specs.Hashes.{id_hash}
 use Rattle.cache_book.specs.Modes.{modes_where, has_some, not_covered}
 use Rattle.cache_book.specs.Shelves.{IsOneOf, here, further, touch_slot, touched, hide, hidden, new_slot, AreBelow}
 use Rattle.cache_book.specs.Arranged.{placed}
-use Rattle.cache_book.specs.SlotOrders.{id_cmp, is_below, is_upto, has_lower_hash, comes_before, is_older, by_number, AreById, HaveOwnNumbers, AreKept}
+use Rattle.cache_book.specs.SlotOrders.{id_cmp, is_below, is_upto, has_lower_hash, has_hash_upto, comes_before, is_older, by_number, AreById, HaveOwnNumbers, AreKept}
 use Rattle.cache_book.proofs.Hashes.{id_cmp_total}
 use Rattle.cache_book.proofs.Kept.{all_filter, all_map, within-touched, within-hide, within-new_slot, within-filter}
 use Rattle.cache_book.proofs.Live.{same_ids}
@@ -46,13 +46,13 @@ is_greater Equal h = cc
 is_greater Greater h = refl
 
 -- the hashes of slots in order rise
-hash_upto : (m n : ℕ) (o p : Ordering) → is_lt (ordering_then (ordering_then (nat_cmp m n) o) p) ≡ true → m ≤ n
-hash_upto m n o p h = by_ranked (m < n) (m ≡ n) (n < m) (nat_cmp m n) (ranked m n (nat_cmp m n) refl)
+rise_of : (m n : ℕ) (o p : Ordering) → is_lt (ordering_then (ordering_then (nat_cmp m n) o) p) ≡ true → m ≤ n
+rise_of m n o p h = by_ranked (m < n) (m ≡ n) (n < m) (nat_cmp m n) (ranked m n (nat_cmp m n) refl)
   (λ e lt. omega arith) (λ e same. omega arith)
   (λ e gt. let not : is_lt (ordering_then (ordering_then (nat_cmp m n) o) p) ≡ false = ap (λ (q : Ordering). is_lt (ordering_then (ordering_then q o) p)) e in cc)
 
 hashes_rise : (a b : Slot) → comes_before a b ≡ true → id_hash a.entry.id ≤ id_hash b.entry.id
-hashes_rise a b h = hash_upto (id_hash a.entry.id) (id_hash b.entry.id) (slice_cmp nat_cmp a.entry.id b.entry.id) (nat_cmp a.entry.number b.entry.number) h
+hashes_rise a b h = rise_of (id_hash a.entry.id) (id_hash b.entry.id) (slice_cmp nat_cmp a.entry.id b.entry.id) (nat_cmp a.entry.number b.entry.number) h
 
 -- what comes before a slot whose id is below, or no higher, is so too
 pub below_back : (id : List ℕ) (a b : Slot) → comes_before a b ≡ true → is_below id b ≡ true → is_below id a ≡ true
@@ -74,6 +74,9 @@ upto_back id a b h upto =
 
 pub lower_back : (hash : ℕ) (a b : Slot) → comes_before a b ≡ true → has_lower_hash hash b ≡ true → has_lower_hash hash a ≡ true
 lower_back hash a b h lower = let rise = hashes_rise a b h in grind (arith, nat_tests)
+
+pub hash_upto_back : (hash : ℕ) (a b : Slot) → comes_before a b ≡ true → has_hash_upto hash b ≡ true → has_hash_upto hash a ≡ true
+hash_upto_back hash a b h upto = let rise = hashes_rise a b h in grind (arith, nat_tests)
 
 -- a slot outside of the stretch of an id has another id
 tied : (id other : List ℕ) → same_id id other ≡ true → id_cmp id other ≡ Equal

@@ -1,6 +1,7 @@
 -- Searching slots that stand by their ids: what lies outside of the stretch of an id, and what a place says.
-use Rattle.std.specs.Prelude.{◌≡◌, ℕ, ◌+◌, ◌<◌, ◌≤◌, ◌==◌, List, [], ◌∷◌, ◌⊎◌, Bool, true, false, ◌&&◌, not, max, map, take, drop, cond, nat_lt, length, get_or, set, refl}
+use Rattle.std.specs.Prelude.{◌≡◌, ℕ, ◌+◌, ◌<◌, ◌≤◌, ◌==◌, List, [], ◌∷◌, ◌⊎◌, Bool, true, false, ◌&&◌, not, max, map, take, drop, cond, nat_lt, nat_le, length, get_or, set, refl}
 use Rattle.std.proofs.Common.{ap, sym, ◌∙◌, subst, arith, zero, suc, inl, inr}
+use Rattle.std.proofs.lemmas.Bool.Decides.{nat_tests}
 use Rattle.std.specs.List.{AllByRecursion, AllWithin, HoldsAt}
 use Rattle.std.specs.List.Sorted.{IsPartitionPoint}
 use Rattle.std.proofs.lemmas.List.Elements.{All-from_recursion, recursion_from_All, AllWithin-upto}
@@ -15,7 +16,7 @@ use Rattle.cache_book.specs.declared.slot.Slot.{Slot}
 use Rattle.cache_book.specs.Modes.{holds, has_some, not_covered}
 use Rattle.cache_book.specs.Shelves.{serves_at, ServesNone, IsOneOf, here, further, touch_slot, touched, hidden, cleared, swept}
 use Rattle.cache_book.specs.Hashes.{id_hash}
-use Rattle.cache_book.specs.SlotOrders.{is_below, is_upto, has_lower_hash, wiped, wipe_past, AreById, HaveOwnNumbers, AreServing}
+use Rattle.cache_book.specs.SlotOrders.{is_below, is_upto, has_lower_hash, has_hash_upto, swept_hash, wiped, wipe_past, AreById, HaveOwnNumbers, AreServing}
 use Rattle.cache_book.proofs.Hashes.{lower_is_below, higher_is_above}
 use Rattle.cache_book.proofs.Ordered.{below_back, upto_back, lower_back, below_apart, past_apart}
 use Rattle.cache_book.proofs.Arranging.{all_take_within, all_drop_within, pairs_parted}
@@ -154,6 +155,12 @@ hidden-apart entry (slot ∷ later) serving h =
     hidden_by : Bool → Slot
     hidden_by b = cond b (record slot { modes = not_covered entry.mode slot.modes }) slot
 
+pub swept_hash-apart : (hash now : ℕ) (list : List Slot) → AllByRecursion (λ slot. (hash == id_hash slot.entry.id) ≡ false) list → swept_hash hash now list ≡ list
+swept_hash-apart hash now [] h = refl
+swept_hash-apart hash now (slot ∷ later) h =
+    ap (λ b. cond (not (b && not (within slot.entry slot.last now))) (slot ∷ swept_hash hash now later) (swept_hash hash now later)) h.0
+    ∙ ap (λ (l : List Slot). slot ∷ l) (swept_hash-apart hash now later h.1)
+
 -- what is wiped is dropped
 pub swept-wiped : (now : ℕ) (list : List Slot) → swept now (map (wipe_past now) list) ≡ swept now list
 swept-wiped now [] = refl
@@ -185,6 +192,29 @@ before_start id xs list start i same le upto parts =
     subst (λ (l : List Slot). AllByRecursion (λ slot. same_id slot.entry.id id ≡ false) (take i l)) same
     (all_weaker (λ slot. is_below id slot ≡ true) (λ slot. same_id slot.entry.id id ≡ false) (below_apart id) (take i xs)
     (all_take_within (λ slot. is_below id slot ≡ true) i xs (omega arith) (AllWithin-upto (λ slot. is_below id slot ≡ true) xs 0 start i upto parts.0)))
+
+-- and of a hash
+pub behind_hash : (hash : ℕ) (xs list : List Slot) (end : ℕ) → xs ≡ list
+    → IsPartitionPoint (λ slot. has_hash_upto hash slot ≡ true) (λ slot. has_hash_upto hash slot ≡ false) xs end
+    → AllByRecursion (λ slot. (hash == id_hash slot.entry.id) ≡ false) (drop end list)
+behind_hash hash xs list end same parts =
+    subst (λ (l : List Slot). AllByRecursion (λ slot. (hash == id_hash slot.entry.id) ≡ false) (drop end l)) same
+    (all_weaker (λ slot. has_hash_upto hash slot ≡ false) (λ slot. (hash == id_hash slot.entry.id) ≡ false) (λ slot h. apart (id_hash slot.entry.id) h) (drop end xs)
+    (all_drop_within (λ slot. has_hash_upto hash slot ≡ false) end xs parts.1))
+  where
+    apart : (n : ℕ) → nat_le n hash ≡ false → (hash == n) ≡ false
+    apart n h = grind (arith, nat_tests)
+
+pub before_hash : (hash : ℕ) (xs list : List Slot) (start i : ℕ) → xs ≡ list → start ≤ length xs → i ≤ start
+    → ((k : ℕ) (d : Slot) → k < start → has_lower_hash hash (get_or xs k d) ≡ true)
+    → AllByRecursion (λ slot. (hash == id_hash slot.entry.id) ≡ false) (take i list)
+before_hash hash xs list start i same le upto lower =
+    subst (λ (l : List Slot). AllByRecursion (λ slot. (hash == id_hash slot.entry.id) ≡ false) (take i l)) same
+    (all_weaker (λ slot. has_lower_hash hash slot ≡ true) (λ slot. (hash == id_hash slot.entry.id) ≡ false) (λ slot h. apart (id_hash slot.entry.id) h) (take i xs)
+    (all_take_within (λ slot. has_lower_hash hash slot ≡ true) i xs (omega arith) (λ k d from lt. lower k d (omega arith))))
+  where
+    apart : (n : ℕ) → nat_lt n hash ≡ true → (hash == n) ≡ false
+    apart n h = grind (arith, nat_tests)
 
 other_way : (id : List ℕ) (list : List Slot) → AllByRecursion (λ slot. same_id slot.entry.id id ≡ false) list → AllByRecursion (λ slot. same_id id slot.entry.id ≡ false) list
 other_way id list h =

@@ -1,5 +1,5 @@
 -- The orders in which slots are kept. This is the project's own.
-use Rattle.std.specs.Prelude.{◌≡◌, ℕ, List, [], Bool, true, false, ◌==◌, nat_lt, nat_le, if◌then◌else◌}
+use Rattle.std.specs.Prelude.{◌≡◌, ℕ, List, [], Bool, true, false, ◌==◌, nat_lt, nat_le, not, ◌&&◌, filter, if◌then◌else◌}
 use Rattle.std.specs.Cmp.Lexicographic.{slice_cmp}
 use Rattle.std.specs.declared.cmp.Ordering.{Ordering}
 use Rattle.std.specs.Ordering.{nat_cmp, ordering_then, then_cmp, on, is_lt, is_le}
@@ -57,6 +57,14 @@ pub record AreKept (list : List Slot) : Type 0 where
   pub own_numbers : HaveOwnNumbers list
   pub serving : AreServing list
   pub within_mode : AreWithinMode list
+
+-- the slot has this hash and is past a lifetime
+abbrev pub has_hash_past : ℕ → ℕ → Slot → Bool
+has_hash_past hash now slot = (hash == id_hash slot.entry.id) && not (within slot.entry slot.last now)
+
+-- the slots without those
+abbrev pub swept_hash : ℕ → ℕ → List Slot → List Slot
+swept_hash hash now list = filter (λ slot. not (has_hash_past hash now slot)) list
 
 -- a slot without its passphrase
 abbrev pub wiped : Slot → Slot

@@ -1,7 +1,7 @@
 ghost use Rattle.std.specs.Prelude.{◌≡◌, IfSome, IfNone};
 
 use crate::Slot;
-use crate::deadlines::deadline_of;
+use crate::deadlines::{Place, deadline_of};
 use crate::id_hash::hash_of;
 use cache_policy::{CacheId, Entry, Mode, Secret};
 use std::alloc::{AllocError, Global};
@@ -30,8 +30,8 @@ impl Model for BoxedSlot {
 impl BoxedSlot {
     ghost use Rattle.cache_book.specs.Shelves.{touch_slot, hide, new_slot};
     ghost use Rattle.cache_book.specs.Modes.{has_some};
-    ghost use Rattle.cache_book.specs.Deadlines.{deadline};
-    ghost use Rattle.cache_book.specs.SlotOrders.{wiped, wipe_past};
+    ghost use Rattle.cache_book.specs.Deadlines.{place_of};
+    ghost use Rattle.cache_book.specs.SlotOrders.{wiped, wipe_past, has_hash_past};
     ghost use Rattle.cache_book.specs.Hashes.{id_hash};
 
     /// Memory for a slot to come.
@@ -79,6 +79,13 @@ impl BoxedSlot {
         &self.slot
     }
 
+    /// Whether it has this hash and is past a lifetime at `now`.
+    pub(crate) fn is_past(&self, hash: u64, now: u64) -> bool
+        ensures { result ≡ has_hash_past hash now self.now }
+    {
+        hash == self.hash && !self.slot.entry.within(self.slot.last, now)
+    }
+
     /// Overwrites the passphrase of a slot that is past a lifetime at `now`, and leaves any other.
     pub(crate) fn wipe_past(&mut self, now: u64)
         ensures { self.new ≡ wipe_past now self.old }
@@ -95,22 +102,25 @@ impl BoxedSlot {
         self.slot.entry.secret.clear();
     }
 
-    /// The last moment at which it can be given, in seconds.
-    pub(crate) fn deadline(&self) -> u64
-        ensures { result ≡ deadline self.now }
+    /// Where it stands among others in the order of their deadlines.
+    pub(crate) fn place(&self) -> Place
+        ensures { result ≡ place_of self.now }
     {
-        deadline_of(&self.slot)
+        Place {
+            moment: deadline_of(&self.slot),
+            hash: self.hash,
+        }
     }
 
-    /// Restarts its ttl where it is the entry with this number, and answers its deadline where that has moved.
-    pub(crate) fn touch(&mut self, number: u64, now: u64) -> Option<u64>
+    /// Restarts its ttl where it is the entry with this number, and answers its place where that has moved.
+    pub(crate) fn touch(&mut self, number: u64, now: u64) -> Option<Place>
         ensures touched { self.new ≡ touch_slot number now self.old }
-        ensures moved { IfSome result (λ moment. moment ≡ deadline self.new) }
-        ensures stays { IfNone result (deadline self.new ≡ deadline self.old) }
+        ensures moved { IfSome result (λ place. place ≡ place_of self.new) }
+        ensures stays { IfNone result (place_of self.new ≡ place_of self.old) }
     {
-        let before = self.deadline();
+        let before = self.place();
         self.slot.touch(number, now);
-        let after = self.deadline();
+        let after = self.place();
         if before == after { None } else { Some(after) }
     }
 

@@ -1,7 +1,8 @@
-ghost use Rattle.std.specs.Prelude.{◌≡◌, ℕ, ◌+◌, ◌<◌, ◌≤◌, ◌==◌, ◌||◌, true, false, [], OnOk};
+ghost use Rattle.std.specs.Prelude.{◌≡◌, ◌+◌, ◌<◌, ◌≤◌, ◌==◌, ◌||◌, true, false, [], OnOk, IfSome, IfNone, IsSome};
 ghost use Rattle.std.specs.BinaryHeap.{IsHeap, heap_items, heap_len, heap_capacity};
 ghost use Rattle.std.specs.List.{AllByRecursion};
-ghost use Rattle.cache_book.specs.Deadlines.{deadline, soonest_is_greatest, is_among, FrontIsPast};
+ghost use Rattle.cache_book.specs.declared.deadlines.Place.{Place as OnePlace};
+ghost use Rattle.cache_book.specs.Deadlines.{deadline, soonest_is_greatest, is_place, is_among, FrontIsPast};
 
 use crate::Slot;
 use cache_policy::NoMemory;
@@ -22,12 +23,21 @@ pub(crate) fn deadline_of(slot: &Slot) -> u64
     }
 }
 
-/// Deadlines of slots, the soonest in front.
+/// Where a slot stands among others in the order of their deadlines.
+#[derive(Clone, Copy, PartialEq, Eq, PartialOrd, Ord)]
+pub(crate) struct Place {
+    /// Its deadline, in seconds.
+    pub(crate) moment: u64,
+    /// That of its entry's id, by which it is found.
+    pub(crate) hash: u64,
+}
+
+/// Places of slots, that of the soonest deadline in front.
 ///
-/// One at which no slot ends any more, since it was used or is gone, stays until it passes or the deadlines are collected anew.
+/// One that a slot has left, since it was used or is gone, stays until it passes or the places are collected anew.
 #[derive(Drop)]
 pub(crate) struct Deadlines {
-    moments: BinaryHeap<Reverse<u64>>,
+    places: BinaryHeap<Reverse<Place>>,
 }
 
 impl Model for Deadlines {
@@ -36,18 +46,18 @@ impl Model for Deadlines {
 
     ghost Value = { AtDeadlines };
 
-    ghost view = { λ deadlines. record { moments = heap_items deadlines.moments; len = heap_len deadlines.moments; capacity = heap_capacity deadlines.moments } };
+    ghost view = { λ deadlines. record { places = heap_items deadlines.places; len = heap_len deadlines.places; capacity = heap_capacity deadlines.places } };
 
-    ghost invariant = { λ deadlines. IsHeap soonest_is_greatest (heap_items deadlines.moments) };
+    ghost invariant = { λ deadlines. IsHeap soonest_is_greatest (heap_items deadlines.places) };
 }
 
 impl Deadlines {
     /// None, without taking memory.
     pub(crate) fn new(alloc: Global) -> Deadlines
-        ensures { result.moments ≡ [] }
+        ensures { result.places ≡ [] }
     {
         Deadlines {
-            moments: BinaryHeap::new(alloc),
+            places: BinaryHeap::new(alloc),
         }
     }
 
@@ -55,91 +65,91 @@ impl Deadlines {
     pub(crate) fn capacity(&self) -> usize
         ensures { result ≡ self.now.capacity }
     {
-        self.moments.capacity()
+        self.places.capacity()
     }
 
     /// Makes room for `n` more.
     pub(crate) fn reserve(&mut self, n: usize) -> Result<(), NoMemory>
         ensures room { OnOk result (self.new.len + n ≤ self.new.capacity) }
-        ensures moments { self.new.moments ≡ self.old.moments }
+        ensures places { self.new.places ≡ self.old.places }
         ensures capacity { self.old.capacity ≤ self.new.capacity }
     {
-        self.moments.reserve(n)
+        self.places.reserve(n)
     }
 
     pub(crate) fn is_full(&self) -> bool
         ensures { result ≡ false → self.now.len < self.now.capacity }
     {
-        self.moments.capacity() <= self.moments.len()
+        self.places.capacity() <= self.places.len()
     }
 
     /// Adds one, for which there is room.
-    pub(crate) fn add(&mut self, moment: u64)
+    pub(crate) fn add(&mut self, place: Place)
         requires { self.old.len < self.old.capacity }
-        ensures moments { (other : ℕ) → is_among other self.new.moments ≡ ((moment == other) || is_among other self.old.moments) }
+        ensures places { (other : OnePlace) → is_among other self.new.places ≡ (is_place place other || is_among other self.old.places) }
         ensures len { self.new.len ≡ self.old.len + 1 }
         ensures capacity { self.old.capacity ≤ self.new.capacity }
     {
-        if self.moments.push(Reverse(moment)).is_err() {
+        if self.places.push(Reverse(place)).is_err() {
             unreachable!()
         }
     }
 
     pub(crate) fn clear(&mut self)
-        ensures moments { self.new.moments ≡ [] }
+        ensures places { self.new.places ≡ [] }
         ensures len { self.new.len ≡ 0 }
         ensures capacity { self.new.capacity ≡ self.old.capacity }
     {
-        self.moments.clear();
+        self.places.clear();
     }
 
-    /// Drops those before `now`, and answers whether there was one.
-    pub(crate) fn drop_past(&mut self, now: u64) -> bool
-        ensures kept { (moment : ℕ) → now ≤ moment → is_among moment self.new.moments ≡ is_among moment self.old.moments }
-        ensures gone { (moment : ℕ) → moment < now → is_among moment self.new.moments ≡ false }
-        ensures none { result ≡ false → self.new.moments ≡ self.old.moments }
+    /// Drops the place in front if that is before `now`, and answers its hash.
+    pub(crate) fn pop_past(&mut self, now: u64) -> Option<u64>
+        ensures later { (place : OnePlace) → now ≤ place.moment → is_among place self.new.places ≡ is_among place self.old.places }
+        ensures others { IfSome result (λ hash. (place : OnePlace) → (hash == place.hash) ≡ false → is_among place self.new.places ≡ is_among place self.old.places) }
+        ensures fewer { IsSome result → self.new.len + 1 ≡ self.old.len }
+        ensures none { IfNone result (AllByRecursion (λ place. now ≤ place.0.moment) self.old.places) }
+        ensures unchanged { IfNone result (self.new.places ≡ self.old.places) }
         ensures capacity { self.new.capacity ≡ self.old.capacity }
     {
-        drop_past_in(&mut self.moments, now)
+        pop_past_in(&mut self.places, now)
+    }
+
+    /// Drops those before `now`.
+    pub(crate) fn drop_past(&mut self, now: u64)
+        ensures later { (place : OnePlace) → now ≤ place.moment → is_among place self.new.places ≡ is_among place self.old.places }
+        ensures capacity { self.new.capacity ≡ self.old.capacity }
+    {
+        while self.pop_past(now).is_some() {}
     }
 }
 
-fn drop_past_in(moments: &mut BinaryHeap<Reverse<u64>>, now: u64) -> bool
-    requires { IsHeap soonest_is_greatest (heap_items moments.old) }
-    ensures order { IsHeap soonest_is_greatest (heap_items moments.new) }
-    ensures kept { (moment : ℕ) → now ≤ moment → is_among moment (heap_items moments.new) ≡ is_among moment (heap_items moments.old) }
-    ensures gone { AllByRecursion (λ moment. now ≤ moment.0) (heap_items moments.new) }
-    ensures none { result ≡ false → heap_items moments.new ≡ heap_items moments.old }
-    ensures capacity { heap_capacity moments.new ≡ heap_capacity moments.old }
+fn pop_past_in(places: &mut BinaryHeap<Reverse<Place>>, now: u64) -> Option<u64>
+    requires { IsHeap soonest_is_greatest (heap_items places.old) }
+    ensures order { IsHeap soonest_is_greatest (heap_items places.new) }
+    ensures later { (place : OnePlace) → now ≤ place.moment → is_among place (heap_items places.new) ≡ is_among place (heap_items places.old) }
+    ensures others { IfSome result (λ hash. (place : OnePlace) → (hash == place.hash) ≡ false → is_among place (heap_items places.new) ≡ is_among place (heap_items places.old)) }
+    ensures fewer { IsSome result → heap_len places.new + 1 ≡ heap_len places.old }
+    ensures none { IfNone result (AllByRecursion (λ place. now ≤ place.0.moment) (heap_items places.old)) }
+    ensures unchanged { IfNone result (heap_items places.new ≡ heap_items places.old) }
+    ensures capacity { heap_capacity places.new ≡ heap_capacity places.old }
 {
-    let mut some = false;
-    while front_is_past(moments, now) {
-        drop_front(moments, now);
-        some = true;
+    if !front_is_past(places, now) {
+        return None;
     }
-    some
-}
-
-fn drop_front(moments: &mut BinaryHeap<Reverse<u64>>, now: u64)
-    requires order { IsHeap soonest_is_greatest (heap_items moments.old) }
-    requires past { FrontIsPast now (heap_items moments.old) (heap_len moments.old) }
-    ensures order { IsHeap soonest_is_greatest (heap_items moments.new) }
-    ensures kept { (moment : ℕ) → now ≤ moment → is_among moment (heap_items moments.new) ≡ is_among moment (heap_items moments.old) }
-    ensures len { heap_len moments.new + 1 ≡ heap_len moments.old }
-    ensures capacity { heap_capacity moments.new ≡ heap_capacity moments.old }
-{
-    if moments.pop().is_none() {
+    let Some(front) = places.pop() else {
         unreachable!()
-    }
+    };
+    Some(front.0.hash)
 }
 
-fn front_is_past(moments: &BinaryHeap<Reverse<u64>>, now: u64) -> bool
-    requires { IsHeap soonest_is_greatest (heap_items moments.now) }
-    ensures past { result ≡ true → FrontIsPast now (heap_items moments.now) (heap_len moments.now) }
-    ensures yet { result ≡ false → AllByRecursion (λ moment. now ≤ moment.0) (heap_items moments.now) }
+fn front_is_past(places: &BinaryHeap<Reverse<Place>>, now: u64) -> bool
+    requires { IsHeap soonest_is_greatest (heap_items places.now) }
+    ensures past { result ≡ true → FrontIsPast now (heap_items places.now) (heap_len places.now) }
+    ensures yet { result ≡ false → AllByRecursion (λ place. now ≤ place.0.moment) (heap_items places.now) }
 {
-    match moments.peek() {
-        Some(front) => front.0 < now,
+    match places.peek() {
+        Some(front) => front.0.moment < now,
         None => false,
     }
 }

@@ -3,7 +3,7 @@ ghost use Rattle.std.specs.Prelude.{◌≡◌, ℕ, ◌+◌, ◌<◌, ◌≤◌,
 ghost use Rattle.std.specs.List.{HoldsAt, AllByRecursion};
 ghost use Rattle.std.specs.List.Sorted.{IsPartitionPoint};
 ghost use Rattle.cache_book.specs.Shelves.{serves_at, IsGrantFrom, ServesNone};
-ghost use Rattle.cache_book.specs.SlotOrders.{id_cmp, is_below, is_upto, has_lower_hash, AreById, AreKept};
+ghost use Rattle.cache_book.specs.SlotOrders.{id_cmp, is_below, is_upto, has_lower_hash, has_hash_upto, AreById, AreKept};
 ghost use Rattle.cache_book.specs.Hashes.{id_hash};
 ghost use Rattle.cache_book.specs.declared.slot.Slot.{Slot as OneSlot};
 
@@ -34,7 +34,7 @@ fn is_below(slot: &BoxedSlot, id: &CacheId, hash: u64) -> bool
 /// A place that only slots with lower hashes stand before: behind all of those. No box is read.
 ///
 /// It looks at three hashes together, so that over many the memory of one comes while that of another does.
-fn behind_lower_hashes(slots: &[BoxedSlot], hash: u64) -> usize
+pub(crate) fn behind_lower_hashes(slots: &[BoxedSlot], hash: u64) -> usize
     requires { AreById slots.now }
     ensures within { result ≤ length slots.now }
     ensures before { (k : ℕ) (default : OneSlot) → k < result → has_lower_hash hash (get_or slots.now k default) ≡ true }
@@ -60,6 +60,15 @@ fn behind_lower_hashes(slots: &[BoxedSlot], hash: u64) -> usize
         }
     }
     low
+}
+
+/// The place after the last slot whose hash is no higher than this one.
+pub(crate) fn before_higher_hashes(slots: &[BoxedSlot], hash: u64) -> usize
+    requires { AreById slots.now }
+    ensures within { result ≤ length slots.now }
+    ensures parts { IsPartitionPoint (λ slot. has_hash_upto hash slot ≡ true) (λ slot. has_hash_upto hash slot ≡ false) slots.now result }
+{
+    slots.partition_point(|slot| slot.hash() <= hash)
 }
 
 /// The place of the first slot whose id isn't below this one.

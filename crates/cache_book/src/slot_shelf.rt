@@ -1,17 +1,20 @@
 ghost use Rattle.std.specs.Prelude.{◌≡◌, ◌+◌, ◌<◌, ◌≤◌, ◌^◌, ◌==◌, ◌||◌, [], true, length, map, OnOk, vec_len, vec_capacity};
 ghost use Rattle.std.specs.List.{AllByRecursion, insert, remove};
 ghost use Rattle.cache_book.specs.Shelves.{touched, cleared, hidden, swept, with_entry, AreBelow};
-ghost use Rattle.cache_book.specs.SlotOrders.{by_number, wiped, wipe_past, HaveOwnNumbers, AreKept};
-ghost use Rattle.cache_book.specs.Deadlines.{deadline, is_among, HaveDeadlines};
+ghost use Rattle.cache_book.specs.SlotOrders.{by_number, wiped, wipe_past, swept_hash, HaveOwnNumbers, AreKept};
+ghost use Rattle.cache_book.specs.Deadlines.{place_of, is_place, is_among, HavePlaces};
 
 use crate::Shelf;
 use crate::boxed_slot::BoxedSlot;
-use crate::deadlines::Deadlines;
-use crate::search::{end_of, grant_from, start_of, with_number};
+use crate::deadlines::{Deadlines, Place};
+use crate::search::{before_higher_hashes, behind_lower_hashes, end_of, grant_from, start_of, with_number};
 use cache_policy::{CacheId, Entry, Grant, Mode, NoMemory};
 use std::alloc::Global;
 use std::cell::Cell;
 use std::marker::Model;
+
+/// How many places a sweep looks at one by one.
+const FEW: usize = 32;
 
 /// A shelf whose slots stand in the order of their ids, and are found by binary search. Beside them stand their deadlines, the soonest
 /// in front.
@@ -31,13 +34,13 @@ impl Model for SlotShelf {
     ghost use Rattle.std.specs.Prelude.{◌≤◌, ◌-◌, min, vec_len, vec_capacity};
     ghost use Rattle.cache_book.specs.Shelves.{AtShelf};
     ghost use Rattle.cache_book.specs.SlotOrders.{by_number, AreKept};
-    ghost use Rattle.cache_book.specs.Deadlines.{HaveDeadlines};
+    ghost use Rattle.cache_book.specs.Deadlines.{HavePlaces};
 
     ghost Value = { AtShelf };
 
     ghost view = { λ shelf. record { slots = by_number shelf.slots.items; spare = min (vec_len shelf.blanks) (min (vec_capacity shelf.slots - vec_len shelf.slots) (shelf.deadlines.capacity - vec_len shelf.slots)) } };
 
-    ghost invariant = { λ shelf. record { kept : AreKept shelf.slots.items; deadlines : HaveDeadlines shelf.deadlines.moments shelf.slots.items; room : vec_len shelf.slots ≤ shelf.deadlines.capacity } };
+    ghost invariant = { λ shelf. record { kept : AreKept shelf.slots.items; places : HavePlaces shelf.deadlines.places shelf.slots.items; room : vec_len shelf.slots ≤ shelf.deadlines.capacity } };
 }
 
 impl SlotShelf {
@@ -120,9 +123,9 @@ fn reserve_deadlines(
 ) -> Result<(), NoMemory>
     requires sum { length slots.now + n < 2 ^ 64 }
     requires room { length slots.now ≤ deadlines.old.capacity }
-    requires held { HaveDeadlines deadlines.old.moments slots.now }
+    requires held { HavePlaces deadlines.old.places slots.now }
     ensures room { OnOk result (length slots.now + n ≤ deadlines.new.capacity) }
-    ensures held { HaveDeadlines deadlines.new.moments slots.now }
+    ensures held { HavePlaces deadlines.new.places slots.now }
     ensures capacity { deadlines.old.capacity ≤ deadlines.new.capacity }
 {
     let wanted = slots.len() + n;
@@ -136,27 +139,27 @@ fn reserve_deadlines(
 /// Collects the deadlines of the slots, without those that are past use.
 fn collect_anew(deadlines: &mut Deadlines, slots: &[BoxedSlot])
     requires { length slots.now ≤ deadlines.old.capacity }
-    ensures held { HaveDeadlines deadlines.new.moments slots.now }
+    ensures held { HavePlaces deadlines.new.places slots.now }
     ensures capacity { deadlines.old.capacity ≤ deadlines.new.capacity }
 {
     deadlines.clear();
     for slot in slots {
-        deadlines.add(slot.deadline());
+        deadlines.add(slot.place());
     }
 }
 
-/// Adds the deadline of a slot among these.
-fn add_deadline(deadlines: &mut Deadlines, slots: &[BoxedSlot], moment: u64)
+/// Adds the place of a slot among these.
+fn add_place(deadlines: &mut Deadlines, slots: &[BoxedSlot], place: Place)
     requires room { length slots.now ≤ deadlines.old.capacity }
-    requires held { AllByRecursion (λ slot. ((moment == deadline slot) || is_among (deadline slot) deadlines.old.moments) ≡ true) slots.now }
-    ensures held { HaveDeadlines deadlines.new.moments slots.now }
+    requires held { AllByRecursion (λ slot. (is_place place (place_of slot) || is_among (place_of slot) deadlines.old.places) ≡ true) slots.now }
+    ensures held { HavePlaces deadlines.new.places slots.now }
     ensures capacity { deadlines.old.capacity ≤ deadlines.new.capacity }
 {
     if deadlines.is_full() {
         collect_anew(deadlines, slots);
         return;
     }
-    deadlines.add(moment);
+    deadlines.add(place);
 }
 
 /// Restarts the ttl of the entry with this number, whose slot may be at `guess`.
@@ -168,17 +171,17 @@ fn touch_in(
     now: u64,
 )
     requires own { HaveOwnNumbers slots.old.items }
-    requires held { HaveDeadlines deadlines.old.moments slots.old.items }
+    requires held { HavePlaces deadlines.old.places slots.old.items }
     requires room { vec_len slots.old ≤ deadlines.old.capacity }
     ensures items { slots.new.items ≡ touched number now slots.old.items }
-    ensures held { HaveDeadlines deadlines.new.moments slots.new.items }
+    ensures held { HavePlaces deadlines.new.places slots.new.items }
     ensures len { vec_len slots.new ≡ vec_len slots.old }
     ensures capacity { vec_capacity slots.new ≡ vec_capacity slots.old }
     ensures room { deadlines.old.capacity ≤ deadlines.new.capacity }
 {
     if let Some(i) = with_number(slots.as_slice(), guess, number) {
-        if let Some(moment) = slots[i].touch(number, now) {
-            add_deadline(deadlines, slots.as_slice(), moment);
+        if let Some(place) = slots[i].touch(number, now) {
+            add_place(deadlines, slots.as_slice(), place);
         }
     }
 }
@@ -187,12 +190,12 @@ fn touch_in(
 fn store_in(slots: &mut Vec<BoxedSlot>, deadlines: &mut Deadlines, blank: BoxedSlot, entry: Entry)
     requires kept { AreKept slots.old.items }
     requires newest { AreBelow entry.number slots.old.items }
-    requires held { HaveDeadlines deadlines.old.moments slots.old.items }
+    requires held { HavePlaces deadlines.old.places slots.old.items }
     requires spare { vec_len slots.old < vec_capacity slots.old }
     requires room { vec_len slots.old < deadlines.old.capacity }
     ensures kept { AreKept slots.new.items }
     ensures items { by_number slots.new.items ≡ with_entry entry (by_number slots.old.items) }
-    ensures held { HaveDeadlines deadlines.new.moments slots.new.items }
+    ensures held { HavePlaces deadlines.new.places slots.new.items }
     ensures len { vec_len slots.new ≤ vec_len slots.old + 1 }
     ensures capacity { vec_capacity slots.new ≡ vec_capacity slots.old }
     ensures room { deadlines.old.capacity ≤ deadlines.new.capacity }
@@ -200,9 +203,9 @@ fn store_in(slots: &mut Vec<BoxedSlot>, deadlines: &mut Deadlines, blank: BoxedS
     hide_in(slots, &entry);
     let end = end_of(slots.as_slice(), &entry.id);
     let slot = blank.filled(entry);
-    let deadline = slot.deadline();
+    let place = slot.place();
     insert_at(slots, end, slot);
-    add_deadline(deadlines, slots.as_slice(), deadline);
+    add_place(deadlines, slots.as_slice(), place);
 }
 
 /// Inserts a slot, for which there is room.
@@ -264,18 +267,48 @@ fn drop_slot(slots: &mut Vec<BoxedSlot>, i: usize)
     let _ = slots.remove(i);
 }
 
-/// Drops the slots that are past a lifetime at `now`, if the deadline in front is.
+/// Drops the slots that are past a lifetime at `now`: those whose places are in front, and where these are many, in one walk over all.
 fn sweep_in(slots: &mut Vec<BoxedSlot>, deadlines: &mut Deadlines, now: u64)
-    requires { HaveDeadlines deadlines.old.moments slots.old.items }
+    requires kept { AreKept slots.old.items }
+    requires held { HavePlaces deadlines.old.places slots.old.items }
     ensures items { slots.new.items ≡ swept now slots.old.items }
-    ensures held { HaveDeadlines deadlines.new.moments slots.new.items }
+    ensures held { HavePlaces deadlines.new.places slots.new.items }
     ensures len { vec_len slots.new ≤ vec_len slots.old }
     ensures capacity { vec_capacity slots.new ≡ vec_capacity slots.old }
     ensures room { deadlines.new.capacity ≡ deadlines.old.capacity }
 {
-    if !deadlines.drop_past(now) {
-        return;
+    for _ in 0..FEW {
+        let Some(hash) = deadlines.pop_past(now) else {
+            return;
+        };
+        sweep_hash(slots, hash, now);
     }
+    deadlines.drop_past(now);
+    sweep_all(slots, now);
+}
+
+/// Drops those of the slots with this hash that are past a lifetime at `now`.
+fn sweep_hash(slots: &mut Vec<BoxedSlot>, hash: u64, now: u64)
+    requires { AreKept slots.old.items }
+    ensures items { slots.new.items ≡ swept_hash hash now slots.old.items }
+    ensures len { vec_len slots.new ≤ vec_len slots.old }
+    ensures capacity { vec_capacity slots.new ≡ vec_capacity slots.old }
+{
+    let start = behind_lower_hashes(slots.as_slice(), hash);
+    let mut i = before_higher_hashes(slots.as_slice(), hash);
+    while start < i {
+        i -= 1;
+        if slots[i].is_past(hash, now) {
+            drop_slot(slots, i);
+        }
+    }
+}
+
+fn sweep_all(slots: &mut Vec<BoxedSlot>, now: u64)
+    ensures items { slots.new.items ≡ swept now slots.old.items }
+    ensures len { vec_len slots.new ≤ vec_len slots.old }
+    ensures capacity { vec_capacity slots.new ≡ vec_capacity slots.old }
+{
     wipe_past_in(slots, now);
     slots.retain(|slot| slot.get().entry.within(slot.get().last, now));
 }

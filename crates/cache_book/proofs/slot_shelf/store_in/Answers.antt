@@ -5,7 +5,7 @@ use Rattle.cache_policy.specs.declared.entry.Entry.{Entry}
 use Rattle.cache_book.specs.declared.slot.Slot.{Slot}
 use Rattle.cache_book.specs.Shelves.{hidden, new_slot}
 use Rattle.cache_book.specs.SlotOrders.{is_upto, by_number, AreById, AreKept}
-use Rattle.cache_book.specs.Deadlines.{deadline, is_among}
+use Rattle.cache_book.specs.Deadlines.{place_of, is_place, is_among}
 use Rattle.cache_book.proofs.Arranging.{all_insert, all_take_within, all_drop_within}
 use Rattle.cache_book.proofs.Ordered.{kept-hidden, kept-stored, by_number-stored, by_number-hidden, below-hidden}
 use Rattle.cache_book.proofs.Holding.{held_or, held_new, held_hidden}
@@ -21,19 +21,19 @@ stored : (entry : Entry) (list left after : List Slot) (end : ℕ) (slot : Slot)
 stored entry list left after end slot inserted hides fills =
     inserted ∙ (ap (λ (l : List Slot). insert l end slot) hides ∙ ap (insert (hidden entry list) end) fills)
 
-pub add_deadline-requires-clause-held : goal.add_deadline-requires-clause-held
-add_deadline-requires-clause-held c =
-    subst (AllByRecursion (λ slot. ((c.deadline-deadline.result == deadline slot) || is_among (deadline slot) c.args.deadlines.now.moments) ≡ true))
+pub add_place-requires-clause-held : goal.add_place-requires-clause-held
+add_place-requires-clause-held c =
+    subst (AllByRecursion (λ slot. (is_place c.place-place.result (place_of slot) || is_among (place_of slot) c.args.deadlines.now.places) ≡ true))
     (sym (c.as_slice-2.ensures.value ∙ stored c.args.entry c.args.slots.now.items _ _ c.end_of-end.result _ c.insert_at.ensures.items c.hide_in.ensures.items c.filled-slot.ensures))
     (all_insert _ c.end_of-end.result (new_slot c.args.entry) (hidden c.args.entry c.args.slots.now.items)
-    (held_new c.args.deadlines.now.moments c.deadline-deadline.result (new_slot c.args.entry) (c.deadline-deadline.ensures ∙ ap deadline c.filled-slot.ensures))
-    (held_or c.args.deadlines.now.moments c.deadline-deadline.result (hidden c.args.entry c.args.slots.now.items)
-    (held_hidden c.args.deadlines.now.moments c.args.entry c.args.slots.now.items c.requires.held)))
+    (held_new c.args.deadlines.now.places c.place-place.result (new_slot c.args.entry) (c.place-place.ensures ∙ ap place_of c.filled-slot.ensures))
+    (held_or c.args.deadlines.now.places c.place-place.result (hidden c.args.entry c.args.slots.now.items)
+    (held_hidden c.args.deadlines.now.places c.args.entry c.args.slots.now.items c.requires.held)))
 
-slots_are : (c : goal.After-add_deadline) → c.as_slice.result.now ≡ hidden c.args.entry c.args.slots.now.items
+slots_are : (c : goal.After-add_place) → c.as_slice.result.now ≡ hidden c.args.entry c.args.slots.now.items
 slots_are c = c.as_slice.ensures.value ∙ c.hide_in.ensures.items
 
-inserted : (c : goal.After-add_deadline) → c.insert_at.new.slots.items ≡ insert (hidden c.args.entry c.args.slots.now.items) c.end_of-end.result (new_slot c.args.entry)
+inserted : (c : goal.After-add_place) → c.insert_at.new.slots.items ≡ insert (hidden c.args.entry c.args.slots.now.items) c.end_of-end.result (new_slot c.args.entry)
 inserted c = stored c.args.entry c.args.slots.now.items _ _ c.end_of-end.result _ c.insert_at.ensures.items c.hide_in.ensures.items c.filled-slot.ensures
 
 pub returns-clause-kept : goal.returns-clause-kept

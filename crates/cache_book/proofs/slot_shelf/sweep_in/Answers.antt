@@ -1,30 +1,32 @@
-use Rattle.std.specs.Prelude.{◌≡◌, ◌<◌, ◌^◌}
+use Rattle.std.specs.Prelude.{◌<◌, ◌^◌}
 use Rattle.std.proofs.Common.{ap, sym, ◌∙◌, subst, rules}
-use Rattle.std.proofs.lemmas.Fn.{filter_same}
-use Rattle.cache_policy.specs.Entry.{within}
-use Rattle.cache_book.specs.declared.slot.Slot.{Slot}
 use Rattle.cache_book.specs.Shelves.{swept}
-use Rattle.cache_book.specs.Deadlines.{HaveDeadlines, is_among}
-use Rattle.cache_book.proofs.Searching.{swept-wiped}
-use Rattle.cache_book.proofs.Holding.{swept-none, held_swept}
+use Rattle.cache_book.specs.SlotOrders.{AreKept}
+use Rattle.cache_book.specs.Deadlines.{HavePlaces}
+use Rattle.cache_book.proofs.Ordered.{kept-filter}
+use Rattle.cache_book.proofs.Holding.{swept-none, swept-hash, held_swept, held_swept_hash}
 use Rattle.cache_book.proofs.slot_shelf.sweep_in.Goals as goal
 
-pub returns-then-not-drop_past-clause-items : goal.returns-then-not-drop_past-clause-items
-returns-then-not-drop_past-clause-items c =
+pub returns-in_default-clause-items : goal.returns-in_default-clause-items
+returns-in_default-clause-items c =
     let u64 : c.args.now < 2 ^ 64 = search rules in
-    sym (swept-none c.args.deadlines.now.moments c.args.now u64
-    (λ moment past. ap (is_among moment) (sym (c.drop_past.ensures.none c.if-not-drop_past.true)) ∙ c.drop_past.ensures.gone moment past) c.args.slots.now.items c.requires)
+    sym (swept-none c.loop.deadlines.places c.args.now u64 c.in_default.ensures.none c.loop.slots.items c.loop.invariant.held) ∙ c.loop.invariant.swept_is
 
-kept : (c : goal.After-retain) → c.retain.new.self.items ≡ swept c.args.now c.args.slots.now.items
-kept c =
-    filter_same _ (λ (slot : Slot). within slot.entry slot.last c.args.now) _ (λ x b f' k. search rules) _ _ c.retain.ensures.filtered
-    ∙ (ap (swept c.args.now) c.wipe_past_in.ensures.items ∙ swept-wiped c.args.now c.args.slots.now.items)
-
-pub returns-clause-items : goal.returns-clause-items
-returns-clause-items c = kept c
+pub loop-preserved : goal.loop-preserved
+loop-preserved c =
+    let u64 : c.args.now < 2 ^ 64 = search rules in
+    record {
+      kept = subst AreKept (sym c.sweep_hash.ensures.items) (kept-filter _ c.loop.slots.items c.loop.invariant.kept);
+      held = subst (HavePlaces c.pop_past.new.self.places) (sym c.sweep_hash.ensures.items)
+          (held_swept_hash c.loop.deadlines.places c.pop_past.new.self.places c.args.now u64 c.in-Some.ensures.later c.in-Some.hash c.in-Some.ensures.others c.loop.slots.items c.loop.invariant.held);
+      swept_is = ap (swept c.args.now) c.sweep_hash.ensures.items ∙ (swept-hash c.in-Some.hash c.args.now c.loop.slots.items ∙ c.loop.invariant.swept_is);
+      len = search rules;
+      capacity = search rules;
+      room = search rules;
+    }
 
 pub returns-clause-held : goal.returns-clause-held
 returns-clause-held c =
     let u64 : c.args.now < 2 ^ 64 = search rules in
-    subst (HaveDeadlines c.drop_past.new.self.moments) (sym (kept c))
-    (held_swept c.args.deadlines.now.moments c.drop_past.new.self.moments c.args.now u64 c.drop_past.ensures.kept c.args.slots.now.items c.requires)
+    subst (HavePlaces c.drop_past.new.self.places) (sym c.sweep_all.ensures.items)
+    (held_swept c.loop.deadlines.places c.drop_past.new.self.places c.args.now u64 c.drop_past.ensures.later c.loop.slots.items c.loop.invariant.held)

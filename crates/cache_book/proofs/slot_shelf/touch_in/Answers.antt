@@ -1,6 +1,8 @@
-use Rattle.std.specs.Prelude.{◌≡◌, ◌==◌, false}
+use Rattle.std.specs.Prelude.{◌≡◌, ◌==◌, ◌||◌, true, false}
 use Rattle.std.proofs.Common.{sym, subst}
 use Rattle.std.specs.List.{AllByRecursion}
+use Rattle.cache_book.specs.Deadlines.{place_of, is_place, is_among}
+use Rattle.cache_book.proofs.Holding.{held_set}
 use Rattle.cache_book.proofs.Searching.{touched-none, touched_at}
 use Rattle.cache_book.proofs.slot_shelf.touch_in.Goals as goal
 
@@ -18,3 +20,8 @@ pub returns-in_default-touch-clause-items : goal.returns-in_default-touch-clause
 returns-in_default-touch-clause-items c =
     touched_at c.args.number c.args.now c.in-Some.i c.args.slots.now.items c.as_slice.result.now c.index_mut.result.now c.touch.new.self c.requires.own c.as_slice.ensures.value
     c.in-Some.ensures.found.0 c.in-Some.ensures.found.1 c.index_mut.ensures.value c.touch.ensures.touched
+
+pub add_place-requires-clause-held : goal.add_place-requires-clause-held
+add_place-requires-clause-held c =
+    subst (AllByRecursion (λ slot. (is_place c.in-Some-touch.place (place_of slot) || is_among (place_of slot) c.args.deadlines.now.places) ≡ true)) (sym c.as_slice-in-Some-touch.ensures.value)
+    (held_set c.args.deadlines.now.places c.in-Some-touch.place c.in-Some.i c.args.slots.now.items c.touch.new.self c.in-Some-touch.ensures.moved c.requires.held)

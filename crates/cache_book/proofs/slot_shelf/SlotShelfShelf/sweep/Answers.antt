@@ -7,7 +7,7 @@ use Rattle.cache_book.proofs.slot_shelf.SlotShelfShelf.sweep.Goals as goal
 pub invariant_of-self : goal.invariant_of-self
 invariant_of-self c = record {
   kept = subst AreKept (sym c.sweep_in.ensures.items) (kept-filter _ c.self.inside.slots.items c.self.invariant.kept);
-  deadlines = c.sweep_in.ensures.held;
+  places = c.sweep_in.ensures.held;
   room = search rules;
 }
 

@@ -7,7 +7,7 @@ use Rattle.cache_book.proofs.slot_shelf.SlotShelfShelf.touch.Goals as goal
 pub invariant_of-self : goal.invariant_of-self
 invariant_of-self c = record {
   kept = subst AreKept (sym c.touch_in.ensures.items) (kept-touched c.args.number c.args.now c.self.inside.slots.items c.self.invariant.kept);
-  deadlines = c.touch_in.ensures.held;
+  places = c.touch_in.ensures.held;
   room = search rules;
 }
 
