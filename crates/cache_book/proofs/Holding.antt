@@ -54,8 +54,8 @@ all_later now front (one ∷ later) bound le = (behind one.0.moment front.0.mome
   where
     behind : (m n : ℕ) (o : Ordering) → is_lt (ordering_then (nat_cmp m n) o) ≡ false → now ≤ n → now ≤ m
     behind m n o h k = by_ranked (m < n) (m ≡ n) (n < m) (nat_cmp m n) (ranked m n (nat_cmp m n) refl)
-      (λ e lt. let less : is_lt (ordering_then (nat_cmp m n) o) ≡ true = ap (λ (p : Ordering). is_lt (ordering_then p o)) e in cc)
-      (λ e same. omega arith) (λ e gt. omega arith)
+        (λ e lt. let less : is_lt (ordering_then (nat_cmp m n) o) ≡ true = ap (λ (p : Ordering). is_lt (ordering_then p o)) e in cc)
+        (λ e same. omega arith) (λ e gt. omega arith)
 
 -- one of places that are all later is later
 among_all : (now : ℕ) (place : Place) (places : List (Reverse Place)) → AllByRecursion (λ one. now ≤ one.0.moment) places → is_among place places ≡ true → now ≤ place.moment

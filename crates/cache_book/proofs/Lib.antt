@@ -7,7 +7,6 @@ pub mod Marking
 pub mod Storing
 pub mod Live
 pub mod Arranging
-pub mod Hashes
 pub mod Ordered
 pub mod Stretch
 pub mod Searching

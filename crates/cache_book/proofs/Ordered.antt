@@ -3,7 +3,8 @@ use Rattle.std.specs.Prelude.{◌≡◌, ℕ, ◌<◌, ◌≤◌, ◌==◌, List
 use Rattle.std.proofs.Common.{ap, sym, ◌∙◌, subst, arith, zero, suc, inl, inr}
 use Rattle.std.proofs.lemmas.Bool.Decides.{nat_tests}
 use Rattle.std.specs.Cmp.Lexicographic.{slice_cmp}
-use Rattle.std.proofs.lemmas.Cmp.{ranked, by_ranked, tied_itself, alike_right}
+use Rattle.std.specs.Cmp.{IsTotalOrder}
+use Rattle.std.proofs.lemmas.Cmp.{ranked, by_ranked, nat_cmp_total, nat_list_cmp_total, on_total, then_total, alike_right}
 use Rattle.std.specs.declared.cmp.Ordering.{Ordering}
 use Rattle.std.specs.declared.cmp.Ordering.TheVariants.{Less, Equal, Greater}
 use Rattle.std.specs.Ordering.{nat_cmp, ordering_then, ordering_reverse, is_lt, is_le}
@@ -18,13 +19,15 @@ use Rattle.cache_book.specs.Hashes.{id_hash}
 use Rattle.cache_book.specs.Modes.{modes_where, has_some, not_covered}
 use Rattle.cache_book.specs.Shelves.{IsOneOf, here, further, touch_slot, touched, hide, hidden, new_slot, AreBelow}
 use Rattle.cache_book.specs.Arranged.{placed}
-use Rattle.cache_book.specs.SlotOrders.{id_cmp, is_below, is_upto, has_lower_hash, has_hash_upto, comes_before, is_older, by_number, AreById, HaveOwnNumbers, AreKept}
-use Rattle.cache_book.proofs.Hashes.{id_cmp_total}
+use Rattle.cache_book.specs.SlotOrders.{id_cmp, is_upto, has_lower_hash, has_hash_upto, comes_before, is_older, by_number, AreById, HaveOwnNumbers, AreKept}
 use Rattle.cache_book.proofs.Kept.{all_filter, all_map, within-touched, within-hide, within-new_slot, within-filter}
 use Rattle.cache_book.proofs.Live.{same_ids}
 use Rattle.cache_book.proofs.Arranging.{IsOrder, all_insert, pairs_filter, pairs_map, pairs_insert, arranged-map, arranged-filter, arranged-last}
 
 -- the order of ids
+id_cmp_total : IsTotalOrder id_cmp
+id_cmp_total = then_total (on_total id_hash nat_cmp_total) nat_list_cmp_total
+
 less_or_equal : (o p : Ordering) → is_lt (ordering_then o p) ≡ true → (o ≡ Less) ⊎ (o ≡ Equal)
 less_or_equal Less p h = inl refl
 less_or_equal Equal p h = inr refl
@@ -48,20 +51,13 @@ is_greater Greater h = refl
 -- the hashes of slots in order rise
 rise_of : (m n : ℕ) (o p : Ordering) → is_lt (ordering_then (ordering_then (nat_cmp m n) o) p) ≡ true → m ≤ n
 rise_of m n o p h = by_ranked (m < n) (m ≡ n) (n < m) (nat_cmp m n) (ranked m n (nat_cmp m n) refl)
-  (λ e lt. omega arith) (λ e same. omega arith)
-  (λ e gt. let not : is_lt (ordering_then (ordering_then (nat_cmp m n) o) p) ≡ false = ap (λ (q : Ordering). is_lt (ordering_then (ordering_then q o) p)) e in cc)
+    (λ e lt. omega arith) (λ e same. omega arith)
+    (λ e gt. let not : is_lt (ordering_then (ordering_then (nat_cmp m n) o) p) ≡ false = ap (λ (q : Ordering). is_lt (ordering_then (ordering_then q o) p)) e in cc)
 
 hashes_rise : (a b : Slot) → comes_before a b ≡ true → id_hash a.entry.id ≤ id_hash b.entry.id
 hashes_rise a b h = rise_of (id_hash a.entry.id) (id_hash b.entry.id) (slice_cmp nat_cmp a.entry.id b.entry.id) (nat_cmp a.entry.number b.entry.number) h
 
--- what comes before a slot whose id is below, or no higher, is so too
-pub below_back : (id : List ℕ) (a b : Slot) → comes_before a b ≡ true → is_below id b ≡ true → is_below id a ≡ true
-below_back id a b h below =
-    elim (less_or_equal (id_cmp a.entry.id b.entry.id) (nat_cmp a.entry.number b.entry.number) h) [
-      | inl less ↦ ap is_lt (id_cmp_total.trans a.entry.id b.entry.id id less (is_less (id_cmp b.entry.id id) below))
-      | inr equal ↦ ap is_lt (id_cmp_total.congr a.entry.id b.entry.id id equal) ∙ below
-    ]
-
+-- what comes before a slot whose id is no higher, or whose hash is lower or no higher, is so too
 pub upto_back : (id : List ℕ) (a b : Slot) → comes_before a b ≡ true → is_upto id b ≡ true → is_upto id a ≡ true
 upto_back id a b h upto =
     elim (less_or_equal (id_cmp a.entry.id b.entry.id) (nat_cmp a.entry.number b.entry.number) h) [
@@ -78,23 +74,16 @@ lower_back hash a b h lower = let rise = hashes_rise a b h in grind (arith, nat_
 pub hash_upto_back : (hash : ℕ) (a b : Slot) → comes_before a b ≡ true → has_hash_upto hash b ≡ true → has_hash_upto hash a ≡ true
 hash_upto_back hash a b h upto = let rise = hashes_rise a b h in grind (arith, nat_tests)
 
--- a slot outside of the stretch of an id has another id
-tied : (id other : List ℕ) → same_id id other ≡ true → id_cmp id other ≡ Equal
-tied id other h = ap (id_cmp id) (sym (same_ids id other h)) ∙ tied_itself id_cmp_total id
-
-pub below_apart : (id : List ℕ) (slot : Slot) → is_below id slot ≡ true → same_id slot.entry.id id ≡ false
-below_apart id slot below =
+-- a slot with another hash has another id
+pub hash_apart : (id : List ℕ) (hash : ℕ) (slot : Slot) → hash ≡ id_hash id → (hash == id_hash slot.entry.id) ≡ false → same_id slot.entry.id id ≡ false
+hash_apart id hash slot is apart =
     elim (same_id slot.entry.id id) as (λ b. same_id slot.entry.id id ≡ b → b ≡ false) [
-      | true ↦ λ e. let tie : is_lt (id_cmp slot.entry.id id) ≡ false = ap is_lt (tied slot.entry.id id e) in cc
+      | true ↦ λ e. let tie : (hash == id_hash slot.entry.id) ≡ true = tied hash (id_hash slot.entry.id) (is ∙ ap id_hash (sym (same_ids slot.entry.id id e))) in cc
       | false ↦ λ e. refl
     ] refl
-
-pub past_apart : (id : List ℕ) (slot : Slot) → is_upto id slot ≡ false → same_id slot.entry.id id ≡ false
-past_apart id slot past =
-    elim (same_id slot.entry.id id) as (λ b. same_id slot.entry.id id ≡ b → b ≡ false) [
-      | true ↦ λ e. let tie : is_le (id_cmp slot.entry.id id) ≡ true = ap is_le (tied slot.entry.id id e) in cc
-      | false ↦ λ e. refl
-    ] refl
+  where
+    tied : (m n : ℕ) → m ≡ n → (m == n) ≡ true
+    tied m n e = grind (arith, nat_tests)
 
 -- where a newer slot of an id stands
 older_first : (a b : Slot) → is_upto b.entry.id a ≡ true → a.entry.number < b.entry.number → comes_before a b ≡ true

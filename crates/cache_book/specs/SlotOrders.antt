@@ -15,10 +15,7 @@ use Rattle.cache_book.specs.Arranged.{arranged, EachPair}
 abbrev pub id_cmp : List ℕ → List ℕ → Ordering
 id_cmp = then_cmp (on id_hash nat_cmp) (slice_cmp nat_cmp)
 
--- the slot's id is below this one, or no higher
-abbrev pub is_below : List ℕ → Slot → Bool
-is_below id slot = is_lt (id_cmp slot.entry.id id)
-
+-- the slot's id is no higher than this one
 abbrev pub is_upto : List ℕ → Slot → Bool
 is_upto id slot = is_le (id_cmp slot.entry.id id)
 

@@ -23,12 +23,12 @@ pub(crate) fn deadline_of(slot: &Slot) -> u64
     }
 }
 
-/// Where a slot stands among others in the order of their deadlines.
+/// Where a slot stands among others in the order of their deadlines, and by what it is found among those in the order of their ids.
 #[derive(Clone, Copy, PartialEq, Eq, PartialOrd, Ord)]
 pub(crate) struct Place {
     /// Its deadline, in seconds.
     pub(crate) moment: u64,
-    /// That of its entry's id, by which it is found.
+    /// That of its entry's id.
     pub(crate) hash: u64,
 }
 

@@ -3,7 +3,7 @@ ghost use Rattle.std.specs.Prelude.{◌≡◌, ℕ, ◌+◌, ◌<◌, ◌≤◌,
 ghost use Rattle.std.specs.List.{HoldsAt, AllByRecursion};
 ghost use Rattle.std.specs.List.Sorted.{IsPartitionPoint};
 ghost use Rattle.cache_book.specs.Shelves.{serves_at, IsGrantFrom, ServesNone};
-ghost use Rattle.cache_book.specs.SlotOrders.{id_cmp, is_below, is_upto, has_lower_hash, has_hash_upto, AreById, AreKept};
+ghost use Rattle.cache_book.specs.SlotOrders.{id_cmp, is_upto, has_lower_hash, has_hash_upto, AreById, AreKept};
 ghost use Rattle.cache_book.specs.Hashes.{id_hash};
 ghost use Rattle.cache_book.specs.declared.slot.Slot.{Slot as OneSlot};
 
@@ -22,13 +22,6 @@ fn compare(slot: &BoxedSlot, id: &CacheId, hash: u64) -> Ordering
         Ordering::Equal => slot.get().entry.id.bytes().cmp(id.bytes()),
         other => other,
     }
-}
-
-fn is_below(slot: &BoxedSlot, id: &CacheId, hash: u64) -> bool
-    requires { hash ≡ id_hash id.now }
-    ensures { result ≡ is_below id.now slot.now }
-{
-    compare(slot, id, hash).is_lt()
 }
 
 /// A place that only slots with lower hashes stand before: behind all of those. No box is read.
@@ -69,28 +62,6 @@ pub(crate) fn before_higher_hashes(slots: &[BoxedSlot], hash: u64) -> usize
     ensures parts { IsPartitionPoint (λ slot. has_hash_upto hash slot ≡ true) (λ slot. has_hash_upto hash slot ≡ false) slots.now result }
 {
     slots.partition_point(|slot| slot.hash() <= hash)
-}
-
-/// The place of the first slot whose id isn't below this one.
-pub(crate) fn start_of(slots: &[BoxedSlot], id: &CacheId) -> usize
-    requires { AreById slots.now }
-    ensures within { result ≤ length slots.now }
-    ensures parts { IsPartitionPoint (λ slot. is_below id.now slot ≡ true) (λ slot. is_below id.now slot ≡ false) slots.now result }
-{
-    let hash = hash_of(id);
-    let mut low = behind_lower_hashes(slots, hash);
-    // Among ids of one hash the boxes decide.
-    let mut left = slots.len() - low;
-    while 0 < left && is_below(&slots[low], id, hash) {
-        let half = left / 2;
-        if is_below(&slots[low + half], id, hash) {
-            low += half + 1;
-            left -= half + 1;
-        } else {
-            left = half;
-        }
-    }
-    low
 }
 
 /// The place after the last slot whose id is no higher than this one.

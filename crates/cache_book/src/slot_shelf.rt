@@ -7,22 +7,23 @@ ghost use Rattle.cache_book.specs.Deadlines.{place_of, is_place, is_among, HaveP
 use crate::Shelf;
 use crate::boxed_slot::BoxedSlot;
 use crate::deadlines::{Deadlines, Place};
-use crate::search::{before_higher_hashes, behind_lower_hashes, end_of, grant_from, start_of, with_number};
+use crate::id_hash::hash_of;
+use crate::search::{before_higher_hashes, behind_lower_hashes, end_of, grant_from, with_number};
 use cache_policy::{CacheId, Entry, Grant, Mode, NoMemory};
 use std::alloc::Global;
 use std::cell::Cell;
 use std::marker::Model;
 
-/// How many places a sweep looks at one by one.
+/// How many places a sweep takes one by one, before it walks over all slots.
 const FEW: usize = 32;
 
-/// A shelf whose slots stand in the order of their ids, and are found by binary search. Beside them stand their deadlines, the soonest
-/// in front.
+/// A shelf whose slots stand in the order of their ids, and are found by binary search. Beside them stand their places in the order of
+/// their deadlines, the soonest in front.
 #[derive(Drop)]
 pub struct SlotShelf {
-    // By the ids of their entries, and then by their numbers.
+    // By the ids of their entries, whose hashes come first, and then by their numbers.
     slots: Vec<BoxedSlot>,
-    // That of each slot, and some that are of no slot any more.
+    // The place of each slot, and some that are of no slot any more.
     deadlines: Deadlines,
     // Memory for slots to come.
     blanks: Vec<BoxedSlot>,
@@ -115,7 +116,7 @@ fn add_blanks(blanks: &mut Vec<BoxedSlot>, n: usize) -> Result<(), NoMemory>
     Ok(())
 }
 
-/// Makes room for the deadlines of `n` slots more. It makes twice as much, so that collecting them anew is rare.
+/// Makes room for the places of `n` slots more. It makes twice as much, so that collecting them anew is rare.
 fn reserve_deadlines(
     deadlines: &mut Deadlines,
     slots: &[BoxedSlot],
@@ -136,7 +137,7 @@ fn reserve_deadlines(
     deadlines.reserve(wanted.saturating_mul(2))
 }
 
-/// Collects the deadlines of the slots, without those that are past use.
+/// Collects the places of the slots, without those that are of no slot any more.
 fn collect_anew(deadlines: &mut Deadlines, slots: &[BoxedSlot])
     requires { length slots.now ≤ deadlines.old.capacity }
     ensures held { HavePlaces deadlines.new.places slots.now }
@@ -228,8 +229,9 @@ fn hide_in(slots: &mut Vec<BoxedSlot>, later: &Entry)
     ensures len { vec_len slots.new ≤ vec_len slots.old }
     ensures capacity { vec_capacity slots.new ≡ vec_capacity slots.old }
 {
-    let start = start_of(slots.as_slice(), &later.id);
-    let mut i = end_of(slots.as_slice(), &later.id);
+    let hash = hash_of(&later.id);
+    let start = behind_lower_hashes(slots.as_slice(), hash);
+    let mut i = before_higher_hashes(slots.as_slice(), hash);
     while start < i {
         i -= 1;
         if !slots[i].hide(later) {
@@ -245,8 +247,9 @@ fn clear_in(slots: &mut Vec<BoxedSlot>, id: &CacheId, mode: Mode)
     ensures len { vec_len slots.new ≤ vec_len slots.old }
     ensures capacity { vec_capacity slots.new ≡ vec_capacity slots.old }
 {
-    let start = start_of(slots.as_slice(), id);
-    let mut i = end_of(slots.as_slice(), id);
+    let hash = hash_of(id);
+    let start = behind_lower_hashes(slots.as_slice(), hash);
+    let mut i = before_higher_hashes(slots.as_slice(), hash);
     while start < i {
         i -= 1;
         let slot = slots[i].get();
@@ -267,7 +270,7 @@ fn drop_slot(slots: &mut Vec<BoxedSlot>, i: usize)
     let _ = slots.remove(i);
 }
 
-/// Drops the slots that are past a lifetime at `now`: those whose places are in front, and where these are many, in one walk over all.
+/// Drops the slots that are past a lifetime at `now`: by the places in front, and where many of these are past, in a walk over all slots.
 fn sweep_in(slots: &mut Vec<BoxedSlot>, deadlines: &mut Deadlines, now: u64)
     requires kept { AreKept slots.old.items }
     requires held { HavePlaces deadlines.old.places slots.old.items }
@@ -304,6 +307,7 @@ fn sweep_hash(slots: &mut Vec<BoxedSlot>, hash: u64, now: u64)
     }
 }
 
+/// Drops the slots that are past a lifetime at `now`, wherever they stand.
 fn sweep_all(slots: &mut Vec<BoxedSlot>, now: u64)
     ensures items { slots.new.items ≡ swept now slots.old.items }
     ensures len { vec_len slots.new ≤ vec_len slots.old }

@@ -1,17 +1,21 @@
-use Rattle.std.specs.Prelude.{◌≡◌, false}
-use Rattle.std.proofs.Common.{rules}
+use Rattle.std.specs.Prelude.{◌≡◌, ℕ, true, false, nat_lt, nat_le}
+use Rattle.std.proofs.Common.{arith, rules}
+use Rattle.std.proofs.lemmas.Bool.Decides.{nat_tests}
 use Rattle.std.proofs.lemmas.List.Elements.{AllWithin-more, at_read}
 use Rattle.cache_book.specs.Shelves.{serves_at}
+use Rattle.cache_book.specs.Hashes.{id_hash}
 use Rattle.cache_book.specs.declared.slot.Slot.{Slot}
-use Rattle.cache_book.proofs.Searching.{none_serving, none_past, below_start, past_higher}
+use Rattle.cache_book.proofs.Searching.{none_serving, none_past}
 use Rattle.cache_book.proofs.search.serving.Goals as goal
+
+higher : (m n : ℕ) → nat_lt m n ≡ true → nat_le n m ≡ false
+higher m n h = grind (arith, nat_tests)
 
 pub returns-then-hash-clause-none : goal.returns-then-hash-clause-none
 returns-then-hash-clause-none c =
     let start = c.behind_lower_hashes-start in
-    none_past c.args.id.now c.args.mode c.args.now c.args.slots.now start.result c.loop-i.i
-    (below_start c.args.id.now c.hash_of-hash.result c.args.slots.now start.result c.hash_of-hash.ensures start.ensures.before) c.loop-i.invariant c.requires
-    c.index-slots-i.result c.loop-i-test.true c.index-slots-i.is (past_higher c.args.id.now c.hash_of-hash.result c.index-slots-i.result c.hash_of-hash.ensures (search rules))
+    none_past c.args.id.now c.args.mode c.args.now c.args.slots.now c.hash_of-hash.result c.hash_of-hash.ensures start.result c.loop-i.i start.ensures.before c.loop-i.invariant c.requires
+    c.index-slots-i.result c.loop-i-test.true c.index-slots-i.is (higher c.hash_of-hash.result (id_hash c.index-slots-i.result.entry.id) (search rules))
 
 pub loop-i-preserved : goal.loop-i-preserved
 loop-i-preserved c =
@@ -23,5 +27,4 @@ loop-i-preserved c =
 pub returns-clause-none : goal.returns-clause-none
 returns-clause-none c =
     let start = c.behind_lower_hashes-start in
-    none_serving c.args.id.now c.args.mode c.args.now c.args.slots.now start.result c.loop-i.i
-    (below_start c.args.id.now c.hash_of-hash.result c.args.slots.now start.result c.hash_of-hash.ensures start.ensures.before) c.loop-i.invariant c.loop-i-test.false
+    none_serving c.args.id.now c.args.mode c.args.now c.args.slots.now c.hash_of-hash.result c.hash_of-hash.ensures start.result c.loop-i.i start.ensures.before c.loop-i.invariant c.loop-i-test.false

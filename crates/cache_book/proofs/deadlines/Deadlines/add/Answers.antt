@@ -1,4 +1,4 @@
-use Rattle.std.specs.Prelude.{◌≡◌, ℕ, ◌==◌, ◌||◌}
+use Rattle.std.specs.Prelude.{◌≡◌, ◌||◌}
 use Rattle.std.proofs.Common.{subst, rules}
 use Rattle.cache_book.specs.declared.deadlines.Place.{Place}
 use Rattle.cache_book.specs.Deadlines.{AtDeadlines, is_place, is_among}

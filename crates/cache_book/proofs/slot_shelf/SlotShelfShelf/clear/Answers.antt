@@ -2,7 +2,7 @@ use Rattle.std.specs.Prelude.{◌≡◌, true}
 use Rattle.std.proofs.Common.{ap, sym, ◌∙◌, subst, rules}
 use Rattle.cache_book.specs.Shelves.{AtShelf, cleared}
 use Rattle.cache_book.specs.SlotOrders.{by_number, AreKept}
-use Rattle.cache_book.specs.Deadlines.{place_of, is_place, is_among, HavePlaces}
+use Rattle.cache_book.specs.Deadlines.{place_of, is_among, HavePlaces}
 use Rattle.cache_book.proofs.Kept.{all_filter}
 use Rattle.cache_book.proofs.Ordered.{kept-filter, by_number-filter}
 use Rattle.cache_book.proofs.slot_shelf.SlotShelfShelf.clear.Goals as goal
