@@ -4,26 +4,35 @@ use Rattle.std.specs.Prelude.{ℕ, true, false, List, codes}
 use Rattle.std.proofs.Common.{lit≤}
 use Rattle.arrayvec.specs.ArrayVec.{ArrayVec}
 use Rattle.session_options.specs.declared.rules.Rules.{Rules}
+use Rattle.session_options.specs.declared.rules.TheConstants.{
+  DEFAULT_TTL,
+  DEFAULT_MAX_TTL,
+  DEFAULT_TTL_SSH,
+  DEFAULT_MAX_TTL_SSH,
+  DEFAULT_WORKERS,
+  DEFAULT_MIN_LEN,
+  DEFAULT_MIN_NONALPHA,
+  DEFAULT_S2K_COUNT,
+}
 use Rattle.session_options.specs.declared.rules.RunMode.TheVariants.{Server}
 
 abbrev word : List ℕ → ArrayVec ℕ
 word bytes = record { items = bytes }
 
--- ten minutes and two hours, for ssh half an hour and two hours
 abbrev pub default_rules : Rules
 default_rules = record {
-  default_ttl = 600;
-  max_ttl = 7200;
-  default_ttl_ssh = 1800;
-  max_ttl_ssh = 7200;
+  default_ttl = DEFAULT_TTL;
+  max_ttl = DEFAULT_MAX_TTL;
+  default_ttl_ssh = DEFAULT_TTL_SSH;
+  max_ttl_ssh = DEFAULT_MAX_TTL_SSH;
   pinentry_timeout = 0;
-  workers = 8;
+  workers = DEFAULT_WORKERS;
   pid = 0;
-  min_len = 8;
-  min_nonalpha = 1;
+  min_len = DEFAULT_MIN_LEN;
+  min_nonalpha = DEFAULT_MIN_NONALPHA;
   allow_preset = false;
   allow_loopback = true;
-  s2k_count = 4194304;
+  s2k_count = DEFAULT_S2K_COUNT;
   pinentry = word (codes "/usr/bin/pinentry");
   homedir = word (codes ".");
   run = Server;

@@ -20,4 +20,8 @@ type Word = ArrayVec<u8, MAX_VALUE_LEN>;
 
 pub use env::Env;
 pub use options::{OptionAnswer, Options, PinMode, spelling_is_plain};
-pub use rules::{MAX_S2K_COUNT, MAX_WORKERS, MIN_S2K_COUNT, MIN_WORKERS, Rules, RunMode};
+pub use rules::{
+    DEFAULT_MAX_TTL, DEFAULT_MAX_TTL_SSH, DEFAULT_MIN_LEN, DEFAULT_MIN_NONALPHA, DEFAULT_S2K_COUNT,
+    DEFAULT_TTL, DEFAULT_TTL_SSH, DEFAULT_WORKERS, MAX_S2K_COUNT, MAX_WORKERS, MIN_S2K_COUNT,
+    MIN_WORKERS, Rules, RunMode,
+};

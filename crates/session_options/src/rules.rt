@@ -10,9 +10,32 @@ pub const MIN_S2K_COUNT: u64 = 65_536;
 /// The most bytes that a passphrase is hashed to: what the octet 255 stands for (RFC 4880, 3.7.1.3).
 pub const MAX_S2K_COUNT: u64 = 65_011_712;
 
+/// The bytes that a passphrase is hashed to where nothing is said.
+pub const DEFAULT_S2K_COUNT: u64 = 4_194_304;
+
 pub const MIN_WORKERS: u32 = 1;
 
 pub const MAX_WORKERS: u32 = 64;
+
+pub const DEFAULT_WORKERS: u32 = 8;
+
+/// In seconds: `default-cache-ttl` of the GnuPG manual.
+pub const DEFAULT_TTL: u32 = 600;
+
+/// In seconds: `max-cache-ttl` of the GnuPG manual.
+pub const DEFAULT_MAX_TTL: u32 = 7200;
+
+/// In seconds: `default-cache-ttl-ssh` of the GnuPG manual.
+pub const DEFAULT_TTL_SSH: u32 = 1800;
+
+/// In seconds: `max-cache-ttl-ssh` of the GnuPG manual.
+pub const DEFAULT_MAX_TTL_SSH: u32 = 7200;
+
+/// In bytes: `min-passphrase-len` of the GnuPG manual.
+pub const DEFAULT_MIN_LEN: u8 = 8;
+
+/// In bytes: `min-passphrase-nonalpha` of the GnuPG manual.
+pub const DEFAULT_MIN_NONALPHA: u8 = 1;
 
 /// What the agent is to do.
 #[derive(Clone, Copy, Debug, PartialEq, Eq)]
@@ -62,18 +85,18 @@ impl Default for Rules {
     /// The rules of an agent whose command line says no more than `--server`.
     fn default() -> Rules {
         Rules {
-            default_ttl: 600,
-            max_ttl: 7200,
-            default_ttl_ssh: 1800,
-            max_ttl_ssh: 7200,
+            default_ttl: DEFAULT_TTL,
+            max_ttl: DEFAULT_MAX_TTL,
+            default_ttl_ssh: DEFAULT_TTL_SSH,
+            max_ttl_ssh: DEFAULT_MAX_TTL_SSH,
             pinentry_timeout: 0,
-            workers: 8,
+            workers: DEFAULT_WORKERS,
             pid: 0,
-            min_len: 8,
-            min_nonalpha: 1,
+            min_len: DEFAULT_MIN_LEN,
+            min_nonalpha: DEFAULT_MIN_NONALPHA,
             allow_preset: false,
             allow_loopback: true,
-            s2k_count: 4_194_304,
+            s2k_count: DEFAULT_S2K_COUNT,
             pinentry: word(b"/usr/bin/pinentry"),
             homedir: word(b"."),
             run: RunMode::Server,
