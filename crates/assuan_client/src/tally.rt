@@ -105,7 +105,11 @@ impl Tally {
         ensures no_write { result ≢ Answer.WriteFault }
     {
         match took {
-            Took::Line(line) => self.answer_by(line),
+            Took::Line(mut line) => {
+                let answer = self.answer_by(&line);
+                line.clear();
+                answer
+            }
             Took::TooLong => Answer::Broken(Breach::TooLong),
             Took::End => Answer::Broken(Breach::Ended),
             Took::Spent => Answer::Broken(Breach::Spent),
@@ -114,8 +118,8 @@ impl Tally {
     }
 
     /// The answer by a line that isn't skipped.
-    fn answer_by(&mut self, line: Line) -> Answer
-        ensures says { IsStop self.old (Took.Line line) → Says self.old (Took.Line line) result }
+    fn answer_by(&mut self, line: &Line) -> Answer
+        ensures says { IsStop self.old (Took.Line line.now) → Says self.old (Took.Line line.now) result }
         ensures asked { (word text : List ℕ) → result ≡ Answer.Asked word text → self.new ≡ with_inquiry self.old }
         ensures ended { ended_of result ≡ None }
         ensures no_write { result ≢ Answer.WriteFault }
@@ -126,7 +130,7 @@ impl Tally {
             Form::Ok => self.success(),
             Form::Err(number) => Answer::Err(number),
             Form::Inquiry { word, text } => self.inquiry(word, text),
-            Form::Foreign => Answer::Broken(Breach::Line(line)),
+            Form::Foreign => Answer::Broken(Breach::Line(Line::of(line.bytes()).unwrap())),
         }
     }
 
