@@ -128,8 +128,8 @@ impl<L: Link> Peer<L> {
         requires { self.old.state ≢ State.Broken }
         ensures { ReadOn self.old.tally result self.old self.new }
     {
-        let took = next_after_skipped(&mut self.reader, &mut self.link, &mut self.tally);
-        let answer = self.tally.answer(took);
+        let mut took = next_after_skipped(&mut self.reader, &mut self.link, &mut self.tally);
+        let answer = self.tally.answer(&mut took);
         self.state = answer.state();
         self.tally.settle(&answer);
         answer

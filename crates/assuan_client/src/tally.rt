@@ -97,16 +97,16 @@ impl Tally {
         }
     }
 
-    /// The answer by the line that isn't skipped, or by the end of the lines.
-    pub(crate) fn answer(&mut self, took: Took) -> Answer
-        ensures says { IsStop self.old took → Says self.old took result }
+    /// The answer by the line that isn't skipped, which is cleared, or by the end of the lines.
+    pub(crate) fn answer(&mut self, took: &mut Took) -> Answer
+        ensures says { IsStop self.old took.old → Says self.old took.old result }
         ensures asked { (word text : List ℕ) → result ≡ Answer.Asked word text → self.new ≡ with_inquiry self.old }
-        ensures ended { ended_by took ≡ ended_of result }
+        ensures ended { ended_by took.old ≡ ended_of result }
         ensures no_write { result ≢ Answer.WriteFault }
     {
         match took {
-            Took::Line(mut line) => {
-                let answer = self.answer_by(&line);
+            Took::Line(line) => {
+                let answer = self.answer_by(line);
                 line.clear();
                 answer
             }
