@@ -105,12 +105,13 @@ fn settled<L: Link>(peer: &mut Peer<L>, answer: Answer, rates: bool) -> Answer
     ensures last { is_asked result ≡ false }
 {
     let mut answer = answer;
-    loop {
-        match answer {
-            Answer::Asked { word, text } => answer = inquired(peer, &word, &text, rates),
-            last => return last,
-        }
+    while let Answer::Asked { word, text } = &mut answer {
+        let next = inquired(peer, word, text, rates);
+        word.clear();
+        text.clear();
+        answer = next;
     }
+    answer
 }
 
 /// Answers an inquiry: how good its text is as a passphrase, where that is asked and told.

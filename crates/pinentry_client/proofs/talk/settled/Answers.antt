@@ -3,13 +3,13 @@ use Rattle.pinentry_client.proofs.Talks.{not_asked, fewer_left}
 use Rattle.pinentry_client.proofs.talk.settled.Goals as goal
 
 pub loop-answer-smaller : goal.loop-answer-smaller
-loop-answer-smaller g c = rw c.in-Asked.is (fewer_left (is_asked c.inquired-answer.result) _ _ c.inquired-answer.ensures.progress)
+loop-answer-smaller g c = rw c.in-Asked.is (fewer_left (is_asked c.inquired-next.result) _ _ c.inquired-next.ensures.progress)
 
 pub loop-answer-preserved : goal.loop-answer-preserved
 loop-answer-preserved g c =
-    (c.inquired-answer.ensures.state, λ last after rest. c.loop-answer.invariant.1 last after (rw c.in-Asked.is (inquired c.inquired-answer.ensures.inquires rest)))
+    (c.inquired-next.ensures.state, λ last after rest. c.loop-answer.invariant.1 last after (rw c.in-Asked.is (inquired c.inquired-next.ensures.inquires rest)))
 
-pub returns-in_default : goal.returns-in_default
-returns-in_default g c =
+pub returns : goal.returns
+returns g c =
     let last = not_asked c.loop-answer.answer c.in_default.not-Asked in
     record { settles = c.loop-answer.invariant.1 _ _ (answered last); state = c.loop-answer.invariant.0; last = last }
