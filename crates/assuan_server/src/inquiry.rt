@@ -113,7 +113,11 @@ impl<'a, L: Link> Conn<'a, L> {
             buffer: SecretBuffer::new(),
         };
         match self.gather(word, params, &mut lines) {
-            Some(took) => buffered(took, lines.buffer),
+            Some(took) => {
+                let inquired = buffered(took, &lines.buffer);
+                lines.buffer.bytes.clear();
+                inquired
+            }
             None => InquiredSecret::WriteFault,
         }
     }
@@ -193,8 +197,8 @@ fn collected(took: Took, buffer: VecBuffer) -> Inquired
 }
 
 /// What an inquiry for a secret comes to whose bytes are kept so, by the answer after its data lines.
-fn buffered(took: Took, buffer: SecretBuffer) -> InquiredSecret
-    ensures answer { IsAnswer MAX_SECRET_LEN (IsSecretOf buffer.bytes buffer.too_much) took (Answers (outcome_of_secret result)) }
+fn buffered(took: Took, buffer: &SecretBuffer) -> InquiredSecret
+    ensures answer { IsAnswer MAX_SECRET_LEN (IsSecretOf buffer.now.bytes buffer.now.too_much) took (Answers (outcome_of_secret result)) }
     ensures others { result ≢ InquiredSecret.WriteFault }
 {
     if let Err(failure) = end_of(took) {

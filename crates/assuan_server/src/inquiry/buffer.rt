@@ -40,8 +40,9 @@ impl<B: Buffer + Drop> LineFilter for InquiryLines<B> {
     ghost limit = { λ filter. B.limit filter.buffer };
 
     fn skip(&mut self, line: &Line) -> bool {
-        match data_of(line.bytes()) {
-            Some(mut bytes) => {
+        let mut data = data_of(line.bytes());
+        match &mut data {
+            Some(bytes) => {
                 self.buffer.add(bytes.bytes());
                 bytes.clear();
                 true
@@ -151,7 +152,7 @@ impl Buffer for VecBuffer {
     }
 }
 
-/// Keeps bytes without taking memory, up to as many as a secret has.
+/// Keeps bytes without taking memory, up to as many as a secret has. They are overwritten where they lie by `Wiped::clear`.
 #[derive(Drop)]
 pub(crate) struct SecretBuffer {
     pub(crate) bytes: Wiped<MAX_SECRET_LEN>,
@@ -169,17 +170,16 @@ impl SecretBuffer {
         }
     }
 
-    /// The bytes, if they can be a secret.
-    pub(crate) fn secret(mut self) -> Option<Secret>
-        ensures { (bytes : List ℕ) → IsSecretOf self.bytes self.too_much bytes
+    /// A copy of the bytes, if they can be a secret.
+    pub(crate) fn secret(&self) -> Option<Secret>
+        ensures { (bytes : List ℕ) → IsSecretOf self.now.bytes self.now.too_much bytes
             → MatchOption result (MAX_SECRET_LEN < length bytes) (λ secret. (secret ≡ bytes) × (length bytes ≤ MAX_SECRET_LEN)) }
     {
         if self.too_much {
-            return None;
+            None
+        } else {
+            Secret::of(self.bytes.bytes())
         }
-        let secret = Secret::of(self.bytes.bytes()).unwrap();
-        self.bytes.clear();
-        Some(secret)
     }
 }
 

@@ -6,4 +6,4 @@ pub returns-in-Some-clause-inquiry : goal.returns-in-Some-clause-inquiry
 returns-in-Some-clause-inquiry g c = λ written.
     let new = c.new.ensures in
     let buffer = c.gather.new.lines.buffer in
-    inquired {keeps = IsSecretOf buffer.bytes buffer.too_much} (c.in-Some.ensures.gathered (rw new.too_much new.bytes)) c.buffered.ensures.answer
+    inquired {keeps = IsSecretOf buffer.bytes buffer.too_much} (c.in-Some.ensures.gathered (rw new.too_much new.bytes)) c.buffered-inquired.ensures.answer
