@@ -16,7 +16,9 @@ use Rattle.assuan_line.proofs.ReadingOn.{read_so}
 use Rattle.assuan_server.specs.Asking.{Gather, Inquire}
 use Rattle.assuan_server.specs.Connections.{Connection}
 use Rattle.assuan_server.specs.Failures.{IsAnswer}
-use Rattle.assuan_server.specs.Inquiries.{Outcome, Data, TooMuch, Cancelled, Unexpected, Ended, TooLong, Spent, ReadFault, IsAtEnd, IsData, IsWord, Names, Answers, AnswersDropped, ComesTo, can, end, past, foreign, ended, too_long, spent, read_fault, ended_of, is_skipped}
+use Rattle.assuan_server.specs.Inquiries.{Outcome, Data, TooMuch, Cancelled, Unexpected, Ended, TooLong, Spent, ReadFault, ended_of}
+use Rattle.assuan_server.specs.Inquiries.{IsAtEnd, IsData, IsWord, Names, Answers, AnswersDropped, is_skipped}
+use Rattle.assuan_server.specs.Inquiries.{ComesTo, can, end, past, foreign, ended, too_long, spent, read_fault}
 use Rattle.assuan_server.specs.Written.{HasWritten}
 
 abbrev Undecided : List ℕ → Type 0
