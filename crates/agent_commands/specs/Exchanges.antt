@@ -1,6 +1,7 @@
 -- Requests and what is done for them, as the GnuPG manual has them ("Agent's Assuan protocol"). The codes, the texts and the order of
 -- what is done are this project's own.
 use Rattle.std.specs.Prelude.{◌≡◌, ◌≢◌, ◌++◌, ℕ, Bool, true, false, List, [], ◌∷◌, codes, decimal, Option, Some, None, if◌then◌else◌, ⊤}
+use Rattle.std.specs.Option.{option_and_then}
 use Rattle.arrayvec.specs.ArrayVec.{ArrayVec}
 use Rattle.agent_ask.specs.Consents.{AsksConsent}
 use Rattle.agent_ask.specs.Events.{PromptEvent}
@@ -37,9 +38,9 @@ use Rattle.session_options.specs.declared.rules.Rules.{Rules}
 use Rattle.agent_commands.specs.Answers.{ok, closing, failed, failed_at_pinentry, help, IsInfo, IsPassphrase}
 use Rattle.agent_commands.specs.Events.{Event, Sent, Cut, Inquiry, Inquired, Asked, NotAsked, cache_turn}
 use Rattle.agent_commands.specs.Prompting.{IsSpec, Notes, UnderTicket, plan_of}
-use Rattle.agent_commands.specs.Requests.{GetFields, get_passphrase, request_of}
+use Rattle.agent_commands.specs.Requests.{GetFields, get_passphrase, get_fields, request_of}
 use Rattle.agent_commands.specs.declared.request.CacheCommand.{CacheCommand}
-use Rattle.agent_commands.specs.declared.request.CacheCommand.TheVariants.{Nop, Reset, Bye, Help, SetOption, GetInfo, GetPassphrase, PresetPassphrase, ClearPassphrase, GetConfirmation, ReloadAgent, KillAgent}
+use Rattle.agent_commands.specs.declared.request.CacheCommand.TheVariants.{Nop, Reset, Bye, Help, SetOption, GetInfo, PresetPassphrase, ClearPassphrase, GetConfirmation, ReloadAgent, KillAgent}
 use Rattle.agent_commands.specs.declared.request.Info.{Info}
 use Rattle.agent_commands.specs.declared.request.QuietRequest.{QuietRequest}
 use Rattle.agent_commands.specs.declared.request.Request.{Request}
@@ -237,10 +238,12 @@ pub data Exchange (rules : Rules) (before : OptionValues) : Request → List (Ev
       → Exchange rules before (Cache command) (cache_turn step turn ∷ Sent answer ∷ []) before went
 
 -- what is needed of a request that asks the cache alone, to answer it
+abbrev pub quiet_fields : GetFields → Option QuietRequest
+quiet_fields fields =
+    if is_quiet fields.no_ask fields.texts then Some (record { plain = fields.plain; id = fields.id }) else None
+
 abbrev pub quiet_of : Request → Option QuietRequest
-quiet_of (Cache (GetPassphrase plain check no_ask repeat quality id texts)) =
-    if is_quiet no_ask texts then Some (record { plain = plain; id = id }) else None
-quiet_of _ = None
+quiet_of request = option_and_then quiet_fields (get_fields request)
 
 -- the exchange of a line
 abbrev pub LineExchange : Rules → OptionValues → List ℕ → List (Event PromptEvent) → OptionValues → Went → Type 0

@@ -1,6 +1,6 @@
 -- What a line asks for, or the fault for which it is refused (GnuPG manual, "Agent's Assuan protocol"). Which fault a refusal has is
 -- this project's own.
-use Rattle.std.specs.Prelude.{ℕ, Bool, List, [], ◌∷◌, codes, ok_or, Option, Result, Ok, Err, if◌then◌else◌}
+use Rattle.std.specs.Prelude.{ℕ, Bool, List, [], ◌∷◌, codes, ok_or, Option, Some, None, Result, Ok, Err, if◌then◌else◌}
 use Rattle.std.specs.Str.{bytes_eq}
 use Rattle.assuan_text.specs.Options.{options_of, arguments_of, has_option, last_option, last_value}
 use Rattle.assuan_text.specs.Words.{command_of, rest_of, words}
@@ -52,6 +52,19 @@ pub record GetFields : Type 0 where
 abbrev pub get_passphrase : GetFields → CacheCommand
 get_passphrase fields =
     GetPassphrase fields.plain fields.check fields.no_ask fields.repeat fields.quality fields.id fields.texts
+
+-- and back, of a request that is one
+abbrev pub get_fields : Request → Option GetFields
+get_fields (Cache (GetPassphrase plain check no_ask repeat quality id texts)) = Some (record {
+  plain = plain;
+  check = check;
+  no_ask = no_ask;
+  repeat = repeat;
+  quality = quality;
+  id = id;
+  texts = texts;
+})
+get_fields _ = None
 
 -- GET_PASSPHRASE OPTIONS ID [ERROR PROMPT DESCRIPTION]
 abbrev pub get_of : List (List ℕ) → List (List ℕ) → Result CacheCommand Code
