@@ -15,7 +15,7 @@ use Rattle.assuan_server.specs.declared.inquiry.InquiredSecret.TheVariants as in
 use Rattle.assuan_text.specs.LineEnds.{line_of}
 use Rattle.cache_policy.specs.declared.secret.TheConstants.{MAX_SECRET_LEN}
 use Rattle.agent_commands.specs.Events.{Event, Sent, Cut, Asked, NotAsked}
-use Rattle.agent_commands.specs.Exchanges.{BringsNone, no_data, limit_cut, cancelled, too_much, unexpected, too_long, ended, spent, read_fault, write_fault, limit_line, inquiry}
+use Rattle.agent_commands.specs.Exchanges.{WithoutPassphrase, no_data, limit_cut, cancelled, too_much, unexpected, too_long, ended, spent, read_fault, write_fault, limit_line, inquiry}
 use Rattle.agent_commands.specs.Outside.{World}
 use Rattle.agent_commands.specs.States.{WritesText, SessionState, EventsLead, ReaderAfter, FaultsRise}
 use Rattle.agent_commands.specs.Steps.{secret_text, Responds, Carries, InquiresSecret, AsksSecret, limit_cut as limit_stopped, asked as asked_for, answer_of}
@@ -29,7 +29,7 @@ use Rattle.agent_commands.proofs.Saying.{said_whole}
 -- what was done where the client gave no passphrase that it was asked for, and how that is answered
 pub record InquiresInVain {w : World} (start : SessionState w) (answer : Answer) (now : SessionState w) : Type 0 where
   pub events : List (Event w.Further)
-  pub brings : (more : List (Event w.Further)) → Responds answer.response more → BringsNone (events ++ more) answer.went
+  pub without_passphrase : (more : List (Event w.Further)) → Responds answer.response more → WithoutPassphrase (events ++ more) answer.went
   pub done : EventsLead events start now
   pub fits : ReaderAfter answer.went start.conn.reader now.conn.reader
   pub faults : FaultsRise answer.went start now
@@ -87,49 +87,49 @@ module _ (w : World) (desk : w.Desk) (ends : w.Ends) where
     inquired_so going (inquired.Secret secret) inquires = (asked_so going _ inquires (Data secret) refl, goes_on going _ inquires (Data secret) refl refl)
     inquired_so going inquired.Cancelled inquires = record {
       events = Sent limit_line ∷ inquiry (Asked outcome.Cancelled) ∷ [];
-      brings = λ more is. rw (is.2, is.1) (no_data cancelled);
+      without_passphrase = λ more is. rw (is.2, is.1) (no_data cancelled);
       done = asked_so going _ inquires outcome.Cancelled refl;
       fits = goes_on going _ inquires outcome.Cancelled refl refl;
       faults = record { read = λ e. absurd (cc e); write = λ e. absurd (cc e) };
     }
     inquired_so going inquired.TooMuch inquires = record {
       events = Sent limit_line ∷ inquiry (Asked outcome.TooMuch) ∷ [];
-      brings = λ more is. rw (is.2, is.1) (no_data too_much);
+      without_passphrase = λ more is. rw (is.2, is.1) (no_data too_much);
       done = asked_so going _ inquires outcome.TooMuch refl;
       fits = goes_on going _ inquires outcome.TooMuch refl refl;
       faults = record { read = λ e. absurd (cc e); write = λ e. absurd (cc e) };
     }
     inquired_so going inquired.Unexpected inquires = record {
       events = Sent limit_line ∷ inquiry (Asked outcome.Unexpected) ∷ [];
-      brings = λ more is. rw (is.2, is.1) (no_data unexpected);
+      without_passphrase = λ more is. rw (is.2, is.1) (no_data unexpected);
       done = asked_so going _ inquires outcome.Unexpected refl;
       fits = goes_on going _ inquires outcome.Unexpected refl refl;
       faults = record { read = λ e. absurd (cc e); write = λ e. absurd (cc e) };
     }
     inquired_so going inquired.TooLong inquires = record {
       events = Sent limit_line ∷ inquiry (Asked outcome.TooLong) ∷ [];
-      brings = λ more is. rw (is.2, is.1) (no_data too_long);
+      without_passphrase = λ more is. rw (is.2, is.1) (no_data too_long);
       done = asked_so going _ inquires outcome.TooLong refl;
       fits = ended_as going _ inquires outcome.TooLong refl;
       faults = record { read = λ e. absurd (cc e); write = λ e. absurd (cc e) };
     }
     inquired_so going inquired.Ended inquires = record {
       events = Sent limit_line ∷ inquiry (Asked outcome.Ended) ∷ [];
-      brings = λ more is. rw is (no_data ended);
+      without_passphrase = λ more is. rw is (no_data ended);
       done = asked_so going _ inquires outcome.Ended refl;
       fits = ended_as going _ inquires outcome.Ended refl;
       faults = record { read = λ e. absurd (cc e); write = λ e. absurd (cc e) };
     }
     inquired_so going inquired.Spent inquires = record {
       events = Sent limit_line ∷ inquiry (Asked outcome.Spent) ∷ [];
-      brings = λ more is. rw is (no_data spent);
+      without_passphrase = λ more is. rw is (no_data spent);
       done = asked_so going _ inquires outcome.Spent refl;
       fits = ended_as going _ inquires outcome.Spent refl;
       faults = record { read = λ e. absurd (cc e); write = λ e. absurd (cc e) };
     }
     inquired_so going inquired.ReadFault inquires = record {
       events = Sent limit_line ∷ inquiry (Asked outcome.ReadFault) ∷ [];
-      brings = λ more is. rw is (no_data read_fault);
+      without_passphrase = λ more is. rw is (no_data read_fault);
       done = asked_so going _ inquires outcome.ReadFault refl;
       fits = ended_as going _ inquires outcome.ReadFault refl;
       faults = record { read = λ e. read_fault_so going _ inquires outcome.ReadFault refl refl; write = λ e. absurd (cc e) };
@@ -139,7 +139,7 @@ module _ (w : World) (desk : w.Desk) (ends : w.Ends) where
         let cut : HasCut (line_of secret_text) mid.output part.0 now.output = part.1.output in
         record {
           events = Sent limit_line ∷ inquiry (NotAsked cut.sent) ∷ [];
-          brings = λ more is. rw is (no_data write_fault);
+          without_passphrase = λ more is. rw is (no_data write_fault);
           done = done_then (done_wrote desk ends limit_line start mid said) (done_not_asked w desk ends (codes "PASSPHRASE") [] MAX_SECRET_LEN mid now part.0 part.1);
           fits = tt;
           faults = record { read = λ e. absurd (cc e); write = λ e. omega (arith, said.faults, cut.rose) };
@@ -152,7 +152,7 @@ module _ (w : World) (desk : w.Desk) (ends : w.Ends) where
       let cut : HasCut limit_line start.output count now.output = part.output in
       record {
         events = Cut cut.sent ∷ [];
-        brings = λ more is. rw is (limit_cut cut.unsent cut.split);
+        without_passphrase = λ more is. rw is (limit_cut cut.unsent cut.split);
         done = done_cut desk ends limit_line start now count part;
         fits = tt;
         faults = record { read = λ e. absurd (cc e); write = λ e. cut.rose };
@@ -162,10 +162,10 @@ module _ (w : World) (desk : w.Desk) (ends : w.Ends) where
 
 -- a part of a request in which the client gave none
 pub in_vain : {w : World} {part : List (Event w.Further) → Went → Type 0} {start now : SessionState w} {answer : Answer}
-    → ((events : List (Event w.Further)) → BringsNone events answer.went → part events answer.went) → InquiresInVain start answer now → Carries part start answer now
+    → ((events : List (Event w.Further)) → WithoutPassphrase events answer.went → part events answer.went) → InquiresInVain start answer now → Carries part start answer now
 in_vain each vain = record {
   events = vain.events;
-  exchanges = λ more is. each _ (vain.brings more is);
+  exchanges = λ more is. each _ (vain.without_passphrase more is);
   done = vain.done;
   fits = vain.fits;
   faults = vain.faults;

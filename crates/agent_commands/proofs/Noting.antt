@@ -39,7 +39,7 @@ GoneSo (Gone gone.WriteFault) start now = Rose start.output.faults now.output.fa
 GoneSo _ start now = ⊤
 
 -- the client was told of a prompt
-pub record IsNoted {w : World} (pid : ℕ) (heard : Heard) (start now : SessionState w) : Type 0 where
+pub record TellsClient {w : World} (pid : ℕ) (heard : Heard) (start now : SessionState w) : Type 0 where
   pub inquired : Inquired
   pub notes : Notes heard inquired
   pub done : EventsLead {w = w} (note pid inquired ∷ []) start now
@@ -67,11 +67,11 @@ module _ (w : World) (desk : w.Desk) (ends : w.Ends) (pid : ℕ) (start now : Co
     rose_so : what ≡ outcome.ReadFault → Rose start.input.faults now.input.faults
     rose_so is = fault_so inquire.gathered.read (ended_as ∙ ap ended_of is)
 
-    noted_as : (heard : Heard) → Notes heard (Asked what) → GoneSo heard start now → IsNoted {w = w} pid heard (at_conn start) (at_conn now)
+    noted_as : (heard : Heard) → Notes heard (Asked what) → GoneSo heard start now → TellsClient {w = w} pid heard (at_conn start) (at_conn now)
     noted_as heard notes gone = record { inquired = Asked what; notes = notes; done = named; fewer = fewer_then inquire; gone = gone }
 
   -- the client took note: what it sent was dropped
-  noted_fine : Inquire MAX_NOTE_LEN (note_text pid) (AnswersDropped None) start now → IsNoted {w = w} pid Fine (at_conn start) (at_conn now)
+  noted_fine : Inquire MAX_NOTE_LEN (note_text pid) (AnswersDropped None) start now → TellsClient {w = w} pid Fine (at_conn start) (at_conn now)
   noted_fine inquire =
       let known = some_data start.input.bytes now.input.bytes (λ rest left o. Inquires MAX_NOTE_LEN (start.reader.ahead ++ rest) inquire.took o now.reader left) inquire.gathered.read.known in
       record {
@@ -82,7 +82,7 @@ module _ (w : World) (desk : w.Desk) (ends : w.Ends) (pid : ℕ) (start now : Co
         gone = tt;
       }
 
-  pub noted : (what : Dropped) → HearsNote pid start what now → IsNoted {w = w} pid (heard_of_dropped what) (at_conn start) (at_conn now)
+  pub noted : (what : Dropped) → HearsNote pid start what now → TellsClient {w = w} pid (heard_of_dropped what) (at_conn start) (at_conn now)
   noted dropped.Done hears = noted_fine (hears.inquiry (λ e. cc e))
   noted dropped.Cancelled hears = noted_as outcome.Cancelled (hears.inquiry (λ e. cc e)) _ cancelled tt
   noted dropped.TooMuch hears = noted_as outcome.TooMuch (hears.inquiry (λ e. cc e)) _ too_much tt

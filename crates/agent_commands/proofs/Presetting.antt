@@ -53,7 +53,7 @@ module _ {D : Type 0} (turned : D → MarkStep → Turn → D → Type 0) (rules
       → CarriesOut {w = world turned} (Exchange rules before (Cache (PresetPassphrase id life None))) start answer before now
   vain_so answer now vain = record {
     events = vain.events;
-    exchanges = λ more is. without_data allowed (vain.brings more is);
+    exchanges = λ more is. without_data allowed (vain.without_passphrase more is);
     done = vain.done;
     fits = vain.fits;
     faults = vain.faults;

@@ -23,7 +23,7 @@ module _ {D P : Type 0} (turned : D → MarkStep → Turn → D → Type 0) (pro
   at_ends now = prompt_state turned prompted now.caller desk now.prompter
 
   -- what a prompt did, as its session shows it
-  pub record IsShown (prompt : List PromptEvent) (start now : PromptEnds P Connection) : Type 0 where
+  pub record AsksUser (prompt : List PromptEvent) (start now : PromptEnds P Connection) : Type 0 where
     pub events : List (Event PromptEvent)
     pub in_session : InSession prompt events
     pub done : EventsLead {w = prompt_world turned prompted} events (at_ends start) (at_ends now)
@@ -40,7 +40,7 @@ module _ {D P : Type 0} (turned : D → MarkStep → Turn → D → Type 0) (pro
     link = refl;
   }
 
-  pub shown : {prompt : List PromptEvent} {start now : PromptEnds P Connection} → Leads (DoesPrompt prompted Hears) start prompt now → IsShown prompt start now
+  pub shown : {prompt : List PromptEvent} {start now : PromptEnds P Connection} → Leads (DoesPrompt prompted Hears) start prompt now → AsksUser prompt start now
   shown {now} none = record { events = []; in_session = no_events; done = done_none (at_ends now); open_before = λ is. is; fewer = λ is. omega arith }
   shown (one (calls {prompter} {after} {caller} (called {call} does)) later) =
       let rest = shown later in

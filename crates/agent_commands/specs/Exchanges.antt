@@ -94,11 +94,11 @@ pub data Fails {F : Type 0} : Inquired → List (Event F) → Went → Type 0 wh
   write_fault : {text : List ℕ} → Fails (NotAsked text) [] (End ends.WriteFault)
 
 -- the client is asked for a passphrase, and gives none
-pub data BringsNone {F : Type 0} : List (Event F) → Went → Type 0 where
+pub data WithoutPassphrase {F : Type 0} : List (Event F) → Went → Type 0 where
   no_data : {inquired : Inquired} {events : List (Event F)} {went : Went} → Fails inquired events went
-      → BringsNone (Sent limit_line ∷ inquiry inquired ∷ events) went
+      → WithoutPassphrase (Sent limit_line ∷ inquiry inquired ∷ events) went
   -- the write of the limit failed
-  limit_cut : {sent : List ℕ} (unsent : List ℕ) → limit_line ≡ sent ++ unsent → BringsNone (Cut sent ∷ []) (End ends.WriteFault)
+  limit_cut : {sent : List ℕ} (unsent : List ℕ) → limit_line ≡ sent ++ unsent → WithoutPassphrase (Cut sent ∷ []) (End ends.WriteFault)
 
 -- An entry is looked for, where there is an id: the events, and where that ends the request, what it is answered by.
 pub data Looks {F : Type 0} (plain : Bool) : Option (List ℕ) → List (Event F) → Option (List ℕ) → Type 0 where
@@ -143,7 +143,7 @@ pub data WithoutPrompt {F : Type 0} (plain : Bool) (id : Option (List ℕ)) : Pi
   no_pinentry : WithoutPrompt plain id mode.Error (Sent (failed code.NoPinentry) ∷ []) On
   with_data : {secret : List ℕ} {events : List (Event F)} {went : Went} → Keeps plain secret id events went
       → WithoutPrompt plain id mode.Loopback (Sent limit_line ∷ inquiry (Asked (Data secret)) ∷ events) went
-  without_data : {events : List (Event F)} {went : Went} → BringsNone events went → WithoutPrompt plain id mode.Loopback events went
+  without_data : {events : List (Event F)} {went : Went} → WithoutPassphrase events went → WithoutPrompt plain id mode.Loopback events went
 
 -- the client didn't take note of a prompt
 pub record IsUnheard {F : Type 0} (heard : Heard) (events : List (Event F)) (went : Went) : Type 0 where
@@ -224,7 +224,7 @@ pub data Exchange (rules : Rules) (before : OptionValues) : Request → List (Ev
   with_data : {id secret text : List ℕ} {life : Life} {turn : Turn} {went : Went} → rules.allow_preset ≡ true → ComesOut ok On turn text went
       → Exchange rules before (Cache (PresetPassphrase id life None))
       (Sent limit_line ∷ inquiry (Asked (Data secret)) ∷ cache_turn (put id life secret) turn ∷ Sent text ∷ []) before went
-  without_data : {id : List ℕ} {life : Life} {events : List (Event PromptEvent)} {went : Went} → rules.allow_preset ≡ true → BringsNone events went
+  without_data : {id : List ℕ} {life : Life} {events : List (Event PromptEvent)} {went : Went} → rules.allow_preset ≡ true → WithoutPassphrase events went
       → Exchange rules before (Cache (PresetPassphrase id life None)) events before went
   -- consent by a prompt, where the client wants one
   confirmation : {description : ArrayVec ℕ} {events : List (Event PromptEvent)} {went : Went} (spec : PromptSpec)

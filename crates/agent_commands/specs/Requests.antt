@@ -53,7 +53,7 @@ abbrev pub get_passphrase : GetFields → CacheCommand
 get_passphrase fields =
     GetPassphrase fields.plain fields.check fields.no_ask fields.repeat fields.quality fields.id fields.texts
 
--- and back, of a request that is one
+-- the fields of a request that is a GET_PASSPHRASE
 abbrev pub get_fields : Request → Option GetFields
 get_fields (Cache (GetPassphrase plain check no_ask repeat quality id texts)) = Some (record {
   plain = plain;

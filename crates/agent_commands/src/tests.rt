@@ -169,9 +169,9 @@ fn commands_are_known_in_any_case(rt: HostRuntime) -> Result<(), Fail> {
 }
 
 /// `--data`, `--check`, `--no-ask`, `--repeat` and `--qualitybar`.
-type Chosen = (bool, bool, bool, u8, bool);
+type GetOptions = (bool, bool, bool, u8, bool);
 
-const GETS: [(&[u8], Chosen); 9] = [
+const GETS: [(&[u8], GetOptions); 9] = [
     (b"GET_PASSPHRASE id1", (false, false, false, 0, false)),
     (
         b"GET_PASSPHRASE --no-ask --data id1",
@@ -226,13 +226,13 @@ const TEXTS: [(&[u8], &[u8], &[u8], &[u8]); 3] = [
 #[test]
 fn passphrases_are_asked_for(rt: HostRuntime) -> Result<(), Fail> {
     use CacheCommand::GetPassphrase;
-    for (line, chosen) in GETS {
+    for (line, options) in GETS {
         let answer = request(line)?;
         assert!(rt;
             matches!(
                 &answer,
                 Request::Cache(GetPassphrase { plain, check, no_ask, repeat, quality, .. })
-                    if (*plain, *check, *no_ask, *repeat, *quality) == chosen
+                    if (*plain, *check, *no_ask, *repeat, *quality) == options
             ),
             "at {line:?}"
         );

@@ -46,18 +46,18 @@ leaves_all reader took is left = rw is refl
 
 module _ {w : World} (exchange : LineRelation w) (before : OptionValues) (start : SessionState w) where
   -- How a session stands between two requests: whatever it does from there on completes what it did so far.
-  pub record IsServing (now : SessionState w) (choices : OptionValues) : Type 0 where
+  pub record IsServing (now : SessionState w) (options : OptionValues) : Type 0 where
     pub events : List (Event w.Further)
     pub done : EventsLead events start now
-    pub continues : (more : List (Event w.Further)) (end : SessionEnd) → Talk exchange choices more end → Talk exchange before (events ++ more) end
+    pub continues : (more : List (Event w.Further)) (end : SessionEnd) → Talk exchange options more end → Talk exchange before (events ++ more) end
 
   pub serves_none : IsServing start before
   serves_none = record { events = []; done = done_none start; continues = λ more end talk. talk }
 
-  module _ (now : SessionState w) (choices : OptionValues) (serving : IsServing now choices) where
+  module _ (now : SessionState w) (options : OptionValues) (serving : IsServing now options) where
     -- the session's end, after these events more
     finishes : (last : SessionState w) (more : List (Event w.Further)) (end : SessionEnd) → EventsLead more now last
-        → Talk exchange choices more end → ((left : List ℕ) → Leaves end (unread last.conn.reader left) left)
+        → Talk exchange options more end → ((left : List ℕ) → Leaves end (unread last.conn.reader left) left)
         → FaultsRise (End end) now last → ServesRequests exchange before start end last
     finishes last more end done talk leaves_so faults = record {
       events = serving.events ++ more;
@@ -82,7 +82,7 @@ module _ {w : World} (exchange : LineRelation w) (before : OptionValues) (start 
       received_as took is = subst (λ t. EventsLead {w = w} (Received t ∷ []) now read) is received
 
       module _ (line : List ℕ) (is : answer ≡ took.Line line) (after : OptionValues) (last : SessionState w) where
-        pub serves_on : AnswersRequest {w = w} (λ kept. exchange kept line) choices read On after last → IsServing last after
+        pub serves_on : AnswersRequest {w = w} (λ kept. exchange kept line) options read On after last → IsServing last after
         serves_on answered = record {
           events = serving.events ++ (Received (took.Line line) ∷ answered.events);
           done = done_then serving.done (done_then (received_as (took.Line line) is) answered.done);
@@ -91,7 +91,7 @@ module _ {w : World} (exchange : LineRelation w) (before : OptionValues) (start 
               (serving.continues (Received (took.Line line) ∷ (answered.events ++ more)) end (goes_on line answered.exchanges talk));
         }
 
-        pub is_over : (end : SessionEnd) → AnswersRequest {w = w} (λ kept. exchange kept line) choices read (End end) after last
+        pub is_over : (end : SessionEnd) → AnswersRequest {w = w} (λ kept. exchange kept line) options read (End end) after last
             → ServesRequests exchange before start end last
         is_over end answered =
             finishes last (Received (took.Line line) ∷ answered.events) end (done_then (received_as (took.Line line) is) answered.done)
