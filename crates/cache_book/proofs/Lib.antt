@@ -12,3 +12,4 @@ pub mod Stretch
 pub mod Searching
 pub mod Holding
 pub mod Below
+pub mod Wiping

@@ -33,11 +33,6 @@ less_or_equal Less p h = inl refl
 less_or_equal Equal p h = inr refl
 less_or_equal Greater p h = cc
 
-is_less : (o : Ordering) → is_lt o ≡ true → o ≡ Less
-is_less Less h = refl
-is_less Equal h = cc
-is_less Greater h = cc
-
 upto_cases : (o : Ordering) → is_le o ≡ true → (o ≡ Less) ⊎ (o ≡ Equal)
 upto_cases Less h = inl refl
 upto_cases Equal h = inr refl

@@ -1,10 +1,10 @@
 -- Searching slots that stand by their ids: what lies outside of the stretch of an id, and what a place says.
-use Rattle.std.specs.Prelude.{◌≡◌, ℕ, ◌<◌, ◌≤◌, ◌==◌, List, [], ◌∷◌, ◌⊎◌, Bool, true, false, ◌&&◌, not, max, map, take, drop, cond, nat_lt, nat_le, length, get_or, set, refl}
+use Rattle.std.specs.Prelude.{◌≡◌, ℕ, ◌+◌, ◌<◌, ◌≤◌, ◌==◌, List, [], ◌∷◌, ◌⊎◌, Bool, true, false, ◌&&◌, not, max, take, drop, cond, nat_lt, nat_le, length, get_or, set, refl}
 use Rattle.std.proofs.Common.{ap, sym, ◌∙◌, subst, arith, zero, suc, inl, inr}
 use Rattle.std.proofs.lemmas.Bool.Decides.{nat_tests}
 use Rattle.std.specs.List.{AllByRecursion, AllWithin, HoldsAt}
 use Rattle.std.specs.List.Sorted.{IsPartitionPoint}
-use Rattle.std.proofs.lemmas.List.Elements.{All-from_recursion, recursion_from_All}
+use Rattle.std.proofs.lemmas.List.Elements.{All-from_recursion, recursion_from_All, AllWithin-upto}
 use Rattle.std.proofs.lemmas.Cmp.{nat_list_eq_equiv}
 use Rattle.std.proofs.lemmas.List.{get_or_default}
 use Rattle.cache_policy.specs.declared.mode.Mode.{Mode}
@@ -14,9 +14,9 @@ use Rattle.cache_policy.specs.Entry.{same_id, within}
 use Rattle.cache_policy.proofs.Lists.{all_weaker, all_drop}
 use Rattle.cache_book.specs.declared.slot.Slot.{Slot}
 use Rattle.cache_book.specs.Modes.{holds, has_some, not_covered}
-use Rattle.cache_book.specs.Shelves.{serves_at, ServesNone, IsOneOf, here, further, touch_slot, touched, hidden, cleared, swept}
+use Rattle.cache_book.specs.Shelves.{serves_at, ServesNone, IsOneOf, here, further, touch_slot, touched, hidden, cleared}
 use Rattle.cache_book.specs.Hashes.{id_hash}
-use Rattle.cache_book.specs.SlotOrders.{has_lower_hash, has_hash_upto, swept_hash, wiped, wipe_past, AreById, HaveOwnNumbers, AreServing}
+use Rattle.cache_book.specs.SlotOrders.{has_lower_hash, has_hash_upto, swept_hash, AreById, HaveOwnNumbers, AreServing}
 use Rattle.cache_book.proofs.Ordered.{lower_back, hash_upto_back, hash_apart}
 use Rattle.cache_book.proofs.Arranging.{all_take_within, all_drop_within, pairs_parted}
 
@@ -38,16 +38,30 @@ lower_apart hash n h = grind (arith, nat_tests)
 higher_apart : (hash n : ℕ) → nat_le n hash ≡ false → (hash == n) ≡ false
 higher_apart hash n h = grind (arith, nat_tests)
 
--- where a slot has a lower hash, those before it have
-pub lower_before : (hash : ℕ) (list : List Slot) → AreById list → (i : ℕ) (slot : Slot) → i < length list → slot ≡ get_or list i slot → has_lower_hash hash slot ≡ true
-    → (k : ℕ) (d : Slot) → k ≤ i → has_lower_hash hash (get_or list k d) ≡ true
-lower_before hash list by_id i slot within is lower k d le =
-    pairs_parted _ (has_lower_hash hash) (lower_back hash) list by_id k i d le within
-    (subst (λ (s : Slot). has_lower_hash hash s ≡ true) (is ∙ get_or_default list i slot d within) lower)
+-- the first slot whose hash isn't lower is at low, or among those that are left behind it
+pub record IsNarrowed (hash : ℕ) (list : List Slot) (low left : ℕ) : Type 0 where
+  pub within : low + left ≤ length list
+  pub before : (k : ℕ) (d : Slot) → k < low → has_lower_hash hash (get_or list k d) ≡ true
+  pub behind : (k : ℕ) (d : Slot) → low + left ≤ k → k < length list → has_lower_hash hash (get_or list k d) ≡ false
+
+-- where a slot has a lower hash, those before it have, and where it hasn't, none behind it has
+module _ (hash : ℕ) (list : List Slot) (by_id : AreById list) (i : ℕ) (slot : Slot) (within : i < length list) (is : slot ≡ get_or list i slot) where
+  there : (b : Bool) → has_lower_hash hash slot ≡ b → (d : Slot) → has_lower_hash hash (get_or list i d) ≡ b
+  there b h d = subst (λ (s : Slot). has_lower_hash hash s ≡ b) (is ∙ get_or_default list i slot d within) h
+
+  pub lower_before : has_lower_hash hash slot ≡ true → (k : ℕ) (d : Slot) → k ≤ i → has_lower_hash hash (get_or list k d) ≡ true
+  lower_before lower k d le = pairs_parted _ (has_lower_hash hash) (lower_back hash) list by_id k i d le within (there true lower d)
+
+  pub none_behind : has_lower_hash hash slot ≡ false → (k : ℕ) (d : Slot) → i ≤ k → k < length list → has_lower_hash hash (get_or list k d) ≡ false
+  none_behind above k d le lt = elim (has_lower_hash hash (get_or list k d)) as (λ b. has_lower_hash hash (get_or list k d) ≡ b → b ≡ false) [
+    | true ↦ λ e. let first : has_lower_hash hash (get_or list i d) ≡ true = pairs_parted _ (has_lower_hash hash) (lower_back hash) list by_id i k d le lt e in
+        let not : has_lower_hash hash (get_or list i d) ≡ false = there false above d in cc
+    | false ↦ λ e. refl
+  ] refl
 
 -- where no slot of the stretch of the id's hash serves a request, none does
 module _ (id : List ℕ) (mode : Mode) (now : ℕ) (list : List Slot) (hash : ℕ) (hash_is : hash ≡ id_hash id) (start i : ℕ)
-    (starts : (k : ℕ) (d : Slot) → k < start → has_lower_hash hash (get_or list k d) ≡ true)
+    (starts : IsPartitionPoint (λ slot. has_lower_hash hash slot ≡ true) (λ slot. has_lower_hash hash slot ≡ false) list start)
     (none : AllWithin (λ slot. serves_at id mode now slot ≡ false) list start i) where
   split : (k n : ℕ) → (k < n) ⊎ (n ≤ k)
   split k n = search arith
@@ -59,7 +73,7 @@ module _ (id : List ℕ) (mode : Mode) (now : ℕ) (list : List Slot) (hash : �
   none_if after = recursion_from_All (λ slot. serves_at id mode now slot ≡ false) list (λ k d lt. at k d lt (split k start) (split k i))
     where
       at : (k : ℕ) (d : Slot) → k < length list → (k < start) ⊎ (start ≤ k) → (k < i) ⊎ (i ≤ k) → serves_at id mode now (get_or list k d) ≡ false
-      at k d lt (inl before) e = other_hash (get_or list k d) (lower_apart hash (id_hash (get_or list k d).entry.id) (starts k d before))
+      at k d lt (inl before) e = other_hash (get_or list k d) (lower_apart hash (id_hash (get_or list k d).entry.id) (starts.0 k d (omega arith) before))
       at k d lt (inr from) (inl before) = none k d from before
       at k d lt (inr from) (inr past) = after k d past lt
 
@@ -140,16 +154,6 @@ swept_hash-apart hash now (slot ∷ later) h =
     ap (λ b. cond (not (b && not (within slot.entry slot.last now))) (slot ∷ swept_hash hash now later) (swept_hash hash now later)) h.0
     ∙ ap (λ (l : List Slot). slot ∷ l) (swept_hash-apart hash now later h.1)
 
--- what is wiped is dropped
-pub swept-wiped : (now : ℕ) (list : List Slot) → swept now (map (wipe_past now) list) ≡ swept now list
-swept-wiped now [] = refl
-swept-wiped now (slot ∷ later) =
-    elim (within slot.entry slot.last now) as (λ b. within slot.entry slot.last now ≡ b
-    → swept now (cond b slot (wiped slot) ∷ map (wipe_past now) later) ≡ cond b (slot ∷ swept now later) (swept now later)) [
-      | true ↦ λ e. ap (λ b. cond b (slot ∷ swept now (map (wipe_past now) later)) (swept now (map (wipe_past now) later))) e ∙ ap (λ (l : List Slot). slot ∷ l) (swept-wiped now later)
-      | false ↦ λ e. ap (λ b. cond b (wiped slot ∷ swept now (map (wipe_past now) later)) (swept now (map (wipe_past now) later))) e ∙ swept-wiped now later
-    ] refl
-
 -- the ends of a stretch
 all_taken : {A : Type 0} (P : A → Type 0) (i : ℕ) (xs : List A) → AllByRecursion P xs → AllByRecursion P (take i xs)
 all_taken P zero xs h = tt
@@ -165,12 +169,12 @@ behind_hash hash xs list end same parts =
     (all_drop_within (λ slot. has_hash_upto hash slot ≡ false) end xs parts.1))
 
 pub before_hash : (hash : ℕ) (xs list : List Slot) (start i : ℕ) → xs ≡ list → start ≤ length xs → i ≤ start
-    → ((k : ℕ) (d : Slot) → k < start → has_lower_hash hash (get_or xs k d) ≡ true)
+    → IsPartitionPoint (λ slot. has_lower_hash hash slot ≡ true) (λ slot. has_lower_hash hash slot ≡ false) xs start
     → AllByRecursion (λ slot. (hash == id_hash slot.entry.id) ≡ false) (take i list)
-before_hash hash xs list start i same le upto lower =
+before_hash hash xs list start i same le upto parts =
     subst (λ (l : List Slot). AllByRecursion (λ slot. (hash == id_hash slot.entry.id) ≡ false) (take i l)) same
     (all_weaker (λ slot. has_lower_hash hash slot ≡ true) (λ slot. (hash == id_hash slot.entry.id) ≡ false) (λ slot h. lower_apart hash (id_hash slot.entry.id) h) (take i xs)
-    (all_take_within (λ slot. has_lower_hash hash slot ≡ true) i xs (omega arith) (λ k d from lt. lower k d (omega arith))))
+    (all_take_within (λ slot. has_lower_hash hash slot ≡ true) i xs (omega arith) (AllWithin-upto (λ slot. has_lower_hash hash slot ≡ true) xs 0 start i upto parts.0)))
 
 -- and of the hash of an id
 pub other_ids : (id : List ℕ) (hash : ℕ) (list : List Slot) → hash ≡ id_hash id → AllByRecursion (λ slot. (hash == id_hash slot.entry.id) ≡ false) list

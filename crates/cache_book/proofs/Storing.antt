@@ -40,10 +40,6 @@ within-used entry last now moment is =
     let ttl : within_ttl entry.ttl (max last now) moment ≡ true = within_ttl-used entry.ttl last (max last now) moment (omega arith) parts.0 in
     ap (λ b. b && nat_le moment (entry.entered + entry.max)) ttl ∙ parts.1
 
-not_gone : (gone : Bool) → not gone ≡ true → gone ≡ false
-not_gone true h = cc
-not_gone false h = refl
-
 -- a mark that gives a live entry counts as a use of it
 pub slots-given : (limits : Limits) (history : History) (mark : Mark) (number : ℕ) → stored limits history mark.step mark.moment ≡ []
     → ((entry : Entry) → takes_away entry mark.step ≡ false) → ((other : ℕ) → gives other mark.reply ≡ (number == other))

@@ -1,4 +1,4 @@
--- Private: a number of each id, by which ids are told apart without their bytes. This is the project's own.
+-- A number of each id, by which most ids are known from others without their bytes. This is the project's own.
 use Rattle.std.specs.Prelude.{ℕ, List}
 use Rattle.std.specs.Hash.FoldHasher.{initial, write, finish}
 

@@ -70,3 +70,10 @@ wiped slot = record slot { entry = record slot.entry { secret = [] } }
 -- the same where it is past a lifetime
 abbrev pub wipe_past : ℕ → Slot → Slot
 wipe_past now slot = if within slot.entry slot.last now then slot else wiped slot
+
+-- no slot has a passphrase, or none that is past a lifetime
+abbrev pub AreWiped : List Slot → Type 0
+AreWiped list = AllByRecursion (λ slot. slot.entry.secret ≡ []) list
+
+abbrev pub AreWipedPast : ℕ → List Slot → Type 0
+AreWipedPast now list = AllByRecursion (λ slot. within slot.entry slot.last now ≡ false → slot.entry.secret ≡ []) list

@@ -83,14 +83,14 @@ impl BoxedSlot {
     pub(crate) fn is_past(&self, hash: u64, now: u64) -> bool
         ensures { result ≡ has_hash_past hash now self.now }
     {
-        hash == self.hash && !self.slot.entry.within(self.slot.last, now)
+        hash == self.hash && !self.slot.is_within(now)
     }
 
     /// Overwrites the passphrase of a slot that is past a lifetime at `now`, and leaves any other.
     pub(crate) fn wipe_past(&mut self, now: u64)
         ensures { self.new ≡ wipe_past now self.old }
     {
-        if !self.slot.entry.within(self.slot.last, now) {
+        if !self.slot.is_within(now) {
             self.slot.entry.secret.clear();
         }
     }

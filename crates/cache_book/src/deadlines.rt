@@ -1,4 +1,4 @@
-ghost use Rattle.std.specs.Prelude.{◌≡◌, ◌+◌, ◌<◌, ◌≤◌, ◌==◌, ◌||◌, true, false, [], OnOk, IfSome, IfNone, IsSome};
+ghost use Rattle.std.specs.Prelude.{◌≡◌, ◌+◌, ◌<◌, ◌≤◌, ◌==◌, ◌||◌, true, false, [], nat_le, OnOk, IfSome, IfNone, IsSome};
 ghost use Rattle.std.specs.BinaryHeap.{IsHeap, heap_items, heap_len, heap_capacity};
 ghost use Rattle.std.specs.List.{AllByRecursion};
 ghost use Rattle.cache_book.specs.declared.deadlines.Place.{Place as OnePlace};
@@ -78,7 +78,7 @@ impl Deadlines {
     }
 
     pub(crate) fn is_full(&self) -> bool
-        ensures { result ≡ false → self.now.len < self.now.capacity }
+        ensures { result ≡ nat_le self.now.capacity self.now.len }
     {
         self.places.capacity() <= self.places.len()
     }
@@ -115,12 +115,18 @@ impl Deadlines {
         pop_past_in(&mut self.places, now)
     }
 
-    /// Drops those before `now`.
-    pub(crate) fn drop_past(&mut self, now: u64)
+    /// Drops those before `now`, and answers whether there was one.
+    pub(crate) fn drop_past(&mut self, now: u64) -> bool
         ensures later { (place : OnePlace) → now ≤ place.moment → is_among place self.new.places ≡ is_among place self.old.places }
+        ensures gone { AllByRecursion (λ place. now ≤ place.0.moment) self.new.places }
+        ensures unchanged { result ≡ false → self.new.places ≡ self.old.places }
         ensures capacity { self.new.capacity ≡ self.old.capacity }
     {
-        while self.pop_past(now).is_some() {}
+        let mut some = false;
+        while self.pop_past(now).is_some() {
+            some = true;
+        }
+        some
     }
 }
 

@@ -4,7 +4,7 @@ ghost use Rattle.cache_book.specs.Hashes.{id_hash};
 use cache_policy::CacheId;
 use std::hash::{FoldHasher, Hasher};
 
-/// A number of an id, which tells it from others also where they begin alike.
+/// A number of an id, by which it is nearly always known from others, also where they begin alike.
 #[tactic(auto, unfolding(crate::specs::Hashes::id_hash))]
 pub(crate) fn hash_of(id: &CacheId) -> u64
     ensures { result ≡ id_hash id.now }

@@ -70,7 +70,7 @@ impl Shelf for ListShelf {
     }
 
     fn sweep(&mut self, now: u64) {
-        self.slots.retain(|slot| slot.entry.within(slot.last, now));
+        self.slots.retain(|slot| slot.is_within(now));
     }
 }
 

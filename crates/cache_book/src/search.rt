@@ -1,11 +1,10 @@
 // Finding slots among slots in the order of their ids.
 ghost use Rattle.std.specs.Prelude.{◌≡◌, ℕ, ◌+◌, ◌<◌, ◌≤◌, ◌==◌, true, false, length, get_or, IfSome, IfNone};
-ghost use Rattle.std.specs.List.{HoldsAt, AllByRecursion};
+ghost use Rattle.std.specs.List.{HoldsAt, AllByRecursion, AllWithin};
 ghost use Rattle.std.specs.List.Sorted.{IsPartitionPoint};
 ghost use Rattle.cache_book.specs.Shelves.{serves_at, IsGrantFrom, ServesNone};
 ghost use Rattle.cache_book.specs.SlotOrders.{id_cmp, is_upto, has_lower_hash, has_hash_upto, AreById, AreKept};
 ghost use Rattle.cache_book.specs.Hashes.{id_hash};
-ghost use Rattle.cache_book.specs.declared.slot.Slot.{Slot as OneSlot};
 
 use crate::boxed_slot::BoxedSlot;
 use crate::id_hash::hash_of;
@@ -24,13 +23,13 @@ fn compare(slot: &BoxedSlot, id: &CacheId, hash: u64) -> Ordering
     }
 }
 
-/// A place that only slots with lower hashes stand before: behind all of those. No box is read.
+/// The place of the first slot whose hash isn't lower than this one. No box is read.
 ///
 /// It looks at three hashes together, so that over many the memory of one comes while that of another does.
 pub(crate) fn behind_lower_hashes(slots: &[BoxedSlot], hash: u64) -> usize
     requires { AreById slots.now }
     ensures within { result ≤ length slots.now }
-    ensures before { (k : ℕ) (default : OneSlot) → k < result → has_lower_hash hash (get_or slots.now k default) ≡ true }
+    ensures parts { IsPartitionPoint (λ slot. has_lower_hash hash slot ≡ true) (λ slot. has_lower_hash hash slot ≡ false) slots.now result }
 {
     let mut low = 0;
     let mut left = slots.len();
@@ -95,33 +94,57 @@ fn serving(slots: &[BoxedSlot], id: &CacheId, mode: Mode, now: u64) -> Option<us
     None
 }
 
-/// The passphrase for a request at `now`, and in `found` the place of its slot.
+/// Where a slot was found: its place then, and the hash of its id.
+#[derive(Clone, Copy)]
+pub(crate) struct Found {
+    pub(crate) place: usize,
+    pub(crate) hash: u64,
+}
+
+/// The passphrase for a request at `now`, and in `found` where its slot is.
 pub(crate) fn grant_from(
     slots: &[BoxedSlot],
     id: &CacheId,
     mode: Mode,
     now: u64,
-    found: &Cell<usize>,
+    found: &Cell<Found>,
 ) -> Option<Grant>
     requires { AreKept slots.now }
     ensures found { IfSome result (IsGrantFrom slots.now id.now mode now) }
     ensures none { IfNone result (ServesNone slots.now id.now mode now) }
 {
     let i = serving(slots, id, mode, now)?;
-    found.set(i);
+    found.set(Found {
+        place: i,
+        hash: slots[i].hash(),
+    });
     let slot = slots[i].get();
     Grant::of(id.copy(), mode, slot.entry.copy(), slot.last, now)
 }
 
-/// The place of the slot with this number, which may be at `guess`.
-pub(crate) fn with_number(slots: &[BoxedSlot], guess: usize, number: u64) -> Option<usize>
+/// The place of the slot with this number, which may be the one that was found. It has moved since where others were dropped.
+pub(crate) fn with_number(slots: &[BoxedSlot], found: Found, number: u64) -> Option<usize>
+    requires { AreById slots.now }
     ensures found { IfSome result (λ i. (i < length slots.now) × HoldsAt (λ slot. (number == slot.entry.number) ≡ true) slots.now i) }
     ensures none { IfNone result (AllByRecursion (λ slot. (number == slot.entry.number) ≡ false) slots.now) }
 {
-    if guess < slots.len() && number == slots[guess].get().entry.number {
-        return Some(guess);
+    if found.place < slots.len() && number == slots[found.place].get().entry.number {
+        return Some(found.place);
     }
-    for i in 0..slots.len() {
+    let start = behind_lower_hashes(slots, found.hash);
+    match number_within(slots, start, slots.len(), number) {
+        Some(i) => Some(i),
+        None => number_within(slots, 0, start, number),
+    }
+}
+
+/// The place of the slot with this number among those from `start` up to `end`.
+fn number_within(slots: &[BoxedSlot], start: usize, end: usize, number: u64) -> Option<usize>
+    requires { end ≤ length slots.now }
+    ensures found { IfSome result (λ i. (i < length slots.now) × HoldsAt (λ slot. (number == slot.entry.number) ≡ true) slots.now i) }
+    ensures none { IfNone result (AllWithin (λ slot. (number == slot.entry.number) ≡ false) slots.now start end) }
+{
+    for i in start..end {
         if number == slots[i].get().entry.number {
             return Some(i);
         }

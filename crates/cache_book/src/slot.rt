@@ -14,6 +14,7 @@ pub struct Slot {
 }
 
 impl Slot {
+    ghost use Rattle.cache_policy.specs.Entry.{within};
     ghost use Rattle.cache_book.specs.Shelves.{serves_at, touch_slot, hide, new_slot};
 
     /// The slot of a new entry, which serves all that its mode covers.
@@ -25,12 +26,19 @@ impl Slot {
         Slot { entry, last, modes }
     }
 
+    /// Whether it is within both lifetimes at `now`, in seconds.
+    pub fn is_within(&self, now: u64) -> bool
+        ensures { result ≡ within self.now.entry self.now.last now }
+    {
+        self.entry.within(self.last, now)
+    }
+
     /// Whether a request for `id` in `mode` is given it at `now`, in seconds.
     pub fn serves_at(&self, id: &CacheId, mode: Mode, now: u64) -> bool
         ensures { result ≡ serves_at id.now mode now self.now }
     {
         // The id comes last: a processor fetches the memory of all three at once.
-        self.modes.holds(mode) && self.entry.within(self.last, now) && self.entry.id == *id
+        self.modes.holds(mode) && self.is_within(now) && self.entry.id == *id
     }
 
     /// Its ttl starts again where it is the entry with this number.

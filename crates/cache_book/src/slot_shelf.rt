@@ -1,14 +1,16 @@
 ghost use Rattle.std.specs.Prelude.{◌≡◌, ◌+◌, ◌<◌, ◌≤◌, ◌^◌, ◌==◌, ◌||◌, [], true, length, map, OnOk, vec_len, vec_capacity};
 ghost use Rattle.std.specs.List.{AllByRecursion, insert, remove};
 ghost use Rattle.cache_book.specs.Shelves.{touched, cleared, hidden, swept, with_entry, AreBelow};
-ghost use Rattle.cache_book.specs.SlotOrders.{by_number, wiped, wipe_past, swept_hash, HaveOwnNumbers, AreKept};
+ghost use Rattle.cache_book.specs.SlotOrders.{by_number, wiped, wipe_past, swept_hash, AreKept, AreWiped, AreWipedPast};
 ghost use Rattle.cache_book.specs.Deadlines.{place_of, is_place, is_among, HavePlaces};
 
 use crate::Shelf;
 use crate::boxed_slot::BoxedSlot;
 use crate::deadlines::{Deadlines, Place};
 use crate::id_hash::hash_of;
-use crate::search::{before_higher_hashes, behind_lower_hashes, end_of, grant_from, with_number};
+use crate::search::{
+    Found, before_higher_hashes, behind_lower_hashes, end_of, grant_from, with_number,
+};
 use cache_policy::{CacheId, Entry, Grant, Mode, NoMemory};
 use std::alloc::Global;
 use std::cell::Cell;
@@ -28,7 +30,7 @@ pub struct SlotShelf {
     // Memory for slots to come.
     blanks: Vec<BoxedSlot>,
     // Where a slot was found last, which is the one that is touched next. It is a guess: `touch` looks whether it is right.
-    found: Cell<usize>,
+    found: Cell<Found>,
 }
 
 impl Model for SlotShelf {
@@ -53,7 +55,7 @@ impl SlotShelf {
             slots: Vec::new(alloc),
             deadlines: Deadlines::new(alloc),
             blanks: Vec::new(alloc),
-            found: Cell::new(0),
+            found: Cell::new(Found { place: 0, hash: 0 }),
         }
     }
 }
@@ -66,8 +68,8 @@ impl Shelf for SlotShelf {
     }
 
     fn touch(&mut self, number: u64, now: u64) {
-        let guess = self.found.get();
-        touch_in(&mut self.slots, &mut self.deadlines, guess, number, now);
+        let found = self.found.get();
+        touch_in(&mut self.slots, &mut self.deadlines, found, number, now);
     }
 
     fn reserve(&mut self, n: usize) -> Result<(), NoMemory> {
@@ -94,8 +96,8 @@ impl Shelf for SlotShelf {
     }
 
     fn flush(&mut self) {
-        wipe_each(self.slots.as_mut_slice());
-        self.slots.clear();
+        wipe_all(&mut self.slots);
+        drop_all(&mut self.slots);
         self.deadlines.clear();
     }
 
@@ -116,7 +118,7 @@ fn add_blanks(blanks: &mut Vec<BoxedSlot>, n: usize) -> Result<(), NoMemory>
     Ok(())
 }
 
-/// Makes room for the places of `n` slots more. It makes twice as much, so that collecting them anew is rare.
+/// Makes room for the places of `n` slots more. It makes twice as much beside them, so that collecting them anew is rare.
 fn reserve_deadlines(
     deadlines: &mut Deadlines,
     slots: &[BoxedSlot],
@@ -141,6 +143,7 @@ fn reserve_deadlines(
 fn collect_anew(deadlines: &mut Deadlines, slots: &[BoxedSlot])
     requires { length slots.now ≤ deadlines.old.capacity }
     ensures held { HavePlaces deadlines.new.places slots.now }
+    ensures len { deadlines.new.len ≡ length slots.now }
     ensures capacity { deadlines.old.capacity ≤ deadlines.new.capacity }
 {
     deadlines.clear();
@@ -163,15 +166,15 @@ fn add_place(deadlines: &mut Deadlines, slots: &[BoxedSlot], place: Place)
     deadlines.add(place);
 }
 
-/// Restarts the ttl of the entry with this number, whose slot may be at `guess`.
+/// Restarts the ttl of the entry with this number, whose slot may be the one that was found.
 fn touch_in(
     slots: &mut Vec<BoxedSlot>,
     deadlines: &mut Deadlines,
-    guess: usize,
+    found: Found,
     number: u64,
     now: u64,
 )
-    requires own { HaveOwnNumbers slots.old.items }
+    requires kept { AreKept slots.old.items }
     requires held { HavePlaces deadlines.old.places slots.old.items }
     requires room { vec_len slots.old ≤ deadlines.old.capacity }
     ensures items { slots.new.items ≡ touched number now slots.old.items }
@@ -180,7 +183,7 @@ fn touch_in(
     ensures capacity { vec_capacity slots.new ≡ vec_capacity slots.old }
     ensures room { deadlines.old.capacity ≤ deadlines.new.capacity }
 {
-    if let Some(i) = with_number(slots.as_slice(), guess, number) {
+    if let Some(i) = with_number(slots.as_slice(), found, number) {
         if let Some(place) = slots[i].touch(number, now) {
             add_place(deadlines, slots.as_slice(), place);
         }
@@ -267,8 +270,13 @@ fn drop_slot(slots: &mut Vec<BoxedSlot>, i: usize)
     ensures capacity { vec_capacity slots.new ≡ vec_capacity slots.old }
 {
     slots[i].wipe();
-    let _ = slots.remove(i);
+    give_back(slots.remove(i));
 }
+
+/// Gives the memory of a slot back, whose passphrase was overwritten where it lay.
+fn give_back(_slot: BoxedSlot)
+    requires { _slot.entry.secret ≡ [] }
+{}
 
 /// Drops the slots that are past a lifetime at `now`: by the places in front, and where many of these are past, in a walk over all slots.
 fn sweep_in(slots: &mut Vec<BoxedSlot>, deadlines: &mut Deadlines, now: u64)
@@ -286,8 +294,9 @@ fn sweep_in(slots: &mut Vec<BoxedSlot>, deadlines: &mut Deadlines, now: u64)
         };
         sweep_hash(slots, hash, now);
     }
-    deadlines.drop_past(now);
-    sweep_all(slots, now);
+    if deadlines.drop_past(now) {
+        sweep_all(slots, now);
+    }
 }
 
 /// Drops those of the slots with this hash that are past a lifetime at `now`.
@@ -314,7 +323,17 @@ fn sweep_all(slots: &mut Vec<BoxedSlot>, now: u64)
     ensures capacity { vec_capacity slots.new ≡ vec_capacity slots.old }
 {
     wipe_past_in(slots, now);
-    slots.retain(|slot| slot.get().entry.within(slot.get().last, now));
+    drop_past(slots, now);
+}
+
+/// Drops the slots that are past a lifetime at `now`, whose passphrases were overwritten where they lay.
+fn drop_past(slots: &mut Vec<BoxedSlot>, now: u64)
+    requires { AreWipedPast now slots.old.items }
+    ensures items { slots.new.items ≡ swept now slots.old.items }
+    ensures len { vec_len slots.new ≤ vec_len slots.old }
+    ensures capacity { vec_capacity slots.new ≡ vec_capacity slots.old }
+{
+    slots.retain(|slot| slot.get().is_within(now));
 }
 
 fn wipe_past_in(slots: &mut Vec<BoxedSlot>, now: u64)
@@ -331,6 +350,24 @@ fn wipe_past_each(slots: &mut [BoxedSlot], now: u64)
     for slot in slots.iter_mut() {
         slot.wipe_past(now);
     }
+}
+
+/// Drops all slots, whose passphrases were overwritten where they lay.
+fn drop_all(slots: &mut Vec<BoxedSlot>)
+    requires { AreWiped slots.old.items }
+    ensures items { slots.new.items ≡ [] }
+    ensures len { vec_len slots.new ≡ 0 }
+    ensures capacity { vec_capacity slots.new ≡ vec_capacity slots.old }
+{
+    slots.clear();
+}
+
+fn wipe_all(slots: &mut Vec<BoxedSlot>)
+    ensures items { slots.new.items ≡ map wiped slots.old.items }
+    ensures len { vec_len slots.new ≡ vec_len slots.old }
+    ensures capacity { vec_capacity slots.new ≡ vec_capacity slots.old }
+{
+    wipe_each(slots.as_mut_slice());
 }
 
 fn wipe_each(slots: &mut [BoxedSlot])

@@ -7,8 +7,8 @@ use Rattle.cache_book.proofs.search.grant_from.Goals as goal
 
 found : (c : goal.After-of) → IsFound (serves_at c.args.id.now c.args.mode c.args.now) c.args.slots.now c.get-slot.result.now
 found c =
-    let slot : Slot = c.index-slots-i.result in
-    subst (IsFound (serves_at c.args.id.now c.args.mode c.args.now) c.args.slots.now) (sym (c.get-slot.ensures ∙ c.index-slots-i.is)) (record {
+    let slot : Slot = c.index-slots-i-2.result in
+    subst (IsFound (serves_at c.args.id.now c.args.mode c.args.now) c.args.slots.now) (sym (c.get-slot.ensures ∙ c.index-slots-i-2.is)) (record {
       on = one_at c.in_ok-i.i c.args.slots.now slot c.in_ok-i.ensures.found.0;
       passes = c.in_ok-i.ensures.found.1 slot;
     })

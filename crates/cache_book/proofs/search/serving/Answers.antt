@@ -14,7 +14,7 @@ higher m n h = grind (arith, nat_tests)
 pub returns-then-hash-clause-none : goal.returns-then-hash-clause-none
 returns-then-hash-clause-none c =
     let start = c.behind_lower_hashes-start in
-    none_past c.args.id.now c.args.mode c.args.now c.args.slots.now c.hash_of-hash.result c.hash_of-hash.ensures start.result c.loop-i.i start.ensures.before c.loop-i.invariant c.requires
+    none_past c.args.id.now c.args.mode c.args.now c.args.slots.now c.hash_of-hash.result c.hash_of-hash.ensures start.result c.loop-i.i start.ensures.parts c.loop-i.invariant c.requires
     c.index-slots-i.result c.loop-i-test.true c.index-slots-i.is (higher c.hash_of-hash.result (id_hash c.index-slots-i.result.entry.id) (search rules))
 
 pub loop-i-preserved : goal.loop-i-preserved
@@ -27,4 +27,4 @@ loop-i-preserved c =
 pub returns-clause-none : goal.returns-clause-none
 returns-clause-none c =
     let start = c.behind_lower_hashes-start in
-    none_serving c.args.id.now c.args.mode c.args.now c.args.slots.now c.hash_of-hash.result c.hash_of-hash.ensures start.result c.loop-i.i start.ensures.before c.loop-i.invariant c.loop-i-test.false
+    none_serving c.args.id.now c.args.mode c.args.now c.args.slots.now c.hash_of-hash.result c.hash_of-hash.ensures start.result c.loop-i.i start.ensures.parts c.loop-i.invariant c.loop-i-test.false

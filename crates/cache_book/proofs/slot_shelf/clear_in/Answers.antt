@@ -12,7 +12,8 @@ use Rattle.cache_book.proofs.slot_shelf.clear_in.Goals as goal
 pub loop-i-init : goal.loop-i-init
 loop-i-init c = record {
   done = done-none (cleared c.args.id.now c.args.mode) (filter_slotwise _) c.before_higher_hashes-i.result c.args.slots.now.items c.args.slots.now.items (search rules)
-      (cleared-apart c.args.id.now c.args.mode _ (other_ids c.args.id.now c.hash_of-hash.result _ c.hash_of-hash.ensures (behind_hash c.hash_of-hash.result c.as_slice-2.result.now c.args.slots.now.items c.before_higher_hashes-i.result c.as_slice-2.ensures.value c.before_higher_hashes-i.ensures.parts)));
+      (cleared-apart c.args.id.now c.args.mode _ (other_ids c.args.id.now c.hash_of-hash.result _ c.hash_of-hash.ensures
+      (behind_hash c.hash_of-hash.result c.as_slice-2.result.now c.args.slots.now.items c.before_higher_hashes-i.result c.as_slice-2.ensures.value c.before_higher_hashes-i.ensures.parts)));
   len = search rules;
   capacity = refl;
 }
@@ -22,7 +23,8 @@ returns-clause-items c =
     done-all (cleared c.args.id.now c.args.mode) (filter_slotwise _) c.loop-i.i c.args.slots.now.items c.loop-i.slots.items c.loop-i.invariant.done
     (cleared-apart c.args.id.now c.args.mode _
     (other_ids c.args.id.now c.hash_of-hash.result _ c.hash_of-hash.ensures
-    (before_hash c.hash_of-hash.result c.as_slice.result.now c.args.slots.now.items c.behind_lower_hashes-start.result c.loop-i.i c.as_slice.ensures.value c.behind_lower_hashes-start.ensures.within c.loop-i-test.false c.behind_lower_hashes-start.ensures.before)))
+    (before_hash c.hash_of-hash.result c.as_slice.result.now c.args.slots.now.items c.behind_lower_hashes-start.result c.loop-i.i c.as_slice.ensures.value c.behind_lower_hashes-start.ensures.within
+    c.loop-i-test.false c.behind_lower_hashes-start.ensures.parts)))
 
 pub loop-i-preserved-then-covers : goal.loop-i-preserved-then-covers
 loop-i-preserved-then-covers c =

@@ -12,7 +12,8 @@ pub loop-i-init : goal.loop-i-init
 loop-i-init c = record {
   done = done-none (hidden c.args.later.now) (hidden_slotwise c.args.later.now) c.before_higher_hashes-i.result c.args.slots.now.items c.args.slots.now.items (search rules)
       (hidden-after c.args.later.now c.args.slots.now.items c.before_higher_hashes-i.result c.requires.serving
-      (other_ids c.args.later.now.id c.hash_of-hash.result _ c.hash_of-hash.ensures (behind_hash c.hash_of-hash.result c.as_slice-2.result.now c.args.slots.now.items c.before_higher_hashes-i.result c.as_slice-2.ensures.value c.before_higher_hashes-i.ensures.parts)));
+      (other_ids c.args.later.now.id c.hash_of-hash.result _ c.hash_of-hash.ensures
+      (behind_hash c.hash_of-hash.result c.as_slice-2.result.now c.args.slots.now.items c.before_higher_hashes-i.result c.as_slice-2.ensures.value c.before_higher_hashes-i.ensures.parts)));
   len = search rules;
   capacity = refl;
 }
@@ -22,7 +23,8 @@ returns-clause-items c =
     done-all (hidden c.args.later.now) (hidden_slotwise c.args.later.now) c.loop-i.i c.args.slots.now.items c.loop-i.slots.items c.loop-i.invariant.done
     (hidden-before c.args.later.now c.args.slots.now.items c.loop-i.i c.requires.serving
     (other_ids c.args.later.now.id c.hash_of-hash.result _ c.hash_of-hash.ensures
-    (before_hash c.hash_of-hash.result c.as_slice.result.now c.args.slots.now.items c.behind_lower_hashes-start.result c.loop-i.i c.as_slice.ensures.value c.behind_lower_hashes-start.ensures.within c.loop-i-test.false c.behind_lower_hashes-start.ensures.before)))
+    (before_hash c.hash_of-hash.result c.as_slice.result.now c.args.slots.now.items c.behind_lower_hashes-start.result c.loop-i.i c.as_slice.ensures.value c.behind_lower_hashes-start.ensures.within
+    c.loop-i-test.false c.behind_lower_hashes-start.ensures.parts)))
 
 pub loop-i-preserved : goal.loop-i-preserved
 loop-i-preserved c = record {

@@ -20,4 +20,4 @@ returns-clause-items c =
     done-all (swept_hash c.args.hash c.args.now) (filter_slotwise _) c.loop-i.i c.args.slots.now.items c.loop-i.slots.items c.loop-i.invariant.done
     (swept_hash-apart c.args.hash c.args.now _
     (before_hash c.args.hash c.as_slice.result.now c.args.slots.now.items c.behind_lower_hashes-start.result c.loop-i.i c.as_slice.ensures.value
-    c.behind_lower_hashes-start.ensures.within c.loop-i-test.false c.behind_lower_hashes-start.ensures.before))
+    c.behind_lower_hashes-start.ensures.within c.loop-i-test.false c.behind_lower_hashes-start.ensures.parts))

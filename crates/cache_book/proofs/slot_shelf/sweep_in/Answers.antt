@@ -1,5 +1,7 @@
-use Rattle.std.specs.Prelude.{◌<◌, ◌^◌}
+use Rattle.std.specs.Prelude.{◌<◌, ◌^◌, List}
 use Rattle.std.proofs.Common.{ap, sym, ◌∙◌, subst, rules}
+use Rattle.std.specs.declared.cmp.Reverse.{Reverse}
+use Rattle.cache_book.specs.declared.deadlines.Place.{Place}
 use Rattle.cache_book.specs.Shelves.{swept}
 use Rattle.cache_book.specs.SlotOrders.{AreKept}
 use Rattle.cache_book.specs.Deadlines.{HavePlaces}
@@ -25,8 +27,15 @@ loop-preserved c =
       room = search rules;
     }
 
-pub returns-clause-held : goal.returns-clause-held
-returns-clause-held c =
+pub returns-then-drop_past-clause-held : goal.returns-then-drop_past-clause-held
+returns-then-drop_past-clause-held c =
     let u64 : c.args.now < 2 ^ 64 = search rules in
     subst (HavePlaces c.drop_past.new.self.places) (sym c.sweep_all.ensures.items)
     (held_swept c.loop.deadlines.places c.drop_past.new.self.places c.args.now u64 c.drop_past.ensures.later c.loop.slots.items c.loop.invariant.held)
+
+pub returns-else-drop_past-clause-items : goal.returns-else-drop_past-clause-items
+returns-else-drop_past-clause-items c =
+    let u64 : c.args.now < 2 ^ 64 = search rules in
+    sym (swept-none c.drop_past.new.self.places c.args.now u64 c.drop_past.ensures.gone c.loop.slots.items
+    (subst (λ (places : List (Reverse Place)). HavePlaces places c.loop.slots.items) (sym (c.drop_past.ensures.unchanged c.if-drop_past.false)) c.loop.invariant.held))
+    ∙ c.loop.invariant.swept_is

@@ -13,12 +13,12 @@ returns-in_default-clause-items c =
 
 pub returns-in-Some-touch-clause-items : goal.returns-in-Some-touch-clause-items
 returns-in-Some-touch-clause-items c =
-    touched_at c.args.number c.args.now c.in-Some.i c.args.slots.now.items c.as_slice.result.now c.index_mut.result.now c.touch.new.self c.requires.own c.as_slice.ensures.value
+    touched_at c.args.number c.args.now c.in-Some.i c.args.slots.now.items c.as_slice.result.now c.index_mut.result.now c.touch.new.self c.requires.kept.own_numbers c.as_slice.ensures.value
     c.in-Some.ensures.found.0 c.in-Some.ensures.found.1 c.index_mut.ensures.value c.touch.ensures.touched
 
 pub returns-in_default-touch-clause-items : goal.returns-in_default-touch-clause-items
 returns-in_default-touch-clause-items c =
-    touched_at c.args.number c.args.now c.in-Some.i c.args.slots.now.items c.as_slice.result.now c.index_mut.result.now c.touch.new.self c.requires.own c.as_slice.ensures.value
+    touched_at c.args.number c.args.now c.in-Some.i c.args.slots.now.items c.as_slice.result.now c.index_mut.result.now c.touch.new.self c.requires.kept.own_numbers c.as_slice.ensures.value
     c.in-Some.ensures.found.0 c.in-Some.ensures.found.1 c.index_mut.ensures.value c.touch.ensures.touched
 
 pub add_place-requires-clause-held : goal.add_place-requires-clause-held

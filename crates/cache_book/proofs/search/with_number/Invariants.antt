@@ -1,6 +1,0 @@
-use Rattle.std.specs.Prelude.{◌≡◌, ◌==◌, false}
-use Rattle.std.specs.List.{AllWithin}
-use Rattle.cache_book.proofs.search.with_number.Given as goal
-
-abbrev pub invariant-loop-i : goal.invariant-loop-i
-invariant-loop-i l = AllWithin (λ slot. (l.number == slot.entry.number) ≡ false) l.slots 0 l.i
