@@ -89,21 +89,20 @@ fn serve_requests<L: Link, D: Desk, P: Prompter>(
     ensures shut { IsShut (P.at prompter.new) }
 {
     loop {
-        match conn.next_request() {
-            Took::Line(mut line) => {
-                let went = answer(&line, rules, options, conn, desk, prompter);
+        let mut took = conn.next_request();
+        match &mut took {
+            Took::Line(line) => {
+                let went = answer(line, rules, options, conn, desk, prompter);
                 line.clear();
                 match went {
                     Went::On => {}
                     Went::End(end) => return end,
                 }
             }
-            Took::TooLong => {
-                return match whole(conn.err(Code::LineTooLong, Origin::Agent)) {
-                    Ok(()) => SessionEnd::TooLong,
-                    Err(WriteFault) => SessionEnd::WriteFault,
-                };
-            }
+            Took::TooLong => match whole(conn.err(Code::LineTooLong, Origin::Agent)) {
+                Ok(()) => return SessionEnd::TooLong,
+                Err(WriteFault) => return SessionEnd::WriteFault,
+            },
             Took::End => return SessionEnd::Ended,
             Took::Spent => return SessionEnd::Spent,
             Took::ReadFault => return SessionEnd::ReadFault,

@@ -94,7 +94,8 @@ impl<'a, L: Link> Conn<'a, L> {
         let mut lines = InquiryLines {
             buffer: VecBuffer::new(alloc, limit),
         };
-        match self.gather(word, params, &mut lines) {
+        let mut took = self.gather(word, params, &mut lines);
+        match &mut took {
             Some(took) => collected(took, lines.buffer),
             None => Inquired::WriteFault,
         }
@@ -112,7 +113,8 @@ impl<'a, L: Link> Conn<'a, L> {
         let mut lines = InquiryLines {
             buffer: SecretBuffer::new(),
         };
-        match self.gather(word, params, &mut lines) {
+        let mut took = self.gather(word, params, &mut lines);
+        match &mut took {
             Some(took) => {
                 let inquired = buffered(took, &lines.buffer);
                 lines.buffer.bytes.clear();
@@ -133,7 +135,8 @@ impl<'a, L: Link> Conn<'a, L> {
         let mut lines = InquiryLines {
             buffer: ByteCounter::new(limit),
         };
-        match self.gather(word, params, &mut lines) {
+        let mut took = self.gather(word, params, &mut lines);
+        match &mut took {
             Some(took) => counted(took, lines.buffer),
             None => Dropped::WriteFault,
         }
@@ -181,8 +184,8 @@ pub fn inquiries_come_to_one_outcome()
 {}
 
 /// What an inquiry comes to whose bytes are kept so, by the answer after its data lines.
-fn collected(took: Took, buffer: VecBuffer) -> Inquired
-    ensures answer { IsAnswer buffer.limit (IsVecOf buffer.limit buffer.bytes.items buffer.overflow) took (Answers (outcome_of result)) }
+fn collected(took: &mut Took, buffer: VecBuffer) -> Inquired
+    ensures answer { IsAnswer buffer.limit (IsVecOf buffer.limit buffer.bytes.items buffer.overflow) took.old (Answers (outcome_of result)) }
     ensures within { IfData result (λ bytes. length bytes ≤ buffer.limit) }
     ensures others { result ≢ Inquired.WriteFault }
 {
@@ -197,8 +200,8 @@ fn collected(took: Took, buffer: VecBuffer) -> Inquired
 }
 
 /// What an inquiry for a secret comes to whose bytes are kept so, by the answer after its data lines.
-fn buffered(took: Took, buffer: &SecretBuffer) -> InquiredSecret
-    ensures answer { IsAnswer MAX_SECRET_LEN (IsSecretOf buffer.now.bytes buffer.now.too_much) took (Answers (outcome_of_secret result)) }
+fn buffered(took: &mut Took, buffer: &SecretBuffer) -> InquiredSecret
+    ensures answer { IsAnswer MAX_SECRET_LEN (IsSecretOf buffer.now.bytes buffer.now.too_much) took.old (Answers (outcome_of_secret result)) }
     ensures others { result ≢ InquiredSecret.WriteFault }
 {
     if let Err(failure) = end_of(took) {
@@ -211,8 +214,8 @@ fn buffered(took: Took, buffer: &SecretBuffer) -> InquiredSecret
 }
 
 /// What an inquiry comes to whose bytes are counted so, by the answer after its data lines.
-fn counted(took: Took, counter: ByteCounter) -> Dropped
-    ensures answer { IsAnswer counter.limit (IsCountOf counter.limit counter.left counter.past) took (AnswersDropped (outcome_of_dropped result)) }
+fn counted(took: &mut Took, counter: ByteCounter) -> Dropped
+    ensures answer { IsAnswer counter.limit (IsCountOf counter.limit counter.left counter.past) took.old (AnswersDropped (outcome_of_dropped result)) }
     ensures others { result ≢ Dropped.WriteFault }
 {
     if let Err(failure) = end_of(took) {

@@ -74,13 +74,13 @@ impl From<Failure> for Dropped {
     }
 }
 
-/// Whether the answer after an inquiry's data lines is END, or why the inquiry has none for its caller.
-pub(crate) fn end_of(took: Took) -> Result<(), Failure>
-    ensures end { OnOk result ((line : List ℕ) × (took ≡ Took.Line line) × IsWord (codes "end") line) }
-    ensures failure { IfErr result (λ failure. (limit : ℕ) (bytes : List ℕ) → ComesTo limit bytes took (without failure)) }
+/// Whether the answer after an inquiry's data lines, which is cleared, is END, or why the inquiry has none for its caller.
+pub(crate) fn end_of(took: &mut Took) -> Result<(), Failure>
+    ensures end { OnOk result ((line : List ℕ) × (took.old ≡ Took.Line line) × IsWord (codes "end") line) }
+    ensures failure { IfErr result (λ failure. (limit : ℕ) (bytes : List ℕ) → ComesTo limit bytes took.old (without failure)) }
 {
     match took {
-        Took::Line(mut line) => {
+        Took::Line(line) => {
             let end = end_of_line(line.bytes());
             line.clear();
             end

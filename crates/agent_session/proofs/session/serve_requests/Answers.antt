@@ -1,4 +1,4 @@
-use Rattle.std.proofs.Common.{◌<◌, arith, refl}
+use Rattle.std.proofs.Common.{◌<◌, arith}
 use Rattle.assuan_line.specs.Next.{held}
 use Rattle.agent_commands.specs.Exchanges.{LineExchange}
 use Rattle.agent_commands.specs.Outside.{prompt_world}
@@ -8,23 +8,23 @@ use Rattle.agent_session.proofs.session.serve_requests.Goals as goal
 pub loop-line-init : goal.loop-line-init
 loop-line-init g c = record { serving = serves_none (LineExchange c.args.rules.now) c.args.options.now _; going = c.requires.open; free = c.requires.free; shut = c.requires.shut }
 
-pub next_request-requires : goal.next_request-requires
-next_request-requires g c = c.loop-line.invariant.going
+pub next_request-took-requires : goal.next_request-took-requires
+next_request-took-requires g c = c.loop-line.invariant.going
 
 pub loop-line-smaller : goal.loop-line-smaller
 loop-line-smaller g c =
-    let fewer : held c.next_request.new.self.reader < held c.loop-line.conn.reader = rw c.in-Line.is at c.next_request.ensures.read.progress in
+    let fewer : held c.next_request-took.new.self.reader < held c.loop-line.conn.reader = rw c.in-Line.is at c.next_request-took.ensures.read.progress in
     let answered = rw c.in-On.is at c.answer-went.ensures.answers in
     omega (arith, fewer, answered.fits.1)
 
-pub loop-line-preserved : goal.loop-line-preserved
-loop-line-preserved g c =
+pub loop-line-preserved-in-On : goal.loop-line-preserved-in-On
+loop-line-preserved-in-On g c =
     let i = c.loop-line.invariant in
     let answered = rw c.in-On.is at c.answer-went.ensures.answers in
     record {
       serving =
           serves_on {w = prompt_world g.D.Desk.turned g.P.Prompter.prompted} (LineExchange c.args.rules.now) c.args.options.now _ _ _ i.serving
-          _ _ i.going c.next_request.ensures c.in-Line.line c.in-Line.is _ _ answered;
+          _ _ i.going c.next_request-took.ensures c.in-Line.line c.in-Line.is _ _ answered;
       going = answered.fits.0;
       free = c.answer-went.ensures.free;
       shut = c.answer-went.ensures.shut;
@@ -36,7 +36,7 @@ returns-in-End-went g c =
     record {
       serves =
           is_over {w = prompt_world g.D.Desk.turned g.P.Prompter.prompted} (LineExchange c.args.rules.now) c.args.options.now _ _ _ i.serving
-          _ _ i.going c.next_request.ensures c.in-Line.line c.in-Line.is _ _ c.in-End-went.end (rw c.in-End-went.is at c.answer-went.ensures.answers);
+          _ _ i.going c.next_request-took.ensures c.in-Line.line c.in-Line.is _ _ c.in-End-went.end (rw c.in-End-went.is at c.answer-went.ensures.answers);
       free = c.answer-went.ensures.free;
       shut = c.answer-went.ensures.shut;
     }
@@ -47,7 +47,7 @@ returns-in-Ok g c =
     record {
       serves =
           at_too_long {w = prompt_world g.D.Desk.turned g.P.Prompter.prompted} (LineExchange c.args.rules.now) c.args.options.now _ _ _ i.serving
-          _ _ i.going c.next_request.ensures c.in-TooLong.is _ c.in-TooLong.ensures.read.ended (c.in-Ok.ensures _ _ _ c.err.ensures);
+          _ _ i.going c.next_request-took.ensures c.in-TooLong.is _ (rw c.in-TooLong.is at c.next_request-took.ensures.read.ended) (c.in-Ok.ensures _ _ _ c.err.ensures);
       free = i.free;
       shut = i.shut;
     }
@@ -58,7 +58,7 @@ returns-in-Err g c =
     record {
       serves =
           cut_at_too_long {w = prompt_world g.D.Desk.turned g.P.Prompter.prompted} (LineExchange c.args.rules.now) c.args.options.now _ _ _ i.serving
-          _ _ i.going c.next_request.ensures c.in-TooLong.is _ _ (c.in-Err.ensures _ _ _ c.err.ensures);
+          _ _ i.going c.next_request-took.ensures c.in-TooLong.is _ _ (c.in-Err.ensures _ _ _ c.err.ensures);
       free = i.free;
       shut = i.shut;
     }
@@ -69,7 +69,7 @@ returns-in-End g c =
     record {
       serves =
           at_end {w = prompt_world g.D.Desk.turned g.P.Prompter.prompted} (LineExchange c.args.rules.now) c.args.options.now _ _ _ i.serving
-          _ _ i.going c.next_request.ensures c.in-End.is c.in-End.ensures.read.ended;
+          _ _ i.going c.next_request-took.ensures c.in-End.is (rw c.in-End.is at c.next_request-took.ensures.read.ended);
       free = i.free;
       shut = i.shut;
     }
@@ -80,7 +80,7 @@ returns-in-Spent g c =
     record {
       serves =
           at_spent {w = prompt_world g.D.Desk.turned g.P.Prompter.prompted} (LineExchange c.args.rules.now) c.args.options.now _ _ _ i.serving
-          _ _ i.going c.next_request.ensures c.in-Spent.is c.in-Spent.ensures.read.ended;
+          _ _ i.going c.next_request-took.ensures c.in-Spent.is (rw c.in-Spent.is at c.next_request-took.ensures.read.ended);
       free = i.free;
       shut = i.shut;
     }
@@ -91,7 +91,7 @@ returns-in-ReadFault g c =
     record {
       serves =
           at_read_fault {w = prompt_world g.D.Desk.turned g.P.Prompter.prompted} (LineExchange c.args.rules.now) c.args.options.now _ _ _ i.serving
-          _ _ i.going c.next_request.ensures c.in-ReadFault.is c.in-ReadFault.ensures.read.ended (c.in-ReadFault.ensures.read.fault refl);
+          _ _ i.going c.next_request-took.ensures c.in-ReadFault.is (rw c.in-ReadFault.is at c.next_request-took.ensures.read.ended) (c.next_request-took.ensures.read.fault c.in-ReadFault.is);
       free = i.free;
       shut = i.shut;
     }

@@ -8,7 +8,7 @@ use Rattle.assuan_server.proofs.conn.Conn.inquire_drop.Goals as goal
 pub returns-in-Some-clause-inquiry : goal.returns-in-Some-clause-inquiry
 returns-in-Some-clause-inquiry g c = λ written.
     let new = c.new.ensures in
-    let counter = c.gather.new.lines.buffer in
-    subst (λ (limit : ℕ). Inquire limit (inquire_text c.args.word.now c.args.params.now) (AnswersDropped (outcome_of_dropped c.counted.result)) c.args.self.now c.gather.new.self)
-    (c.in-Some.ensures.limit ∙ new.limit)
-    (inquired {keeps = IsCountOf counter.limit counter.left counter.past} (c.in-Some.ensures.gathered (rw (new.past, new.left, new.limit) (omega arith))) c.counted.ensures.answer)
+    let counter = c.gather-took.new.lines.buffer in
+    subst (λ (limit : ℕ). Inquire limit (inquire_text c.args.word.now c.args.params.now) (AnswersDropped (outcome_of_dropped c.counted.result)) c.args.self.now c.gather-took.new.self)
+    (c.gather-took.ensures.limit ∙ new.limit)
+    (inquired {keeps = IsCountOf counter.limit counter.left counter.past} (rw c.in-Some.is at c.gather-took.ensures.gathered (rw (new.past, new.left, new.limit) (omega arith))) c.counted.ensures.answer)
