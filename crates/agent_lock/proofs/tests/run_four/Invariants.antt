@@ -1,5 +1,8 @@
 use Rattle.agent_lock.proofs.tests.run_four.Given as goal
 
+abbrev pub ghosts-four_threads-M-Marks : goal.ghosts-four_threads-M-Marks
+ghosts-four_threads-M-Marks g a = record { limits = a.limits }
+
 abbrev pub ghosts-four_threads-M-Ledger : goal.ghosts-four_threads-M-Ledger
 ghosts-four_threads-M-Ledger g a = record { name = a.blanks.calls.name; parts = a.blanks.calls.parts }
 

@@ -1,5 +1,8 @@
 use Rattle.agent_lock.proofs.tests.run_stopped.Given as goal
 
+abbrev pub ghosts-stopped-M-Marks : goal.ghosts-stopped-M-Marks
+ghosts-stopped-M-Marks g a = record { limits = a.limits }
+
 abbrev pub ghosts-stopped-M-Ledger : goal.ghosts-stopped-M-Ledger
 ghosts-stopped-M-Ledger g a = record { name = a.blanks.calls.name; parts = a.blanks.calls.parts }
 

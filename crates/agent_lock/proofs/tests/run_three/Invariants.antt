@@ -1,5 +1,8 @@
 use Rattle.agent_lock.proofs.tests.run_three.Given as goal
 
+abbrev pub ghosts-three_desks-M-Marks : goal.ghosts-three_desks-M-Marks
+ghosts-three_desks-M-Marks g a = record { limits = a.limits }
+
 abbrev pub ghosts-three_desks-M-Ledger : goal.ghosts-three_desks-M-Ledger
 ghosts-three_desks-M-Ledger g a = record { name = a.blanks.calls.name; parts = a.blanks.calls.parts }
 

@@ -1,5 +1,8 @@
 use Rattle.agent_lock.proofs.tests.run_two.Given as goal
 
+abbrev pub ghosts-two_threads-M-Marks : goal.ghosts-two_threads-M-Marks
+ghosts-two_threads-M-Marks g a = record { limits = a.limits }
+
 abbrev pub ghosts-two_threads-M-Ledger : goal.ghosts-two_threads-M-Ledger
 ghosts-two_threads-M-Ledger g a = record { name = a.blanks.calls.name; parts = a.blanks.calls.parts }
 
