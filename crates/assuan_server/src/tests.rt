@@ -117,6 +117,13 @@ fn lines_are_written(rt: HostRuntime) -> Result<(), Fail> {
 }
 
 #[test]
+fn a_code_is_shown_by_its_text(rt: HostRuntime) -> Result<(), Fail> {
+    let shown = format!(in rt.alloc(); "{}, {}", Code::BadPass, Code::NoMemory)?;
+    assert_eq!(rt; shown.as_str(), "Bad passphrase, Cannot allocate memory");
+    Ok(())
+}
+
+#[test]
 fn a_write_that_fails_is_counted_and_reads_nothing(rt: HostRuntime) -> Result<(), Fail> {
     let alloc = rt.alloc();
     let source = MemSource::new(Vec::new(alloc), 1, Vec::new(alloc));
