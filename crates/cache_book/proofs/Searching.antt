@@ -1,5 +1,5 @@
 -- Searching slots that stand by their ids: what lies outside of the stretch of an id, and what a place says.
-use Rattle.std.specs.Prelude.{◌≡◌, ℕ, ◌+◌, ◌<◌, ◌≤◌, ◌==◌, List, [], ◌∷◌, ◌⊎◌, Bool, true, false, ◌&&◌, not, max, take, drop, cond, nat_lt, nat_le, length, get_or, set, refl}
+use Rattle.std.specs.Prelude.{◌≡◌, ℕ, ◌<◌, ◌≤◌, ◌==◌, List, [], ◌∷◌, ◌⊎◌, Bool, true, false, ◌&&◌, not, max, take, drop, cond, nat_lt, nat_le, length, get_or, set, refl}
 use Rattle.std.proofs.Common.{ap, sym, ◌∙◌, subst, arith, zero, suc, inl, inr}
 use Rattle.std.proofs.lemmas.Bool.Decides.{nat_tests}
 use Rattle.std.specs.List.{AllByRecursion, AllWithin, HoldsAt}
@@ -37,12 +37,6 @@ lower_apart hash n h = grind (arith, nat_tests)
 
 higher_apart : (hash n : ℕ) → nat_le n hash ≡ false → (hash == n) ≡ false
 higher_apart hash n h = grind (arith, nat_tests)
-
--- the first slot whose hash isn't lower is at low, or among those that are left behind it
-pub record IsNarrowed (hash : ℕ) (list : List Slot) (low left : ℕ) : Type 0 where
-  pub within : low + left ≤ length list
-  pub before : (k : ℕ) (d : Slot) → k < low → has_lower_hash hash (get_or list k d) ≡ true
-  pub behind : (k : ℕ) (d : Slot) → low + left ≤ k → k < length list → has_lower_hash hash (get_or list k d) ≡ false
 
 -- where a slot has a lower hash, those before it have, and where it hasn't, none behind it has
 module _ (hash : ℕ) (list : List Slot) (by_id : AreById list) (i : ℕ) (slot : Slot) (within : i < length list) (is : slot ≡ get_or list i slot) where

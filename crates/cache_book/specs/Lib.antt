@@ -5,3 +5,4 @@ pub mod Arranged
 pub mod Hashes
 pub mod SlotOrders
 pub mod Deadlines
+pub mod Passphrases

@@ -1,9 +1,9 @@
-ghost use Rattle.std.specs.Prelude.{◌≡◌, IfSome, IfNone};
+ghost use Rattle.std.specs.Prelude.{◌≡◌, [], IfSome, IfNone};
 
-use crate::Slot;
-use crate::deadlines::{Place, deadline_of};
+use crate::deadlines::Place;
 use crate::id_hash::hash_of;
-use cache_policy::{CacheId, Entry, Mode, Secret};
+use crate::packed_slot::PackedSlot;
+use cache_policy::{Entry, Secret};
 use std::alloc::{AllocError, Global};
 use std::marker::Model;
 
@@ -12,7 +12,7 @@ use std::marker::Model;
 pub(crate) struct BoxedSlot {
     // That of its entry's id. It stands beside the box, so that a search reads few boxes.
     hash: u64,
-    slot: Box<Slot>,
+    slot: Box<PackedSlot>,
 }
 
 impl Model for BoxedSlot {
@@ -27,44 +27,53 @@ impl Model for BoxedSlot {
     ghost invariant = { λ boxed. boxed.hash ≡ id_hash boxed.slot.value.entry.id };
 }
 
-impl BoxedSlot {
-    ghost use Rattle.cache_book.specs.Shelves.{touch_slot, hide, new_slot};
-    ghost use Rattle.cache_book.specs.Modes.{has_some};
-    ghost use Rattle.cache_book.specs.Deadlines.{place_of};
-    ghost use Rattle.cache_book.specs.SlotOrders.{wiped, wipe_past, has_hash_past};
-    ghost use Rattle.cache_book.specs.Hashes.{id_hash};
+/// Memory for a slot to come, and for its passphrase where that isn't short.
+#[derive(Drop)]
+pub(crate) struct Blank {
+    slot: Box<PackedSlot>,
+    long: Box<Secret>,
+    // No passphrase lies in it.
+    ghost bare: { (slot.value.entry.secret ≡ []) × (long.value ≡ []) },
+}
 
-    /// Memory for a slot to come.
-    pub(crate) fn blank(alloc: Global) -> Result<BoxedSlot, AllocError> {
-        let Some(id) = CacheId::of(b"-") else {
-            unreachable!()
-        };
-        let Some(secret) = Secret::of(b"") else {
-            unreachable!()
-        };
-        let hash = hash_of(&id);
-        let entry = Entry {
-            number: 0,
-            id,
-            mode: Mode::Any,
-            secret,
-            entered: 0,
-            ttl: None,
-            max: 0,
-        };
-        let slot = Box::new(alloc, Slot::of(entry))?;
-        Ok(BoxedSlot { hash, slot })
+impl Blank {
+    ghost use Rattle.cache_book.specs.Shelves.{new_slot};
+
+    pub(crate) fn new(alloc: Global) -> Result<Blank, AllocError> {
+        let slot = Box::new(alloc, PackedSlot::blank())?;
+        let long = Box::new(alloc, no_passphrase())?;
+        Ok(Blank { slot, long })
     }
 
-    /// The slot of a new entry, in the memory of this one.
+    /// The slot of a new entry, in this memory.
     pub(crate) fn filled(self, entry: Entry) -> BoxedSlot
         ensures { result ≡ new_slot entry }
     {
         let hash = hash_of(&entry.id);
         let mut slot = self.slot;
-        *slot = Slot::of(entry);
+        *slot = PackedSlot::of(&entry, self.long);
+        // A drop would overwrite a copy.
+        let mut entry = entry;
+        entry.secret.clear();
         BoxedSlot { hash, slot }
     }
+}
+
+fn no_passphrase() -> Secret
+    ensures { result ≡ [] }
+{
+    let Some(secret) = Secret::of(b"") else {
+        unreachable!()
+    };
+    secret
+}
+
+impl BoxedSlot {
+    ghost use Rattle.cache_book.specs.Shelves.{touch_slot, hide};
+    ghost use Rattle.cache_book.specs.Modes.{has_some};
+    ghost use Rattle.cache_book.specs.Deadlines.{place_of};
+    ghost use Rattle.cache_book.specs.SlotOrders.{wiped, wipe_past, has_hash_past};
+    ghost use Rattle.cache_book.specs.Hashes.{id_hash};
 
     /// That of its entry's id, by [`hash_of`].
     pub(crate) fn hash(&self) -> u64
@@ -73,7 +82,7 @@ impl BoxedSlot {
         self.hash
     }
 
-    pub(crate) fn get(&self) -> &Slot
+    pub(crate) fn get(&self) -> &PackedSlot
         ensures { result.now ≡ self.now }
     {
         &self.slot
@@ -91,7 +100,7 @@ impl BoxedSlot {
         ensures { self.new ≡ wipe_past now self.old }
     {
         if !self.slot.is_within(now) {
-            self.slot.entry.secret.clear();
+            self.slot.wipe();
         }
     }
 
@@ -99,7 +108,7 @@ impl BoxedSlot {
     pub(crate) fn wipe(&mut self)
         ensures { self.new ≡ wiped self.old }
     {
-        self.slot.entry.secret.clear();
+        self.slot.wipe();
     }
 
     /// Where it stands among others in the order of their deadlines.
@@ -107,7 +116,7 @@ impl BoxedSlot {
         ensures { result ≡ place_of self.now }
     {
         Place {
-            moment: deadline_of(&self.slot),
+            moment: self.slot.deadline(),
             hash: self.hash,
         }
     }
@@ -129,7 +138,6 @@ impl BoxedSlot {
         ensures hidden { self.new ≡ hide later.now self.old }
         ensures serves { result ≡ has_some self.new.modes }
     {
-        self.slot.hide(later);
-        self.slot.modes.has_some()
+        self.slot.hide(later)
     }
 }

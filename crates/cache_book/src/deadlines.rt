@@ -2,26 +2,13 @@ ghost use Rattle.std.specs.Prelude.{◌≡◌, ◌+◌, ◌<◌, ◌≤◌, ◌=
 ghost use Rattle.std.specs.BinaryHeap.{IsHeap, heap_items, heap_len, heap_capacity};
 ghost use Rattle.std.specs.List.{AllByRecursion};
 ghost use Rattle.cache_book.specs.declared.deadlines.Place.{Place as OnePlace};
-ghost use Rattle.cache_book.specs.Deadlines.{deadline, soonest_is_greatest, is_place, is_among, FrontIsPast};
+ghost use Rattle.cache_book.specs.Deadlines.{soonest_is_greatest, is_place, is_among, FrontIsPast};
 
-use crate::Slot;
 use cache_policy::NoMemory;
 use std::alloc::Global;
 use std::cmp::Reverse;
 use std::collections::BinaryHeap;
 use std::marker::Model;
-
-/// The last moment at which a slot can be given, in seconds.
-pub(crate) fn deadline_of(slot: &Slot) -> u64
-    ensures { result ≡ deadline slot.now }
-{
-    // A moment that would pass the last u64 never comes.
-    let oldest = slot.entry.entered.saturating_add(u64::from(slot.entry.max));
-    match slot.entry.ttl {
-        Some(ttl) => oldest.min(slot.last.saturating_add(u64::from(ttl))),
-        None => oldest,
-    }
-}
 
 /// Where a slot stands among others in the order of their deadlines, and by what it is found among those in the order of their ids.
 #[derive(Clone, Copy, PartialEq, Eq, PartialOrd, Ord)]

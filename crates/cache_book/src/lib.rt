@@ -5,10 +5,14 @@
 
 mod boxed_slot;
 mod deadlines;
+mod guide;
 mod id_hash;
 mod laws;
 mod list_shelf;
 mod modes;
+mod packed;
+mod packed_slot;
+mod passphrase;
 mod search;
 mod shelf;
 mod slot;

@@ -1,12 +1,13 @@
 // Finding slots among slots in the order of their ids.
-ghost use Rattle.std.specs.Prelude.{◌≡◌, ℕ, ◌+◌, ◌<◌, ◌≤◌, ◌==◌, true, false, length, get_or, IfSome, IfNone};
+ghost use Rattle.std.specs.Prelude.{◌≡◌, ℕ, ◌+◌, ◌-◌, ◌<◌, ◌≤◌, ◌==◌, true, false, length, get_or, IfSome, IfNone};
 ghost use Rattle.std.specs.List.{HoldsAt, AllByRecursion, AllWithin};
 ghost use Rattle.std.specs.List.Sorted.{IsPartitionPoint};
 ghost use Rattle.cache_book.specs.Shelves.{serves_at, IsGrantFrom, ServesNone};
-ghost use Rattle.cache_book.specs.SlotOrders.{id_cmp, is_upto, has_lower_hash, has_hash_upto, AreById, AreKept};
+ghost use Rattle.cache_book.specs.SlotOrders.{id_cmp, is_upto, has_lower_hash, has_hash_upto, IsNarrowed, AreById, AreKept};
 ghost use Rattle.cache_book.specs.Hashes.{id_hash};
 
 use crate::boxed_slot::BoxedSlot;
+use crate::guide::{Guide, Stretch};
 use crate::id_hash::hash_of;
 use cache_policy::{CacheId, Grant, Mode};
 use std::cell::Cell;
@@ -18,21 +19,72 @@ fn compare(slot: &BoxedSlot, id: &CacheId, hash: u64) -> Ordering
     ensures { result ≡ id_cmp slot.now.entry.id id.now }
 {
     match slot.hash().cmp(&hash) {
-        Ordering::Equal => slot.get().entry.id.bytes().cmp(id.bytes()),
+        Ordering::Equal => slot.get().id().cmp(id.bytes()),
         other => other,
     }
 }
 
 /// The place of the first slot whose hash isn't lower than this one. No box is read.
-///
-/// It looks at three hashes together, so that over many the memory of one comes while that of another does.
 pub(crate) fn behind_lower_hashes(slots: &[BoxedSlot], hash: u64) -> usize
     requires { AreById slots.now }
     ensures within { result ≤ length slots.now }
     ensures parts { IsPartitionPoint (λ slot. has_lower_hash hash slot ≡ true) (λ slot. has_lower_hash hash slot ≡ false) slots.now result }
 {
-    let mut low = 0;
-    let mut left = slots.len();
+    behind_lower_in(slots, 0, slots.len(), hash)
+}
+
+/// The same, looked for within `guess` where that is right.
+fn behind_lower_near(slots: &[BoxedSlot], guess: Stretch, hash: u64) -> usize
+    requires { AreById slots.now }
+    ensures within { result ≤ length slots.now }
+    ensures parts { IsPartitionPoint (λ slot. has_lower_hash hash slot ≡ true) (λ slot. has_lower_hash hash slot ≡ false) slots.now result }
+{
+    if is_around(slots, guess, hash) {
+        behind_lower_in(slots, guess.start, guess.end - guess.start, hash)
+    } else {
+        behind_lower_hashes(slots, hash)
+    }
+}
+
+/// Whether the first slot whose hash isn't lower than this one is in the stretch, or the next one behind it.
+fn is_around(slots: &[BoxedSlot], stretch: Stretch, hash: u64) -> bool
+    requires { AreById slots.now }
+    ensures { result ≡ true → (stretch.start ≤ stretch.end) × IsNarrowed hash slots.now stretch.start (stretch.end - stretch.start) }
+{
+    let Stretch { start, end } = stretch;
+    start <= end
+        && end <= slots.len()
+        && are_lower_before(slots, start, hash)
+        && none_lower_from(slots, end, hash)
+}
+
+fn are_lower_before(slots: &[BoxedSlot], end: usize, hash: u64) -> bool
+    requires by_id { AreById slots.now }
+    requires within { end ≤ length slots.now }
+    ensures { result ≡ true → AllWithin (λ slot. has_lower_hash hash slot ≡ true) slots.now 0 end }
+{
+    end == 0 || slots[end - 1].hash() < hash
+}
+
+fn none_lower_from(slots: &[BoxedSlot], start: usize, hash: u64) -> bool
+    requires by_id { AreById slots.now }
+    requires within { start ≤ length slots.now }
+    ensures { result ≡ true → AllWithin (λ slot. has_lower_hash hash slot ≡ false) slots.now start (length slots.now) }
+{
+    start == slots.len() || hash <= slots[start].hash()
+}
+
+/// The place of the first slot whose hash isn't lower than this one, which is at `low` or among the `left` behind it.
+///
+/// It looks at three hashes together, so that over many the memory of one comes while that of another does.
+fn behind_lower_in(slots: &[BoxedSlot], low: usize, left: usize, hash: u64) -> usize
+    requires by_id { AreById slots.now }
+    requires narrowed { IsNarrowed hash slots.now low left }
+    ensures within { result ≤ length slots.now }
+    ensures parts { IsPartitionPoint (λ slot. has_lower_hash hash slot ≡ true) (λ slot. has_lower_hash hash slot ≡ false) slots.now result }
+{
+    let mut low = low;
+    let mut left = left;
     while 0 < left {
         let step = left / 4;
         let first = slots[low + step].hash() < hash;
@@ -76,13 +128,13 @@ pub(crate) fn end_of(slots: &[BoxedSlot], id: &CacheId) -> usize
 /// The place of the slot that serves a request at `now`.
 ///
 /// Nearly always the asked id is the only one of its hash, so its box is the first that is read.
-fn serving(slots: &[BoxedSlot], id: &CacheId, mode: Mode, now: u64) -> Option<usize>
+fn serving(slots: &[BoxedSlot], guide: &Guide, id: &CacheId, mode: Mode, now: u64) -> Option<usize>
     requires { AreById slots.now }
     ensures found { IfSome result (λ i. (i < length slots.now) × HoldsAt (λ slot. serves_at id.now mode now slot ≡ true) slots.now i) }
     ensures none { IfNone result (ServesNone slots.now id.now mode now) }
 {
     let hash = hash_of(id);
-    let start = behind_lower_hashes(slots, hash);
+    let start = behind_lower_near(slots, guide.stretch(hash, slots.len()), hash);
     for i in start..slots.len() {
         if hash < slots[i].hash() {
             return None;
@@ -104,6 +156,7 @@ pub(crate) struct Found {
 /// The passphrase for a request at `now`, and in `found` where its slot is.
 pub(crate) fn grant_from(
     slots: &[BoxedSlot],
+    guide: &Guide,
     id: &CacheId,
     mode: Mode,
     now: u64,
@@ -113,13 +166,13 @@ pub(crate) fn grant_from(
     ensures found { IfSome result (IsGrantFrom slots.now id.now mode now) }
     ensures none { IfNone result (ServesNone slots.now id.now mode now) }
 {
-    let i = serving(slots, id, mode, now)?;
+    let i = serving(slots, guide, id, mode, now)?;
     found.set(Found {
         place: i,
         hash: slots[i].hash(),
     });
     let slot = slots[i].get();
-    Grant::of(id.copy(), mode, slot.entry.copy(), slot.last, now)
+    Grant::of(id.copy(), mode, slot.entry(), slot.last(), now)
 }
 
 /// The place of the slot with this number, which may be the one that was found. It has moved since where others were dropped.
@@ -128,7 +181,7 @@ pub(crate) fn with_number(slots: &[BoxedSlot], found: Found, number: u64) -> Opt
     ensures found { IfSome result (λ i. (i < length slots.now) × HoldsAt (λ slot. (number == slot.entry.number) ≡ true) slots.now i) }
     ensures none { IfNone result (AllByRecursion (λ slot. (number == slot.entry.number) ≡ false) slots.now) }
 {
-    if found.place < slots.len() && number == slots[found.place].get().entry.number {
+    if found.place < slots.len() && number == slots[found.place].get().number() {
         return Some(found.place);
     }
     let start = behind_lower_hashes(slots, found.hash);
@@ -145,7 +198,7 @@ fn number_within(slots: &[BoxedSlot], start: usize, end: usize, number: u64) -> 
     ensures none { IfNone result (AllWithin (λ slot. (number == slot.entry.number) ≡ false) slots.now start end) }
 {
     for i in start..end {
-        if number == slots[i].get().entry.number {
+        if number == slots[i].get().number() {
             return Some(i);
         }
     }

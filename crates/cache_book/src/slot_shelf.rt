@@ -5,8 +5,11 @@ ghost use Rattle.cache_book.specs.SlotOrders.{by_number, wiped, wipe_past, swept
 ghost use Rattle.cache_book.specs.Deadlines.{place_of, is_place, is_among, HavePlaces};
 
 use crate::Shelf;
-use crate::boxed_slot::BoxedSlot;
+use crate::boxed_slot::{Blank, BoxedSlot};
 use crate::deadlines::{Deadlines, Place};
+use crate::guide::Guide;
+#[cfg(test)]
+use crate::guide::Stretch;
 use crate::id_hash::hash_of;
 use crate::search::{
     Found, before_higher_hashes, behind_lower_hashes, end_of, grant_from, with_number,
@@ -25,10 +28,12 @@ const FEW: usize = 32;
 pub struct SlotShelf {
     // By the ids of their entries, whose hashes come first, and then by their numbers.
     slots: Vec<BoxedSlot>,
+    // Where a search for a hash begins.
+    guide: Guide,
     // The place of each slot, and some that are of no slot any more.
     deadlines: Deadlines,
     // Memory for slots to come.
-    blanks: Vec<BoxedSlot>,
+    blanks: Vec<Blank>,
     // Where a slot was found last, which is the one that is touched next. It is a guess: `touch` looks whether it is right.
     found: Cell<Found>,
 }
@@ -53,6 +58,7 @@ impl SlotShelf {
     {
         SlotShelf {
             slots: Vec::new(alloc),
+            guide: Guide::new(alloc),
             deadlines: Deadlines::new(alloc),
             blanks: Vec::new(alloc),
             found: Cell::new(Found { place: 0, hash: 0 }),
@@ -60,11 +66,33 @@ impl SlotShelf {
     }
 }
 
+#[cfg(test)]
+impl SlotShelf {
+    /// Whether the guide leads to each slot, by a stretch of at most this many.
+    pub(crate) fn is_guided(&self, most: usize) -> bool {
+        let slots = self.slots.as_slice();
+        for i in 0..slots.len() {
+            let Stretch { start, end } = self.guide.stretch(slots[i].hash(), slots.len());
+            if i < start || end <= i || start.saturating_add(most) < end {
+                return false;
+            }
+        }
+        true
+    }
+}
+
 impl Shelf for SlotShelf {
     ghost at = { λ shelf. shelf };
 
     fn find(&self, id: &CacheId, mode: Mode, now: u64) -> Option<Grant> {
-        grant_from(self.slots.as_slice(), id, mode, now, &self.found)
+        grant_from(
+            self.slots.as_slice(),
+            &self.guide,
+            id,
+            mode,
+            now,
+            &self.found,
+        )
     }
 
     fn touch(&mut self, number: u64, now: u64) {
@@ -75,7 +103,10 @@ impl Shelf for SlotShelf {
     fn reserve(&mut self, n: usize) -> Result<(), NoMemory> {
         self.slots.reserve(n)?;
         reserve_deadlines(&mut self.deadlines, self.slots.as_slice(), n)?;
-        add_blanks(&mut self.blanks, n)
+        add_blanks(&mut self.blanks, n)?;
+        self.guide
+            .widen(self.slots.as_slice(), self.slots.capacity());
+        Ok(())
     }
 
     fn spare(&self) -> usize {
@@ -88,32 +119,39 @@ impl Shelf for SlotShelf {
         let Some(blank) = self.blanks.pop() else {
             unreachable!()
         };
+        let hash = hash_of(&entry.id);
+        let before = self.slots.len();
         store_in(&mut self.slots, &mut self.deadlines, blank, entry);
+        self.guide.shift_behind(hash, before, self.slots.len());
     }
 
     fn clear(&mut self, id: &CacheId, mode: Mode) {
+        let before = self.slots.len();
         clear_in(&mut self.slots, id, mode);
+        self.guide
+            .shift_behind(hash_of(id), before, self.slots.len());
     }
 
     fn flush(&mut self) {
         wipe_all(&mut self.slots);
         drop_all(&mut self.slots);
+        self.guide.rebuild(self.slots.as_slice());
         self.deadlines.clear();
     }
 
     fn sweep(&mut self, now: u64) {
-        sweep_in(&mut self.slots, &mut self.deadlines, now);
+        sweep_in(&mut self.slots, &mut self.guide, &mut self.deadlines, now);
     }
 }
 
 /// Adds blanks up to `n`.
-fn add_blanks(blanks: &mut Vec<BoxedSlot>, n: usize) -> Result<(), NoMemory>
+fn add_blanks(blanks: &mut Vec<Blank>, n: usize) -> Result<(), NoMemory>
     ensures ok { OnOk result (n ≤ vec_len blanks.new) }
     ensures more { vec_len blanks.old ≤ vec_len blanks.new }
 {
     let alloc = *blanks.allocator();
     while blanks.len() < n {
-        blanks.push(BoxedSlot::blank(alloc)?)?;
+        blanks.push(Blank::new(alloc)?)?;
     }
     Ok(())
 }
@@ -191,7 +229,7 @@ fn touch_in(
 }
 
 /// Stores an entry in the memory of a blank. It takes the modes that it covers from the others of its id.
-fn store_in(slots: &mut Vec<BoxedSlot>, deadlines: &mut Deadlines, blank: BoxedSlot, entry: Entry)
+fn store_in(slots: &mut Vec<BoxedSlot>, deadlines: &mut Deadlines, blank: Blank, entry: Entry)
     requires kept { AreKept slots.old.items }
     requires newest { AreBelow entry.number slots.old.items }
     requires held { HavePlaces deadlines.old.places slots.old.items }
@@ -255,8 +293,7 @@ fn clear_in(slots: &mut Vec<BoxedSlot>, id: &CacheId, mode: Mode)
     let mut i = before_higher_hashes(slots.as_slice(), hash);
     while start < i {
         i -= 1;
-        let slot = slots[i].get();
-        if slot.entry.id == *id && slot.entry.mode.covers(mode) {
+        if slots[i].get().is_cleared(id, mode) {
             drop_slot(slots, i);
         }
     }
@@ -279,7 +316,7 @@ fn give_back(_slot: BoxedSlot)
 {}
 
 /// Drops the slots that are past a lifetime at `now`: by the places in front, and where many of these are past, in a walk over all slots.
-fn sweep_in(slots: &mut Vec<BoxedSlot>, deadlines: &mut Deadlines, now: u64)
+fn sweep_in(slots: &mut Vec<BoxedSlot>, guide: &mut Guide, deadlines: &mut Deadlines, now: u64)
     requires kept { AreKept slots.old.items }
     requires held { HavePlaces deadlines.old.places slots.old.items }
     ensures items { slots.new.items ≡ swept now slots.old.items }
@@ -292,10 +329,13 @@ fn sweep_in(slots: &mut Vec<BoxedSlot>, deadlines: &mut Deadlines, now: u64)
         let Some(hash) = deadlines.pop_past(now) else {
             return;
         };
+        let before = slots.len();
         sweep_hash(slots, hash, now);
+        guide.shift_behind(hash, before, slots.len());
     }
     if deadlines.drop_past(now) {
         sweep_all(slots, now);
+        guide.rebuild(slots.as_slice());
     }
 }
 

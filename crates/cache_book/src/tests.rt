@@ -2,8 +2,10 @@ ghost use Rattle.std.specs.Prelude.{◌≡◌, ℕ, ◌+◌, ◌≤◌, [], OnOk
 ghost use Rattle.cache_policy.specs.declared.bounds.TheConstants.{MAX_MARKS};
 ghost use Rattle.cache_book.specs.Shelves.{AreBelow};
 
+use crate::passphrase::MAX_SHORT_LEN;
 use crate::{ListShelf, Shelf, SlotShelf};
-use cache_policy::{CacheId, Entry, MAX_MARKS, Mode, Secret};
+use cache_policy::{CacheId, Entry, MAX_MARKS, MAX_SECRET_LEN, Mode, Secret};
+use rand_core::SeedableRng;
 use rand_core::utils::NextWord;
 use rand_pcg::Pcg32;
 use std::alloc::Global;
@@ -39,9 +41,19 @@ fn numbered(k: u32) -> Result<CacheId, Fail> {
     Ok(id.ok_or("an id")?)
 }
 
-/// The passphrase of the entry with this number.
-fn passphrase(number: u64) -> [u8; 8] {
-    number.to_be_bytes()
+/// The passphrase of the entry with this number. Its length is 0, 22, 23 or 255 bytes in turn: the bounds of those that stand in a slot,
+/// and of those in memory of their own.
+fn passphrase(number: u64) -> Result<Secret, Fail> {
+    let len = match number % 4 {
+        0 => 0,
+        1 => MAX_SHORT_LEN,
+        2 => MAX_SHORT_LEN + 1,
+        _ => MAX_SECRET_LEN,
+    };
+    let mut bytes = [(number % 251) as u8; MAX_SECRET_LEN];
+    bytes[..8].copy_from_slice(&number.to_be_bytes());
+    let bytes = bytes.get(..len).ok_or("as many bytes")?;
+    Ok(Secret::of(bytes).ok_or("a secret")?)
 }
 
 fn mode(k: u32) -> Mode {
@@ -84,7 +96,7 @@ fn put_in_room<S: Shelf>(
     requires newest { AreBelow number (S.at shelf.old).slots }
     ensures { OnOk result (AreBelow (number + 1) (S.at shelf.new).slots) }
 {
-    let secret = Secret::of(&passphrase(number)).ok_or("a secret")?;
+    let secret = passphrase(number)?;
     shelf.store(Entry {
         number,
         id,
@@ -148,7 +160,7 @@ fn found<S: Shelf>(
     let Some(grant) = shelf.find(id, mode, now) else {
         return Ok(None);
     };
-    if grant.secret().bytes() != passphrase(grant.number()).as_slice() {
+    if grant.secret().bytes() != passphrase(grant.number())?.bytes() {
         return Err("another passphrase".into());
     }
     Ok(Some((grant.number(), grant.last)))
@@ -209,6 +221,103 @@ fn a_thousand_lives_end_in_turn(rt: HostRuntime) -> Result<(), Fail> {
             );
         }
     }
+    Ok(())
+}
+
+/// Takes a step of a load, which is made of a random word, and says whether it is given a passphrase.
+fn is_given<S: Shelf>(shelf: &mut S, word: u32, number: u64, now: u64) -> Result<bool, Fail>
+    requires { AreBelow number (S.at shelf.old).slots }
+    ensures { OnOk result (AreBelow (number + 1) (S.at shelf.new).slots) }
+{
+    let id = numbered(word >> 3 & 31)?;
+    shelf.sweep(now);
+    match word & 7 {
+        0..=3 => return Ok(ask(shelf, &id, Mode::User, now)?.is_some()),
+        4 | 5 => {
+            let lives = Lives {
+                ttl: Some((word >> 8) % 1000 + 1),
+                max: 7200,
+            };
+            put(shelf, id, Mode::Any, lives, number, now)?;
+        }
+        _ => shelf.clear(&id, Mode::User),
+    }
+    Ok(false)
+}
+
+/// How many of a load's requests are given a passphrase, on a shelf without entries. They come seven seconds one after another.
+fn given_of_a_load<S: Shelf>(shelf: &mut S, number: u64) -> Result<u32, Fail>
+    requires { (S.at shelf.old).slots ≡ [] }
+{
+    let mut random = Pcg32::seed_from_u64(number);
+    let mut now: u64 = 0;
+    let mut given: u32 = 0;
+    for step in 0..12_800 {
+        let word = random.next_word();
+        if word & 7 < 7 {
+            given = given.saturating_add(u32::from(is_given(shelf, word, step, now)?));
+            now = now.saturating_add(7);
+        }
+    }
+    Ok(given)
+}
+
+#[test]
+fn a_load_is_answered_alike(rt: HostRuntime) -> Result<(), Fail> {
+    // The numbers are those of a program in another language, over a table of ids.
+    for (number, given) in [(0, 2986), (1, 2753), (2, 2881)] {
+        let mut list = ListShelf::new(rt.alloc());
+        let mut slots = SlotShelf::new(rt.alloc());
+        assert_eq!(rt; given_of_a_load(&mut list, number)?, given);
+        assert_eq!(rt; given_of_a_load(&mut slots, number)?, given);
+    }
+    Ok(())
+}
+
+/// Puts entries under k0 to k999 with lives of 1 to 1,000 seconds, and answers whether the guide led to each after each.
+fn put_a_thousand(slots: &mut SlotShelf, from: u64) -> Result<bool, Fail>
+    requires few { from ≤ 2000 }
+    requires newest { AreBelow from slots.old.slots }
+    ensures { OnOk result (AreBelow (from + 1000) slots.new.slots) }
+{
+    let mut guided = true;
+    for k in 0..1000_u32 {
+        let lives = Lives {
+            ttl: Some(k + 1),
+            max: 7200,
+        };
+        put(
+            slots,
+            numbered(k)?,
+            Mode::User,
+            lives,
+            from + u64::from(k),
+            0,
+        )?;
+        guided = slots.is_guided(MOST_IN_A_STRETCH) && guided;
+    }
+    Ok(guided)
+}
+
+/// Of a thousand hashes about 8 stand in a stretch.
+const MOST_IN_A_STRETCH: usize = 24;
+
+#[test]
+fn the_guide_leads_to_each_slot(rt: HostRuntime) -> Result<(), Fail> {
+    let mut slots = SlotShelf::new(rt.alloc());
+    assert!(rt; put_a_thousand(&mut slots, 0)?);
+    assert!(rt; put_a_thousand(&mut slots, 1000)?);
+    // A sweep takes few slots one by one, and many in a walk.
+    for now in [10, 500] {
+        slots.sweep(now);
+        assert!(rt; slots.is_guided(MOST_IN_A_STRETCH));
+    }
+    for k in 600..700 {
+        slots.clear(&numbered(k)?, Mode::User);
+        assert!(rt; slots.is_guided(MOST_IN_A_STRETCH));
+    }
+    slots.flush();
+    assert!(rt; put_a_thousand(&mut slots, 2000)?);
     Ok(())
 }
 
@@ -370,6 +479,36 @@ fn the_newest_hides_the_older(rt: HostRuntime) -> Result<(), Fail> {
         (8, Step::Peek(Mode::Normal), None),
     ];
     assert_eq!(rt; first_wrong_of_both(rt.alloc(), &cleared)?, (None, None));
+    Ok(())
+}
+
+/// Passphrases of all lengths one behind another. Each step's number is its place here, and the passphrase's length goes by it.
+const LENGTHS_IN_TURN: [Planned; 17] = [
+    (0, Step::Put(Mode::User, ENDLESS), None),
+    (1, Step::Ask(Mode::User), Some(0)),
+    (2, Step::Ask(Mode::User), Some(0)),
+    (3, Step::Put(Mode::User, ENDLESS), None),
+    (4, Step::Ask(Mode::User), Some(3)),
+    (5, Step::Put(Mode::User, ENDLESS), None),
+    (6, Step::Ask(Mode::User), Some(5)),
+    (7, Step::Ask(Mode::User), Some(5)),
+    (8, Step::Put(Mode::User, ENDLESS), None),
+    (9, Step::Put(Mode::User, ENDLESS), None),
+    (10, Step::Put(Mode::User, ENDLESS), None),
+    (11, Step::Ask(Mode::User), Some(10)),
+    (12, Step::Ask(Mode::User), Some(10)),
+    (13, Step::Put(Mode::User, ENDLESS), None),
+    (14, Step::Ask(Mode::User), Some(13)),
+    (15, Step::Clear(Mode::User), None),
+    (16, Step::Ask(Mode::User), None),
+];
+
+#[test]
+fn a_passphrase_of_each_length_is_found_again(rt: HostRuntime) -> Result<(), Fail> {
+    assert_eq!(rt;
+        first_wrong_of_both(rt.alloc(), &LENGTHS_IN_TURN)?,
+        (None, None)
+    );
     Ok(())
 }
 

@@ -1,4 +1,7 @@
-use Rattle.std.proofs.Common.{sym, subst, ◌∙◌}
+use Rattle.std.specs.Prelude.{◌≡◌, ℕ, true, ◌&&◌, ◌↔◌, IsSome, IfSome}
+use Rattle.std.proofs.Common.{sym, ◌∙◌, subst}
+use Rattle.cache_policy.specs.declared.grant.Grant.{Grant}
+use Rattle.cache_policy.specs.Entry.{serves, within}
 use Rattle.cache_book.specs.declared.slot.Slot.{Slot}
 use Rattle.cache_book.specs.Shelves.{serves_at}
 use Rattle.cache_book.proofs.Finding.{IsFound, IsGrantOf, granted_from, is_granted, some_is_not_none}
@@ -13,15 +16,16 @@ found c =
       passes = c.in_ok-i.ensures.found.1 slot;
     })
 
-made : (c : goal.After-of) → IsGrantOf c.args.id.now c.copy.result c.args.mode c.args.now c.get-slot.result.now c.copy-2.result c.of.result
+made : (c : goal.After-of) → IsGrantOf c.args.id.now c.copy.result c.args.mode c.args.now c.get-slot.result.now c.entry.result c.of.result
 made c = record {
   same_id = c.copy.ensures;
-  same = c.copy-2.ensures;
-  granted = c.of.ensures.granted;
+  same = c.entry.ensures;
+  granted = subst (λ (last : ℕ). IsSome c.of.result ↔ ((serves c.copy.result c.args.mode c.entry.result && within c.entry.result last c.args.now) ≡ true)) c.last.ensures
+      c.of.ensures.granted;
   id_is = c.of.ensures.id;
   mode_is = c.of.ensures.mode;
   entry = c.of.ensures.entry;
-  last = c.of.ensures.last;
+  last = subst (λ (last : ℕ). IfSome c.of.result (λ (grant : Grant). grant.last ≡ last)) c.last.ensures c.of.ensures.last;
   moment = c.of.ensures.moment;
 }
 

@@ -1,8 +1,6 @@
-use Rattle.std.specs.Prelude.{◌≡◌, ◌-◌, ◌&&◌, true, get_or, refl}
-use Rattle.std.proofs.Common.{ap, sym, ◌∙◌, subst, rules}
-use Rattle.cache_policy.specs.Mode.{covers}
-use Rattle.cache_policy.specs.Entry.{same_id}
-use Rattle.cache_book.specs.declared.slot.Slot.{Slot}
+use Rattle.std.specs.Prelude.{◌≡◌, ◌-◌, true, refl}
+use Rattle.std.proofs.Common.{sym, subst, rules}
+use Rattle.cache_policy.specs.Entry.{serves}
 use Rattle.cache_book.specs.Shelves.{cleared}
 use Rattle.cache_book.proofs.Slotwise.{filter_slotwise}
 use Rattle.cache_book.proofs.Stretch.{IsDoneFrom, done-none, done-all, done-removed, from_before, cleared-one}
@@ -26,16 +24,14 @@ returns-clause-items c =
     (before_hash c.hash_of-hash.result c.as_slice.result.now c.args.slots.now.items c.behind_lower_hashes-start.result c.loop-i.i c.as_slice.ensures.value c.behind_lower_hashes-start.ensures.within
     c.loop-i-test.false c.behind_lower_hashes-start.ensures.parts)))
 
-pub loop-i-preserved-then-covers : goal.loop-i-preserved-then-covers
-loop-i-preserved-then-covers c =
-    let has_id : same_id c.get-slot.result.now.entry.id c.args.id.now ≡ true = search rules in
-    let covers_it : covers c.get-slot.result.now.entry.mode c.args.mode ≡ true = search rules in
+pub loop-i-preserved-then-is_cleared : goal.loop-i-preserved-then-is_cleared
+loop-i-preserved-then-is_cleared c =
+    let cleared_it : serves c.args.id.now c.args.mode c.index.result.now.entry ≡ true = search rules in
     record {
       done = subst (IsDoneFrom (cleared c.args.id.now c.args.mode) (c.loop-i.i - 1) c.args.slots.now.items) (sym c.drop_slot.ensures.items)
           (done-removed (cleared c.args.id.now c.args.mode) (filter_slotwise _) (c.loop-i.i - 1) c.args.slots.now.items c.loop-i.slots.items
-          (from_before _ c.loop-i.i c.behind_lower_hashes-start.result _ _ c.loop-i-test.true c.loop-i.invariant.done) c.get-slot.result.now
-          (c.get-slot.ensures ∙ (c.index.ensures ∙ ap (λ (slot : Slot). get_or c.loop-i.slots.items (c.loop-i.i - 1) slot) (sym c.get-slot.ensures)))
-          (cleared-one c.args.id.now c.args.mode c.get-slot.result.now true (ap (λ b. b && covers c.get-slot.result.now.entry.mode c.args.mode) has_id ∙ covers_it)));
+          (from_before _ c.loop-i.i c.behind_lower_hashes-start.result _ _ c.loop-i-test.true c.loop-i.invariant.done) c.index.result.now c.index.ensures
+          (cleared-one c.args.id.now c.args.mode c.index.result.now true cleared_it));
       len = search rules;
       capacity = search rules;
     }

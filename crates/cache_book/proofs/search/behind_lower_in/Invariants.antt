@@ -1,5 +1,5 @@
-use Rattle.cache_book.proofs.Searching.{IsNarrowed}
-use Rattle.cache_book.proofs.search.behind_lower_hashes.Given as goal
+use Rattle.cache_book.specs.SlotOrders.{IsNarrowed}
+use Rattle.cache_book.proofs.search.behind_lower_in.Given as goal
 
 abbrev pub invariant-loop-left : goal.invariant-loop-left
 invariant-loop-left l = IsNarrowed l.hash l.slots l.low l.left

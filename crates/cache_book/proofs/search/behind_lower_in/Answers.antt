@@ -1,7 +1,7 @@
 use Rattle.std.specs.Prelude.{◌+◌, ◌*◌, ◌/◌, ◌<◌, ◌≤◌, length}
 use Rattle.std.proofs.Common.{arith, rules}
 use Rattle.cache_book.proofs.Searching.{lower_before, none_behind}
-use Rattle.cache_book.proofs.search.behind_lower_hashes.Goals as goal
+use Rattle.cache_book.proofs.search.behind_lower_in.Goals as goal
 
 pub loop-left-preserved-then-third : goal.loop-left-preserved-then-third
 loop-left-preserved-then-third c =
@@ -9,7 +9,7 @@ loop-left-preserved-then-third c =
     let some : 0 < c.loop-left.left = c.loop-left-test.true in
     record {
       within = omega arith;
-      before = λ k d lt. lower_before c.args.hash c.args.slots.now c.requires (c.loop-left.low + 3 * (c.loop-left.left / 4)) c.index-slots-low-in-loop-left-2.result (omega arith) c.index-slots-low-in-loop-left-2.is
+      before = λ k d lt. lower_before c.args.hash c.args.slots.now c.requires.by_id (c.loop-left.low + 3 * (c.loop-left.left / 4)) c.index-slots-low-in-loop-left-2.result (omega arith) c.index-slots-low-in-loop-left-2.is
           (search rules) k d (omega arith);
       behind = λ k d le lt. c.loop-left.invariant.behind k d (omega arith) lt;
     }
@@ -21,9 +21,9 @@ loop-left-preserved-then-second c =
     let left = c.saturating_sub-left.ensures in
     record {
       within = omega arith;
-      before = λ k d lt. lower_before c.args.hash c.args.slots.now c.requires (c.loop-left.low + 2 * (c.loop-left.left / 4)) c.index-slots-low-in-loop-left.result (omega arith) c.index-slots-low-in-loop-left.is
+      before = λ k d lt. lower_before c.args.hash c.args.slots.now c.requires.by_id (c.loop-left.low + 2 * (c.loop-left.left / 4)) c.index-slots-low-in-loop-left.result (omega arith) c.index-slots-low-in-loop-left.is
           (search rules) k d (omega arith);
-      behind = λ k d le lt. none_behind c.args.hash c.args.slots.now c.requires (c.loop-left.low + 3 * (c.loop-left.left / 4)) c.index-slots-low-in-loop-left-2.result (omega arith) c.index-slots-low-in-loop-left-2.is
+      behind = λ k d le lt. none_behind c.args.hash c.args.slots.now c.requires.by_id (c.loop-left.low + 3 * (c.loop-left.left / 4)) c.index-slots-low-in-loop-left-2.result (omega arith) c.index-slots-low-in-loop-left-2.is
           (search rules) k d (omega arith) lt;
     }
 
@@ -34,9 +34,9 @@ loop-left-preserved-then-first c =
     let left = c.saturating_sub-left-then-first.ensures in
     record {
       within = omega arith;
-      before = λ k d lt. lower_before c.args.hash c.args.slots.now c.requires (c.loop-left.low + c.loop-left.left / 4) c.index-slots-low.result (omega arith) c.index-slots-low.is
+      before = λ k d lt. lower_before c.args.hash c.args.slots.now c.requires.by_id (c.loop-left.low + c.loop-left.left / 4) c.index-slots-low.result (omega arith) c.index-slots-low.is
           (search rules) k d (omega arith);
-      behind = λ k d le lt. none_behind c.args.hash c.args.slots.now c.requires (c.loop-left.low + 2 * (c.loop-left.left / 4)) c.index-slots-low-in-loop-left.result (omega arith) c.index-slots-low-in-loop-left.is
+      behind = λ k d le lt. none_behind c.args.hash c.args.slots.now c.requires.by_id (c.loop-left.low + 2 * (c.loop-left.left / 4)) c.index-slots-low-in-loop-left.result (omega arith) c.index-slots-low-in-loop-left.is
           (search rules) k d (omega arith) lt;
     }
 
@@ -47,7 +47,7 @@ loop-left-preserved c =
     record {
       within = omega arith;
       before = λ k d lt. c.loop-left.invariant.before k d lt;
-      behind = λ k d le lt. none_behind c.args.hash c.args.slots.now c.requires (c.loop-left.low + c.loop-left.left / 4) c.index-slots-low.result (omega arith) c.index-slots-low.is
+      behind = λ k d le lt. none_behind c.args.hash c.args.slots.now c.requires.by_id (c.loop-left.low + c.loop-left.left / 4) c.index-slots-low.result (omega arith) c.index-slots-low.is
           (search rules) k d (omega arith) lt;
     }
 

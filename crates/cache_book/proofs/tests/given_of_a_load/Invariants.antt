@@ -1,0 +1,5 @@
+use Rattle.cache_book.specs.Shelves.{AreBelow}
+use Rattle.cache_book.proofs.tests.given_of_a_load.Given as goal
+
+abbrev pub invariant-loop-step : goal.invariant-loop-step
+invariant-loop-step g l = AreBelow l.step (g.S.Shelf.at l.shelf).slots

@@ -1,0 +1,23 @@
+use Rattle.std.specs.Prelude.{◌+◌}
+use Rattle.std.proofs.Common.{sym, subst}
+use Rattle.cache_book.specs.Shelves.{AreBelow}
+use Rattle.cache_book.proofs.Below.{below-more, below-filter}
+use Rattle.cache_book.proofs.tests.is_given.Goals as goal
+
+pub put-requires : goal.put-requires
+put-requires g c = subst (AreBelow c.args.number) (sym c.sweep.ensures.slots) (below-filter c.args.number _ (g.S.Shelf.at c.args.shelf.now).slots c.requires)
+
+pub returns-in-0-to-3 : goal.returns-in-0-to-3
+returns-in-0-to-3 g c =
+    c.ask.ensures (c.args.number + 1)
+    (subst (AreBelow (c.args.number + 1)) (sym c.sweep.ensures.slots)
+    (below-filter (c.args.number + 1) _ (g.S.Shelf.at c.args.shelf.now).slots
+    (below-more c.args.number (g.S.Shelf.at c.args.shelf.now).slots c.requires)))
+
+pub returns-in_default : goal.returns-in_default
+returns-in_default g c =
+    subst (AreBelow (c.args.number + 1)) (sym c.clear.ensures.slots)
+    (below-filter (c.args.number + 1) _ (g.S.Shelf.at c.sweep.new.self).slots
+    (subst (AreBelow (c.args.number + 1)) (sym c.sweep.ensures.slots)
+    (below-filter (c.args.number + 1) _ (g.S.Shelf.at c.args.shelf.now).slots
+    (below-more c.args.number (g.S.Shelf.at c.args.shelf.now).slots c.requires))))
