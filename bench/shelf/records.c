@@ -1,0 +1,112 @@
+/* What the memory of many records costs a plain C program that finds them by a hash table: the nanoseconds of a request over few of them
+ * and over many, asked in the order in which they were made and all over.
+ *
+ * A record takes as much memory as a slot of the agent's, and stands in memory of its own. A request finds it by its id's hash, reads what
+ * an answer needs, writes it into a buffer, and keeps a mark of the request. usage: records FEW MANY
+ * It times rounds of each in turn, and prints the medians: few and many in order, few and many all over. */
+#include <stdint.h>
+#include <stdio.h>
+#include <stdlib.h>
+#include <string.h>
+#include <time.h>
+
+/* Numbers without a factor in common with those of the ids. */
+enum { MADE = 38197, ASKED = 61357 };
+enum { ROUNDS = 15, A_ROUND = 2000, MARK = 400 };
+
+struct record {
+    uint64_t times[4];
+    char id[56];
+    char secret[32];
+};
+
+struct place {
+    uint64_t hash;
+    struct record *record;
+};
+
+/* Twice as many places as records, so that one is found at the first place or near it. */
+struct table {
+    struct place *places;
+    size_t room, length;
+};
+
+static void *memory(size_t size) {
+    void *found = calloc(1, size);
+    if (!found) {
+        perror("records");
+        exit(2);
+    }
+    return found;
+}
+
+static uint64_t hash_of(const char *id) {
+    uint64_t hash = 0;
+    for (; *id; id++)
+        hash = (hash ^ (unsigned char)*id) * 0x9e3779b97f4a7c15u;
+    return hash ^ hash >> 32;
+}
+
+static struct place *place_of(struct table table, const char *id) {
+    uint64_t hash = hash_of(id);
+    struct place *place = table.places + hash % table.room;
+    while (place->record && (place->hash != hash || strcmp(place->record->id, id)))
+        place = place + 1 < table.places + table.room ? place + 1 : table.places;
+    place->hash = hash;
+    return place;
+}
+
+static void name(char id[32], size_t k) {
+    snprintf(id, 32, "id%06zu", k);
+}
+
+static struct table filled(size_t length) {
+    struct table table = {memory(2 * length * sizeof(struct place)), 2 * length, length};
+    for (size_t k = 0; k < length; k++) {
+        struct record *record = memory(sizeof *record);
+        name(record->id, k * MADE % length);
+        strcpy(record->secret, "passphrase");
+        place_of(table, record->id)->record = record;
+    }
+    return table;
+}
+
+static double a_round(struct table table, size_t from, size_t step) {
+    /* Marks are kept, so each round has new memory for them. */
+    char *marks = memory(A_ROUND * MARK);
+    struct timespec start, end;
+    clock_gettime(CLOCK_MONOTONIC, &start);
+    for (size_t k = from; k < from + A_ROUND; k++) {
+        char id[32], answer[300];
+        name(id, k * step % table.length);
+        struct record *record = place_of(table, id)->record;
+        record->times[1] = k;
+        int length = snprintf(answer, sizeof answer, "D %s\nOK\n", record->secret);
+        memset(marks + (k - from) * MARK, answer[length - 1], MARK);
+    }
+    clock_gettime(CLOCK_MONOTONIC, &end);
+    return ((end.tv_sec - start.tv_sec) * 1e9 + (end.tv_nsec - start.tv_nsec)) / A_ROUND;
+}
+
+static int compared(const void *a, const void *b) {
+    double x = *(const double *)a, y = *(const double *)b;
+    return (x > y) - (x < y);
+}
+
+int main(int count, char **words) {
+    if (count != 3)
+        return 2;
+    struct table few = filled(strtoul(words[1], 0, 10)), many = filled(strtoul(words[2], 0, 10));
+    static double times[4][ROUNDS];
+    for (size_t round = 0; round < ROUNDS; round++) {
+        times[0][round] = a_round(few, round * A_ROUND, MADE);
+        times[1][round] = a_round(many, round * A_ROUND, MADE);
+        times[2][round] = a_round(few, round * A_ROUND, ASKED);
+        times[3][round] = a_round(many, round * A_ROUND, ASKED);
+    }
+    for (size_t kind = 0; kind < 4; kind++) {
+        qsort(times[kind], ROUNDS, sizeof(double), compared);
+        printf("%.0f%c", times[kind][ROUNDS / 2], kind < 3 ? ' ' : '\n');
+    }
+    return 0;
+}
