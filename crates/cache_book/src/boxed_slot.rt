@@ -46,14 +46,13 @@ impl Blank {
     }
 
     /// The slot of a new entry, in this memory.
-    pub(crate) fn filled(self, entry: Entry) -> BoxedSlot
+    pub(crate) fn filled(self, mut entry: Entry) -> BoxedSlot
         ensures { result ≡ new_slot entry }
     {
         let hash = hash_of(&entry.id);
         let mut slot = self.slot;
-        *slot = PackedSlot::of(&entry, self.long);
+        slot.fill(&entry, self.long);
         // A drop would overwrite a copy.
-        let mut entry = entry;
         entry.secret.clear();
         BoxedSlot { hash, slot }
     }

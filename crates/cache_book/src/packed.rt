@@ -1,11 +1,11 @@
-ghost use Rattle.std.specs.Prelude.{◌≡◌, ◌<◌, ◌≤◌, ◌↔◌, [], length, IsSome, IfSome};
+ghost use Rattle.std.specs.Prelude.{◌≡◌, ◌<◌, ◌≤◌, ◌↔◌, [], true, false, length, IsTrue};
 
 use std::marker::Model;
 use wiping::wipe;
 
 /// At most `N` bytes, with their count in one byte. Behind them there are zeros.
 ///
-/// `clear` overwrites them where they lie, which a drop doesn't: it is given its value by a move.
+/// `fill` and `clear` overwrite what was there, which a drop doesn't: it is given its value by a move.
 pub(crate) struct Packed<const N: usize> {
     len: u8,
     bytes: [u8; N],
@@ -22,18 +22,32 @@ impl<const N: usize> Model for Packed<N> {
 }
 
 impl<const N: usize> Packed<N> {
-    /// `None` for more than `N` bytes, and for more than 255.
-    pub(crate) fn of(from: &[u8]) -> Option<Self>
-        ensures within { IsSome result ↔ ((length from.now ≤ N) × (length from.now < 256)) }
-        ensures bytes { IfSome result (λ packed. packed ≡ from.now) }
+    /// No bytes.
+    pub(crate) fn new() -> Self
+        ensures { result ≡ [] }
     {
-        let len = u8::try_from(from.len()).ok()?;
-        if N < from.len() {
-            return None;
+        Packed {
+            len: 0,
+            bytes: [0; N],
         }
-        let mut bytes = [0; N];
-        bytes[..from.len()].copy_from_slice(from);
-        Some(Packed { len, bytes })
+    }
+
+    /// Takes these bytes in place of its own, and answers whether it did: more than `N`, or more than 255, it doesn't take.
+    pub(crate) fn fill(&mut self, from: &[u8]) -> bool
+        ensures within { IsTrue result ↔ ((length from.now ≤ N) × (length from.now < 256)) }
+        ensures taken { result ≡ true → self.new ≡ from.now }
+        ensures unchanged { result ≡ false → self.new ≡ self.old }
+    {
+        let Ok(len) = u8::try_from(from.len()) else {
+            return false;
+        };
+        if N < from.len() {
+            return false;
+        }
+        wipe(&mut self.bytes);
+        self.bytes[..from.len()].copy_from_slice(from);
+        self.len = len;
+        true
     }
 
     pub(crate) fn bytes(&self) -> &[u8]
@@ -46,8 +60,7 @@ impl<const N: usize> Packed<N> {
     pub(crate) fn clear(&mut self)
         ensures { self.new ≡ [] }
     {
-        wipe(&mut self.bytes);
-        self.len = 0;
+        self.fill(b"");
     }
 }
 

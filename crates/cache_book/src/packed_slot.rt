@@ -48,45 +48,40 @@ impl PackedSlot {
     ghost use Rattle.cache_book.specs.Modes.{has_some};
     ghost use Rattle.cache_book.specs.Deadlines.{deadline};
 
-    /// The slot of a new entry, whose passphrase takes `long` where it isn't short.
-    pub(crate) fn of(entry: &Entry, long: Box<Secret>) -> PackedSlot
-        requires { long.value ≡ [] }
-        ensures { result ≡ new_slot entry.now }
-    {
-        let Some(id) = Packed::of(entry.id.bytes()) else {
-            unreachable!()
-        };
-        PackedSlot {
-            number: entry.number,
-            entered: entry.entered,
-            last: entry.entered,
-            passphrase: Passphrase::of(&entry.secret, long),
-            ttl: entry.ttl,
-            max: entry.max,
-            mode: entry.mode,
-            modes: Modes::covered_by(entry.mode),
-            id,
-        }
-    }
-
     /// A slot of no entry, whose memory is filled later.
     pub(crate) fn blank() -> PackedSlot
         ensures { result.entry.secret ≡ [] }
     {
-        let (Some(id), Some(none)) = (Packed::of(b"-"), Packed::of(b"")) else {
-            unreachable!()
-        };
+        let mut id = Packed::new();
+        id.fill(b"-");
         PackedSlot {
             number: 0,
             entered: 0,
             last: 0,
-            passphrase: Passphrase::Short(none),
+            passphrase: Passphrase::new(),
             ttl: None,
             max: 0,
             mode: Mode::Any,
             modes: Modes::covered_by(Mode::Any),
             id,
         }
+    }
+
+    /// Becomes the slot of a new entry, whose passphrase takes `long` where it isn't short.
+    pub(crate) fn fill(&mut self, entry: &Entry, long: Box<Secret>)
+        requires none { self.old.entry.secret ≡ [] }
+        requires bare { long.value ≡ [] }
+        ensures { self.new ≡ new_slot entry.now }
+    {
+        self.number = entry.number;
+        self.entered = entry.entered;
+        self.last = entry.entered;
+        self.passphrase.fill(&entry.secret, long);
+        self.ttl = entry.ttl;
+        self.max = entry.max;
+        self.mode = entry.mode;
+        self.modes = Modes::covered_by(entry.mode);
+        self.id.fill(entry.id.bytes());
     }
 
     /// The number of its entry.

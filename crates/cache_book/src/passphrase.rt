@@ -17,19 +17,26 @@ pub(crate) enum Passphrase {
 }
 
 impl Passphrase {
-    /// A copy of this one, in `long` where it doesn't fit into a slot.
-    pub(crate) fn of(secret: &Secret, long: Box<Secret>) -> Passphrase
-        requires { long.value ≡ [] }
-        ensures { bytes_of result ≡ secret.now }
+    /// None.
+    pub(crate) fn new() -> Passphrase
+        ensures { bytes_of result ≡ [] }
     {
-        match Packed::of(secret.bytes()) {
-            Some(short) => Passphrase::Short(short),
-            None => {
-                let mut long = long;
-                *long = secret.copy();
-                Passphrase::Long(long)
+        Passphrase::Short(Packed::new())
+    }
+
+    /// Takes a copy of this one in place of none, in `long` where it doesn't fit into a slot.
+    pub(crate) fn fill(&mut self, secret: &Secret, mut long: Box<Secret>)
+        requires none { bytes_of self.old ≡ [] }
+        requires bare { long.value ≡ [] }
+        ensures { bytes_of self.new ≡ secret.now }
+    {
+        if let Passphrase::Short(short) = self {
+            if short.fill(secret.bytes()) {
+                return;
             }
         }
+        *long = secret.copy();
+        *self = Passphrase::Long(long);
     }
 
     pub(crate) fn copy(&self) -> Secret
