@@ -1,5 +1,5 @@
 // Finding slots among slots in the order of their ids.
-ghost use Rattle.std.specs.Prelude.{◌≡◌, ℕ, ◌+◌, ◌-◌, ◌<◌, ◌≤◌, ◌==◌, true, false, length, get_or, IfSome, IfNone};
+ghost use Rattle.std.specs.Prelude.{◌≡◌, ℕ, ◌+◌, ◌-◌, ◌<◌, ◌≤◌, ◌==◌, ◌↔◌, true, false, length, get_or, IfSome, IfNone, IsTrue};
 ghost use Rattle.std.specs.List.{HoldsAt, AllByRecursion, AllWithin};
 ghost use Rattle.std.specs.List.Sorted.{IsPartitionPoint};
 ghost use Rattle.cache_book.specs.Shelves.{serves_at, IsGrantFrom, ServesNone};
@@ -49,7 +49,7 @@ fn behind_lower_near(slots: &[BoxedSlot], guess: Stretch, hash: u64) -> usize
 /// Whether the first slot whose hash isn't lower than this one is in the stretch, or the next one behind it.
 fn is_around(slots: &[BoxedSlot], stretch: Stretch, hash: u64) -> bool
     requires { AreById slots.now }
-    ensures { result ≡ true → (stretch.start ≤ stretch.end) × IsNarrowed hash slots.now stretch.start (stretch.end - stretch.start) }
+    ensures { IsTrue result ↔ ((stretch.start ≤ stretch.end) × IsNarrowed hash slots.now stretch.start (stretch.end - stretch.start)) }
 {
     let Stretch { start, end } = stretch;
     start <= end
@@ -61,7 +61,7 @@ fn is_around(slots: &[BoxedSlot], stretch: Stretch, hash: u64) -> bool
 fn are_lower_before(slots: &[BoxedSlot], end: usize, hash: u64) -> bool
     requires by_id { AreById slots.now }
     requires within { end ≤ length slots.now }
-    ensures { result ≡ true → AllWithin (λ slot. has_lower_hash hash slot ≡ true) slots.now 0 end }
+    ensures { IsTrue result ↔ AllWithin (λ slot. has_lower_hash hash slot ≡ true) slots.now 0 end }
 {
     end == 0 || slots[end - 1].hash() < hash
 }
@@ -69,7 +69,7 @@ fn are_lower_before(slots: &[BoxedSlot], end: usize, hash: u64) -> bool
 fn none_lower_from(slots: &[BoxedSlot], start: usize, hash: u64) -> bool
     requires by_id { AreById slots.now }
     requires within { start ≤ length slots.now }
-    ensures { result ≡ true → AllWithin (λ slot. has_lower_hash hash slot ≡ false) slots.now start (length slots.now) }
+    ensures { IsTrue result ↔ AllWithin (λ slot. has_lower_hash hash slot ≡ false) slots.now start (length slots.now) }
 {
     start == slots.len() || hash <= slots[start].hash()
 }
@@ -194,7 +194,7 @@ pub(crate) fn with_number(slots: &[BoxedSlot], found: Found, number: u64) -> Opt
 /// The place of the slot with this number among those from `start` up to `end`.
 fn number_within(slots: &[BoxedSlot], start: usize, end: usize, number: u64) -> Option<usize>
     requires { end ≤ length slots.now }
-    ensures found { IfSome result (λ i. (i < length slots.now) × HoldsAt (λ slot. (number == slot.entry.number) ≡ true) slots.now i) }
+    ensures found { IfSome result (λ i. (start ≤ i) × (i < end) × HoldsAt (λ slot. (number == slot.entry.number) ≡ true) slots.now i) }
     ensures none { IfNone result (AllWithin (λ slot. (number == slot.entry.number) ≡ false) slots.now start end) }
 {
     for i in start..end {
