@@ -28,7 +28,7 @@ struct place {
 /* Twice as many places as records, so that one is found at the first place or near it. */
 struct table {
     struct place *places;
-    size_t room, length;
+    size_t capacity, length;
 };
 
 static void *memory(size_t size) {
@@ -49,10 +49,9 @@ static uint64_t hash_of(const char *id) {
 
 static struct place *place_of(struct table table, const char *id) {
     uint64_t hash = hash_of(id);
-    struct place *place = table.places + hash % table.room;
+    struct place *place = table.places + hash % table.capacity;
     while (place->record && (place->hash != hash || strcmp(place->record->id, id)))
-        place = place + 1 < table.places + table.room ? place + 1 : table.places;
-    place->hash = hash;
+        place = place + 1 < table.places + table.capacity ? place + 1 : table.places;
     return place;
 }
 
@@ -66,7 +65,7 @@ static struct table filled(size_t length) {
         struct record *record = memory(sizeof *record);
         name(record->id, k * MADE % length);
         strcpy(record->secret, "passphrase");
-        place_of(table, record->id)->record = record;
+        *place_of(table, record->id) = (struct place){hash_of(record->id), record};
     }
     return table;
 }

@@ -1,5 +1,5 @@
 -- Private: where the passphrase of a slot lies. This is the project's own.
-use Rattle.std.specs.Prelude.{ℕ, List}
+use Rattle.std.specs.Prelude.{ℕ, List, Bool, true, false}
 use Rattle.cache_book.specs.declared.passphrase.Passphrase.{Passphrase}
 use Rattle.cache_book.specs.declared.passphrase.Passphrase.TheVariants.{Short, Long}
 
@@ -7,3 +7,8 @@ use Rattle.cache_book.specs.declared.passphrase.Passphrase.TheVariants.{Short, L
 abbrev pub bytes_of : Passphrase → List ℕ
 bytes_of (Short bytes) = bytes
 bytes_of (Long boxed) = boxed.value
+
+-- it stands in the slot
+abbrev pub is_short : Passphrase → Bool
+is_short (Short bytes) = true
+is_short (Long boxed) = false

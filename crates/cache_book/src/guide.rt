@@ -13,10 +13,10 @@ pub(crate) struct Stretch {
 
 /// Where the slots of each range of hashes begin, so that a search among many is one among a few.
 ///
-/// It is a guess, and nothing but speed hangs on it: a search looks whether it is right.
+/// It is a guess, and nothing but speed hangs on it: a search checks it.
 #[derive(Drop)]
 pub(crate) struct Guide {
-    // The place of the first slot of each range, or of one behind it. The ranges are of one size, in the order of their hashes.
+    // Of each range, the place of the first slot that is in it or in a later one. The ranges are of one size, in the order of their hashes.
     starts: Vec<usize>,
 }
 
@@ -41,8 +41,8 @@ impl Guide {
     }
 
     /// Makes ranges for as many slots as there is room for. Where there is no memory for them, a search is only slower.
-    pub(crate) fn widen(&mut self, slots: &[BoxedSlot], room: usize) {
-        let ranges = room / SLOTS_PER_RANGE;
+    pub(crate) fn widen(&mut self, slots: &[BoxedSlot], capacity: usize) {
+        let ranges = capacity / SLOTS_PER_RANGE;
         if self.starts.len() < ranges && self.starts.resize(ranges, 0).is_ok() {
             self.rebuild(slots);
         }

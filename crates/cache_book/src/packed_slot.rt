@@ -6,9 +6,9 @@ use crate::passphrase::Passphrase;
 use cache_policy::{CacheId, Entry, MAX_ID_LEN, Mode, Secret};
 use std::marker::Model;
 
-/// A slot in little memory, so that of many a request reads mostly two lines of a processor's cache.
+/// A slot in little memory: a request over many slots mostly reads two cache lines of it.
 ///
-/// Fields lie in the order of the source today: those of 8 bytes first, and what a request reads in part last.
+/// The compiler keeps the fields in this order today: those of 8 bytes first, and what a request reads in part last.
 #[derive(Drop)]
 pub(crate) struct PackedSlot {
     number: u64,
@@ -146,6 +146,7 @@ impl PackedSlot {
     pub(crate) fn serves_at(&self, id: &CacheId, mode: Mode, now: u64) -> bool
         ensures { result ≡ serves_at id.now mode now self.now }
     {
+        // The id comes last: a processor fetches the memory of all three at once.
         self.modes.holds(mode) && self.is_within(now) && self.id() == id.bytes()
     }
 

@@ -1,5 +1,6 @@
-ghost use Rattle.std.specs.Prelude.{◌≡◌, []};
-ghost use Rattle.cache_book.specs.Passphrases.{bytes_of};
+ghost use Rattle.std.specs.Prelude.{◌≡◌, ◌≤◌, [], true, length};
+ghost use Rattle.cache_book.specs.declared.passphrase.TheConstants.{MAX_SHORT_LEN};
+ghost use Rattle.cache_book.specs.Passphrases.{bytes_of, is_short};
 
 use crate::packed::Packed;
 use cache_policy::Secret;
@@ -24,11 +25,12 @@ impl Passphrase {
         Passphrase::Short(Packed::new())
     }
 
-    /// Takes a copy of this one in place of none, in `long` where it doesn't fit into a slot.
+    /// Copies `secret` to where none lies yet: into the slot where it fits, else into `long`.
     pub(crate) fn fill(&mut self, secret: &Secret, mut long: Box<Secret>)
         requires none { bytes_of self.old ≡ [] }
         requires bare { long.value ≡ [] }
-        ensures { bytes_of self.new ≡ secret.now }
+        ensures bytes { bytes_of self.new ≡ secret.now }
+        ensures short { is_short self.old ≡ true → length secret.now ≤ MAX_SHORT_LEN → is_short self.new ≡ true }
     {
         if let Passphrase::Short(short) = self {
             if short.fill(secret.bytes()) {

@@ -77,14 +77,12 @@ fn none_lower_from(slots: &[BoxedSlot], start: usize, hash: u64) -> bool
 /// The place of the first slot whose hash isn't lower than this one, which is at `low` or among the `left` behind it.
 ///
 /// It looks at three hashes together, so that over many the memory of one comes while that of another does.
-fn behind_lower_in(slots: &[BoxedSlot], low: usize, left: usize, hash: u64) -> usize
+fn behind_lower_in(slots: &[BoxedSlot], mut low: usize, mut left: usize, hash: u64) -> usize
     requires by_id { AreById slots.now }
     requires narrowed { IsNarrowed hash slots.now low left }
     ensures within { result ≤ length slots.now }
     ensures parts { IsPartitionPoint (λ slot. has_lower_hash hash slot ≡ true) (λ slot. has_lower_hash hash slot ≡ false) slots.now result }
 {
-    let mut low = low;
-    let mut left = left;
     while 0 < left {
         let step = left / 4;
         let first = slots[low + step].hash() < hash;

@@ -37,7 +37,6 @@ impl Slot {
     pub fn serves_at(&self, id: &CacheId, mode: Mode, now: u64) -> bool
         ensures { result ≡ serves_at id.now mode now self.now }
     {
-        // The id comes last: a processor fetches the memory of all three at once.
         self.modes.holds(mode) && self.is_within(now) && self.entry.id == *id
     }
 

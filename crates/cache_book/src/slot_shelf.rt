@@ -8,8 +8,6 @@ use crate::Shelf;
 use crate::boxed_slot::{Blank, BoxedSlot};
 use crate::deadlines::{Deadlines, Place};
 use crate::guide::Guide;
-#[cfg(test)]
-use crate::guide::Stretch;
 use crate::id_hash::hash_of;
 use crate::search::{
     Found, before_higher_hashes, behind_lower_hashes, end_of, grant_from, with_number,
@@ -68,12 +66,15 @@ impl SlotShelf {
 
 #[cfg(test)]
 impl SlotShelf {
-    /// Whether the guide leads to each slot, by a stretch of at most this many.
-    pub(crate) fn is_guided(&self, most: usize) -> bool {
+    /// Whether the guide leads to each slot, by a stretch of at most `max`.
+    pub(crate) fn is_guided(&self, max: usize) -> bool {
         let slots = self.slots.as_slice();
         for i in 0..slots.len() {
-            let Stretch { start, end } = self.guide.stretch(slots[i].hash(), slots.len());
-            if i < start || end <= i || start.saturating_add(most) < end {
+            let stretch = self.guide.stretch(slots[i].hash(), slots.len());
+            if i < stretch.start
+                || stretch.end <= i
+                || stretch.start.saturating_add(max) < stretch.end
+            {
                 return false;
             }
         }

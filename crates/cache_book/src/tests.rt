@@ -245,11 +245,12 @@ fn is_given<S: Shelf>(shelf: &mut S, word: u32, number: u64, now: u64) -> Result
     Ok(false)
 }
 
-/// How many of a load's requests are given a passphrase, on a shelf without entries. They come seven seconds one after another.
-fn given_of_a_load<S: Shelf>(shelf: &mut S, number: u64) -> Result<u32, Fail>
+/// How many of a load's requests are given a passphrase, on a shelf without entries. Its steps come seven seconds apart; one word in eight
+/// is no step.
+fn given_of_a_load<S: Shelf>(shelf: &mut S, seed: u64) -> Result<u32, Fail>
     requires { (S.at shelf.old).slots ≡ [] }
 {
-    let mut random = Pcg32::seed_from_u64(number);
+    let mut random = Pcg32::seed_from_u64(seed);
     let mut now: u64 = 0;
     let mut given: u32 = 0;
     for step in 0..12_800 {
@@ -265,14 +266,17 @@ fn given_of_a_load<S: Shelf>(shelf: &mut S, number: u64) -> Result<u32, Fail>
 #[test]
 fn a_load_is_answered_alike(rt: HostRuntime) -> Result<(), Fail> {
     // The numbers are those of a program in another language, over a table of ids.
-    for (number, given) in [(0, 2986), (1, 2753), (2, 2881)] {
+    for (seed, given) in [(0, 2986), (1, 2753), (2, 2881)] {
         let mut list = ListShelf::new(rt.alloc());
         let mut slots = SlotShelf::new(rt.alloc());
-        assert_eq!(rt; given_of_a_load(&mut list, number)?, given);
-        assert_eq!(rt; given_of_a_load(&mut slots, number)?, given);
+        assert_eq!(rt; given_of_a_load(&mut list, seed)?, given);
+        assert_eq!(rt; given_of_a_load(&mut slots, seed)?, given);
     }
     Ok(())
 }
+
+/// Of a thousand hashes about 8 stand in a stretch.
+const MAX_STRETCH_LEN: usize = 24;
 
 /// Puts entries under k0 to k999 with lives of 1 to 1,000 seconds, and answers whether the guide led to each after each.
 fn put_a_thousand(slots: &mut SlotShelf, from: u64) -> Result<bool, Fail>
@@ -294,13 +298,10 @@ fn put_a_thousand(slots: &mut SlotShelf, from: u64) -> Result<bool, Fail>
             from + u64::from(k),
             0,
         )?;
-        guided = slots.is_guided(MOST_IN_A_STRETCH) && guided;
+        guided = slots.is_guided(MAX_STRETCH_LEN) && guided;
     }
     Ok(guided)
 }
-
-/// Of a thousand hashes about 8 stand in a stretch.
-const MOST_IN_A_STRETCH: usize = 24;
 
 #[test]
 fn the_guide_leads_to_each_slot(rt: HostRuntime) -> Result<(), Fail> {
@@ -310,11 +311,11 @@ fn the_guide_leads_to_each_slot(rt: HostRuntime) -> Result<(), Fail> {
     // A sweep takes few slots one by one, and many in a walk.
     for now in [10, 500] {
         slots.sweep(now);
-        assert!(rt; slots.is_guided(MOST_IN_A_STRETCH));
+        assert!(rt; slots.is_guided(MAX_STRETCH_LEN));
     }
     for k in 600..700 {
         slots.clear(&numbered(k)?, Mode::User);
-        assert!(rt; slots.is_guided(MOST_IN_A_STRETCH));
+        assert!(rt; slots.is_guided(MAX_STRETCH_LEN));
     }
     slots.flush();
     assert!(rt; put_a_thousand(&mut slots, 2000)?);
