@@ -1,5 +1,5 @@
 -- The orders in which slots are kept. This is the project's own.
-use Rattle.std.specs.Prelude.{◌≡◌, ℕ, ◌+◌, ◌<◌, ◌≤◌, List, [], Bool, true, false, ◌==◌, nat_lt, nat_le, not, ◌&&◌, filter, get_or, length, if◌then◌else◌}
+use Rattle.std.specs.Prelude.{◌≡◌, ℕ, List, [], Bool, true, false, ◌==◌, nat_lt, nat_le, not, ◌&&◌, filter, if◌then◌else◌}
 use Rattle.std.specs.Cmp.Lexicographic.{slice_cmp}
 use Rattle.std.specs.declared.cmp.Ordering.{Ordering}
 use Rattle.std.specs.Ordering.{nat_cmp, ordering_then, then_cmp, on, is_lt, is_le}
@@ -25,12 +25,6 @@ has_lower_hash hash slot = nat_lt (id_hash slot.entry.id) hash
 
 abbrev pub has_hash_upto : ℕ → Slot → Bool
 has_hash_upto hash slot = nat_le (id_hash slot.entry.id) hash
-
--- the first slot whose hash isn't lower is at low, or among those that are left behind it
-pub record IsNarrowed (hash : ℕ) (list : List Slot) (low left : ℕ) : Type 0 where
-  pub within : low + left ≤ length list
-  pub before : (k : ℕ) (d : Slot) → k < low → has_lower_hash hash (get_or list k d) ≡ true
-  pub behind : (k : ℕ) (d : Slot) → low + left ≤ k → k < length list → has_lower_hash hash (get_or list k d) ≡ false
 
 -- slots by their ids, and then by their numbers
 abbrev pub comes_before : Slot → Slot → Bool

@@ -2,14 +2,10 @@ use crate::boxed_slot::BoxedSlot;
 use std::alloc::Global;
 
 /// How many slots a range of hashes has on average, where there are as many as there is room for.
-const SLOTS_PER_RANGE: usize = 8;
+const SLOTS_PER_RANGE: usize = 16;
 
-/// The slots from `start` up to `end`.
-#[derive(Clone, Copy)]
-pub(crate) struct Stretch {
-    pub(crate) start: usize,
-    pub(crate) end: usize,
-}
+/// How many slots are looked at for a guess. A range with more has hashes that somebody chose, or there was no memory for ranges.
+const MAX_LOOKED_AT: usize = 64;
 
 /// Where the slots of each range of hashes begin, so that a search among many is one among a few.
 ///
@@ -17,7 +13,7 @@ pub(crate) struct Stretch {
 #[derive(Drop)]
 pub(crate) struct Guide {
     // Of each range, the place of the first slot that is in it or in a later one. The ranges are of one size, in the order of their hashes.
-    starts: Vec<usize>,
+    starts: Vec<u32>,
 }
 
 impl Guide {
@@ -28,16 +24,21 @@ impl Guide {
         }
     }
 
-    /// Where the slots of a hash stand among so many.
-    pub(crate) fn stretch(&self, hash: u64, len: usize) -> Stretch {
+    /// The place of the first slot whose hash isn't lower than this one, if the starts are right and few are in its range.
+    pub(crate) fn guess(&self, slots: &[BoxedSlot], hash: u64) -> usize {
         let range = range_of(hash, self.starts.len());
-        let start = self.starts.get(range).copied().unwrap_or(0);
-        let end = self
-            .starts
-            .get(range.saturating_add(1))
-            .copied()
-            .unwrap_or(len);
-        Stretch { start, end }
+        let start = self.start(range).unwrap_or(0);
+        let end = self.start(range.saturating_add(1)).unwrap_or(slots.len());
+        match slots.get(start..end) {
+            Some(near) if near.len() <= MAX_LOOKED_AT => {
+                start.saturating_add(lower_among(near, hash))
+            }
+            _ => start,
+        }
+    }
+
+    fn start(&self, range: usize) -> Option<usize> {
+        self.starts.get(range).map(|start| *start as usize)
     }
 
     /// Makes ranges for as many slots as there is room for. Where there is no memory for them, a search is only slower.
@@ -55,7 +56,7 @@ impl Guide {
         }
         let behind = range_of(hash, self.starts.len()).saturating_add(1);
         if let Some(later) = self.starts.as_mut_slice().get_mut(behind..) {
-            add_to_each(later, after.wrapping_sub(before));
+            add_to_each(later, short(after).wrapping_sub(short(before)));
         }
     }
 
@@ -74,7 +75,7 @@ impl Guide {
     /// The slots of the ranges from `from` up to `to` begin at `start`.
     fn set_starts(&mut self, from: usize, to: usize, start: usize) {
         if let Some(starts) = self.starts.as_mut_slice().get_mut(from..to) {
-            starts.fill(start);
+            starts.fill(short(start));
         }
     }
 }
@@ -85,8 +86,22 @@ fn range_of(hash: u64, ranges: usize) -> usize {
     ((hash >> 32).wrapping_mul(ranges as u64) >> 32) as usize
 }
 
-fn add_to_each(starts: &mut [usize], by: usize) {
+/// A place in half the memory. One that doesn't fit is guessed wrong.
+fn short(place: usize) -> u32 {
+    u32::try_from(place).unwrap_or(u32::MAX)
+}
+
+fn add_to_each(starts: &mut [u32], by: u32) {
     for start in starts {
         *start = start.wrapping_add(by);
     }
+}
+
+/// How many of these slots have a lower hash. There is no branch on a hash, since a processor foretells every second one wrong.
+fn lower_among(slots: &[BoxedSlot], hash: u64) -> usize {
+    let mut lower: usize = 0;
+    for slot in slots {
+        lower = lower.wrapping_add(usize::from(slot.hash() < hash));
+    }
+    lower
 }

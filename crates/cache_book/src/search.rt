@@ -3,11 +3,11 @@ ghost use Rattle.std.specs.Prelude.{◌≡◌, ℕ, ◌+◌, ◌-◌, ◌<◌, �
 ghost use Rattle.std.specs.List.{HoldsAt, AllByRecursion, AllWithin};
 ghost use Rattle.std.specs.List.Sorted.{IsPartitionPoint};
 ghost use Rattle.cache_book.specs.Shelves.{serves_at, IsGrantFrom, ServesNone};
-ghost use Rattle.cache_book.specs.SlotOrders.{id_cmp, is_upto, has_lower_hash, has_hash_upto, IsNarrowed, AreById, AreKept};
+ghost use Rattle.cache_book.specs.SlotOrders.{id_cmp, is_upto, has_lower_hash, has_hash_upto, AreById, AreKept};
 ghost use Rattle.cache_book.specs.Hashes.{id_hash};
 
 use crate::boxed_slot::BoxedSlot;
-use crate::guide::{Guide, Stretch};
+use crate::guide::Guide;
 use crate::id_hash::hash_of;
 use cache_policy::{CacheId, Grant, Mode};
 use std::cell::Cell;
@@ -30,32 +30,31 @@ pub(crate) fn behind_lower_hashes(slots: &[BoxedSlot], hash: u64) -> usize
     ensures within { result ≤ length slots.now }
     ensures parts { IsPartitionPoint (λ slot. has_lower_hash hash slot ≡ true) (λ slot. has_lower_hash hash slot ≡ false) slots.now result }
 {
-    behind_lower_in(slots, 0, slots.len(), hash)
+    slots.partition_point(|slot| slot.hash() < hash)
 }
 
-/// The same, looked for within `guess` where that is right.
-fn behind_lower_near(slots: &[BoxedSlot], guess: Stretch, hash: u64) -> usize
+/// The same, looked for first where the guide says.
+fn behind_lower_near(slots: &[BoxedSlot], guide: &Guide, hash: u64) -> usize
     requires { AreById slots.now }
     ensures within { result ≤ length slots.now }
     ensures parts { IsPartitionPoint (λ slot. has_lower_hash hash slot ≡ true) (λ slot. has_lower_hash hash slot ≡ false) slots.now result }
 {
-    if is_around(slots, guess, hash) {
-        behind_lower_in(slots, guess.start, guess.end - guess.start, hash)
+    let guess = guide.guess(slots, hash);
+    if is_behind_lower(slots, guess, hash) {
+        guess
     } else {
         behind_lower_hashes(slots, hash)
     }
 }
 
-/// Whether the first slot whose hash isn't lower than this one is in the stretch, or the next one behind it.
-fn is_around(slots: &[BoxedSlot], stretch: Stretch, hash: u64) -> bool
+/// Whether the first slot whose hash isn't lower than this one is at `place`, or would be.
+pub(crate) fn is_behind_lower(slots: &[BoxedSlot], place: usize, hash: u64) -> bool
     requires { AreById slots.now }
-    ensures { IsTrue result ↔ ((stretch.start ≤ stretch.end) × IsNarrowed hash slots.now stretch.start (stretch.end - stretch.start)) }
+    ensures { IsTrue result ↔ ((place ≤ length slots.now) × IsPartitionPoint (λ slot. has_lower_hash hash slot ≡ true) (λ slot. has_lower_hash hash slot ≡ false) slots.now place) }
 {
-    let Stretch { start, end } = stretch;
-    start <= end
-        && end <= slots.len()
-        && are_lower_before(slots, start, hash)
-        && none_lower_from(slots, end, hash)
+    place <= slots.len()
+        && are_lower_before(slots, place, hash)
+        && none_lower_from(slots, place, hash)
 }
 
 fn are_lower_before(slots: &[BoxedSlot], end: usize, hash: u64) -> bool
@@ -72,36 +71,6 @@ fn none_lower_from(slots: &[BoxedSlot], start: usize, hash: u64) -> bool
     ensures { IsTrue result ↔ AllWithin (λ slot. has_lower_hash hash slot ≡ false) slots.now start (length slots.now) }
 {
     start == slots.len() || hash <= slots[start].hash()
-}
-
-/// The place of the first slot whose hash isn't lower than this one, which is at `low` or among the `left` behind it.
-///
-/// It looks at three hashes together, so that over many the memory of one comes while that of another does.
-fn behind_lower_in(slots: &[BoxedSlot], mut low: usize, mut left: usize, hash: u64) -> usize
-    requires by_id { AreById slots.now }
-    requires narrowed { IsNarrowed hash slots.now low left }
-    ensures within { result ≤ length slots.now }
-    ensures parts { IsPartitionPoint (λ slot. has_lower_hash hash slot ≡ true) (λ slot. has_lower_hash hash slot ≡ false) slots.now result }
-{
-    while 0 < left {
-        let step = left / 4;
-        let first = slots[low + step].hash() < hash;
-        let second = slots[low + 2 * step].hash() < hash;
-        let third = slots[low + 3 * step].hash() < hash;
-        if third {
-            low += 3 * step + 1;
-            left -= 3 * step + 1;
-        } else if second {
-            low += 2 * step + 1;
-            left = step.saturating_sub(1);
-        } else if first {
-            low += step + 1;
-            left = step.saturating_sub(1);
-        } else {
-            left = step;
-        }
-    }
-    low
 }
 
 /// The place after the last slot whose hash is no higher than this one.
@@ -132,7 +101,7 @@ fn serving(slots: &[BoxedSlot], guide: &Guide, id: &CacheId, mode: Mode, now: u6
     ensures none { IfNone result (ServesNone slots.now id.now mode now) }
 {
     let hash = hash_of(id);
-    let start = behind_lower_near(slots, guide.stretch(hash, slots.len()), hash);
+    let start = behind_lower_near(slots, guide, hash);
     for i in start..slots.len() {
         if hash < slots[i].hash() {
             return None;

@@ -9,6 +9,8 @@ use crate::boxed_slot::{Blank, BoxedSlot};
 use crate::deadlines::{Deadlines, Place};
 use crate::guide::Guide;
 use crate::id_hash::hash_of;
+#[cfg(test)]
+use crate::search::is_behind_lower;
 use crate::search::{
     Found, before_higher_hashes, behind_lower_hashes, end_of, grant_from, with_number,
 };
@@ -66,15 +68,12 @@ impl SlotShelf {
 
 #[cfg(test)]
 impl SlotShelf {
-    /// Whether the guide leads to each slot, by a stretch of at most `max`.
-    pub(crate) fn is_guided(&self, max: usize) -> bool {
+    /// Whether the guide leads to each slot.
+    pub(crate) fn is_guided(&self) -> bool {
         let slots = self.slots.as_slice();
-        for i in 0..slots.len() {
-            let stretch = self.guide.stretch(slots[i].hash(), slots.len());
-            if i < stretch.start
-                || stretch.end <= i
-                || stretch.start.saturating_add(max) < stretch.end
-            {
+        for slot in slots {
+            let guess = self.guide.guess(slots, slot.hash());
+            if !is_behind_lower(slots, guess, slot.hash()) {
                 return false;
             }
         }

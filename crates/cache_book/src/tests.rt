@@ -275,9 +275,6 @@ fn a_load_is_answered_alike(rt: HostRuntime) -> Result<(), Fail> {
     Ok(())
 }
 
-/// Of a thousand hashes about 8 stand in a stretch.
-const MAX_STRETCH_LEN: usize = 24;
-
 /// Puts entries under k0 to k999 with lives of 1 to 1,000 seconds, and answers whether the guide led to each after each.
 fn put_a_thousand(slots: &mut SlotShelf, from: u64) -> Result<bool, Fail>
     requires few { from ≤ 2000 }
@@ -298,7 +295,7 @@ fn put_a_thousand(slots: &mut SlotShelf, from: u64) -> Result<bool, Fail>
             from + u64::from(k),
             0,
         )?;
-        guided = slots.is_guided(MAX_STRETCH_LEN) && guided;
+        guided = slots.is_guided() && guided;
     }
     Ok(guided)
 }
@@ -311,11 +308,11 @@ fn the_guide_leads_to_each_slot(rt: HostRuntime) -> Result<(), Fail> {
     // A sweep takes few slots one by one, and many in a walk.
     for now in [10, 500] {
         slots.sweep(now);
-        assert!(rt; slots.is_guided(MAX_STRETCH_LEN));
+        assert!(rt; slots.is_guided());
     }
     for k in 600..700 {
         slots.clear(&numbered(k)?, Mode::User);
-        assert!(rt; slots.is_guided(MAX_STRETCH_LEN));
+        assert!(rt; slots.is_guided());
     }
     slots.flush();
     assert!(rt; put_a_thousand(&mut slots, 2000)?);
