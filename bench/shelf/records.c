@@ -3,7 +3,7 @@
  *
  * A record takes as much memory as a slot of the agent's, and stands in memory of its own. A request finds it by its id's hash, reads what
  * an answer needs, writes it into a buffer, and keeps a mark of the request. usage: records FEW MANY
- * It times rounds of each in turn, and prints the medians: few and many in order, few and many all over. */
+ * It times rounds of each in turn, and prints for each: many and few in order, many and few all over. */
 #include <stdint.h>
 #include <stdio.h>
 #include <stdlib.h>
@@ -87,25 +87,15 @@ static double a_round(struct table table, size_t from, size_t step) {
     return ((end.tv_sec - start.tv_sec) * 1e9 + (end.tv_nsec - start.tv_nsec)) / A_ROUND;
 }
 
-static int compared(const void *a, const void *b) {
-    double x = *(const double *)a, y = *(const double *)b;
-    return (x > y) - (x < y);
-}
-
 int main(int count, char **words) {
     if (count != 3)
         return 2;
     struct table few = filled(strtoul(words[1], 0, 10)), many = filled(strtoul(words[2], 0, 10));
-    static double times[4][ROUNDS];
     for (size_t round = 0; round < ROUNDS; round++) {
-        times[0][round] = a_round(few, round * A_ROUND, MADE);
-        times[1][round] = a_round(many, round * A_ROUND, MADE);
-        times[2][round] = a_round(few, round * A_ROUND, ASKED);
-        times[3][round] = a_round(many, round * A_ROUND, ASKED);
-    }
-    for (size_t kind = 0; kind < 4; kind++) {
-        qsort(times[kind], ROUNDS, sizeof(double), compared);
-        printf("%.0f%c", times[kind][ROUNDS / 2], kind < 3 ? ' ' : '\n');
+        printf("records %.0f", a_round(many, round * A_ROUND, MADE));
+        printf(" %.0f", a_round(few, round * A_ROUND, MADE));
+        printf(" %.0f", a_round(many, round * A_ROUND, ASKED));
+        printf(" %.0f\n", a_round(few, round * A_ROUND, ASKED));
     }
     return 0;
 }

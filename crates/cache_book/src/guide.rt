@@ -4,7 +4,8 @@ use std::alloc::Global;
 /// How many slots a range of hashes has on average, where there are as many as there is room for.
 const SLOTS_PER_RANGE: usize = 16;
 
-/// How many slots are looked at for a guess. A range with more has hashes that somebody chose, or there was no memory for ranges.
+/// At most how many slots are looked at for a guess. A range has more where somebody chose the hashes, or where there was no memory for
+/// more ranges.
 const MAX_LOOKED_AT: usize = 64;
 
 /// Where the slots of each range of hashes begin, so that a search among many is one among a few.
@@ -26,15 +27,20 @@ impl Guide {
 
     /// The place of the first slot whose hash isn't lower than this one, if the starts are right and few are in its range.
     pub(crate) fn guess(&self, slots: &[BoxedSlot], hash: u64) -> usize {
-        let range = range_of(hash, self.starts.len());
-        let start = self.start(range).unwrap_or(0);
-        let end = self.start(range.saturating_add(1)).unwrap_or(slots.len());
+        let (start, end) = self.range(hash, slots.len());
         match slots.get(start..end) {
             Some(near) if near.len() <= MAX_LOOKED_AT => {
                 start.saturating_add(lower_among(near, hash))
             }
             _ => start,
         }
+    }
+
+    /// Where the range of a hash begins, and where the next one does. There are `len` slots.
+    pub(crate) fn range(&self, hash: u64, len: usize) -> (usize, usize) {
+        let range = range_of(hash, self.starts.len());
+        let start = self.start(range).unwrap_or(0);
+        (start, self.start(range.saturating_add(1)).unwrap_or(len))
     }
 
     fn start(&self, range: usize) -> Option<usize> {
@@ -56,7 +62,7 @@ impl Guide {
         }
         let behind = range_of(hash, self.starts.len()).saturating_add(1);
         if let Some(later) = self.starts.as_mut_slice().get_mut(behind..) {
-            add_to_each(later, short(after).wrapping_sub(short(before)));
+            add_to_each(later, as_start(after).wrapping_sub(as_start(before)));
         }
     }
 
@@ -75,7 +81,7 @@ impl Guide {
     /// The slots of the ranges from `from` up to `to` begin at `start`.
     fn set_starts(&mut self, from: usize, to: usize, start: usize) {
         if let Some(starts) = self.starts.as_mut_slice().get_mut(from..to) {
-            starts.fill(short(start));
+            starts.fill(as_start(start));
         }
     }
 }
@@ -86,8 +92,8 @@ fn range_of(hash: u64, ranges: usize) -> usize {
     ((hash >> 32).wrapping_mul(ranges as u64) >> 32) as usize
 }
 
-/// A place in half the memory. One that doesn't fit is guessed wrong.
-fn short(place: usize) -> u32 {
+/// A place as it is kept. One that doesn't fit is guessed wrong.
+fn as_start(place: usize) -> u32 {
     u32::try_from(place).unwrap_or(u32::MAX)
 }
 
@@ -97,7 +103,7 @@ fn add_to_each(starts: &mut [u32], by: u32) {
     }
 }
 
-/// How many of these slots have a lower hash. There is no branch on a hash, since a processor foretells every second one wrong.
+/// How many of these slots have a lower hash. All are compared, and without a branch: a processor can't predict where the lower ones end.
 fn lower_among(slots: &[BoxedSlot], hash: u64) -> usize {
     let mut lower: usize = 0;
     for slot in slots {

@@ -1,5 +1,5 @@
 // Finding slots among slots in the order of their ids.
-ghost use Rattle.std.specs.Prelude.{◌≡◌, ℕ, ◌+◌, ◌-◌, ◌<◌, ◌≤◌, ◌==◌, ◌↔◌, true, false, length, get_or, IfSome, IfNone, IsTrue};
+ghost use Rattle.std.specs.Prelude.{◌≡◌, ◌<◌, ◌≤◌, ◌==◌, ◌↔◌, true, false, length, IfSome, IfNone, IsTrue};
 ghost use Rattle.std.specs.List.{HoldsAt, AllByRecursion, AllWithin};
 ghost use Rattle.std.specs.List.Sorted.{IsPartitionPoint};
 ghost use Rattle.cache_book.specs.Shelves.{serves_at, IsGrantFrom, ServesNone};

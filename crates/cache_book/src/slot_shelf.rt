@@ -9,8 +9,6 @@ use crate::boxed_slot::{Blank, BoxedSlot};
 use crate::deadlines::{Deadlines, Place};
 use crate::guide::Guide;
 use crate::id_hash::hash_of;
-#[cfg(test)]
-use crate::search::is_behind_lower;
 use crate::search::{
     Found, before_higher_hashes, behind_lower_hashes, end_of, grant_from, with_number,
 };
@@ -22,13 +20,13 @@ use std::marker::Model;
 /// How many places a sweep takes one by one, before it walks over all slots.
 const FEW: usize = 32;
 
-/// A shelf whose slots stand in the order of their ids, and are found by binary search. Beside them stand their places in the order of
+/// A shelf whose slots stand in the order of their ids, by whose hashes they are found. Beside them stand their places in the order of
 /// their deadlines, the soonest in front.
 #[derive(Drop)]
 pub struct SlotShelf {
     // By the ids of their entries, whose hashes come first, and then by their numbers.
     slots: Vec<BoxedSlot>,
-    // Where a search for a hash begins.
+    // Where a request looks first.
     guide: Guide,
     // The place of each slot, and some that are of no slot any more.
     deadlines: Deadlines,
@@ -68,12 +66,16 @@ impl SlotShelf {
 
 #[cfg(test)]
 impl SlotShelf {
-    /// Whether the guide leads to each slot.
-    pub(crate) fn is_guided(&self) -> bool {
+    /// Whether the guide leads to each slot, by ranges of at most `max`.
+    pub(crate) fn is_guided(&self, max: usize) -> bool {
         let slots = self.slots.as_slice();
         for slot in slots {
-            let guess = self.guide.guess(slots, slot.hash());
-            if !is_behind_lower(slots, guess, slot.hash()) {
+            let hash = slot.hash();
+            let (start, end) = self.guide.range(hash, slots.len());
+            let guess = self.guide.guess(slots, hash);
+            if start.saturating_add(max) < end
+                || !crate::search::is_behind_lower(slots, guess, hash)
+            {
                 return false;
             }
         }

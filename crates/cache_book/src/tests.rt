@@ -275,6 +275,9 @@ fn a_load_is_answered_alike(rt: HostRuntime) -> Result<(), Fail> {
     Ok(())
 }
 
+/// Of a thousand slots 8 to 16 are in a range on average.
+const MAX_RANGE_LEN: usize = 40;
+
 /// Puts entries under k0 to k999 with lives of 1 to 1,000 seconds, and answers whether the guide led to each after each.
 fn put_a_thousand(slots: &mut SlotShelf, from: u64) -> Result<bool, Fail>
     requires few { from ≤ 2000 }
@@ -295,7 +298,7 @@ fn put_a_thousand(slots: &mut SlotShelf, from: u64) -> Result<bool, Fail>
             from + u64::from(k),
             0,
         )?;
-        guided = slots.is_guided() && guided;
+        guided = slots.is_guided(MAX_RANGE_LEN) && guided;
     }
     Ok(guided)
 }
@@ -308,11 +311,11 @@ fn the_guide_leads_to_each_slot(rt: HostRuntime) -> Result<(), Fail> {
     // A sweep takes few slots one by one, and many in a walk.
     for now in [10, 500] {
         slots.sweep(now);
-        assert!(rt; slots.is_guided());
+        assert!(rt; slots.is_guided(MAX_RANGE_LEN));
     }
     for k in 600..700 {
         slots.clear(&numbered(k)?, Mode::User);
-        assert!(rt; slots.is_guided());
+        assert!(rt; slots.is_guided(MAX_RANGE_LEN));
     }
     slots.flush();
     assert!(rt; put_a_thousand(&mut slots, 2000)?);
