@@ -57,7 +57,8 @@ impl Passphrase {
 
     /// Overwrites the bytes where they lie.
     pub(crate) fn clear(&mut self)
-        ensures { bytes_of self.new ≡ [] }
+        ensures bytes { bytes_of self.new ≡ [] }
+        ensures place { is_short self.new ≡ is_short self.old }
     {
         match self {
             Passphrase::Short(short) => short.clear(),
