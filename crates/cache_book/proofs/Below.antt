@@ -1,5 +1,5 @@
 -- The numbers of the slots on a shelf stay below the next one.
-use Rattle.std.specs.Prelude.{ℕ, ◌+◌, ◌<◌, List, [], ◌∷◌, Bool, filter}
+use Rattle.std.specs.Prelude.{ℕ, ◌+◌, ◌<◌, ◌≤◌, List, [], ◌∷◌, Bool, filter}
 use Rattle.std.proofs.Common.{sym, subst, arith}
 use Rattle.cache_policy.specs.declared.entry.Entry.{Entry}
 use Rattle.cache_policy.proofs.Lists.{all_weaker, all_append}
@@ -8,11 +8,9 @@ use Rattle.cache_book.specs.Shelves.{touch_slot, touched, hidden, new_slot, with
 use Rattle.cache_book.proofs.Kept.{all_filter, all_map}
 use Rattle.cache_book.proofs.Ordered.{touch-entry, below-hidden}
 
-pub below-more : (number : ℕ) (list : List Slot) → AreBelow number list → AreBelow (number + 1) list
-below-more number list h = all_weaker (λ slot. slot.entry.number < number) (λ slot. slot.entry.number < number + 1) (λ slot k. more slot.entry.number k) list h
-  where
-    more : (n : ℕ) → n < number → n < number + 1
-    more n lt = omega arith
+pub below-more : (number next : ℕ) (list : List Slot) → number ≤ next → AreBelow number list → AreBelow next list
+below-more number next list more h =
+    all_weaker (λ slot. slot.entry.number < number) (λ slot. slot.entry.number < next) (λ slot k. omega (arith, k, more)) list h
 
 pub below-touched : (number used now : ℕ) (list : List Slot) → AreBelow number list → AreBelow number (touched used now list)
 below-touched number used now list h =
@@ -24,7 +22,7 @@ below-filter number test list h = all_filter (λ slot. slot.entry.number < numbe
 pub below-stored : (entry : Entry) (list : List Slot) → AreBelow entry.number list → AreBelow (entry.number + 1) (with_entry entry list)
 below-stored entry list h =
     all_append (λ slot. slot.entry.number < entry.number + 1) (hidden entry list) (new_slot entry ∷ [])
-    (below-more entry.number (hidden entry list) (below-hidden entry entry.number list h)) (next entry.number, tt)
+    (below-more entry.number (entry.number + 1) (hidden entry list) (omega arith) (below-hidden entry entry.number list h)) (next entry.number, tt)
   where
     next : (n : ℕ) → n < n + 1
     next n = omega arith

@@ -126,11 +126,10 @@ fn change<S: Shelf>(shelf: &mut S, kind: u32, id: &CacheId, mode: Mode, now: u64
 }
 
 /// A call that is made of a random word, at a shelf with numbers below this one.
-fn call<S: Shelf>(shelf: &mut S, word: u32, number: u64, now: u64) -> Result<(), Fail>
+fn call<S: Shelf>(shelf: &mut S, word: u32, id: CacheId, number: u64, now: u64) -> Result<(), Fail>
     requires { AreBelow number (S.at shelf.old).slots }
     ensures { OnOk result (AreBelow (number + 1) (S.at shelf.new).slots) }
 {
-    let id = named(word)?;
     let mode = mode(word >> 4);
     let ttl = match word >> 8 & 3 {
         0 => None,
@@ -141,7 +140,7 @@ fn call<S: Shelf>(shelf: &mut S, word: u32, number: u64, now: u64) -> Result<(),
         return put(shelf, id, mode, Lives { ttl, max }, number, now);
     }
     // A flush is rare.
-    let kind = match word >> 13 & 63 {
+    let kind = match word >> 13 & 511 {
         1 => 1,
         other if other % 9 == 1 => 0,
         other => other % 9,
@@ -166,6 +165,16 @@ fn found<S: Shelf>(
     Ok(Some((grant.number(), grant.last)))
 }
 
+/// Whether both shelves find the same for an id in each mode.
+fn find_alike(list: &ListShelf, slots: &SlotShelf, id: &CacheId, now: u64) -> Result<bool, Fail> {
+    for mode in MODES {
+        if found(slots, id, mode, now)? != found(list, id, mode, now)? {
+            return Ok(false);
+        }
+    }
+    Ok(true)
+}
+
 #[test]
 fn both_shelves_find_the_same_after_each_call(rt: HostRuntime) -> Result<(), Fail> {
     let mut list = ListShelf::new(rt.alloc());
@@ -174,15 +183,36 @@ fn both_shelves_find_the_same_after_each_call(rt: HostRuntime) -> Result<(), Fai
     for number in 0..3000_u64 {
         let word = random.next_word();
         let now = number / 3;
-        call(&mut list, word, number, now)?;
-        call(&mut slots, word, number, now)?;
+        call(&mut list, word, named(word)?, number, now)?;
+        call(&mut slots, word, named(word)?, number, now)?;
         for k in 0..7 {
-            let id = named(k)?;
-            for mode in MODES {
-                let there = found(&list, &id, mode, now)?;
+            assert!(rt; find_alike(&list, &slots, &named(k)?, now)?, "{k} at {now}");
+        }
+    }
+    Ok(())
+}
+
+#[test]
+fn both_shelves_find_the_same_among_hundreds(rt: HostRuntime) -> Result<(), Fail> {
+    let mut list = ListShelf::new(rt.alloc());
+    let mut slots = SlotShelf::new(rt.alloc());
+    let mut random = Pcg32::new(42, 54);
+    for number in 0..3000_u64 {
+        let word = random.next_word();
+        let k = word % 500;
+        // No life is longer than 15 seconds: so all end together.
+        let now = number / 600 * 20;
+        call(&mut list, word, numbered(k)?, number, now)?;
+        call(&mut slots, word, numbered(k)?, number, now)?;
+        assert!(rt;
+            find_alike(&list, &slots, &numbered(k)?, now)?,
+            "{k} at {now}"
+        );
+        if number % 300 == 299 {
+            for k in 0..500 {
                 assert!(rt;
-                    found(&slots, &id, mode, now)? == there,
-                    "{k} {mode:?} at {now}"
+                    find_alike(&list, &slots, &numbered(k)?, now)?,
+                    "{k} at {now}"
                 );
             }
         }
@@ -224,31 +254,41 @@ fn a_thousand_lives_end_in_turn(rt: HostRuntime) -> Result<(), Fail> {
     Ok(())
 }
 
-/// Takes a step of a load, which is made of a random word, and says whether it is given a passphrase.
-fn is_given<S: Shelf>(shelf: &mut S, word: u32, number: u64, now: u64) -> Result<bool, Fail>
+/// Takes a step of a load, which is made of a random word, and answers the number of the entry that is given.
+fn step_of_a_load<S: Shelf>(
+    shelf: &mut S,
+    word: u32,
+    number: u64,
+    now: u64,
+) -> Result<Option<u64>, Fail>
     requires { AreBelow number (S.at shelf.old).slots }
     ensures { OnOk result (AreBelow (number + 1) (S.at shelf.new).slots) }
 {
     let id = numbered(word >> 3 & 31)?;
     shelf.sweep(now);
-    match word & 7 {
-        0..=3 => return Ok(ask(shelf, &id, Mode::User, now)?.is_some()),
+    let given = match word & 7 {
+        0..=3 => ask(shelf, &id, Mode::User, now)?,
         4 | 5 => {
             let lives = Lives {
                 ttl: Some((word >> 8) % 1000 + 1),
                 max: 7200,
             };
             put(shelf, id, Mode::Any, lives, number, now)?;
+            None
         }
-        _ => shelf.clear(&id, Mode::User),
-    }
-    Ok(false)
+        _ => {
+            shelf.clear(&id, Mode::User);
+            None
+        }
+    };
+    Ok(given)
 }
 
-/// How many of a load's requests are given a passphrase, on a shelf without entries. Its steps come seven seconds apart; one word in eight
-/// is no step.
-fn given_of_a_load<S: Shelf>(shelf: &mut S, seed: u64) -> Result<u32, Fail>
-    requires { (S.at shelf.old).slots ≡ [] }
+/// How many of a load's requests are given a passphrase, the same one on both shelves, which have no entries. The load's steps come seven
+/// seconds apart; one word in eight is no step.
+fn given_of_a_load(list: &mut ListShelf, slots: &mut SlotShelf, seed: u64) -> Result<u32, Fail>
+    requires list { list.old.slots ≡ [] }
+    requires slots { slots.old.slots ≡ [] }
 {
     let mut random = Pcg32::seed_from_u64(seed);
     let mut now: u64 = 0;
@@ -256,7 +296,11 @@ fn given_of_a_load<S: Shelf>(shelf: &mut S, seed: u64) -> Result<u32, Fail>
     for step in 0..12_800 {
         let word = random.next_word();
         if word & 7 < 7 {
-            given = given.saturating_add(u32::from(is_given(shelf, word, step, now)?));
+            let there = step_of_a_load(list, word, step, now)?;
+            if step_of_a_load(slots, word, step, now)? != there {
+                return Err("another entry".into());
+            }
+            given = given.saturating_add(u32::from(there.is_some()));
             now = now.saturating_add(7);
         }
     }
@@ -269,8 +313,7 @@ fn a_load_is_answered_alike(rt: HostRuntime) -> Result<(), Fail> {
     for (seed, given) in [(0, 2986), (1, 2753), (2, 2881)] {
         let mut list = ListShelf::new(rt.alloc());
         let mut slots = SlotShelf::new(rt.alloc());
-        assert_eq!(rt; given_of_a_load(&mut list, seed)?, given);
-        assert_eq!(rt; given_of_a_load(&mut slots, seed)?, given);
+        assert_eq!(rt; given_of_a_load(&mut list, &mut slots, seed)?, given);
     }
     Ok(())
 }

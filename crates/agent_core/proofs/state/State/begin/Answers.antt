@@ -4,7 +4,8 @@ use Rattle.cache_book.specs.declared.slot.Slot.{Slot}
 use Rattle.cache_policy.specs.Entry.{within}
 use Rattle.cache_book.specs.Shelves.{AreBelow}
 use Rattle.agent_core.specs.Taking.{held_at}
-use Rattle.agent_core.proofs.Kept.{below-filter, below-more, room-more}
+use Rattle.cache_book.proofs.Below.{below-filter, below-more}
+use Rattle.agent_core.proofs.Kept.{room-more}
 use Rattle.agent_core.proofs.state.State.begin.Goals as goal
 
 below : (c : goal.After-self-2-1) → AreBelow (c.turn_over.new.self.base + c.turn_over.new.self.count) c.sweep.new.self.slots

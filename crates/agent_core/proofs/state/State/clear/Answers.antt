@@ -2,7 +2,8 @@ use Rattle.std.specs.Prelude.{◌+◌}
 use Rattle.std.proofs.Common.{sym, subst}
 use Rattle.cache_book.specs.Shelves.{AreBelow}
 use Rattle.agent_core.specs.Taking.{held_at}
-use Rattle.agent_core.proofs.Kept.{below-filter, room-more, state-with_shelf}
+use Rattle.cache_book.proofs.Below.{below-filter}
+use Rattle.agent_core.proofs.Kept.{room-more, state-with_shelf}
 use Rattle.agent_core.proofs.state.State.clear.Goals as goal
 
 pub returns-clause-state : goal.returns-clause-state
