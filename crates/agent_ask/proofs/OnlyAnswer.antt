@@ -2,7 +2,8 @@
 use Rattle.std.proofs.Common.{◌≡◌, ◌≢◌, ◌<◌, ◌+◌, ℕ, zero, suc, Bool, Option, None, Some, List, [], ◌∷◌, ◌++◌, Result, Ok, Err, refl, ap, sym, ◌∙◌, subst, append_assoc, arith}
 use Rattle.std.specs.Prelude.{⊤}
 use Rattle.agent_ask.specs.Events.{GetPin, Confirm, Shut, PromptEvent, Called, Notified, OutOfMemory}
-use Rattle.agent_ask.specs.Prompts.{MeetsCheck, error_text, pin_or_stop, typed, repeat_text, repeated, Repeats, IsTry, Tries, Opens, AsksBefore, AsksPin}
+use Rattle.agent_ask.specs.Tests.{PinTest}
+use Rattle.agent_ask.specs.Prompts.{MeetsCheck, try_text, pin_or_stop, typed, repeat_text, repeated, Repeats, IsTry, Tries, Opens, AsksBefore, AsksPin}
 use Rattle.agent_ask.specs.declared.ask.Asked.{Asked}
 use Rattle.agent_ask.specs.declared.ask.Asked.TheVariants as asked
 use Rattle.agent_ask.specs.declared.caller.Heard.{Heard}
@@ -113,8 +114,8 @@ failed_is : {failure again : Failure} → (let what : Result (List ℕ) Stop = E
 failed_is same = cc same
 
 module _ (plan : AskPlan) (Rule : List ℕ → Type 0) where
-  only_try : (error : List ℕ) {events later : List PromptEvent} {end final : Result (List ℕ) Stop} {more rest : List PromptEvent} → BeginsCalled more → BeginsCalled rest
-      → IsTry plan Rule error events end → IsTry plan Rule error later final → events ++ more ≡ later ++ rest → (more ≡ rest) × (end ≡ final)
+  only_try : (error : List ℕ) {events later : List PromptEvent} {made done : List PinTest} {end final : Result (List ℕ) Stop} {more rest : List PromptEvent} → BeginsCalled more → BeginsCalled rest
+      → IsTry plan Rule error events made end → IsTry plan Rule error later done final → events ++ more ≡ later ++ rest → (more ≡ rest) × (end ≡ final)
   only_try error called begins (IsTry.ended what stops) (IsTry.ended what' stops') same = (tails same, ap (λ (s : Stop). Err s) (same_stop stops stops' same))
   only_try error called begins (IsTry.ended what stops) (IsTry.weak not') same = absurd (not_typed stops same)
   only_try error called begins (IsTry.ended what stops) (IsTry.bad met' not') same = absurd (not_typed stops same)
@@ -142,46 +143,46 @@ module _ (plan : AskPlan) (Rule : List ℕ → Type 0) where
   only_try error called begins (IsTry.accepted {pin} {events} {end} met right repeats) (IsTry.accepted {pin = again} met' right' repeats') same =
       only_chain (subst (λ (p : List ℕ). Chain p plan.repeat events end) (same_pin same) (chain_of repeats)) (chain_of repeats') (tails same)
 
-  try_called : {error : List ℕ} {events : List PromptEvent} {end : Result (List ℕ) Stop} (more : List PromptEvent) → IsTry plan Rule error events end → BeginsCalled (events ++ more)
+  try_called : {error : List ℕ} {events : List PromptEvent} {made : List PinTest} {end : Result (List ℕ) Stop} (more : List PromptEvent) → IsTry plan Rule error events made end → BeginsCalled (events ++ more)
   try_called more (IsTry.ended what stops) = tt
   try_called more (IsTry.weak not) = tt
   try_called more (IsTry.bad met not) = tt
   try_called more (IsTry.untested met) = tt
   try_called more (IsTry.accepted met right repeats) = tt
 
-  tries_called : {number : ℕ} {before : Option Failure} {events : List PromptEvent} {end : Asked} (more : List PromptEvent) → Tries plan Rule number before events end
+  tries_called : {number : ℕ} {before : Option Failure} {events : List PromptEvent} {made : List PinTest} {end : Asked} (more : List PromptEvent) → Tries plan Rule number before events made end
       → BeginsCalled more → BeginsCalled (events ++ more)
   tries_called more (Tries.good within tried) called = try_called more tried
   tries_called more (Tries.over within tried) called = try_called more tried
   tries_called more (Tries.again {events} {more = later} within tried tries) called = subst BeginsCalled (sym (append_assoc events later more)) (try_called (later ++ more) tried)
   tries_called more (Tries.bad past) called = called
 
-  only_tries : (number : ℕ) (before : Option Failure) {events later : List PromptEvent} {end final : Asked} (more rest : List PromptEvent) → BeginsCalled more → BeginsCalled rest
-      → Tries plan Rule number before events end → Tries plan Rule number before later final → events ++ more ≡ later ++ rest → end ≡ final
+  only_tries : (number : ℕ) (before : Option Failure) {events later : List PromptEvent} {made done : List PinTest} {end final : Asked} (more rest : List PromptEvent) → BeginsCalled more → BeginsCalled rest
+      → Tries plan Rule number before events made end → Tries plan Rule number before later done final → events ++ more ≡ later ++ rest → end ≡ final
   only_tries number before more rest called begins (Tries.good within tried) (Tries.good within' tried') same =
-      ap (λ (p : List ℕ). asked.Pin p) (ok_is (only_try (error_text plan before number) called begins tried tried' same).1)
+      ap (λ (p : List ℕ). asked.Pin p) (ok_is (only_try (try_text plan before number) called begins tried tried' same).1)
   only_tries number before more rest called begins (Tries.good within tried) (Tries.over within' tried') same =
-      let differ = (only_try (error_text plan before number) called begins tried tried' same).1 in absurd (cc differ)
+      let differ = (only_try (try_text plan before number) called begins tried tried' same).1 in absurd (cc differ)
   only_tries number before more rest called begins (Tries.good within tried) (Tries.again {events = events'} {more = later'} {failure = failure'} within' tried' tries') same =
-      let differ = (only_try (error_text plan before number) called (tries_called rest tries' begins) tried tried' (same ∙ append_assoc events' later' rest)).1 in
+      let differ = (only_try (try_text plan before number) called (tries_called rest tries' begins) tried tried' (same ∙ append_assoc events' later' rest)).1 in
       absurd (cc differ)
   only_tries number before more rest called begins (Tries.good within tried) (Tries.bad past') same = absurd (omega arith)
   only_tries number before more rest called begins (Tries.over within tried) (Tries.good within' tried') same =
-      let differ = (only_try (error_text plan before number) called begins tried tried' same).1 in absurd (cc differ)
-  only_tries number before more rest called begins (Tries.over within tried) (Tries.over within' tried') same = over_is (only_try (error_text plan before number) called begins tried tried' same).1
+      let differ = (only_try (try_text plan before number) called begins tried tried' same).1 in absurd (cc differ)
+  only_tries number before more rest called begins (Tries.over within tried) (Tries.over within' tried') same = over_is (only_try (try_text plan before number) called begins tried tried' same).1
   only_tries number before more rest called begins (Tries.over within tried) (Tries.again {events = events'} {more = later'} {failure = failure'} within' tried' tries') same =
-      let differ = (only_try (error_text plan before number) called (tries_called rest tries' begins) tried tried' (same ∙ append_assoc events' later' rest)).1 in
+      let differ = (only_try (try_text plan before number) called (tries_called rest tries' begins) tried tried' (same ∙ append_assoc events' later' rest)).1 in
       absurd (cc differ)
   only_tries number before more rest called begins (Tries.over within tried) (Tries.bad past') same = absurd (omega arith)
   only_tries number before more rest called begins (Tries.again {events} {more = later} {failure} within tried tries) (Tries.good within' tried') same =
-      let differ = (only_try (error_text plan before number) (tries_called more tries called) begins tried tried' (sym (append_assoc events later more) ∙ same)).1 in absurd (cc differ)
+      let differ = (only_try (try_text plan before number) (tries_called more tries called) begins tried tried' (sym (append_assoc events later more) ∙ same)).1 in absurd (cc differ)
   only_tries number before more rest called begins (Tries.again {events} {more = later} {failure} within tried tries) (Tries.over within' tried') same =
-      let differ = (only_try (error_text plan before number) (tries_called more tries called) begins tried tried' (sym (append_assoc events later more) ∙ same)).1 in absurd (cc differ)
-  only_tries number before more rest called begins (Tries.again {events} {more = later} {failure} {end} within tried tries) (Tries.again {events = events'} {more = later'} {failure = failure'} within' tried' tries') same =
+      let differ = (only_try (try_text plan before number) (tries_called more tries called) begins tried tried' (sym (append_assoc events later more) ∙ same)).1 in absurd (cc differ)
+  only_tries number before more rest called begins (Tries.again {events} {more = later} {later = made_later} {failure} {end} within tried tries) (Tries.again {events = events'} {more = later'} {failure = failure'} within' tried' tries') same =
       let both =
-      only_try (error_text plan before number) (tries_called more tries called) (tries_called rest tries' begins) tried tried'
+      only_try (try_text plan before number) (tries_called more tries called) (tries_called rest tries' begins) tried tried'
       (sym (append_assoc events later more) ∙ same ∙ append_assoc events' later' rest) in
-      only_tries (number + 1) (Some failure') more rest called begins (subst (λ (f : Failure). Tries plan Rule (number + 1) (Some f) later end) (failed_is both.1) tries) tries' both.0
+      only_tries (number + 1) (Some failure') more rest called begins (subst (λ (f : Failure). Tries plan Rule (number + 1) (Some f) later made_later end) (failed_is both.1) tries) tries' both.0
   only_tries number before more rest called begins (Tries.again {events} {more = later} {failure} within tried tries) (Tries.bad past') same = absurd (omega arith)
   only_tries number before more rest called begins (Tries.bad past) (Tries.good within' tried') same = absurd (omega arith)
   only_tries number before more rest called begins (Tries.bad past) (Tries.over within' tried') same = absurd (omega arith)
@@ -221,8 +222,8 @@ unheard_is : {heard other : Heard} → opening.Unheard heard ≡ opening.Unheard
 unheard_is same = cc same
 
 module _ (spec : PromptSpec) (plan : AskPlan) (Rule : List ℕ → Type 0) where
-  only_before : {events later : List PromptEvent} {end final : Asked} (more rest : List PromptEvent) → BeginsCalled more → BeginsCalled rest
-      → AsksBefore spec plan Rule events end → AsksBefore spec plan Rule later final → events ++ more ≡ later ++ rest → end ≡ final
+  only_before : {events later : List PromptEvent} {made done : List PinTest} {end final : Asked} (more rest : List PromptEvent) → BeginsCalled more → BeginsCalled rest
+      → AsksBefore spec plan Rule events made end → AsksBefore spec plan Rule later done final → events ++ more ≡ later ++ rest → end ≡ final
   only_before more rest called begins (AsksBefore.unopened opens) (AsksBefore.unopened opens') same = refl
   only_before more rest called begins (AsksBefore.unopened opens) (AsksBefore.unheard opens') same = let differ = (only_opens opens opens' same).1 in absurd (cc differ)
   only_before more rest called begins (AsksBefore.unopened opens) (AsksBefore.tried {events = events'} {more = tries_are'} opens' tries') same =

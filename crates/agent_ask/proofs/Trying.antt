@@ -1,35 +1,96 @@
--- A test's answers one after another, and tries by rules that are the same.
-use Rattle.std.proofs.Common.{ℕ, List, Result}
+-- Tests one after another, the last of them, and tries by rules that are the same.
+use Rattle.std.proofs.Common.{◌≡◌, ℕ, List, [], ◌∷◌, ◌++◌, Option, Result, Ok, Err, refl, ap, sym, ◌∙◌, append_assoc}
+use Rattle.agent_ports.specs.Leads.{none, one}
+use Rattle.agent_ports.proofs.Leading.{leads_then}
+use Rattle.agent_ask.specs.Doing.{HasEvents}
 use Rattle.agent_ask.specs.Events.{PromptEvent}
-use Rattle.agent_ask.specs.Prompts.{IsTry, ended, weak, bad, untested, accepted}
-use Rattle.agent_ask.specs.Tests.{SameRule, IsTest, Reaches, stays, tests, EndsOutOfMemory}
+use Rattle.agent_ask.specs.Prompts.{IsTry, ended, weak, bad, untested, accepted, Repeats, same, Tries, good, over, again, AsksBefore, tried}
+use Rattle.agent_ask.specs.Tests.{SameRule, IsTest, PinTest, test_of, Tests, WithTests, EndsBy}
+use Rattle.agent_ask.specs.declared.ask.Asked.TheVariants as asked
 use Rattle.agent_ask.specs.declared.spec.AskPlan.{AskPlan}
+use Rattle.agent_ask.specs.declared.spec.PromptSpec.{PromptSpec}
 use Rattle.agent_ask.specs.declared.test.Tested.{Tested}
+use Rattle.agent_ask.specs.declared.test.Tested.TheVariants.{Yes, NoMemory}
+use Rattle.agent_ask.specs.declared.tries.Failure.{Failure}
 use Rattle.agent_ask.specs.declared.tries.Stop.{Stop}
+use Rattle.agent_ask.specs.declared.tries.Stop.TheVariants as stop
+use Rattle.agent_ask.proofs.Making.{made_then}
+use Rattle.agent_ask.proofs.Stopping.{never_stops, never_repeats}
 
 module _ {T : Type 0} {tested : T → List ℕ → Tested → T → Type 0} where
-  pub reaches_then : {before mid after : T} → Reaches tested before mid → Reaches tested mid after → Reaches tested before after
-  reaches_then first stays = first
-  reaches_then first (tests earlier does) = tests (reaches_then first earlier) does
-
-  pub out_then : {before mid after : T} → Reaches tested before mid → EndsOutOfMemory tested mid after → EndsOutOfMemory tested before after
-  out_then first last = record { mid = last.mid; pin = last.pin; reaches = reaches_then first last.reaches; out = last.out }
-
   -- the rule stays the same
-  pub same_rule : {Rule : T → List ℕ → Type 0} {before after : T}
+  pub same_rule : {Rule : T → List ℕ → Type 0} {before after : T} {tests : List PinTest}
       → ((now : T) (pin : List ℕ) (answer : Tested) (later : T) → tested now pin answer later → IsTest (Rule now) pin answer (Rule later))
-      → Reaches tested before after → SameRule (Rule before) (Rule after)
-  same_rule promise stays = record { to = λ pin is. is; from = λ pin is. is }
-  same_rule promise (tests earlier does) =
-      let before = same_rule promise earlier in
-      let last = (promise _ _ _ _ does).same in
-      record { to = λ pin is. last.to pin (before.to pin is); from = λ pin is. before.from pin (last.from pin is) }
+      → Tests tested before tests after → SameRule (Rule before) (Rule after)
+  same_rule promise none = record { to = λ pin is. is; from = λ pin is. is }
+  same_rule promise (one does later) =
+      let first = (promise _ _ _ _ does).same in
+      let rest = same_rule promise later in
+      record { to = λ pin is. rest.to pin (first.to pin is); from = λ pin is. first.from pin (rest.from pin is) }
+
+  -- the last of some tests
+  pub ends_by : {pin : List ℕ} {answer : Tested} (earlier : List PinTest) {before after : T} → Tests tested before (earlier ++ test_of pin answer ∷ []) after
+      → EndsBy tested pin answer before after
+  ends_by [] (one does none) = record { earlier = []; mid = _; reaches = none; last = does }
+  ends_by (test ∷ more) (one does later) = let rest = ends_by more later in record { earlier = test ∷ rest.earlier; mid = rest.mid; reaches = one does rest.reaches; last = rest.last }
+
+  -- events with their tests, and then others
+  pub tested_then : {S : Type 0} {Does : S → PromptEvent → S → Type 0} {First Second : List PromptEvent → List PinTest → Type 0} (Whole : List PromptEvent → List PinTest → Type 0)
+      {before mid after : S} {test_before test_mid test_after : T}
+      → ((events more : List PromptEvent) (tests later : List PinTest) → First events tests → Second more later → Whole (events ++ more) (tests ++ later))
+      → HasEvents Does (λ events. WithTests tested test_before test_mid (First events)) before mid
+      → HasEvents Does (λ events. WithTests tested test_mid test_after (Second events)) mid after
+      → HasEvents Does (λ events. WithTests tested test_before test_after (Whole events)) before after
+  tested_then Whole {test_before} {test_after} joins =
+      made_then (λ events. WithTests tested test_before test_after (Whole events))
+      (λ events more first second. record {
+        tests = first.tests ++ second.tests;
+        done = joins events more first.tests second.tests first.done second.done;
+        tested_so = leads_then first.tested_so second.tested_so;
+      })
+
+repeats_ok : {count : ℕ} {typed pin : List ℕ} {events : List PromptEvent} → Repeats count typed events (Ok pin) → typed ≡ pin
+repeats_ok same = refl
+
+module _ {plan : AskPlan} {Rule : List ℕ → Type 0} where
+  accepted_one : {error pin : List ℕ} {events : List PromptEvent} {tests : List PinTest} → IsTry plan Rule error events tests (Ok pin) → tests ≡ test_of pin Yes ∷ []
+  accepted_one (accepted met right repeats) = ap (λ (p : List ℕ). test_of p Yes ∷ []) (repeats_ok repeats)
+
+  no_pin : {error pin : List ℕ} {events : List PromptEvent} {tests : List PinTest} → IsTry plan Rule error events tests (Err (stop.Over (asked.Pin pin))) → ⊥
+  no_pin {pin} (ended what is) = never_stops (asked.Pin pin) tt what is
+  no_pin {pin} (accepted met right repeats) = never_repeats (asked.Pin pin) tt repeats
+
+  out_one : {error : List ℕ} {events : List PromptEvent} {tests : List PinTest} → IsTry plan Rule error events tests (Err (stop.Over asked.NoMemory))
+      → (pin : List ℕ) × (tests ≡ test_of pin NoMemory ∷ [])
+  out_one (ended what is) = absurd (never_stops asked.NoMemory tt what is)
+  out_one (untested {pin} met) = (pin, refl)
+  out_one (accepted met right repeats) = absurd (never_repeats asked.NoMemory tt repeats)
+
+  -- the last test of tries that came to a passphrase
+  accepted_last : {number : ℕ} {before : Option Failure} {events : List PromptEvent} {tests : List PinTest} {pin : List ℕ} → Tries plan Rule number before events tests (asked.Pin pin)
+      → (earlier : List PinTest) × (tests ≡ earlier ++ test_of pin Yes ∷ [])
+  accepted_last (good few once) = ([], accepted_one once)
+  accepted_last (over few once) = absurd (no_pin once)
+  accepted_last (again {tests} few once more) = let rest = accepted_last more in (tests ++ rest.0, ap (λ (t : List PinTest). tests ++ t) rest.1 ∙ sym (append_assoc tests rest.0 _))
+
+  -- and of those that found no memory
+  out_last : {number : ℕ} {before : Option Failure} {events : List PromptEvent} {tests : List PinTest} → Tries plan Rule number before events tests asked.NoMemory
+      → (pin : List ℕ) × (earlier : List PinTest) × (tests ≡ earlier ++ test_of pin NoMemory ∷ [])
+  out_last (over few once) = let last = out_one once in (last.0, [], last.1)
+  out_last (again {tests} few once more) = let rest = out_last more in (rest.0, tests ++ rest.1, ap (λ (t : List PinTest). tests ++ t) rest.2 ∙ sym (append_assoc tests rest.1 _))
+
+  module _ {spec : PromptSpec} where
+    pub pin_last : {events : List PromptEvent} {tests : List PinTest} {pin : List ℕ} → AsksBefore spec plan Rule events tests (asked.Pin pin) → (earlier : List PinTest) × (tests ≡ earlier ++ test_of pin Yes ∷ [])
+    pin_last (tried opens tries) = accepted_last tries
+
+    pub memory_last : {events : List PromptEvent} {tests : List PinTest} → AsksBefore spec plan Rule events tests asked.NoMemory → (pin : List ℕ) × (earlier : List PinTest) × (tests ≡ earlier ++ test_of pin NoMemory ∷ [])
+    memory_last (tried opens tries) = out_last tries
 
 -- a try by one rule is one by the other
-pub try_as : {plan : AskPlan} {Rule Other : List ℕ → Type 0} {error : List ℕ} {events : List PromptEvent} {end : Result (List ℕ) Stop} → SameRule Rule Other
-    → IsTry plan Other error events end → IsTry plan Rule error events end
-try_as same (ended outcome is) = ended outcome is
-try_as same (weak not) = weak not
-try_as same (bad met not) = bad met (λ is. not (same.to _ is))
-try_as same (untested met) = untested met
-try_as same (accepted met right repeats) = accepted met (same.from _ right) repeats
+pub try_as : {plan : AskPlan} {Rule Other : List ℕ → Type 0} {error : List ℕ} {events : List PromptEvent} {tests : List PinTest} {end : Result (List ℕ) Stop} → SameRule Rule Other
+    → IsTry plan Other error events tests end → IsTry plan Rule error events tests end
+try_as rules (ended outcome is) = ended outcome is
+try_as rules (weak not) = weak not
+try_as rules (bad met not) = bad met (λ is. not (rules.to _ is))
+try_as rules (untested met) = untested met
+try_as rules (accepted met right repeats) = accepted met (rules.from _ right) repeats

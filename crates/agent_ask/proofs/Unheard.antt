@@ -2,7 +2,8 @@
 use Rattle.std.proofs.Common.{◌≡◌, ◌≢◌, ℕ, Bool, List, [], ◌∷◌, ◌++◌, Option, Err, refl, subst}
 use Rattle.agent_ask.specs.Consents.{AsksConsent, ConsentBefore, unopened as unopened_consent, unheard as unheard_consent, asked as asked_consent, agreed_of}
 use Rattle.agent_ask.specs.Events.{Start, Shut, PromptEvent, Called, Notified}
-use Rattle.agent_ask.specs.Prompts.{AsksPin, AsksBefore, unopened, unheard, tried, unheard as untold, Tries, good, over, again, bad, IsTry, ended, accepted, Repeats, ended as ended_repeat, pin_or_stop}
+use Rattle.agent_ask.specs.Prompts.{AsksPin, AsksBefore, unheard, tried, unheard as untold, Tries, over, again, IsTry, ended, accepted}
+use Rattle.agent_ask.specs.Tests.{PinTest}
 use Rattle.agent_ask.specs.declared.ask.Asked.TheVariants as asked
 use Rattle.agent_ask.specs.declared.caller.Heard.{Heard}
 use Rattle.agent_ask.specs.declared.caller.Heard.TheVariants.{Fine}
@@ -11,12 +12,11 @@ use Rattle.agent_ask.specs.declared.consent.Agreed.TheVariants as agreed
 use Rattle.agent_ask.specs.declared.prompter.Consent.{Consent}
 use Rattle.agent_ask.specs.declared.prompter.Consent.TheVariants as consent
 use Rattle.agent_ask.specs.declared.prompter.Opened.{Opened}
-use Rattle.agent_ask.specs.declared.prompter.Outcome.{Outcome}
-use Rattle.agent_ask.specs.declared.prompter.Outcome.TheVariants as outcome
 use Rattle.agent_ask.specs.declared.spec.AskPlan.{AskPlan}
 use Rattle.agent_ask.specs.declared.spec.PromptSpec.{PromptSpec}
 use Rattle.agent_ask.specs.declared.tries.Failure.{Failure}
 use Rattle.agent_ask.specs.declared.tries.Stop.TheVariants as stop
+use Rattle.agent_ask.proofs.Stopping.{never_stops, never_repeats}
 
 -- a prompt that ended by the client's note of it
 pub record EndsByNote (prompt : List PromptEvent) (heard : Heard) : Type 0 where
@@ -30,29 +30,17 @@ heard_same : {first second : Heard} → agreed.Heard first ≡ agreed.Heard seco
 heard_same is = cc is
 
 -- no try ends by a note
-module _ (heard : Heard) where
-  never_stops : (what : Outcome) → pin_or_stop what ≡ Err (stop.Over (asked.Heard heard)) → ⊥
-  never_stops (outcome.Pin pin) is = cc is
-  never_stops outcome.Cancelled is = cc is
-  never_stops outcome.TimedOut is = cc is
-  never_stops outcome.Failed is = cc is
-  never_stops (outcome.Broken breach) is = cc is
-
-  never_repeats : {count : ℕ} {pin : List ℕ} {events : List PromptEvent} → Repeats count pin events (Err (stop.Over (asked.Heard heard))) → ⊥
-  never_repeats (ended_repeat what few is) = never_stops what is
-
--- nor do the tries
 module _ {plan : AskPlan} {Rule : List ℕ → Type 0} (heard : Heard) where
-  never_once : {error : List ℕ} {events : List PromptEvent} → IsTry plan Rule error events (Err (stop.Over (asked.Heard heard))) → ⊥
-  never_once (ended what is) = never_stops heard what is
-  never_once (accepted meets right repeats) = never_repeats heard repeats
+  never_once : {error : List ℕ} {events : List PromptEvent} {tests : List PinTest} → IsTry plan Rule error events tests (Err (stop.Over (asked.Heard heard))) → ⊥
+  never_once (ended what is) = never_stops (asked.Heard heard) tt what is
+  never_once (accepted meets right repeats) = never_repeats (asked.Heard heard) tt repeats
 
-  never_tries : {number : ℕ} {before : Option Failure} {events : List PromptEvent} → Tries plan Rule number before events (asked.Heard heard) → ⊥
+  never_tries : {number : ℕ} {before : Option Failure} {events : List PromptEvent} {tests : List PinTest} → Tries plan Rule number before events tests (asked.Heard heard) → ⊥
   never_tries (over few one_try) = never_once one_try
   never_tries (again few one_try more) = never_tries more
 
-before_pin : {spec : PromptSpec} {plan : AskPlan} {Rule : List ℕ → Type 0} {before prompt : List PromptEvent} {heard : Heard}
-    → AsksBefore spec plan Rule before (asked.Heard heard) → prompt ≡ before ++ Called Shut ∷ [] → EndsByNote prompt heard
+before_pin : {spec : PromptSpec} {plan : AskPlan} {Rule : List ℕ → Type 0} {before prompt : List PromptEvent} {tests : List PinTest} {heard : Heard}
+    → AsksBefore spec plan Rule before tests (asked.Heard heard) → prompt ≡ before ++ Called Shut ∷ [] → EndsByNote prompt heard
 before_pin {spec} (unheard (untold {pid} notify not_fine)) whole = record { spec = spec; opened = _; pid = pid; events = whole; not_fine = not_fine }
 before_pin {heard} (tried opens tries) whole = absurd (never_tries heard tries)
 

@@ -7,3 +7,7 @@ pub mod Prompts
 pub mod Consents
 pub mod Trying
 pub mod Listening
+pub mod SessionEvents
+pub mod Worlds
+pub mod UnderTickets
+pub mod States

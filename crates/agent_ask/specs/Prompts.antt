@@ -19,6 +19,9 @@ use Rattle.agent_ask.specs.declared.tries.Failure.TheVariants.{BadPassphrase, To
 use Rattle.agent_ask.specs.declared.tries.Stop.{Stop}
 use Rattle.agent_ask.specs.declared.tries.Stop.TheVariants as stop
 use Rattle.agent_ask.specs.declared.tries.TheConstants.{MAX_TRIES}
+use Rattle.agent_ask.specs.declared.test.Tested.{Tested}
+use Rattle.agent_ask.specs.declared.test.Tested.TheVariants.{Yes, No, NoMemory}
+use Rattle.agent_ask.specs.Tests.{PinTest, Tests, test_of}
 
 -- a new passphrase meets the check, where there is one: so many bytes, and so many of them that are no ASCII letters
 abbrev pub MeetsCheck : Option (ℕ × ℕ) → List ℕ → Type 0
@@ -32,9 +35,10 @@ failure_words TooWeak = codes "This passphrase is too weak"
 failure_words Differ = codes "Passphrases differ"
 
 -- what the try of this number shows as an error, where this failed the try before it
-abbrev pub error_text : AskPlan → Option Failure → ℕ → List ℕ
-error_text plan None number = plan.first_error.items
-error_text plan (Some failure) number = failure_words failure ++ codes " (try " ++ (48 + number) ∷ codes " of 3)"
+abbrev pub try_text : AskPlan → Option Failure → ℕ → List ℕ
+try_text plan None number = plan.first_error.items
+try_text plan (Some failure) number =
+    failure_words failure ++ codes " (try " ++ (48 + number) ∷ codes " of " ++ (48 + MAX_TRIES) ∷ codes ")"
 
 abbrev pub repeat_text : List ℕ
 repeat_text = codes "Please repeat the passphrase"
@@ -63,30 +67,33 @@ pub data Repeats (count : ℕ) (pin : List ℕ) : List PromptEvent → Result (L
   ended : {before : ℕ} (outcome : Outcome) {end : Stop} → before < count → pin_or_stop outcome ≡ Err end
       → Repeats count pin (repeated before pin ++ Called (GetPin repeat_text outcome) ∷ []) (Err end)
 
--- A try: the passphrase that it comes to, what failed it, or what ended the prompt.
-pub data IsTry (plan : AskPlan) (Rule : List ℕ → Type 0) (error : List ℕ) : List PromptEvent → Result (List ℕ) Stop → Type 0 where
+-- A try: its events, its test where the passphrase meets the check, and the passphrase that it comes to, what failed it, or what ended
+-- the prompt.
+pub data IsTry (plan : AskPlan) (Rule : List ℕ → Type 0) (error : List ℕ) : List PromptEvent → List PinTest → Result (List ℕ) Stop → Type 0 where
   -- the prompt ended in place of a passphrase
   ended : (outcome : Outcome) {end : Stop} → pin_or_stop outcome ≡ Err end
-      → IsTry plan Rule error (Called (GetPin error outcome) ∷ []) (Err end)
+      → IsTry plan Rule error (Called (GetPin error outcome) ∷ []) [] (Err end)
   -- the check comes before the test
-  weak : {pin : List ℕ} → ¬ MeetsCheck plan.check pin → IsTry plan Rule error (typed error pin ∷ []) (Err (stop.Failed TooWeak))
-  bad : {pin : List ℕ} → MeetsCheck plan.check pin → ¬ Rule pin → IsTry plan Rule error (typed error pin ∷ []) (Err (stop.Failed BadPassphrase))
-  untested : {pin : List ℕ} → MeetsCheck plan.check pin → IsTry plan Rule error (typed error pin ∷ OutOfMemory ∷ []) (Err (stop.Over asked.NoMemory))
+  weak : {pin : List ℕ} → ¬ MeetsCheck plan.check pin → IsTry plan Rule error (typed error pin ∷ []) [] (Err (stop.Failed TooWeak))
+  bad : {pin : List ℕ} → MeetsCheck plan.check pin → ¬ Rule pin
+      → IsTry plan Rule error (typed error pin ∷ []) (test_of pin No ∷ []) (Err (stop.Failed BadPassphrase))
+  untested : {pin : List ℕ} → MeetsCheck plan.check pin
+      → IsTry plan Rule error (typed error pin ∷ OutOfMemory ∷ []) (test_of pin NoMemory ∷ []) (Err (stop.Over asked.NoMemory))
   -- an accepted passphrase, and its repeats
   accepted : {pin : List ℕ} {events : List PromptEvent} {end : Result (List ℕ) Stop} → MeetsCheck plan.check pin → Rule pin
-      → Repeats plan.repeat pin events end → IsTry plan Rule error (typed error pin ∷ events) end
+      → Repeats plan.repeat pin events end → IsTry plan Rule error (typed error pin ∷ events) (test_of pin Yes ∷ []) end
 
--- The tries from the one of this number on, where this failed the one before: the passphrase of the first try that doesn't fail, what
--- ended the prompt earlier, or a bad passphrase after three tries that failed.
-pub data Tries (plan : AskPlan) (Rule : List ℕ → Type 0) : ℕ → Option Failure → List PromptEvent → Asked → Type 0 where
-  good : {number : ℕ} {before : Option Failure} {events : List PromptEvent} {pin : List ℕ} → number ≤ MAX_TRIES
-      → IsTry plan Rule (error_text plan before number) events (Ok pin) → Tries plan Rule number before events (asked.Pin pin)
-  over : {number : ℕ} {before : Option Failure} {events : List PromptEvent} {end : Asked} → number ≤ MAX_TRIES
-      → IsTry plan Rule (error_text plan before number) events (Err (stop.Over end)) → Tries plan Rule number before events end
-  again : {number : ℕ} {before : Option Failure} {events more : List PromptEvent} {failure : Failure} {end : Asked} → number ≤ MAX_TRIES
-      → IsTry plan Rule (error_text plan before number) events (Err (stop.Failed failure))
-      → Tries plan Rule (number + 1) (Some failure) more end → Tries plan Rule number before (events ++ more) end
-  bad : {number : ℕ} {before : Option Failure} → MAX_TRIES < number → Tries plan Rule number before [] asked.Bad
+-- The tries from the one of this number on, where this failed the one before, and their tests: the passphrase of the first try that
+-- doesn't fail, what ended the prompt earlier, or a bad passphrase after three tries that failed.
+pub data Tries (plan : AskPlan) (Rule : List ℕ → Type 0) : ℕ → Option Failure → List PromptEvent → List PinTest → Asked → Type 0 where
+  good : {number : ℕ} {before : Option Failure} {events : List PromptEvent} {tests : List PinTest} {pin : List ℕ} → number ≤ MAX_TRIES
+      → IsTry plan Rule (try_text plan before number) events tests (Ok pin) → Tries plan Rule number before events tests (asked.Pin pin)
+  over : {number : ℕ} {before : Option Failure} {events : List PromptEvent} {tests : List PinTest} {end : Asked} → number ≤ MAX_TRIES
+      → IsTry plan Rule (try_text plan before number) events tests (Err (stop.Over end)) → Tries plan Rule number before events tests end
+  again : {number : ℕ} {before : Option Failure} {events more : List PromptEvent} {tests later : List PinTest} {failure : Failure} {end : Asked}
+      → number ≤ MAX_TRIES → IsTry plan Rule (try_text plan before number) events tests (Err (stop.Failed failure))
+      → Tries plan Rule (number + 1) (Some failure) more later end → Tries plan Rule number before (events ++ more) (tests ++ later) end
+  bad : {number : ℕ} {before : Option Failure} → MAX_TRIES < number → Tries plan Rule number before [] [] asked.Bad
 
 -- a prompt is opened, and the client is told of it where it wants to be
 pub data Opens (spec : PromptSpec) (notify : Bool) : List PromptEvent → Opening → Type 0 where
@@ -97,15 +104,24 @@ pub data Opens (spec : PromptSpec) (notify : Bool) : List PromptEvent → Openin
   unheard : {pid : ℕ} {heard : Heard} → notify ≡ true → heard ≢ Fine
       → Opens spec notify (Called (Start spec (opened.Pid pid)) ∷ Notified pid heard ∷ []) (Unheard heard)
 
--- what is done before the prompter is shut
-pub data AsksBefore (spec : PromptSpec) (plan : AskPlan) (Rule : List ℕ → Type 0) : List PromptEvent → Asked → Type 0 where
-  unopened : {events : List PromptEvent} → Opens spec plan.notify events NoPinentry → AsksBefore spec plan Rule events asked.NoPinentry
-  unheard : {events : List PromptEvent} {heard : Heard} → Opens spec plan.notify events (Unheard heard) → AsksBefore spec plan Rule events (asked.Heard heard)
-  tried : {events more : List PromptEvent} {end : Asked} → Opens spec plan.notify events Ready → Tries plan Rule 1 None more end
-      → AsksBefore spec plan Rule (events ++ more) end
+-- what is done before the prompter is shut, and the tests in it
+pub data AsksBefore (spec : PromptSpec) (plan : AskPlan) (Rule : List ℕ → Type 0) : List PromptEvent → List PinTest → Asked → Type 0 where
+  unopened : {events : List PromptEvent} → Opens spec plan.notify events NoPinentry → AsksBefore spec plan Rule events [] asked.NoPinentry
+  unheard : {events : List PromptEvent} {heard : Heard} → Opens spec plan.notify events (Unheard heard)
+      → AsksBefore spec plan Rule events [] (asked.Heard heard)
+  tried : {events more : List PromptEvent} {tests : List PinTest} {end : Asked} → Opens spec plan.notify events Ready
+      → Tries plan Rule 1 None more tests end → AsksBefore spec plan Rule (events ++ more) tests end
 
 -- one prompt for a passphrase that is right by this rule: its events, and the answer
 pub record AsksPin (spec : PromptSpec) (plan : AskPlan) (Rule : List ℕ → Type 0) (events : List PromptEvent) (end : Asked) : Type 0 where
   pub before : List PromptEvent
   pub whole : events ≡ before ++ Called Shut ∷ []
-  pub asks : AsksBefore spec plan Rule before end
+  -- the tests, one for each try whose passphrase met the check
+  pub tests : List PinTest
+  pub asks : AsksBefore spec plan Rule before tests end
+
+-- such a prompt, whose tests led the test from one state to another
+pub record AsksPinBy {T : Type 0} (tested : T → List ℕ → Tested → T → Type 0) (before after : T) (spec : PromptSpec) (plan : AskPlan) (Rule : List ℕ → Type 0)
+    (events : List PromptEvent) (end : Asked) : Type 0 where
+  pub asks : AsksPin spec plan Rule events end
+  pub tested_so : Tests tested before asks.tests after

@@ -1,5 +1,6 @@
 -- What a test's answers mean, and the answers that it gives one after another. This is the project's own.
 use Rattle.std.specs.Prelude.{ℕ, List, ⊤}
+use Rattle.agent_ports.specs.Leads.{Leads}
 use Rattle.agent_ask.specs.declared.test.Tested.{Tested}
 use Rattle.agent_ask.specs.declared.test.Tested.TheVariants.{Yes, No, NoMemory}
 
@@ -19,14 +20,35 @@ pub record IsTest (Rule : List ℕ → Type 0) (pin : List ℕ) (answer : Tested
   pub judges : Judges (Rule pin) answer
   pub same : SameRule Rule RuleAfter
 
--- answers led from one state of a test to another
-pub data Reaches {T : Type 0} (tested : T → List ℕ → Tested → T → Type 0) : T → T → Type 0 where
-  stays : {now : T} → Reaches tested now now
-  tests : {before mid after : T} {pin : List ℕ} {answer : Tested} → Reaches tested before mid → tested mid pin answer after → Reaches tested before after
-
--- and the last of them was that there is no memory
-pub record EndsOutOfMemory {T : Type 0} (tested : T → List ℕ → Tested → T → Type 0) (before after : T) : Type 0 where
-  pub mid : T
+-- a test of a passphrase, with its answer
+pub record PinTest : Type 0 where
   pub pin : List ℕ
-  pub reaches : Reaches tested before mid
-  pub out : tested mid pin NoMemory after
+  pub answer : Tested
+
+abbrev pub test_of : List ℕ → Tested → PinTest
+test_of pin answer = record { pin = pin; answer = answer }
+
+-- tests that led from one state of a test to another
+abbrev pub Tests : {T : Type 0} → (T → List ℕ → Tested → T → Type 0) → T → List PinTest → T → Type 0
+Tests tested = Leads (λ before test after. tested before test.pin test.answer after)
+
+-- they led there, and this was done in between
+pub record WithTests {T : Type 0} (tested : T → List ℕ → Tested → T → Type 0) (before after : T) (Done : List PinTest → Type 0) : Type 0 where
+  pub tests : List PinTest
+  pub done : Done tests
+  pub tested_so : Tests tested before tests after
+
+-- the last of them was of this passphrase, and answered so
+pub record EndsBy {T : Type 0} (tested : T → List ℕ → Tested → T → Type 0) (pin : List ℕ) (answer : Tested) (before after : T) : Type 0 where
+  pub earlier : List PinTest
+  pub mid : T
+  pub reaches : Tests tested before earlier mid
+  pub last : tested mid pin answer after
+
+-- this passphrase was found right, and that was the last test
+abbrev pub EndsAccepted : {T : Type 0} → (T → List ℕ → Tested → T → Type 0) → List ℕ → T → T → Type 0
+EndsAccepted tested pin before after = EndsBy tested pin Yes before after
+
+-- the last test found no memory
+abbrev pub EndsOutOfMemory : {T : Type 0} → (T → List ℕ → Tested → T → Type 0) → T → T → Type 0
+EndsOutOfMemory tested before after = (pin : List ℕ) × EndsBy tested pin NoMemory before after

@@ -1,9 +1,9 @@
-ghost use Rattle.std.specs.Prelude.{◌≡◌};
+ghost use Rattle.std.specs.Prelude.{◌≡◌, ℕ, List};
 ghost use Rattle.agent_ask.specs.Listening.{ListensAfterPin};
 ghost use Rattle.agent_ask.specs.Doing.{HasEvents, DoesPrompt, ends};
 ghost use Rattle.agent_ask.specs.Prompters.{IsShut};
-ghost use Rattle.agent_ask.specs.Prompts.{AsksPin, AsksBefore};
-ghost use Rattle.agent_ask.specs.Tests.{Reaches, EndsOutOfMemory};
+ghost use Rattle.agent_ask.specs.Prompts.{AsksPinBy, AsksBefore};
+ghost use Rattle.agent_ask.specs.Tests.{WithTests, EndsAccepted, EndsOutOfMemory};
 
 use crate::opening::{Opening, open_prompt};
 use crate::tries::ask_tries;
@@ -44,11 +44,11 @@ pub fn ask_pin<P: Prompter, C: Caller, T: Test>(
 ) -> Asked
     requires shut { IsShut (P.at prompter.old) }
     requires listens { C.listens caller.old }
-    ensures asked { HasEvents (DoesPrompt P.prompted C.heard) (λ events. AsksPin spec.now plan.now (T.rule test.old) events result)
+    ensures asked { HasEvents (DoesPrompt P.prompted C.heard) (λ events. AsksPinBy T.tested test.old test.new spec.now plan.now (T.rule test.old) events result)
         (ends prompter.old caller.old) (ends prompter.new caller.new) }
     ensures shut { IsShut (P.at prompter.new) }
     ensures listens { ListensAfterPin result (C.listens caller.new) }
-    ensures reaches { Reaches T.tested test.old test.new }
+    ensures accepted { (pin : List ℕ) → result ≡ Asked.Pin pin → EndsAccepted T.tested pin test.old test.new }
     ensures no_memory { result ≡ Asked.NoMemory → EndsOutOfMemory T.tested test.old test.new }
 {
     let asked = ask_before_shut(ticket, spec, plan, test, prompter, caller);
@@ -67,11 +67,10 @@ fn ask_before_shut<P: Prompter, C: Caller, T: Test>(
 ) -> Asked
     requires shut { IsShut (P.at prompter.old) }
     requires listens { C.listens caller.old }
-    ensures asked { HasEvents (DoesPrompt P.prompted C.heard) (λ events. AsksBefore spec.now plan.now (T.rule test.old) events result)
+    ensures asked { HasEvents (DoesPrompt P.prompted C.heard)
+        (λ events. WithTests T.tested test.old test.new (λ tests. AsksBefore spec.now plan.now (T.rule test.old) events tests result))
         (ends prompter.old caller.old) (ends prompter.new caller.new) }
     ensures listens { ListensAfterPin result (C.listens caller.new) }
-    ensures reaches { Reaches T.tested test.old test.new }
-    ensures no_memory { result ≡ Asked.NoMemory → EndsOutOfMemory T.tested test.old test.new }
 {
     match open_prompt(ticket, spec, plan.notify, prompter, caller) {
         Opening::Ready => ask_tries(ticket, plan, test, prompter),

@@ -3,6 +3,9 @@ ghost use Rattle.agent_ask.specs.Callers.{IsHearing};
 
 use cache_policy::Secret;
 
+/// The most bytes that a client may send back where it is told of a prompt. They are dropped.
+pub const MAX_NOTE_LEN: usize = 1000;
+
 /// What the client was heard to say. It may hold a passphrase, so it isn't printed.
 #[derive(Drop)]
 pub enum Heard {

@@ -7,6 +7,7 @@ mod consent;
 mod laws;
 mod opening;
 mod prompter;
+mod seat;
 mod spec;
 mod test;
 #[cfg(test)]
@@ -14,10 +15,11 @@ mod tests;
 mod tries;
 
 pub use ask::{Asked, ask_pin};
-pub use caller::{Caller, Gone, Heard};
+pub use caller::{Caller, Gone, Heard, MAX_NOTE_LEN};
 pub use consent::{Agreed, ask_consent};
 pub use laws::{a_consent_has_one_answer, a_prompt_has_one_answer, failures_are_counted};
 pub use prompter::{Consent, Opened, Outcome, Prompter};
+pub use seat::give_back;
 pub use spec::{AskPlan, PromptSpec};
 pub use test::{Test, Tested};
 pub use tries::MAX_TRIES;

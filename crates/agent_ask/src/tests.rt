@@ -205,17 +205,21 @@ fn spec() -> PromptSpec {
     }
 }
 
+fn shown_as(bytes: &[u8]) -> &str {
+    str::from_utf8(bytes).unwrap_or("(no text)")
+}
+
 /// What asking came to, in a word, or the passphrase.
-fn told(asked: &Asked) -> &[u8] {
+fn told(asked: &Asked) -> &str {
     match asked {
-        Asked::Pin(pin) => pin.bytes(),
-        Asked::Cancelled => b"(cancelled)",
-        Asked::TimedOut => b"(timed out)",
-        Asked::NoPinentry => b"(no pinentry)",
-        Asked::Bad => b"(bad)",
-        Asked::Heard(Heard::Unexpected) => b"(unexpected)",
-        Asked::Heard(_) => b"(heard)",
-        Asked::NoMemory => b"(no memory)",
+        Asked::Pin(pin) => shown_as(pin.bytes()),
+        Asked::Cancelled => "(cancelled)",
+        Asked::TimedOut => "(timed out)",
+        Asked::NoPinentry => "(no pinentry)",
+        Asked::Bad => "(bad)",
+        Asked::Heard(Heard::Unexpected) => "(unexpected)",
+        Asked::Heard(_) => "(heard)",
+        Asked::NoMemory => "(no memory)",
     }
 }
 
@@ -225,8 +229,8 @@ type Case = (
     Option<bool>,
     u8,
     &'static [Answer],
-    &'static [u8],
-    &'static [u8],
+    &'static str,
+    &'static str,
 );
 
 const CASES: [Case; 9] = [
@@ -241,33 +245,33 @@ const CASES: [Case; 9] = [
             Answer::Pin(b"good pass 12"),
             Answer::Pin(b"good pass 12"),
         ],
-        b"start;;This passphrase is too weak (try 2 of 3);Please repeat the passphrase;Passphrases differ (try 3 of 3);Please repeat the passphrase;shut;",
-        b"good pass 12",
+        "start;;This passphrase is too weak (try 2 of 3);Please repeat the passphrase;Passphrases differ (try 3 of 3);Please repeat the passphrase;shut;",
+        "good pass 12",
     ),
     (
         true,
         None,
         0,
         &[Answer::Cancelled],
-        b"start;;shut;",
-        b"(cancelled)",
+        "start;;shut;",
+        "(cancelled)",
     ),
     (
         true,
         None,
         0,
         &[Answer::TimedOut],
-        b"start;;shut;",
-        b"(timed out)",
+        "start;;shut;",
+        "(timed out)",
     ),
-    (true, None, 0, &[], b"start;;shut;", b"(no pinentry)"),
+    (true, None, 0, &[], "start;;shut;", "(no pinentry)"),
     (
         false,
         Some(true),
         0,
         &[Answer::Pin(b"long enough 1")],
-        b"start;shut;",
-        b"(no pinentry)",
+        "start;shut;",
+        "(no pinentry)",
     ),
     (
         true,
@@ -279,24 +283,24 @@ const CASES: [Case; 9] = [
             Answer::Pin(b""),
             Answer::Pin(b"long enough 1"),
         ],
-        b"start;;This passphrase is too weak (try 2 of 3);Bad passphrase (try 3 of 3);shut;",
-        b"(bad)",
+        "start;;This passphrase is too weak (try 2 of 3);Bad passphrase (try 3 of 3);shut;",
+        "(bad)",
     ),
     (
         true,
         Some(false),
         0,
         &[Answer::Pin(b"long enough 1")],
-        b"start;shut;",
-        b"(unexpected)",
+        "start;shut;",
+        "(unexpected)",
     ),
     (
         true,
         Some(true),
         0,
         &[Answer::Pin(b"long enough 1")],
-        b"start;;shut;",
-        b"long enough 1",
+        "start;;shut;",
+        "long enough 1",
     ),
     (
         true,
@@ -307,8 +311,8 @@ const CASES: [Case; 9] = [
             Answer::Pin(b"long enough 1"),
             Answer::Cancelled,
         ],
-        b"start;;Please repeat the passphrase;Please repeat the passphrase;shut;",
-        b"(cancelled)",
+        "start;;Please repeat the passphrase;Please repeat the passphrase;shut;",
+        "(cancelled)",
     ),
 ];
 
@@ -340,35 +344,35 @@ fn a_passphrase_is_asked_for_in_three_tries(rt: HostRuntime) -> Result<(), Fail>
             &mut prompter,
             &mut caller,
         );
-        assert_eq!(rt; prompter.log.as_slice(), shown);
+        assert_eq!(rt; shown_as(prompter.log.as_slice()), shown);
         assert_eq!(rt; told(&asked), want);
     }
     let _ = seat.give(ticket);
     Ok(())
 }
 
-const CONSENTS: [(&[Answer], bool, &[u8], &[u8]); 6] = [
-    (&[Answer::Yes], true, b"start;confirm;shut;", b"yes"),
-    (&[Answer::No], true, b"start;confirm;shut;", b"no"),
+const CONSENTS: [(&[Answer], bool, &str, &str); 6] = [
+    (&[Answer::Yes], true, "start;confirm;shut;", "yes"),
+    (&[Answer::No], true, "start;confirm;shut;", "no"),
     (
         &[Answer::Cancelled],
         true,
-        b"start;confirm;shut;",
-        b"cancelled",
+        "start;confirm;shut;",
+        "cancelled",
     ),
     (
         &[Answer::TimedOut],
         true,
-        b"start;confirm;shut;",
-        b"timed out",
+        "start;confirm;shut;",
+        "timed out",
     ),
     (
         &[Answer::Failed],
         true,
-        b"start;confirm;shut;",
-        b"no pinentry",
+        "start;confirm;shut;",
+        "no pinentry",
     ),
-    (&[Answer::Yes], false, b"start;shut;", b"unexpected"),
+    (&[Answer::Yes], false, "start;shut;", "unexpected"),
 ];
 
 #[test]
@@ -381,16 +385,16 @@ fn consent_is_asked_for_once(rt: HostRuntime) -> Result<(), Fail> {
         let mut prompter = ListPrompter::new(true, answers);
         let mut caller = ListCaller { fine };
         let agreed = ask_consent(&ticket, &spec(), true, &mut prompter, &mut caller);
-        let word: &[u8] = match agreed {
-            Agreed::Yes => b"yes",
-            Agreed::No => b"no",
-            Agreed::Cancelled => b"cancelled",
-            Agreed::TimedOut => b"timed out",
-            Agreed::NoPinentry => b"no pinentry",
-            Agreed::Heard(Heard::Unexpected) => b"unexpected",
-            Agreed::Heard(_) => b"heard",
+        let word = match agreed {
+            Agreed::Yes => "yes",
+            Agreed::No => "no",
+            Agreed::Cancelled => "cancelled",
+            Agreed::TimedOut => "timed out",
+            Agreed::NoPinentry => "no pinentry",
+            Agreed::Heard(Heard::Unexpected) => "unexpected",
+            Agreed::Heard(_) => "heard",
         };
-        assert_eq!(rt; prompter.log.as_slice(), shown);
+        assert_eq!(rt; shown_as(prompter.log.as_slice()), shown);
         assert_eq!(rt; word, want);
     }
     let _ = seat.give(ticket);

@@ -1,7 +1,7 @@
-ghost use Rattle.std.specs.Prelude.{◌≡◌, ◌≢◌, ◌≤◌, ◌↔◌, true, None, Err, IsTrue, length};
+ghost use Rattle.std.specs.Prelude.{◌≡◌, ◌≤◌, ◌↔◌, true, None, IsTrue, length};
 ghost use Rattle.agent_ask.specs.Doing.{HasEvents, DoesCall};
-ghost use Rattle.agent_ask.specs.Prompts.{MeetsCheck, IsTry, Repeats, Tries, failure_words, error_text, pin_or_stop};
-ghost use Rattle.agent_ask.specs.Tests.{Reaches, EndsOutOfMemory};
+ghost use Rattle.agent_ask.specs.Prompts.{MeetsCheck, IsTry, Repeats, Tries, failure_words, try_text, pin_or_stop};
+ghost use Rattle.agent_ask.specs.Tests.{WithTests};
 ghost use Rattle.agent_ask.specs.Trying.{GoesOn};
 
 use crate::{AskPlan, Asked, Outcome, Prompter, Test, Tested};
@@ -41,13 +41,12 @@ pub(crate) fn ask_tries<P: Prompter, T: Test>(
     prompter: &mut P,
 ) -> Asked
     requires { (P.at prompter.old).ready ≡ true }
-    ensures tried { HasEvents (DoesCall P.prompted) (λ events. Tries plan.now (T.rule test.old) 1 None events result) prompter.old prompter.new }
-    ensures reaches { Reaches T.tested test.old test.new }
-    ensures no_memory { result ≡ Asked.NoMemory → EndsOutOfMemory T.tested test.old test.new }
+    ensures { HasEvents (DoesCall P.prompted) (λ events. WithTests T.tested test.old test.new (λ tests. Tries plan.now (T.rule test.old) 1 None events tests result))
+        prompter.old prompter.new }
 {
     let mut failure = None;
     for number in 1..=MAX_TRIES {
-        let error = error_text(plan, failure, number);
+        let error = try_text(plan, failure, number);
         match ask_once(ticket, &error, plan, test, prompter) {
             Ok(pin) => return Asked::Pin(pin),
             Err(Stop::Over(asked)) => return asked,
@@ -58,9 +57,9 @@ pub(crate) fn ask_tries<P: Prompter, T: Test>(
 }
 
 /// What the try of this number shows as an error, where this failed the try before it.
-fn error_text(plan: &AskPlan, failure: Option<Failure>, number: u8) -> Text
+fn try_text(plan: &AskPlan, failure: Option<Failure>, number: u8) -> Text
     requires { number ≤ MAX_TRIES }
-    ensures { result.items ≡ error_text plan.now failure number }
+    ensures { result.items ≡ try_text plan.now failure number }
 {
     let mut text = Text::new();
     match failure {
@@ -69,7 +68,9 @@ fn error_text(plan: &AskPlan, failure: Option<Failure>, number: u8) -> Text
             text.try_extend_from_slice(words(failure)).unwrap();
             text.try_extend_from_slice(b" (try ").unwrap();
             text.push(b'0' + number);
-            text.try_extend_from_slice(b" of 3)").unwrap();
+            text.try_extend_from_slice(b" of ").unwrap();
+            text.push(b'0' + MAX_TRIES);
+            text.push(b')');
         }
     }
     text
@@ -96,10 +97,9 @@ fn ask_once<P: Prompter, T: Test>(
     prompter: &mut P,
 ) -> Result<Secret, Stop>
     requires { (P.at prompter.old).ready ≡ true }
-    ensures tried { HasEvents (DoesCall P.prompted) (λ events. IsTry plan.now (T.rule test.old) error.now events result) prompter.old prompter.new }
+    ensures tried { HasEvents (DoesCall P.prompted) (λ events. WithTests T.tested test.old test.new (λ tests. IsTry plan.now (T.rule test.old) error.now events tests result))
+        prompter.old prompter.new }
     ensures ready { GoesOn result → (P.at prompter.new).ready ≡ true }
-    ensures reaches { Reaches T.tested test.old test.new }
-    ensures no_memory { result ≡ Err (Stop.Over Asked.NoMemory) → EndsOutOfMemory T.tested test.old test.new }
 {
     let pin = pin_or_stop(prompter.getpin(ticket, error))?;
     if !meets_check(plan.check, pin.bytes()) {
@@ -132,7 +132,6 @@ fn ask_repeats<P: Prompter>(
     requires { (P.at prompter.old).ready ≡ true }
     ensures repeated { HasEvents (DoesCall P.prompted) (λ events. Repeats repeat pin events result) prompter.old prompter.new }
     ensures ready { GoesOn result → (P.at prompter.new).ready ≡ true }
-    ensures memory { result ≢ Err (Stop.Over Asked.NoMemory) }
 {
     for _ in 0..repeat {
         let again = pin_or_stop(prompter.getpin(ticket, REPEAT))?;

@@ -4,17 +4,20 @@ use Rattle.agent_ports.specs.Sides.{Side}
 use Rattle.assuan_line.specs.Next.{Reader, held}
 use Rattle.assuan_server.specs.Connections.{Connection}
 use Rattle.session_options.specs.OptionValues.{OptionValues}
-use Rattle.agent_commands.specs.Events.{Event, Sent, Cut}
+use Rattle.agent_commands.specs.Events.{Event}
+use Rattle.agent_ask.specs.SessionEvents.{Sent, Cut}
 use Rattle.agent_commands.specs.Outside.{World}
-use Rattle.agent_commands.specs.States.{WritesText, StopsWriting, SessionState, AnswersRequest, ReaderAfter}
+use Rattle.agent_ports.specs.Writing.{StopsWriting}
+use Rattle.agent_commands.specs.States.{WritesText, SessionState, AnswersRequest, ReaderAfter}
 use Rattle.agent_commands.specs.Steps.{RespondsTo, silent, written, cut as stopped, CarriesOut}
 use Rattle.agent_commands.specs.Talks.{whole, cut}
 use Rattle.agent_commands.specs.declared.answer.Answer.{Answer}
-use Rattle.agent_commands.specs.declared.response.WriteFault.{WriteFault}
+use Rattle.agent_ports.specs.declared.link.WriteFault.{WriteFault}
 use Rattle.agent_commands.specs.declared.went.SessionEnd.TheVariants.{WriteFault as CutOff}
 use Rattle.agent_commands.specs.declared.went.Went.{Went}
 use Rattle.agent_commands.specs.declared.went.Went.TheVariants.{On, End}
-use Rattle.agent_commands.proofs.Doing.{done_none, done_then, done_wrote, done_stopped}
+use Rattle.agent_ask.proofs.Doing.{done_none, done_then}
+use Rattle.agent_commands.proofs.Doing.{done_wrote, done_stopped}
 
 module _ {w : World} (exchange : OptionValues → List (Event w.Further) → OptionValues → Went → Type 0) (before after : OptionValues) (desk : w.Desk) (ends : w.Ends) where
   abbrev at_conn : Connection → SessionState w
@@ -36,11 +39,11 @@ module _ {w : World} (exchange : OptionValues → List (Event w.Further) → Opt
     fits = subst (λ (r : Reader). ReaderAfter answer.went start.conn.reader r) (sym said.reader) prepared.fits;
     faults = record {
       read = λ e. omega (arith, prepared.faults.read e, ap (λ (s : Side). s.faults) said.input);
-      write = λ e. omega (arith, prepared.faults.write e, said.faults);
+      write = λ e. omega (arith, prepared.faults.write e, said.output.faults);
     };
   }
   answered start answer mid now went prepared (stopped response text fault is text_is said) =
-      let stops : StopsWriting text mid.output now.output = said.output in
+      let stops : StopsWriting text mid.output now.output = said.output.went in
       record {
         events = prepared.events ++ (Cut stops.sent ∷ []);
         exchanges = cut (prepared.exchanges (Sent text ∷ []) (rw is (text, text_is, refl))) (record {
@@ -69,7 +72,7 @@ module _ {w : World} (exchange : OptionValues → List (Event w.Further) → Opt
 
   pub cut_text : (why : WriteFault) → WritesText text start.conn (Err why) now → AnswersRequest exchange before start (End CutOff) after (record start { conn = now })
   cut_text why said =
-      let stops : StopsWriting text start.conn.output now.output = said.output in
+      let stops : StopsWriting text start.conn.output now.output = said.output.went in
       record {
         events = Cut stops.sent ∷ [];
         exchanges = cut on (record {

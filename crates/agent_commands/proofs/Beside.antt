@@ -1,12 +1,14 @@
 -- What is done without the prompter, with it beside.
-use Rattle.std.proofs.Common.{ℕ, List}
+use Rattle.std.proofs.Common.{List}
 use Rattle.agent_ask.specs.Events.{Call, PromptEvent}
 use Rattle.agent_ports.specs.Leads.{Leads, none, one}
 use Rattle.cache_policy.specs.declared.mark.MarkStep.{MarkStep}
 use Rattle.cache_policy.specs.Turns.{Turn}
 use Rattle.session_options.specs.OptionValues.{OptionValues}
 use Rattle.agent_commands.specs.Events.{Event}
-use Rattle.agent_commands.specs.Outside.{world, prompt_world, Outside, Does, received, sent, cut, asked, not_asked, turned as turned_so, further}
+use Rattle.agent_commands.specs.Outside.{world, prompt_world}
+use Rattle.agent_ask.specs.Worlds.{Outside, Does, received, sent, cut, asked, not_asked, turned as turned_so, further}
+use Rattle.assuan_server.specs.Reading.{Supply}
 use Rattle.agent_commands.specs.States.{SessionState, prompt_state, EventsLead, AnswersRequest}
 use Rattle.agent_commands.specs.Steps.{Carries}
 use Rattle.agent_commands.specs.declared.answer.Answer.{Answer}
@@ -16,8 +18,8 @@ module _ {D P : Type 0} (turned : D → MarkStep → Turn → D → Type 0) (pro
   abbrev with_it : Outside (world turned) → Outside (prompt_world turned prompted)
   with_it ends = record { input = ends.input; source = ends.source; output = ends.output; desk = ends.desk; ends = prompter }
 
-  leads_beside : {total : ℕ} {before after : Outside (world turned)} {events : List (Event PromptEvent)} → Leads (Does (world turned) total) before events after
-      → Leads (Does (prompt_world turned prompted) total) (with_it before) events (with_it after)
+  leads_beside : {supply : Supply} {before after : Outside (world turned)} {events : List (Event PromptEvent)} → Leads (Does (world turned) supply) before events after
+      → Leads (Does (prompt_world turned prompted) supply) (with_it before) events (with_it after)
   leads_beside none = none
   leads_beside (one (received known needed) more) = one (received known needed) (leads_beside more)
   leads_beside (one sent more) = one sent (leads_beside more)
@@ -33,7 +35,7 @@ module _ {D P : Type 0} (turned : D → MarkStep → Turn → D → Type 0) (pro
   done_beside : {events : List (Event PromptEvent)} {start now : SessionState (world turned)} → EventsLead {w = world turned} events start now
       → EventsLead {w = prompt_world turned prompted} events (state_beside start) (state_beside now)
   done_beside done = record {
-    leads = λ total is. let leads = done.leads total is in (leads_beside leads.0, leads.1);
+    leads = λ supply is. let leads = done.leads supply is in (leads_beside leads.0, leads.1);
     input_faults = done.input_faults;
     output_faults = done.output_faults;
     link = done.link;

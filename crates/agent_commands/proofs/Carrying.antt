@@ -7,7 +7,8 @@ use Rattle.assuan_server.specs.declared.errors.Code.{Code}
 use Rattle.cache_policy.specs.declared.mark.MarkStep.{MarkStep}
 use Rattle.cache_policy.specs.Turns.{Turn}
 use Rattle.agent_commands.specs.Answers.{failed}
-use Rattle.agent_commands.specs.Events.{Event, Sent, cache_turn}
+use Rattle.agent_commands.specs.Events.{Event}
+use Rattle.agent_ask.specs.SessionEvents.{Sent, cache_turn}
 use Rattle.agent_commands.specs.Outside.{World, prompt_world}
 use Rattle.agent_commands.specs.States.{SessionState, prompt_state, EventsLead, ReaderAfter}
 use Rattle.agent_commands.specs.Steps.{IsText, Responds, Carries}
@@ -17,7 +18,7 @@ use Rattle.agent_commands.specs.declared.response.Response.TheVariants.{Failed}
 use Rattle.agent_commands.specs.declared.went.SessionEnd.TheVariants.{Bye, Killed, Ended, TooLong, Spent, ReadFault, WriteFault}
 use Rattle.agent_commands.specs.declared.went.Went.{Went}
 use Rattle.agent_commands.specs.declared.went.Went.TheVariants.{On, End}
-use Rattle.agent_commands.proofs.Doing.{done_none, done_then, done_turned}
+use Rattle.agent_ask.proofs.Doing.{done_none, done_then, done_turned}
 
 -- what a response does is to write its text
 pub responds : {F : Type 0} (P : List (Event F) → Type 0) (response : Response) → ((text : List ℕ) → IsText response text → P (Sent text ∷ []))

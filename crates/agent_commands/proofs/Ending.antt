@@ -1,5 +1,5 @@
 -- How a request ends by the answer of its prompt.
-use Rattle.std.proofs.Common.{◌≡◌, ◌≢◌, ◌≤◌, ℕ, Bool, List, [], ◌∷◌, ◌++◌, Option, None, false, refl, sym, subst, append_assoc}
+use Rattle.std.proofs.Common.{◌≡◌, ◌≢◌, ◌≤◌, ℕ, Bool, List, [], ◌∷◌, ◌++◌, Option, None, false, refl, ap, sym, ◌∙◌, subst, append_assoc, append-nil}
 use Rattle.agent_ask.specs.Callers.{is_gone}
 use Rattle.agent_ask.specs.Consents.{AsksConsent}
 use Rattle.agent_ask.specs.Doing.{PromptEnds, DoesPrompt, notified, calls, called}
@@ -20,47 +20,46 @@ use Rattle.agent_ask.proofs.Unheard.{EndsByNote, pin_unheard, consent_unheard}
 use Rattle.agent_ports.specs.Leads.{Leads, none, one}
 use Rattle.assuan_line.specs.Next.{held}
 use Rattle.assuan_server.specs.Connections.{Connection, IsOpen}
-use Rattle.assuan_server.specs.Inquiries as outcome
 use Rattle.assuan_server.specs.declared.inquiry.Dropped.{Dropped}
 use Rattle.assuan_server.specs.declared.inquiry.Dropped.TheVariants as dropped
 use Rattle.cache_policy.specs.declared.mark.MarkStep.{MarkStep}
 use Rattle.cache_policy.specs.declared.mark.MarkStep.TheVariants.{Close}
 use Rattle.cache_policy.specs.Turns.{Turn}
 use Rattle.agent_commands.specs.Clients.{Hears, note as noted_so, heard_of_dropped}
-use Rattle.agent_commands.specs.Events.{Event, Asked as AskedFor, NotAsked, cache_turn}
-use Rattle.agent_commands.specs.Exchanges.{IsUnheard, EndsPin, EndsConsent, cancelled, too_much, unexpected, too_long, ended, spent, read_fault, write_fault, timed_out, no_pinentry, bad, unheard, yes, no}
+use Rattle.agent_commands.specs.Events.{Event}
+use Rattle.agent_ask.specs.SessionEvents.{cache_turn}
+use Rattle.agent_commands.specs.Exchanges.{Fails, EndsPin, EndsConsent, cancelled, too_much, unexpected, too_long, ended, spent, read_fault, write_fault, timed_out, no_pinentry, bad, unheard, yes, no}
 use Rattle.agent_commands.specs.Outside.{World, prompt_world}
-use Rattle.agent_commands.specs.Prompting.{UnderTicket, asked as asks_under, cancelled as note_cancelled, too_much as note_too_much}
-use Rattle.agent_commands.specs.Prompting.{unexpected as note_unexpected, too_long as note_too_long, ended as note_ended, spent as note_spent, read_fault as note_read_fault, write_fault as note_write_fault}
+use Rattle.agent_ask.specs.UnderTickets.{none as no_more, next, asked as asks_under}
+use Rattle.agent_commands.specs.Prompting.{UnderTicket}
 use Rattle.agent_commands.specs.States.{SessionState, prompt_state, ReaderAfter, FaultsRise}
 use Rattle.agent_commands.specs.Steps.{Responds, Carries, IsUnheardBy, answer_unheard, HasNoPin, answer_without_pin, IsAgreed, answer_to_consent}
 use Rattle.agent_commands.specs.declared.answer.Answer.{Answer}
 use Rattle.agent_commands.specs.declared.went.Went.{Went}
 use Rattle.agent_commands.specs.declared.went.Went.TheVariants.{On}
-use Rattle.agent_commands.proofs.Doing.{done_then, done_turned}
+use Rattle.agent_ask.proofs.Doing.{done_then, done_turned}
 use Rattle.agent_commands.proofs.Noting.{GoneSo}
 use Rattle.agent_commands.proofs.Prompting.{shown, gone_so}
 
--- the client didn't take note
-pub ends_unheard : {F : Type 0} (heard : Heard) → IsUnheardBy heard → (more : List (Event F)) → Responds (answer_unheard heard).response more
-    → IsUnheard heard more (answer_unheard heard).went
-ends_unheard Fine by more is = absurd by
-ends_unheard (Secret secret) by more is = absurd by
-ends_unheard Cancelled by more is = record { inquired = AskedFor outcome.Cancelled; notes = note_cancelled; fails = rw (is.2, is.1) cancelled }
-ends_unheard TooMuch by more is = record { inquired = AskedFor outcome.TooMuch; notes = note_too_much; fails = rw (is.2, is.1) too_much }
-ends_unheard Unexpected by more is = record { inquired = AskedFor outcome.Unexpected; notes = note_unexpected; fails = rw (is.2, is.1) unexpected }
-ends_unheard (Gone gone.TooLong) by more is = record { inquired = AskedFor outcome.TooLong; notes = note_too_long; fails = rw (is.2, is.1) too_long }
-ends_unheard (Gone gone.Ended) by more is = record { inquired = AskedFor outcome.Ended; notes = note_ended; fails = rw is ended }
-ends_unheard (Gone gone.Spent) by more is = record { inquired = AskedFor outcome.Spent; notes = note_spent; fails = rw is spent }
-ends_unheard (Gone gone.ReadFault) by more is = record { inquired = AskedFor outcome.ReadFault; notes = note_read_fault; fails = rw is read_fault }
-ends_unheard (Gone gone.WriteFault) by more is = record { inquired = NotAsked []; notes = note_write_fault; fails = rw is write_fault }
+-- the client said no more than this
+pub fails_so : {F : Type 0} (heard : Heard) → IsUnheardBy heard → (more : List (Event F)) → Responds (answer_unheard heard).response more → Fails heard more (answer_unheard heard).went
+fails_so Fine by more is = absurd by
+fails_so (Secret secret) by more is = absurd by
+fails_so Cancelled by more is = rw (is.2, is.1) cancelled
+fails_so TooMuch by more is = rw (is.2, is.1) too_much
+fails_so Unexpected by more is = rw (is.2, is.1) unexpected
+fails_so (Gone gone.TooLong) by more is = rw (is.2, is.1) too_long
+fails_so (Gone gone.Ended) by more is = rw is ended
+fails_so (Gone gone.Spent) by more is = rw is spent
+fails_so (Gone gone.ReadFault) by more is = rw is read_fault
+fails_so (Gone gone.WriteFault) by more is = rw is write_fault
 
 -- `start` and `now` are the connection before and after a prompt
 module _ (start now : Connection) (fewer : now.reader.ended ≡ None → held now.reader ≤ held start.reader) where
   on_open : IsOpen now → ReaderAfter On start.reader now.reader
   on_open stays = (stays, fewer stays)
 
-  fits_unheard : (heard : Heard) → IsUnheardBy heard → (is_gone heard ≡ false → IsOpen now) → GoneSo heard start now → ReaderAfter (answer_unheard heard).went start.reader now.reader
+  pub fits_unheard : (heard : Heard) → IsUnheardBy heard → (is_gone heard ≡ false → IsOpen now) → GoneSo heard start now → ReaderAfter (answer_unheard heard).went start.reader now.reader
   fits_unheard Fine by stays so = absurd by
   fits_unheard (Secret secret) by stays so = absurd by
   fits_unheard Cancelled by stays so = on_open (stays refl)
@@ -95,7 +94,7 @@ module _ {w : World} (start now : SessionState w) where
   abbrev no_fault : FaultsRise On start now
   no_fault = record { read = λ e. absurd (cc e); write = λ e. absurd (cc e) }
 
-  faults_unheard : (heard : Heard) → IsUnheardBy heard → GoneSo heard start.conn now.conn → FaultsRise (answer_unheard heard).went start now
+  pub faults_unheard : (heard : Heard) → IsUnheardBy heard → GoneSo heard start.conn now.conn → FaultsRise (answer_unheard heard).went start now
   faults_unheard Fine by so = absurd by
   faults_unheard (Secret secret) by so = absurd by
   faults_unheard Cancelled by so = no_fault
@@ -132,7 +131,7 @@ ends_pin plain asked.Cancelled not_pin more is = rw (is.2, is.1) cancelled
 ends_pin plain asked.TimedOut not_pin more is = rw (is.2, is.1) timed_out
 ends_pin plain asked.NoPinentry not_pin more is = rw (is.2, is.1) no_pinentry
 ends_pin plain asked.Bad not_pin more is = rw (is.2, is.1) bad
-ends_pin plain (asked.Heard heard) not_pin more is = unheard (ends_unheard heard not_pin more is)
+ends_pin plain (asked.Heard heard) not_pin more is = unheard (fails_so heard not_pin more is)
 
 pub ends_consent : {F : Type 0} (answer : Agreed) → IsAgreed answer → (more : List (Event F)) → Responds (answer_to_consent answer).response more
     → EndsConsent answer None more (answer_to_consent answer).went
@@ -141,7 +140,7 @@ ends_consent agreed.No agrees more is = rw (is.2, is.1) no
 ends_consent agreed.Cancelled agrees more is = rw (is.2, is.1) cancelled
 ends_consent agreed.TimedOut agrees more is = rw (is.2, is.1) timed_out
 ends_consent agreed.NoPinentry agrees more is = rw (is.2, is.1) no_pinentry
-ends_consent (agreed.Heard heard) agrees more is = unheard (ends_unheard heard agrees more is)
+ends_consent (agreed.Heard heard) agrees more is = unheard (fails_so heard agrees more is)
 
 unheard_by : (what : Dropped) → heard_of_dropped what ≢ Fine → IsUnheardBy (heard_of_dropped what)
 unheard_by dropped.Done not_fine = absurd (not_fine refl)
@@ -182,8 +181,9 @@ module _ {D P : Type 0} (turned : D → MarkStep → Turn → D → Type 0) (pro
       record {
         events = s.events ++ (cache_turn (Close ticket keep) turn ∷ []);
         exchanges = λ more is.
-            subst (λ (e : List (Event PromptEvent)). UnderTicket Asks Ends ticket e answer.went) (sym (append_assoc s.events (cache_turn (Close ticket keep) turn ∷ []) more))
-            (asks_under turn asks s.in_session (ends more is));
+            subst (λ (e : List (Event PromptEvent)). UnderTicket Asks Ends ticket e answer.went)
+            (ap (λ (e : List (Event PromptEvent)). e ++ cache_turn (Close ticket keep) turn ∷ more) (append-nil s.events) ∙ sym (append_assoc s.events (cache_turn (Close ticket keep) turn ∷ []) more))
+            (asks_under turn (next {before = []} asks s.in_session no_more) (ends more is));
         done = done_then s.done (done_turned (Close ticket keep) turn now.caller desk desk_now now.prompter closes);
         fits = fits;
         faults = faults;

@@ -10,7 +10,7 @@ use Rattle.assuan_server.specs.Written.{comment_text}
 use Rattle.agent_commands.specs.declared.names.CommandName.{CommandName}
 use Rattle.agent_commands.specs.Answers.{ok}
 use Rattle.agent_commands.specs.States.{WritesText}
-use Rattle.agent_commands.specs.declared.response.WriteFault.{WriteFault}
+use Rattle.agent_ports.specs.declared.link.WriteFault.{WriteFault}
 use Rattle.agent_commands.proofs.Saying.{said_then, said_first}
 
 -- the lines of these rows

@@ -1,5 +1,5 @@
 -- Looks into the cache, and what is done where nothing was found.
-use Rattle.std.proofs.Common.{◌≡◌, ℕ, Bool, List, [], ◌∷◌, Option, None, Some, refl, subst, arith}
+use Rattle.std.proofs.Common.{◌≡◌, ℕ, Bool, false, List, [], ◌∷◌, Option, None, Some, refl, sym, ◌∙◌, subst, arith}
 use Rattle.agent_ask.specs.Events.{Call, PromptEvent}
 use Rattle.agent_ask.specs.declared.spec.AskPlan.{AskPlan}
 use Rattle.agent_ask.specs.declared.spec.PromptSpec.{PromptSpec}
@@ -11,18 +11,27 @@ use Rattle.cache_policy.specs.declared.mark.MarkStep.{MarkStep}
 use Rattle.cache_policy.specs.declared.mark.MarkStep.TheVariants.{Seat, Put}
 use Rattle.cache_policy.specs.declared.mode.Mode.TheVariants.{User}
 use Rattle.cache_policy.specs.Turns.{Turn, Given as TurnGiven, Empty, Done}
-use Rattle.agent_commands.specs.Events.{Event, Sent, cache_turn}
-use Rattle.agent_commands.specs.Exchanges.{LooksFirst, answered, goes_on, no_id, empty, given, interrupted, ask, Keeps, unkept, kept, ByPrompt, cached, want}
+use Rattle.session_options.specs.OptionValues.{OptionValues}
+use Rattle.session_options.specs.declared.options.PinMode.{PinMode}
+use Rattle.session_options.specs.declared.options.PinMode.TheVariants as pin_mode
+use Rattle.session_options.specs.declared.rules.Rules.{Rules}
+use Rattle.agent_commands.specs.Events.{Event}
+use Rattle.agent_ask.specs.SessionEvents.{Sent, cache_turn}
+use Rattle.agent_commands.specs.Exchanges.{Exchange, by_prompt, without_prompt, LooksFirst, WithoutPrompt, answered, goes_on, no_id, empty, given, interrupted, ask, Keeps, unkept, kept, ByPrompt, cached, want}
 use Rattle.agent_commands.specs.Outside.{world, prompt_world}
+use Rattle.agent_commands.specs.Prompting.{IsSpec, plan_of}
+use Rattle.agent_commands.specs.Requests.{GetFields, get_passphrase}
 use Rattle.agent_commands.specs.States.{SessionState, session_state, prompt_state}
-use Rattle.agent_commands.specs.Steps.{IsText, Carries, LooksUp, no_id as up_no_id, empty as up_empty, given as up_given, interrupted as up_interrupted, KeepsSecret, AnswersTurn, is_done, is_interrupted}
+use Rattle.agent_commands.specs.Steps.{IsText, Carries, ByMode, LooksUp, no_id as up_no_id, empty as up_empty, given as up_given, interrupted as up_interrupted, KeepsSecret, AnswersTurn, is_done, is_interrupted}
 use Rattle.agent_commands.specs.declared.answer.Answer.{Answer}
+use Rattle.agent_commands.specs.declared.request.Request.TheVariants.{Cache}
+use Rattle.agent_commands.specs.declared.request.Texts.{Texts}
 use Rattle.agent_commands.specs.declared.response.Response.{Response}
 use Rattle.agent_commands.specs.declared.response.Response.TheVariants.{Given, Failed, Passphrase}
 use Rattle.agent_commands.specs.declared.went.Went.{Went}
 use Rattle.agent_commands.specs.declared.went.Went.TheVariants.{On}
 use Rattle.agent_commands.proofs.Carrying.{carry_after, carry_answer}
-use Rattle.agent_commands.proofs.Doing.{done_none, done_turned}
+use Rattle.agent_ask.proofs.Doing.{done_none, done_turned}
 
 some_same : {first second : Answer} → Some first ≡ Some second → first ≡ second
 some_same is = cc is
@@ -84,6 +93,25 @@ module _ {D : Type 0} (turned : D → MarkStep → Turn → D → Type 0) (conn 
         rw (is.0, is.1) (carry_answer {w = world turned} (Keeps plain secret None) (Passphrase secret plain) {start = session_state turned conn before} going (λ text is. unkept is))
     keeps (Some id) {before} {after} taken = kept_so id taken.turn _ before after taken.turned_so taken.answers
 
+-- a passphrase where the client wants no prompt
+pub by_other_mode : {D P : Type 0} (turned : D → MarkStep → Turn → D → Type 0) (prompted : P → Call → P → Type 0) (spec : PromptSpec) (plan : AskPlan) (plain : Bool) (id : Option (List ℕ)) (mode : PinMode) → (mode ≡ pin_mode.Ask → ⊥)
+    → {start now : SessionState (prompt_world turned prompted)} {answer : Answer} → Carries {w = prompt_world turned prompted} (λ events went. LooksFirst plain id (WithoutPrompt plain id mode) events went) start answer now
+    → Carries {w = prompt_world turned prompted} (ByMode spec plan plain id mode) start answer now
+by_other_mode turned prompted spec plan plain id pin_mode.Ask not done = absurd (not refl)
+by_other_mode turned prompted spec plan plain id pin_mode.Cancel not done = done
+by_other_mode turned prompted spec plan plain id pin_mode.Error not done = done
+by_other_mode turned prompted spec plan plain id pin_mode.Loopback not done = done
+
+-- a passphrase by the mode that the client wants
+pub by_mode_so : {rules : Rules} {before : OptionValues} {fields : GetFields} {texts : Texts} {events : List (Event PromptEvent)} {went : Went} (spec : PromptSpec) → fields.no_ask ≡ false
+    → fields.texts ≡ Some texts → IsSpec rules before texts.description texts.prompt fields.quality spec → (mode : PinMode) → before.mode ≡ mode
+    → ByMode spec (plan_of rules before texts.error fields.check fields.repeat) fields.plain fields.id mode events went
+    → Exchange rules before (Cache (get_passphrase fields)) events before went
+by_mode_so spec no_ask some shows pin_mode.Ask is by = by_prompt spec no_ask some is shows by
+by_mode_so spec no_ask some shows pin_mode.Cancel is looks = without_prompt no_ask some (λ e. let both = sym is ∙ e in cc both) (rw is looks)
+by_mode_so spec no_ask some shows pin_mode.Error is looks = without_prompt no_ask some (λ e. let both = sym is ∙ e in cc both) (rw is looks)
+by_mode_so spec no_ask some shows pin_mode.Loopback is looks = without_prompt no_ask some (λ e. let both = sym is ∙ e in cc both) (rw is looks)
+
 -- a passphrase that is given to a step that may open a prompt
 module _ {D P : Type 0} (at : D → AtDesk) (turned : D → MarkStep → Turn → D → Type 0) (prompted : P → Call → P → Type 0)
     (promise : (before : D) (asked : MarkStep) (turn : Turn) (after : D) → turned before asked turn after → IsTurn (at before) asked turn (at after)) where
@@ -91,7 +119,7 @@ module _ {D P : Type 0} (at : D → AtDesk) (turned : D → MarkStep → Turn �
       → turned before (want id) (TurnGiven grant) after → conn.reader.ended ≡ None
       → Carries {w = prompt_world turned prompted} (ByPrompt spec plan plain id) (prompt_state turned prompted conn before prompter)
       (record { response = Some (Given grant plain); went = On }) (prompt_state turned prompted conn after prompter)
-  given_at_prompt {before} {after} None grant does going = absurd (promise before (Seat None) (TurnGiven grant) after does).fits
+  given_at_prompt {before} {after} None grant does going = absurd (promise before (Seat None None) (TurnGiven grant) after does).fits
   given_at_prompt {spec} {plan} {plain} {conn} {before} {after} {prompter} (Some id) grant does going =
       carry_after {w = prompt_world turned prompted} {part = λ events went. ByPrompt spec plan plain (Some id) (cache_turn (want (Some id)) (TurnGiven grant) ∷ events) went}
       (cache_turn (want (Some id)) (TurnGiven grant) ∷ []) (done_turned (want (Some id)) (TurnGiven grant) conn before after prompter does) (omega arith) (λ events done. done)

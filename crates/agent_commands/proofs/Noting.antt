@@ -1,14 +1,14 @@
 -- What a client that is told of a prompt answers, as an inquiry of its session.
-use Rattle.std.proofs.Common.{◌≡◌, ◌≤◌, ℕ, List, [], ◌∷◌, ◌++◌, None, Some, false, refl, ap, sym, ◌∙◌, subst, arith}
+use Rattle.std.proofs.Common.{◌≡◌, ◌≤◌, ℕ, List, [], ◌∷◌, ◌++◌, None, Some, Err, false, refl, ap, sym, ◌∙◌, subst, arith}
 use Rattle.std.specs.Prelude.{codes, decimal, ⊤}
 use Rattle.agent_ask.specs.Callers.{is_gone, FitsQuestion}
 use Rattle.agent_ask.specs.Events.{Launched, Wanted}
 use Rattle.agent_ask.specs.declared.caller.Gone.TheVariants as gone
 use Rattle.agent_ask.specs.declared.caller.Heard.{Heard}
-use Rattle.agent_ask.specs.declared.caller.Heard.TheVariants.{Fine, Unexpected, Gone}
+use Rattle.agent_ask.specs.declared.caller.Heard.TheVariants.{Fine, Secret, Cancelled, TooMuch, Unexpected, Gone}
 use Rattle.agent_ports.specs.Counts.{Rose}
 use Rattle.assuan_line.specs.Next.{held}
-use Rattle.assuan_line.specs.Written.{HasCut}
+use Rattle.agent_ports.specs.Writing.{StopsWriting}
 use Rattle.assuan_line.specs.declared.reader.Took.TheVariants as took
 use Rattle.assuan_line.proofs.ReadingOn.{fewer_so, fault_so}
 use Rattle.assuan_line.specs.Lines.{IsLine}
@@ -22,11 +22,14 @@ use Rattle.assuan_server.specs.declared.inquiry.InquiredSecret.{InquiredSecret}
 use Rattle.assuan_server.specs.declared.inquiry.InquiredSecret.TheVariants as inquired
 use Rattle.assuan_text.specs.LineEnds.{line_of}
 use Rattle.agent_commands.specs.Clients.{Hearing, HearsNote, HearsWish, note as noted_so, wish, unsaid, heard_of_dropped, heard_of_secret, note_text}
-use Rattle.agent_commands.specs.Events.{Inquired, Asked, NotAsked}
-use Rattle.agent_commands.specs.Outside.{World}
-use Rattle.agent_commands.specs.Prompting.{Notes, fine, cancelled, too_much, unexpected, ended, too_long, spent, read_fault, write_fault, note}
+use Rattle.agent_commands.specs.Events.{Inquired}
+use Rattle.agent_ask.specs.SessionEvents.{Asked, NotAsked}
+use Rattle.agent_commands.specs.Outside.{World, fine, cancelled, too_much, unexpected, ended, too_long, spent, read_fault}
+use Rattle.agent_ask.specs.UnderTickets.{answered, unwritten, note}
+use Rattle.agent_commands.specs.Prompting.{Notes}
 use Rattle.agent_commands.specs.States.{SessionState, EventsLead}
-use Rattle.agent_commands.specs.declared.client.TheConstants.{MAX_NOTE_LEN}
+use Rattle.agent_commands.specs.Steps.{IsUnheardBy, answer_unheard, answer_heard}
+use Rattle.agent_ask.specs.declared.caller.TheConstants.{MAX_NOTE_LEN}
 use Rattle.agent_commands.proofs.Asking.{known_as, some_data, done_asked, done_not_asked}
 
 -- what an answer that ends the session leaves of its connection
@@ -76,7 +79,7 @@ module _ (w : World) (desk : w.Desk) (ends : w.Ends) (pid : ℕ) (start now : Co
       let known = some_data start.input.bytes now.input.bytes (λ rest left o. Inquires MAX_NOTE_LEN (start.reader.ahead ++ rest) inquire.took o now.reader left) inquire.gathered.read.known in
       record {
         inquired = Asked (Data known.0);
-        notes = fine;
+        notes = answered fine;
         done = done_asked w desk ends (codes "PINENTRY_LAUNCHED") (decimal pid) MAX_NOTE_LEN start now going (Data known.0) inquire.took inquire.gathered known.1;
         fewer = fewer_then inquire;
         gone = tt;
@@ -84,21 +87,21 @@ module _ (w : World) (desk : w.Desk) (ends : w.Ends) (pid : ℕ) (start now : Co
 
   pub noted : (what : Dropped) → HearsNote pid start what now → TellsClient {w = w} pid (heard_of_dropped what) (at_conn start) (at_conn now)
   noted dropped.Done hears = noted_fine (hears.inquiry (λ e. cc e))
-  noted dropped.Cancelled hears = noted_as outcome.Cancelled (hears.inquiry (λ e. cc e)) _ cancelled tt
-  noted dropped.TooMuch hears = noted_as outcome.TooMuch (hears.inquiry (λ e. cc e)) _ too_much tt
-  noted dropped.Unexpected hears = noted_as outcome.Unexpected (hears.inquiry (λ e. cc e)) _ unexpected tt
-  noted dropped.Ended hears = let inquire = hears.inquiry (λ e. cc e) in noted_as outcome.Ended inquire _ ended (ended_as outcome.Ended inquire)
-  noted dropped.TooLong hears = let inquire = hears.inquiry (λ e. cc e) in noted_as outcome.TooLong inquire _ too_long (ended_as outcome.TooLong inquire)
-  noted dropped.Spent hears = let inquire = hears.inquiry (λ e. cc e) in noted_as outcome.Spent inquire _ spent (ended_as outcome.Spent inquire)
+  noted dropped.Cancelled hears = noted_as outcome.Cancelled (hears.inquiry (λ e. cc e)) _ (answered cancelled) tt
+  noted dropped.TooMuch hears = noted_as outcome.TooMuch (hears.inquiry (λ e. cc e)) _ (answered too_much) tt
+  noted dropped.Unexpected hears = noted_as outcome.Unexpected (hears.inquiry (λ e. cc e)) _ (answered unexpected) tt
+  noted dropped.Ended hears = let inquire = hears.inquiry (λ e. cc e) in noted_as outcome.Ended inquire _ (answered ended) (ended_as outcome.Ended inquire)
+  noted dropped.TooLong hears = let inquire = hears.inquiry (λ e. cc e) in noted_as outcome.TooLong inquire _ (answered too_long) (ended_as outcome.TooLong inquire)
+  noted dropped.Spent hears = let inquire = hears.inquiry (λ e. cc e) in noted_as outcome.Spent inquire _ (answered spent) (ended_as outcome.Spent inquire)
   noted dropped.ReadFault hears =
       let inquire = hears.inquiry (λ e. cc e) in
-      noted_as outcome.ReadFault inquire _ read_fault (ended_as outcome.ReadFault inquire, rose_so outcome.ReadFault inquire refl)
+      noted_as outcome.ReadFault inquire _ (answered read_fault) (ended_as outcome.ReadFault inquire, rose_so outcome.ReadFault inquire refl)
   noted dropped.WriteFault hears =
       let part = hears.cut refl in
-      let cut : HasCut (line_of (note_text pid)) start.output part.0 now.output = part.1.output in
+      let cut : StopsWriting (line_of (note_text pid)) start.output now.output = part.1.output.stopped in
       record {
         inquired = NotAsked cut.sent;
-        notes = write_fault;
+        notes = unwritten;
         done = done_not_asked w desk ends (codes "PINENTRY_LAUNCHED") (decimal pid) MAX_NOTE_LEN start now part.0 part.1;
         fewer = λ is. omega (arith, ap held part.1.reader);
         gone = cut.rose;
@@ -119,7 +122,7 @@ note_stays pid start now dropped.Spent hears is = absurd (cc is)
 note_stays pid start now dropped.ReadFault hears is = absurd (cc is)
 note_stays pid start now dropped.WriteFault hears is = absurd (cc is)
 
-wish_stays : (word : List ℕ) (start now : Connection) (what : InquiredSecret) → HearsWish word start what now → is_gone (heard_of_secret what) ≡ false → IsOpen now
+pub wish_stays : (word : List ℕ) (start now : Connection) (what : InquiredSecret) → HearsWish word start what now → is_gone (heard_of_secret what) ≡ false → IsOpen now
 wish_stays word start now (inquired.Secret secret) hears is = stays_named start now 255 (inquire_text word []) _ (Data secret) refl refl (hears.inquiry (λ e. cc e))
 wish_stays word start now inquired.Cancelled hears is = stays_named start now 255 (inquire_text word []) _ outcome.Cancelled refl refl (hears.inquiry (λ e. cc e))
 wish_stays word start now inquired.TooMuch hears is = stays_named start now 255 (inquire_text word []) _ outcome.TooMuch refl refl (hears.inquiry (λ e. cc e))
@@ -141,7 +144,7 @@ note_fits pid dropped.Spent = tt
 note_fits pid dropped.ReadFault = tt
 note_fits pid dropped.WriteFault = tt
 
-wish_fits : (word : List ℕ) (what : InquiredSecret) → FitsQuestion (Wanted word) (heard_of_secret what)
+pub wish_fits : (word : List ℕ) (what : InquiredSecret) → FitsQuestion (Wanted word) (heard_of_secret what)
 wish_fits word (inquired.Secret secret) = tt
 wish_fits word inquired.Cancelled = tt
 wish_fits word inquired.TooMuch = tt
@@ -166,3 +169,20 @@ wished_so {word} {start} {now} {what} going hears = record {
 
 pub unsaid_so : {word : List ℕ} {start : Connection} → IsOpen start → ¬ IsLine (inquire_text word []) → Hearing start (Wanted word) Unexpected start
 unsaid_so going unfit = record { hears = unsaid going unfit; is = record { fits = tt; listens = λ is. going } }
+
+-- a client that was asked for a passphrase, and gave none
+pub unheard_fits : (heard : Heard) → FitsQuestion (Wanted []) heard → ((secret : List ℕ) → heard ≡ Secret secret → ⊥) → IsUnheardBy heard
+unheard_fits Fine fits not = absurd fits
+unheard_fits (Secret secret) fits not = absurd (not secret refl)
+unheard_fits Cancelled fits not = tt
+unheard_fits TooMuch fits not = tt
+unheard_fits Unexpected fits not = tt
+unheard_fits (Gone how) fits not = tt
+
+pub answer_heard_so : (heard : Heard) → ((secret : List ℕ) → heard ≡ Secret secret → ⊥) → Err (answer_unheard heard) ≡ answer_heard heard
+answer_heard_so Fine not = refl
+answer_heard_so (Secret secret) not = absurd (not secret refl)
+answer_heard_so Cancelled not = refl
+answer_heard_so TooMuch not = refl
+answer_heard_so Unexpected not = refl
+answer_heard_so (Gone how) not = refl

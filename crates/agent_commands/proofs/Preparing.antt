@@ -7,7 +7,8 @@ use Rattle.cache_policy.specs.declared.mark.MarkStep.{MarkStep}
 use Rattle.cache_policy.specs.Turns.{Turn, Done}
 use Rattle.session_options.specs.OptionValues.{OptionValues}
 use Rattle.session_options.specs.declared.rules.Rules.{Rules}
-use Rattle.agent_commands.specs.Events.{Event, Sent, cache_turn}
+use Rattle.agent_commands.specs.Events.{Event}
+use Rattle.agent_ask.specs.SessionEvents.{Sent, cache_turn}
 use Rattle.agent_commands.specs.Exchanges.{Exchange, one_turn, IsOneTurn, preset, clear, reload, kill, done, interrupted}
 use Rattle.agent_commands.specs.Outside.{World, world_with}
 use Rattle.agent_commands.specs.States.{SessionState, ReaderAfter, FaultsRise}
@@ -21,7 +22,7 @@ use Rattle.agent_commands.specs.declared.went.SessionEnd.TheVariants.{Bye}
 use Rattle.agent_commands.specs.declared.went.Went.{Went}
 use Rattle.agent_commands.specs.declared.went.Went.TheVariants.{On, End}
 use Rattle.agent_commands.proofs.Carrying.{responds, carry_answer}
-use Rattle.agent_commands.proofs.Doing.{done_none, done_turned}
+use Rattle.agent_ask.proofs.Doing.{done_none, done_turned}
 
 module _ {w : World} (exchange : List (Event w.Further) → OptionValues → Went → Type 0) (after : OptionValues) (answer : Answer) (response : Response) where
   module _ (start : SessionState w) (going : start.conn.reader.ended ≡ None) where

@@ -7,7 +7,7 @@ use Rattle.cache_policy.specs.Turns.{Turn}
 use Rattle.session_options.specs.OptionValues.{OptionValues}
 use Rattle.session_options.specs.declared.rules.Rules.{Rules}
 use Rattle.agent_commands.specs.Answers.{ok}
-use Rattle.agent_commands.specs.Events.{Sent, Asked, cache_turn}
+use Rattle.agent_ask.specs.SessionEvents.{Sent, Asked, cache_turn}
 use Rattle.agent_commands.specs.Exchanges.{Exchange, with_data, without_data, ComesOut, done, interrupted, put, limit_line, inquiry}
 use Rattle.agent_commands.specs.Outside.{world}
 use Rattle.agent_commands.specs.States.{SessionState, EventsLead, ReaderAfter}
@@ -18,7 +18,7 @@ use Rattle.agent_commands.specs.declared.request.Request.TheVariants.{Cache}
 use Rattle.agent_commands.specs.declared.response.Response.{Response}
 use Rattle.agent_commands.specs.declared.response.Response.TheVariants.{Ok, Failed}
 use Rattle.agent_commands.specs.declared.went.Went.TheVariants.{On}
-use Rattle.agent_commands.proofs.Doing.{done_then, done_turned}
+use Rattle.agent_ask.proofs.Doing.{done_then, done_turned}
 use Rattle.agent_commands.proofs.Inquiring.{InquiresInVain}
 use Rattle.agent_commands.proofs.Carrying.{responds}
 

@@ -1,6 +1,6 @@
 -- A prompt's events as those of its session.
-use Rattle.std.proofs.Common.{◌≡◌, ◌≤◌, ℕ, List, [], ◌∷◌, None, refl, arith}
-use Rattle.agent_ask.specs.Doing.{PromptEnds, DoesCall, called, out_of_memory, DoesPrompt, calls, notified}
+use Rattle.std.proofs.Common.{◌≡◌, ◌≤◌, ℕ, List, [], ◌∷◌, None, arith}
+use Rattle.agent_ask.specs.Doing.{PromptEnds, called, out_of_memory, DoesPrompt, calls, notified}
 use Rattle.agent_ask.specs.Events.{Call, Start, Shut, PromptEvent, Called, Notified, OutOfMemory}
 use Rattle.agent_ask.specs.declared.caller.Heard.{Heard}
 use Rattle.agent_ask.specs.declared.prompter.Opened.{Opened}
@@ -11,11 +11,13 @@ use Rattle.assuan_server.specs.Connections.{Connection}
 use Rattle.cache_policy.specs.declared.mark.MarkStep.{MarkStep}
 use Rattle.cache_policy.specs.Turns.{Turn}
 use Rattle.agent_commands.specs.Clients.{Hears, note as noted_so}
-use Rattle.agent_commands.specs.Events.{Event, Further}
-use Rattle.agent_commands.specs.Outside.{prompt_world, further}
-use Rattle.agent_commands.specs.Prompting.{InSession, none as no_events, called as shows_call, noted as shows_note, out_of_memory as shows_memory, note}
+use Rattle.agent_commands.specs.Events.{Event}
+use Rattle.agent_ask.specs.SessionEvents.{Further}
+use Rattle.agent_commands.specs.Outside.{prompt_world}
+use Rattle.agent_ask.specs.UnderTickets.{none as no_events, called as shows_call, noted as shows_note, out_of_memory as shows_memory, note}
+use Rattle.agent_commands.specs.Prompting.{InSession}
 use Rattle.agent_commands.specs.States.{SessionState, prompt_state, EventsLead}
-use Rattle.agent_commands.proofs.Doing.{done_none, done_then}
+use Rattle.agent_ask.proofs.Doing.{done_none, done_then, done_further}
 use Rattle.agent_commands.proofs.Noting.{GoneSo, noted}
 
 module _ {D P : Type 0} (turned : D → MarkStep → Turn → D → Type 0) (prompted : P → Call → P → Type 0) (desk : D) where
@@ -30,16 +32,6 @@ module _ {D P : Type 0} (turned : D → MarkStep → Turn → D → Type 0) (pro
     pub open_before : now.caller.reader.ended ≡ None → start.caller.reader.ended ≡ None
     pub fewer : now.caller.reader.ended ≡ None → held now.caller.reader ≤ held start.caller.reader
 
-  -- a call of the prompter
-  done_called : (conn : Connection) (before after : P) (event : PromptEvent) → DoesCall prompted before event after
-      → EventsLead {w = prompt_world turned prompted} (Further event ∷ []) (prompt_state turned prompted conn desk before) (prompt_state turned prompted conn desk after)
-  done_called conn before after event does = record {
-    leads = λ total is. (one (further does) none, is);
-    input_faults = omega arith;
-    output_faults = omega arith;
-    link = refl;
-  }
-
   pub shown : {prompt : List PromptEvent} {start now : PromptEnds P Connection} → Leads (DoesPrompt prompted Hears) start prompt now → AsksUser prompt start now
   shown {now} none = record { events = []; in_session = no_events; done = done_none (at_ends now); open_before = λ is. is; fewer = λ is. omega arith }
   shown (one (calls {prompter} {after} {caller} (called {call} does)) later) =
@@ -47,7 +39,7 @@ module _ {D P : Type 0} (turned : D → MarkStep → Turn → D → Type 0) (pro
       record {
         events = Further (Called call) ∷ rest.events;
         in_session = shows_call rest.in_session;
-        done = done_then (done_called caller prompter after (Called call) (called does)) rest.done;
+        done = done_then (done_further (Called call) caller desk prompter after (called does)) rest.done;
         open_before = rest.open_before;
         fewer = rest.fewer;
       }
@@ -56,7 +48,7 @@ module _ {D P : Type 0} (turned : D → MarkStep → Turn → D → Type 0) (pro
       record {
         events = Further OutOfMemory ∷ rest.events;
         in_session = shows_memory rest.in_session;
-        done = done_then (done_called caller prompter prompter OutOfMemory out_of_memory) rest.done;
+        done = done_then (done_further OutOfMemory caller desk prompter prompter out_of_memory) rest.done;
         open_before = rest.open_before;
         fewer = rest.fewer;
       }

@@ -1,16 +1,16 @@
 -- The definition on worked examples, each by computation.
-use Rattle.std.specs.Prelude.{◌≡◌, ℕ, List, [], ◌∷◌, ◌++◌, replicate, codes, true, false, Some, None, refl}
+use Rattle.std.specs.Prelude.{◌≡◌, ℕ, List, [], ◌∷◌, ◌++◌, replicate, codes, true, false, Some, None, Ok, refl}
 use Rattle.percent_encoding.proofs.OnLiterals.{percent_encoding_on_literals}
 use Rattle.hex.proofs.OnLiterals.{hex_on_literals}
 use Rattle.cache_policy.specs.declared.life.Life.TheVariants.{Default, Endless, Seconds}
 use Rattle.cache_policy.specs.declared.mode.Mode.TheVariants.{User, Normal, Ssh}
-use Rattle.agent_commands.specs.Names.{command_named, info_named, is_listed}
-use Rattle.agent_commands.specs.Fields.{text}
+use Rattle.agent_commands.specs.Names.{command_named, is_key_command, info_named, is_listed}
+use Rattle.agent_commands.specs.Fields.{text, passphrase}
 use Rattle.agent_commands.specs.Requests.{GetFields, request_of, get_passphrase}
 use Rattle.assuan_server.specs.declared.errors.Code.TheVariants.{NotSupported, UnknownCommand, Parameter}
 use Rattle.agent_commands.specs.declared.request.Info.TheVariants.{Version, Listed}
 use Rattle.agent_commands.specs.declared.request.CacheCommand.TheVariants.{Nop, Bye, SetOption, GetInfo, PresetPassphrase, ClearPassphrase, GetConfirmation, KillAgent}
-use Rattle.agent_commands.specs.declared.request.Request.TheVariants.{Cache, Bad}
+use Rattle.agent_commands.specs.declared.request.Request.TheVariants.{Cache, Key, Bad}
 
 -- GET_PASSPHRASE with no option and no texts
 abbrev of_id : List ℕ → GetFields
@@ -41,11 +41,15 @@ unfolding request_of command_named info_named
 version_is_lower = refl
 
 foo : request_of (codes "FOO") ≡ Bad UnknownCommand
-unfolding request_of command_named
+unfolding request_of command_named is_key_command
 foo = refl
 
+key : request_of (codes "Keyinfo --list") ≡ Key (text (codes "Keyinfo --list"))
+unfolding request_of command_named is_key_command
+key = refl
+
 no_command : request_of [] ≡ Bad UnknownCommand
-unfolding request_of command_named
+unfolding request_of command_named is_key_command
 no_command = refl
 
 unlisted_pair : request_of (codes "GETINFO cmd_has_option GET_PASSPHRASE mode") ≡ Bad NotSupported
@@ -92,6 +96,12 @@ odd_digits : request_of (codes "PRESET_PASSPHRASE id1 -1 255") ≡ Bad Parameter
 unfolding request_of command_named hex_on_literals
 odd_digits = refl
 
+bytes_of_255 : passphrase (Ok (replicate 255 97)) ≡ Some (replicate 255 97)
+bytes_of_255 = refl
+
+bytes_of_256 : passphrase (Ok (replicate 256 97)) ≡ None
+bytes_of_256 = refl
+
 get : request_of (codes "GET_PASSPHRASE --no-ask --data id1") ≡ Cache (get_passphrase (record (of_id (codes "id1")) { plain = true; no_ask = true }))
 unfolding request_of command_named
 get = refl
@@ -103,6 +113,10 @@ no_id = refl
 unknown_option : request_of (codes "GET_PASSPHRASE --frob --data=yes --repeat=9 --repeat=02 id1") ≡ Cache (get_passphrase (record (of_id (codes "id1")) { repeat = 2 }))
 unfolding request_of command_named
 unknown_option = refl
+
+repeat_16 : request_of (codes "GET_PASSPHRASE --repeat=16 id1") ≡ Cache (get_passphrase (record (of_id (codes "id1")) { repeat = 16 }))
+unfolding request_of command_named
+repeat_16 = refl
 
 repeat_17 : request_of (codes "GET_PASSPHRASE --repeat=17 id1") ≡ Bad Parameter
 unfolding request_of command_named

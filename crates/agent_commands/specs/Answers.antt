@@ -32,19 +32,23 @@ abbrev pub help : List ℕ
 help = flat_map (λ name. line_of (comment_text name)) command_names ++ ok
 
 -- these bytes as data lines
-pub record IsData (bytes text : List ℕ) : Type 0 where
+pub record IsDataAnswer (bytes text : List ℕ) : Type 0 where
   pub pieces : List (List ℕ)
   pub are_data : AreData bytes pieces
   pub text_is : text ≡ data_text pieces ++ ok
 
 -- a passphrase: with `--data` as data lines, and otherwise by its uppercase hexadecimal digits
 abbrev pub IsPassphrase : Bool → List ℕ → List ℕ → Type 0
-IsPassphrase true secret text = IsData secret text
+IsPassphrase true secret text = IsDataAnswer secret text
 IsPassphrase false secret text = text ≡ line_of (ok_text (hex_text secret))
+
+-- the version that GETINFO gives
+abbrev pub version_text : List ℕ
+version_text = codes "2.4.0"
 
 -- what GETINFO is answered
 abbrev pub IsInfo : Rules → Info → List ℕ → Type 0
-IsInfo rules Version text = IsData (codes "2.4.0") text
-IsInfo rules Pid text = IsData (decimal rules.pid) text
-IsInfo rules S2kCount text = IsData (decimal rules.s2k_count) text
+IsInfo rules Version text = IsDataAnswer version_text text
+IsInfo rules Pid text = IsDataAnswer (decimal rules.pid) text
+IsInfo rules S2kCount text = IsDataAnswer (decimal rules.s2k_count) text
 IsInfo rules Listed text = text ≡ ok

@@ -15,7 +15,7 @@ use Rattle.assuan_server.specs.declared.inquiry.Dropped.TheVariants as dropped
 use Rattle.assuan_server.specs.declared.inquiry.InquiredSecret.{InquiredSecret}
 use Rattle.assuan_server.specs.declared.inquiry.InquiredSecret.TheVariants as inquired
 use Rattle.cache_policy.specs.declared.secret.TheConstants.{MAX_SECRET_LEN}
-use Rattle.agent_commands.specs.declared.client.TheConstants.{MAX_NOTE_LEN}
+use Rattle.agent_ask.specs.declared.caller.TheConstants.{MAX_NOTE_LEN}
 
 -- what it was heard to say
 abbrev pub heard_of_dropped : Dropped → Heard

@@ -1,49 +1,10 @@
--- What a session does, one thing after another, with further kinds of events beside those that every session has. This is the
--- project's own.
-use Rattle.std.specs.Prelude.{◌≡◌, ℕ, List, [], ◌∷◌, ◌++◌}
-use Rattle.assuan_line.specs.declared.reader.Took.{Took}
+-- What a session does over the lines that this project's server reads.
+use Rattle.agent_ask.specs.SessionEvents.{AnyEvent, AnyInquired}
 use Rattle.assuan_server.specs.Inquiries.{Outcome}
-use Rattle.cache_policy.specs.declared.mark.MarkStep.{MarkStep}
-use Rattle.cache_policy.specs.Extending.{Taken}
-use Rattle.cache_policy.specs.Turns.{Turn}
 
--- what an inquiry came to: its line was written, and the client's lines came to this, or the write failed after these bytes of it
-pub data Inquired : Type 0 where
-  Asked : Outcome → Inquired
-  NotAsked : List ℕ → Inquired
+abbrev pub Inquired : Type 0
+Inquired = AnyInquired Outcome
 
-pub data Event (F : Type 0) : Type 0 where
-  -- the next request was read, or this came in its place
-  Received : Took → Event F
-  -- these bytes were written
-  Sent : List ℕ → Event F
-  -- a write failed after these bytes
-  Cut : List ℕ → Event F
-  -- the client was asked by this word and these parameters for so many bytes at most
-  Inquiry : List ℕ → List ℕ → ℕ → Inquired → Event F
-  -- a turn was taken at the desk
-  CacheTurn : Taken → Event F
-  -- an event of a further kind
-  Further : F → Event F
-
--- a turn as an event
-abbrev pub cache_turn : {F : Type 0} → MarkStep → Turn → Event F
-cache_turn asked turn = CacheTurn (record { asked = asked; turn = turn })
-
--- the turns among the events
-abbrev pub turns_in : {F : Type 0} → List (Event F) → List Taken
-turns_in [] = []
-turns_in (Received took ∷ later) = turns_in later
-turns_in (Sent text ∷ later) = turns_in later
-turns_in (Cut text ∷ later) = turns_in later
-turns_in (Inquiry word params limit inquired ∷ later) = turns_in later
-turns_in (CacheTurn taken ∷ later) = taken ∷ turns_in later
-turns_in (Further what ∷ later) = turns_in later
-
--- the same events, but the write of the last one failed after some bytes
-pub record IsCut {F : Type 0} (events done : List (Event F)) : Type 0 where
-  pub before : List (Event F)
-  pub sent : List ℕ
-  pub unsent : List ℕ
-  pub whole : events ≡ before ++ (Sent (sent ++ unsent) ∷ [])
-  pub done_is : done ≡ before ++ (Cut sent ∷ [])
+-- with further kinds of events beside those that every session has
+abbrev pub Event : Type 0 → Type 0
+Event F = AnyEvent Outcome F

@@ -8,13 +8,14 @@ use Rattle.agent_ask.specs.Events.{PromptEvent}
 use Rattle.agent_ask.specs.Prompts.{AsksPin}
 use Rattle.agent_ask.specs.declared.ask.Asked.{Asked as Answer}
 use Rattle.agent_ask.specs.declared.ask.Asked.TheVariants as asked
+use Rattle.agent_ask.specs.declared.caller.Gone.TheVariants as gone
 use Rattle.agent_ask.specs.declared.caller.Heard.{Heard}
+use Rattle.agent_ask.specs.declared.caller.Heard.TheVariants.{Cancelled, TooMuch, Unexpected, Gone}
 use Rattle.agent_ask.specs.declared.consent.Agreed.{Agreed}
 use Rattle.agent_ask.specs.declared.consent.Agreed.TheVariants as agreed
 use Rattle.agent_ask.specs.declared.spec.AskPlan.{AskPlan}
 use Rattle.agent_ask.specs.declared.spec.PromptSpec.{PromptSpec}
 use Rattle.assuan_server.specs.Inquiries.{Data}
-use Rattle.assuan_server.specs.Inquiries as outcome
 use Rattle.assuan_server.specs.Written.{status_text}
 use Rattle.assuan_server.specs.declared.errors.Code.{Code}
 use Rattle.assuan_server.specs.declared.errors.Code.TheVariants as code
@@ -28,7 +29,7 @@ use Rattle.cache_policy.specs.declared.mark.Way.TheVariants.{Quiet, Prompt}
 use Rattle.cache_policy.specs.declared.mode.Mode.{Mode}
 use Rattle.cache_policy.specs.declared.mode.Mode.TheVariants.{Any, User}
 use Rattle.cache_policy.specs.declared.secret.TheConstants.{MAX_SECRET_LEN}
-use Rattle.cache_policy.specs.Turns.{Turn, Given, Empty, Open, Done, Stopping, Refused}
+use Rattle.cache_policy.specs.Turns.{Turn, Given, Empty, Open, Done, Stopping, Late, Refused}
 use Rattle.session_options.specs.OptionValues.{OptionValues, at_start, applied}
 use Rattle.session_options.specs.declared.options.OptionAnswer.{OptionAnswer}
 use Rattle.session_options.specs.declared.options.OptionAnswer.TheVariants.{Set, Unknown, Parameter, NotSupported}
@@ -36,7 +37,8 @@ use Rattle.session_options.specs.declared.options.PinMode.{PinMode}
 use Rattle.session_options.specs.declared.options.PinMode.TheVariants as mode
 use Rattle.session_options.specs.declared.rules.Rules.{Rules}
 use Rattle.agent_commands.specs.Answers.{ok, closing, failed, failed_at_pinentry, help, IsInfo, IsPassphrase}
-use Rattle.agent_commands.specs.Events.{Event, Sent, Cut, Inquiry, Inquired, Asked, NotAsked, cache_turn}
+use Rattle.agent_commands.specs.Events.{Event, Inquired}
+use Rattle.agent_ask.specs.SessionEvents.{Sent, Cut, Inquiry, Asked, cache_turn}
 use Rattle.agent_commands.specs.Prompting.{IsSpec, Notes, UnderTicket, plan_of}
 use Rattle.agent_commands.specs.Requests.{GetFields, get_passphrase, get_fields, request_of}
 use Rattle.agent_commands.specs.declared.request.CacheCommand.{CacheCommand}
@@ -44,7 +46,7 @@ use Rattle.agent_commands.specs.declared.request.CacheCommand.TheVariants.{Nop, 
 use Rattle.agent_commands.specs.declared.request.Info.{Info}
 use Rattle.agent_commands.specs.declared.request.QuietRequest.{QuietRequest}
 use Rattle.agent_commands.specs.declared.request.Request.{Request}
-use Rattle.agent_commands.specs.declared.request.Request.TheVariants.{Cache, Bad}
+use Rattle.agent_commands.specs.declared.request.Request.TheVariants.{Cache, Key, Bad}
 use Rattle.agent_commands.specs.declared.request.Texts.{Texts}
 use Rattle.agent_commands.specs.declared.went.SessionEnd.TheVariants as ends
 use Rattle.agent_commands.specs.declared.went.Went.{Went}
@@ -64,7 +66,7 @@ is_quiet no_ask (Some texts) = no_ask
 
 -- the question of the cache, and the storing of a preset
 abbrev pub ask : List ℕ → MarkStep
-ask id = Ask id User Quiet
+ask id = Ask id User Quiet None
 
 abbrev pub put : List ℕ → Life → List ℕ → MarkStep
 put id life secret = Put id Any life secret
@@ -73,6 +75,7 @@ put id life secret = Put id Any life secret
 pub data Interrupts : Turn → Code → Type 0 where
   refused : Interrupts Refused code.NoMemory
   stopping : Interrupts Stopping code.Cancelled
+  late : Interrupts Late code.Timeout
 
 -- how long a passphrase may be is told before the client is asked for it
 abbrev pub limit_line : List ℕ
@@ -82,20 +85,20 @@ limit_line = line_of (status_text (codes "INQUIRE_MAXLEN") (decimal MAX_SECRET_L
 abbrev pub inquiry : {F : Type 0} → Inquired → Event F
 inquiry inquired = Inquiry (codes "PASSPHRASE") [] MAX_SECRET_LEN inquired
 
--- what is done after an inquiry without data, and how the session goes on
-pub data Fails {F : Type 0} : Inquired → List (Event F) → Went → Type 0 where
-  cancelled : Fails (Asked outcome.Cancelled) (Sent (failed code.Cancelled) ∷ []) On
-  too_much : Fails (Asked outcome.TooMuch) (Sent (failed code.TooMuch) ∷ []) On
-  unexpected : Fails (Asked outcome.Unexpected) (Sent (failed code.Unexpected) ∷ []) On
-  too_long : Fails (Asked outcome.TooLong) (Sent (failed code.LineTooLong) ∷ []) (End ends.TooLong)
-  ended : Fails (Asked outcome.Ended) [] (End ends.Ended)
-  spent : Fails (Asked outcome.Spent) [] (End ends.Spent)
-  read_fault : Fails (Asked outcome.ReadFault) [] (End ends.ReadFault)
-  write_fault : {text : List ℕ} → Fails (NotAsked text) [] (End ends.WriteFault)
+-- what is done after an inquiry by which the client was heard to say no more than this, and how the session goes on
+pub data Fails {F : Type 0} : Heard → List (Event F) → Went → Type 0 where
+  cancelled : Fails Cancelled (Sent (failed code.Cancelled) ∷ []) On
+  too_much : Fails TooMuch (Sent (failed code.TooMuch) ∷ []) On
+  unexpected : Fails Unexpected (Sent (failed code.Unexpected) ∷ []) On
+  too_long : Fails (Gone gone.TooLong) (Sent (failed code.LineTooLong) ∷ []) (End ends.TooLong)
+  ended : Fails (Gone gone.Ended) [] (End ends.Ended)
+  spent : Fails (Gone gone.Spent) [] (End ends.Spent)
+  read_fault : Fails (Gone gone.ReadFault) [] (End ends.ReadFault)
+  write_fault : Fails (Gone gone.WriteFault) [] (End ends.WriteFault)
 
 -- the client is asked for a passphrase, and gives none
 pub data WithoutPassphrase {F : Type 0} : List (Event F) → Went → Type 0 where
-  no_data : {inquired : Inquired} {events : List (Event F)} {went : Went} → Fails inquired events went
+  no_data : {heard : Heard} {inquired : Inquired} {events : List (Event F)} {went : Went} → Notes heard inquired → Fails heard events went
       → WithoutPassphrase (Sent limit_line ∷ inquiry inquired ∷ events) went
   -- the write of the limit failed
   limit_cut : {sent : List ℕ} (unsent : List ℕ) → limit_line ≡ sent ++ unsent → WithoutPassphrase (Cut sent ∷ []) (End ends.WriteFault)
@@ -145,12 +148,6 @@ pub data WithoutPrompt {F : Type 0} (plain : Bool) (id : Option (List ℕ)) : Pi
       → WithoutPrompt plain id mode.Loopback (Sent limit_line ∷ inquiry (Asked (Data secret)) ∷ events) went
   without_data : {events : List (Event F)} {went : Went} → WithoutPassphrase events went → WithoutPrompt plain id mode.Loopback events went
 
--- the client didn't take note of a prompt
-pub record IsUnheard {F : Type 0} (heard : Heard) (events : List (Event F)) (went : Went) : Type 0 where
-  pub inquired : Inquired
-  pub notes : Notes heard inquired
-  pub fails : Fails inquired events went
-
 -- what is kept of a prompt for a passphrase, and how its answer ends the request
 pub data EndsPin {F : Type 0} (plain : Bool) : Answer → Option (List ℕ) → List (Event F) → Went → Type 0 where
   pin : {pin text : List ℕ} → IsPassphrase plain pin text → EndsPin plain (asked.Pin pin) (Some pin) (Sent text ∷ []) On
@@ -158,7 +155,7 @@ pub data EndsPin {F : Type 0} (plain : Bool) : Answer → Option (List ℕ) → 
   timed_out : EndsPin plain asked.TimedOut None (Sent (failed_at_pinentry code.Timeout) ∷ []) On
   no_pinentry : EndsPin plain asked.NoPinentry None (Sent (failed code.NoPinentry) ∷ []) On
   bad : EndsPin plain asked.Bad None (Sent (failed code.BadPass) ∷ []) On
-  unheard : {heard : Heard} {events : List (Event F)} {went : Went} → IsUnheard heard events went → EndsPin plain (asked.Heard heard) None events went
+  unheard : {heard : Heard} {events : List (Event F)} {went : Went} → Fails heard events went → EndsPin plain (asked.Heard heard) None events went
 
 -- and one for consent, of which nothing is kept
 pub data EndsConsent {F : Type 0} : Agreed → Option (List ℕ) → List (Event F) → Went → Type 0 where
@@ -167,7 +164,7 @@ pub data EndsConsent {F : Type 0} : Agreed → Option (List ℕ) → List (Event
   cancelled : EndsConsent agreed.Cancelled None (Sent (failed_at_pinentry code.Cancelled) ∷ []) On
   timed_out : EndsConsent agreed.TimedOut None (Sent (failed_at_pinentry code.Timeout) ∷ []) On
   no_pinentry : EndsConsent agreed.NoPinentry None (Sent (failed code.NoPinentry) ∷ []) On
-  unheard : {heard : Heard} {events : List (Event F)} {went : Went} → IsUnheard heard events went → EndsConsent (agreed.Heard heard) None events went
+  unheard : {heard : Heard} {events : List (Event F)} {went : Went} → Fails heard events went → EndsConsent (agreed.Heard heard) None events went
 
 -- A turn that wants the prompt: it gives a ticket, under which the request goes on, or it interrupts its command.
 pub data WantsPrompt {F : Type 0} (step : MarkStep) (Under : ℕ → List (Event F) → Went → Type 0) : List (Event F) → Went → Type 0 where
@@ -176,8 +173,8 @@ pub data WantsPrompt {F : Type 0} (step : MarkStep) (Under : ℕ → List (Event
 
 -- the step that wants the prompt for a passphrase
 abbrev pub want : Option (List ℕ) → MarkStep
-want None = Seat None
-want (Some id) = Ask id User Prompt
+want None = Seat None None
+want (Some id) = Ask id User Prompt None
 
 -- A passphrase where the client wants a prompt: it is cached, or asked for by one prompt, at which every passphrase is right.
 pub data ByPrompt (spec : PromptSpec) (plan : AskPlan) (plain : Bool) : Option (List ℕ) → List (Event PromptEvent) → Went → Type 0 where
@@ -198,6 +195,8 @@ refusal_of mode.Loopback = Some code.NoPinentry
 -- goes on.
 pub data Exchange (rules : Rules) (before : OptionValues) : Request → List (Event PromptEvent) → OptionValues → Went → Type 0 where
   refused : {code : Code} → Exchange rules before (Bad code) (Sent (failed code) ∷ []) before On
+  -- no command on keys is carried out yet
+  key : {line : ArrayVec ℕ} → Exchange rules before (Key line) (Sent (failed code.UnknownCommand) ∷ []) before On
   nop : Exchange rules before (Cache Nop) (Sent ok ∷ []) before On
   -- what the rules said stays
   reset : Exchange rules before (Cache Reset) (Sent ok ∷ []) (at_start before.rules_count before.allow_loopback) On
@@ -229,7 +228,7 @@ pub data Exchange (rules : Rules) (before : OptionValues) : Request → List (Ev
   -- consent by a prompt, where the client wants one
   confirmation : {description : ArrayVec ℕ} {events : List (Event PromptEvent)} {went : Went} (spec : PromptSpec)
       → before.mode ≡ mode.Ask → IsSpec rules before description (record { items = [] }) false spec
-      → WantsPrompt (Seat None) (UnderTicket (AsksConsent spec before.notify) EndsConsent) events went
+      → WantsPrompt (Seat None None) (UnderTicket (AsksConsent spec before.notify) EndsConsent) events went
       → Exchange rules before (Cache (GetConfirmation description)) events before went
   unconfirmed : {description : _} {code : Code} → refusal_of before.mode ≡ Some code
       → Exchange rules before (Cache (GetConfirmation description)) (Sent (failed code) ∷ []) before On

@@ -84,9 +84,9 @@ life word =
     else option_and_then life_of_seconds (number_of word)
 
 -- the mode that is cleared, by what the option says: where it isn't there, the mode of GET_PASSPHRASE
-abbrev pub mode_of : Option (List ℕ) → Option Mode
-mode_of None = Some User
-mode_of (Some value) =
+abbrev pub cleared_mode : Option (List ℕ) → Option Mode
+cleared_mode None = Some User
+cleared_mode (Some value) =
     if bytes_eq value (codes "normal") then Some Normal
     else if bytes_eq value (codes "ssh") then Some Ssh
     else None

@@ -6,7 +6,6 @@ pub mod Fields
 pub mod Names
 pub mod Outside
 pub mod Prompting
-pub mod Reading
 pub mod Requests
 pub mod States
 pub mod Steps

@@ -1,6 +1,7 @@
 -- The names that requests have (GnuPG manual, "Agent's Assuan protocol"; the commands of any Assuan server are those of the
 -- Assuan manual, "client requests").
 use Rattle.std.specs.Prelude.{ℕ, Bool, List, [], ◌∷◌, codes, map, Option}
+use Rattle.std.specs.Option.{is_some}
 use Rattle.assuan_text.specs.Rows.{found, found_in_any_case, has_pair}
 use Rattle.agent_commands.specs.declared.names.CommandName.{CommandName}
 use Rattle.agent_commands.specs.declared.names.CommandName.TheVariants.{Nop, Reset, Bye, Help, SetOption, GetInfo, GetPassphrase, PresetPassphrase, ClearPassphrase, GetConfirmation, ReloadAgent, KillAgent}
@@ -30,6 +31,21 @@ command_names = map (λ row. row.0) commands
 -- the command of this name, whatever the case of its letters
 unfoldable pub command_named : List ℕ → Option CommandName
 command_named word = found_in_any_case word commands
+
+-- the commands on keys, which none of the above are
+abbrev pub key_commands : List (List ℕ × Unit {0})
+key_commands =
+    (codes "HAVEKEY", tt)
+    ∷ (codes "KEYINFO", tt)
+    ∷ (codes "KEYWRAP_KEY", tt)
+    ∷ (codes "IMPORT_KEY", tt)
+    ∷ (codes "EXPORT_KEY", tt)
+    ∷ (codes "PASSWD", tt)
+    ∷ (codes "DELETE_KEY", tt)
+    ∷ []
+
+unfoldable pub is_key_command : List ℕ → Bool
+is_key_command word = is_some (found_in_any_case word key_commands)
 
 -- what GETINFO can be asked for by one word
 abbrev pub infos : List (List ℕ × Info)

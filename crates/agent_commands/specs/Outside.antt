@@ -1,28 +1,45 @@
--- The ends of a session to the outside, and what each event does to them: it leaves the other ends as they are. This is the project's
--- own.
-use Rattle.std.specs.Prelude.{◌≡◌, ◌⊎◌, ℕ, List, [], ◌++◌, Option, Some}
+-- What a session of this project stands on: the lines that its server reads, a desk, and what has to do with prompts.
+use Rattle.std.specs.Prelude.{ℕ, List, []}
 use Rattle.agent_ask.specs.Doing.{DoesCall}
 use Rattle.agent_ask.specs.Events.{Call, PromptEvent}
-use Rattle.agent_ports.specs.Sides.{with_bytes, WhereKnown}
-use Rattle.assuan_line.specs.Next.{WereNeeded}
+use Rattle.agent_ask.specs.Worlds.{Lines, AnyWorld}
+use Rattle.agent_ask.specs.declared.caller.Gone.TheVariants as gone
+use Rattle.agent_ask.specs.declared.caller.Heard.{Heard}
+use Rattle.agent_ask.specs.declared.caller.Heard.TheVariants as heard
 use Rattle.assuan_line.specs.Skipping.{IsUndecided}
-use Rattle.assuan_line.specs.declared.reader.Took.{Took}
-use Rattle.assuan_server.specs.Inquiries.{Outcome, inquire_text, is_skipped}
+use Rattle.assuan_server.specs.Inquiries.{Outcome, Data, Cancelled, TooMuch, Unexpected, Ended, TooLong, Spent, ReadFault, inquire_text, is_skipped}
 use Rattle.assuan_text.specs.Forms.{is_ignored}
 use Rattle.assuan_text.specs.LineEnds.{line_of}
 use Rattle.cache_policy.specs.declared.mark.MarkStep.{MarkStep}
-use Rattle.cache_policy.specs.Extending.{Taken}
 use Rattle.cache_policy.specs.Turns.{Turn}
-use Rattle.agent_commands.specs.Events.{Event, Received, Sent, Cut, Inquiry, Asked, NotAsked, CacheTurn, Further}
-use Rattle.agent_commands.specs.Reading.{ReadsRequest, ReadsAnswer}
+use Rattle.assuan_server.specs.Reading.{Supply, ReadsRequest, ReadsInquiry}
 
--- what a session stands on beside its link: a desk that shows its turns so, and the further ends, with what their events do to them
-pub record World : Type 1 where
-  pub Desk : Type 0
-  pub turned : Desk → MarkStep → Turn → Desk → Type 0
-  pub Ends : Type 0
-  pub Further : Type 0
-  pub does : Ends → Further → Ends → Type 0
+-- what a client that is told of a prompt is heard to say by an inquiry that came to this: its data are dropped
+pub data IsHeardAs : Outcome → Heard → Type 0 where
+  fine : {bytes : List ℕ} → IsHeardAs (Data bytes) heard.Fine
+  cancelled : IsHeardAs Cancelled heard.Cancelled
+  too_much : IsHeardAs TooMuch heard.TooMuch
+  unexpected : IsHeardAs Unexpected heard.Unexpected
+  ended : IsHeardAs Ended (heard.Gone gone.Ended)
+  too_long : IsHeardAs TooLong (heard.Gone gone.TooLong)
+  spent : IsHeardAs Spent (heard.Gone gone.Spent)
+  read_fault : IsHeardAs ReadFault (heard.Gone gone.ReadFault)
+
+-- the lines that its server reads
+abbrev pub session_lines : Lines
+session_lines = record {
+  Supply = Supply;
+  reads_request = ReadsRequest;
+  is_request_undecided = IsUndecided (λ lines line. is_ignored line) [];
+  inquiry_line = λ word params. line_of (inquire_text word params);
+  Outcome = Outcome;
+  reads_answer = ReadsInquiry;
+  is_answer_undecided = IsUndecided (λ lines line. is_skipped line) [];
+  says = IsHeardAs;
+}
+
+abbrev pub World : Type 1
+World = AnyWorld session_lines
 
 -- a desk, and what has to do with prompts, which their events do so
 abbrev pub world_with : {D E : Type 0} → (D → MarkStep → Turn → D → Type 0) → (E → PromptEvent → E → Type 0) → World
@@ -35,42 +52,3 @@ world turned = world_with {E = Unit {0}} turned (λ before what after. ⊥)
 -- a desk, and a prompter that shows its calls so
 abbrev pub prompt_world : {D P : Type 0} → (D → MarkStep → Turn → D → Type 0) → (P → Call → P → Type 0) → World
 prompt_world turned prompted = world_with turned (DoesCall prompted)
-
--- the ends at some point of a session
-pub record Outside (w : World) : Type 0 where
-  -- the bytes that come next, where they are known, and those of them that the link still holds
-  pub input : Option (List ℕ)
-  pub source : Option (List ℕ)
-  -- the bytes that were written, where they are known
-  pub output : Option (List ℕ)
-  pub desk : w.Desk
-  pub ends : w.Ends
-
--- A read takes nothing from the link, or bytes that it needs, and of its last piece at most so many more: what was there before that
--- piece decided nothing.
-abbrev pub TakesNeeded : (List ℕ → Type 0) → Option (List ℕ) → Option (List ℕ) → Option (List ℕ) → Type 0
-TakesNeeded Undecided input before after =
-    WhereKnown before after (λ rest left. (rest ≡ left) ⊎ ((ahead : List ℕ) × (input ≡ Some (ahead ++ rest)) × WereNeeded Undecided ahead rest left))
-
--- what an event does. `total` is how many bytes there were at the start of the session, where they are known.
-pub data Does (w : World) (total : ℕ) : Outside w → Event w.Further → Outside w → Type 0 where
-  received : {before : Outside w} {took : Took} {input source : Option (List ℕ)}
-      → WhereKnown before.input input (λ bytes rest. ReadsRequest total bytes took rest)
-      → TakesNeeded (IsUndecided (λ lines line. is_ignored line) []) before.input before.source source
-      → Does w total before (Received took) (record before { input = input; source = source })
-  sent : {before : Outside w} {text : List ℕ}
-      → Does w total before (Sent text) (record before { output = with_bytes before.output text })
-  cut : {before : Outside w} {text : List ℕ}
-      → Does w total before (Cut text) (record before { output = with_bytes before.output text })
-  asked : {before : Outside w} {word params : List ℕ} {limit : ℕ} {outcome : Outcome} {input source : Option (List ℕ)}
-      → WhereKnown before.input input (λ bytes rest. ReadsAnswer total limit bytes outcome rest)
-      → TakesNeeded (IsUndecided (λ lines line. is_skipped line) []) before.input before.source source
-      → Does w total before (Inquiry word params limit (Asked outcome))
-      (record before { input = input; source = source; output = with_bytes before.output (line_of (inquire_text word params)) })
-  not_asked : {before : Outside w} {word params text : List ℕ} {limit : ℕ} (unsent : List ℕ)
-      → line_of (inquire_text word params) ≡ text ++ unsent
-      → Does w total before (Inquiry word params limit (NotAsked text)) (record before { output = with_bytes before.output text })
-  turned : {before : Outside w} {taken : Taken} {desk : w.Desk} → w.turned before.desk taken.asked taken.turn desk
-      → Does w total before (CacheTurn taken) (record before { desk = desk })
-  further : {before : Outside w} {what : w.Further} {ends : w.Ends} → w.does before.ends what ends
-      → Does w total before (Further what) (record before { ends = ends })

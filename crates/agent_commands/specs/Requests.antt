@@ -1,11 +1,11 @@
 -- What a line asks for, or the fault for which it is refused (GnuPG manual, "Agent's Assuan protocol"). Which fault a refusal has is
 -- this project's own.
-use Rattle.std.specs.Prelude.{ℕ, Bool, List, [], ◌∷◌, codes, ok_or, Option, Some, None, Result, Ok, Err, if◌then◌else◌}
+use Rattle.std.specs.Prelude.{◌≡◌, ℕ, Bool, List, [], ◌∷◌, codes, ok_or, Option, Some, None, Result, Ok, Err, if◌then◌else◌}
 use Rattle.std.specs.Str.{bytes_eq}
 use Rattle.assuan_text.specs.Options.{options_of, arguments_of, has_option, last_option, last_value}
 use Rattle.assuan_text.specs.Words.{command_of, rest_of, words}
-use Rattle.agent_commands.specs.Names.{command_named, info_named, is_listed}
-use Rattle.agent_commands.specs.Fields.{cache_id, unless_placeholder, text, text_or, texts, repeats, life, mode_of, given_passphrase}
+use Rattle.agent_commands.specs.Names.{command_named, is_key_command, info_named, is_listed}
+use Rattle.agent_commands.specs.Fields.{cache_id, unless_placeholder, text, text_or, texts, repeats, life, cleared_mode, given_passphrase}
 use Rattle.assuan_server.specs.declared.errors.Code.{Code}
 use Rattle.assuan_server.specs.declared.errors.Code.TheVariants.{NotSupported, UnknownCommand, Parameter}
 use Rattle.agent_commands.specs.declared.names.CommandName.{CommandName}
@@ -16,7 +16,7 @@ use Rattle.agent_commands.specs.declared.request.Info.TheVariants.{Listed}
 use Rattle.agent_commands.specs.declared.request.CacheCommand.{CacheCommand}
 use Rattle.agent_commands.specs.declared.request.CacheCommand.TheVariants.{Nop, Reset, Bye, Help, SetOption, GetInfo, GetPassphrase, PresetPassphrase, ClearPassphrase, GetConfirmation, ReloadAgent, KillAgent}
 use Rattle.agent_commands.specs.declared.request.Request.{Request}
-use Rattle.agent_commands.specs.declared.request.Request.TheVariants.{Cache, Bad}
+use Rattle.agent_commands.specs.declared.request.Request.TheVariants.{Cache, Key, Bad}
 
 infixl 10 ◌>>=◌
 -- what is read, and then what follows it; or else the first fault
@@ -83,6 +83,13 @@ get_of options (word ∷ more) = do
     texts = texts;
   }))
 
+-- these are in form: how often a new passphrase is asked for again, and an id, with these words behind it
+pub record HasHead (options arguments : List (List ℕ)) (repeat : ℕ) (id : List ℕ) (more : List (List ℕ)) : Type 0 where
+  pub word : List ℕ
+  pub arguments_are : arguments ≡ word ∷ more
+  pub repeat_is : repeats (last_option (codes "--repeat") options) ≡ Some repeat
+  pub id_is : cache_id word ≡ Some id
+
 -- PRESET_PASSPHRASE [--inquire] ID TIMEOUT [DIGITS]
 abbrev pub preset_of : List (List ℕ) → List (List ℕ) → Result CacheCommand Code
 preset_of options (word ∷ timeout ∷ more) = do
@@ -96,7 +103,7 @@ preset_of options _ = Err Parameter
 abbrev pub clear_of : List (List ℕ) → List (List ℕ) → Result CacheCommand Code
 clear_of options [] = Err Parameter
 clear_of options (word ∷ more) = do
-  mode ← needed (mode_of (last_value (codes "--mode") options))
+  mode ← needed (cleared_mode (last_value (codes "--mode") options))
   id ← needed (cache_id word)
   Ok (ClearPassphrase id mode)
 
@@ -122,15 +129,14 @@ asked_by name.GetConfirmation rest = confirmation_of (arguments_of (words rest))
 asked_by name.ReloadAgent rest = Ok ReloadAgent
 asked_by name.KillAgent rest = Ok KillAgent
 
--- the command that the line begins with, carried out with the rest of the line
-abbrev pub command_in : List ℕ → Result CacheCommand Code
-command_in line = do
-  name ← ok_or (command_named (command_of line)) UnknownCommand
-  asked_by name (rest_of line)
-
 abbrev pub either : Result CacheCommand Code → Request
 either (Ok command) = Cache command
 either (Err code) = Bad code
 
+-- the command that the line begins with, carried out with the rest of the line. A command on keys keeps its line as it is.
+abbrev pub request_by : Option CommandName → List ℕ → Request
+request_by (Some name) line = either (asked_by name (rest_of line))
+request_by None line = if is_key_command (command_of line) then Key (text line) else Bad UnknownCommand
+
 unfoldable pub request_of : List ℕ → Request
-request_of line = either (command_in line)
+request_of line = request_by (command_named (command_of line)) line

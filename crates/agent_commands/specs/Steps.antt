@@ -1,53 +1,53 @@
 -- Private: what a request takes, step by step: what is done for it, and then its response.
-use Rattle.std.specs.Prelude.{◌≡◌, ◌≢◌, ℕ, Bool, List, [], ◌∷◌, ◌++◌, codes, decimal, Option, Some, None, Result, Ok as Whole, Err as Part, ⊤}
+use Rattle.std.specs.Prelude.{◌≡◌, ℕ, Bool, List, [], ◌∷◌, ◌++◌, codes, decimal, Option, Some, None, Result, Ok as Whole, Err as Part, ⊤}
+use Rattle.agent_ask.specs.Events.{PromptEvent}
 use Rattle.agent_ask.specs.declared.ask.Asked.{Asked}
 use Rattle.agent_ask.specs.declared.ask.Asked.TheVariants as prompted
+use Rattle.agent_ask.specs.declared.caller.Gone.{Gone as HowGone}
 use Rattle.agent_ask.specs.declared.caller.Gone.TheVariants as gone
 use Rattle.agent_ask.specs.declared.caller.Heard.{Heard}
 use Rattle.agent_ask.specs.declared.caller.Heard.TheVariants.{Fine, Secret, Cancelled, TooMuch, Unexpected, Gone}
 use Rattle.agent_ask.specs.declared.consent.Agreed.{Agreed}
 use Rattle.agent_ask.specs.declared.consent.Agreed.TheVariants as agreed
+use Rattle.agent_ask.specs.declared.spec.AskPlan.{AskPlan}
+use Rattle.agent_ask.specs.declared.spec.PromptSpec.{PromptSpec}
 use Rattle.agent_ports.specs.declared.link.Sent.TheVariants.{All, Failed as SentPart}
 use Rattle.assuan_server.specs.Connections.{Connection}
-use Rattle.assuan_server.specs.Asking.{Inquire, IsNotAsked}
-use Rattle.assuan_server.specs.Inquiries.{Answers, outcome_of_secret, inquire_text}
 use Rattle.assuan_server.specs.Written.{HasWritten}
 use Rattle.assuan_server.specs.declared.errors.Code.{Code}
 use Rattle.assuan_server.specs.declared.errors.Code.TheVariants as code
 use Rattle.assuan_server.specs.declared.inquiry.InquiredSecret.{InquiredSecret}
-use Rattle.assuan_server.specs.declared.inquiry.InquiredSecret.TheVariants as secret_inquired
 use Rattle.cache_policy.specs.declared.grant.Grant.{Grant}
 use Rattle.cache_policy.specs.declared.life.Life.TheVariants.{Default}
 use Rattle.cache_policy.specs.declared.mark.MarkStep.{MarkStep}
 use Rattle.cache_policy.specs.declared.mark.MarkStep.TheVariants.{Put, Clear, Flush, Stop}
-use Rattle.cache_policy.specs.declared.secret.TheConstants.{MAX_SECRET_LEN}
 use Rattle.cache_policy.specs.declared.mode.Mode.TheVariants.{User}
 use Rattle.cache_policy.specs.Turns.{Turn, Given as TurnGiven, Empty, Done}
 use Rattle.session_options.specs.OptionValues.{OptionValues}
-use Rattle.agent_commands.specs.Answers.{ok, closing, help, failed, failed_at_pinentry, IsData, IsPassphrase}
-use Rattle.agent_commands.specs.Events.{Event, Sent}
-use Rattle.agent_commands.specs.Exchanges.{Interrupts, ask, limit_line}
+use Rattle.session_options.specs.declared.options.PinMode.{PinMode}
+use Rattle.session_options.specs.declared.options.PinMode.TheVariants as mode
+use Rattle.agent_commands.specs.Answers.{ok, closing, help, failed, failed_at_pinentry, version_text, IsDataAnswer, IsPassphrase}
+use Rattle.agent_commands.specs.Clients.{HearsWish, heard_of_secret}
+use Rattle.agent_commands.specs.Events.{Event}
+use Rattle.agent_ask.specs.SessionEvents.{Sent}
+use Rattle.agent_commands.specs.Exchanges.{Interrupts, LooksFirst, WithoutPrompt, ByPrompt, ask, limit_line}
 use Rattle.agent_commands.specs.Outside.{World}
 use Rattle.agent_commands.specs.declared.answer.Answer.{Answer}
 use Rattle.agent_commands.specs.declared.response.Response.{Response}
 use Rattle.agent_commands.specs.declared.response.Response.TheVariants.{Ok, Closing, Help, Version, Number, Given, Passphrase, Failed, FailedAtPinentry}
-use Rattle.agent_commands.specs.declared.response.WriteFault.{WriteFault as Fault}
+use Rattle.agent_ports.specs.declared.link.WriteFault.{WriteFault as Fault}
 use Rattle.agent_commands.specs.declared.went.SessionEnd.TheVariants.{Ended, TooLong, Spent, ReadFault, WriteFault}
 use Rattle.agent_commands.specs.declared.went.Went.{Went}
 use Rattle.agent_commands.specs.declared.went.Went.TheVariants.{On, End}
 use Rattle.agent_commands.specs.States.{WritesText, SessionState, EventsLead, ReaderAfter, FaultsRise}
-
--- the text that asks for a passphrase
-abbrev pub secret_text : List ℕ
-secret_text = inquire_text (codes "PASSPHRASE") []
 
 -- the lines of a response
 abbrev pub IsText : Response → List ℕ → Type 0
 IsText Ok text = text ≡ ok
 IsText Closing text = text ≡ closing
 IsText Help text = text ≡ help
-IsText Version text = IsData (codes "2.4.0") text
-IsText (Number number) text = IsData (decimal number) text
+IsText Version text = IsDataAnswer version_text text
+IsText (Number number) text = IsDataAnswer (decimal number) text
 IsText (Given grant plain) text = IsPassphrase plain grant.entry.secret text
 IsText (Passphrase secret plain) text = IsPassphrase plain secret text
 IsText (Failed code) text = text ≡ failed code
@@ -97,23 +97,6 @@ pub record TakesTurn {D : Type 0} (turned : D → MarkStep → Turn → D → Ty
   pub turned_so : turned before step turn after
   pub answers : AnswersTurn done turn answer
 
--- how an inquiry for a passphrase is answered, where there is none
-abbrev pub answer_of : InquiredSecret → Result (List ℕ) Answer
-answer_of (secret_inquired.Secret secret) = Whole secret
-answer_of secret_inquired.Cancelled = Part (record { response = Some (Failed code.Cancelled); went = On })
-answer_of secret_inquired.TooMuch = Part (record { response = Some (Failed code.TooMuch); went = On })
-answer_of secret_inquired.Unexpected = Part (record { response = Some (Failed code.Unexpected); went = On })
-answer_of secret_inquired.TooLong = Part (record { response = Some (Failed code.LineTooLong); went = End TooLong })
-answer_of secret_inquired.Ended = Part (record { response = None; went = End Ended })
-answer_of secret_inquired.Spent = Part (record { response = None; went = End Spent })
-answer_of secret_inquired.ReadFault = Part (record { response = None; went = End ReadFault })
-answer_of secret_inquired.WriteFault = Part (record { response = None; went = End WriteFault })
-
--- what an inquiry for a passphrase did to its connection
-pub record InquiresSecret (before : Connection) (inquired : InquiredSecret) (after : Connection) : Type 0 where
-  pub inquiry : inquired ≢ secret_inquired.WriteFault → Inquire MAX_SECRET_LEN secret_text (Answers (outcome_of_secret inquired)) before after
-  pub cut : inquired ≡ secret_inquired.WriteFault → IsNotAsked secret_text before after
-
 -- an entry was looked for, where there is an id; this answer ends the request
 pub data LooksUp {D : Type 0} (turned : D → MarkStep → Turn → D → Type 0) (plain : Bool) : Option (List ℕ) → D → Option Answer → D → Type 0 where
   no_id : {desk : D} → LooksUp turned plain None desk None desk
@@ -123,25 +106,39 @@ pub data LooksUp {D : Type 0} (turned : D → MarkStep → Turn → D → Type 0
   interrupted : {id : List ℕ} {before after : D} (turn : Turn) (why : Code) → turned before (ask id) turn after → Interrupts turn why
       → LooksUp turned plain (Some id) before (Some (record { response = Some (Failed why); went = On })) after
 
+-- a passphrase by the cache or as the client wants it: by a prompt, or without one
+abbrev pub ByMode : PromptSpec → AskPlan → Bool → Option (List ℕ) → PinMode → List (Event PromptEvent) → Went → Type 0
+ByMode spec plan plain id mode.Ask events went = ByPrompt spec plan plain id events went
+ByMode spec plan plain id other events went = LooksFirst plain id (WithoutPrompt plain id other) events went
+
 -- what the client gave was kept, where there is an id, and is answered
 abbrev pub KeepsSecret : {D : Type 0} → (D → MarkStep → Turn → D → Type 0) → Bool → List ℕ → Option (List ℕ) → D → Answer → D → Type 0
 KeepsSecret turned plain secret None before answer after = (after ≡ before) × (answer ≡ record { response = Some (Passphrase secret plain); went = On })
 KeepsSecret turned plain secret (Some id) before answer after =
     TakesTurn turned (Put id User Default secret) (record { response = Some (Passphrase secret plain); went = On }) before answer after
 
--- how a request ends whose client didn't take note of a prompt
+-- how a request ends whose client is gone
+abbrev pub answer_gone : HowGone → Answer
+answer_gone gone.TooLong = record { response = Some (Failed code.LineTooLong); went = End TooLong }
+answer_gone gone.Ended = record { response = None; went = End Ended }
+answer_gone gone.Spent = record { response = None; went = End Spent }
+answer_gone gone.ReadFault = record { response = None; went = End ReadFault }
+answer_gone gone.WriteFault = record { response = None; went = End WriteFault }
+
+-- how one ends whose client didn't take note of a prompt, or gave no passphrase that it was asked for
 abbrev pub answer_unheard : Heard → Answer
 answer_unheard Cancelled = record { response = Some (Failed code.Cancelled); went = On }
 answer_unheard TooMuch = record { response = Some (Failed code.TooMuch); went = On }
 answer_unheard Unexpected = record { response = Some (Failed code.Unexpected); went = On }
-answer_unheard (Gone gone.TooLong) = record { response = Some (Failed code.LineTooLong); went = End TooLong }
-answer_unheard (Gone gone.Ended) = record { response = None; went = End Ended }
-answer_unheard (Gone gone.Spent) = record { response = None; went = End Spent }
-answer_unheard (Gone gone.ReadFault) = record { response = None; went = End ReadFault }
-answer_unheard (Gone gone.WriteFault) = record { response = None; went = End WriteFault }
+answer_unheard (Gone how) = answer_gone how
 answer_unheard _ = record { response = None; went = On }
 
--- the answers of a client that is told of a prompt, but that it has taken note
+-- the passphrase that a client was heard to give, or how its request ends without one
+abbrev pub answer_heard : Heard → Result (List ℕ) Answer
+answer_heard (Secret secret) = Whole secret
+answer_heard heard = Part (answer_unheard heard)
+
+-- the answers of a client but that it has taken note, or its passphrase
 abbrev pub IsUnheardBy : Heard → Type 0
 IsUnheardBy Fine = ⊥
 IsUnheardBy (Secret secret) = ⊥
@@ -180,4 +177,4 @@ pub data AsksSecret (start : Connection) : Result (List ℕ) Answer → Connecti
   limit_cut : {now : Connection} (count : ℕ) → HasWritten limit_line start (SentPart count) now
       → AsksSecret start (Part (record { response = None; went = End WriteFault })) now
   asked : {now : Connection} (mid : Connection) (inquired : InquiredSecret) → HasWritten limit_line start All mid
-      → InquiresSecret mid inquired now → AsksSecret start (answer_of inquired) now
+      → HearsWish (codes "PASSPHRASE") mid inquired now → AsksSecret start (answer_heard (heard_of_secret inquired)) now

@@ -6,7 +6,8 @@ use Rattle.assuan_server.specs.Written.{greeting}
 use Rattle.assuan_server.specs.declared.errors.Code.TheVariants.{LineTooLong}
 use Rattle.assuan_text.specs.LineEnds.{line_of}
 use Rattle.agent_commands.specs.Answers.{failed}
-use Rattle.agent_commands.specs.Events.{Event, Received, Sent, IsCut}
+use Rattle.agent_commands.specs.Events.{Event}
+use Rattle.agent_ask.specs.SessionEvents.{Received, Sent, CutAtLast}
 use Rattle.agent_commands.specs.declared.went.SessionEnd.{SessionEnd}
 use Rattle.agent_commands.specs.declared.went.SessionEnd.TheVariants.{Ended, TooLong, Spent, ReadFault, WriteFault}
 use Rattle.agent_commands.specs.declared.went.Went.{Went}
@@ -15,7 +16,7 @@ use Rattle.agent_commands.specs.declared.went.Went.TheVariants.{On, End}
 -- an exchange whose reply was written, or was cut by a write that failed
 pub data WholeOrCut {S F : Type 0} (exchange : S → List (Event F) → S → Went → Type 0) (before : S) : List (Event F) → S → Went → Type 0 where
   whole : {events : List (Event F)} {after : S} {went : Went} → exchange before events after went → WholeOrCut exchange before events after went
-  cut : {events done : List (Event F)} {after : S} {went : Went} → exchange before events after went → IsCut events done
+  cut : {events done : List (Event F)} {after : S} {went : Went} → exchange before events after went → CutAtLast events done
       → WholeOrCut exchange before done after (End WriteFault)
 
 module _ {S F : Type 0} (exchange : S → List ℕ → List (Event F) → S → Went → Type 0) where
@@ -33,10 +34,10 @@ module _ {S F : Type 0} (exchange : S → List ℕ → List (Event F) → S → 
     spent : {before : S} → Talk before (Received took.Spent ∷ []) Spent
     read_fault : {before : S} → Talk before (Received took.ReadFault ∷ []) ReadFault
     too_long : {before : S} → Talk before (Received took.TooLong ∷ Sent (failed LineTooLong) ∷ []) TooLong
-    cut_too_long : {before : S} {done : List (Event F)} → IsCut (Sent (failed LineTooLong) ∷ []) done
+    cut_too_long : {before : S} {done : List (Event F)} → CutAtLast (Sent (failed LineTooLong) ∷ []) done
         → Talk before (Received took.TooLong ∷ done) WriteFault
 
   -- a whole session: the greeting, and what follows
   pub data Session (start : S) : List (Event F) → SessionEnd → Type 0 where
     greeted : {events : List (Event F)} {end : SessionEnd} → Talk start events end → Session start (Sent (line_of greeting) ∷ events) end
-    cut_greeting : {done : List (Event F)} → IsCut (Sent (line_of greeting) ∷ []) done → Session start done WriteFault
+    cut_greeting : {done : List (Event F)} → CutAtLast (Sent (line_of greeting) ∷ []) done → Session start done WriteFault

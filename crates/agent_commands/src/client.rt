@@ -3,16 +3,13 @@ ghost use Rattle.agent_ask.specs.Events.{Launched, Wanted};
 ghost use Rattle.assuan_server.specs.Connections.{Connection, IsOpen};
 ghost use Rattle.agent_commands.specs.Clients.{Hearing, heard_of_dropped, heard_of_secret};
 
-use agent_ask::{Caller, Gone, Heard};
+use agent_ask::{Caller, Gone, Heard, MAX_NOTE_LEN};
 use agent_ports::Link;
 use assuan_line::Line;
 use assuan_server::{Conn, Dropped, InquiredSecret};
 use assuan_text::MAX_LINE_LEN;
 use itoa::Buffer;
 use std::marker::Model;
-
-/// The most bytes that a client may send back where it is told of a prompt. They are dropped.
-pub const MAX_NOTE_LEN: usize = 1000;
 
 /// What stands before the word of an inquiry in its line.
 const INQUIRE: &[u8] = b"INQUIRE ";
@@ -122,7 +119,7 @@ fn heard_of_dropped(dropped: Dropped) -> Heard
 }
 
 /// What the client was heard to say to an inquiry for a passphrase.
-fn heard_of_secret(inquired: InquiredSecret) -> Heard
+pub(crate) fn heard_of_secret(inquired: InquiredSecret) -> Heard
     ensures { result ≡ heard_of_secret inquired }
 {
     match inquired {

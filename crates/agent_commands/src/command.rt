@@ -1,8 +1,10 @@
-ghost use Rattle.std.specs.Prelude.{◌≡◌, ℕ, true, List, None, Some};
+ghost use Rattle.std.specs.Prelude.{◌≡◌, ℕ, true, List, [], None, Some};
+ghost use Rattle.agent_ask.specs.Callers.{FitsQuestion};
+ghost use Rattle.agent_ask.specs.Events.{Wanted};
 ghost use Rattle.agent_ask.specs.Prompters.{IsShut};
 ghost use Rattle.assuan_server.specs.Connections.{IsOpen};
 ghost use Rattle.cache_policy.specs.declared.mark.MarkStep.TheVariants.{Clear};
-ghost use Rattle.cache_policy.specs.Turns.{mark_step, closes};
+ghost use Rattle.cache_policy.specs.Turns.{asked_step, closes, wait_of};
 ghost use Rattle.session_options.specs.OptionValues.{OptionValues};
 ghost use Rattle.session_options.specs.declared.rules.Rules.{Rules as TheRules};
 ghost use Rattle.agent_commands.specs.Answers.{IsInfo};
@@ -10,23 +12,24 @@ ghost use Rattle.agent_commands.specs.Exchanges.{Exchange, LineExchange, quiet_o
 ghost use Rattle.agent_commands.specs.Outside.{world, prompt_world};
 ghost use Rattle.agent_commands.specs.Requests.{request_of};
 ghost use Rattle.agent_commands.specs.States.{session_state, prompt_state, AnswersRequest};
-ghost use Rattle.agent_commands.specs.Steps.{CarriesOut, RespondsTo, IsChange, TakesTurn, AsksSecret, IsText, answer_of};
+ghost use Rattle.agent_commands.specs.Steps.{CarriesOut, RespondsTo, IsChange, TakesTurn, AsksSecret, IsText, answer_heard};
 ghost use Rattle.agent_commands.specs.declared.request.CacheCommand.TheVariants as command;
 ghost use Rattle.agent_commands.specs.declared.request.Request.TheVariants as request;
 ghost use Rattle.agent_commands.specs.declared.went.Went.TheVariants as went;
 
 use crate::answer::Answer;
+use crate::client::heard_of_secret;
 use crate::confirmation::get_confirmation;
-use crate::passphrase::{ask_cache, by_prompt, without_prompt};
+use crate::passphrase::{ask_cache, get_by_mode};
 use crate::prompt::{ask_plan, prompt_spec};
-use crate::response::{Response, WriteFault, whole, write_response};
+use crate::response::{Response, write_response};
 use crate::{CacheCommand, Info, QuietRequest, SessionEnd, Went};
-use agent_ask::Prompter;
-use agent_ports::{Link, Sent};
-use assuan_server::{Code, Conn, InquiredSecret};
+use agent_ask::{Heard, Prompter};
+use agent_ports::{Link, Sent, WriteFault};
+use assuan_server::{Code, Conn};
 use cache_policy::{CacheId, Desk, Life, MAX_SECRET_LEN, Mode, Refused, Reply, Secret, Step};
 use itoa::Buffer;
-use session_options::{OptionAnswer, Options, PinMode, Rules};
+use session_options::{OptionAnswer, Options, Rules};
 
 /// Does what a command asks for, answers it, and says how the session goes on. No ticket is out and no prompt is open when it returns.
 // Apart from the session's loop, as `read_request` is.
@@ -115,28 +118,23 @@ fn carry_out<L: Link, D: Desk, P: Prompter>(
             quality,
             id,
             texts,
-        } => {
-            let Some(texts) = texts else {
-                return ask_cache(*plain, id, desk);
-            };
-            if *no_ask {
-                return ask_cache(*plain, id, desk);
+        } => match texts {
+            Some(texts) if !*no_ask => {
+                let spec = prompt_spec(&texts.description, &texts.prompt, *quality, rules, options);
+                let plan = ask_plan(&texts.error, *check, *repeat, rules, options);
+                get_by_mode(
+                    options.mode(),
+                    *plain,
+                    id,
+                    &spec,
+                    &plan,
+                    conn,
+                    desk,
+                    prompter,
+                )
             }
-            match options.mode() {
-                PinMode::Ask => {
-                    let spec = prompt_spec(
-                        &texts.description,
-                        &texts.prompt,
-                        *quality,
-                        rules,
-                        options,
-                    );
-                    let plan = ask_plan(&texts.error, *check, *repeat, rules, options);
-                    by_prompt(*plain, id, &spec, &plan, conn, desk, prompter)
-                }
-                mode => without_prompt(mode, *plain, id, conn, desk),
-            }
-        }
+            _ => ask_cache(*plain, id, desk),
+        },
         CacheCommand::PresetPassphrase { id, life, secret } => {
             preset_passphrase(id, *life, secret, rules, conn, desk)
         }
@@ -245,8 +243,9 @@ fn clear_passphrase<D: Desk>(id: &CacheId, mode: Mode, desk: &mut D) -> Answer
 
 /// Takes a turn that changes the cache. It is answered so once it is done.
 pub(crate) fn take_turn<D: Desk>(step: Step, done: Answer, desk: &mut D) -> Answer
-    requires { IsChange (mark_step step) }
-    ensures takes { TakesTurn D.turned (mark_step step) done desk.old result desk.new }
+    requires changes { IsChange (asked_step step) }
+    requires first { wait_of step ≡ None }
+    ensures takes { TakesTurn D.turned (asked_step step) done desk.old result desk.new }
     ensures out { (D.at desk.new).out ≡ (D.at desk.old).out }
 {
     match desk.turn(step) {
@@ -264,33 +263,25 @@ pub(crate) fn inquire_passphrase<L: Link>(conn: &mut Conn<'_, L>) -> Result<Secr
 {
     let mut digits = Buffer::new();
     match conn.status(b"INQUIRE_MAXLEN", digits.format(MAX_SECRET_LEN).as_bytes()) {
-        Sent::All => passphrase_of(conn.inquire_secret(b"PASSPHRASE", b"")),
+        Sent::All => passphrase_of(heard_of_secret(conn.inquire_secret(b"PASSPHRASE", b""))),
         Sent::Failed { .. } => Err(Answer::silent(SessionEnd::WriteFault)),
     }
 }
 
-fn passphrase_of(inquired: InquiredSecret) -> Result<Secret, Answer>
-    ensures { result ≡ answer_of inquired }
+/// The passphrase that the client was heard to give, or how its request is answered without one.
+fn passphrase_of(heard: Heard) -> Result<Secret, Answer>
+    requires { FitsQuestion (Wanted []) heard }
+    ensures { result ≡ answer_heard heard }
 {
-    Err(match inquired {
-        InquiredSecret::Secret(secret) => return Ok(secret),
-        InquiredSecret::Cancelled => Answer::failed(Code::Cancelled),
-        InquiredSecret::TooMuch => Answer::failed(Code::TooMuch),
-        InquiredSecret::Unexpected => Answer::failed(Code::Unexpected),
-        InquiredSecret::TooLong => Answer::last(
-            Response::Failed(Code::LineTooLong),
-            SessionEnd::TooLong,
-        ),
-        InquiredSecret::Ended => Answer::silent(SessionEnd::Ended),
-        InquiredSecret::Spent => Answer::silent(SessionEnd::Spent),
-        InquiredSecret::ReadFault => Answer::silent(SessionEnd::ReadFault),
-        InquiredSecret::WriteFault => Answer::silent(SessionEnd::WriteFault),
-    })
+    match heard {
+        Heard::Secret(secret) => Ok(secret),
+        heard => Err(Answer::unheard(heard)),
+    }
 }
 
 /// How a command is answered whose step found no memory. The step has no ticket.
 pub(crate) fn without_memory(step: Step) -> Answer
-    requires { closes (mark_step step) ≡ None }
+    requires { closes (asked_step step) ≡ None }
     ensures { result ≡ record { response = Some (Response.Failed Code.NoMemory); went = went.On } }
 {
     match step.into_ticket() {

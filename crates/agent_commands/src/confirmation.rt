@@ -15,9 +15,9 @@ ghost use Rattle.agent_commands.specs.declared.request.Request.TheVariants as re
 
 use crate::answer::Answer;
 use crate::command::without_memory;
-use crate::prompt::{ask_leave, give_back, prompt_spec, unheard};
+use crate::prompt::{ask_leave, prompt_spec};
 use crate::response::Response;
-use agent_ask::{Agreed, PromptSpec, Prompter};
+use agent_ask::{Agreed, PromptSpec, Prompter, give_back};
 use agent_ports::Link;
 use assuan_server::{Code, Conn};
 use assuan_text::Text;
@@ -63,14 +63,18 @@ fn confirm<L: Link, D: Desk, P: Prompter>(
     requires open { IsOpen conn.old }
     requires free { (D.at desk.old).out ≡ None }
     requires shut { IsShut (P.at prompter.old) }
-    ensures carries { Carries {w = prompt_world D.turned P.prompted} (WantsPrompt (Seat None) (UnderTicket (AsksConsent spec.now notify) EndsConsent))
+    ensures carries { Carries {w = prompt_world D.turned P.prompted} (WantsPrompt (Seat None None) (UnderTicket (AsksConsent spec.now notify) EndsConsent))
         (prompt_state D.turned P.prompted conn.old desk.old prompter.old) result (prompt_state D.turned P.prompted conn.new desk.new prompter.new) }
     ensures free { (D.at desk.new).out ≡ None }
     ensures shut { IsShut (P.at prompter.new) }
 {
-    match desk.turn(Step::Seat { under: None }) {
+    match desk.turn(Step::Seat {
+        under: None,
+        wait: None,
+    }) {
         Ok(Reply::Open(ticket)) => confirm_under(ticket, spec, notify, conn, desk, prompter),
         Ok(Reply::Stopping) => Answer::failed(Code::Cancelled),
+        Ok(Reply::Late) => Answer::failed(Code::Timeout),
         Ok(_) => unreachable!(),
         Err(Refused { step }) => without_memory(step),
     }
@@ -109,6 +113,6 @@ fn ending(agreed: Agreed) -> Answer
         Agreed::Cancelled => Answer::failed_at_pinentry(Code::Cancelled),
         Agreed::TimedOut => Answer::failed_at_pinentry(Code::Timeout),
         Agreed::NoPinentry => Answer::failed(Code::NoPinentry),
-        Agreed::Heard(heard) => unheard(heard),
+        Agreed::Heard(heard) => Answer::unheard(heard),
     }
 }

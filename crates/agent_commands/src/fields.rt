@@ -4,7 +4,7 @@ ghost use Rattle.hex.specs.Hex.{decode_of};
 ghost use Rattle.assuan_text.specs.Words.{words};
 ghost use Rattle.assuan_text.specs.Options.{options_of, last_option, last_value};
 ghost use Rattle.assuan_text.specs.declared.TheConstants.{MAX_LINE_LEN};
-ghost use Rattle.agent_commands.specs.Fields.{cache_id, unless_placeholder, text_or, texts, has_texts, repeats, life, life_of_seconds, mode_of, passphrase, given_passphrase};
+ghost use Rattle.agent_commands.specs.Fields.{cache_id, unless_placeholder, text_or, texts, has_texts, repeats, life, life_of_seconds, cleared_mode, passphrase, given_passphrase};
 
 use crate::Texts;
 use assuan_escape::unescape;
@@ -129,7 +129,7 @@ fn life_of_seconds(seconds: u64) -> Option<Life>
 
 /// The mode of this name.
 fn mode_named(name: &[u8]) -> Option<Mode>
-    ensures { result ≡ mode_of (Some name.now) }
+    ensures { result ≡ cleared_mode (Some name.now) }
 {
     if name == NORMAL {
         Some(Mode::Normal)
@@ -142,7 +142,7 @@ fn mode_named(name: &[u8]) -> Option<Mode>
 
 /// The mode that is cleared, by the options of the text.
 pub(crate) fn cleared_mode(text: &[u8]) -> Option<Mode>
-    ensures { result ≡ mode_of (last_value (codes "--mode") (options_of (words text.now))) }
+    ensures { result ≡ cleared_mode (last_value (codes "--mode") (options_of (words text.now))) }
 {
     let Some(name) = last_value(text, MODE) else {
         return Some(Mode::User);

@@ -17,11 +17,9 @@ mod response;
 mod tests;
 mod went;
 
-pub use client::MAX_NOTE_LEN;
 pub use command::{run_cache, run_quiet};
 pub use fields::MAX_REPEAT;
 pub use names::{COMMANDS, CommandName, commands_are_as_defined};
 pub use read::{read_quiet, read_request};
 pub use request::{CacheCommand, Info, QuietRequest, Request, Texts};
-pub use response::{WriteFault, whole};
 pub use went::{SessionEnd, Went};

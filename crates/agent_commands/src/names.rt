@@ -1,6 +1,6 @@
 ghost use Rattle.std.specs.Prelude.{◌≡◌, map};
 ghost use Rattle.agent_commands.specs.declared.names.TheConstants.{COMMANDS};
-ghost use Rattle.agent_commands.specs.Names.{commands, command_named, info_named, is_listed};
+ghost use Rattle.agent_commands.specs.Names.{commands, command_named, is_key_command, info_named, is_listed};
 
 use crate::Info;
 use assuan_text::{found, found_in_any_case, has_pair};
@@ -38,6 +38,17 @@ pub const COMMANDS: [(&[u8], CommandName); 12] = [
     (b"KILLAGENT", CommandName::KillAgent),
 ];
 
+/// The commands on keys. None is carried out yet, and HELP leaves them out.
+const KEY_COMMANDS: [(&[u8], ()); 7] = [
+    (b"HAVEKEY", ()),
+    (b"KEYINFO", ()),
+    (b"KEYWRAP_KEY", ()),
+    (b"IMPORT_KEY", ()),
+    (b"EXPORT_KEY", ()),
+    (b"PASSWD", ()),
+    (b"DELETE_KEY", ()),
+];
+
 /// A law: `COMMANDS` has the names as they are defined, in this order.
 pub fn commands_are_as_defined()
     ensures { map (λ row. (row.0.now, row.1)) COMMANDS ≡ commands }
@@ -69,6 +80,14 @@ pub(crate) fn command_named(word: &[u8]) -> Option<CommandName>
     ensures { result ≡ command_named word.now }
 {
     found_in_any_case(word, &COMMANDS)
+}
+
+/// Whether a command on keys has this name, whatever the case of its letters.
+#[tactic(auto, unfolding(crate::specs::Names::is_key_command))]
+pub(crate) fn is_key_command(word: &[u8]) -> bool
+    ensures { result ≡ is_key_command word.now }
+{
+    found_in_any_case(word, &KEY_COMMANDS).is_some()
 }
 
 #[tactic(auto, unfolding(crate::specs::Names::info_named))]

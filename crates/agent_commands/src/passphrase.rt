@@ -4,19 +4,19 @@ ghost use Rattle.std.specs.Prelude.{◌≡◌, ◌≢◌, None, Some, ⊤};
 ghost use Rattle.agent_ask.specs.Prompters.{IsShut};
 ghost use Rattle.agent_ask.specs.Prompts.{AsksPin};
 ghost use Rattle.assuan_server.specs.Connections.{Connection, IsOpen};
-ghost use Rattle.cache_policy.specs.Turns.{mark_step};
+ghost use Rattle.cache_policy.specs.Turns.{asked_step, wait_of};
 ghost use Rattle.session_options.specs.declared.options.PinMode.TheVariants as pin_mode;
 ghost use Rattle.agent_commands.specs.Exchanges.{LooksFirst, Refuses, WithoutPrompt, ByPrompt, EndsPin, want};
 ghost use Rattle.agent_commands.specs.Outside.{world, prompt_world};
 ghost use Rattle.agent_commands.specs.Prompting.{UnderTicket};
 ghost use Rattle.agent_commands.specs.States.{session_state, prompt_state};
-ghost use Rattle.agent_commands.specs.Steps.{Carries, LooksUp, KeepsSecret, HasNoPin, answer_without_pin};
+ghost use Rattle.agent_commands.specs.Steps.{Carries, ByMode, LooksUp, KeepsSecret, HasNoPin, answer_without_pin};
 
 use crate::answer::Answer;
 use crate::command::{inquire_passphrase, take_turn, without_memory};
-use crate::prompt::{ask_user, give_back, unheard};
+use crate::prompt::ask_user;
 use crate::response::Response;
-use agent_ask::{AskPlan, Asked, PromptSpec, Prompter};
+use agent_ask::{AskPlan, Asked, PromptSpec, Prompter, give_back};
 use agent_ports::Link;
 use assuan_server::{Code, Conn};
 use cache_policy::{CacheId, Desk, Life, Mode, Refused, Reply, Secret, Step, Way};
@@ -35,6 +35,31 @@ pub(crate) fn ask_cache<D: Desk>(plain: bool, id: &Option<CacheId>, desk: &mut D
     }
 }
 
+/// A passphrase from the cache, or else as the client wants it: by a prompt, or without one.
+pub(crate) fn get_by_mode<L: Link, D: Desk, P: Prompter>(
+    mode: PinMode,
+    plain: bool,
+    id: &Option<CacheId>,
+    spec: &PromptSpec,
+    plan: &AskPlan,
+    conn: &mut Conn<'_, L>,
+    desk: &mut D,
+    prompter: &mut P,
+) -> Answer
+    requires open { IsOpen conn.old }
+    requires free { (D.at desk.old).out ≡ None }
+    requires shut { IsShut (P.at prompter.old) }
+    ensures carries { Carries {w = prompt_world D.turned P.prompted} (ByMode spec.now plan.now plain id.now mode)
+        (prompt_state D.turned P.prompted conn.old desk.old prompter.old) result (prompt_state D.turned P.prompted conn.new desk.new prompter.new) }
+    ensures free { (D.at desk.new).out ≡ None }
+    ensures shut { IsShut (P.at prompter.new) }
+{
+    match mode {
+        PinMode::Ask => by_prompt(plain, id, spec, plan, conn, desk, prompter),
+        mode => without_prompt(mode, plain, id, conn, desk),
+    }
+}
+
 /// Looks into the cache, where there is an id. Where that ends the request, it gives how it is answered.
 fn look<D: Desk>(plain: bool, id: &Option<CacheId>, desk: &mut D) -> Option<Answer>
     ensures looks { LooksUp D.turned plain id.now desk.old result desk.new }
@@ -47,6 +72,7 @@ fn look<D: Desk>(plain: bool, id: &Option<CacheId>, desk: &mut D) -> Option<Answ
         id: id.copy(),
         mode: Mode::User,
         way: Way::Quiet,
+        wait: None,
     }) {
         Ok(Reply::Given(grant)) => Some(Answer::on(Response::Given { grant, plain })),
         Ok(Reply::Empty) => None,
@@ -57,7 +83,7 @@ fn look<D: Desk>(plain: bool, id: &Option<CacheId>, desk: &mut D) -> Option<Answ
 }
 
 /// A passphrase from the cache, or else as the client wants it where it wants no prompt.
-pub(crate) fn without_prompt<L: Link, D: Desk>(
+fn without_prompt<L: Link, D: Desk>(
     mode: PinMode,
     plain: bool,
     id: &Option<CacheId>,
@@ -121,7 +147,7 @@ fn keep<D: Desk>(plain: bool, id: &Option<CacheId>, secret: Secret, desk: &mut D
 }
 
 /// A passphrase from the cache, or else by a prompt.
-pub(crate) fn by_prompt<L: Link, D: Desk, P: Prompter>(
+fn by_prompt<L: Link, D: Desk, P: Prompter>(
     plain: bool,
     id: &Option<CacheId>,
     spec: &PromptSpec,
@@ -142,6 +168,7 @@ pub(crate) fn by_prompt<L: Link, D: Desk, P: Prompter>(
         Ok(Reply::Given(grant)) => Answer::on(Response::Given { grant, plain }),
         Ok(Reply::Open(ticket)) => { prompt_under(ticket, plain, spec, plan, conn, desk, prompter) }
         Ok(Reply::Stopping) => Answer::failed(Code::Cancelled),
+        Ok(Reply::Late) => Answer::failed(Code::Timeout),
         Ok(_) => unreachable!(),
         Err(Refused { step }) => without_memory(step),
     }
@@ -149,14 +176,19 @@ pub(crate) fn by_prompt<L: Link, D: Desk, P: Prompter>(
 
 /// The step that wants the prompt for a passphrase. Without an id the cache has nothing to do with it.
 fn wanting(id: &Option<CacheId>) -> Step
-    ensures { mark_step result ≡ want id.now }
+    ensures wants { asked_step result ≡ want id.now }
+    ensures first { wait_of result ≡ None }
 {
     match id {
-        None => Step::Seat { under: None },
+        None => Step::Seat {
+            under: None,
+            wait: None,
+        },
         Some(id) => Step::Ask {
             id: id.copy(),
             mode: Mode::User,
             way: Way::Prompt,
+            wait: None,
         },
     }
 }
@@ -201,7 +233,7 @@ fn without_pin(asked: Asked) -> Answer
         Asked::TimedOut => Answer::failed_at_pinentry(Code::Timeout),
         Asked::NoPinentry => Answer::failed(Code::NoPinentry),
         Asked::Bad => Answer::failed(Code::BadPass),
-        Asked::Heard(heard) => unheard(heard),
+        Asked::Heard(heard) => Answer::unheard(heard),
         Asked::Pin(_) | Asked::NoMemory => unreachable!(),
     }
 }

@@ -1,28 +1,19 @@
 //! A prompt for a session's client, and the ticket under which it stands.
 
-ghost use Rattle.std.specs.Prelude.{◌≡◌, ◌≢◌, Some, None, ⊤};
+ghost use Rattle.std.specs.Prelude.{◌≡◌, ◌≢◌, ⊤};
 ghost use Rattle.agent_ask.specs.Consents.{AsksConsent};
 ghost use Rattle.agent_ask.specs.Doing.{HasEvents, DoesPrompt, ends};
 ghost use Rattle.agent_ask.specs.Listening.{ListensAfterPin, ListensAfterConsent};
 ghost use Rattle.agent_ask.specs.Prompters.{IsShut};
 ghost use Rattle.agent_ask.specs.Prompts.{AsksPin};
 ghost use Rattle.assuan_server.specs.Connections.{IsOpen};
-ghost use Rattle.cache_policy.specs.declared.mark.MarkStep.TheVariants.{Close};
-ghost use Rattle.cache_policy.specs.Turns.{Turn};
 ghost use Rattle.agent_commands.specs.Clients.{Hears};
 ghost use Rattle.agent_commands.specs.Prompting.{IsSpec, plan_of};
-ghost use Rattle.agent_commands.specs.Steps.{answer_unheard, IsUnheardBy};
 
-use crate::SessionEnd;
-use crate::answer::Answer;
 use crate::client::{Client, LentClient};
-use crate::response::Response;
-use agent_ask::{
-    Agreed, AskPlan, Asked, Gone, Heard, PromptSpec, Prompter, Test, Tested, ask_consent, ask_pin,
-};
-use assuan_server::Code;
+use agent_ask::{Agreed, AskPlan, Asked, PromptSpec, Prompter, Test, Tested, ask_consent, ask_pin};
 use assuan_text::Text;
-use cache_policy::{Desk, Reply, Secret, Step};
+use cache_policy::Secret;
 use prompt_seat::Ticket;
 use session_options::{Options, Rules};
 
@@ -174,37 +165,4 @@ fn ask_consent_of<C: Client, P: Prompter>(
     ensures name { lent.new.name ≡ lent.old.name }
 {
     ask_consent(ticket, spec, notify, prompter, lent)
-}
-
-/// Gives a ticket back, with the passphrase that is kept. What that is replied decides nothing.
-pub(crate) fn give_back<D: Desk>(ticket: Ticket, keep: Option<Secret>, desk: &mut D)
-    requires out { (D.at desk.old).out ≡ Some ticket }
-    ensures turned { (turn : Turn) × D.turned desk.old (Close ticket keep) turn desk.new }
-    ensures free { (D.at desk.new).out ≡ None }
-{
-    match desk.turn(Step::Close { ticket, keep }) {
-        Ok(Reply::Done | Reply::Stopping) => {}
-        Ok(_) | Err(_) => unreachable!(),
-    }
-}
-
-/// How a request ends whose client didn't take note of a prompt.
-pub(crate) fn unheard(heard: Heard) -> Answer
-    requires { IsUnheardBy heard }
-    ensures { result ≡ answer_unheard heard }
-{
-    match heard {
-        Heard::Cancelled => Answer::failed(Code::Cancelled),
-        Heard::TooMuch => Answer::failed(Code::TooMuch),
-        Heard::Unexpected => Answer::failed(Code::Unexpected),
-        Heard::Gone(Gone::TooLong) => Answer::last(
-            Response::Failed(Code::LineTooLong),
-            SessionEnd::TooLong,
-        ),
-        Heard::Gone(Gone::Ended) => Answer::silent(SessionEnd::Ended),
-        Heard::Gone(Gone::Spent) => Answer::silent(SessionEnd::Spent),
-        Heard::Gone(Gone::ReadFault) => Answer::silent(SessionEnd::ReadFault),
-        Heard::Gone(Gone::WriteFault) => Answer::silent(SessionEnd::WriteFault),
-        Heard::Fine | Heard::Secret(_) => unreachable!(),
-    }
 }

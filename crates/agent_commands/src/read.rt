@@ -1,19 +1,22 @@
-ghost use Rattle.std.specs.Prelude.{◌≡◌, ◌≤◌, length};
+ghost use Rattle.std.specs.Prelude.{◌≡◌, ◌≤◌, length, if◌then◌else◌, Err, MatchOption, IfSome};
 ghost use Rattle.assuan_text.specs.declared.TheConstants.{MAX_LINE_LEN};
 ghost use Rattle.assuan_text.specs.Options.{options_of, arguments_of};
 ghost use Rattle.assuan_text.specs.Words.{words};
 ghost use Rattle.agent_commands.specs.Exchanges.{quiet_of};
-ghost use Rattle.agent_commands.specs.Requests.{request_of, command_in, either, info_of, listed_info, get_of, preset_of, clear_of, confirmation_of};
+ghost use Rattle.agent_commands.specs.Fields.{text};
+ghost use Rattle.agent_commands.specs.Names.{is_key_command};
+ghost use Rattle.agent_commands.specs.Requests.{request_of, asked_by, either, info_of, listed_info, get_of, HasHead, preset_of, clear_of, confirmation_of};
 
 use crate::fields::{
     cache_id, cleared_mode, given_passphrase, has_texts, life, repeats, text_or, texts,
     unless_placeholder,
 };
-use crate::names::{CommandName, HAS_OPTION, command_named, info_named, is_listed};
+use crate::names::{CommandName, HAS_OPTION, command_named, info_named, is_key_command, is_listed};
 use crate::{CacheCommand, Info, QuietRequest, Request};
 use assuan_line::Line;
 use assuan_server::Code;
 use assuan_text::{Text, arguments, command_and_rest, has_option, next_word};
+use cache_policy::CacheId;
 
 /// Reads a line as what it asks for.
 ///
@@ -24,17 +27,34 @@ use assuan_text::{Text, arguments, command_and_rest, has_option, next_word};
 pub fn read_request(line: &Line) -> Request
     ensures { result ≡ request_of line.now }
 {
-    match read_command(line) {
+    let (word, rest) = command_and_rest(line.bytes());
+    let Some(name) = command_named(word) else {
+        return read_other(word, line.bytes());
+    };
+    match read_command(name, rest) {
         Ok(command) => Request::Cache(command),
         Err(code) => Request::Bad(code),
     }
 }
 
-fn read_command(line: &Line) -> Result<CacheCommand, Code>
-    ensures { result ≡ command_in line.now }
+/// A line that begins with none of the commands on the cache.
+fn read_other(word: &[u8], line: &[u8]) -> Request
+    requires { length line.now ≤ MAX_LINE_LEN }
+    ensures { result ≡ (if is_key_command word.now then Request.Key (text line.now) else Request.Bad Code.UnknownCommand) }
 {
-    let (word, rest) = command_and_rest(line.bytes());
-    match command_named(word).ok_or(Code::UnknownCommand)? {
+    if is_key_command(word) {
+        Request::Key(text_of(line))
+    } else {
+        Request::Bad(Code::UnknownCommand)
+    }
+}
+
+/// What comes after a command of this name.
+fn read_command(name: CommandName, rest: &[u8]) -> Result<CacheCommand, Code>
+    requires { length rest.now ≤ MAX_LINE_LEN }
+    ensures { result ≡ asked_by name rest.now }
+{
+    match name {
         CommandName::Nop => Ok(CacheCommand::Nop),
         CommandName::Reset => Ok(CacheCommand::Reset),
         CommandName::Bye => Ok(CacheCommand::Bye),
@@ -90,9 +110,9 @@ fn read_get(text: &[u8]) -> Result<CacheCommand, Code>
     requires { length text.now ≤ MAX_LINE_LEN }
     ensures { result ≡ get_of (options_of (words text.now)) (arguments_of (words text.now)) }
 {
-    let (word, rest) = next_word(arguments(text)).ok_or(Code::Parameter)?;
-    let repeat = repeats(text).ok_or(Code::Parameter)?;
-    let id = cache_id(word).ok_or(Code::Parameter)?;
+    let Some((repeat, id, rest)) = repeat_and_id(text) else {
+        return Err(Code::Parameter);
+    };
     let texts = texts(rest).ok_or(Code::Parameter)?;
     Ok(CacheCommand::GetPassphrase {
         plain: has_option(text, b"--data"),
@@ -103,6 +123,18 @@ fn read_get(text: &[u8]) -> Result<CacheCommand, Code>
         id: unless_placeholder(id),
         texts,
     })
+}
+
+/// How often a new passphrase is asked for again, the id, and the words after it, where a GET_PASSPHRASE has both in form.
+fn repeat_and_id(text: &[u8]) -> Option<(u8, CacheId, &[u8])>
+    ensures known { MatchOption result (get_of (options_of (words text.now)) (arguments_of (words text.now)) ≡ Err Code.Parameter)
+        (λ head. HasHead (options_of (words text.now)) (arguments_of (words text.now)) head.0 head.1 (words head.2.now)) }
+    ensures short { IfSome result (λ head. length head.2.now ≤ length text.now) }
+{
+    let (word, rest) = next_word(arguments(text))?;
+    let repeat = repeats(text)?;
+    let id = cache_id(word)?;
+    Some((repeat, id, rest))
 }
 
 /// Reads a line that asks the cache alone for a passphrase, as GET_PASSPHRASE does with `--no-ask` or without texts. `None` for any
@@ -125,9 +157,9 @@ pub fn read_quiet(line: &Line) -> Option<QuietRequest>
 fn read_quiet_get(text: &[u8]) -> Option<QuietRequest>
     ensures { result ≡ quiet_of (either (get_of (options_of (words text.now)) (arguments_of (words text.now)))) }
 {
-    let (word, rest) = next_word(arguments(text))?;
-    repeats(text)?;
-    let id = cache_id(word)?;
+    let Some((_, id, rest)) = repeat_and_id(text) else {
+        return None;
+    };
     if has_texts(rest)? && !has_option(text, b"--no-ask") {
         return None;
     }

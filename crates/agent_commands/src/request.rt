@@ -6,6 +6,8 @@ use cache_policy::{CacheId, Life, Mode, Secret};
 #[derive(Drop)]
 pub enum Request {
     Cache(CacheCommand),
+    /// A line whose word is a command on keys. The rest of it isn't read.
+    Key(Text),
     /// The line is refused.
     Bad(Code),
 }

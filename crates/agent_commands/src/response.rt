@@ -2,14 +2,14 @@ ghost use Rattle.std.specs.Prelude.{◌≡◌, ◌++◌, ℕ, List};
 ghost use Rattle.std.specs.List.{flat_map};
 ghost use Rattle.assuan_text.specs.LineEnds.{line_of};
 ghost use Rattle.assuan_escape.specs.Escapes.{hex_text};
-ghost use Rattle.assuan_server.specs.Written.{comment_text, ok_text, HasWritten};
+ghost use Rattle.assuan_server.specs.Written.{comment_text, ok_text};
 ghost use Rattle.agent_commands.specs.Names.{command_names};
-ghost use Rattle.agent_commands.specs.Answers.{IsData, IsPassphrase, help};
+ghost use Rattle.agent_commands.specs.Answers.{IsDataAnswer, IsPassphrase, help};
 ghost use Rattle.agent_commands.specs.States.{WritesText};
 ghost use Rattle.agent_commands.specs.Steps.{IsText};
 
 use crate::COMMANDS;
-use agent_ports::{Link, Sent};
+use agent_ports::{Link, WriteFault};
 use assuan_escape::upper_hex;
 use assuan_server::{Code, Conn, Origin};
 use cache_policy::{Grant, Secret};
@@ -42,9 +42,6 @@ pub(crate) enum Response {
     FailedAtPinentry(Code),
 }
 
-/// A write failed.
-pub struct WriteFault;
-
 /// Writes a response.
 pub(crate) fn write_response<L: Link>(
     conn: &mut Conn<'_, L>,
@@ -53,15 +50,15 @@ pub(crate) fn write_response<L: Link>(
     ensures { (text : List ℕ) × IsText response.now text × WritesText text conn.old result conn.new }
 {
     match response {
-        Response::Ok => whole(conn.ok(b"")),
-        Response::Closing => whole(conn.ok(b"closing connection")),
+        Response::Ok => conn.ok(b"").whole(),
+        Response::Closing => conn.ok(b"closing connection").whole(),
         Response::Help => write_help(conn),
         Response::Version => write_data(conn, VERSION),
         Response::Number(number) => write_data(conn, Buffer::new().format(*number).as_bytes()),
         Response::Given { grant, plain } => write_passphrase(conn, grant.secret(), *plain),
         Response::Passphrase { secret, plain } => write_passphrase(conn, secret, *plain),
-        Response::Failed(code) => whole(conn.err(*code, Origin::Agent)),
-        Response::FailedAtPinentry(code) => whole(conn.err(*code, Origin::Pinentry)),
+        Response::Failed(code) => conn.err(*code, Origin::Agent).whole(),
+        Response::FailedAtPinentry(code) => conn.err(*code, Origin::Pinentry).whole(),
     }
 }
 
@@ -82,19 +79,20 @@ fn write_passphrase<L: Link>(
 
 /// Writes these bytes as data lines, and that this is all.
 fn write_data<L: Link>(conn: &mut Conn<'_, L>, bytes: &[u8]) -> Result<(), WriteFault>
-    ensures { (text : List ℕ) × IsData bytes.now text × WritesText text conn.old result conn.new }
+    ensures { (text : List ℕ) × IsDataAnswer bytes.now text × WritesText text conn.old result conn.new }
 {
-    whole(conn.last_data(bytes))
+    conn.last_data(bytes).whole()
 }
 
 /// Writes that all is well, with a secret in hexadecimal digits, which are overwritten.
+#[tactic(auto, using(crate::proofs::Saying::said))]
 fn write_digits<L: Link>(conn: &mut Conn<'_, L>, secret: &Secret) -> Result<(), WriteFault>
     ensures { WritesText (line_of (ok_text (hex_text secret.now))) conn.old result conn.new }
 {
     let mut digits = upper_hex(secret.bytes());
     let sent = conn.ok(&digits);
     wipe(&mut digits);
-    whole(sent)
+    sent.whole()
 }
 
 /// Writes a comment for each command, and that this is all.
@@ -102,17 +100,7 @@ fn write_help<L: Link>(conn: &mut Conn<'_, L>) -> Result<(), WriteFault>
     ensures { WritesText help conn.old result conn.new }
 {
     for (name, _) in COMMANDS {
-        whole(conn.comment(name))?;
+        conn.comment(name).whole()?;
     }
-    whole(conn.ok(b""))
-}
-
-/// Whether a write went whole.
-pub fn whole(sent: Sent) -> Result<(), WriteFault>
-    ensures { (text : List ℕ) (before after : _) → HasWritten text before sent after → WritesText text before result after }
-{
-    match sent {
-        Sent::All => Ok(()),
-        Sent::Failed { .. } => Err(WriteFault),
-    }
+    conn.ok(b"").whole()
 }

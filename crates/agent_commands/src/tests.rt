@@ -1,397 +1,344 @@
 use super::*;
 use arrayvec::ArrayVec;
 use assuan_line::Line;
-use assuan_server::Code;
-use cache_policy::{Life, Mode};
+use cache_policy::CacheId;
+use std::alloc::{AllocError, Global};
 use std::test::Fail;
 
-fn request(bytes: &[u8]) -> Result<Request, Fail> {
-    let line = Line::of(bytes).ok_or("no line")?;
-    Ok(read_request(&line))
+fn text(bytes: &[u8]) -> &str {
+    str::from_utf8(bytes).unwrap_or("(no text)")
 }
 
-/// A line of these bytes, and so many of one byte after them.
-fn long_line(front: &[u8], byte: u8, count: usize) -> Result<ArrayVec<u8, 1001>, Fail> {
-    let mut line = ArrayVec::new();
-    line.try_extend_from_slice(front).ok().ok_or("too long")?;
-    for _ in 0..count {
-        line.try_push(byte).ok().ok_or("too long")?;
+fn flag(is: bool, letter: char) -> char {
+    if is { letter } else { '-' }
+}
+
+/// A passphrase in hexadecimal digits, so that any bytes can be told.
+fn digits(alloc: Global, bytes: &[u8]) -> Result<String, AllocError> {
+    let mut told = String::new(alloc);
+    for byte in bytes {
+        told.push_str(format!(in alloc; "{byte:02x}")?.as_str())?;
     }
-    Ok(line)
+    Ok(told)
 }
 
-const REFUSALS: [(&[u8], Code); 41] = [
-    (b"", Code::UnknownCommand),
-    (b" \t", Code::UnknownCommand),
-    (b"# comment", Code::UnknownCommand),
-    (b"FOO", Code::UnknownCommand),
-    (b"NOPE", Code::UnknownCommand),
-    (b"NO", Code::UnknownCommand),
-    (b"GET_PASSPHRASE=id1", Code::UnknownCommand),
-    (b"GETINFO", Code::Parameter),
-    (b"GETINFO --version", Code::Parameter),
-    (b"GETINFO VERSION", Code::Parameter),
-    (b"GETINFO socket_name", Code::Parameter),
-    (b"GETINFO cmd_has_option", Code::Parameter),
-    (b"GETINFO cmd_has_option FOO", Code::Parameter),
-    (b"GETINFO cmd_has_option FOO data", Code::NotSupported),
+/// What a request is, as a text.
+fn told(alloc: Global, request: &Request) -> Result<String, AllocError> {
+    match request {
+        Request::Cache(command) => told_command(alloc, command),
+        Request::Key(line) => format!(in alloc; "key {}", text(line)),
+        Request::Bad(code) => format!(in alloc; "refused {code:?}"),
+    }
+}
+
+fn told_command(alloc: Global, command: &CacheCommand) -> Result<String, AllocError> {
+    match command {
+        CacheCommand::Nop => format!(in alloc; "nop"),
+        CacheCommand::Reset => format!(in alloc; "reset"),
+        CacheCommand::Bye => format!(in alloc; "bye"),
+        CacheCommand::Help => format!(in alloc; "help"),
+        CacheCommand::SetOption { text: given } => format!(in alloc; "option [{}]", text(given)),
+        CacheCommand::GetInfo(info) => format!(in alloc; "info {info:?}"),
+        CacheCommand::GetPassphrase {
+            plain,
+            check,
+            no_ask,
+            repeat,
+            quality,
+            id,
+            texts,
+        } => {
+            let data = flag(*plain, 'd');
+            let checked = flag(*check, 'c');
+            let quiet = flag(*no_ask, 'n');
+            let bar = flag(*quality, 'q');
+            let asked = told_texts(alloc, texts)?;
+            let name = told_id(id);
+            format!(in alloc; "get {name} {data}{checked}{quiet}{repeat}{bar} {asked}")
+        }
+        CacheCommand::PresetPassphrase { id, life, secret } => {
+            let given = match secret {
+                Some(secret) => digits(alloc, secret.bytes())?,
+                None => format!(in alloc; "inquire")?,
+            };
+            format!(in alloc; "preset {} {life:?} {given}", text(id.bytes()))
+        }
+        CacheCommand::ClearPassphrase { id, mode } => {
+            format!(in alloc; "clear {} {mode:?}", text(id.bytes()))
+        }
+        CacheCommand::GetConfirmation { description } => {
+            format!(in alloc; "confirm [{}]", text(description))
+        }
+        CacheCommand::ReloadAgent => format!(in alloc; "reload"),
+        CacheCommand::KillAgent => format!(in alloc; "kill"),
+    }
+}
+
+fn told_id(id: &Option<CacheId>) -> &str {
+    match id {
+        Some(id) => text(id.bytes()),
+        None => "(none)",
+    }
+}
+
+fn told_texts(alloc: Global, texts: &Option<Texts>) -> Result<String, AllocError> {
+    match texts {
+        Some(texts) => {
+            let error = text(&texts.error);
+            let prompt = text(&texts.prompt);
+            format!(in alloc; "[{error}|{prompt}|{}]", text(&texts.description))
+        }
+        None => format!(in alloc; "-"),
+    }
+}
+
+/// What a line asks of the cache alone, or that it asks for something else.
+fn told_quiet(alloc: Global, line: &Line) -> Result<String, AllocError> {
+    match read_quiet(line) {
+        Some(request) => {
+            let data = flag(request.plain, 'd');
+            format!(in alloc; "quiet {} {data}", told_id(&request.id))
+        }
+        None => format!(in alloc; "otherwise"),
+    }
+}
+
+/// The first row whose line is read as something else, with what it is read as. Empty where there is none.
+fn first_wrong(alloc: Global, rows: &[(&str, &str)], quiet: bool) -> Result<String, Fail> {
+    for (bytes, want) in rows {
+        let line = Line::of(bytes.as_bytes()).ok_or("no line")?;
+        let got = if quiet {
+            told_quiet(alloc, &line)?
+        } else {
+            told(alloc, &read_request(&line))?
+        };
+        if got.as_str() != *want {
+            return Ok(format!(in alloc; "{bytes}: {got}")?);
+        }
+    }
+    Ok(String::new(alloc))
+}
+
+const REFUSALS: [(&str, &str); 42] = [
+    ("", "refused UnknownCommand"),
+    (" \t", "refused UnknownCommand"),
+    ("# comment", "refused UnknownCommand"),
+    ("FOO", "refused UnknownCommand"),
+    ("NOPE", "refused UnknownCommand"),
+    ("NO", "refused UnknownCommand"),
+    ("KEYINFOS", "refused UnknownCommand"),
+    ("GET_PASSPHRASE=id1", "refused UnknownCommand"),
+    ("GETINFO", "refused Parameter"),
+    ("GETINFO --version", "refused Parameter"),
+    ("GETINFO VERSION", "refused Parameter"),
+    ("GETINFO socket_name", "refused Parameter"),
+    ("GETINFO cmd_has_option", "refused Parameter"),
+    ("GETINFO cmd_has_option FOO", "refused Parameter"),
+    ("GETINFO cmd_has_option FOO data", "refused NotSupported"),
     (
-        b"GETINFO cmd_has_option get_passphrase data",
-        Code::NotSupported,
+        "GETINFO cmd_has_option get_passphrase data",
+        "refused NotSupported",
     ),
     (
-        b"GETINFO cmd_has_option GET_PASSPHRASE --data",
-        Code::NotSupported,
+        "GETINFO cmd_has_option GET_PASSPHRASE --data",
+        "refused NotSupported",
     ),
     (
-        b"GETINFO cmd_has_option PRESET_PASSPHRASE data",
-        Code::NotSupported,
+        "GETINFO cmd_has_option PRESET_PASSPHRASE data",
+        "refused NotSupported",
     ),
-    (b"GET_PASSPHRASE", Code::Parameter),
-    (b"GET_PASSPHRASE --no-ask", Code::Parameter),
-    (b"GET_PASSPHRASE --repeat=17 id1", Code::Parameter),
-    (b"GET_PASSPHRASE --repeat=001 id1", Code::Parameter),
-    (b"GET_PASSPHRASE --repeat= id1", Code::Parameter),
-    (b"GET_PASSPHRASE --repeat=+1 id1", Code::Parameter),
-    (b"GET_PASSPHRASE id1 error", Code::Parameter),
-    (b"GET_PASSPHRASE id1 error prompt", Code::Parameter),
-    (b"PRESET_PASSPHRASE", Code::Parameter),
-    (b"PRESET_PASSPHRASE id1", Code::Parameter),
-    (b"PRESET_PASSPHRASE id1 -1", Code::Parameter),
-    (b"PRESET_PASSPHRASE --inquire id1 -1 25", Code::Parameter),
-    (b"PRESET_PASSPHRASE id1 -2 25", Code::Parameter),
-    (b"PRESET_PASSPHRASE id1 1s 25", Code::Parameter),
-    (b"PRESET_PASSPHRASE id1 2147483648 25", Code::Parameter),
-    (b"PRESET_PASSPHRASE id1 00000000001 25", Code::Parameter),
-    (b"PRESET_PASSPHRASE id1 -1 255", Code::Parameter),
-    (b"PRESET_PASSPHRASE id1 -1 2g", Code::Parameter),
-    (b"PRESET_PASSPHRASE id1 --inquire 25", Code::Parameter),
-    (b"CLEAR_PASSPHRASE", Code::Parameter),
-    (b"CLEAR_PASSPHRASE --mode=user id1", Code::Parameter),
-    (b"CLEAR_PASSPHRASE --mode=ssh --mode= id1", Code::Parameter),
-    (b"GET_CONFIRMATION", Code::Parameter),
-    (b"GET_CONFIRMATION --frob --", Code::Parameter),
+    ("GET_PASSPHRASE", "refused Parameter"),
+    ("GET_PASSPHRASE --no-ask", "refused Parameter"),
+    ("GET_PASSPHRASE --repeat=17 id1", "refused Parameter"),
+    ("GET_PASSPHRASE --repeat=001 id1", "refused Parameter"),
+    ("GET_PASSPHRASE --repeat= id1", "refused Parameter"),
+    ("GET_PASSPHRASE --repeat=+1 id1", "refused Parameter"),
+    ("GET_PASSPHRASE id1 error", "refused Parameter"),
+    ("GET_PASSPHRASE id1 error prompt", "refused Parameter"),
+    ("PRESET_PASSPHRASE", "refused Parameter"),
+    ("PRESET_PASSPHRASE id1", "refused Parameter"),
+    ("PRESET_PASSPHRASE id1 -1", "refused Parameter"),
+    ("PRESET_PASSPHRASE --inquire id1 -1 25", "refused Parameter"),
+    ("PRESET_PASSPHRASE id1 -2 25", "refused Parameter"),
+    ("PRESET_PASSPHRASE id1 1s 25", "refused Parameter"),
+    ("PRESET_PASSPHRASE id1 2147483648 25", "refused Parameter"),
+    ("PRESET_PASSPHRASE id1 00000000001 25", "refused Parameter"),
+    ("PRESET_PASSPHRASE id1 -1 255", "refused Parameter"),
+    ("PRESET_PASSPHRASE id1 -1 2g", "refused Parameter"),
+    ("PRESET_PASSPHRASE id1 --inquire 25", "refused Parameter"),
+    ("CLEAR_PASSPHRASE", "refused Parameter"),
+    ("CLEAR_PASSPHRASE --mode=user id1", "refused Parameter"),
+    (
+        "CLEAR_PASSPHRASE --mode=ssh --mode= id1",
+        "refused Parameter",
+    ),
+    ("GET_CONFIRMATION", "refused Parameter"),
+    ("GET_CONFIRMATION --frob --", "refused Parameter"),
 ];
 
-/// A line, and whether it is refused with so many of one byte after it.
-const LONG_LINES: [(&[u8], u8, usize, bool); 8] = [
-    (b"NOP", b' ', 997, false),
-    (b"GET_PASSPHRASE ", b'a', 50, false),
-    (b"GET_PASSPHRASE ", b'a', 51, true),
-    (b"PRESET_PASSPHRASE --inquire ", b'a', 51, true),
-    (b"CLEAR_PASSPHRASE ", b'a', 50, false),
-    (b"CLEAR_PASSPHRASE ", b'a', 51, true),
-    (b"PRESET_PASSPHRASE id1 -1 ", b'6', 510, false),
-    (b"PRESET_PASSPHRASE id1 -1 ", b'6', 512, true),
+const READ: [(&str, &str); 56] = [
+    ("nop", "nop"),
+    (" \tReSeT and more", "reset"),
+    ("BYE", "bye"),
+    ("help GETINFO", "help"),
+    ("reloadagent now", "reload"),
+    ("KillAgent", "kill"),
+    ("getinfo version", "info Version"),
+    ("GETINFO\tpid more", "info Pid"),
+    ("GETINFO --frob s2k_count", "info S2kCount"),
+    ("GETINFO -- version", "info Version"),
+    ("GETINFO cmd_has_option GET_PASSPHRASE data", "info Listed"),
+    ("GETINFO cmd_has_option GET_PASSPHRASE check", "info Listed"),
+    (
+        "GETINFO cmd_has_option GET_PASSPHRASE no-ask",
+        "info Listed",
+    ),
+    (
+        "GETINFO cmd_has_option GET_PASSPHRASE repeat",
+        "info Listed",
+    ),
+    (
+        "GETINFO cmd_has_option GET_PASSPHRASE qualitybar",
+        "info Listed",
+    ),
+    (
+        "GETINFO cmd_has_option PRESET_PASSPHRASE inquire x",
+        "info Listed",
+    ),
+    (
+        "GETINFO cmd_has_option CLEAR_PASSPHRASE mode",
+        "info Listed",
+    ),
+    (
+        "OPTION --ttyname = /dev/pts/1",
+        "option [--ttyname = /dev/pts/1]",
+    ),
+    ("option \t s2k-count=65535 ", "option [s2k-count=65535 ]"),
+    ("OPTION -- x", "option [-- x]"),
+    ("OPTION", "option []"),
+    ("GET_PASSPHRASE id1", "get id1 ---0- -"),
+    ("GET_PASSPHRASE --no-ask --data id1", "get id1 d-n0- -"),
+    (
+        "get_passphrase --check --qualitybar --repeat id1",
+        "get id1 -c-1q -",
+    ),
+    (
+        "GET_PASSPHRASE --frob --data=1 --no-as id1",
+        "get id1 ---0- -",
+    ),
+    (
+        "GET_PASSPHRASE --repeat=17 --repeat=16 id1",
+        "get id1 ---16- -",
+    ),
+    (
+        "GET_PASSPHRASE --repeat=2 --repeat --repeats=9 id1",
+        "get id1 ---1- -",
+    ),
+    ("GET_PASSPHRASE --repeat=00 -- id1", "get id1 ---0- -"),
+    ("GET_PASSPHRASE -- --data a b c", "get --data ---0- [a|b|c]"),
+    (
+        "GET_PASSPHRASE --DATA id1 --data x y",
+        "get id1 ---0- [--data|x|y]",
+    ),
+    (
+        "GET_PASSPHRASE X X X X",
+        "get (none) ---0- [|Passphrase:|Please enter the passphrase]",
+    ),
+    (
+        "GET_PASSPHRASE X a+b 100%25 %c3%A9%2B more",
+        "get (none) ---0- [a b|100%|\u{e9}+]",
+    ),
+    ("GET_PASSPHRASE X x %58 XX", "get (none) ---0- [x|X|XX]"),
+    ("PRESET_PASSPHRASE id1 -1 25", "preset id1 Endless 25"),
+    (
+        "preset_passphrase --frob id1 0 736563726574 more",
+        "preset id1 Default 736563726574",
+    ),
+    (
+        "PRESET_PASSPHRASE X 0000000010 c3A9",
+        "preset X Seconds(10) c3a9",
+    ),
+    (
+        "PRESET_PASSPHRASE -- --id 2147483647 00",
+        "preset --id Seconds(2147483647) 00",
+    ),
+    (
+        "PRESET_PASSPHRASE --inquire id1 -1",
+        "preset id1 Endless inquire",
+    ),
+    (
+        "PRESET_PASSPHRASE --inquire=1 id1 000 ff",
+        "preset id1 Default ff",
+    ),
+    ("CLEAR_PASSPHRASE id1", "clear id1 User"),
+    ("clear_passphrase --mode id1 more", "clear id1 User"),
+    ("CLEAR_PASSPHRASE --mode=normal X", "clear X Normal"),
+    ("CLEAR_PASSPHRASE --mode=ssh --mode id1", "clear id1 Ssh"),
+    (
+        "CLEAR_PASSPHRASE --mode=x --mode=ssh -- --id",
+        "clear --id Ssh",
+    ),
+    ("CLEAR_PASSPHRASE id1 --mode=ssh", "clear id1 User"),
+    ("GET_CONFIRMATION Really+send", "confirm [Really send]"),
+    ("get_confirmation X", "confirm [Please confirm]"),
+    ("GET_CONFIRMATION --frob -- --x%21 more", "confirm [--x!]"),
+    ("GET_CONFIRMATION x", "confirm [x]"),
+    ("HAVEKEY", "key HAVEKEY"),
+    ("keyinfo --list", "key keyinfo --list"),
+    (" KEYWRAP_KEY --export", "key  KEYWRAP_KEY --export"),
+    ("Import_Key", "key Import_Key"),
+    ("EXPORT_KEY \t", "key EXPORT_KEY \t"),
+    ("PASSWD --verify x", "key PASSWD --verify x"),
+    ("DELETE_KEY x", "key DELETE_KEY x"),
+];
+
+const QUIET: [(&str, &str); 8] = [
+    ("GET_PASSPHRASE --no-ask --data id1 X X X", "quiet id1 d"),
+    ("get_passphrase id1", "quiet id1 -"),
+    ("GET_PASSPHRASE --no-ask X", "quiet (none) -"),
+    ("GET_PASSPHRASE --data id1 X X X", "otherwise"),
+    ("GET_PASSPHRASE --no-ask id1 X X", "otherwise"),
+    ("GET_PASSPHRASE --repeat=17 id1", "otherwise"),
+    ("GET_PASSPHRASE", "otherwise"),
+    ("NOP", "otherwise"),
 ];
 
 #[test]
-fn refusals_have_their_codes(rt: HostRuntime) -> Result<(), Fail> {
-    for (line, code) in REFUSALS {
-        let answer = request(line)?;
-        assert!(rt;
-            matches!(&answer, Request::Bad(known) if *known == code),
-            "at {line:?}"
-        );
-    }
-    for (front, byte, count, refused) in LONG_LINES {
-        let answer = request(&long_line(front, byte, count)?)?;
-        assert_eq!(rt;
-            matches!(&answer, Request::Bad(Code::Parameter)),
-            refused,
-            "at {front:?}"
-        );
-    }
-    Ok(())
-}
-
-const INFOS: [(&[u8], Info); 11] = [
-    (b"getinfo version", Info::Version),
-    (b"GETINFO\tpid more", Info::Pid),
-    (b"GETINFO --frob s2k_count", Info::S2kCount),
-    (b"GETINFO -- version", Info::Version),
-    (b"GETINFO cmd_has_option GET_PASSPHRASE data", Info::Listed),
-    (b"GETINFO cmd_has_option GET_PASSPHRASE check", Info::Listed),
-    (
-        b"GETINFO cmd_has_option GET_PASSPHRASE no-ask",
-        Info::Listed,
-    ),
-    (
-        b"GETINFO cmd_has_option GET_PASSPHRASE repeat",
-        Info::Listed,
-    ),
-    (
-        b"GETINFO cmd_has_option GET_PASSPHRASE qualitybar",
-        Info::Listed,
-    ),
-    (
-        b"GETINFO cmd_has_option PRESET_PASSPHRASE inquire x",
-        Info::Listed,
-    ),
-    (
-        b"GETINFO cmd_has_option CLEAR_PASSPHRASE mode",
-        Info::Listed,
-    ),
-];
-
-const OPTION_TEXTS: [(&[u8], &[u8]); 4] = [
-    (b"OPTION --ttyname = /dev/pts/1", b"--ttyname = /dev/pts/1"),
-    (b"option \t s2k-count=65535 ", b"s2k-count=65535 "),
-    (b"OPTION -- x", b"-- x"),
-    (b"OPTION", b""),
-];
-
-#[test]
-fn commands_are_known_in_any_case(rt: HostRuntime) -> Result<(), Fail> {
-    use CacheCommand::{Bye, GetInfo, Help, KillAgent, Nop, ReloadAgent, Reset, SetOption};
-    assert!(rt; matches!(request(b"nop")?, Request::Cache(Nop)));
-    assert!(rt; matches!(request(b" \tReSeT and more")?, Request::Cache(Reset)));
-    assert!(rt; matches!(request(b"BYE")?, Request::Cache(Bye)));
-    assert!(rt; matches!(request(b"help GETINFO")?, Request::Cache(Help)));
-    assert!(rt; matches!(request(b"reloadagent now")?, Request::Cache(ReloadAgent)));
-    assert!(rt; matches!(request(b"KillAgent")?, Request::Cache(KillAgent)));
-    for (line, info) in INFOS {
-        let answer = request(line)?;
-        assert!(rt;
-            matches!(&answer, Request::Cache(GetInfo(known)) if *known == info),
-            "at {line:?}"
-        );
-    }
-    for (line, kept) in OPTION_TEXTS {
-        let answer = request(line)?;
-        assert!(rt;
-            matches!(&answer, Request::Cache(SetOption { text }) if text.as_slice() == kept),
-            "at {line:?}"
-        );
-    }
+fn lines_are_read(rt: HostRuntime) -> Result<(), Fail> {
+    let alloc = rt.alloc();
+    assert_eq!(rt; first_wrong(alloc, &REFUSALS, false)?.as_str(), "");
+    assert_eq!(rt; first_wrong(alloc, &READ, false)?.as_str(), "");
+    assert_eq!(rt; first_wrong(alloc, &QUIET, true)?.as_str(), "");
     commands_are_as_defined();
     Ok(())
 }
 
-/// `--data`, `--check`, `--no-ask`, `--repeat` and `--qualitybar`.
-type GetOptions = (bool, bool, bool, u8, bool);
-
-const GETS: [(&[u8], GetOptions); 9] = [
-    (b"GET_PASSPHRASE id1", (false, false, false, 0, false)),
-    (
-        b"GET_PASSPHRASE --no-ask --data id1",
-        (true, false, true, 0, false),
-    ),
-    (
-        b"get_passphrase --check --qualitybar --repeat id1",
-        (false, true, false, 1, true),
-    ),
-    (
-        b"GET_PASSPHRASE --frob --data=1 --no-as id1",
-        (false, false, false, 0, false),
-    ),
-    (
-        b"GET_PASSPHRASE --repeat=17 --repeat=16 id1",
-        (false, false, false, 16, false),
-    ),
-    (
-        b"GET_PASSPHRASE --repeat=2 --repeat --repeats=9 id1",
-        (false, false, false, 1, false),
-    ),
-    (
-        b"GET_PASSPHRASE --repeat=00 -- id1",
-        (false, false, false, 0, false),
-    ),
-    (
-        b"GET_PASSPHRASE -- --data a b c",
-        (false, false, false, 0, false),
-    ),
-    (
-        b"GET_PASSPHRASE --DATA id1 --data x y",
-        (false, false, false, 0, false),
-    ),
-];
-
-const TEXTS: [(&[u8], &[u8], &[u8], &[u8]); 3] = [
-    (
-        b"GET_PASSPHRASE X X X X",
-        b"",
-        b"Passphrase:",
-        b"Please enter the passphrase",
-    ),
-    (
-        b"GET_PASSPHRASE X a+b 100%25 %c3%A9%2B more",
-        b"a b",
-        b"100%",
-        b"\xC3\xA9+",
-    ),
-    (b"GET_PASSPHRASE X x %58 XX", b"x", b"X", b"XX"),
+/// A line, and whether it is refused by its fields with so many of one byte after it.
+const LONG_LINES: [(&str, u8, usize, bool); 8] = [
+    ("NOP", b' ', 997, false),
+    ("GET_PASSPHRASE ", b'a', 50, false),
+    ("GET_PASSPHRASE ", b'a', 51, true),
+    ("PRESET_PASSPHRASE --inquire ", b'a', 51, true),
+    ("CLEAR_PASSPHRASE ", b'a', 50, false),
+    ("CLEAR_PASSPHRASE ", b'a', 51, true),
+    ("PRESET_PASSPHRASE id1 -1 ", b'6', 510, false),
+    ("PRESET_PASSPHRASE id1 -1 ", b'6', 512, true),
 ];
 
 #[test]
-fn passphrases_are_asked_for(rt: HostRuntime) -> Result<(), Fail> {
-    use CacheCommand::GetPassphrase;
-    for (line, options) in GETS {
-        let answer = request(line)?;
-        assert!(rt;
-            matches!(
-                &answer,
-                Request::Cache(GetPassphrase { plain, check, no_ask, repeat, quality, .. })
-                    if (*plain, *check, *no_ask, *repeat, *quality) == options
-            ),
-            "at {line:?}"
-        );
-    }
-    for (line, error, prompt, description) in TEXTS {
-        let answer = request(line)?;
-        assert!(rt;
-            matches!(
-                &answer,
-                Request::Cache(GetPassphrase { id: None, texts: Some(texts), .. })
-                    if texts.error.as_slice() == error
-                        && texts.prompt.as_slice() == prompt
-                        && texts.description.as_slice() == description
-            ),
-            "at {line:?}"
-        );
-    }
-    Ok(())
-}
-
-const PRESETS: [(&[u8], &[u8], Life, Option<&[u8]>); 6] = [
-    (
-        b"PRESET_PASSPHRASE id1 -1 25",
-        b"id1",
-        Life::Endless,
-        Some(b"%"),
-    ),
-    (
-        b"preset_passphrase --frob id1 0 736563726574 more",
-        b"id1",
-        Life::Default,
-        Some(b"secret"),
-    ),
-    (
-        b"PRESET_PASSPHRASE X 0000000010 c3A9",
-        b"X",
-        Life::Seconds(10),
-        Some(b"\xC3\xA9"),
-    ),
-    (
-        b"PRESET_PASSPHRASE -- --id 2147483647 00",
-        b"--id",
-        Life::Seconds(2_147_483_647),
-        Some(b"\x00"),
-    ),
-    (
-        b"PRESET_PASSPHRASE --inquire id1 -1",
-        b"id1",
-        Life::Endless,
-        None,
-    ),
-    (
-        b"PRESET_PASSPHRASE --inquire=1 id1 000 ff",
-        b"id1",
-        Life::Default,
-        Some(b"\xFF"),
-    ),
-];
-
-#[test]
-fn presets_are_read(rt: HostRuntime) -> Result<(), Fail> {
-    for (line, name, lasting, bytes) in PRESETS {
-        let Request::Cache(CacheCommand::PresetPassphrase { id, life, secret }) = request(line)?
-        else {
-            return Err("no preset".into());
-        };
-        assert_eq!(rt; (id.bytes(), life), (name, lasting), "at {line:?}");
-        let given = match &secret {
-            Some(secret) => Some(secret.bytes()),
-            None => None,
-        };
-        assert_eq!(rt; given, bytes, "at {line:?}");
-    }
-    Ok(())
-}
-
-const CLEARS: [(&[u8], &[u8], Mode); 6] = [
-    (b"CLEAR_PASSPHRASE id1", b"id1", Mode::User),
-    (b"clear_passphrase --mode id1 more", b"id1", Mode::User),
-    (b"CLEAR_PASSPHRASE --mode=normal X", b"X", Mode::Normal),
-    (b"CLEAR_PASSPHRASE --mode=ssh --mode id1", b"id1", Mode::Ssh),
-    (
-        b"CLEAR_PASSPHRASE --mode=x --mode=ssh -- --id",
-        b"--id",
-        Mode::Ssh,
-    ),
-    (b"CLEAR_PASSPHRASE id1 --mode=ssh", b"id1", Mode::User),
-];
-
-#[test]
-fn clears_are_read(rt: HostRuntime) -> Result<(), Fail> {
-    for (line, name, of) in CLEARS {
-        let answer = request(line)?;
-        assert!(rt;
-            matches!(
-                &answer,
-                Request::Cache(CacheCommand::ClearPassphrase { id, mode })
-                    if id.bytes() == name && *mode == of
-            ),
-            "at {line:?}"
-        );
-    }
-    Ok(())
-}
-
-/// A line, and whether it asks the cache alone: then by data lines or not, and for which id.
-const QUIETS: [(&[u8], Option<(bool, Option<&[u8]>)>); 8] = [
-    (
-        b"GET_PASSPHRASE --no-ask --data id1 X X X",
-        Some((true, Some(b"id1"))),
-    ),
-    (b"get_passphrase id1", Some((false, Some(b"id1")))),
-    (b"GET_PASSPHRASE --no-ask X", Some((false, None))),
-    (b"GET_PASSPHRASE --data id1 X X X", None),
-    (b"GET_PASSPHRASE --no-ask id1 X X", None),
-    (b"GET_PASSPHRASE --repeat=17 id1", None),
-    (b"GET_PASSPHRASE", None),
-    (b"NOP", None),
-];
-
-#[test]
-fn quiet_requests_are_read_without_their_texts(rt: HostRuntime) -> Result<(), Fail> {
-    for (bytes, quiet) in QUIETS {
-        let line = Line::of(bytes).ok_or("no line")?;
-        let read = read_quiet(&line);
-        let given = match &read {
-            Some(request) => Some((
-                request.plain,
-                match &request.id {
-                    Some(id) => Some(id.bytes()),
-                    None => None,
-                },
-            )),
-            None => None,
-        };
-        assert_eq!(rt; given, quiet, "at {bytes:?}");
-    }
-    Ok(())
-}
-
-const CONFIRMATIONS: [(&[u8], &[u8]); 4] = [
-    (b"GET_CONFIRMATION Really+send", b"Really send"),
-    (b"get_confirmation X", b"Please confirm"),
-    (b"GET_CONFIRMATION --frob -- --x%21 more", b"--x!"),
-    (b"GET_CONFIRMATION x", b"x"),
-];
-
-#[test]
-fn confirmations_are_read(rt: HostRuntime) -> Result<(), Fail> {
-    for (line, text) in CONFIRMATIONS {
-        let answer = request(line)?;
-        assert!(rt;
-            matches!(
-                &answer,
-                Request::Cache(CacheCommand::GetConfirmation { description })
-                    if description.as_slice() == text
-            ),
-            "at {line:?}"
-        );
+fn long_fields_are_refused(rt: HostRuntime) -> Result<(), Fail> {
+    for (front, byte, count, refused) in LONG_LINES {
+        let mut bytes: ArrayVec<u8, 1001> = ArrayVec::new();
+        bytes
+            .try_extend_from_slice(front.as_bytes())
+            .ok()
+            .ok_or("too long")?;
+        for _ in 0..count {
+            bytes.try_push(byte).ok().ok_or("too long")?;
+        }
+        let line = Line::of(&bytes).ok_or("no line")?;
+        let got = told(rt.alloc(), &read_request(&line))?;
+        assert_eq!(rt; got.as_str() == "refused Parameter", refused, "at {front}");
     }
     Ok(())
 }

@@ -14,10 +14,11 @@ use Rattle.cache_policy.specs.Extending.{Taken, TakesTurn}
 use Rattle.cache_policy.specs.Histories.{History, moments, with_mark}
 use Rattle.cache_policy.specs.Replay.{moments_at, NoneEmpty, Marked, none as none_marked, made, unmade}
 use Rattle.cache_policy.specs.Runs.{joined, moment_before, next_history, turn_over, run_with_mark}
-use Rattle.cache_policy.specs.Turns.{Turn, Stand, Refused, Stopping}
+use Rattle.cache_policy.specs.Turns.{Turn, Stand, Refused, Stopping, FitsStep, since_of}
 use Rattle.cache_policy.proofs.GrowingRuns.{joined-run_with_mark}
 use Rattle.agent_core.specs.Cores.{mark_of}
 use Rattle.agent_core.specs.Known.{next_moment, TakesStep, marked, stood, refused, spent}
+use Rattle.agent_core.specs.Stepped.{IsSettled}
 use Rattle.agent_core.specs.Solos.{AtSolo, OwnStep, PlaysNext, next_list, at_end, Waits, again, goes, gives_back, TakesOwn, at_once, waiting, TurnsSolo}
 use Rattle.agent_core.proofs.Knowing.{moment_at_end}
 
@@ -44,7 +45,7 @@ alone_waits asked before turn after alone (gives_back is closes step) = cc (alon
 alone_own : (asked : MarkStep) (before : AtSolo) (turn : Turn) (after : AtSolo) → IsAlone before → TakesOwn asked before turn after → OwnStep before asked turn after
 alone_own asked before turn after alone (at_once step) = step
 alone_own asked before turn after alone (waiting {mid = mid} step waits) =
-    absurd (alone_waits asked mid turn after (record {
+    absurd (alone_waits _ mid turn after (record {
       script = ap (λ (s : AtSolo). s.script) step.same ∙ alone.script;
       nobody = ap (λ (s : AtSolo). s.holder) step.same ∙ alone.nobody;
     }) waits)
@@ -55,9 +56,9 @@ alone_turn asked before turn after alone turns =
     let same = alone_next before turns.listed turns.there alone.script turns.plays in
     alone_own asked before turn after alone (subst (λ (s : AtSolo). TakesOwn asked s turn after) same turns.own)
 
-not_stand : (asked : MarkStep) (before : AtSolo) (turn : Turn) (after : AtSolo) → TurnsSolo before asked turn after → turn ≡ Stand → ⊥
-not_stand asked before turn after turns is =
-    elim (subst (λ (t : Turn). TurnsSolo before asked t after) is turns).is.fits [ ]
+not_stand : (asked : MarkStep) (turn : Turn) → FitsStep asked turn → IsSettled turn
+not_stand asked (Stand wait) fits = fits
+not_stand asked _ fits = tt
 
 -- no history without a mark comes behind
 all_filled : (run : List History) (mark : Mark) → AllByRecursion (λ history. history.marks ≢ []) run → AllByRecursion (λ history. history.marks ≢ []) (run_with_mark run mark)
@@ -93,6 +94,7 @@ pub record Replayed (before : AtSolo) (turns : List Taken) (after : AtSolo) : Ty
   pub marks : joined after.run ≡ joined before.run ++ own
   pub by : AllByRecursion (λ mark. mark.session ≡ before.session) own
   pub steps_are : map (λ mark. mark.step) own ≡ steps
+  pub firsts : AllByRecursion (λ step_of. since_of step_of ≡ None) steps
   pub moments_are : moments own ≡ moments_at (moment_before (joined before.run)) read
   pub none_empty : NoneEmpty before.run → NoneEmpty after.run
 
@@ -109,14 +111,15 @@ unmade_then before mid after taken turns step same why later = record {
   marks = later.marks ∙ ap (λ (run : List History). joined run ++ later.own) same;
   by = subst (λ (s : SessionId). AllByRecursion (λ mark. mark.session ≡ s) later.own) (ap (λ (s : AtSolo). s.session) step.same) later.by;
   steps_are = later.steps_are;
+  firsts = later.firsts;
   moments_are = later.moments_are ∙ ap (λ (run : List History). moments_at (moment_before (joined run)) later.read) same;
   none_empty = λ none. later.none_empty (subst NoneEmpty (sym same) none);
 }
 
 made_then : (before mid after : AtSolo) (taken : Taken) (turns : List Taken) (mark : Mark) → mid.run ≡ run_with_mark before.run mark
     → joined mid.run ≡ joined before.run ++ mark ∷ [] → (taken.turn ≡ Refused → ⊥) → (step : OwnStep before taken.asked taken.turn mid) → mark.session ≡ before.session → mark.step ≡ taken.asked
-    → mark.moment ≡ next_moment before.run step.takes.reading → Replayed mid turns after → Replayed before (taken ∷ turns) after
-made_then before mid after taken turns mark grown all kept step by step_is moment later = record {
+    → since_of taken.asked ≡ None → mark.moment ≡ next_moment before.run step.takes.reading → Replayed mid turns after → Replayed before (taken ∷ turns) after
+made_then before mid after taken turns mark grown all kept step by step_is first moment later = record {
   readings = step.takes.reading ∷ later.readings;
   given = given_one step.takes.read later.given;
   steps = taken.asked ∷ later.steps;
@@ -126,6 +129,7 @@ made_then before mid after taken turns mark grown all kept step by step_is momen
   marks = later.marks ∙ (ap (λ (m : List Mark). m ++ later.own) all ∙ append_assoc (joined before.run) (mark ∷ []) later.own);
   by = (by, subst (λ (s : SessionId). AllByRecursion (λ mark. mark.session ≡ s) later.own) (ap (λ (s : AtSolo). s.session) step.same) later.by);
   steps_are = ap (λ (s : MarkStep). s ∷ map (λ (m : Mark). m.step) later.own) step_is ∙ ap (λ (l : List MarkStep). taken.asked ∷ l) later.steps_are;
+  firsts = (first, later.firsts);
   moments_are =
       ap (λ (l : List ℕ). mark.moment ∷ l) (later.moments_are
       ∙ ap (λ (m : ℕ). moments_at m later.read) (ap moment_before all ∙ moment_at_end 0 (joined before.run) mark))
@@ -133,9 +137,9 @@ made_then before mid after taken turns mark grown all kept step by step_is momen
   none_empty = λ none. later.none_empty (subst NoneEmpty (sym grown) (none_empty before.run mark none));
 }
 
-one_then : (before mid after : AtSolo) (taken : Taken) (turns : List Taken) → OwnStep before taken.asked taken.turn mid → (taken.turn ≡ Stand → ⊥)
-    → Replayed mid turns after → Replayed before (taken ∷ turns) after
-one_then before mid after taken turns step settled later = by step.takes.takes refl
+one_then : (before mid after : AtSolo) (taken : Taken) (turns : List Taken) → OwnStep before taken.asked taken.turn mid → IsSettled taken.turn
+    → since_of taken.asked ≡ None → Replayed mid turns after → Replayed before (taken ∷ turns) after
+one_then before mid after taken turns step settled first later = by step.takes.takes refl
   where
     shown : (limits : Limits) (history : History) (mark : Mark) (turn : Turn) → Shows limits history mark turn → turn ≡ Refused → ⊥
     shown limits history mark turn shows is = subst (λ (t : Turn). Shows limits history mark t) is shows
@@ -146,8 +150,8 @@ one_then before mid after taken turns step settled later = by step.takes.takes r
         let mark : Mark = mark_of before.session taken.asked answer (next_moment before.run step.takes.reading) in
         made_then before mid after taken turns mark is
         (ap joined is ∙ joined-run_with_mark before.run mark step.takes.was_legal.turns_over)
-        (λ kept. shown before.limits (next_history last) mark turn shows (sym same ∙ kept)) step refl refl refl later
-    by (stood last last_is some rules is) same = absurd (settled same)
+        (λ kept. shown before.limits (next_history last) mark turn shows (sym same ∙ kept)) step refl refl first refl later
+    by (stood last last_is some rules wait_is is) same = absurd (subst IsSettled same settled)
     by (refused last last_is below why is) same = unmade_then before mid after taken turns step is (inl same) later
     by (spent all is) same = unmade_then before mid after taken turns step is (inr same) later
 
@@ -162,12 +166,13 @@ replayed {before} alone stay = record {
   marks = sym (append-nil (joined before.run));
   by = tt;
   steps_are = refl;
+  firsts = tt;
   moments_are = refl;
   none_empty = λ none. none;
 }
 replayed {before} {after = after} alone (one {mid} {event} {more} turns later) =
     let step = alone_turn event.asked before event.turn mid alone turns in
-    one_then before mid after event more step (not_stand event.asked before event.turn mid turns)
+    one_then before mid after event more step (not_stand event.asked event.turn turns.is.fits) turns.first
     (replayed (record {
       script = ap (λ (s : AtSolo). s.script) step.same ∙ alone.script;
       nobody = ap (λ (s : AtSolo). s.holder) step.same ∙ alone.nobody;

@@ -1,5 +1,5 @@
 -- Whether a step comes to the seat, by the policy.
-use Rattle.std.specs.Prelude.{◌≡◌, ℕ, ◌+◌, ◌<◌, ◌≤◌, ◌==◌, List, Bool, true, false, not, Option, Some, None, IsSome, refl, ◌⊎◌, if◌then◌else◌}
+use Rattle.std.specs.Prelude.{◌≡◌, ℕ, ◌+◌, ◌<◌, ◌≤◌, ◌==◌, ◌&&◌, List, Bool, true, false, not, Option, Some, None, IsSome, refl, ◌⊎◌, if◌then◌else◌}
 use Rattle.std.proofs.Common.{ap, sym, ◌∙◌, subst, inl, inr, arith}
 use Rattle.std.proofs.lemmas.Bool.Decides.{nat_tests}
 use Rattle.std.specs.Option.{is_some, option_and_then}
@@ -14,6 +14,7 @@ use Rattle.cache_policy.specs.declared.mark.MarkReply.{MarkReply}
 use Rattle.cache_policy.specs.declared.mark.MarkReply.TheVariants as reply
 use Rattle.cache_policy.specs.declared.mark.MarkStep.{MarkStep}
 use Rattle.cache_policy.specs.declared.mark.MarkStep.TheVariants.{Ask, Seat, Close, Put, Clear, Flush, Peek, Stop}
+use Rattle.cache_policy.specs.declared.mark.Under.{Under}
 use Rattle.cache_policy.specs.declared.mark.Way.{Way}
 use Rattle.cache_policy.specs.declared.mark.Way.TheVariants.{Quiet, Prompt}
 use Rattle.cache_policy.specs.Histories.{History, next_number, with_mark}
@@ -22,43 +23,53 @@ use Rattle.cache_policy.specs.Legal.{IsLegal}
 use Rattle.cache_policy.specs.Runs.{next_history, moment_of}
 use Rattle.cache_policy.specs.Seat.{seat, stopped, is_open, under_of, unless_given_back}
 use Rattle.cache_policy.specs.Turns.{Refused, FitsReply, closes}
+use Rattle.cache_policy.specs.Waits.{is_late}
 use Rattle.cache_policy.proofs.OneMore.{seat-with_mark}
 use Rattle.agent_core.specs.declared.state.State.{State}
 use Rattle.agent_core.specs.Cores.{AtCore, StandsFor, mark_of}
 use Rattle.agent_core.specs.Adding.{comes_to_seat, leaves_ticket, needs_room}
-use Rattle.agent_core.specs.States.{seen}
-use Rattle.agent_core.specs.Taking.{Finds, ComesToSeat, next_slots}
+use Rattle.agent_core.specs.States.{seen, held_of}
+use Rattle.agent_core.specs.Taking.{Finds, may_open, ComesToSeat, next_slots}
 use Rattle.agent_core.proofs.Standing.{IsReady, ready}
 use Rattle.agent_core.proofs.Stepping.{live-found, live-none}
 
-comes_prompt : (stops : Bool) (held : Option Ticket) → comes_to_seat (prompt_ruling stops held) ≡ not stops
-comes_prompt true held = refl
-comes_prompt false (Some ticket) = refl
-comes_prompt false None = refl
+comes_prompt : (stops : Bool) (held : Option Ticket) (late : Bool) → comes_to_seat (prompt_ruling stops held late) ≡ (not stops && not (is_some held && late))
+comes_prompt true held late = refl
+comes_prompt false (Some ticket) true = refl
+comes_prompt false (Some ticket) false = refl
+comes_prompt false None late = refl
 
-comes_quiet : (found : Option Entry) (stops : Bool) (held : Option Ticket) → comes_to_seat (ask_ruling found Quiet stops held) ≡ false
-comes_quiet (Some entry) stops held = refl
-comes_quiet None stops held = refl
+comes_quiet : (found : Option Entry) (stops : Bool) (held : Option Ticket) (late : Bool) → comes_to_seat (ask_ruling found Quiet stops held late) ≡ false
+comes_quiet (Some entry) stops held late = refl
+comes_quiet None stops held late = refl
+
+some_held : (holder : Option ℕ) (under : Option Under) → is_some holder ≡ is_some (held_of holder under)
+some_held None under = refl
+some_held (Some ticket) under = refl
 
 module _ (before : State) (history : History) (moment : ℕ) (is : IsReady before history moment) where
-  comes_stops : (held : Option Ticket) → not before.stopped ≡ comes_to_seat (prompt_ruling (stopped (next_history history)) held)
-  comes_stops held = ap not is.next.stopped_is ∙ sym (comes_prompt (stopped (next_history history)) held)
+  comes_stops : (since : Option ℕ) → may_open before since moment ≡ comes_to_seat (prompt_ruling (stopped (next_history history)) (seat (next_history history)) (is_late since moment))
+  comes_stops since =
+      ap (λ (b : Bool). not b && not (is_some before.seat && is_late since moment)) is.next.stopped_is
+      ∙ (ap (λ (b : Bool). not (stopped (next_history history)) && not (b && is_late since moment))
+      (some_held before.seat before.under ∙ ap is_some is.next.seat_is)
+      ∙ sym (comes_prompt (stopped (next_history history)) (seat (next_history history)) (is_late since moment)))
 
-  comes_found : (id : List ℕ) (mode : Mode) (found : Option Grant) → Finds (next_slots before) id mode moment found
-      → (if is_some found then false else not before.stopped) ≡ comes_to_seat (policy before.limits (next_history history) (Ask id mode Prompt) moment)
-  comes_found id mode (Some grant) from =
-      sym (ap (λ (o : Option Entry). comes_to_seat (ask_ruling o Prompt (stopped (next_history history)) (seat (next_history history))))
+  comes_found : (id : List ℕ) (mode : Mode) (since : Option ℕ) (found : Option Grant) → Finds (next_slots before) id mode moment found
+      → (if is_some found then false else may_open before since moment) ≡ comes_to_seat (policy before.limits (next_history history) (Ask id mode Prompt since) moment)
+  comes_found id mode since (Some grant) from =
+      sym (ap (λ (o : Option Entry). comes_to_seat (ask_ruling o Prompt (stopped (next_history history)) (seat (next_history history)) (is_late since moment)))
       (live-found before history moment id mode grant is from).live_is)
-  comes_found id mode None none =
-      comes_stops (seat (next_history history))
-      ∙ sym (ap (λ (o : Option Entry). comes_to_seat (ask_ruling o Prompt (stopped (next_history history)) (seat (next_history history))))
+  comes_found id mode since None none =
+      comes_stops since
+      ∙ sym (ap (λ (o : Option Entry). comes_to_seat (ask_ruling o Prompt (stopped (next_history history)) (seat (next_history history)) (is_late since moment)))
       (live-none before history moment id mode is none))
 
   pub comes-policy : (asked : MarkStep) (comes : Bool) → ComesToSeat before moment asked comes
       → comes ≡ comes_to_seat (policy before.limits (next_history history) asked moment)
-  comes-policy (Ask id mode Quiet) comes does = does ∙ sym (comes_quiet _ (stopped (next_history history)) (seat (next_history history)))
-  comes-policy (Ask id mode Prompt) comes does = does.2 ∙ comes_found id mode does.0 does.1
-  comes-policy (Seat under) comes does = does ∙ comes_stops (seat (next_history history))
+  comes-policy (Ask id mode Quiet since) comes does = does ∙ sym (comes_quiet _ (stopped (next_history history)) (seat (next_history history)) (is_late since moment))
+  comes-policy (Ask id mode Prompt since) comes does = does.2 ∙ comes_found id mode since does.0 does.1
+  comes-policy (Seat under since) comes does = does ∙ comes_stops since
   comes-policy (Close ticket keep) comes does = does
   comes-policy (Put id mode life secret) comes does = does
   comes-policy (Clear id mode) comes does = does
@@ -67,21 +78,22 @@ module _ (before : State) (history : History) (moment : ℕ) (is : IsReady befor
   comes-policy Stop comes does = does
 
 -- a step that comes to a free seat opens, and only a free seat is opened
-free_prompt : (stops : Bool) (held : Option Ticket) → held ≡ None → comes_to_seat (prompt_ruling stops held) ≡ true → prompt_ruling stops held ≡ Reply reply.Open
-free_prompt true held free comes = absurd (cc comes)
-free_prompt false (Some ticket) free comes = absurd (cc free)
-free_prompt false None free comes = refl
+free_prompt : (stops : Bool) (held : Option Ticket) (late : Bool) → held ≡ None → comes_to_seat (prompt_ruling stops held late) ≡ true
+    → prompt_ruling stops held late ≡ Reply reply.Open
+free_prompt true held late free comes = absurd (cc comes)
+free_prompt false (Some ticket) late free comes = absurd (cc free)
+free_prompt false None late free comes = refl
 
-free_ask : (found : Option Entry) (way : Way) (stops : Bool) (held : Option Ticket) → held ≡ None → comes_to_seat (ask_ruling found way stops held) ≡ true
-    → ask_ruling found way stops held ≡ Reply reply.Open
-free_ask (Some entry) way stops held free comes = absurd (cc comes)
-free_ask None Quiet stops held free comes = absurd (cc comes)
-free_ask None Prompt stops held free comes = free_prompt stops held free comes
+free_ask : (found : Option Entry) (way : Way) (stops : Bool) (held : Option Ticket) (late : Bool) → held ≡ None
+    → comes_to_seat (ask_ruling found way stops held late) ≡ true → ask_ruling found way stops held late ≡ Reply reply.Open
+free_ask (Some entry) way stops held late free comes = absurd (cc comes)
+free_ask None Quiet stops held late free comes = absurd (cc comes)
+free_ask None Prompt stops held late free comes = free_prompt stops held late free comes
 
 free_opens : (limits : Limits) (history : History) (asked : MarkStep) (moment : ℕ) → seat history ≡ None
     → comes_to_seat (policy limits history asked moment) ≡ true → policy limits history asked moment ≡ Reply reply.Open
-free_opens limits history (Ask id mode way) moment free comes = free_ask _ way (stopped history) (seat history) free comes
-free_opens limits history (Seat under) moment free comes = free_prompt (stopped history) (seat history) free comes
+free_opens limits history (Ask id mode way since) moment free comes = free_ask _ way (stopped history) (seat history) (is_late since moment) free comes
+free_opens limits history (Seat under since) moment free comes = free_prompt (stopped history) (seat history) (is_late since moment) free comes
 free_opens limits history (Close ticket keep) moment free comes = absurd (cc comes)
 free_opens limits history (Put id mode life secret) moment free comes = absurd (cc comes)
 free_opens limits history (Clear id mode) moment free comes = absurd (cc comes)
@@ -89,19 +101,20 @@ free_opens limits history Flush moment free comes = absurd (cc comes)
 free_opens limits history (Peek id mode) moment free comes = absurd (cc comes)
 free_opens limits history Stop moment free comes = absurd (cc comes)
 
-opens_free_prompt : (stops : Bool) (held : Option Ticket) → prompt_ruling stops held ≡ Reply reply.Open → held ≡ None
-opens_free_prompt true held is = absurd (cc is)
-opens_free_prompt false (Some ticket) is = absurd (cc is)
-opens_free_prompt false None is = refl
+opens_free_prompt : (stops : Bool) (held : Option Ticket) (late : Bool) → prompt_ruling stops held late ≡ Reply reply.Open → held ≡ None
+opens_free_prompt true held late is = absurd (cc is)
+opens_free_prompt false (Some ticket) true is = absurd (cc is)
+opens_free_prompt false (Some ticket) false is = absurd (cc is)
+opens_free_prompt false None late is = refl
 
-opens_free_ask : (found : Option Entry) (way : Way) (stops : Bool) (held : Option Ticket) → ask_ruling found way stops held ≡ Reply reply.Open → held ≡ None
-opens_free_ask (Some entry) way stops held is = absurd (cc is)
-opens_free_ask None Quiet stops held is = absurd (cc is)
-opens_free_ask None Prompt stops held is = opens_free_prompt stops held is
+opens_free_ask : (found : Option Entry) (way : Way) (stops : Bool) (held : Option Ticket) (late : Bool) → ask_ruling found way stops held late ≡ Reply reply.Open → held ≡ None
+opens_free_ask (Some entry) way stops held late is = absurd (cc is)
+opens_free_ask None Quiet stops held late is = absurd (cc is)
+opens_free_ask None Prompt stops held late is = opens_free_prompt stops held late is
 
-opens_free : (limits : Limits) (history : History) (asked : MarkStep) (moment : ℕ) → policy limits history asked moment ≡ Reply reply.Open → seat history ≡ None
-opens_free limits history (Ask id mode way) moment is = opens_free_ask _ way (stopped history) (seat history) is
-opens_free limits history (Seat under) moment is = opens_free_prompt (stopped history) (seat history) is
+pub opens_free : (limits : Limits) (history : History) (asked : MarkStep) (moment : ℕ) → policy limits history asked moment ≡ Reply reply.Open → seat history ≡ None
+opens_free limits history (Ask id mode way since) moment is = opens_free_ask _ way (stopped history) (seat history) (is_late since moment) is
+opens_free limits history (Seat under since) moment is = opens_free_prompt (stopped history) (seat history) (is_late since moment) is
 opens_free limits history (Close ticket keep) moment is = absurd (cc is)
 opens_free limits history (Put id mode life secret) moment is = absurd (cc is)
 opens_free limits history (Clear id mode) moment is = absurd (cc is)
@@ -114,8 +127,8 @@ pub opens_keeps : (limits : Limits) (history : History) (asked : MarkStep) (mome
     → is_open answer ≡ true → closes asked ≡ None
 opens_keeps limits history (Close ticket keep) moment reply.Open is opened = absurd (cc is)
 opens_keeps limits history (Close ticket keep) moment _ is opened = absurd (cc opened)
-opens_keeps limits history (Ask id mode way) moment answer is opened = refl
-opens_keeps limits history (Seat under) moment answer is opened = refl
+opens_keeps limits history (Ask id mode way since) moment answer is opened = refl
+opens_keeps limits history (Seat under since) moment answer is opened = refl
 opens_keeps limits history (Put id mode life secret) moment answer is opened = refl
 opens_keeps limits history (Clear id mode) moment answer is opened = refl
 opens_keeps limits history Flush moment answer is opened = refl
@@ -133,8 +146,8 @@ replied Stand comes = absurd (cc comes)
 
 -- a step that isn't a Close gives no ticket back
 pub gives_none : (asked : MarkStep) (ticket : Ticket) → closes asked ≡ None → unless_given_back asked ticket ≡ Some ticket
-gives_none (Ask id mode way) ticket none = refl
-gives_none (Seat under) ticket none = refl
+gives_none (Ask id mode way since) ticket none = refl
+gives_none (Seat under since) ticket none = refl
 gives_none (Close number keep) ticket none = absurd (cc none)
 gives_none (Put id mode life secret) ticket none = refl
 gives_none (Clear id mode) ticket none = refl
@@ -196,6 +209,7 @@ held-leaves limits history asked moment reply.Empty rules (inr some) = still_lea
 held-leaves limits history asked moment reply.Done rules (inr some) = still_leaves asked _ (seat history) (ap comes_to_seat rules) some
 held-leaves limits history asked moment (reply.Held held) rules (inr some) = still_leaves asked _ (seat history) (ap comes_to_seat rules) some
 held-leaves limits history asked moment reply.Stopping rules (inr some) = still_leaves asked _ (seat history) (ap comes_to_seat rules) some
+held-leaves limits history asked moment reply.Late rules (inr some) = still_leaves asked _ (seat history) (ap comes_to_seat rules) some
 held-leaves limits history asked moment _ rules (inl opened) = absurd (cc opened)
 
 -- what the code finds is what the policy says, for a core that has this state
@@ -237,8 +251,8 @@ needs_last core asked comes is ends =
 -- a Close needs none
 pub needs_fits : (core : AtCore) (asked : MarkStep) (comes : Bool) → needs_room core asked comes ≡ true → FitsReply asked Refused
 needs_fits core (Close ticket keep) comes is = absurd (cc is)
-needs_fits core (Ask id mode way) comes is = tt
-needs_fits core (Seat under) comes is = tt
+needs_fits core (Ask id mode way since) comes is = tt
+needs_fits core (Seat under since) comes is = tt
 needs_fits core (Put id mode life secret) comes is = tt
 needs_fits core (Clear id mode) comes is = tt
 needs_fits core Flush comes is = tt

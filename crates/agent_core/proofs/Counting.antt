@@ -58,8 +58,8 @@ kept_one limits number moment (Some under) None = refl
 kept_one limits number moment (Some under) (Some secret) = entry_one limits number moment under.id under.mode Default secret
 
 stored_one : (limits : Limits) (next : History) (asked : MarkStep) (moment : ℕ) → length (stored limits next asked moment) ≡ one (stores limits (seat next) asked)
-stored_one limits next (Ask id mode way) moment = refl
-stored_one limits next (Seat under) moment = refl
+stored_one limits next (Ask id mode way since) moment = refl
+stored_one limits next (Seat under since) moment = refl
 stored_one limits next (Close ticket keep) moment = kept_one limits (next_number next) moment (kept_under (seat next) ticket) keep
 stored_one limits next (Put id mode life secret) moment = entry_one limits (next_number next) moment id mode life secret
 stored_one limits next (Clear id mode) moment = refl

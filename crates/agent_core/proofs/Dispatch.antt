@@ -13,15 +13,15 @@ use Rattle.agent_core.specs.Cores.{IsStep}
 use Rattle.agent_core.proofs.Stepping.{IsTaken, given-step, empty-step, prompts-step, put-step, close-step, clear-step, flush-step, stop-step, peek-step, wish_of_ask, wish_of_seat}
 
 module _ (before after : State) (history : History) (session : SessionId) (moment : ℕ) (is : IsTaken before after history moment) where
-  pub takes-step : (step_of : MarkStep) (turn : Turn) → Takes before moment step_of turn after → IsStep (seen before) history session moment step_of turn (seen after)
-  takes-step (asked.Ask id mode way) (Given grant) does = given-step before after history session moment id mode way grant is does.0 does.1
-  takes-step (asked.Ask id mode Quiet) Empty does = empty-step before after history session moment id mode is does.0 does.1
-  takes-step (asked.Ask id mode Quiet) _ does = absurd does
-  takes-step (asked.Ask id mode Prompt) turn does =
-      prompts-step before after history session moment (asked.Ask id mode Prompt) (Some (record { id = id; mode = mode })) turn is
-      (wish_of_ask before after history moment id mode is does.0) does.1
-  takes-step (asked.Seat under) turn does =
-      prompts-step before after history session moment (asked.Seat under) under turn is (wish_of_seat before after history moment under is) does
+  pub takes-step : (step_of : MarkStep) (turn : Turn) → Takes before moment session step_of turn after → IsStep (seen before) history session moment step_of turn (seen after)
+  takes-step (asked.Ask id mode way since) (Given grant) does = given-step before after history session moment id mode way since grant is does.0 does.1
+  takes-step (asked.Ask id mode Quiet since) Empty does = empty-step before after history session moment id mode since is does.0 does.1
+  takes-step (asked.Ask id mode Quiet since) _ does = absurd does
+  takes-step (asked.Ask id mode Prompt since) turn does =
+      prompts-step before after history session moment (asked.Ask id mode Prompt since) since (Some (record { id = id; mode = mode })) turn is
+      (wish_of_ask before after history moment id mode since is does.0) does.1
+  takes-step (asked.Seat under since) turn does =
+      prompts-step before after history session moment (asked.Seat under since) since under turn is (wish_of_seat before after history moment since under is) does
   takes-step (asked.Close ticket keep) Done does = close-step before after history session moment ticket keep is does
   takes-step (asked.Close ticket keep) _ does = absurd does
   takes-step (asked.Put id mode life secret) turn does = put-step before after history session moment id mode life secret turn is does

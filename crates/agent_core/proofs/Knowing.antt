@@ -24,7 +24,8 @@ use Rattle.cache_policy.specs.Legal.{IsLegal, IsLegalRun}
 use Rattle.cache_policy.specs.Policy.{Reply, policy}
 use Rattle.cache_policy.specs.Runs.{last_base, is_spent, turn_over, next_history, last_history, run_with_mark, joined, moment_before, moment_of}
 use Rattle.cache_policy.specs.Seat.{seat, is_open, under_of, unless_given_back}
-use Rattle.cache_policy.specs.Turns.{Turn, Given, Empty, Open, Stand, Done, Held, Refused, Stopping, FitsReply, opens, closes, turn_of}
+use Rattle.cache_policy.specs.Turns.{Turn, Given, Empty, Open, Stand, Done, Held, Refused, Stopping, Late, FitsReply, opens, closes, turn_of}
+use Rattle.cache_policy.specs.declared.wait.Wait.{Wait}
 use Rattle.cache_policy.proofs.GrowingRuns.{joined-run_with_mark, legal-run_with_mark, last-run_with_mark, spent-all}
 use Rattle.cache_policy.proofs.OneMore.{seat-with_mark}
 use Rattle.cache_policy.proofs.Growing.{seat-turn_over}
@@ -32,6 +33,7 @@ use Rattle.agent_core.specs.declared.known_core.Start.{Start}
 use Rattle.agent_core.specs.Adding.{CanAdd, added, next_start, HasPlace, comes_to_seat, leaves_ticket, needs_room}
 use Rattle.agent_core.specs.Cores.{AtCore, HasRoom, IsStep, marked as step_marked, stood as step_stood, refused as step_refused, spent as step_spent, IsMarked, mark_of, IsAsBefore}
 use Rattle.agent_core.specs.Known.{run_seat, IsOut, held as held_out, given_up, next_moment, MayRefuse, wants, begins, leaves, TakesStep, marked, stood, refused}
+use Rattle.agent_core.specs.Stepped.{IsSettled}
 use Rattle.agent_core.specs.Recording.{KeepsRun, IsRoom, LastHasRoom, Records, reply_of}
 use Rattle.agent_core.proofs.Adding.{add-full}
 use Rattle.agent_core.proofs.Coming.{leaves-held, held-leaves, opens_keeps, needs_full, needs_last}
@@ -61,16 +63,17 @@ pub shows_reply : (limits : Limits) (history : History) (mark : Mark) (turn : Tu
 shows_reply limits history mark (Given grant) shows = shows.0
 shows_reply limits history mark Empty shows = shows
 shows_reply limits history mark (Open number) shows = shows.0
-shows_reply limits history mark Stand shows = absurd shows
+shows_reply limits history mark (Stand wait) shows = absurd shows
 shows_reply limits history mark Done shows = shows
 shows_reply limits history mark (Held held) shows = shows
 shows_reply limits history mark Stopping shows = shows
+shows_reply limits history mark Late shows = shows
 shows_reply limits history mark Refused shows = absurd shows
 
 pub opens_fits : (asked : MarkStep) (number : ℕ) → FitsReply asked (Open number) → opens asked ≡ true
-opens_fits (Ask id mode Quiet) number fits = absurd fits
-opens_fits (Ask id mode Prompt) number fits = refl
-opens_fits (Seat under) number fits = refl
+opens_fits (Ask id mode Quiet since) number fits = absurd fits
+opens_fits (Ask id mode Prompt since) number fits = refl
+opens_fits (Seat under since) number fits = refl
 opens_fits (Close ticket keep) number fits = absurd fits
 opens_fits (Put id mode life secret) number fits = absurd fits
 opens_fits (Clear id mode) number fits = absurd fits
@@ -241,10 +244,10 @@ records_stay before after histories later next there records items room kept lik
 }
 
 -- a step that is neither left to stand nor refused makes its mark
-pub is_marked : (before after : AtCore) (history : History) (session : SessionId) (moment : ℕ) (asked : MarkStep) (turn : Turn) → (turn ≡ Stand → ⊥) → (turn ≡ Refused → ⊥)
+pub is_marked : (before after : AtCore) (history : History) (session : SessionId) (moment : ℕ) (asked : MarkStep) (turn : Turn) → IsSettled turn → (turn ≡ Refused → ⊥)
     → is_spent (next_history history) ≡ false → IsStep before history session moment asked turn after → IsMarked before (next_history history) session moment asked turn after
 is_marked before after history session moment asked turn goes taken more (step_marked _ is) = is
-is_marked before after history session moment asked turn goes taken more (step_stood _ rules same) = absurd (goes refl)
+is_marked before after history session moment asked turn goes taken more (step_stood _ rules wait_is same) = absurd goes
 is_marked before after history session moment asked turn goes taken more (step_refused _ why same) = absurd (taken refl)
 is_marked before after history session moment asked turn goes taken more (step_spent is same) = absurd (cc (is, more))
 
@@ -283,6 +286,7 @@ opened_so reply.Empty ticket still some = inr some
 opened_so reply.Done ticket still some = inr some
 opened_so (reply.Held held) ticket still some = inr some
 opened_so reply.Stopping ticket still some = inr some
+opened_so reply.Late ticket still some = inr some
 
 module _ (before after : AtCore) (run : List History) (keeps : KeepsRun before run) (session : SessionId) (asked : MarkStep) (turn : Turn) (moment : ℕ)
     (more : is_spent (next_history keeps.last) ≡ false) (limits : after.limits ≡ before.limits)
@@ -346,8 +350,8 @@ module _ (before after : AtCore) (run : List History) (keeps : KeepsRun before r
       subst (Marks before after run session moment asked turn) (sym same) makes
 
 pub closes_none : (asked : MarkStep) → opens asked ≡ true → closes asked ≡ None
-closes_none (Ask id mode way) is = refl
-closes_none (Seat under) is = refl
+closes_none (Ask id mode way since) is = refl
+closes_none (Seat under since) is = refl
 closes_none (Close ticket keep) is = absurd (cc is)
 closes_none (Put id mode life secret) is = refl
 closes_none (Clear id mode) is = refl
@@ -362,8 +366,8 @@ none_still (Close other keep) number ticket is same some =
     let e : other ≡ number = cc is in
     let back : (other == ticket.ticket) ≡ true = grind (arith, nat_tests) in
     absurd (cc (subst (λ (b : Bool). IsSome {T = Ticket} (if b then None else Some ticket)) back some))
-none_still (Ask id mode way) number ticket is same some = absurd (cc is)
-none_still (Seat under) number ticket is same some = absurd (cc is)
+none_still (Ask id mode way since) number ticket is same some = absurd (cc is)
+none_still (Seat under since) number ticket is same some = absurd (cc is)
 none_still (Put id mode life secret) number ticket is same some = absurd (cc is)
 none_still (Clear id mode) number ticket is same some = absurd (cc is)
 none_still Flush number ticket is same some = absurd (cc is)
@@ -422,10 +426,11 @@ pub not_refused : (reply : SteppedReply) → turn_of (Ok reply) ≡ Refused → 
 not_refused (told.Given grant) is = cc is
 not_refused told.Empty is = cc is
 not_refused (told.Open ticket) is = cc is
-not_refused told.Stand is = cc is
+not_refused (told.Stand wait) is = cc is
 not_refused told.Done is = cc is
 not_refused (told.Held held) is = cc is
 not_refused told.Stopping is = cc is
+not_refused told.Late is = cc is
 
 -- a step that found no memory, and one that has to stand, leave the run
 pub took_refused : (before after : AtCore) (run : List History) (keeps : KeepsRun before run) (session : SessionId) (moment : ℕ) (asked : MarkStep)
@@ -434,15 +439,15 @@ took_refused before after run keeps session moment asked (step_marked more is) =
 took_refused before after run keeps session moment asked (step_refused more why same) =
     refused keeps.last keeps.last_is (below_next keeps.last keeps.below (legal_last before run keeps).base more) (wants why) refl
 
-pub record Stands (before after : AtCore) (run : List History) (session : SessionId) (moment : ℕ) (asked : MarkStep) : Type 0 where
-  pub takes : TakesStep before.limits run session moment asked Stand run
+pub record Stands (before after : AtCore) (run : List History) (session : SessionId) (moment : ℕ) (asked : MarkStep) (wait : Wait) : Type 0 where
+  pub takes : TakesStep before.limits run session moment asked (Stand wait) run
   pub same : after ≡ before
 
-pub took_stood : (before after : AtCore) (run : List History) (keeps : KeepsRun before run) (session : SessionId) (moment : ℕ) (asked : MarkStep)
-    → before.base + before.count ≢ last_base → IsStep before keeps.last session moment asked Stand after → Stands before after run session moment asked
-took_stood before after run keeps session moment asked some (step_marked more is) = absurd is.shows
-took_stood before after run keeps session moment asked some (step_stood more rules same) =
-    record { takes = stood keeps.last keeps.last_is (not_spent_run before run keeps some) rules refl; same = same }
+pub took_stood : (before after : AtCore) (run : List History) (keeps : KeepsRun before run) (session : SessionId) (moment : ℕ) (asked : MarkStep) (wait : Wait)
+    → before.base + before.count ≢ last_base → IsStep before keeps.last session moment asked (Stand wait) after → Stands before after run session moment asked wait
+took_stood before after run keeps session moment asked wait some (step_marked more is) = absurd is.shows
+took_stood before after run keeps session moment asked wait some (step_stood more rules wait_is same) =
+    record { takes = stood keeps.last keeps.last_is (not_spent_run before run keeps some) rules wait_is refl; same = same }
 
 -- a step's moment by the run
 pub moment_is : (core : AtCore) (run : List History) (reading : ℕ) → KeepsRun core run → moment_of core.moment reading ≡ next_moment run reading
@@ -453,11 +458,12 @@ pub added_later : (core : AtCore) (run items later : List History) (start : Opti
 added_later core run items later start mark keeps starts same is =
     is ∙ (ap (λ (s : Option Start). added s items mark) starts ∙ (ap (λ (l : List History). added (next_start core) l mark) same ∙ added_is core run keeps mark))
 
-pub not_stand : (reply : SteppedReply) → (reply ≡ told.Stand → ⊥) → turn_of (Ok reply) ≡ Stand → ⊥
-not_stand (told.Given grant) other is = cc is
-not_stand told.Empty other is = cc is
-not_stand (told.Open ticket) other is = cc is
-not_stand told.Stand other is = other refl
-not_stand told.Done other is = cc is
-not_stand (told.Held held) other is = cc is
-not_stand told.Stopping other is = cc is
+pub not_stand : (reply : SteppedReply) → ((wait : Wait) → reply ≡ told.Stand wait → ⊥) → IsSettled (turn_of (Ok reply))
+not_stand (told.Stand wait) other = absurd (other wait refl)
+not_stand (told.Given grant) other = tt
+not_stand told.Empty other = tt
+not_stand (told.Open ticket) other = tt
+not_stand told.Done other = tt
+not_stand (told.Held held) other = tt
+not_stand told.Stopping other = tt
+not_stand told.Late other = tt

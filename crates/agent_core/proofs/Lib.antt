@@ -9,6 +9,7 @@ pub mod Knowing
 pub mod Seating
 pub mod Scripts
 pub mod Playing
+pub mod Taken
 pub mod Promise
 pub mod Alone
 pub mod Counting

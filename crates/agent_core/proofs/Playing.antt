@@ -8,12 +8,13 @@ use Rattle.cache_policy.specs.declared.life.Limits.{Limits}
 use Rattle.cache_policy.specs.declared.mark.MarkStep.{MarkStep}
 use Rattle.cache_policy.specs.declared.mark.MarkStep.TheVariants as mark
 use Rattle.cache_policy.specs.Histories.{History}
-use Rattle.cache_policy.specs.Turns.{Turn, Given, Empty, Open, Stand, Done, Held, Refused, Stopping, closes}
+use Rattle.cache_policy.specs.Turns.{Turn, Given, Empty, Open, Stand, Done, Held, Refused, Stopping, Late, closes}
 use Rattle.agent_core.specs.declared.foreign.Foreign.{Foreign}
 use Rattle.agent_core.specs.declared.foreign.ForeignStep.{ForeignStep}
 use Rattle.agent_core.specs.declared.foreign.ForeignStep.TheVariants.{Ask, Seat, CloseHeld, Put, Clear, Flush, Peek, Stop}
 use Rattle.agent_core.specs.declared.holder.Holder.{Holder}
-use Rattle.agent_core.specs.Foreigners.{is_session, IsForeign, ticket_of, close_of, told_step, foreign_step, holder_after, opened}
+use Rattle.cache_policy.specs.Waits.{is_session}
+use Rattle.agent_core.specs.Foreigners.{IsForeign, ticket_of, close_of, told_step, foreign_step, holder_after, opened}
 use Rattle.agent_core.specs.Known.{IsOut}
 use Rattle.agent_core.specs.Seating.{Seated}
 use Rattle.agent_core.specs.Solos.{AtSolo, TakesReading, PlaysStep, played, passed_over}
@@ -26,8 +27,8 @@ HasTicket holder number = (h : Holder) × (holder ≡ Some h) × (h.ticket ≡ n
 -- a Close that a session takes is of its own ticket
 pub told_closes : (holder : Option Holder) (session : SessionId) (told : ForeignStep) (asked : MarkStep) → told_step (ticket_of holder session) told ≡ Some asked
     → IfSome (closes asked) (HasTicket holder)
-told_closes holder session (Ask id mode way) asked is = let e : mark.Ask id mode way ≡ asked = cc is in subst (λ (a : MarkStep). IfSome (closes a) (HasTicket holder)) e tt
-told_closes holder session (Seat under) asked is = let e : mark.Seat under ≡ asked = cc is in subst (λ (a : MarkStep). IfSome (closes a) (HasTicket holder)) e tt
+told_closes holder session (Ask id mode way) asked is = let e : mark.Ask id mode way None ≡ asked = cc is in subst (λ (a : MarkStep). IfSome (closes a) (HasTicket holder)) e tt
+told_closes holder session (Seat under) asked is = let e : mark.Seat under None ≡ asked = cc is in subst (λ (a : MarkStep). IfSome (closes a) (HasTicket holder)) e tt
 told_closes holder session (Put id mode life secret) asked is = let e : mark.Put id mode life secret ≡ asked = cc is in subst (λ (a : MarkStep). IfSome (closes a) (HasTicket holder)) e tt
 told_closes holder session (Clear id mode) asked is = let e : mark.Clear id mode ≡ asked = cc is in subst (λ (a : MarkStep). IfSome (closes a) (HasTicket holder)) e tt
 told_closes holder session Flush asked is = let e : mark.Flush ≡ asked = cc is in subst (λ (a : MarkStep). IfSome (closes a) (HasTicket holder)) e tt
@@ -53,10 +54,11 @@ pub opened_is : (turn : Turn) (number : ℕ) → Some number ≡ opened turn →
 opened_is (Open other) number is = let e : other ≡ number = cc is in ap Open e
 opened_is (Given grant) number is = absurd (cc is)
 opened_is Empty number is = absurd (cc is)
-opened_is Stand number is = absurd (cc is)
+opened_is (Stand wait) number is = absurd (cc is)
 opened_is Done number is = absurd (cc is)
 opened_is (Held held) number is = absurd (cc is)
 opened_is Stopping number is = absurd (cc is)
+opened_is Late number is = absurd (cc is)
 opened_is Refused number is = absurd (cc is)
 
 -- who has a ticket then
@@ -70,10 +72,11 @@ pub holder_shut : (holder : Option Holder) (session : SessionId) (asked : MarkSt
 holder_shut holder session asked (Open number) none = absurd (none number refl)
 holder_shut holder session asked (Given grant) none = refl
 holder_shut holder session asked Empty none = refl
-holder_shut holder session asked Stand none = refl
+holder_shut holder session asked (Stand wait) none = refl
 holder_shut holder session asked Done none = refl
 holder_shut holder session asked (Held held) none = refl
 holder_shut holder session asked Stopping none = refl
+holder_shut holder session asked Late none = refl
 holder_shut holder session asked Refused none = refl
 
 -- the other session stays foreign
@@ -82,10 +85,11 @@ pub holder_foreign : (own session : SessionId) (holder : Option Holder) (asked :
 holder_foreign own session holder asked (Open number) other was = other
 holder_foreign own session holder asked (Given grant) other was = elim (is_some (closes asked)) as (λ b. IfSome (if b then None else holder) (λ h. is_session own h.session ≡ false)) [ true ↦ tt | false ↦ was ]
 holder_foreign own session holder asked Empty other was = elim (is_some (closes asked)) as (λ b. IfSome (if b then None else holder) (λ h. is_session own h.session ≡ false)) [ true ↦ tt | false ↦ was ]
-holder_foreign own session holder asked Stand other was = elim (is_some (closes asked)) as (λ b. IfSome (if b then None else holder) (λ h. is_session own h.session ≡ false)) [ true ↦ tt | false ↦ was ]
+holder_foreign own session holder asked (Stand wait) other was = elim (is_some (closes asked)) as (λ b. IfSome (if b then None else holder) (λ h. is_session own h.session ≡ false)) [ true ↦ tt | false ↦ was ]
 holder_foreign own session holder asked Done other was = elim (is_some (closes asked)) as (λ b. IfSome (if b then None else holder) (λ h. is_session own h.session ≡ false)) [ true ↦ tt | false ↦ was ]
 holder_foreign own session holder asked (Held held) other was = elim (is_some (closes asked)) as (λ b. IfSome (if b then None else holder) (λ h. is_session own h.session ≡ false)) [ true ↦ tt | false ↦ was ]
 holder_foreign own session holder asked Stopping other was = elim (is_some (closes asked)) as (λ b. IfSome (if b then None else holder) (λ h. is_session own h.session ≡ false)) [ true ↦ tt | false ↦ was ]
+holder_foreign own session holder asked Late other was = elim (is_some (closes asked)) as (λ b. IfSome (if b then None else holder) (λ h. is_session own h.session ≡ false)) [ true ↦ tt | false ↦ was ]
 holder_foreign own session holder asked Refused other was = elim (is_some (closes asked)) as (λ b. IfSome (if b then None else holder) (λ h. is_session own h.session ≡ false)) [ true ↦ tt | false ↦ was ]
 
 -- a step that is played, by what it leaves

@@ -5,24 +5,20 @@ use Rattle.std.specs.Option.{is_some, option_and_then}
 use Rattle.std.proofs.lemmas.Bool.Decides.{nat_tests}
 use Rattle.agent_ports.specs.declared.session.SessionId.{SessionId}
 use Rattle.cache_policy.specs.declared.bounds.TheConstants.{MAX_MARKS}
-use Rattle.cache_policy.specs.declared.entry.Entry.{Entry}
 use Rattle.cache_policy.specs.declared.life.Limits.{Limits}
 use Rattle.cache_policy.specs.declared.mark.Mark.{Mark}
 use Rattle.cache_policy.specs.declared.mark.MarkReply.{MarkReply}
-use Rattle.cache_policy.specs.declared.mark.MarkReply.TheVariants as reply
 use Rattle.cache_policy.specs.declared.mark.MarkStep.{MarkStep}
 use Rattle.cache_policy.specs.declared.mark.MarkStep.TheVariants.{Ask, Seat, Close, Put, Clear, Flush, Peek, Stop}
-use Rattle.cache_policy.specs.declared.mark.Way.{Way}
-use Rattle.cache_policy.specs.declared.mark.Way.TheVariants.{Quiet, Prompt}
 use Rattle.cache_policy.specs.declared.history.Held.{Held as Ticket}
 use Rattle.cache_policy.specs.Desks.{Shows, IsSpentRun}
 use Rattle.cache_policy.specs.Histories.{History, next_number}
 use Rattle.cache_policy.specs.Legal.{IsLegalRun}
-use Rattle.cache_policy.specs.Live.{live}
-use Rattle.cache_policy.specs.Policy.{Reply, policy, prompt_ruling, ask_ruling}
+use Rattle.cache_policy.specs.Policy.{Reply, policy}
 use Rattle.cache_policy.specs.Runs.{last_base, turn_over, next_history, last_history, run_with_mark}
-use Rattle.cache_policy.specs.Seat.{seat, stopped, is_open, under_of, unless_given_back}
-use Rattle.cache_policy.specs.Turns.{Turn, Given, Empty, Open, Stand, Done, Held, Refused, Stopping, FitsReply, opens, closes, out_after}
+use Rattle.cache_policy.specs.Seat.{seat, is_open, under_of, unless_given_back}
+use Rattle.cache_policy.specs.Turns.{Turn, Given, Empty, Open, Stand, Done, Held, Refused, Stopping, Late, FitsReply, opens, closes, out_after}
+use Rattle.cache_policy.specs.declared.wait.Wait.{Wait}
 use Rattle.cache_policy.proofs.GrowingRuns.{last-run_with_mark}
 use Rattle.cache_policy.proofs.OneMore.{seat-with_mark}
 use Rattle.agent_core.specs.declared.holder.Holder.{Holder}
@@ -31,6 +27,7 @@ use Rattle.agent_core.specs.Foreigners.{holder_after}
 use Rattle.agent_core.specs.Known.{run_seat, IsOut, held as held_out, given_up, TakesStep, marked, stood as takes_stood, refused as takes_refused, spent as takes_spent}
 use Rattle.agent_core.specs.Recording.{reply_of}
 use Rattle.agent_core.specs.Seating.{Seated, free, own, theirs, over}
+use Rattle.agent_core.proofs.Coming.{opens_free}
 use Rattle.agent_core.proofs.Knowing.{last_of_all, seat_next, shows_reply, closes_none}
 
 -- a turn that gives no ticket
@@ -44,30 +41,9 @@ pub data SeatMoves (run : List History) (asked : MarkStep) : Turn → List Histo
       → SeatMoves run asked (Open number) after
   moved : {turn : Turn} {after : List History} → (IsSpentRun run → ⊥) → IsNotOpen turn
       → run_seat after ≡ option_and_then (unless_given_back asked) (run_seat run) → SeatMoves run asked turn after
-  stood : {after : List History} → after ≡ run → SeatMoves run asked Stand after
+  stood : {wait : Wait} {after : List History} → after ≡ run → SeatMoves run asked (Stand wait) after
   refused : {after : List History} → after ≡ run → SeatMoves run asked Refused after
   ended : {after : List History} → IsSpentRun run → after ≡ run → SeatMoves run asked Stopping after
-
--- a seat is free where a prompt is opened
-open_free : (stops : Bool) (held : Option Ticket) → prompt_ruling stops held ≡ Reply reply.Open → held ≡ None
-open_free true held is = cc is
-open_free false (Some ticket) is = cc is
-open_free false None is = refl
-
-ask_free : (found : Option Entry) (way : Way) (stops : Bool) (held : Option Ticket) → ask_ruling found way stops held ≡ Reply reply.Open → held ≡ None
-ask_free (Some entry) way stops held is = cc is
-ask_free None Quiet stops held is = cc is
-ask_free None Prompt stops held is = open_free stops held is
-
-policy_free : (limits : Limits) (next : History) (asked : MarkStep) (moment : ℕ) → policy limits next asked moment ≡ Reply reply.Open → seat next ≡ None
-policy_free limits next (Ask id mode way) moment is = ask_free (live limits next id mode moment) way (stopped next) (seat next) is
-policy_free limits next (Seat under) moment is = open_free (stopped next) (seat next) is
-policy_free limits next (Close ticket keep) moment is = cc is
-policy_free limits next (Put id mode life secret) moment is = cc is
-policy_free limits next (Clear id mode) moment is = cc is
-policy_free limits next Flush moment is = cc is
-policy_free limits next (Peek id mode) moment is = cc is
-policy_free limits next Stop moment is = cc is
 
 -- a run that goes on isn't spent
 pub going_on : (limits : Limits) (run : List History) (last : History) → IsLegalRun limits run → last_history run ≡ Some last → (next_history last).base < last_base
@@ -113,22 +89,23 @@ module _ (limits : Limits) (run after : List History) (session : SessionId) (mom
   marked_moves Empty shows = shut_moves Empty tt refl shows
   marked_moves (Open number) shows =
       opened number (record { ticket = next_number (next_history last); under = under_of asked }) more
-      (ap (option_and_then seat) last_is ∙ (sym (seat_next last) ∙ policy_free limits (next_history last) asked moment (rules ∙ ap Reply shows.0)))
+      (ap (option_and_then seat) last_is ∙ (sym (seat_next last) ∙ opens_free limits (next_history last) asked moment (rules ∙ ap Reply shows.0)))
       (ap run_seat is ∙ (seat_marked run last (mark_of session asked answer moment) last_is
       ∙ ap (λ (r : MarkReply). if is_open r then Some (record { ticket = next_number (next_history last); under = under_of asked })
       else option_and_then (unless_given_back asked) (run_seat run)) shows.0))
       (sym shows.1)
-  marked_moves Stand shows = absurd shows
+  marked_moves (Stand wait) shows = absurd shows
   marked_moves Done shows = shut_moves Done tt refl shows
   marked_moves (Held held) shows = shut_moves (Held held) tt refl shows
   marked_moves Stopping shows = shut_moves Stopping tt refl shows
+  marked_moves Late shows = shut_moves Late tt refl shows
   marked_moves Refused shows = absurd shows
 
 pub moves : (limits : Limits) (run after : List History) (session : SessionId) (moment : ℕ) (asked : MarkStep) (turn : Turn) → IsLegalRun limits run
     → TakesStep limits run session moment asked turn after → SeatMoves run asked turn after
 moves limits run after session moment asked turn legal (marked last answer last_is below rules shows is) =
     marked_moves limits run after session moment asked last answer (going_on limits run last legal last_is below) last_is rules is turn shows
-moves limits run after session moment asked turn legal (takes_stood last last_is some rules is) = stood is
+moves limits run after session moment asked turn legal (takes_stood last last_is some rules wait_is is) = stood is
 moves limits run after session moment asked turn legal (takes_refused last last_is below why is) = refused is
 moves limits run after session moment asked turn legal (takes_spent all is) = ended all is
 
@@ -147,8 +124,8 @@ seated_stays run after out holder same seated = subst (λ (r : List History). Se
 none_back : (asked : MarkStep) (held : Option Ticket) → closes asked ≡ None → option_and_then (unless_given_back asked) held ≡ held
 none_back asked None none = refl
 none_back (Close number keep) (Some ticket) none = absurd (cc none)
-none_back (Ask id mode way) (Some ticket) none = refl
-none_back (Seat under) (Some ticket) none = refl
+none_back (Ask id mode way since) (Some ticket) none = refl
+none_back (Seat under since) (Some ticket) none = refl
 none_back (Put id mode life secret) (Some ticket) none = refl
 none_back (Clear id mode) (Some ticket) none = refl
 none_back Flush (Some ticket) none = refl
@@ -162,8 +139,8 @@ back_free (Close other keep) number ticket is same =
     let e : other ≡ number = cc is in
     let back : (other == ticket.ticket) ≡ true = grind (arith, nat_tests) in
     ap (λ (b : Bool). if b then None else Some ticket) back
-back_free (Ask id mode way) number ticket is same = absurd (cc is)
-back_free (Seat under) number ticket is same = absurd (cc is)
+back_free (Ask id mode way since) number ticket is same = absurd (cc is)
+back_free (Seat under since) number ticket is same = absurd (cc is)
 back_free (Put id mode life secret) number ticket is same = absurd (cc is)
 back_free (Clear id mode) number ticket is same = absurd (cc is)
 back_free Flush number ticket is same = absurd (cc is)
@@ -176,23 +153,25 @@ out_kept out (Close number keep) turn other none = absurd (cc none)
 out_kept out asked (Given grant) other none = refl
 out_kept out asked Empty other none = refl
 out_kept out asked (Open number) other none = absurd other
-out_kept out asked Stand other none = refl
+out_kept out asked (Stand wait) other none = refl
 out_kept out asked Done other none = refl
 out_kept out asked (Held held) other none = refl
 out_kept out asked Stopping other none = refl
+out_kept out asked Late other none = refl
 out_kept out asked Refused other none = absurd other
 
 out_back : (out : Option ℕ) (asked : MarkStep) (turn : Turn) (number : ℕ) → IsNotOpen turn → closes asked ≡ Some number → out_after out asked turn ≡ None
 out_back out (Close ticket keep) (Given grant) number other is = refl
 out_back out (Close ticket keep) Empty number other is = refl
 out_back out (Close ticket keep) (Open n) number other is = absurd other
-out_back out (Close ticket keep) Stand number other is = refl
+out_back out (Close ticket keep) (Stand wait) number other is = refl
 out_back out (Close ticket keep) Done number other is = refl
 out_back out (Close ticket keep) (Held held) number other is = refl
 out_back out (Close ticket keep) Stopping number other is = refl
+out_back out (Close ticket keep) Late number other is = refl
 out_back out (Close ticket keep) Refused number other is = absurd other
-out_back out (Ask id mode way) turn number other is = absurd (cc is)
-out_back out (Seat under) turn number other is = absurd (cc is)
+out_back out (Ask id mode way since) turn number other is = absurd (cc is)
+out_back out (Seat under since) turn number other is = absurd (cc is)
 out_back out (Put id mode life secret) turn number other is = absurd (cc is)
 out_back out (Clear id mode) turn number other is = absurd (cc is)
 out_back out Flush turn number other is = absurd (cc is)
@@ -204,25 +183,26 @@ holder_kept : (holder : Option Holder) (session : SessionId) (asked : MarkStep) 
 holder_kept holder session asked (Given grant) other = refl
 holder_kept holder session asked Empty other = refl
 holder_kept holder session asked (Open number) other = absurd other
-holder_kept holder session asked Stand other = refl
+holder_kept holder session asked (Stand wait) other = refl
 holder_kept holder session asked Done other = refl
 holder_kept holder session asked (Held held) other = refl
 holder_kept holder session asked Stopping other = refl
+holder_kept holder session asked Late other = refl
 holder_kept holder session asked Refused other = absurd other
 
-pub stand_opens : (asked : MarkStep) → FitsReply asked Stand → opens asked ≡ true
-stand_opens (Ask id mode way) fits = fits
-stand_opens (Seat under) fits = fits
-stand_opens (Close ticket keep) fits = fits
-stand_opens (Put id mode life secret) fits = fits
-stand_opens (Clear id mode) fits = fits
-stand_opens Flush fits = fits
-stand_opens (Peek id mode) fits = fits
-stand_opens Stop fits = fits
+pub stand_opens : (asked : MarkStep) (wait : Wait) → FitsReply asked (Stand wait) → opens asked ≡ true
+stand_opens (Ask id mode way since) wait fits = fits
+stand_opens (Seat under since) wait fits = fits
+stand_opens (Close ticket keep) wait fits = fits
+stand_opens (Put id mode life secret) wait fits = fits
+stand_opens (Clear id mode) wait fits = fits
+stand_opens Flush wait fits = fits
+stand_opens (Peek id mode) wait fits = fits
+stand_opens Stop wait fits = fits
 
 refused_keeps : (asked : MarkStep) → FitsReply asked Refused → closes asked ≡ None
-refused_keeps (Ask id mode way) fits = refl
-refused_keeps (Seat under) fits = refl
+refused_keeps (Ask id mode way since) fits = refl
+refused_keeps (Seat under since) fits = refl
 refused_keeps (Close ticket keep) fits = absurd fits
 refused_keeps (Put id mode life secret) fits = refl
 refused_keeps (Clear id mode) fits = refl
@@ -283,8 +263,8 @@ module _ (run after : List History) (asked : MarkStep) (out : Option ℕ) (holde
           subst (λ (o : Option ℕ). Seated after o holder) (sym (out_back out asked turn number other is))
           (subst (λ (h : Option Holder). Seated after None h) (sym mine.3)
           (free (now ∙ (ap (option_and_then (unless_given_back asked)) mine.1 ∙ back_free asked number mine.0 is mine.2))))
-  own_seated turn (stood same) fits back =
-      subst (λ (o : Option ℕ). Seated after o holder) (sym (out_kept out asked Stand tt (closes_none asked (stand_opens asked fits)))) (seated_stays run after out holder same seated)
+  own_seated turn (stood {wait = wait} same) fits back =
+      subst (λ (o : Option ℕ). Seated after o holder) (sym (out_kept out asked (Stand wait) tt (closes_none asked (stand_opens asked wait fits)))) (seated_stays run after out holder same seated)
   own_seated turn (refused same) fits back = seated_stays run after out holder same seated
   own_seated turn (ended all same) fits back = seated_stays run after (out_after out asked Stopping) holder same (over all)
 
@@ -306,8 +286,8 @@ module _ (run after : List History) (asked : MarkStep) (out : Option ℕ) (holde
           subst (λ (h : Option Holder). Seated after out h) (sym (holder_kept holder session asked turn other ∙ ap (λ (o : Option ℕ). if is_some o then None else holder) is))
           (subst (λ (o : Option ℕ). Seated after o None) (sym held.3)
           (free (now ∙ (ap (option_and_then (unless_given_back asked)) held.1 ∙ back_free asked number held.0 is (held.2 ∙ back.2)))))
-  their_seated session turn (stood same) fits back =
-      subst (λ (h : Option Holder). Seated after out h) (sym (ap (λ (o : Option ℕ). if is_some o then None else holder) (closes_none asked (stand_opens asked fits))))
+  their_seated session turn (stood {wait = wait} same) fits back =
+      subst (λ (h : Option Holder). Seated after out h) (sym (ap (λ (o : Option ℕ). if is_some o then None else holder) (closes_none asked (stand_opens asked wait fits))))
       (seated_stays run after out holder same seated)
   their_seated session turn (refused same) fits back =
       subst (λ (h : Option Holder). Seated after out h) (sym (ap (λ (o : Option ℕ). if is_some o then None else holder) (refused_keeps asked fits)))

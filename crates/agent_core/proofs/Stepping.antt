@@ -26,7 +26,9 @@ use Rattle.cache_policy.specs.Policy.{Reply, policy, prompt_ruling, ask_ruling}
 use Rattle.cache_policy.specs.Policy as ruling
 use Rattle.cache_policy.specs.Runs.{next_history, is_spent}
 use Rattle.cache_policy.specs.Legal.{IsLegal}
-use Rattle.cache_policy.specs.Turns.{Turn, Given, Empty, Open, Stand, Done, Held as WhetherHeld, Stopping, Refused}
+use Rattle.cache_policy.specs.Turns.{Turn, Given, Empty, Open, Stand, Done, Held as WhetherHeld, Stopping, Late, Refused, since_when}
+use Rattle.cache_policy.specs.Waits.{is_late}
+use Rattle.cache_policy.specs.declared.wait.Wait.{Wait}
 use Rattle.cache_policy.proofs.OneMore.{stopped-with_mark, seat-with_mark}
 use Rattle.cache_book.specs.declared.slot.Slot.{Slot}
 use Rattle.cache_book.specs.Slots.{slots}
@@ -36,7 +38,7 @@ use Rattle.cache_book.proofs.Storing.{slots-given, slots-stored}
 use Rattle.cache_book.proofs.Live.{IsLiveGrant, grant_is_live, none_live, live_is_live, grant-swept, none-swept}
 use Rattle.agent_core.specs.declared.state.State.{State}
 use Rattle.agent_core.specs.States.{seen, held_of, IsState}
-use Rattle.agent_core.specs.Taking.{held_at, HasMarked, HasMarkedAlone, HasMoreRoom, Finds, Prompts, Puts, Closes, with_stored, next_slots, number_of, slots_at}
+use Rattle.agent_core.specs.Taking.{held_at, since_at, HasMarked, HasMarkedAlone, HasMoreRoom, Finds, Prompts, Puts, Closes, with_stored, next_slots, number_of, slots_at}
 use Rattle.agent_core.specs.Cores.{StandsFor, mark_of, WantsMemory, IsAsBefore, IsStep, marked, stood, refused}
 use Rattle.agent_core.proofs.Standing.{IsReady, slots_at-ready, stands_then, seat-kept, stopped-kept}
 
@@ -78,9 +80,10 @@ alone before after history mark is marks lone =
       stopped_is = stopped-kept before history mark is.ready lone.no_stop;
     })
 
--- a step that wants a ticket for a passphrase that is kept under this
-pub record IsWish (limits : Limits) (next : History) (step_of : MarkStep) (moment : ℕ) (under : Option Under) : Type 0 where
-  pub rules : policy limits next step_of moment ≡ prompt_ruling (stopped next) (seat next)
+-- a step that wants a ticket for a passphrase that is kept under this, and was first tried then
+pub record IsWish (limits : Limits) (next : History) (step_of : MarkStep) (moment : ℕ) (since : Option ℕ) (under : Option Under) : Type 0 where
+  pub rules : policy limits next step_of moment ≡ prompt_ruling (stopped next) (seat next) (is_late since moment)
+  pub since_is : since_when step_of moment ≡ since_at since moment
   pub under_is : under_of step_of ≡ under
   pub none : stored limits next step_of moment ≡ []
   pub keeps : (entry : Entry) → takes_away entry step_of ≡ false
@@ -97,31 +100,55 @@ as_before before after more = record {
   room = more.spare;
 }
 
-pub prompts-step : (before after : State) (history : History) (session : SessionId) (moment : ℕ) (step_of : MarkStep) (under : Option Under) (turn : Turn)
-    → IsTaken before after history moment → IsWish before.limits (next_history history) step_of moment under → Prompts before moment under turn after
+-- what the policy says of it, by what the state has
+wish_rules : (before after : State) (history : History) (moment : ℕ) (step_of : MarkStep) (since : Option ℕ) (under : Option Under)
+    → IsTaken before after history moment → IsWish before.limits (next_history history) step_of moment since under
+    → (stops : Bool) (holder : Option ℕ) (late : Bool) → before.stopped ≡ stops → before.seat ≡ holder → is_late since moment ≡ late
+    → policy before.limits (next_history history) step_of moment ≡ prompt_ruling stops (held_of holder before.under) late
+wish_rules before after history moment step_of since under is wish stops holder late stops_is holder_is late_is =
+    wish.rules
+    ∙ (ap (λ b. prompt_ruling b (seat (next_history history)) (is_late since moment)) (sym is.ready.next.stopped_is ∙ stops_is)
+    ∙ (ap (λ h. prompt_ruling stops h (is_late since moment)) (sym is.ready.next.seat_is ∙ ap (λ (o : Option ℕ). held_of o before.under) holder_is)
+    ∙ ap (prompt_ruling stops (held_of holder before.under)) late_is))
+
+held_stands : (holder : Option ℕ) (under : Option Under) → IsSome holder → prompt_ruling false (held_of holder under) false ≡ ruling.Stand
+held_stands None under some = cc
+held_stands (Some ticket) under some = refl
+
+held_late : (holder : Option ℕ) (under : Option Under) → IsSome holder → prompt_ruling false (held_of holder under) true ≡ Reply reply.Late
+held_late None under some = cc
+held_late (Some ticket) under some = refl
+
+pub prompts-step : (before after : State) (history : History) (session : SessionId) (moment : ℕ) (step_of : MarkStep) (since : Option ℕ) (under : Option Under) (turn : Turn)
+    → IsTaken before after history moment → IsWish before.limits (next_history history) step_of moment since under → Prompts before moment session since under turn after
     → IsStep (seen before) history session moment step_of turn (seen after)
-prompts-step before after history session moment step_of under Stopping is wish does =
+prompts-step before after history session moment step_of since under Stopping is wish does =
     marked is.going (record {
       reply_is = reply.Stopping;
-      rules = wish.rules ∙ ap (λ b. prompt_ruling b (seat (next_history history))) (sym is.ready.next.stopped_is ∙ does.0);
+      rules = wish_rules before after history moment step_of since under is wish true before.seat (is_late since moment) does.0 refl refl;
       shows = refl;
       stands = alone before after history (mark_of session step_of reply.Stopping moment) is does.1
           (record { none = wish.none; keeps = wish.keeps; unused = λ n. refl; shut = refl; held = wish.held; no_stop = wish.no_stop });
     })
-prompts-step before after history session moment step_of under Stand is wish does =
+prompts-step before after history session moment step_of since under Late is wish does =
+    marked is.going (record {
+      reply_is = reply.Late;
+      rules = wish_rules before after history moment step_of since under is wish false before.seat true does.0 refl does.2.0
+          ∙ held_late before.seat before.under does.1;
+      shows = refl;
+      stands = alone before after history (mark_of session step_of reply.Late moment) is does.2.1
+          (record { none = wish.none; keeps = wish.keeps; unused = λ n. refl; shut = refl; held = wish.held; no_stop = wish.no_stop });
+    })
+prompts-step before after history session moment step_of since under (Stand wait) is wish does =
     stood is.going
-    (wish.rules ∙ (ap (λ b. prompt_ruling b (seat (next_history history))) (sym is.ready.next.stopped_is ∙ does.0)
-    ∙ (ap (prompt_ruling false) (sym is.ready.next.seat_is) ∙ out before.seat does.1)))
-    (ap seen does.2)
-  where
-    out : (holder : Option ℕ) → IsSome holder → prompt_ruling false (held_of holder before.under) ≡ ruling.Stand
-    out None some = cc
-    out (Some ticket) some = refl
-prompts-step before after history session moment step_of under (Open number) is wish does =
+    (wish_rules before after history moment step_of since under is wish false before.seat false does.0 refl does.2.0
+    ∙ held_stands before.seat before.under does.1)
+    (does.2.1 ∙ ap (λ (n : ℕ). let w : Wait = record { session = session; since = n } in w) (sym wish.since_is))
+    (ap seen does.2.2)
+prompts-step before after history session moment step_of since under (Open number) is wish does =
     marked is.going (record {
       reply_is = reply.Open;
-      rules = wish.rules ∙ (ap (λ b. prompt_ruling b (seat (next_history history))) (sym is.ready.next.stopped_is ∙ does.0)
-          ∙ ap (prompt_ruling false) (sym is.ready.next.seat_is ∙ ap (λ (holder : Option ℕ). held_of holder before.under) does.1));
+      rules = wish_rules before after history moment step_of since under is wish false None (is_late since moment) does.0 does.1 refl;
       shows = (refl, does.2 ∙ number_is before history moment is.ready);
       stands = stands_then before after history mark (slots_at before moment) (Some (record { ticket = number; under = under })) before.stopped is.ready does.3 is.state (record {
         slots_are = slots_at-ready before history moment is.ready
@@ -135,26 +162,25 @@ prompts-step before after history session moment step_of under (Open number) is 
   where
     mark : Mark
     mark = mark_of session step_of reply.Open moment
-prompts-step before after history session moment step_of under Refused is wish does =
+prompts-step before after history session moment step_of since under Refused is wish does =
     refused is.going
-    (wish.wants does.2 (wish.rules ∙ (ap (λ b. prompt_ruling b (seat (next_history history))) (sym is.ready.next.stopped_is ∙ does.0)
-    ∙ ap (prompt_ruling false) (sym is.ready.next.seat_is ∙ ap (λ (holder : Option ℕ). held_of holder before.under) does.1))))
+    (wish.wants does.2 (wish_rules before after history moment step_of since under is wish false None (is_late since moment) does.0 does.1 refl))
     (as_before before after does.3)
-prompts-step before after history session moment step_of under (Given grant) is wish does = absurd does
-prompts-step before after history session moment step_of under Empty is wish does = absurd does
-prompts-step before after history session moment step_of under Done is wish does = absurd does
-prompts-step before after history session moment step_of under (WhetherHeld held) is wish does = absurd does
+prompts-step before after history session moment step_of since under (Given grant) is wish does = absurd does.2
+prompts-step before after history session moment step_of since under Empty is wish does = absurd does.2
+prompts-step before after history session moment step_of since under Done is wish does = absurd does.2
+prompts-step before after history session moment step_of since under (WhetherHeld held) is wish does = absurd does.2
 
 -- an Ask that is given what is live
-pub given-step : (before after : State) (history : History) (session : SessionId) (moment : ℕ) (id : List ℕ) (mode : Mode) (way : Way) (grant : Grant)
+pub given-step : (before after : State) (history : History) (session : SessionId) (moment : ℕ) (id : List ℕ) (mode : Mode) (way : Way) (since : Option ℕ) (grant : Grant)
     → IsTaken before after history moment → IsGrantFrom (next_slots before) id mode moment grant
     → HasMarked before moment (touched grant.entry.number moment (slots_at before moment)) (held_at before) before.stopped after
-    → IsStep (seen before) history session moment (asked.Ask id mode way) (Given grant) (seen after)
-given-step before after history session moment id mode way grant is from marks =
+    → IsStep (seen before) history session moment (asked.Ask id mode way since) (Given grant) (seen after)
+given-step before after history session moment id mode way since grant is from marks =
     let found = live-found before history moment id mode grant is.ready from in
     marked is.going (record {
       reply_is = reply.Given grant.entry.number;
-      rules = ap (λ (o : Option Entry). ask_ruling o way (stopped (next_history history)) (seat (next_history history))) found.live_is;
+      rules = ap (λ (o : Option Entry). ask_ruling o way (stopped (next_history history)) (seat (next_history history)) (is_late since moment)) found.live_is;
       shows = (
         refl,
         subst (λ (i : List ℕ). live before.limits (next_history history) i grant.mode moment ≡ Some grant.entry) (sym found.id_is)
@@ -172,7 +198,7 @@ given-step before after history session moment id mode way grant is from marks =
     })
   where
     mark : Mark
-    mark = mark_of session (asked.Ask id mode way) (reply.Given grant.entry.number) moment
+    mark = mark_of session (asked.Ask id mode way since) (reply.Given grant.entry.number) moment
 
 -- what a mark stores is one entry of its own number and moment, or none
 abbrev IsStorable : History → ℕ → List Entry → Type 0
@@ -233,7 +259,8 @@ put-step before after history session moment id mode life secret Refused is does
 put-step before after history session moment id mode life secret (Given grant) is does = absurd does
 put-step before after history session moment id mode life secret Empty is does = absurd does
 put-step before after history session moment id mode life secret (Open number) is does = absurd does
-put-step before after history session moment id mode life secret Stand is does = absurd does
+put-step before after history session moment id mode life secret (Stand wait) is does = absurd does
+put-step before after history session moment id mode life secret Late is does = absurd does
 put-step before after history session moment id mode life secret (WhetherHeld held) is does = absurd does
 put-step before after history session moment id mode life secret Stopping is does = absurd does
 
@@ -339,11 +366,22 @@ peek-step before after history session moment id mode there found is finds there
     looked None none = ap is_some (live-none before history moment id mode is.ready none)
     looked (Some grant) from = ap is_some (live-found before history moment id mode grant is.ready from).live_is
 
-pub wish_of_ask : (before after : State) (history : History) (moment : ℕ) (id : List ℕ) (mode : Mode) → IsTaken before after history moment
+-- since when a step stands, by the moment of its first try
+since_asked : (id : List ℕ) (mode : Mode) (way : Way) (since : Option ℕ) (moment : ℕ) → since_when (asked.Ask id mode way since) moment ≡ since_at since moment
+since_asked id mode way None moment = refl
+since_asked id mode way (Some first) moment = refl
+
+since_seated : (under : Option Under) (since : Option ℕ) (moment : ℕ) → since_when (asked.Seat under since) moment ≡ since_at since moment
+since_seated under None moment = refl
+since_seated under (Some first) moment = refl
+
+pub wish_of_ask : (before after : State) (history : History) (moment : ℕ) (id : List ℕ) (mode : Mode) (since : Option ℕ) → IsTaken before after history moment
     → ServesNone (next_slots before) id mode moment
-    → IsWish before.limits (next_history history) (asked.Ask id mode Prompt) moment (Some (record { id = id; mode = mode }))
-wish_of_ask before after history moment id mode is none = record {
-  rules = ap (λ (o : Option Entry). ask_ruling o Prompt (stopped (next_history history)) (seat (next_history history))) (live-none before history moment id mode is.ready none);
+    → IsWish before.limits (next_history history) (asked.Ask id mode Prompt since) moment since (Some (record { id = id; mode = mode }))
+wish_of_ask before after history moment id mode since is none = record {
+  rules = ap (λ (o : Option Entry). ask_ruling o Prompt (stopped (next_history history)) (seat (next_history history)) (is_late since moment))
+      (live-none before history moment id mode is.ready none);
+  since_is = since_asked id mode Prompt since moment;
   under_is = refl;
   none = refl;
   keeps = λ entry. refl;
@@ -352,10 +390,11 @@ wish_of_ask before after history moment id mode is none = record {
   wants = λ some opens. opens;
 }
 
-pub wish_of_seat : (before after : State) (history : History) (moment : ℕ) (under : Option Under) → IsTaken before after history moment
-    → IsWish before.limits (next_history history) (asked.Seat under) moment under
-wish_of_seat before after history moment under is = record {
+pub wish_of_seat : (before after : State) (history : History) (moment : ℕ) (since : Option ℕ) (under : Option Under) → IsTaken before after history moment
+    → IsWish before.limits (next_history history) (asked.Seat under since) moment since under
+wish_of_seat before after history moment since under is = record {
   rules = refl;
+  since_is = since_seated under since moment;
   under_is = refl;
   none = refl;
   keeps = λ entry. refl;
@@ -364,14 +403,15 @@ wish_of_seat before after history moment under is = record {
   wants = λ some opens. (some, opens);
 }
 
-pub empty-step : (before after : State) (history : History) (session : SessionId) (moment : ℕ) (id : List ℕ) (mode : Mode)
+pub empty-step : (before after : State) (history : History) (session : SessionId) (moment : ℕ) (id : List ℕ) (mode : Mode) (since : Option ℕ)
     → IsTaken before after history moment → ServesNone (next_slots before) id mode moment → HasMarkedAlone before moment after
-    → IsStep (seen before) history session moment (asked.Ask id mode Quiet) Empty (seen after)
-empty-step before after history session moment id mode is none does =
+    → IsStep (seen before) history session moment (asked.Ask id mode Quiet since) Empty (seen after)
+empty-step before after history session moment id mode since is none does =
     marked is.going (record {
       reply_is = reply.Empty;
-      rules = ap (λ (o : Option Entry). ask_ruling o Quiet (stopped (next_history history)) (seat (next_history history))) (live-none before history moment id mode is.ready none);
+      rules = ap (λ (o : Option Entry). ask_ruling o Quiet (stopped (next_history history)) (seat (next_history history)) (is_late since moment))
+          (live-none before history moment id mode is.ready none);
       shows = refl;
-      stands = alone before after history (mark_of session (asked.Ask id mode Quiet) reply.Empty moment) is does
+      stands = alone before after history (mark_of session (asked.Ask id mode Quiet since) reply.Empty moment) is does
           (record { none = refl; keeps = λ entry. refl; unused = λ n. refl; shut = refl; held = λ held. refl; no_stop = refl });
     })

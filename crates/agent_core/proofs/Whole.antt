@@ -54,18 +54,18 @@ spent_step core state history session moment step_of is all legal stands =
         (at_end state.base state.count is.state_is.base is.state_is.whole is.state_is.few) all
 
 -- a step that is taken by a state at a reading
-pub record IsTakenAt (before after : State) (reading moment : ℕ) (step_of : MarkStep) (turn : Turn) : Type 0 where
-  pub takes : Takes before moment step_of turn after
+pub record IsTakenAt (before after : State) (reading moment : ℕ) (session : SessionId) (step_of : MarkStep) (turn : Turn) : Type 0 where
+  pub takes : Takes before moment session step_of turn after
   pub state : IsState after
   pub moment_is : moment ≡ moment_of before.moment reading
   pub later : before.moment ≤ moment
   pub within : moment ≤ MAX_MOMENT
 
-taken_step : (before after : State) (history : History) (session : SessionId) (reading moment : ℕ) (step_of : MarkStep) (turn : Turn)
-    → IsState before → before.base + before.count ≢ last_base → IsTakenAt before after reading moment step_of turn
+step_counts : (before after : State) (history : History) (session : SessionId) (reading moment : ℕ) (step_of : MarkStep) (turn : Turn)
+    → IsState before → before.base + before.count ≢ last_base → IsTakenAt before after reading moment session step_of turn
     → IsLegal before.limits history → StandsFor (seen before) history
     → IsStep (seen before) history session (moment_of before.moment reading) step_of turn (seen after)
-taken_step before after history session reading moment step_of turn is more taken legal stands =
+step_counts before after history session reading moment step_of turn is more taken legal stands =
     subst (λ (t : ℕ). IsStep (seen before) history session t step_of turn (seen after)) taken.moment_is
     (takes-step before after history session moment (record {
       ready = ready before history moment legal stands taken.later taken.within;
@@ -75,9 +75,9 @@ taken_step before after history session reading moment step_of turn is more take
     }) step_of turn taken.takes)
 
 pub whole_step : (core : AtCore) (before after : State) (history : History) (session : SessionId) (reading moment : ℕ) (step_of : MarkStep) (turn : Turn)
-    → IsCore core before → core.base + core.count ≢ last_base → IsTakenAt before after reading moment step_of turn
+    → IsCore core before → core.base + core.count ≢ last_base → IsTakenAt before after reading moment session step_of turn
     → IsLegal core.limits history → StandsFor core history → IsStep core history session (moment_of core.moment reading) step_of turn (seen after)
 whole_step core before after history session reading moment step_of turn is =
-    subst (λ (c : AtCore). c.base + c.count ≢ last_base → IsTakenAt before after reading moment step_of turn
+    subst (λ (c : AtCore). c.base + c.count ≢ last_base → IsTakenAt before after reading moment session step_of turn
     → IsLegal c.limits history → StandsFor c history → IsStep c history session (moment_of c.moment reading) step_of turn (seen after)) is.seen_is
-    (taken_step before after history session reading moment step_of turn is.state_is)
+    (step_counts before after history session reading moment step_of turn is.state_is)

@@ -9,12 +9,13 @@ use Rattle.cache_policy.specs.declared.mark.MarkStep.TheVariants as asked
 use Rattle.cache_policy.specs.declared.mark.MarkReply.{MarkReply}
 use Rattle.cache_policy.specs.declared.mark.MarkReply.TheVariants as reply
 use Rattle.cache_policy.specs.declared.history.Held.{Held}
+use Rattle.cache_policy.specs.declared.wait.Wait.{Wait}
 use Rattle.cache_policy.specs.Histories.{History, with_mark}
 use Rattle.cache_policy.specs.Seat.{seat, stopped}
 use Rattle.cache_policy.specs.Policy.{Reply, policy}
 use Rattle.cache_policy.specs.Policy as ruling
 use Rattle.cache_policy.specs.Runs.{next_history, is_spent, moment_before}
-use Rattle.cache_policy.specs.Turns.{Turn, Stand, Stopping, Refused}
+use Rattle.cache_policy.specs.Turns.{Turn, Stand, Stopping, Refused, wait_after}
 use Rattle.cache_policy.specs.Desks.{Shows}
 use Rattle.cache_book.specs.declared.slot.Slot.{Slot}
 use Rattle.cache_book.specs.Slots.{slots}
@@ -60,8 +61,8 @@ pub record IsMarked (before : AtCore) (next : History) (session : SessionId) (mo
 -- Only these steps can find no memory: a Put, and one that opens a prompt whose passphrase is to be kept
 abbrev pub WantsMemory : Limits → History → MarkStep → ℕ → Type 0
 WantsMemory limits next (asked.Put id mode life secret) moment = ⊤
-WantsMemory limits next (asked.Ask id mode way) moment = policy limits next (asked.Ask id mode way) moment ≡ Reply reply.Open
-WantsMemory limits next (asked.Seat under) moment = IsSome under × (policy limits next (asked.Seat under) moment ≡ Reply reply.Open)
+WantsMemory limits next (asked.Ask id mode way since) moment = policy limits next (asked.Ask id mode way since) moment ≡ Reply reply.Open
+WantsMemory limits next (asked.Seat under since) moment = IsSome under × (policy limits next (asked.Seat under since) moment ≡ Reply reply.Open)
 WantsMemory limits next _ moment = ⊥
 
 -- the core is as before, but for its room, which isn't less
@@ -74,8 +75,9 @@ pub record IsAsBefore (before after : AtCore) : Type 0 where
 pub data IsStep (before : AtCore) (history : History) (session : SessionId) (moment : ℕ) (step_of : MarkStep) : Turn → AtCore → Type 0 where
   marked : {turn : Turn} {after : AtCore} → is_spent (next_history history) ≡ false
       → IsMarked before (next_history history) session moment step_of turn after → IsStep before history session moment step_of turn after
-  stood : {after : AtCore} → is_spent (next_history history) ≡ false → policy before.limits (next_history history) step_of moment ≡ ruling.Stand
-      → after ≡ before → IsStep before history session moment step_of Stand after
+  stood : {wait : Wait} {after : AtCore} → is_spent (next_history history) ≡ false
+      → policy before.limits (next_history history) step_of moment ≡ ruling.Stand → wait ≡ wait_after session step_of moment → after ≡ before
+      → IsStep before history session moment step_of (Stand wait) after
   refused : {after : AtCore} → is_spent (next_history history) ≡ false → WantsMemory before.limits (next_history history) step_of moment
       → IsAsBefore before after → IsStep before history session moment step_of Refused after
   spent : {after : AtCore} → is_spent (next_history history) ≡ true → after ≡ before → IsStep before history session moment step_of Stopping after

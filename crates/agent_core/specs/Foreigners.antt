@@ -1,19 +1,16 @@
 -- Steps of other sessions, and the ticket that one of them has. This is the project's own.
-use Rattle.std.specs.Prelude.{◌≡◌, ℕ, List, Bool, false, ◌&&◌, nat_eq, Option, Some, None, if◌then◌else◌}
+use Rattle.std.specs.Prelude.{◌≡◌, ℕ, List, false, Option, Some, None, if◌then◌else◌}
 use Rattle.std.specs.Option.{is_some, option_and_then}
 use Rattle.std.specs.List.{AllByRecursion}
 use Rattle.agent_ports.specs.declared.session.SessionId.{SessionId}
 use Rattle.cache_policy.specs.declared.mark.MarkStep.{MarkStep}
 use Rattle.cache_policy.specs.declared.mark.MarkStep.TheVariants as asked
 use Rattle.cache_policy.specs.Turns.{Turn, Open, closes}
+use Rattle.cache_policy.specs.Waits.{is_session}
 use Rattle.agent_core.specs.declared.foreign.Foreign.{Foreign}
 use Rattle.agent_core.specs.declared.foreign.ForeignStep.{ForeignStep}
 use Rattle.agent_core.specs.declared.foreign.ForeignStep.TheVariants.{Ask, Seat, CloseHeld, Put, Clear, Flush, Peek, Stop}
 use Rattle.agent_core.specs.declared.holder.Holder.{Holder}
-
--- the sessions are one
-abbrev pub is_session : SessionId → SessionId → Bool
-is_session session other = nat_eq other.pass session.pass && nat_eq other.count session.count
 
 -- the step is one of another session
 abbrev pub IsForeign : SessionId → Foreign → Type 0
@@ -31,10 +28,10 @@ abbrev pub close_of : Option ℕ → Option (List ℕ) → Option MarkStep
 close_of (Some ticket) keep = Some (asked.Close ticket keep)
 close_of None keep = None
 
--- the step that is taken, by the ticket that its session has; none where a Close finds none
+-- the step that is taken, by the ticket that its session has; none where a Close finds none. It is never tried again.
 abbrev pub told_step : Option ℕ → ForeignStep → Option MarkStep
-told_step ticket (Ask id mode way) = Some (asked.Ask id mode way)
-told_step ticket (Seat under) = Some (asked.Seat under)
+told_step ticket (Ask id mode way) = Some (asked.Ask id mode way None)
+told_step ticket (Seat under) = Some (asked.Seat under None)
 told_step ticket (CloseHeld keep) = close_of ticket keep
 told_step ticket (Put id mode life secret) = Some (asked.Put id mode life secret)
 told_step ticket (Clear id mode) = Some (asked.Clear id mode)

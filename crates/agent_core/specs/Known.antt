@@ -7,13 +7,14 @@ use Rattle.cache_policy.specs.declared.life.Limits.{Limits}
 use Rattle.cache_policy.specs.declared.mark.MarkStep.{MarkStep}
 use Rattle.cache_policy.specs.declared.mark.MarkReply.{MarkReply}
 use Rattle.cache_policy.specs.declared.history.Held.{Held as Ticket}
+use Rattle.cache_policy.specs.declared.wait.Wait.{Wait}
 use Rattle.cache_policy.specs.Histories.{History, with_mark}
 use Rattle.cache_policy.specs.Desks.{Shows, IsSpentRun}
 use Rattle.cache_policy.specs.Policy.{Reply, policy}
 use Rattle.cache_policy.specs.Policy as ruling
 use Rattle.cache_policy.specs.Runs.{last_base, last_history, next_history, joined, moment_before, moment_of, run_with_mark}
 use Rattle.cache_policy.specs.Seat.{seat}
-use Rattle.cache_policy.specs.Turns.{Turn, Stand, Stopping, Refused, closes}
+use Rattle.cache_policy.specs.Turns.{Turn, Stand, Stopping, Refused, closes, wait_after}
 use Rattle.agent_core.specs.Cores.{mark_of, WantsMemory}
 
 -- a core whose run is known is seen as its lifetimes and its run
@@ -49,8 +50,9 @@ pub data TakesStep (limits : Limits) (run : List History) (session : SessionId) 
       → policy limits (next_history last) step_of moment ≡ Reply answer
       → Shows limits (next_history last) (mark_of session step_of answer moment) turn
       → after ≡ run_with_mark run (mark_of session step_of answer moment) → TakesStep limits run session moment step_of turn after
-  stood : {after : List History} (last : History) → last_history run ≡ Some last → (IsSpentRun run → ⊥)
-      → policy limits (next_history last) step_of moment ≡ ruling.Stand → after ≡ run → TakesStep limits run session moment step_of Stand after
+  stood : {wait : Wait} {after : List History} (last : History) → last_history run ≡ Some last → (IsSpentRun run → ⊥)
+      → policy limits (next_history last) step_of moment ≡ ruling.Stand → wait ≡ wait_after session step_of moment → after ≡ run
+      → TakesStep limits run session moment step_of (Stand wait) after
   refused : {after : List History} (last : History) → last_history run ≡ Some last → (next_history last).base < last_base
       → MayRefuse limits last session step_of moment → after ≡ run → TakesStep limits run session moment step_of Refused after
   spent : {after : List History} → IsSpentRun run → after ≡ run → TakesStep limits run session moment step_of Stopping after

@@ -9,7 +9,7 @@ use Rattle.cache_policy.specs.declared.history.History.{History as HistoryInMemo
 use Rattle.cache_policy.specs.Histories.{History, run_of}
 use Rattle.cache_policy.specs.Legal.{IsLegalRun}
 use Rattle.cache_policy.specs.Runs.{last_base, last_history, joined, moment_before}
-use Rattle.cache_policy.specs.Turns.{Turn, Given, Empty, Open, Held, Stopping}
+use Rattle.cache_policy.specs.Turns.{Turn, Given, Empty, Open, Held, Stopping, Late}
 use Rattle.agent_core.specs.Cores.{AtCore, StandsFor}
 
 -- the core stands for the last history of a legal run, which isn't spent yet
@@ -47,4 +47,5 @@ reply_of Empty = reply.Empty
 reply_of (Open number) = reply.Open
 reply_of (Held held) = reply.Held held
 reply_of Stopping = reply.Stopping
+reply_of Late = reply.Late
 reply_of _ = reply.Done

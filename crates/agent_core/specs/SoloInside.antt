@@ -6,7 +6,8 @@ use Rattle.cache_policy.specs.Histories.{History}
 use Rattle.std.specs.Prelude.{ℕ}
 use Rattle.agent_core.specs.declared.foreign.Foreign.{Foreign}
 use Rattle.agent_core.specs.declared.holder.Holder.{Holder}
-use Rattle.agent_core.specs.Foreigners.{AllForeign, is_session}
+use Rattle.cache_policy.specs.Waits.{is_session}
+use Rattle.agent_core.specs.Foreigners.{AllForeign}
 use Rattle.agent_core.specs.Seating.{Seated}
 
 -- the lists of a script, of which the next one stands last

@@ -1,18 +1,21 @@
 -- A desk in memory, whose run is known, and at which other sessions take the steps of a script. This is the project's own.
-use Rattle.std.specs.Prelude.{◌≡◌, ℕ, List, [], ◌∷◌, Bool, true, false, Option, Some, None, ⊤}
+use Rattle.std.specs.Prelude.{◌≡◌, ◌≤◌, ℕ, ◌+◌, List, [], ◌∷◌, ◌++◌, Bool, true, false, min, Option, Some, None, IfSome, ⊤}
+use Rattle.std.specs.List.{AllByRecursion}
 use Rattle.std.specs.Borrow.{GName}
 use Rattle.agent_ports.specs.Leads.{Leads}
 use Rattle.agent_ports.specs.Readings.{Readings, IsRead}
 use Rattle.agent_ports.specs.declared.session.SessionId.{SessionId}
+use Rattle.cache_policy.specs.declared.bounds.TheConstants.{MAX_MOMENT}
 use Rattle.cache_policy.specs.declared.life.Limits.{Limits}
 use Rattle.cache_policy.specs.declared.mark.Mark.{Mark}
 use Rattle.cache_policy.specs.declared.mark.MarkStep.{MarkStep}
+use Rattle.cache_policy.specs.declared.wait.Wait.{Wait}
 use Rattle.cache_policy.specs.Desks.{AtDesk, IsTurn}
 use Rattle.cache_policy.specs.Histories.{History, with_mark}
 use Rattle.cache_policy.specs.Legal.{IsLegalRun}
 use Rattle.cache_policy.specs.Return.{IsGivenRightly}
-use Rattle.cache_policy.specs.Runs.{last_history}
-use Rattle.cache_policy.specs.Turns.{Turn, Given, Stand, FitsReply, out_after}
+use Rattle.cache_policy.specs.Runs.{last_history, joined}
+use Rattle.cache_policy.specs.Turns.{Turn, Given, Stand, FitsReply, out_after, since_of, with_since}
 use Rattle.agent_core.specs.declared.foreign.Foreign.{Foreign}
 use Rattle.agent_core.specs.declared.foreign.ForeignStep.TheVariants.{CloseHeld}
 use Rattle.agent_core.specs.declared.holder.Holder.{Holder}
@@ -86,20 +89,20 @@ pub data PlaysNext (before : AtSolo) : Bool → AtSolo → Type 0 where
   at_end : {after : AtSolo} → before.script ≡ [] → after ≡ before → PlaysNext before false after
 
 -- the step that ends a session's prompt, and keeps nothing
-abbrev pub closing : SessionId → Foreign
-closing session = record { session = session; step = CloseHeld None }
+abbrev pub close_held : SessionId → Foreign
+close_held session = record { session = session; step = CloseHeld None }
 
 -- the other session that has a ticket gives it back, and keeps nothing
 pub record ClosesHolder (before after : AtSolo) : Type 0 where
   pub holder : Holder
   pub holder_is : before.holder ≡ Some holder
-  pub plays : PlaysStep before (closing holder.session) after
+  pub plays : PlaysStep before (close_held holder.session) after
 
 -- A step that stood is taken again behind the next list of the script, as long as it stands; and behind the last one when the ticket that
--- is out was given back.
+-- is out was given back. It is taken with the moment of its first try then.
 pub data Waits (asked : MarkStep) : AtSolo → Turn → AtSolo → Type 0 where
-  again : {before there mid after : AtSolo} {turn : Turn} → PlaysNext before true there → OwnStep there asked Stand mid → Waits asked mid turn after
-      → Waits asked before turn after
+  again : {before there mid after : AtSolo} {turn : Turn} {wait : Wait} → PlaysNext before true there → OwnStep there asked (Stand wait) mid
+      → Waits asked mid turn after → Waits asked before turn after
   goes : {before there after : AtSolo} {turn : Turn} → PlaysNext before true there → OwnStep there asked turn after → Waits asked before turn after
   gives_back : {before there after : AtSolo} {turn : Turn} → before.script ≡ [] → ClosesHolder before there → OwnStep there asked turn after
       → Waits asked before turn after
@@ -107,7 +110,27 @@ pub data Waits (asked : MarkStep) : AtSolo → Turn → AtSolo → Type 0 where
 -- the own step, and what it waits for
 pub data TakesOwn (asked : MarkStep) : AtSolo → Turn → AtSolo → Type 0 where
   at_once : {before after : AtSolo} {turn : Turn} → OwnStep before asked turn after → TakesOwn asked before turn after
-  waiting : {before mid after : AtSolo} {turn : Turn} → OwnStep before asked Stand mid → Waits asked mid turn after → TakesOwn asked before turn after
+  waiting : {before mid after : AtSolo} {turn : Turn} {wait : Wait} → OwnStep before asked (Stand wait) mid
+      → Waits (with_since (Some wait.since) asked) mid turn after → TakesOwn asked before turn after
+
+-- the first reading is known, and each later one is known and isn't below the one before it
+abbrev pub IsNotBelow : Option ℕ → Option ℕ → Type 0
+IsNotBelow (Some reading) (Some next) = reading ≤ next
+IsNotBelow _ _ = ⊥
+
+abbrev pub ReadingsNeverFall : Readings → Type 0
+ReadingsNeverFall clock = (k : ℕ) → IsNotBelow (clock.later k) (clock.later (k + 1))
+
+-- no mark says that its step was tried before this reading
+abbrev pub NoneTriedBefore : ℕ → List Mark → Type 0
+NoneTriedBefore reading marks = AllByRecursion (λ mark. IfSome (since_of mark.step) (λ since. min reading MAX_MOMENT ≤ since)) marks
+
+-- The run goes on; and where the clock tells readings that never fall, none of the further marks says that its step was tried before the
+-- first of them.
+pub record IsTriedSince (before after : AtSolo) : Type 0 where
+  pub more : List Mark
+  pub marks : joined after.run ≡ joined before.run ++ more
+  pub since : (first : ℕ) → ReadingsNeverFall before.clock → before.clock.later 0 ≡ Some first → NoneTriedBefore first more
 
 -- Nothing comes back: the mark that was replied Given is the last one of the run, and names the newest entry for its request, which was
 -- neither taken away nor is past a lifetime.
@@ -121,13 +144,15 @@ abbrev pub IsRightly : Limits → List History → Turn → Type 0
 IsRightly limits run (Given grant) = EndsGiven limits run grant.entry.number
 IsRightly limits run turn = ⊤
 
--- A turn: the next list of the script, and then the own step, whose mark is the last one. What each step's reading is, and which mark it
--- makes, is said by `TakesReading`.
+-- A turn: the next list of the script, and then the own step, whose mark is the last one. It is asked without a moment of a first try, and
+-- its own first try says which. What each step's reading is, and which mark it makes, is said by `TakesReading`.
 pub record TurnsSolo (before : AtSolo) (asked : MarkStep) (turn : Turn) (after : AtSolo) : Type 0 where
   pub there : AtSolo
   pub listed : Bool
   pub plays : PlaysNext before listed there
   pub own : TakesOwn asked there turn after
+  pub first : since_of asked ≡ None
+  pub tried : IsTriedSince before after
   pub rightly : IsRightly before.limits after.run turn
   pub is : IsTurn (at_desk before) asked turn (at_desk after)
 

@@ -1,5 +1,6 @@
 -- Private: what a step makes of what a core has.
-use Rattle.std.specs.Prelude.{◌≡◌, ℕ, ◌+◌, ◌<◌, ◌≤◌, ◌==◌, List, [], ◌∷◌, Bool, true, false, not, Option, Some, None, Result, Ok, Err, IsSome, if◌then◌else◌}
+use Rattle.std.specs.Prelude.{◌≡◌, ℕ, ◌+◌, ◌<◌, ◌≤◌, ◌==◌, ◌&&◌, List, [], ◌∷◌, Bool, true, false, not, Option, Some, None, Result, Ok, Err, IsSome, if◌then◌else◌}
+use Rattle.agent_ports.specs.declared.session.SessionId.{SessionId}
 use Rattle.std.specs.Option.{option_and_then, is_some}
 use Rattle.cache_policy.specs.declared.bounds.TheConstants.{MAX_MARKS, MAX_MOMENT}
 use Rattle.cache_policy.specs.declared.mark.Under.{Under}
@@ -15,7 +16,8 @@ use Rattle.cache_policy.specs.declared.history.Held.{Held}
 use Rattle.cache_policy.specs.declared.step.Reply.{Reply}
 use Rattle.cache_policy.specs.Entries.{entry_of, kept_under, kept}
 use Rattle.cache_policy.specs.Seat.{unless_given_back}
-use Rattle.cache_policy.specs.Turns.{Turn, Given, Empty, Open, Stand, Done, Held as WhetherHeld, Stopping, Refused, turn_of}
+use Rattle.cache_policy.specs.Turns.{Turn, Given, Empty, Open, Stand, Done, Held as WhetherHeld, Stopping, Late, Refused, turn_of}
+use Rattle.cache_policy.specs.Waits.{is_late}
 use Rattle.cache_policy.specs.Runs.{last_base}
 use Rattle.cache_book.specs.declared.slot.Slot.{Slot}
 use Rattle.cache_book.specs.Shelves.{IsGrantFrom, ServesNone, touched, with_entry, cleared, swept}
@@ -78,25 +80,37 @@ Finds list id mode moment None = ServesNone list id mode moment
 abbrev pub HasMarkedAlone : State → ℕ → State → Type 0
 HasMarkedAlone before moment after = HasMarked before moment (slots_at before moment) (held_at before) before.stopped after
 
+-- since when a step stands that is tried at this moment, by the moment of its first try
+abbrev pub since_at : Option ℕ → ℕ → ℕ
+since_at (Some since) moment = since
+since_at None moment = moment
+
+-- a step before a held seat has stood too long, or has to stand
+abbrev pub StandsAside : State → ℕ → SessionId → Option ℕ → Turn → State → Type 0
+StandsAside before moment session since Late after = (is_late since moment ≡ true) × HasMarkedAlone before moment after
+StandsAside before moment session since (Stand wait) after =
+    (is_late since moment ≡ false) × (wait ≡ record { session = session; since = since_at since moment }) × (after ≡ before)
+StandsAside before moment session since _ after = ⊥
+
 -- a ticket is wanted, for a passphrase that is kept under this
-abbrev pub Prompts : State → ℕ → Option Under → Turn → State → Type 0
-Prompts before moment under Stopping after = (before.stopped ≡ true) × HasMarkedAlone before moment after
-Prompts before moment under Stand after = (before.stopped ≡ false) × IsSome before.seat × (after ≡ before)
-Prompts before moment under (Open number) after =
+abbrev pub Prompts : State → ℕ → SessionId → Option ℕ → Option Under → Turn → State → Type 0
+Prompts before moment session since under Stopping after = (before.stopped ≡ true) × HasMarkedAlone before moment after
+Prompts before moment session since under (Open number) after =
     (before.stopped ≡ false) × (before.seat ≡ None) × (number ≡ number_of before)
     × HasMarked before moment (slots_at before moment) (Some (record { ticket = number; under = under })) before.stopped after
-Prompts before moment under Refused after = (before.stopped ≡ false) × (before.seat ≡ None) × IsSome under × HasMoreRoom before after
-Prompts before moment under _ after = ⊥
+Prompts before moment session since under Refused after = (before.stopped ≡ false) × (before.seat ≡ None) × IsSome under × HasMoreRoom before after
+Prompts before moment session since under turn after =
+    (before.stopped ≡ false) × IsSome before.seat × StandsAside before moment session since turn after
 
 -- an Ask is given what is found, or else is Empty or wants a ticket
-abbrev pub Asks : State → ℕ → List ℕ → Mode → Way → Turn → State → Type 0
-Asks before moment id mode way (Given grant) after =
+abbrev pub Asks : State → ℕ → SessionId → List ℕ → Mode → Way → Option ℕ → Turn → State → Type 0
+Asks before moment session id mode way since (Given grant) after =
     IsGrantFrom (next_slots before) id mode moment grant
     × HasMarked before moment (touched grant.entry.number moment (slots_at before moment)) (held_at before) before.stopped after
-Asks before moment id mode Quiet Empty after = ServesNone (next_slots before) id mode moment × HasMarkedAlone before moment after
-Asks before moment id mode Quiet _ after = ⊥
-Asks before moment id mode Prompt turn after =
-    ServesNone (next_slots before) id mode moment × Prompts before moment (Some (record { id = id; mode = mode })) turn after
+Asks before moment session id mode Quiet since Empty after = ServesNone (next_slots before) id mode moment × HasMarkedAlone before moment after
+Asks before moment session id mode Quiet since _ after = ⊥
+Asks before moment session id mode Prompt since turn after =
+    ServesNone (next_slots before) id mode moment × Prompts before moment session since (Some (record { id = id; mode = mode })) turn after
 
 abbrev pub prompt_turn : Result Reply (Option Under) → Turn
 prompt_turn (Ok reply) = turn_of (Ok reply)
@@ -120,23 +134,27 @@ Closes before moment ticket keep after =
     (with_stored (kept before.limits (number_of before) moment (kept_under (held_at before) ticket) keep) (slots_at before moment))
     (option_and_then (unless_given_back (Close ticket keep)) (held_at before)) before.stopped after
 
--- whether a step comes to the seat: an Ask by prompt for which nothing is found, or a Seat, unless no prompt is opened any more
+-- a step that wants the prompt opens one, or has to stand: unless no prompt is opened any more, or it has stood too long
+abbrev pub may_open : State → Option ℕ → ℕ → Bool
+may_open state since moment = not state.stopped && not (is_some state.seat && is_late since moment)
+
+-- whether a step comes to the seat: an Ask by prompt for which nothing is found, or a Seat
 abbrev pub ComesToSeat : State → ℕ → MarkStep → Bool → Type 0
-ComesToSeat state moment (Ask id mode Prompt) comes =
-    (found : Option Grant) × Finds (next_slots state) id mode moment found × (comes ≡ (if is_some found then false else not state.stopped))
-ComesToSeat state moment (Seat under) comes = comes ≡ not state.stopped
+ComesToSeat state moment (Ask id mode Prompt since) comes =
+    (found : Option Grant) × Finds (next_slots state) id mode moment found × (comes ≡ (if is_some found then false else may_open state since moment))
+ComesToSeat state moment (Seat under since) comes = comes ≡ may_open state since moment
 ComesToSeat state moment _ comes = comes ≡ false
 
--- what a step at a moment does
-abbrev pub Takes : State → ℕ → MarkStep → Turn → State → Type 0
-Takes before moment (Ask id mode way) turn after = Asks before moment id mode way turn after
-Takes before moment (Seat under) turn after = Prompts before moment under turn after
-Takes before moment (Close ticket keep) Done after = Closes before moment ticket keep after
-Takes before moment (Put id mode life secret) turn after = Puts before moment id mode life secret turn after
-Takes before moment (Clear id mode) Done after =
+-- what a session's step at a moment does
+abbrev pub Takes : State → ℕ → SessionId → MarkStep → Turn → State → Type 0
+Takes before moment session (Ask id mode way since) turn after = Asks before moment session id mode way since turn after
+Takes before moment session (Seat under since) turn after = Prompts before moment session since under turn after
+Takes before moment session (Close ticket keep) Done after = Closes before moment ticket keep after
+Takes before moment session (Put id mode life secret) turn after = Puts before moment id mode life secret turn after
+Takes before moment session (Clear id mode) Done after =
     HasMarked before moment (cleared id mode (slots_at before moment)) (held_at before) before.stopped after
-Takes before moment Flush Done after = HasMarked before moment [] (held_at before) before.stopped after
-Takes before moment (Peek id mode) (WhetherHeld there) after =
+Takes before moment session Flush Done after = HasMarked before moment [] (held_at before) before.stopped after
+Takes before moment session (Peek id mode) (WhetherHeld there) after =
     ((found : Option Grant) × Finds (next_slots before) id mode moment found × (there ≡ is_some found)) × HasMarkedAlone before moment after
-Takes before moment Stop Done after = HasMarked before moment (slots_at before moment) (held_at before) true after
-Takes before moment _ _ after = ⊥
+Takes before moment session Stop Done after = HasMarked before moment (slots_at before moment) (held_at before) true after
+Takes before moment session _ _ after = ⊥

@@ -2,7 +2,7 @@ ghost use Rattle.std.specs.Prelude.{◌≡◌, ◌+◌, ◌<◌, ◌≤◌, ◌�
 ghost use Rattle.std.specs.Option.{is_some};
 ghost use Rattle.cache_policy.specs.declared.bounds.TheConstants.{MAX_MARKS};
 ghost use Rattle.cache_policy.specs.Histories.{History};
-ghost use Rattle.cache_policy.specs.Turns.{mark_step, turn_of, FitsReply};
+ghost use Rattle.cache_policy.specs.Turns.{asked_step, mark_step, turn_of, FitsReply, MayWantMemory};
 ghost use Rattle.cache_policy.specs.Policy.{policy};
 ghost use Rattle.cache_policy.specs.Runs.{last_base, moment_of, next_history};
 ghost use Rattle.cache_policy.specs.Legal.{IsLegal};
@@ -59,33 +59,35 @@ impl Core {
     }
 
     /// Takes a step of a session, with this reading of the clock. Where the seat is held, it answers `Stand`, and the step is to be
-    /// taken again later. A step that finds no memory is handed back.
+    /// taken again later, with the wait that it was given; after 60 seconds it is answered `Late`. A step that finds no memory is
+    /// handed back.
     pub fn step(&mut self, reading: u64, session: SessionId, step: Step) -> Result<Reply, Refused>
         // For every legal history that the core stands for, the reply is the policy's, and the core stands for the history with the
         // mark of this step then.
         ensures step { (history : History) → IsLegal self.old.limits history → StandsFor self.old history
-            → IsStep self.old history session (moment_of self.old.moment reading) (mark_step step) (turn_of result) self.new }
-        ensures fits { FitsReply (mark_step step) (turn_of result) }
+            → IsStep self.old history session (moment_of self.old.moment reading) (mark_step session step) (turn_of result) self.new }
+        ensures fits { FitsReply (asked_step step) (turn_of result) }
+        ensures memory { OnErr result (MayWantMemory (asked_step step)) }
         ensures refused { OnErr result (IsAsBefore self.old self.new) }
         ensures back { IfErr result (λ refused. refused.step ≡ step) }
         ensures limits { self.new.limits ≡ self.old.limits }
     {
-        let _ = session;
         if self.spent() {
             give_up(step);
             return Ok(Reply::Stopping);
         }
         let moment = self.state.moment_at(reading);
-        self.state.take_step(moment, step)
+        self.state.take_step(moment, session, step)
     }
 
-    /// Whether a step comes to the seat: it opens a prompt where that is free, and has to stand where it is held.
-    pub(crate) fn comes_to_seat(&self, reading: u64, step: &Step) -> bool
-        ensures { (history : History) → IsLegal self.now.limits history → StandsFor self.now history
-            → result ≡ comes_to_seat (policy self.now.limits (next_history history) (mark_step step.now) (moment_of self.now.moment reading)) }
+    /// Whether a step comes to the seat: it opens a prompt where that is free, and has to stand where it is held. One that has stood for
+    /// too long does neither.
+    pub(crate) fn comes_to_seat(&self, reading: u64, session: SessionId, step: &Step) -> bool
+        ensures { (history : History) → IsLegal self.now.limits history → StandsFor self.now history → result
+            ≡ comes_to_seat (policy self.now.limits (next_history history) (mark_step session step.now) (moment_of self.now.moment reading)) }
     {
         let moment = self.state.moment_at(reading);
-        self.state.comes_to_seat(moment, step)
+        self.state.comes_to_seat(moment, session, step)
     }
 
     /// Whether there is no number left for a mark. Each step is then replied `Stopping`, and changes nothing.

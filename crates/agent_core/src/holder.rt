@@ -1,7 +1,8 @@
 ghost use Rattle.std.specs.Prelude.{◌≡◌, None, if◌then◌else◌};
 ghost use Rattle.std.specs.Option.{option_map, option_and_then, is_some};
 ghost use Rattle.cache_policy.specs.Turns.{mark_step, closes};
-ghost use Rattle.agent_core.specs.Foreigners.{is_session, told_step, ticket_of};
+ghost use Rattle.cache_policy.specs.Waits.{is_session};
+ghost use Rattle.agent_core.specs.Foreigners.{told_step, ticket_of};
 
 use crate::foreign::ForeignStep;
 use agent_ports::SessionId;
@@ -20,12 +21,17 @@ pub(crate) fn told_step(
     session: SessionId,
     step: ForeignStep,
 ) -> Option<Step>
-    ensures step { option_map mark_step result ≡ told_step (ticket_of holder.old session) step }
-    ensures taken { holder.new ≡ (if is_some (option_and_then (λ s. closes (mark_step s)) result) then None else holder.old) }
+    ensures step { option_map (mark_step session) result ≡ told_step (ticket_of holder.old session) step }
+    ensures taken { holder.new ≡ (if is_some (option_and_then (λ s. closes (mark_step session s)) result) then None else holder.old) }
 {
     match step {
-        ForeignStep::Ask { id, mode, way } => Some(Step::Ask { id, mode, way }),
-        ForeignStep::Seat { under } => Some(Step::Seat { under }),
+        ForeignStep::Ask { id, mode, way } => Some(Step::Ask {
+            id,
+            mode,
+            way,
+            wait: None,
+        }),
+        ForeignStep::Seat { under } => Some(Step::Seat { under, wait: None }),
         ForeignStep::CloseHeld { keep } => {
             let ticket = take_ticket(holder, session)?;
             Some(Step::Close { ticket, keep })

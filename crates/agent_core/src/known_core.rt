@@ -8,9 +8,10 @@ ghost use Rattle.cache_policy.specs.Policy.{policy};
 ghost use Rattle.cache_policy.specs.Replay.{first_history};
 ghost use Rattle.cache_policy.specs.Runs.{last_base, moment_of, next_history, run_with_mark};
 ghost use Rattle.cache_policy.specs.Turns.{Stand, mark_step, turn_of, closes, FitsReply};
+ghost use Rattle.agent_ports.specs.declared.session.SessionId.{SessionId as Session};
 ghost use Rattle.agent_core.specs.Adding.{CanAdd, begun, added, next_start, HasPlace, comes_to_seat, leaves_ticket, needs_room};
 ghost use Rattle.agent_core.specs.Cores.{StandsFor, mark_of};
-ghost use Rattle.agent_core.specs.Openings.{opening_step};
+ghost use Rattle.agent_core.specs.Openings.{opening_step, without_wait};
 ghost use Rattle.agent_core.specs.Recording.{IsRoom, LastHasRoom, reply_of};
 ghost use Rattle.agent_core.specs.Stepped.{turn_of_stepped, HandsBack};
 
@@ -22,6 +23,7 @@ use crate::tally::{counted, stores};
 use agent_ports::SessionId;
 use cache_policy::{
     Held, History, Limits, MAX_MARKS, Mark, MarkStep, Marks, NoMemory, Refused, Reply, Step, Tally,
+    Wait,
 };
 use std::alloc::Global;
 use std::marker::Model;
@@ -86,9 +88,9 @@ impl KnownCore {
 
     /// Takes a step of a session, with this reading of the clock.
     pub(crate) fn step(&mut self, reading: u64, session: SessionId, step: Step) -> Stepped
-        requires own { IfSome (closes (mark_step step)) (IsOut self.old.run) }
-        ensures takes { TakesStep self.old.limits self.old.run session (next_moment self.old.run reading) (mark_step step) (turn_of_stepped result) self.new.run }
-        ensures fits { FitsReply (mark_step step) (turn_of_stepped result) }
+        requires own { IfSome (closes (mark_step session step)) (IsOut self.old.run) }
+        ensures takes { TakesStep self.old.limits self.old.run session (next_moment self.old.run reading) (mark_step session step) (turn_of_stepped result) self.new.run }
+        ensures fits { FitsReply (mark_step session step) (turn_of_stepped result) }
         ensures back { HandsBack step result }
         ensures limits { self.new.limits ≡ self.old.limits }
         ensures was_legal { IsLegalRun self.old.limits self.old.run }
@@ -98,19 +100,19 @@ impl KnownCore {
             give_up(step);
             return Stepped::Replied(Reply::Stopping);
         }
-        let needs = needs_room(&self.core, reading, &step);
+        let needs = needs_room(&self.core, reading, session, &step);
         if room_for(needs, &mut self.histories, &mut self.next, self.alloc).is_err() {
             return Stepped::Refused(step);
         }
         let start = start_after(&self.core);
         let opening = Opening::of(&step);
-        let asked = mark_step_of(&step);
+        let asked = mark_step_of(session, &step);
         let stores = stores(&self.core, &asked);
         match self.core.step(reading, session, step) {
             Ok(reply) => match reply {
-                Reply::Stand => {
+                Reply::Stand(wait) => {
                     let_go(asked);
-                    stood(opening)
+                    stood(opening, wait)
                 }
                 reply => {
                     let mark = mark_of(&self.core, session, asked, &reply);
@@ -149,13 +151,13 @@ impl KnownCore {
 fn let_go(_asked: MarkStep) {}
 
 /// A step that has to stand is handed back.
-fn stood(opening: Option<Opening>) -> Stepped
+fn stood(opening: Option<Opening>, wait: Wait) -> Stepped
     requires { IsSome opening }
-    ensures turn { turn_of_stepped result ≡ Stand }
-    ensures back { (asked : AskedOf) → IfSome opening (λ opening. opening_step opening ≡ asked) → HandsBack asked result }
+    ensures turn { turn_of_stepped result ≡ Stand wait }
+    ensures back { (asked : AskedOf) → IfSome opening (λ opening. opening_step opening None ≡ without_wait asked) → HandsBack asked result }
 {
     match opening {
-        Some(opening) => Stepped::Stood(opening.step()),
+        Some(opening) => Stepped::Stood(opening, wait),
         None => unreachable!(),
     }
 }
@@ -286,9 +288,9 @@ fn reserve_next(
 
 /// Whether a step begins a history while no ticket is out, or makes the last mark of one and leaves a ticket out: the step after it has
 /// the room then. A Close does neither.
-fn needs_room(core: &Core, reading: u64, step: &Step) -> bool
-    ensures { (history : OneHistory) → IsLegal core.now.limits history → StandsFor core.now history → result ≡ needs_room core.now (mark_step step.now)
-        (comes_to_seat (policy core.now.limits (next_history history) (mark_step step.now) (moment_of core.now.moment reading))) }
+fn needs_room(core: &Core, reading: u64, session: SessionId, step: &Step) -> bool
+    ensures { (history : OneHistory) → IsLegal core.now.limits history → StandsFor core.now history → result ≡ needs_room core.now (mark_step session step.now)
+        (comes_to_seat (policy core.now.limits (next_history history) (mark_step session step.now) (moment_of core.now.moment reading))) }
 {
     if is_close(step) {
         return false;
@@ -300,7 +302,8 @@ fn needs_room(core: &Core, reading: u64, step: &Step) -> bool
     if count + 1 < MAX_MARKS {
         return false;
     }
-    leaves_ticket(core.is_held(), core.comes_to_seat(reading, step))
+    let comes_to_seat = core.comes_to_seat(reading, session, step);
+    leaves_ticket(core.is_held(), comes_to_seat)
 }
 
 /// Whether a ticket is out after a step that makes a mark and isn't a Close.
@@ -311,7 +314,7 @@ fn leaves_ticket(held: bool, comes_to_seat: bool) -> bool
 }
 
 pub(crate) fn is_close(step: &Step) -> bool
-    ensures { result ≡ is_some (closes (mark_step step.now)) }
+    ensures { (session : Session) → result ≡ is_some (closes (mark_step session step.now)) }
 {
     matches!(step, Step::Close { .. })
 }

@@ -19,3 +19,4 @@ pub use known_core::KnownCore;
 pub use laws::turns_extend_a_known_run;
 pub use opening::Opening;
 pub use solo::Solo;
+pub use stepped::without_wait;

@@ -1,9 +1,9 @@
-ghost use Rattle.std.specs.Prelude.{◌≡◌, false, IfSome, IsNone};
-ghost use Rattle.cache_policy.specs.Turns.{mark_step, opens};
-ghost use Rattle.agent_core.specs.Openings.{opening_step};
+ghost use Rattle.std.specs.Prelude.{◌≡◌, false, None, IfSome, IsNone};
+ghost use Rattle.cache_policy.specs.Turns.{asked_step, opens};
+ghost use Rattle.agent_core.specs.Openings.{opening_step, without_wait};
 
 use crate::stepped::copy_under;
-use cache_policy::{CacheId, Mode, Step, Under, Way};
+use cache_policy::{CacheId, Mode, Step, Under, Wait, Way};
 
 /// A step that wants the prompt. It may have to stand, and is taken again then.
 #[derive(Drop)]
@@ -15,36 +15,40 @@ pub enum Opening {
 impl Opening {
     /// The step once more, if it wants the prompt.
     pub fn of(step: &Step) -> Option<Opening>
-        ensures same { IfSome result (λ opening. opening_step opening ≡ step.now) }
-        ensures none { IsNone result → opens (mark_step step.now) ≡ false }
+        ensures same { IfSome result (λ opening. opening_step opening None ≡ without_wait step.now) }
+        ensures none { IsNone result → opens (asked_step step.now) ≡ false }
     {
         match step {
             Step::Ask {
                 id,
                 mode,
                 way: Way::Prompt,
+                wait: _,
             } => Some(Opening::Ask {
                 id: id.copy(),
                 mode: *mode,
             }),
-            Step::Seat { under } => Some(Opening::Seat {
+            Step::Seat { under, wait: _ } => Some(Opening::Seat {
                 under: copy_under(under),
             }),
             _ => None,
         }
     }
 
-    pub fn step(&self) -> Step
-        ensures { result ≡ opening_step self.now }
+    /// The step for one try: with the wait that the try before was given, if there was one.
+    pub fn step(&self, wait: Option<Wait>) -> Step
+        ensures { result ≡ opening_step self.now wait }
     {
         match self {
             Opening::Ask { id, mode } => Step::Ask {
                 id: id.copy(),
                 mode: *mode,
                 way: Way::Prompt,
+                wait,
             },
             Opening::Seat { under } => Step::Seat {
                 under: copy_under(under),
+                wait,
             },
         }
     }

@@ -1,19 +1,21 @@
-ghost use Rattle.std.specs.Prelude.{◌≡◌, true, false, None, Some, Ok, IsSome, IfSome, IfOk, IfErr};
+ghost use Rattle.std.specs.Prelude.{◌≡◌, true, false, None, Some, IsSome, IfSome, IfOk, IfErr};
 ghost use Rattle.std.specs.Option.{is_some};
 ghost use Rattle.cache_policy.specs.declared.mark.MarkStep.{MarkStep as AskedStep};
 ghost use Rattle.cache_policy.specs.declared.step.Step.{Step as AskedOf};
 ghost use Rattle.cache_policy.specs.Histories.{run_of};
-ghost use Rattle.cache_policy.specs.Turns.{Stand, mark_step, turn_of, opens, closes, out_after};
-ghost use Rattle.agent_core.specs.Stepped.{turn_of_stepped, HandsBack};
+ghost use Rattle.cache_policy.specs.Turns.{asked_step, mark_step, turn_of, opens, closes, out_after, with_since};
+ghost use Rattle.agent_core.specs.Openings.{opening_step, without_wait};
+ghost use Rattle.agent_core.specs.Stepped.{turn_of_stepped, IsSettled, HandsBack};
 ghost use Rattle.agent_core.specs.Foreigners.{opened};
 
 use crate::cache_core::give_up;
 use crate::foreign::{Foreign, ForeignStep};
 use crate::holder::{Holder, told_step};
 use crate::known_core::{KnownCore, is_close};
-use crate::stepped::Stepped;
+use crate::opening::Opening;
+use crate::stepped::{Stepped, without_wait};
 use agent_ports::{Clock, LentClock, SessionId};
-use cache_policy::{Desk, History, Limits, NoMemory, Refused, Reply, Step, Tally};
+use cache_policy::{Desk, History, Limits, NoMemory, Refused, Reply, Step, Tally, Wait};
 use prompt_seat::{Seat, Ticket};
 use std::alloc::Global;
 use std::marker::Model;
@@ -22,7 +24,7 @@ use std::marker::Model;
 /// next one before the second, and so on.
 ///
 /// While the own step would have to wait for the seat, it takes further lists, and after the last one it takes the ticket back from the
-/// session that has it. It isn't dropped, but ended by `end`.
+/// session that has it. A step that has waited for 60 seconds is answered. It isn't dropped, but ended by `end`.
 pub struct Solo<'a, C: Clock> {
     known: KnownCore,
     clock: LentClock<'a, C>,
@@ -63,7 +65,8 @@ impl<'a, C: Clock> Solo<'a, C> {
     ghost use Rattle.cache_policy.specs.Desks.{is_of};
     ghost use Rattle.cache_policy.specs.Replay.{first_history};
     ghost use Rattle.cache_policy.specs.Runs.{joined};
-    ghost use Rattle.agent_core.specs.Foreigners.{AllForeign, IsForeign, is_session};
+    ghost use Rattle.cache_policy.specs.Waits.{is_session};
+    ghost use Rattle.agent_core.specs.Foreigners.{AllForeign, IsForeign};
     ghost use Rattle.agent_core.specs.Seating.{Seated};
     ghost use Rattle.agent_core.specs.Tallies.{tally_of};
     ghost use Rattle.agent_core.specs.Solos.{seen, OwnStep, PlaysStep, PlaysNext, ClosesHolder, Waits};
@@ -168,9 +171,9 @@ impl<'a, C: Clock> Solo<'a, C> {
 
     /// Takes the own step, with one reading of the clock.
     fn attempt(&mut self, step: Step) -> Stepped
-        requires free { opens (mark_step step) ≡ true → self.old.out ≡ None }
-        requires own { IfSome (closes (mark_step step)) (λ number. self.old.out ≡ Some number) }
-        ensures step { OwnStep (seen C.readings self.old) (mark_step step) (turn_of_stepped result) (seen C.readings self.new) }
+        requires free { opens (asked_step step) ≡ true → self.old.out ≡ None }
+        requires own { IfSome (closes (asked_step step)) (λ number. self.old.out ≡ Some number) }
+        ensures step { OwnStep (seen C.readings self.old) (mark_step self.old.session step) (turn_of_stepped result) (seen C.readings self.new) }
         ensures back { HandsBack step result }
         ensures seated { Seated self.new.run self.new.out self.new.holder }
         ensures lent { self.new.lent ≡ self.old.lent }
@@ -243,25 +246,26 @@ impl<'a, C: Clock> Solo<'a, C> {
         self.play_step(Foreign { session, step });
     }
 
-    /// Takes a step again that had to stand: behind each further list, and at last when the ticket was given back.
-    fn wait(&mut self, step: Step) -> Result<Reply, Refused>
-        requires opens { opens (mark_step step) ≡ true }
+    /// Takes a step again that had to stand: behind each further list, and at last when the ticket was given back. Each try hands in what
+    /// the one before was given.
+    fn wait(&mut self, opening: Opening, first: Wait) -> Result<Reply, Refused>
+        requires own { first.session ≡ self.old.session }
         requires free { self.old.out ≡ None }
         requires held { IsSome self.old.holder }
-        ensures waits { Waits (mark_step step) (seen C.readings self.old) (turn_of result) (seen C.readings self.new) }
-        ensures refused { IfErr result (λ refused. refused.step ≡ step) }
-        ensures goes { turn_of result ≡ Stand → ⊥ }
+        ensures waits { Waits (with_since (Some first.since) (asked_step (opening_step opening None))) (seen C.readings self.old) (turn_of result) (seen C.readings self.new) }
+        ensures refused { IfErr result (λ refused. refused.step ≡ opening_step opening None) }
+        ensures settled { IsSettled (turn_of result) }
         ensures lent { self.new.lent ≡ self.old.lent }
     {
-        let mut step = step;
+        let mut wait = first;
         while self.play_next() {
-            match self.attempt(step) {
-                Stepped::Stood(back) => step = back,
+            match self.attempt(opening.step(Some(wait))) {
+                Stepped::Stood(_, again) => wait = again,
                 outcome => return settled(outcome),
             }
         }
         self.close_holder();
-        settled(self.attempt(step))
+        settled(self.attempt(opening.step(Some(wait))))
     }
 }
 
@@ -275,7 +279,7 @@ impl<'a, C: Clock> Desk for Solo<'a, C> {
     fn turn(&mut self, step: Step) -> Result<Reply, Refused> {
         self.play_next();
         match self.attempt(step) {
-            Stepped::Stood(step) => self.wait(step),
+            Stepped::Stood(opening, wait) => self.wait(opening, wait),
             outcome => settled(outcome),
         }
     }
@@ -285,13 +289,15 @@ impl<'a, C: Clock> Desk for Solo<'a, C> {
 
 /// A step that didn't stand, as its reply.
 fn settled(outcome: Stepped) -> Result<Reply, Refused>
-    requires { turn_of_stepped outcome ≡ Stand → ⊥ }
+    requires { IsSettled (turn_of_stepped outcome) }
     ensures turn { turn_of result ≡ turn_of_stepped outcome }
-    ensures back { (asked : AskedOf) → HandsBack asked outcome → IfErr result (λ refused. refused.step ≡ asked) }
+    ensures back { (asked : AskedOf) → HandsBack asked outcome → IfErr result (λ refused. refused.step ≡ without_wait asked) }
 {
     match outcome {
         Stepped::Replied(reply) => Ok(reply),
-        Stepped::Refused(step) => Err(Refused { step }),
+        Stepped::Refused(step) => Err(Refused {
+            step: without_wait(step),
+        }),
         _ => unreachable!(),
     }
 }
@@ -316,15 +322,13 @@ fn into_ticket(outcome: Stepped) -> Option<Ticket>
             Reply::Open(ticket) => Some(ticket),
             Reply::Given(_) => None,
             Reply::Empty => None,
-            Reply::Stand => None,
+            Reply::Stand(_) => None,
+            Reply::Late => None,
             Reply::Done => None,
             Reply::Held(_) => None,
             Reply::Stopping => None,
         },
-        Stepped::Stood(step) => {
-            give_up(step);
-            None
-        }
+        Stepped::Stood(_, _) => None,
         Stepped::Refused(step) => {
             give_up(step);
             None

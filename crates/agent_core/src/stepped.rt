@@ -1,14 +1,17 @@
 ghost use Rattle.std.specs.Prelude.{◌≡◌, Ok};
 ghost use Rattle.cache_policy.specs.Turns.{mark_step, turn_of};
+ghost use Rattle.agent_core.specs.Openings.{without_wait};
 ghost use Rattle.agent_core.specs.Recording.{reply_of};
 
-use cache_policy::{MarkReply, MarkStep, Reply, Step, Under};
+use crate::opening::Opening;
+use agent_ports::SessionId;
+use cache_policy::{MarkReply, MarkStep, Reply, Step, Under, Wait, since_by};
 
 /// How a step came out.
 pub(crate) enum Stepped {
     Replied(Reply),
-    /// Another session has the seat. The step is to be taken again later.
-    Stood(Step),
+    /// Another session has the seat. The step is to be taken again later, with this wait.
+    Stood(Opening, Wait),
     /// There was no memory for it.
     Refused(Step),
 }
@@ -25,18 +28,46 @@ pub(crate) fn copy_under(under: &Option<Under>) -> Option<Under>
     }
 }
 
-/// The step as a mark has it.
-pub(crate) fn mark_step_of(step: &Step) -> MarkStep
-    ensures { result ≡ mark_step step.now }
+/// The step as it is first tried: it hands no wait in.
+pub fn without_wait(step: Step) -> Step
+    ensures { result ≡ without_wait step }
 {
     match step {
-        Step::Ask { id, mode, way } => MarkStep::Ask {
+        Step::Ask {
+            id,
+            mode,
+            way,
+            wait: _,
+        } => Step::Ask {
+            id,
+            mode,
+            way,
+            wait: None,
+        },
+        Step::Seat { under, wait: _ } => Step::Seat { under, wait: None },
+        other => other,
+    }
+}
+
+/// A session's step as a mark has it.
+pub(crate) fn mark_step_of(session: SessionId, step: &Step) -> MarkStep
+    ensures { result ≡ mark_step session step.now }
+{
+    match step {
+        Step::Ask {
+            id,
+            mode,
+            way,
+            wait,
+        } => MarkStep::Ask {
             id: id.copy(),
             mode: *mode,
             way: *way,
+            since: since_by(session, wait),
         },
-        Step::Seat { under } => MarkStep::Seat {
+        Step::Seat { under, wait } => MarkStep::Seat {
             under: copy_under(under),
+            since: since_by(session, wait),
         },
         Step::Close { ticket, keep } => MarkStep::Close {
             ticket: ticket.number(),
@@ -77,8 +108,9 @@ pub(crate) fn mark_reply_of(reply: &Reply) -> MarkReply
         Reply::Given(grant) => MarkReply::Given(grant.number()),
         Reply::Empty => MarkReply::Empty,
         Reply::Open(_) => MarkReply::Open,
-        Reply::Stand | Reply::Done => MarkReply::Done,
+        Reply::Stand(_) | Reply::Done => MarkReply::Done,
         Reply::Held(held) => MarkReply::Held(*held),
         Reply::Stopping => MarkReply::Stopping,
+        Reply::Late => MarkReply::Late,
     }
 }

@@ -2,34 +2,43 @@ ghost use Rattle.std.specs.Prelude.{◌≡◌, ◌≤◌, true, None, Some, IsSo
 ghost use Rattle.std.specs.Option.{is_some};
 ghost use Rattle.cache_policy.specs.declared.grant.Grant.{Grant as OneGrant};
 ghost use Rattle.cache_policy.specs.Turns.{mark_step, turn_of};
+ghost use Rattle.cache_policy.specs.Waits.{is_late, since_by};
 ghost use Rattle.cache_book.specs.Shelves.{cleared, touched};
 
 use crate::state::State;
+use agent_ports::SessionId;
 use cache_book::Shelf;
-use cache_policy::{CacheId, Entry, Life, Mode, Refused, Reply, Secret, Step, Under, Way};
+use cache_policy::{
+    CacheId, Entry, Life, MAX_WAIT, Mode, Refused, Reply, Secret, Step, Under, Wait, Way, since_by,
+};
 use prompt_seat::Ticket;
 
 impl State {
     ghost use Rattle.std.specs.Prelude.{Option, []};
     ghost use Rattle.agent_core.specs.Taking.{Takes};
     ghost use Rattle.agent_core.specs.States.{IsState};
-    ghost use Rattle.agent_core.specs.Taking.{MayMark, HasMarked, HasMarkedAlone, Finds, ComesToSeat, Prompts, Asks, Puts, Closes, prompt_turn, held_at, next_slots, number_of, slots_at};
+    ghost use Rattle.agent_core.specs.Taking.{MayMark, HasMarked, HasMarkedAlone, Finds, ComesToSeat, may_open, Prompts, StandsAside, Asks, Puts, Closes, prompt_turn, held_at, next_slots, number_of, slots_at};
 
-    /// Takes a step at a moment.
-    pub(crate) fn take_step(&mut self, moment: u64, step: Step) -> Result<Reply, Refused>
+    /// Takes a session's step at a moment.
+    pub(crate) fn take_step(
+        &mut self,
+        moment: u64,
+        session: SessionId,
+        step: Step,
+    ) -> Result<Reply, Refused>
         requires { MayMark self.old moment }
-        ensures takes { Takes self.old moment (mark_step step) (turn_of result) self.new }
+        ensures takes { Takes self.old moment session (mark_step session step) (turn_of result) self.new }
         ensures back { IfErr result (λ refused. refused.step ≡ step) }
         ensures state { IsState self.new }
     {
         match step {
-            Step::Ask { id, mode, way } => self.ask(moment, id, mode, way),
-            Step::Seat { under } => match self.prompt(moment, under) {
-                Ok(reply) => Ok(reply),
-                Err(under) => Err(Refused {
-                    step: Step::Seat { under },
-                }),
-            },
+            Step::Ask {
+                id,
+                mode,
+                way,
+                wait,
+            } => self.ask(moment, session, id, mode, way, wait),
+            Step::Seat { under, wait } => self.take_seat(moment, session, under, wait),
             Step::Close { ticket, keep } => {
                 self.close(moment, ticket, keep);
                 Ok(Reply::Done)
@@ -56,29 +65,46 @@ impl State {
         }
     }
 
-    /// Whether a step comes to the seat: it opens a prompt where that is free, and has to stand where it is held.
-    pub(crate) fn comes_to_seat(&self, moment: u64, step: &Step) -> bool
-        ensures { ComesToSeat self.now moment (mark_step step.now) result }
+    /// Whether a step comes to the seat: it opens a prompt where that is free, and has to stand where it is held. One that has stood for
+    /// too long does neither.
+    pub(crate) fn comes_to_seat(&self, moment: u64, session: SessionId, step: &Step) -> bool
+        ensures { ComesToSeat self.now moment (mark_step session step.now) result }
     {
         match step {
             Step::Ask {
                 id,
                 mode,
                 way: Way::Prompt,
+                wait,
             } => match self.live(id, *mode, moment) {
                 Some(_) => false,
-                None => !self.stopped,
+                None => self.may_open(moment, since_by(session, wait)),
             },
-            Step::Seat { under: _ } => !self.stopped,
+            Step::Seat { under: _, wait } => self.may_open(moment, since_by(session, wait)),
             _ => false,
         }
     }
 
+    /// Whether a step that wants the prompt opens one, or is to be taken again.
+    fn may_open(&self, moment: u64, since: Option<u64>) -> bool
+        ensures { result ≡ may_open self.now since moment }
+    {
+        !self.stopped && !(self.seat.holder().is_some() && is_late(since, moment))
+    }
+
     /// Asks for a passphrase.
-    fn ask(&mut self, moment: u64, id: CacheId, mode: Mode, way: Way) -> Result<Reply, Refused>
+    fn ask(
+        &mut self,
+        moment: u64,
+        session: SessionId,
+        id: CacheId,
+        mode: Mode,
+        way: Way,
+        wait: Option<Wait>,
+    ) -> Result<Reply, Refused>
         requires { MayMark self.old moment }
-        ensures asks { Asks self.old moment id mode way (turn_of result) self.new }
-        ensures back { IfErr result (λ refused. refused.step ≡ Step.Ask id mode way) }
+        ensures asks { Asks self.old moment session id mode way (since_by session wait) (turn_of result) self.new }
+        ensures back { IfErr result (λ refused. refused.step ≡ Step.Ask id mode way wait) }
         ensures state { IsState self.new }
     {
         if let Some(grant) = self.live(&id, mode, moment) {
@@ -90,20 +116,57 @@ impl State {
                 self.begin(moment);
                 Ok(Reply::Empty)
             }
-            Way::Prompt => match self.prompt(moment, Some(Under { id, mode })) {
-                Ok(reply) => Ok(reply),
-                Err(Some(Under { id, mode })) => Err(Refused {
-                    step: Step::Ask { id, mode, way },
-                }),
-                Err(None) => unreachable!(),
-            },
+            Way::Prompt => {
+                let since = since_by(session, &wait);
+                match self.prompt(moment, session, since, Some(Under { id, mode })) {
+                    Ok(reply) => Ok(reply),
+                    Err(Some(Under { id, mode })) => Err(Refused {
+                        step: Step::Ask {
+                            id,
+                            mode,
+                            way,
+                            wait,
+                        },
+                    }),
+                    Err(None) => unreachable!(),
+                }
+            }
         }
     }
 
-    /// Asks for the seat. What is typed is kept under `under`, and there is room for it from now on.
-    fn prompt(&mut self, moment: u64, under: Option<Under>) -> Result<Reply, Option<Under>>
+    /// Asks for the seat, whatever is cached.
+    fn take_seat(
+        &mut self,
+        moment: u64,
+        session: SessionId,
+        under: Option<Under>,
+        wait: Option<Wait>,
+    ) -> Result<Reply, Refused>
         requires { MayMark self.old moment }
-        ensures prompts { Prompts self.old moment under (prompt_turn result) self.new }
+        ensures prompts { Prompts self.old moment session (since_by session wait) under (turn_of result) self.new }
+        ensures back { IfErr result (λ refused. refused.step ≡ Step.Seat under wait) }
+        ensures state { IsState self.new }
+    {
+        let since = since_by(session, &wait);
+        match self.prompt(moment, session, since, under) {
+            Ok(reply) => Ok(reply),
+            Err(under) => Err(Refused {
+                step: Step::Seat { under, wait },
+            }),
+        }
+    }
+
+    /// Opens a prompt where the seat is free. What is typed is kept under `under`, and there is room for it from now on. `since` is the
+    /// moment of the session's first try.
+    fn prompt(
+        &mut self,
+        moment: u64,
+        session: SessionId,
+        since: Option<u64>,
+        under: Option<Under>,
+    ) -> Result<Reply, Option<Under>>
+        requires { MayMark self.old moment }
+        ensures prompts { Prompts self.old moment session since under (prompt_turn result) self.new }
         ensures back { IfErr result (λ back. back ≡ under) }
         ensures state { IsState self.new }
     {
@@ -112,12 +175,25 @@ impl State {
             return Ok(Reply::Stopping);
         }
         if self.seat.holder().is_some() {
-            return Ok(Reply::Stand);
+            return Ok(self.stand_aside(moment, session, since));
         }
         if under.is_some() && self.shelf.reserve(1).is_err() {
             return Err(under);
         }
         Ok(Reply::Open(self.open(moment, under)))
+    }
+
+    /// Stands before the seat that another session has, unless it has done so for too long.
+    fn stand_aside(&mut self, moment: u64, session: SessionId, since: Option<u64>) -> Reply
+        requires { MayMark self.old moment }
+        ensures stands { StandsAside self.old moment session since (turn_of (Ok result)) self.new }
+        ensures state { IsState self.new }
+    {
+        if is_late(since, moment) {
+            self.begin(moment);
+            return Reply::Late;
+        }
+        Reply::Stand(Wait::new(session, since.unwrap_or(moment)))
     }
 
     /// Gives the entry with this number.
@@ -244,5 +320,15 @@ impl State {
     {
         self.begin(moment);
         self.stopped = true;
+    }
+}
+
+/// Whether a step that was first tried at `since` has stood for too long.
+fn is_late(since: Option<u64>, moment: u64) -> bool
+    ensures { result ≡ is_late since moment }
+{
+    match since {
+        Some(since) => since <= moment && moment - since >= MAX_WAIT,
+        None => false,
     }
 }

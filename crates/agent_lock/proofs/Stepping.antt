@@ -25,7 +25,7 @@ use Rattle.cache_policy.specs.Runs.{turn_over, next_history, is_spent, last_base
 use Rattle.cache_policy.specs.Seat.{seat, stopped as has_stopped}
 use Rattle.cache_policy.specs.Tallies.{with_history, with_one, one_if, IsSound}
 use Rattle.cache_policy.specs.Traces.{trace_mark, trace_step, reply_of}
-use Rattle.cache_policy.specs.Turns.{Turn, Given, Empty, Open, Stand, Done, Held as WhetherHeld, Stopping, Refused}
+use Rattle.cache_policy.specs.Turns.{Turn, Given, Empty, Open, Stand, Done, Held as WhetherHeld, Stopping, Late, Refused}
 use Rattle.cache_policy.proofs.BareLemmas.{seat-bare, stopped-bare, policy-bare, legal-bare}
 use Rattle.cache_policy.proofs.Growing.{legal-with_mark, legal-turn_over, seat-turn_over}
 use Rattle.cache_policy.proofs.GrowingRuns.{spent-all}
@@ -97,18 +97,16 @@ pub record IsMade (core : AtCore) (history : History) (session : SessionId) (mom
   pub going : is_spent (next_history history) ≡ false
   pub made : IsMarked core (next_history history) session moment asked turn after
 
-no_reply : (turn : Turn) (answer : MarkReply) → reply_of turn ≡ Some answer → turn ≡ Stand ⊎ turn ≡ Refused → ⊥
-no_reply turn answer is none = elim none [ inl e ↦ absurd (cc (sym is ∙ ap reply_of e)) | inr e ↦ absurd (cc (sym is ∙ ap reply_of e)) ]
-
 -- what the mark says is what the turn says
 shows_reply : (limits : Limits) (before : History) (mark : Mark) (turn : Turn) → Shows limits before mark turn → reply_of turn ≡ Some mark.reply
 shows_reply limits before mark (Given grant) shows = ap (λ (r : MarkReply). Some r) (sym shows.0)
 shows_reply limits before mark Empty shows = ap (λ (r : MarkReply). Some r) (sym shows)
 shows_reply limits before mark (Open number) shows = ap (λ (r : MarkReply). Some r) (sym shows.0)
-shows_reply limits before mark Stand shows = absurd shows
+shows_reply limits before mark (Stand wait) shows = absurd shows
 shows_reply limits before mark Done shows = ap (λ (r : MarkReply). Some r) (sym shows)
 shows_reply limits before mark (WhetherHeld there) shows = ap (λ (r : MarkReply). Some r) (sym shows)
 shows_reply limits before mark Stopping shows = ap (λ (r : MarkReply). Some r) (sym shows)
+shows_reply limits before mark Late shows = ap (λ (r : MarkReply). Some r) (sym shows)
 shows_reply limits before mark Refused shows = absurd shows
 
 -- a step with an answer made its mark
@@ -116,7 +114,7 @@ made_of : {core : AtCore} {history : History} {session : SessionId} {moment : �
     → IsLegal core.limits history → StandsFor core history → core.base + core.count ≢ last_base → IsStep core history session moment asked turn after → reply_of turn ≡ Some answer
     → IsMade core history session moment asked turn after
 made_of answer legal stands more (step.marked going made) is = record { going = going; made = made }
-made_of answer legal stands more (step.stood going rules same) is = absurd (cc is)
+made_of answer legal stands more (step.stood going rules wait same) is = absurd (cc is)
 made_of answer legal stands more (step.refused going wants same) is = absurd (cc is)
 made_of {core} {history} answer legal stands more (step.spent all same) is =
     absurd (more (omega (arith, spent-all core.limits history legal all, stands.base, stands.count)))
@@ -357,9 +355,9 @@ module _ (state : State) (kept : IsKept state) where
       → IsStep state.core kept.stands.history session moment asked turn core → reply_of turn ≡ None → IsStepped state session moment asked turn (with_core state core)
   unmade {session} {moment} {asked} {turn} more (step.marked going made) none =
       absurd (cc (none, shows_reply state.core.limits (next_history kept.stands.history) (mark_of session asked made.reply_is moment) turn made.shows))
-  unmade {session} {moment} {asked} {core = core} more (step.stood going rules same) none = record {
+  unmade {session} {moment} {asked} {core = core} more (step.stood going rules wait same) none = record {
     kept = unmarked_kept state core kept (as_same state.core core same);
-    journaled = stood (next_spent going) (rules_bare asked moment ruling.Stand rules) (seen_same state core same);
+    journaled = stood (next_spent going) (rules_bare asked moment ruling.Stand rules) wait (seen_same state core same);
   }
   unmade {core = core} more (step.refused going wants same) none = record {
     kept = unmarked_kept state core kept same;
@@ -371,7 +369,7 @@ module _ (state : State) (kept : IsKept state) where
   pub given_up : {session : SessionId} {moment : ℕ} {asked : MarkStep} {turn : Turn} {core : AtCore} → state.core.base < last_base → state.core.base + state.core.count ≡ last_base
       → IsStep state.core kept.stands.history session moment asked turn core → IsStepped state session moment asked turn (with_core state core)
   given_up below all (step.marked going made) = absurd (cc (spent_next state.core kept.stands.history kept.stands.legal kept.stands.stands below all, going))
-  given_up below all (step.stood going rules same) = absurd (cc (spent_next state.core kept.stands.history kept.stands.legal kept.stands.stands below all, going))
+  given_up below all (step.stood going rules wait same) = absurd (cc (spent_next state.core kept.stands.history kept.stands.legal kept.stands.stands below all, going))
   given_up below all (step.refused going wants same) = absurd (cc (spent_next state.core kept.stands.history kept.stands.legal kept.stands.stands below all, going))
   given_up {core = core} below all (step.spent is same) = record {
     kept = unmarked_kept state core kept (as_same state.core core same);
@@ -392,7 +390,7 @@ module _ (state : State) (kept : IsKept state) (below : state.core.base < last_b
       → IsStep state.core kept.stands.history session moment asked turn core
       → totals state.total ≡ counted (is_spent (next_history (journal state kept))) (totals state.total) turn
   totals_given_up all (step.marked going made) = absurd (cc (spent_next state.core kept.stands.history kept.stands.legal kept.stands.stands below all, going))
-  totals_given_up all (step.stood going rules same) = refl
+  totals_given_up all (step.stood going rules wait same) = refl
   totals_given_up all (step.refused going wants same) = refl
   totals_given_up all (step.spent is same) = ap (λ (b : Bool). counted b (totals state.total) Stopping) (sym (next_spent state kept is))
 
@@ -413,8 +411,9 @@ pub given_at : {core : AtCore} {history : History} {session : SessionId} {moment
 given_at (Given grant) (step.marked going made) = made.shows.3
 given_at Empty taken = tt
 given_at (Open number) taken = tt
-given_at Stand taken = tt
+given_at (Stand wait) taken = tt
 given_at Done taken = tt
 given_at (WhetherHeld there) taken = tt
 given_at Stopping taken = tt
+given_at Late taken = tt
 given_at Refused taken = tt

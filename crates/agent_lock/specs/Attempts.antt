@@ -8,13 +8,17 @@ use Rattle.cache_policy.specs.declared.grant.Grant.{Grant}
 use Rattle.cache_policy.specs.declared.mark.MarkStep.{MarkStep}
 use Rattle.cache_policy.specs.Desks.{AtDesk}
 use Rattle.cache_policy.specs.declared.life.Limits.{Limits}
-use Rattle.cache_policy.specs.Turns.{Turn, Given, Open, Stopping, Refused, FitsReply}
+use Rattle.cache_policy.specs.Turns.{Turn, Given, Open, Stopping, Refused, FitsReply, MayWantMemory}
 use Rattle.agent_lock.specs.declared.pass.Counts.{Counts}
 use Rattle.agent_lock.specs.Counting.{counted, one_call}
 
 abbrev pub IfGiven : Turn → (Grant → Type 0) → Type 0
 IfGiven (Given grant) P = P grant
 IfGiven turn P = ⊤
+
+abbrev pub IfRefused : Turn → Type 0 → Type 0
+IfRefused Refused P = P
+IfRefused turn P = ⊤
 
 -- The counts of a pass rise by one exactly for its own turn's answer. A Stopping may come without a mark.
 abbrev pub CountsTurn : Counts → Turn → Counts → Type 0
@@ -29,6 +33,15 @@ pub record IsAttempt (first last : Readings) (before after : Counts) (asked : Ma
   pub given : IfGiven turn (λ grant. min last.last MAX_MOMENT ≤ grant.moment)
   pub counts : CountsTurn before turn after
   pub fits : FitsReply asked turn
+  -- a step finds no memory only where it may want some
+  pub memory : IfRefused turn (MayWantMemory asked)
+
+-- a desk at the lock: the counts of its pass, the session, the ticket that it has, and its clock
+pub record AtSharedDesk (C : Type 0) : Type 0 where
+  pub counts : Counts
+  pub session : SessionId
+  pub out : Option ℕ
+  pub clock : C
 
 -- what a desk at the lock shows: not its run
 abbrev pub at_lock : Limits → SessionId → Option ℕ → AtDesk

@@ -1,6 +1,6 @@
 -- What a turn does to the counts of the pass that took it: `calls` counts the marks, and the others the turns that were answered so.
 use Rattle.std.specs.Prelude.{◌+◌, ◌^◌, ◌≤◌, Bool, true, false}
-use Rattle.cache_policy.specs.Turns.{Turn, Given, Empty, Open, Stand, Done, Held, Stopping, Refused}
+use Rattle.cache_policy.specs.Turns.{Turn, Given, Empty, Open, Stand, Done, Held, Stopping, Late, Refused}
 use Rattle.cache_policy.specs.declared.tally.Tally.{Tally}
 use Rattle.agent_lock.specs.declared.pass.Counts.{Counts}
 
@@ -19,7 +19,8 @@ counted spent counts Done = one_call counts
 counted spent counts (Held held) = one_call counts
 counted false counts Stopping = one_call counts
 counted true counts Stopping = counts
-counted spent counts Stand = counts
+counted spent counts Late = one_call counts
+counted spent counts (Stand wait) = counts
 counted spent counts Refused = counts
 
 -- the counts of a tally

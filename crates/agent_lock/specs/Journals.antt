@@ -6,6 +6,7 @@ use Rattle.cache_policy.specs.declared.bounds.TheConstants.{MAX_MARKS}
 use Rattle.cache_policy.specs.declared.mark.MarkStep.{MarkStep}
 use Rattle.cache_policy.specs.declared.mark.MarkReply.{MarkReply}
 use Rattle.cache_policy.specs.declared.tally.Tally.{Tally}
+use Rattle.cache_policy.specs.declared.wait.Wait.{Wait}
 use Rattle.cache_policy.specs.Bare.{bare, bare_step}
 use Rattle.cache_policy.specs.Histories.{History, with_mark}
 use Rattle.cache_policy.specs.Legal.{IsLegal}
@@ -14,7 +15,7 @@ use Rattle.cache_policy.specs.Policy as ruling
 use Rattle.cache_policy.specs.Runs.{next_history, is_spent}
 use Rattle.cache_policy.specs.Tallies.{with_history}
 use Rattle.cache_policy.specs.Traces.{reply_of}
-use Rattle.cache_policy.specs.Turns.{Turn, Stand, Stopping, Refused}
+use Rattle.cache_policy.specs.Turns.{Turn, Stand, Stopping, Refused, wait_after}
 use Rattle.agent_core.specs.Cores.{AtCore, StandsFor, IsAsBefore, mark_of}
 
 pub record AtLock : Type 0 where
@@ -43,15 +44,15 @@ abbrev pub carried_on : AtLock → Tally
 carried_on lock = if length lock.journal.marks == MAX_MARKS then tally_at lock else lock.carried
 
 -- What a step at a moment does. It is replied by the policy of the journal, or where that is full of the one that follows it, and makes
--- its mark there without the bytes of a secret; or it stands, is refused or comes to a spent core, and makes none.
+-- its mark there without the bytes of a secret; or it stands, since its first try, is refused or comes to a spent core, and makes none.
 pub data IsJournaled (before : AtLock) (session : SessionId) (moment : ℕ) (asked : MarkStep) : Turn → AtLock → Type 0 where
   marked : {turn : Turn} {after : AtLock} (answer : MarkReply) → is_spent (next_history before.journal) ≡ false
       → policy before.core.limits (next_history before.journal) (bare_step asked) moment ≡ Reply answer → reply_of turn ≡ Some answer
       → after.journal ≡ with_mark (next_history before.journal) (mark_of session (bare_step asked) answer moment)
       → after.carried ≡ carried_on before → IsJournaled before session moment asked turn after
-  stood : {after : AtLock} → is_spent (next_history before.journal) ≡ false
-      → policy before.core.limits (next_history before.journal) (bare_step asked) moment ≡ ruling.Stand → after ≡ before
-      → IsJournaled before session moment asked Stand after
+  stood : {wait : Wait} {after : AtLock} → is_spent (next_history before.journal) ≡ false
+      → policy before.core.limits (next_history before.journal) (bare_step asked) moment ≡ ruling.Stand → wait ≡ wait_after session asked moment
+      → after ≡ before → IsJournaled before session moment asked (Stand wait) after
   refused : {after : AtLock} → is_spent (next_history before.journal) ≡ false → IsAsBefore before.core after.core
       → after ≡ record before { core = after.core } → IsJournaled before session moment asked Refused after
   spent : {after : AtLock} → is_spent (next_history before.journal) ≡ true → after ≡ before → IsJournaled before session moment asked Stopping after

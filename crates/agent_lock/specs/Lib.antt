@@ -1,7 +1,6 @@
 pub mod Journals
 pub mod Keeping
 pub mod Counting
-pub mod Booking
 pub mod Shares
 pub mod Closings
 pub mod Attempts

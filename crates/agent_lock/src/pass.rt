@@ -1,7 +1,7 @@
 ghost use Rattle.std.specs.Prelude.{◌≡◌};
 ghost use Rattle.cache_policy.specs.declared.life.Limits.{Limits};
 
-use std::marker::Brand;
+use std::marker::{Brand, Model};
 use std::sync::ledger::{Ledger, Share};
 
 /// The ledger of the marks. Its type also names the lifetimes by which they were made, as that of a lock shows nothing of what is under it.
@@ -24,7 +24,7 @@ pub struct Counts {
     pub opened: u64,
 }
 
-/// A worker's right to take turns, with its counts: one part of each ledger.
+/// A worker's right to take turns: one part of each ledger. Contracts see its counts.
 #[derive(Drop)]
 pub struct Pass<M: Ledger, G: Ledger, E: Ledger, O: Ledger> {
     pub(crate) counts: Counts,
@@ -32,35 +32,48 @@ pub struct Pass<M: Ledger, G: Ledger, E: Ledger, O: Ledger> {
     pub(crate) given: Share<G>,
     pub(crate) empty: Share<E>,
     pub(crate) opened: Share<O>,
-    ghost parts: { (calls.parts ≡ 1) × (given.parts ≡ 1) × (empty.parts ≡ 1) × (opened.parts ≡ 1) },
-    ghost amounts: { (calls.amount ≡ counts.calls) × (given.amount ≡ counts.given) × (empty.amount ≡ counts.empty) × (opened.amount ≡ counts.opened) },
+}
+
+impl<M: Ledger, G: Ledger, E: Ledger, O: Ledger> Model for Pass<M, G, E, O> {
+    ghost use Rattle.std.specs.Prelude.{◌≡◌};
+    ghost use Rattle.agent_lock.specs.declared.pass.Counts.{Counts};
+
+    ghost Value = { Counts };
+
+    ghost view = { λ pass. pass.counts };
+
+    ghost invariant = { λ pass. record {
+      parts : (pass.calls.parts ≡ 1) × (pass.given.parts ≡ 1) × (pass.empty.parts ≡ 1) × (pass.opened.parts ≡ 1);
+      amounts : (pass.calls.amount ≡ pass.counts.calls) × (pass.given.amount ≡ pass.counts.given)
+          × (pass.empty.amount ≡ pass.counts.empty) × (pass.opened.amount ≡ pass.counts.opened);
+    } };
 }
 
 impl<M: Ledger, G: Ledger, E: Ledger, O: Ledger> Pass<M, G, E, O> {
     /// How many marks it made.
     pub fn calls(&self) -> u64
-        ensures { result ≡ self.now.counts.calls }
+        ensures { result ≡ self.now.calls }
     {
         self.counts.calls
     }
 
     /// How many of its turns were answered Given.
     pub fn given(&self) -> u64
-        ensures { result ≡ self.now.counts.given }
+        ensures { result ≡ self.now.given }
     {
         self.counts.given
     }
 
     /// How many of its turns were answered Empty.
     pub fn empty(&self) -> u64
-        ensures { result ≡ self.now.counts.empty }
+        ensures { result ≡ self.now.empty }
     {
         self.counts.empty
     }
 
     /// How many of its turns were answered Open.
     pub fn opened(&self) -> u64
-        ensures { result ≡ self.now.counts.opened }
+        ensures { result ≡ self.now.opened }
     {
         self.counts.opened
     }

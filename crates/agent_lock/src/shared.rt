@@ -1,12 +1,11 @@
-ghost use Rattle.std.specs.Prelude.{◌≡◌, ◌<◌, ℕ, true, false, All, IfOk, vec_len};
+ghost use Rattle.std.specs.Prelude.{◌≡◌, ◌<◌, true, false, All, IfOk, vec_len};
 ghost use Rattle.cache_policy.specs.Seat.{stopped};
 ghost use Rattle.agent_lock.specs.Closings.{IfStopped, IfOpen, AreSums};
-ghost use Rattle.agent_lock.specs.Counting.{no_counts};
+ghost use Rattle.agent_lock.specs.Counting.{no_counts, totals};
 ghost use Rattle.agent_lock.specs.Journals.{tally_at};
 
-use crate::books::Books;
-use crate::locked::{Locked, Shares};
-use crate::{Counts, Marks, Pass};
+use crate::books::{Books, Shares};
+use crate::{Counts, Locked, Marks, Pass};
 use cache_policy::{Limits, Tally};
 use std::alloc::{AllocError, Global};
 use std::sync::ledger::{Blank, Ledger};
@@ -46,17 +45,24 @@ impl<M: Marks, G: Ledger, E: Ledger, O: Ledger> Shared<M, G, E, O> {
         passes: u32,
     ) -> Result<(Self, Vec<Pass<M, G, E, O>>), AllocError>
         requires limits { limits ≡ M.limits }
+        requires some { 0 < passes }
         requires calls { (blanks.calls.name ≡ M.name) × (blanks.calls.parts ≡ M.parts) × (passes ≡ M.parts) }
         requires given { (blanks.given.name ≡ G.name) × (blanks.given.parts ≡ G.parts) × (passes ≡ G.parts) }
         requires empty { (blanks.empty.name ≡ E.name) × (blanks.empty.parts ≡ E.parts) × (passes ≡ E.parts) }
         requires opened { (blanks.opened.name ≡ O.name) × (blanks.opened.parts ≡ O.parts) × (passes ≡ O.parts) }
         ensures all { IfOk result (λ made. vec_len made.1 ≡ passes) }
-        ensures new { IfOk result (λ made. All (λ pass. pass.counts ≡ no_counts) made.1.items) }
+        ensures new { IfOk result (λ made. All (λ pass. pass ≡ no_counts) made.1.items) }
     {
-        let (calls, mut calls_left) = blanks.calls.open::<M>();
-        let (given, mut given_left) = blanks.given.open::<G>();
-        let (empty, mut empty_left) = blanks.empty.open::<E>();
-        let (opened, mut opened_left) = blanks.opened.open::<O>();
+        let (calls, calls_left) = blanks.calls.open::<M>();
+        let (given, given_left) = blanks.given.open::<G>();
+        let (empty, empty_left) = blanks.empty.open::<E>();
+        let (opened, opened_left) = blanks.opened.open::<O>();
+        let mut left = Shares {
+            calls: calls_left,
+            given: given_left,
+            empty: empty_left,
+            opened: opened_left,
+        };
         let mut all = Vec::new(alloc);
         for _i in 0..passes {
             let pass = Pass {
@@ -66,10 +72,10 @@ impl<M: Marks, G: Ledger, E: Ledger, O: Ledger> Shared<M, G, E, O> {
                     empty: 0,
                     opened: 0,
                 },
-                calls: calls_left.split_off(1, 0),
-                given: given_left.split_off(1, 0),
-                empty: empty_left.split_off(1, 0),
-                opened: opened_left.split_off(1, 0),
+                calls: left.calls.split_off(1, 0),
+                given: left.given.split_off(1, 0),
+                empty: left.empty.split_off(1, 0),
+                opened: left.opened.split_off(1, 0),
             };
             all.push(pass)?;
         }
@@ -78,6 +84,7 @@ impl<M: Marks, G: Ledger, E: Ledger, O: Ledger> Shared<M, G, E, O> {
             given,
             empty,
             opened,
+            left,
         };
         let locked = Locked::new(alloc, limits, books)?;
         Ok((Shared::over(locked), all))
@@ -92,9 +99,8 @@ impl<M: Marks, G: Ledger, E: Ledger, O: Ledger> Shared<M, G, E, O> {
 
     /// Closes with all its passes, and gives what was done. Its sums are the passes' own.
     pub fn close(self, passes: Vec<Pass<M, G, E, O>>) -> Tally
-        requires all { (vec_len passes ≡ M.parts) × (vec_len passes ≡ G.parts) × (vec_len passes ≡ E.parts) × (vec_len passes ≡ O.parts) }
-        requires some { 0 < vec_len passes }
-        ensures { AreSums result passes.items }
+        requires { (vec_len passes ≡ M.parts) × (vec_len passes ≡ G.parts) × (vec_len passes ≡ E.parts) × (vec_len passes ≡ O.parts) }
+        ensures { AreSums (totals result) passes.items }
     {
         let Shared { lock, changed: _ } = self;
         lock.into_inner().close(passes)
@@ -102,9 +108,8 @@ impl<M: Marks, G: Ledger, E: Ledger, O: Ledger> Shared<M, G, E, O> {
 
     /// Closes as `close` does where the agent has stopped, and else gives all back.
     pub fn close_if_stopped(self, passes: Vec<Pass<M, G, E, O>>) -> Closing<M, G, E, O>
-        requires all { (vec_len passes ≡ M.parts) × (vec_len passes ≡ G.parts) × (vec_len passes ≡ E.parts) × (vec_len passes ≡ O.parts) }
-        requires some { 0 < vec_len passes }
-        ensures stopped { IfStopped result (λ tally. AreSums tally passes.items × (tally.stopped ≡ true)) }
+        requires { (vec_len passes ≡ M.parts) × (vec_len passes ≡ G.parts) × (vec_len passes ≡ E.parts) × (vec_len passes ≡ O.parts) }
+        ensures stopped { IfStopped result (λ tally. AreSums (totals tally) passes.items × (tally.stopped ≡ true)) }
         ensures open { IfOpen result (λ back. back ≡ passes.items) }
     {
         let Shared { lock, changed: _ } = self;
@@ -115,21 +120,19 @@ impl<M: Marks, G: Ledger, E: Ledger, O: Ledger> Shared<M, G, E, O> {
 impl<M: Marks, G: Ledger, E: Ledger, O: Ledger> Locked<M, G, E, O> {
     /// Closes what was taken out of the lock, with all its passes: what was done, by the journal and what was done before it.
     pub fn close(self, passes: Vec<Pass<M, G, E, O>>) -> Tally
-        requires all { (vec_len passes ≡ M.parts) × (vec_len passes ≡ G.parts) × (vec_len passes ≡ E.parts) × (vec_len passes ≡ O.parts) }
-        requires some { 0 < vec_len passes }
+        requires { (vec_len passes ≡ M.parts) × (vec_len passes ≡ G.parts) × (vec_len passes ≡ E.parts) × (vec_len passes ≡ O.parts) }
         ensures tally { result ≡ tally_at self }
-        ensures sums { AreSums result passes.items }
+        ensures sums { AreSums (totals result) passes.items }
     {
-        let mut locked = self;
-        let mut all = Shares::gather(passes);
-        locked.audit(&mut all)
+        let Locked { state, books } = self;
+        books.close(passes);
+        state.total
     }
 
     /// Closes where the agent has stopped, by the journal, and else locks all up anew.
     pub fn close_if_stopped(self, passes: Vec<Pass<M, G, E, O>>) -> Closing<M, G, E, O>
-        requires all { (vec_len passes ≡ M.parts) × (vec_len passes ≡ G.parts) × (vec_len passes ≡ E.parts) × (vec_len passes ≡ O.parts) }
-        requires some { 0 < vec_len passes }
-        ensures stopped { IfStopped result (λ tally. (tally ≡ tally_at self) × AreSums tally passes.items × (stopped self.journal ≡ true) × (tally.stopped ≡ true)) }
+        requires { (vec_len passes ≡ M.parts) × (vec_len passes ≡ G.parts) × (vec_len passes ≡ E.parts) × (vec_len passes ≡ O.parts) }
+        ensures stopped { IfStopped result (λ tally. (tally ≡ tally_at self) × AreSums (totals tally) passes.items × (stopped self.journal ≡ true) × (tally.stopped ≡ true)) }
         ensures open { IfOpen result (λ back. (back ≡ passes.items) × (stopped self.journal ≡ false)) }
     {
         if !self.stopped() {

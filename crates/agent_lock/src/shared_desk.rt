@@ -1,17 +1,31 @@
 ghost use Rattle.std.specs.Prelude.{◌≡◌, None, IfErr, refl};
-ghost use Rattle.cache_policy.specs.Turns.{mark_step, turn_of, out_after, FitsStep};
+ghost use Rattle.cache_policy.specs.Turns.{asked_step, turn_of, out_after, FitsStep};
+ghost use Rattle.agent_core.specs.Openings.{opening_step};
 ghost use Rattle.agent_lock.specs.Attempts.{IsAttempt, at_lock, ticket_after};
 
 use crate::{Locked, Marks, Pass, Shared};
-use agent_core::Opening;
+use agent_core::{Opening, without_wait};
 use agent_ports::{Clock, SessionId};
-use cache_policy::{Desk, Refused, Reply, Step};
+use cache_policy::{Desk, Refused, Reply, Step, Wait as SeatWait};
+use std::marker::Model;
 use std::sync::Wait;
 use std::sync::ledger::Ledger;
+use std::time;
+use std::time::Duration;
 
 /// A desk over the lock, for the turns of one session. It shows no run, and the lifetimes that the ledger's type names.
+///
+/// Contracts see the pass's counts, the session, the ticket that it has, and the clock.
 #[derive(Drop)]
-pub struct SharedDesk<'a, W: Wait, C: Clock, M: Marks, G: Ledger, E: Ledger, O: Ledger> {
+pub struct SharedDesk<
+    'a,
+    W: Wait + time::Clock,
+    C: Clock,
+    M: Marks,
+    G: Ledger,
+    E: Ledger,
+    O: Ledger,
+> {
     rt: &'a W,
     shared: &'a Shared<M, G, E, O>,
     pass: Pass<M, G, E, O>,
@@ -21,7 +35,17 @@ pub struct SharedDesk<'a, W: Wait, C: Clock, M: Marks, G: Ledger, E: Ledger, O: 
     clock: C,
 }
 
-impl<'a, W: Wait, C: Clock, M: Marks, G: Ledger, E: Ledger, O: Ledger> SharedDesk<
+impl<'a, W: Wait + time::Clock, C: Clock, M: Marks, G: Ledger, E: Ledger, O: Ledger> Model
+    for SharedDesk<'a, W, C, M, G, E, O> {
+    ghost use Rattle.agent_core.specs.Openings.{opening_step};
+    ghost use Rattle.agent_lock.specs.Attempts.{AtSharedDesk};
+
+    ghost Value = { AtSharedDesk C };
+
+    ghost view = { λ desk. record { counts = desk.pass; session = desk.session; out = desk.out; clock = desk.clock } };
+}
+
+impl<'a, W: Wait + time::Clock, C: Clock, M: Marks, G: Ledger, E: Ledger, O: Ledger> SharedDesk<
     'a,
     W,
     C,
@@ -37,9 +61,7 @@ impl<'a, W: Wait, C: Clock, M: Marks, G: Ledger, E: Ledger, O: Ledger> SharedDes
         session: SessionId,
         clock: C,
     ) -> Self
-        ensures pass { result.pass ≡ pass }
-        ensures session { (result.session ≡ session) × (result.out ≡ None) }
-        ensures clock { result.clock ≡ clock }
+        ensures { result ≡ record { counts = pass; session = session; out = None; clock = clock } }
     {
         SharedDesk {
             rt,
@@ -55,7 +77,7 @@ impl<'a, W: Wait, C: Clock, M: Marks, G: Ledger, E: Ledger, O: Ledger> SharedDes
     pub fn into_pass(self) -> Pass<M, G, E, O>
     where
         C: Drop,
-        ensures { result ≡ self.entry.pass }
+        ensures { result ≡ self.entry.counts }
     {
         let SharedDesk { pass, .. } = self;
         pass
@@ -63,8 +85,8 @@ impl<'a, W: Wait, C: Clock, M: Marks, G: Ledger, E: Ledger, O: Ledger> SharedDes
 
     /// Tries a step once, under the lock.
     fn attempt(&mut self, locked: &mut Locked<M, G, E, O>, step: Step) -> Result<Reply, Refused>
-        ensures attempt { IsAttempt (C.readings self.old.clock) (C.readings self.new.clock) self.old.pass.counts self.new.pass.counts (mark_step step) (turn_of result) }
-        ensures out { self.new.out ≡ out_after self.old.out (mark_step step) (turn_of result) }
+        ensures attempt { IsAttempt (C.readings self.old.clock) (C.readings self.new.clock) self.old.counts self.new.counts (asked_step step) (turn_of result) }
+        ensures out { self.new.out ≡ out_after self.old.out (asked_step step) (turn_of result) }
         ensures session { self.new.session ≡ self.old.session }
         ensures back { IfErr result (λ refused. refused.step ≡ step) }
     {
@@ -73,6 +95,26 @@ impl<'a, W: Wait, C: Clock, M: Marks, G: Ledger, E: Ledger, O: Ledger> SharedDes
         let answer = locked.step(&mut self.pass, reading, self.session, step);
         self.out = out_then(self.out, closes, &answer);
         answer
+    }
+
+    /// Tries a step once more that had to stand. What it was given for that isn't handed back.
+    fn try_again(
+        &mut self,
+        locked: &mut Locked<M, G, E, O>,
+        opening: &Opening,
+        stood: SeatWait,
+    ) -> Result<Reply, Refused>
+        ensures attempt { IsAttempt (C.readings self.old.clock) (C.readings self.new.clock) self.old.counts self.new.counts (asked_step (opening_step opening.now None)) (turn_of result) }
+        ensures out { self.new.out ≡ out_after self.old.out (asked_step (opening_step opening.now None)) (turn_of result) }
+        ensures session { self.new.session ≡ self.old.session }
+        ensures back { IfErr result (λ refused. refused.step ≡ opening_step opening.now None) }
+    {
+        match self.attempt(locked, opening.step(Some(stood))) {
+            Err(Refused { step }) => Err(Refused {
+                step: without_wait(step),
+            }),
+            other => other,
+        }
     }
 }
 
@@ -88,36 +130,37 @@ fn out_then(out: Option<u64>, closes: bool, reply: &Result<Reply, Refused>) -> O
     }
 }
 
-impl<'a, W: Wait, C: Clock, M: Marks, G: Ledger, E: Ledger, O: Ledger> Desk
+impl<'a, W: Wait + time::Clock, C: Clock, M: Marks, G: Ledger, E: Ledger, O: Ledger> Desk
     for SharedDesk<'a, W, C, M, G, E, O> {
     ghost at = { λ desk. at_lock M.limits desk.session desk.out };
 
     ghost turned = { λ before asked turn after.
-        IsAttempt (C.readings before.clock) (C.readings after.clock) before.pass.counts after.pass.counts asked turn
+        IsAttempt (C.readings before.clock) (C.readings after.clock) before.counts after.counts asked turn
         × FitsStep asked turn
         × (after.session ≡ before.session)
         × (after.out ≡ out_after before.out asked turn) };
 
-    /// Where the reply is Stand, it waits until another turn was taken, and tries again.
+    /// Where the reply is Stand, it tries again once another turn was taken, or a second has passed.
     fn turn(&mut self, step: Step) -> Result<Reply, Refused> {
         let (rt, shared) = (self.rt, self.shared);
         let opening = Opening::of(&step);
         let mut locked = shared.lock.lock(rt);
-        match self.attempt(&mut locked, step) {
-            Ok(Reply::Stand) => {}
+        let mut stood = match self.attempt(&mut locked, step) {
+            Ok(Reply::Stand(stood)) => stood,
             other => {
                 drop(locked);
                 shared.changed.notify_all();
                 return other;
             }
-        }
+        };
         let Some(opening) = opening else {
             unreachable!()
         };
         for _ in rt.forever() {
-            locked = shared.changed.wait(rt, locked);
-            match self.attempt(&mut locked, opening.step()) {
-                Ok(Reply::Stand) => {}
+            let second = Duration::from_secs(1);
+            locked = shared.changed.wait_timeout(rt, locked, second).0;
+            match self.try_again(&mut locked, &opening, stood) {
+                Ok(Reply::Stand(still)) => stood = still,
                 other => {
                     drop(locked);
                     shared.changed.notify_all();

@@ -1,4 +1,4 @@
-ghost use Rattle.std.specs.Prelude.{◌≡◌, ◌<◌, ◌≤◌, ◌^◌, [], None, IfOk, IfErr, vec_len, vec_capacity};
+ghost use Rattle.std.specs.Prelude.{◌≡◌, ◌<◌, ◌≤◌, ◌^◌, [], None, IfOk, IfErr, OnErr, vec_len, vec_capacity};
 ghost use Rattle.cache_policy.specs.declared.bounds.TheConstants.{MAX_MARKS as MAX};
 ghost use Rattle.cache_policy.specs.Histories.{History, with_mark};
 ghost use Rattle.cache_policy.specs.Legal.{IsLegal};
@@ -6,7 +6,7 @@ ghost use Rattle.cache_policy.specs.Runs.{last_base, moment_of, next_history, is
 ghost use Rattle.cache_policy.specs.Seat.{stopped};
 ghost use Rattle.cache_policy.specs.Tallies.{with_one, one_if, nothing_yet, IsSound};
 ghost use Rattle.cache_policy.specs.Traces.{trace_mark};
-ghost use Rattle.cache_policy.specs.Turns.{mark_step, turn_of, FitsReply};
+ghost use Rattle.cache_policy.specs.Turns.{asked_step, mark_step, turn_of, FitsReply, MayWantMemory};
 ghost use Rattle.agent_core.specs.Cores.{StandsFor, IsStep};
 ghost use Rattle.agent_lock.specs.Attempts.{IfGiven};
 ghost use Rattle.agent_lock.specs.Counting.{counted, totals, AreSmall};
@@ -70,17 +70,18 @@ impl State {
     ) -> Result<Reply, Refused>
         requires { IsKept self.old }
         ensures kept { IsKept self.new }
-        ensures journaled { IsJournaled (seen self.old) session (moment_of self.old.core.moment reading) (mark_step step) (turn_of result) (seen self.new) }
+        ensures journaled { IsJournaled (seen self.old) session (moment_of self.old.core.moment reading) (mark_step session step) (turn_of result) (seen self.new) }
         ensures core { (history : History) → IsLegal self.old.core.limits history → StandsFor self.old.core history
-            → IsStep self.old.core history session (moment_of self.old.core.moment reading) (mark_step step) (turn_of result) self.new.core }
+            → IsStep self.old.core history session (moment_of self.old.core.moment reading) (mark_step session step) (turn_of result) self.new.core }
         ensures totals { totals self.new.total ≡ counted (is_spent (next_history (seen self.old).journal)) (totals self.old.total) (turn_of result) }
         ensures grant { IfGiven (turn_of result) (λ grant. grant.moment ≡ moment_of self.old.core.moment reading) }
-        ensures fits { FitsReply (mark_step step) (turn_of result) }
+        ensures fits { FitsReply (asked_step step) (turn_of result) }
+        ensures memory { OnErr result (MayWantMemory (asked_step step)) }
         ensures limits { self.new.core.limits ≡ self.old.core.limits }
         ensures back { IfErr result (λ refused. refused.step ≡ step) }
     {
         let spent = self.core.spent();
-        let asked = TraceStep::of(&step);
+        let asked = TraceStep::of(session, &step);
         let stores = asked.stores(&self.core.limits(), &self.core.held());
         let next = self.next_start();
         let outcome = self.core.step(reading, session, step);

@@ -1,5 +1,6 @@
 -- The children that a launcher starts, and those that were finished. This is the project's own.
 use Rattle.std.specs.Prelude.{◌≡◌, ℕ, List, [], ◌∷◌, ◌++◌, Option, Some, None, IfSome}
+use Rattle.std.specs.Option.{option_map}
 use Rattle.agent_ports.specs.Sides.{Side}
 
 -- a child that was finished: the bytes that it still had to give, and those that it was written
@@ -7,10 +8,11 @@ pub record Finished : Type 0 where
   pub left : List ℕ
   pub written : List ℕ
 
--- A launcher at some point: the children to come, each as all the bytes that it gives, and those that were finished, in
--- order, where they are known; and how many launches and children's calls failed.
+-- A launcher at some point: the children to come, each as all the bytes that it gives, the programs that were launched, and
+-- the children that were finished, in order, where they are known; and how many launches and children's calls failed.
 pub record Launches : Type 0 where
   pub coming : Option (List (List ℕ))
+  pub launched : Option (List (List ℕ))
   pub finished : Option (List Finished)
   pub faults : ℕ
 
@@ -19,6 +21,10 @@ abbrev pub child_then : Option (List ℕ) → Option (List (List ℕ)) → Optio
 child_then (Some gives) (Some coming) = Some (gives ∷ coming)
 child_then (Some gives) None = None
 child_then None coming = None
+
+-- the programs, and then this one
+abbrev pub then_launched : Option (List (List ℕ)) → List ℕ → Option (List (List ℕ))
+then_launched launched program = option_map (λ programs. programs ++ program ∷ []) launched
 
 -- the finished ones, and then a child that has these bytes left to give and was written those
 abbrev pub then_finished : Option (List Finished) → Option (List ℕ) → Option (List ℕ) → Option (List Finished)

@@ -1,12 +1,17 @@
 pub mod Counts
 pub mod Readings
 pub mod Sides
+pub mod Writing
 pub mod Launches
+pub mod Listening
 pub mod Draws
 pub mod KeyFiles
 pub mod Leads
 pub mod Plans
 pub mod MemPlans
 pub mod MemLaunches
+pub mod MemListening
 pub mod MemKeys
 pub mod Lent
+pub mod TrustFiles
+pub mod HostParts

@@ -6,7 +6,7 @@ pub record Plan : Type 0 where
   pub failing : List ℕ
   -- how many calls there were
   pub calls : ℕ
-  -- how many bytes a read gives at most, or a write that fails keeps
+  -- how many bytes a read gives at most, or a write that fails keeps; 0 where calls move none
   pub size : ℕ
 
 -- the next call fails

@@ -60,6 +60,15 @@ impl FaultPlan {
         self.faults = self.faults.saturating_add(faults);
     }
 
+    /// No fault counts from now on.
+    pub(crate) fn forget(&mut self)
+        ensures faults { self.new.faults ≡ 0 }
+        ensures calls { self.new.calls ≡ self.old.calls }
+        ensures failing { self.new.failing ≡ self.old.failing }
+    {
+        self.faults = 0;
+    }
+
     pub(crate) fn faults(&self) -> u64
         ensures { result ≡ self.now.faults }
     {

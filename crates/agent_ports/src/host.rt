@@ -1,7 +1,9 @@
-ghost use Rattle.std.specs.Prelude.{◌≡◌, ℕ, Option, Some, None, IsSome};
+ghost use Rattle.std.specs.Prelude.{◌≡◌, ◌≤◌, ℕ, Option, Some, None, IsSome, IsNone};
+ghost use Rattle.agent_ports.specs.Counts.{Rose, RoseBy};
+ghost use Rattle.agent_ports.specs.HostParts.{Views, AreSettled, AreNew};
 ghost use Rattle.agent_ports.specs.declared.host.Parts.{Parts as HostParts};
 
-use crate::{Clock, Dice, Keys, Launcher};
+use crate::{Clock, Dice, Ear, Gate, Keys, Launcher, Link, Listener, TrustFile};
 
 /// What a session needs of the machine, beside its link.
 #[derive(Drop)]
@@ -14,6 +16,12 @@ pub struct Parts<La, C, R, K> {
 
 /// The machine that the agent runs on.
 pub trait Host {
+    type Link: Link;
+
+    type Ear: Ear;
+
+    type Listener: Listener<Link = Self::Link, Ear = Self::Ear>;
+
     type Launcher: Launcher;
 
     type Clock: Clock;
@@ -22,11 +30,25 @@ pub trait Host {
 
     type Keys: Keys;
 
+    type Trust: TrustFile;
+
+    type Gate: Gate;
+
     /// The parts for the session on standard input and output, where the host has them, as a new one does.
     ghost server: { Self → Option (HostParts Self.Launcher Self.Clock Self.Dice Self.Keys) };
 
     /// The number of the process.
     ghost process: { Self → ℕ };
+
+    /// How many calls for a listener failed, and how many calls with the ears that came back.
+    ghost listens: { Self → ℕ };
+
+    /// The folder that is used from now on. The server's parts stay as they are, as far as they show it.
+    fn settle(&mut self, homedir: &[u8])
+        ensures parts { AreSettled (record { launches = Self.Launcher.launches; readings = Self.Clock.readings; draws = Self.Dice.draws; keys = Self.Keys.keys })
+            (server self.old) (server self.new) }
+        ensures process { process self.new ≡ process self.old }
+        ensures listens { listens self.new ≡ listens self.old };
 
     /// The number of the process, or 0 where it isn't known.
     fn pid(&self) -> u32
@@ -37,10 +59,44 @@ pub trait Host {
         requires { IsSome (server self.old) }
         ensures given { server self.old ≡ Some result }
         ensures gone { server self.new ≡ None }
-        ensures process { process self.new ≡ process self.old };
+        ensures process { process self.new ≡ process self.old }
+        ensures listens { listens self.new ≡ listens self.old };
 
     /// Takes the server's parts back.
     fn parts_back(&mut self, parts: Parts<Self::Launcher, Self::Clock, Self::Dice, Self::Keys>)
         ensures back { server self.new ≡ Some parts }
+        ensures process { process self.new ≡ process self.old }
+        ensures listens { listens self.new ≡ listens self.old };
+
+    /// New parts, for one session of a daemon.
+    fn session_parts(&self) -> Parts<Self::Launcher, Self::Clock, Self::Dice, Self::Keys>
+        ensures { AreNew (record { launches = Self.Launcher.launches; readings = Self.Clock.readings; draws = Self.Dice.draws; keys = Self.Keys.keys }) result };
+
+    /// The trust file, for one session of a daemon.
+    fn trust(&self) -> Self::Trust
+        ensures { (Self.Trust.trust result).faults ≡ 0 };
+
+    /// The daemon's listener.
+    fn listen(&mut self) -> Option<Self::Listener>
+        ensures failed { IsNone result → Rose (listens self.old) (listens self.new) }
+        ensures listens { listens self.old ≤ listens self.new }
+        ensures server { server self.new ≡ server self.old }
         ensures process { process self.new ≡ process self.old };
+
+    /// The listener for restricted sessions.
+    fn listen_extra(&mut self) -> Option<Self::Listener>
+        ensures failed { IsNone result → Rose (listens self.old) (listens self.new) }
+        ensures listens { listens self.old ≤ listens self.new }
+        ensures server { server self.new ≡ server self.old }
+        ensures process { process self.new ≡ process self.old };
+
+    /// Takes an ear back whose worker has returned. What failed there counts here too.
+    fn ear_back(&mut self, ear: Self::Ear)
+        ensures rose { RoseBy (Self.Ear.faults ear) (listens self.old) (listens self.new) }
+        ensures listens { listens self.old ≤ listens self.new }
+        ensures server { server self.new ≡ server self.old }
+        ensures process { process self.new ≡ process self.old };
+
+    /// Where the sessions of a daemon pass by.
+    fn gate(&self) -> &Self::Gate;
 }

@@ -9,35 +9,45 @@
 mod clock;
 mod dice;
 mod fault_plan;
+mod gate;
 mod grip;
 mod host;
 mod keys;
 mod launcher;
 mod lent_clock;
 mod link;
+mod listener;
 mod mem_clock;
 mod mem_dice;
 mod mem_host;
 mod mem_keys;
 mod mem_launcher;
 mod mem_link;
+mod mem_listener;
+mod mem_trust;
 mod session;
+mod trust;
 
 pub use clock::Clock;
 pub use dice::Dice;
+pub use gate::{Gate, GatePoint, HoldGate, NoGate};
 pub use grip::Grip;
 pub use host::{Host, Parts};
 pub use keys::{KeyDone, KeyNames, KeyRead, Keys, MAX_KEY_FILE_LEN};
 pub use launcher::Launcher;
 pub use lent_clock::LentClock;
-pub use link::{Got, Link, Sent, Sink, Source};
+pub use link::{Got, Link, Sent, Sink, Source, WriteFault};
+pub use listener::{Ear, Listener, Next};
 pub use mem_clock::{ListClock, StepClock};
 pub use mem_dice::ListDice;
-pub use mem_host::MemHost;
+pub use mem_host::{MemHost, MemParts};
 pub use mem_keys::MapKeys;
 pub use mem_launcher::{MemChild, MemLauncher, PlannedChild};
-pub use mem_link::{MemLink, MemSink, MemSource};
+pub use mem_link::{MemLink, MemSink, MemSource, PlannedLink};
+pub use mem_listener::{ListListener, ListedLinks, MemEar};
+pub use mem_trust::MemTrust;
 pub use session::SessionId;
+pub use trust::{TrustDone, TrustFile, TrustRead};
 
 #[cfg(test)]
 mod tests;

@@ -1,5 +1,6 @@
 ghost use Rattle.std.specs.Prelude.{◌≡◌, ◌<◌, ◌≤◌, length, take, IfSome, []};
 ghost use Rattle.agent_ports.specs.Counts.{Rose};
+ghost use Rattle.agent_ports.specs.Writing.{whole_of};
 ghost use Rattle.agent_ports.specs.Sides.{Side, followed_by, with_bytes, taken_by, IfBytes, sent_part, IfCut, IsCut};
 
 /// What a read gave.
@@ -19,6 +20,22 @@ pub enum Sent {
     All,
     /// The write failed after that many first bytes.
     Failed { sent: usize },
+}
+
+/// A write failed.
+#[derive(Clone, Copy, Debug, PartialEq, Eq)]
+pub struct WriteFault;
+
+impl Sent {
+    /// Whether all of the bytes went. How many of them did otherwise is left out.
+    pub fn whole(self) -> Result<(), WriteFault>
+        ensures { result ≡ whole_of self }
+    {
+        match self {
+            Sent::All => Ok(()),
+            Sent::Failed { .. } => Err(WriteFault),
+        }
+    }
 }
 
 /// Where bytes come from.

@@ -1,4 +1,4 @@
-ghost use Rattle.std.specs.Prelude.{◌≡◌, ◌≤◌, drop, vec_len, Some};
+ghost use Rattle.std.specs.Prelude.{◌≡◌, ◌≤◌, ◌↔◌, drop, length, vec_len, IsTrue, IfSome, Some};
 
 use crate::Dice;
 use crate::fault_plan::FaultPlan;
@@ -14,8 +14,11 @@ pub struct ListDice {
 }
 
 impl ListDice {
+    ghost use Rattle.agent_ports.specs.MemPlans.{dice_plan};
+
     pub fn new(bytes: Vec<u8>, failing: Vec<u64>) -> Self
         ensures draws { ⟦<ListDice as Dice>⟧.draws result ≡ record { bytes = Some bytes.items; faults = 0 } }
+        ensures plan { dice_plan result ≡ record { failing = failing.items; calls = 0; size = 0 } }
     {
         ListDice {
             bytes,
@@ -25,10 +28,30 @@ impl ListDice {
     }
 }
 
+impl ListDice {
+    /// No fault counts from now on.
+    pub(crate) fn forget_faults(&mut self)
+        ensures { ⟦<ListDice as Dice>⟧.draws self.new ≡ record (⟦<ListDice as Dice>⟧.draws self.old) { faults = 0 } }
+    {
+        self.plan.forget();
+    }
+}
+
 impl Dice for ListDice {
+    ghost use Rattle.agent_ports.specs.Draws.{IsDrawn};
+    ghost use Rattle.agent_ports.specs.MemPlans.{dice_plan};
+    ghost use Rattle.agent_ports.specs.Plans.{Fails, after_call};
+
     ghost draws = { λ d. record { bytes = Some (drop d.taken d.bytes.items); faults = d.plan.faults } };
 
-    fn fill(&mut self, out: &mut [u8]) -> bool {
+    fn fill(&mut self, out: &mut [u8]) -> bool
+        ensures drawn { IsDrawn (⟦<ListDice as Dice>⟧.draws self.old) result out.new (⟦<ListDice as Dice>⟧.draws self.new) }
+
+        // What the plan says.
+        ensures planned { IsTrue result ↔ ((Fails (dice_plan self.old) → ⊥)
+            × IfSome (⟦<ListDice as Dice>⟧.draws self.old).bytes (λ rest. length out.old ≤ length rest)) }
+        ensures calls { dice_plan self.new ≡ after_call (dice_plan self.old) }
+    {
         if self.plan.next_fails() {
             out.fill(0);
             return false;

@@ -1,4 +1,4 @@
-ghost use Rattle.std.specs.Prelude.{◌≡◌, ◌≤◌, length, vec_len, Some, OnOk, OnErr};
+ghost use Rattle.std.specs.Prelude.{◌≡◌, ◌≢◌, ◌≤◌, ◌↔◌, length, vec_len, Some, OnOk, OnErr};
 ghost use Rattle.agent_ports.specs.declared.keys.TheConstants.{MAX_KEY_FILE_LEN};
 
 use crate::fault_plan::FaultPlan;
@@ -50,10 +50,12 @@ pub struct MapKeys {
 impl MapKeys {
     ghost use Rattle.std.specs.FinMap as map;
     ghost use Rattle.agent_ports.specs.MemKeys.{inserted};
+    ghost use Rattle.agent_ports.specs.MemPlans.{keys_plan};
 
     /// No files yet. It takes no memory.
     pub fn new(alloc: Global, failing: Vec<u64>) -> Self
-        ensures { ⟦<MapKeys as Keys>⟧.keys result ≡ record { files = Some map.empty; faults = 0 } }
+        ensures keys { ⟦<MapKeys as Keys>⟧.keys result ≡ record { files = Some map.empty; faults = 0 } }
+        ensures plan { keys_plan result ≡ record { failing = failing.items; calls = 0; size = 0 } }
     {
         MapKeys {
             files: BTreeMap::new(alloc),
@@ -66,18 +68,37 @@ impl MapKeys {
         requires { vec_len file ≤ MAX_KEY_FILE_LEN }
         ensures ok { OnOk result (⟦<MapKeys as Keys>⟧.keys self.new ≡ inserted grip file.items (⟦<MapKeys as Keys>⟧.keys self.old)) }
         ensures err { OnErr result (⟦<MapKeys as Keys>⟧.keys self.new ≡ ⟦<MapKeys as Keys>⟧.keys self.old) }
+        ensures plan { keys_plan self.new ≡ keys_plan self.old }
     {
         self.files.insert(grip, KeyFile::new(file))?;
         Ok(())
     }
 }
 
+impl MapKeys {
+    /// No fault counts from now on.
+    pub(crate) fn forget_faults(&mut self)
+        ensures { ⟦<MapKeys as Keys>⟧.keys self.new ≡ record (⟦<MapKeys as Keys>⟧.keys self.old) { faults = 0 } }
+    {
+        self.plan.forget();
+    }
+}
+
 impl Keys for MapKeys {
+    ghost use Rattle.agent_ports.specs.KeyFiles.{ReadsKey, ListsKeys, ReplacesKey, RemovesKey};
     ghost use Rattle.agent_ports.specs.MemKeys.{files_of};
+    ghost use Rattle.agent_ports.specs.MemPlans.{keys_plan};
+    ghost use Rattle.agent_ports.specs.Plans.{Fails, after_call};
 
     ghost keys = { λ k. record { files = Some (files_of k.files.entries); faults = k.plan.faults } };
 
-    fn read(&mut self, alloc: Global, grip: &Grip) -> KeyRead {
+    fn read(&mut self, alloc: Global, grip: &Grip) -> KeyRead
+        ensures reads { ReadsKey (⟦<MapKeys as Keys>⟧.keys self.old) grip.now result (⟦<MapKeys as Keys>⟧.keys self.new) }
+
+        // What the plan says.
+        ensures planned { (result ≡ KeyRead.Failed) ↔ Fails (keys_plan self.old) }
+        ensures calls { keys_plan self.new ≡ after_call (keys_plan self.old) }
+    {
         if self.plan.next_fails() {
             return KeyRead::Failed;
         }
@@ -90,7 +111,13 @@ impl Keys for MapKeys {
         }
     }
 
-    fn list(&mut self, alloc: Global) -> KeyNames {
+    fn list(&mut self, alloc: Global) -> KeyNames
+        ensures lists { ListsKeys (⟦<MapKeys as Keys>⟧.keys self.old) result (⟦<MapKeys as Keys>⟧.keys self.new) }
+
+        // What the plan says.
+        ensures planned { (result ≡ KeyNames.Failed) ↔ Fails (keys_plan self.old) }
+        ensures calls { keys_plan self.new ≡ after_call (keys_plan self.old) }
+    {
         if self.plan.next_fails() {
             return KeyNames::Failed;
         }
@@ -100,7 +127,14 @@ impl Keys for MapKeys {
         }
     }
 
-    fn replace(&mut self, alloc: Global, grip: &Grip, file: &[u8]) -> KeyDone {
+    fn replace(&mut self, alloc: Global, grip: &Grip, file: &[u8]) -> KeyDone
+        requires { length file.now ≤ MAX_KEY_FILE_LEN }
+        ensures replaces { ReplacesKey (⟦<MapKeys as Keys>⟧.keys self.old) grip.now file.now result (⟦<MapKeys as Keys>⟧.keys self.new) }
+
+        // What the plan says.
+        ensures planned { (result ≡ KeyDone.Failed) ↔ Fails (keys_plan self.old) }
+        ensures calls { keys_plan self.new ≡ after_call (keys_plan self.old) }
+    {
         if self.plan.next_fails() {
             return KeyDone::Failed;
         }
@@ -113,7 +147,14 @@ impl Keys for MapKeys {
         }
     }
 
-    fn remove(&mut self, _alloc: Global, grip: &Grip) -> KeyDone {
+    fn remove(&mut self, _alloc: Global, grip: &Grip) -> KeyDone
+        ensures removes { RemovesKey (⟦<MapKeys as Keys>⟧.keys self.old) grip.now result (⟦<MapKeys as Keys>⟧.keys self.new) }
+
+        // What the plan says.
+        ensures planned { (result ≡ KeyDone.Failed) ↔ Fails (keys_plan self.old) }
+        ensures calls { keys_plan self.new ≡ after_call (keys_plan self.old) }
+        ensures enough { result ≢ KeyDone.NoMemory }
+    {
         if self.plan.next_fails() {
             return KeyDone::Failed;
         }

@@ -143,6 +143,34 @@ impl Sink for MemSink {
     }
 }
 
+/// A link to be opened: what it gives, at most `piece` bytes a read, or one where that is 0, and the reads and writes that fail, by
+/// their number from 0. A write that fails keeps nothing.
+#[derive(Debug, Drop)]
+pub struct PlannedLink {
+    pub gives: Vec<u8>,
+    pub piece: usize,
+    pub failing_reads: Vec<u64>,
+    pub failing_writes: Vec<u64>,
+}
+
+impl PlannedLink {
+    ghost use Rattle.agent_ports.specs.MemPlans.{open_link, planned_link};
+
+    /// The link, of which nothing was read or written so far. It takes no memory.
+    pub fn open(self, alloc: Global) -> MemLink
+        ensures { open_link result ≡ planned_link self }
+    {
+        let PlannedLink {
+            gives,
+            piece,
+            failing_reads,
+            failing_writes,
+        } = self;
+        let source = MemSource::new(gives, piece, failing_reads);
+        MemLink::new(source, MemSink::new(alloc, 0, failing_writes))
+    }
+}
+
 /// Gives the bytes of its source, and keeps what is written to its sink.
 #[derive(Debug, Drop)]
 pub struct MemLink {

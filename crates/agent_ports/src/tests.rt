@@ -2,7 +2,20 @@ ghost use Rattle.std.specs.Prelude.{IsSome};
 
 use super::*;
 use std::alloc::{AllocError, Global};
+use std::sync::{Mutex, Wait};
 use std::test::Fail;
+use std::thread;
+
+/// The first place at which the texts differ.
+fn first_wrong(got: &[String], want: &[&str]) -> Option<usize> {
+    for (place, text) in want.iter().enumerate() {
+        match got.get(place) {
+            Some(other) if other.as_str() == *text => {}
+            _ => return Some(place),
+        }
+    }
+    (got.len() != want.len()).then_some(want.len())
+}
 
 /// What so many reads of a buffer of four bytes give, read by read.
 fn reads<S: Source>(
@@ -38,10 +51,7 @@ fn a_source_gives_its_bytes_in_pieces_and_fails_when_it_is_to(rt: HostRuntime) -
         "end",
         "end",
     ];
-    assert_eq!(rt; got.len(), want.len());
-    for (one, other) in got.iter().zip(&want) {
-        assert_eq!(rt; one.as_str(), *other);
-    }
+    assert_eq!(rt; first_wrong(&got, &want), None);
     Ok(())
 }
 
@@ -159,14 +169,15 @@ fn a_launcher_gives_its_children_in_order_and_keeps_what_they_were_written(
         "All",
         "none",
     ];
-    assert_eq!(rt; got.len(), want.len());
-    for (one, other) in got.iter().zip(&want) {
-        assert_eq!(rt; one.as_str(), *other);
-    }
+    assert_eq!(rt; first_wrong(&got, &want), None);
     for back in 0..2 {
         assert_eq!(rt; launcher.written(back), Some(b"BYE".as_slice()));
     }
     assert_eq!(rt; launcher.written(2), None);
+    for others in 0..2 {
+        assert_eq!(rt; launcher.launched(others), Some(b"pinentry".as_slice()));
+    }
+    assert_eq!(rt; launcher.launched(2), None);
     Ok(())
 }
 
@@ -211,10 +222,7 @@ fn dice_give_their_bytes_until_they_run_out(rt: HostRuntime) -> Result<(), Fail>
         "true []",
         "false [0]",
     ];
-    assert_eq!(rt; got.len(), want.len());
-    for (one, other) in got.iter().zip(&want) {
-        assert_eq!(rt; one.as_str(), *other);
-    }
+    assert_eq!(rt; first_wrong(&got, &want), None);
     Ok(())
 }
 
@@ -275,10 +283,185 @@ fn key_files_are_replaced_read_listed_and_removed(rt: HostRuntime) -> Result<(),
     ] {
         let mut keys = MapKeys::new(alloc, failing);
         let got = use_keys(alloc, &mut keys)?;
-        assert_eq!(rt; got.len(), want.len());
-        for (one, other) in got.iter().zip(&want) {
-            assert_eq!(rt; one.as_str(), *other);
+        assert_eq!(rt; first_wrong(&got, &want), None);
+    }
+    Ok(())
+}
+
+/// What a listener's next link gives in one read, or why there is none. Each link is written `text`.
+fn hear<L: Listener>(
+    alloc: Global,
+    listener: &L,
+    ear: &mut L::Ear,
+    text: &[u8],
+) -> Result<String, AllocError> {
+    match listener.next(ear) {
+        Next::Link(mut link) => {
+            let sent = link.put(text);
+            let got = reads(alloc, &mut link, 1);
+            listener.done(link);
+            format!(in alloc; "{sent:?} {:?}", got?)
         }
+        Next::Failed => format!(in alloc; "failed"),
+        Next::Stopped => format!(in alloc; "stopped"),
+    }
+}
+
+/// What so many calls of a listener give, which is stopped before the call of the number `stop`, and whether the ear failed.
+fn hear_all<L: Listener>(
+    alloc: Global,
+    listener: &L,
+    calls: usize,
+    stop: usize,
+) -> Result<(Vec<String>, bool), AllocError>
+where
+    L::Ear: Drop,
+{
+    let mut ear = listener.ear();
+    let mut all = Vec::new(alloc);
+    for call in 0..calls {
+        if call == stop {
+            listener.stop();
+        }
+        let heard = hear(alloc, listener, &mut ear, b"OK")?;
+        all.push(heard)?;
+    }
+    Ok((all, ear.failed()))
+}
+
+/// Links that each give one of these texts.
+fn listed(
+    alloc: Global,
+    texts: &[&str],
+    failing: Vec<u64>,
+) -> Result<Mutex<ListedLinks>, AllocError> {
+    let mut links = Vec::new(alloc);
+    for text in texts {
+        links.push(PlannedLink {
+            gives: Vec::from_slice(alloc, text.as_bytes())?,
+            piece: 3,
+            failing_reads: Vec::new(alloc),
+            failing_writes: Vec::new(alloc),
+        })?;
+    }
+    Ok(Mutex::new(ListedLinks::new(alloc, links, failing)?))
+}
+
+/// What four calls at a listener of two links give, where it is stopped before one of them and one is to fail; then what the links that
+/// ended were written, whether the ear failed, and how many links are left.
+fn heard<W: Wait>(rt: &W, alloc: Global, stop: usize, failing: u64) -> Result<String, AllocError> {
+    let links = listed(alloc, &["abc", "d"], vec![in alloc; failing]?)?;
+    let (all, failed) = hear_all(alloc, &ListListener::new(rt, &links), 4, stop)?;
+    let links = links.into_inner();
+    let mut text = String::new(alloc);
+    for given in &all {
+        text.push_str(given)?;
+        text.push_str(" ")?;
+    }
+    for others in 0..3usize {
+        if let Some(written) = links.written(others) {
+            text.push_str(&format!(in alloc; "{written:?} ")?)?;
+        }
+    }
+    text.push_str(&format!(in alloc; "{failed} {}", links.left())?)?;
+    Ok(text)
+}
+
+#[test]
+fn a_listener_gives_its_links_in_order_and_keeps_those_that_ended(
+    rt: HostRuntime,
+) -> Result<(), Fail> {
+    for (stop, failing, want) in [
+        (
+            9usize,
+            9u64,
+            "All [\"[97, 98, 99]\"] All [\"[100]\"] failed failed [79, 75] [79, 75] true 0",
+        ),
+        (
+            9,
+            1,
+            "All [\"[97, 98, 99]\"] failed All [\"[100]\"] failed [79, 75] [79, 75] true 0",
+        ),
+        (
+            1,
+            9,
+            "All [\"[97, 98, 99]\"] stopped stopped stopped [79, 75] false 1",
+        ),
+        (0, 0, "stopped stopped stopped stopped false 2"),
+    ] {
+        assert_eq!(rt; heard(&rt, rt.alloc(), stop, failing)?.as_str(), want);
+    }
+    Ok(())
+}
+
+const SESSION: SessionId = SessionId { pass: 0, count: 0 };
+
+/// A session that comes to an open prompt.
+fn prompts<G: Gate>(gate: &G) {
+    gate.at(GatePoint::Began, SESSION);
+    gate.at(GatePoint::PromptOpen, SESSION);
+    gate.at(GatePoint::Ended, SESSION);
+}
+
+/// A session without a prompt.
+fn passes_by<G: Gate>(gate: &G) {
+    gate.at(GatePoint::Began, SESSION);
+    gate.at(GatePoint::Ended, SESSION);
+}
+
+/// Whether a gate of so many turns gives up on so many prompts, behind so many sessions that ended without one.
+fn gives_up(turns: u64, ended: usize, prompted: usize) -> bool {
+    let gate = HoldGate::new(turns);
+    for _ in 0..ended {
+        passes_by(&gate);
+    }
+    for _ in 0..prompted {
+        prompts(&gate);
+    }
+    gate.gave_up()
+}
+
+#[test]
+fn a_gate_holds_the_first_prompt_until_another_session_ended(rt: HostRuntime) {
+    prompts(&NoGate);
+    for (turns, ended, prompted, want) in [
+        (3u64, 0usize, 1usize, true),
+        (3, 1, 1, false),
+        (3, 1, 2, false),
+        (3, 1, 0, false),
+    ] {
+        assert_eq!(rt; gives_up(turns, ended, prompted), want);
+    }
+    // Another session ends in a thread of its own, or before this one where there is none.
+    let gate = HoldGate::new(2_000_000_000);
+    thread::join(&rt, || passes_by(&gate), || prompts(&gate));
+    assert!(rt; !gate.gave_up());
+}
+
+/// What the calls on a trust file give, one after another.
+fn use_trust<T: TrustFile>(alloc: Global, trust: &mut T) -> Result<Vec<String>, AllocError> {
+    let mut all = Vec::new(alloc);
+    for _ in 0..2 {
+        all.push(format!(in alloc; "{:?}", trust.read(alloc))?)?;
+        all.push(format!(in alloc; "{:?}", trust.replace(alloc, b"AB"))?)?;
+    }
+    all.push(format!(in alloc; "{:?}", trust.read(alloc))?)?;
+    Ok(all)
+}
+
+#[test]
+fn a_trust_file_is_read_and_replaced(rt: HostRuntime) -> Result<(), Fail> {
+    let alloc = rt.alloc();
+    let found = "Found([65, 66])";
+    for (failing, want) in [
+        (9u64, ["Absent", "Done", found, "Done", found]),
+        (1, ["Absent", "Failed", "Absent", "Done", found]),
+        (2, ["Absent", "Done", "Failed", "Done", found]),
+    ] {
+        let mut trust = MemTrust::new(None, vec![in alloc; failing]?);
+        let got = use_trust(alloc, &mut trust)?;
+        assert_eq!(rt; first_wrong(&got, &want), None);
+        assert_eq!(rt; trust.file(), Some(b"AB".as_slice()));
     }
     Ok(())
 }
@@ -297,19 +480,125 @@ fn first_byte<H: Host>(host: &mut H) -> (u32, u8)
     (host.pid(), buf[0])
 }
 
+fn parts_with(alloc: Global, dice: Vec<u8>) -> MemParts {
+    Parts {
+        launcher: MemLauncher::new(alloc, Vec::new(alloc), Vec::new(alloc)),
+        clock: ListClock::new(Vec::new(alloc)),
+        dice: ListDice::new(dice, Vec::new(alloc)),
+        keys: MapKeys::new(alloc, Vec::new(alloc)),
+    }
+}
+
 #[test]
 fn a_host_hands_out_its_parts_and_takes_them_back(rt: HostRuntime) -> Result<(), Fail> {
     let alloc = rt.alloc();
     let mut keys = MapKeys::new(alloc, Vec::new(alloc));
     keys.insert(grip(1), vec![in alloc; 9u8]?)?;
-    let parts = Parts {
-        launcher: MemLauncher::new(alloc, Vec::new(alloc), Vec::new(alloc)),
-        clock: ListClock::new(Vec::new(alloc)),
-        dice: ListDice::new(vec![in alloc; 5u8, 6]?, Vec::new(alloc)),
-        keys,
-    };
-    let mut host = MemHost::new(17, parts);
+    let mut parts = parts_with(alloc, vec![in alloc; 5u8, 6]?);
+    parts.keys = keys;
+    let mut host = MemHost::new(&rt, alloc, 17, parts);
     assert_eq!(rt; first_byte(&mut host), (17, 5));
     assert_eq!(rt; first_byte(&mut host), (17, 6));
+    Ok(())
+}
+
+/// The first byte that the dice of the next session's parts give, if any, and what the next trust file is.
+fn next_session<H: Host>(alloc: Global, host: &H) -> Result<String, AllocError>
+where
+    H::Launcher: Drop,
+    H::Clock: Drop,
+    H::Dice: Drop,
+    H::Keys: Drop,
+    H::Trust: Drop,
+{
+    let mut parts = host.session_parts();
+    let mut buf = [0u8; 1];
+    let filled = parts.dice.fill(&mut buf);
+    let mut trust = host.trust();
+    format!(in alloc; "{filled} {buf:?} {:?}", trust.read(alloc))
+}
+
+/// What the listeners of a daemon give in one call each, if there are any. The faults of the ears go back to the host.
+fn listen_once<H: Host>(alloc: Global, host: &mut H) -> Result<Vec<String>, AllocError>
+where
+    H::Listener: Drop,
+{
+    let mut all = Vec::new(alloc);
+    for extra in [false, true] {
+        let listener = if extra {
+            host.listen_extra()
+        } else {
+            host.listen()
+        };
+        let Some(listener) = listener else {
+            all.push(format!(in alloc; "none")?)?;
+            continue;
+        };
+        let mut ear = listener.ear();
+        let heard = hear(alloc, &listener, &mut ear, b"OK");
+        host.ear_back(ear);
+        all.push(heard?)?;
+    }
+    Ok(all)
+}
+
+/// A machine whose daemon listens for these links, where the third call for a listener fails, and has what one session needs.
+fn daemon_host<'l, W: Wait>(
+    rt: &'l W,
+    alloc: Global,
+    links: &'l Mutex<ListedLinks>,
+    extra: &'l Mutex<ListedLinks>,
+) -> Result<MemHost<'l, W, HoldGate>, AllocError> {
+    let sessions = vec![in alloc; parts_with(alloc, vec![in alloc; 7u8]?)]?;
+    let file = vec![in alloc; 65u8, 66]?;
+    let trusts = vec![in alloc; MemTrust::new(Some(file), Vec::new(alloc))]?;
+    let host = MemHost::new(rt, alloc, 17, parts_with(alloc, Vec::new(alloc)))
+        .with_gate(HoldGate::new(1))
+        .with_sessions(sessions, trusts)
+        .with_links(links, Some(extra), vec![in alloc; 2u64]?);
+    Ok(host)
+}
+
+/// What the sessions of two rounds of a daemon have, and what its listeners give.
+fn run_daemon<W: Wait>(
+    alloc: Global,
+    host: &mut MemHost<'_, W, HoldGate>,
+) -> Result<Vec<String>, AllocError> {
+    host.settle(b"/home");
+    let mut all = Vec::new(alloc);
+    all.push(format!(in alloc; "{:?}", host.homedir())?)?;
+    for _ in 0..2 {
+        all.push(next_session(alloc, host)?)?;
+        for heard in listen_once(alloc, host)? {
+            all.push(heard)?;
+        }
+        all.push(format!(in alloc; "{} faults", host.failed_listens())?)?;
+    }
+    prompts(host.gate());
+    all.push(format!(in alloc; "{}", host.gate().gave_up())?)?;
+    Ok(all)
+}
+
+#[test]
+fn a_host_has_what_a_daemon_needs(rt: HostRuntime) -> Result<(), Fail> {
+    let alloc = rt.alloc();
+    let links = listed(alloc, &["a"], Vec::new(alloc))?;
+    let extra = listed(alloc, &[], Vec::new(alloc))?;
+    let mut host = daemon_host(&rt, alloc, &links, &extra)?;
+    let got = run_daemon(alloc, &mut host)?;
+    // The extra listener has no link. An ear that came back with a fault counts, and so does the third call for a listener, which is to fail.
+    let want = [
+        "[47, 104, 111, 109, 101]",
+        "true [7] Found([65, 66])",
+        "All [\"[97]\"]",
+        "failed",
+        "1 faults",
+        "false [0] Absent",
+        "none",
+        "failed",
+        "3 faults",
+        "true",
+    ];
+    assert_eq!(rt; first_wrong(&got, &want), None);
     Ok(())
 }

@@ -47,7 +47,14 @@ mod tests {
         let first = clock.now();
         // From September 2001 to the year 2286, as the number of digits says.
         assert!(rt; first >= 1_000_000_000 && first < 10_000_000_000);
-        let second = clock.now();
-        assert!(rt; second >= first && second - first < 60);
+        // Within a minute it moves on.
+        let mut later = first;
+        for _ in 0..1_000_000_000u32 {
+            later = clock.now();
+            if later != first {
+                break;
+            }
+        }
+        assert!(rt; later > first && later - first < 60);
     }
 }

@@ -2,38 +2,70 @@ ghost use Rattle.std.specs.Prelude.{◌≡◌, Some, IsSome};
 
 use crate::clock::SystemClock;
 use crate::launcher::PipeLauncher;
-use agent_ports::{Host, ListDice, MapKeys, Parts};
+use agent_ports::{
+    Dice, Host, Keys, Launcher, ListDice, ListListener, MapKeys, MemEar, MemLink, MemTrust, NoGate,
+    Parts,
+};
+use arrayvec::ArrayVec;
+use session_options::MAX_VALUE_LEN;
 use std::alloc::Global;
 use std::process::Processes;
 use std::rt;
+use std::sync::Wait;
 
 type SystemParts<'a, R> = Parts<PipeLauncher<'a, R>, SystemClock<'a, R>, ListDice, MapKeys>;
 
-/// The machine that the program runs on. For now it has no random bytes and no key files.
+/// The machine that the program runs on. For now it has no random bytes, no key files and no trust file, and it doesn't listen: each call
+/// for a listener is a fault.
 #[derive(Drop)]
 pub struct SystemHost<'a, R> {
+    rt: &'a R,
+    alloc: Global,
     pid: u32,
     parts: Option<SystemParts<'a, R>>,
+    /// The folder that was settled, where it is short enough for a rule.
+    homedir: ArrayVec<u8, MAX_VALUE_LEN>,
+    listens: u64,
+    gate: NoGate,
 }
 
-impl<'a, R: rt::Clock + Processes> SystemHost<'a, R> {
+impl<'a, R: rt::Clock + Processes + Wait> SystemHost<'a, R> {
     pub fn new(rt: &'a R, alloc: Global, pid: u32) -> Self
         ensures { IsSome (⟦<SystemHost<'a, R> as Host>⟧.server result) }
     {
-        let parts = Parts {
-            launcher: PipeLauncher::new(rt, alloc),
-            clock: SystemClock::new(rt),
-            dice: ListDice::new(Vec::new(alloc), Vec::new(alloc)),
-            keys: MapKeys::new(alloc, Vec::new(alloc)),
-        };
         SystemHost {
+            rt,
+            alloc,
             pid,
-            parts: Some(parts),
+            parts: Some(new_parts(rt, alloc)),
+            homedir: ArrayVec::new(),
+            listens: 0,
+            gate: NoGate,
         }
     }
 }
 
-impl<'a, R: rt::Clock + Processes> Host for SystemHost<'a, R> {
+/// Parts of the system in which nothing was done.
+fn new_parts<'a, R: rt::Clock + Processes>(rt: &'a R, alloc: Global) -> SystemParts<'a, R>
+    ensures launcher { (⟦<PipeLauncher<'a, R> as Launcher>⟧.launches result.launcher).faults ≡ 0 }
+    ensures dice { (⟦<ListDice as Dice>⟧.draws result.dice).faults ≡ 0 }
+    ensures keys { (⟦<MapKeys as Keys>⟧.keys result.keys).faults ≡ 0 }
+{
+    Parts {
+        launcher: PipeLauncher::new(rt, alloc),
+        clock: SystemClock::new(rt),
+        dice: ListDice::new(Vec::new(alloc), Vec::new(alloc)),
+        keys: MapKeys::new(alloc, Vec::new(alloc)),
+    }
+}
+
+impl<'a, R: rt::Clock + Processes + Wait> Host for SystemHost<'a, R> {
+    type Link = MemLink;
+
+    type Ear = MemEar;
+
+    type Listener = ListListener<'a, R>;
+
     type Launcher = PipeLauncher<'a, R>;
 
     type Clock = SystemClock<'a, R>;
@@ -42,9 +74,20 @@ impl<'a, R: rt::Clock + Processes> Host for SystemHost<'a, R> {
 
     type Keys = MapKeys;
 
+    type Trust = MemTrust;
+
+    type Gate = NoGate;
+
     ghost server = { λ h. h.parts };
 
     ghost process = { λ h. h.pid };
+
+    ghost listens = { λ h. h.listens };
+
+    fn settle(&mut self, homedir: &[u8]) {
+        self.homedir.clear();
+        let _ = self.homedir.try_extend_from_slice(homedir);
+    }
 
     fn pid(&self) -> u32 {
         self.pid
@@ -57,7 +100,34 @@ impl<'a, R: rt::Clock + Processes> Host for SystemHost<'a, R> {
     fn parts_back(&mut self, parts: SystemParts<'a, R>)
         ensures back { ⟦<SystemHost<'a, R> as Host>⟧.server self.new ≡ Some parts.entry }
         ensures process { ⟦<SystemHost<'a, R> as Host>⟧.process self.new ≡ ⟦<SystemHost<'a, R> as Host>⟧.process self.old }
+        ensures listens { ⟦<SystemHost<'a, R> as Host>⟧.listens self.new ≡ ⟦<SystemHost<'a, R> as Host>⟧.listens self.old }
     {
         self.parts = Some(parts);
+    }
+
+    fn session_parts(&self) -> SystemParts<'a, R> {
+        new_parts(self.rt, self.alloc)
+    }
+
+    fn trust(&self) -> MemTrust {
+        MemTrust::new(None, Vec::new(self.alloc))
+    }
+
+    fn listen(&mut self) -> Option<ListListener<'a, R>> {
+        self.listens = self.listens.saturating_add(1);
+        None
+    }
+
+    fn listen_extra(&mut self) -> Option<ListListener<'a, R>> {
+        self.listens = self.listens.saturating_add(1);
+        None
+    }
+
+    fn ear_back(&mut self, ear: MemEar) {
+        self.listens = self.listens.saturating_add(ear.faults());
+    }
+
+    fn gate(&self) -> &NoGate {
+        &self.gate
     }
 }

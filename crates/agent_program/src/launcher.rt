@@ -1,4 +1,4 @@
-ghost use Rattle.std.specs.Prelude.{None, IfSome, refl};
+ghost use Rattle.std.specs.Prelude.{◌≡◌, None, IfSome, refl};
 ghost use Rattle.agent_ports.specs.Launches.{IsFresh};
 
 use agent_ports::{Got, Launcher, Link, Sent, Sink, Source};
@@ -16,7 +16,9 @@ pub struct PipeLauncher<'a, R> {
 }
 
 impl<'a, R: Processes> PipeLauncher<'a, R> {
-    pub fn new(rt: &'a R, alloc: Global) -> Self {
+    pub fn new(rt: &'a R, alloc: Global) -> Self
+        ensures { (⟦<PipeLauncher<'a, R> as Launcher>⟧.launches result).faults ≡ 0 }
+    {
         PipeLauncher {
             rt,
             alloc,
@@ -60,7 +62,7 @@ impl<P: OpenProcess> Link for PipedChild<P> {
 impl<R: Processes> Launcher for PipeLauncher<'_, R> {
     type Child = PipedChild<R::Started>;
 
-    ghost launches = { λ l. record { coming = None; finished = None; faults = l.faults } };
+    ghost launches = { λ l. record { coming = None; launched = None; finished = None; faults = l.faults } };
 
     fn launch(&mut self, program: &[u8]) -> Option<PipedChild<R::Started>> {
         let child = start(self.rt, self.alloc, program);

@@ -10,17 +10,21 @@ use Rattle.assuan_server.specs.Connections.{Connection}
 use Rattle.assuan_server.specs.Written.{greeting}
 use Rattle.assuan_text.specs.LineEnds.{line_of}
 use Rattle.session_options.specs.OptionValues.{OptionValues}
-use Rattle.agent_commands.specs.Events.{Event, Sent, Cut}
-use Rattle.agent_commands.specs.Outside.{World, Outside, Does, received, sent, cut, asked, not_asked, turned, further}
-use Rattle.agent_commands.specs.Reading.{budget}
-use Rattle.agent_commands.specs.States.{WritesText, StopsWriting, SessionState, unread, IsTotal, HasTotal, EventsLead}
+use Rattle.agent_commands.specs.Events.{Event}
+use Rattle.agent_ask.specs.SessionEvents.{Sent, Cut}
+use Rattle.agent_commands.specs.Outside.{World}
+use Rattle.agent_ask.specs.Worlds.{Outside, Does, received, sent, cut, asked, not_asked, turned, further}
+use Rattle.assuan_server.specs.Reading.{budget, Supply, unread, IsSupply}
+use Rattle.agent_commands.specs.States.{WritesText, SessionState, HasSupply, EventsLead}
 use Rattle.agent_commands.specs.Talks.{greeted, cut_greeting}
-use Rattle.agent_commands.specs.declared.response.WriteFault.{WriteFault}
+use Rattle.agent_ports.specs.declared.link.WriteFault.{WriteFault}
+use Rattle.agent_ports.specs.Writing.{StopsWriting}
 use Rattle.agent_commands.specs.declared.went.SessionEnd.{SessionEnd}
 use Rattle.agent_commands.specs.declared.went.SessionEnd.TheVariants.{WriteFault as CutOff}
 use Rattle.agent_commands.specs.declared.went.Went.TheVariants.{End}
-use Rattle.agent_commands.proofs.Doing.{done_then, done_wrote, done_stopped}
-use Rattle.agent_session.specs.Sessions.{LineRelation, Leaves, total_of, ends_with}
+use Rattle.agent_ask.proofs.Doing.{done_then}
+use Rattle.agent_commands.proofs.Doing.{done_wrote, done_stopped}
+use Rattle.agent_session.specs.Sessions.{LineRelation, Leaves, supply_of, ends_with}
 use Rattle.agent_session.specs.Serving.{ServesRequests, ServesConn, around}
 
 -- a reader that has read nothing
@@ -31,9 +35,9 @@ unread_fresh : (bytes : Option (List ℕ)) → option_map (unread fresh) bytes �
 unread_fresh None = refl
 unread_fresh (Some left) = refl
 
-total_fresh : (bytes : Option (List ℕ)) → IfSome bytes (λ left. IsTotal (total_of bytes) fresh left)
-total_fresh None = tt
-total_fresh (Some left) = refl
+supply_fresh : (bytes : Option (List ℕ)) → IfSome bytes (λ left. IsSupply (supply_of bytes) fresh left)
+supply_fresh None = tt
+supply_fresh (Some left) = refl
 
 -- whether bytes are known stays
 known_each : (before after : Option (List ℕ)) (P : List ℕ → List ℕ → Type 0) → WhereKnown before after P → WhereKnown before after (λ bytes rest. ⊤)
@@ -42,7 +46,7 @@ known_each None (Some rest) P known = known
 known_each (Some bytes) None P known = known
 known_each (Some bytes) (Some rest) P known = tt
 
-known_leads : {w : World} {total : ℕ} {before after : Outside w} {events : List (Event w.Further)} → Leads (Does w total) before events after
+known_leads : {w : World} {supply : Supply} {before after : Outside w} {events : List (Event w.Further)} → Leads (Does w supply) before events after
     → WhereKnown before.input after.input (λ bytes rest. ⊤)
 known_leads {before} none = known_same before.input _ (λ bytes. tt)
 known_leads {before} {after} (one {mid} (received known needed) later) =
@@ -63,7 +67,7 @@ leaves_known end reader (Some left) leaves = leaves left
 
 -- and that it took
 taken_known : (reader : Reader) (before after : Option (List ℕ)) → WhereKnown before (option_map (unread reader) after) (λ bytes rest. ⊤)
-    → IfSome after (λ left. IsTotal (total_of before) reader left)
+    → IfSome after (λ left. IsSupply (supply_of before) reader left)
     → WhereKnown before after (λ bytes left. length bytes ≤ budget + length left)
 taken_known reader None None known total = tt
 taken_known reader None (Some left) known total = known
@@ -74,11 +78,11 @@ module _ {w : World} (exchange : LineRelation w) (before : OptionValues) (start 
   -- what was done, from the first byte on
   module _ (last : SessionState w) (events : List (Event w.Further)) (done : EventsLead events start last) where
     abbrev from_start : Option (List ℕ) → Type 0
-    from_start input = Leads (Does w (total_of start.conn.input.bytes)) (ends_with input (around start)) events (ends_with (option_map (unread last.conn.reader) last.conn.input.bytes) (around last))
+    from_start input = Leads (Does w (supply_of start.conn.input.bytes)) (ends_with input (around start)) events (ends_with (option_map (unread last.conn.reader) last.conn.input.bytes) (around last))
 
-    led : from_start start.conn.input.bytes × HasTotal (total_of start.conn.input.bytes) last.conn
+    led : from_start start.conn.input.bytes × HasSupply (supply_of start.conn.input.bytes) last.conn
     led =
-        let leads = done.leads (total_of start.conn.input.bytes) (rw new (total_fresh start.conn.input.bytes)) in
+        let leads = done.leads (supply_of start.conn.input.bytes) (rw new (supply_fresh start.conn.input.bytes)) in
         (subst from_start (ap (λ (r : Reader). option_map (unread r) start.conn.input.bytes) new ∙ unread_fresh start.conn.input.bytes) leads.0, leads.1)
 
     taken : WhereKnown start.conn.input.bytes last.conn.input.bytes (λ bytes left. length bytes ≤ budget + length left)
@@ -87,7 +91,7 @@ module _ {w : World} (exchange : LineRelation w) (before : OptionValues) (start 
   -- the greeting was cut
   pub met_cut : (now : Connection) (why : WriteFault) → WritesText (line_of greeting) start.conn (Err why) now → ServesConn exchange before start CutOff (record start { conn = now })
   met_cut now why said =
-      let stopped : StopsWriting (line_of greeting) start.conn.output now.output = said.output in
+      let stopped : StopsWriting (line_of greeting) start.conn.output now.output = said.output.went in
       let last : SessionState w = record start { conn = now } in
       let done : EventsLead {w = w} (Cut stopped.sent ∷ []) start last = done_stopped start.desk start.ends (line_of greeting) start.conn now why stopped said in
       let reads : now.reader ≡ fresh = said.reader ∙ new in
@@ -109,7 +113,7 @@ module _ {w : World} (exchange : LineRelation w) (before : OptionValues) (start 
           read_fault = λ e. absurd (cc e);
           write_fault = λ e. stopped.rose;
           input_faults = omega (arith, ap (λ (s : Side). s.faults) said.input);
-          output_faults = said.faults;
+          output_faults = said.output.faults;
         };
         link = said.link;
       }
@@ -129,7 +133,7 @@ module _ {w : World} (exchange : LineRelation w) (before : OptionValues) (start 
           taken = taken last (Sent (line_of greeting) ∷ talked.events) done;
           greeted = λ other is. absurd (cc is);
           read_fault = λ e. omega (arith, talked.faults.read (ap (λ (x : SessionEnd). End x) e), ap (λ (s : Side). s.faults) said.input);
-          write_fault = λ e. omega (arith, talked.faults.write (ap (λ (x : SessionEnd). End x) e), said.faults);
+          write_fault = λ e. omega (arith, talked.faults.write (ap (λ (x : SessionEnd). End x) e), said.output.faults);
           input_faults = done.input_faults;
           output_faults = done.output_faults;
         };

@@ -6,21 +6,29 @@ use Rattle.assuan_line.specs.declared.reader.Took.{Took}
 use Rattle.assuan_line.specs.declared.reader.Took.TheVariants as took
 use Rattle.assuan_server.specs.Connections.{Connection}
 use Rattle.assuan_server.specs.Requests.{NextRequest}
+use Rattle.assuan_server.specs.declared.errors.Code.{Code}
 use Rattle.assuan_server.specs.declared.errors.Code.TheVariants.{LineTooLong}
 use Rattle.session_options.specs.OptionValues.{OptionValues}
 use Rattle.agent_commands.specs.Answers.{failed}
-use Rattle.agent_commands.specs.Events.{Event, Received, Sent, Cut}
+use Rattle.agent_commands.specs.Events.{Event}
+use Rattle.agent_ask.specs.SessionEvents.{Received, Sent, Cut}
 use Rattle.agent_commands.specs.Outside.{World}
-use Rattle.agent_commands.specs.States.{WritesText, StopsWriting, SessionState, unread, EventsLead, ReaderAfter, FaultsRise, AnswersRequest}
+use Rattle.agent_commands.specs.States.{WritesText, SessionState, EventsLead, ReaderAfter, FaultsRise, AnswersRequest}
+use Rattle.assuan_server.specs.Reading.{unread}
 use Rattle.agent_commands.specs.Talks.{Talk, goes_on, over, ended, spent, read_fault, too_long, cut_too_long}
-use Rattle.agent_commands.specs.declared.response.WriteFault.{WriteFault}
+use Rattle.agent_ports.specs.declared.link.WriteFault.{WriteFault}
+use Rattle.agent_ports.specs.Writing.{StopsWriting}
 use Rattle.agent_commands.specs.declared.went.SessionEnd.{SessionEnd}
 use Rattle.agent_commands.specs.declared.went.SessionEnd.TheVariants.{Bye, Killed, Ended, TooLong, Spent, ReadFault}
 use Rattle.agent_commands.specs.declared.went.SessionEnd.TheVariants as ends
+use Rattle.agent_commands.specs.declared.went.Went.{Went}
 use Rattle.agent_commands.specs.declared.went.Went.TheVariants.{On, End}
-use Rattle.agent_commands.proofs.Doing.{done_none, done_then, done_received, done_wrote, done_stopped, here_going}
+use Rattle.agent_commands.proofs.Answering.{answered_text, cut_text}
+use Rattle.agent_ask.proofs.Doing.{done_none, done_then}
+use Rattle.agent_commands.proofs.Doing.{done_received, done_wrote, done_stopped}
+use Rattle.assuan_server.proofs.Reading.{here_going}
 use Rattle.agent_session.specs.Sessions.{LineRelation, Leaves}
-use Rattle.agent_session.specs.Serving.{ServesRequests}
+use Rattle.agent_session.specs.Serving.{ServesRequests, Refuses, whole, cut}
 
 leaves_part_of : (reader : Reader) (left : List ℕ) (o : Option Took) → reader.ended ≡ o → (ahead : List ℕ) × (unread reader left ≡ ahead ++ left)
 leaves_part_of reader left None is = (reader.ahead, here_going reader left is)
@@ -133,7 +141,7 @@ module _ {w : World} (exchange : LineRelation w) (before : OptionValues) (start 
         pub cut_at_too_long : (why : WriteFault) → WritesText (failed LineTooLong) conn (Err why) last
             → ServesRequests exchange before start ends.WriteFault after_it
         cut_at_too_long why said =
-            let stopped : StopsWriting (failed LineTooLong) conn.output last.output = said.output in
+            let stopped : StopsWriting (failed LineTooLong) conn.output last.output = said.output.went in
             finishes after_it (Received took.TooLong ∷ Cut stopped.sent ∷ []) ends.WriteFault
             (done_then (received_as took.TooLong is) (done_stopped now.desk now.ends (failed LineTooLong) conn last why stopped said))
             (cut_too_long (record {
@@ -144,3 +152,10 @@ module _ {w : World} (exchange : LineRelation w) (before : OptionValues) (start 
               done_is = refl;
             }))
             (leaves_part last.reader) (record { read = λ e. absurd (cc e); write = λ e. omega (arith, received.output_faults, stopped.rose) })
+
+-- a request was refused
+pub refused_so : {w : World} (exchange : OptionValues → List (Event w.Further) → OptionValues → Went → Type 0) (before : OptionValues) {code : Code} (start : SessionState w)
+    (now : Connection) {went : Went} → exchange before (Sent (failed code) ∷ []) before On → start.conn.reader.ended ≡ None → Refuses code start.conn went now
+    → AnswersRequest exchange before start went before (record start { conn = now })
+refused_so exchange before {code} start now on going (whole said) = answered_text exchange before before start now (failed code) on going said
+refused_so exchange before {code} start now on going (cut why said) = cut_text exchange before before start now (failed code) on why said

@@ -9,10 +9,12 @@ use Rattle.cache_policy.specs.declared.mark.MarkStep.{MarkStep}
 use Rattle.cache_policy.specs.Turns.{Turn}
 use Rattle.session_options.specs.OptionValues.{OptionValues, at_start}
 use Rattle.session_options.specs.declared.rules.Rules.{Rules}
-use Rattle.agent_commands.specs.Events.{Event, Cut}
+use Rattle.agent_commands.specs.Events.{Event}
+use Rattle.agent_ask.specs.SessionEvents.{Cut}
 use Rattle.agent_commands.specs.Exchanges.{LineExchange}
-use Rattle.agent_commands.specs.Outside.{World, prompt_world, Outside, Does}
-use Rattle.agent_commands.specs.Reading.{budget}
+use Rattle.agent_commands.specs.Outside.{World, prompt_world}
+use Rattle.agent_ask.specs.Worlds.{Outside, Does}
+use Rattle.assuan_server.specs.Reading.{budget, Supply}
 use Rattle.agent_commands.specs.Talks.{Session}
 use Rattle.agent_commands.specs.declared.went.Went.{Went}
 use Rattle.agent_commands.specs.declared.went.SessionEnd.{SessionEnd}
@@ -34,9 +36,9 @@ surroundings turned prompted input output desk prompter = record { input = input
 abbrev pub ends_with : {w : World} → Option (List ℕ) → Surroundings w → Outside w
 ends_with input around = record { input = input; source = around.input.bytes; output = around.output.bytes; desk = around.desk; ends = around.ends }
 
--- how many bytes come, where they are known
-abbrev pub total_of : Option (List ℕ) → ℕ
-total_of bytes = option_map_or (λ known. length known) bytes 0
+-- a session's supply: how many bytes come, where they are known, and its budget
+abbrev pub supply_of : Option (List ℕ) → Supply
+supply_of bytes = record { total = option_map_or (λ known. length known) bytes 0; budget = budget }
 
 -- What the source still holds of the bytes from the session's last place on: all of them, but a reader may hold bytes ahead of the
 -- lines that it gave.
@@ -61,7 +63,7 @@ pub record ServesSession {w : World} (exchange : LineRelation w) (start : Option
   pub session : Session exchange start events end
   -- the bytes from the session's last place on
   pub rest : Option (List ℕ)
-  pub leads : Leads (Does w (total_of before.input.bytes)) (ends_with before.input.bytes before) events (ends_with rest after)
+  pub leads : Leads (Does w (supply_of before.input.bytes)) (ends_with before.input.bytes before) events (ends_with rest after)
   pub leaves : WhereKnown rest after.input.bytes (Leaves end)
   pub taken : WhereKnown before.input.bytes after.input.bytes (λ bytes left. length bytes ≤ budget + length left)
   -- nothing is read before the greeting is written

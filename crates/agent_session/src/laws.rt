@@ -1,6 +1,6 @@
 ghost use Rattle.std.specs.Prelude.{List};
 ghost use Rattle.cache_policy.specs.Extending.{ExtendsDesk};
-ghost use Rattle.agent_commands.specs.Events.{turns_in};
+ghost use Rattle.agent_ask.specs.SessionEvents.{turns_in};
 ghost use Rattle.agent_commands.specs.Outside.{prompt_world};
 ghost use Rattle.agent_commands.specs.declared.went.SessionEnd.{SessionEnd as Ends};
 ghost use Rattle.session_options.specs.declared.rules.Rules.{Rules};

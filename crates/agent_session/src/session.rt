@@ -4,21 +4,20 @@ ghost use Rattle.assuan_server.specs.Connections.{IsOpen};
 ghost use Rattle.session_options.specs.OptionValues.{at_start};
 ghost use Rattle.agent_commands.specs.Exchanges.{LineExchange};
 ghost use Rattle.agent_commands.specs.Outside.{prompt_world};
-ghost use Rattle.agent_commands.specs.Reading.{budget};
+ghost use Rattle.assuan_server.specs.Reading.{budget};
 ghost use Rattle.agent_commands.specs.States.{prompt_state, AnswersRequest};
 ghost use Rattle.agent_session.specs.Sessions.{surroundings, ServesRules};
-ghost use Rattle.agent_session.specs.Serving.{ServesConn, ServesRequests};
+ghost use Rattle.agent_session.specs.Serving.{ServesConn, ServesRequests, Refuses};
 
 use agent_ask::Prompter;
-use agent_commands::{
-    Request, SessionEnd, Went, WriteFault, read_quiet, read_request, run_cache, run_quiet, whole,
-};
-use agent_ports::{Dice, Keys, Link};
+use agent_commands::{Request, SessionEnd, Went, read_quiet, read_request, run_cache, run_quiet};
+use agent_ports::{Dice, Keys, Link, WriteFault};
 use assuan_line::{BUDGET, Line, Took};
 use assuan_server::{Code, Conn, Origin};
 use cache_policy::Desk;
 use session_options::{Options, Rules};
 use std::alloc::Global;
+use wiping::wipe_stack;
 
 /// Serves a session on a link: greets, and answers request after request until the session ends. No ticket of the session is out and no
 /// prompt is open when it returns.
@@ -45,6 +44,7 @@ pub fn serve_session<L: Link, D: Desk, P: Prompter, K: Keys, R: Dice>(
 {
     let mut conn = Conn::new(alloc, link, BUDGET);
     let end = serve_conn(rules, &mut conn, desk, prompter);
+    wipe_stack();
     // So what the connection did is known of the link.
     conn.into_link();
     end
@@ -66,7 +66,7 @@ fn serve_conn<L: Link, D: Desk, P: Prompter>(
     ensures free { (D.at desk.new).out ≡ None }
     ensures shut { IsShut (P.at prompter.new) }
 {
-    match whole(conn.greet()) {
+    match conn.greet().whole() {
         Ok(()) => serve_requests(rules, &mut Options::new(rules), conn, desk, prompter),
         Err(WriteFault) => SessionEnd::WriteFault,
     }
@@ -99,7 +99,7 @@ fn serve_requests<L: Link, D: Desk, P: Prompter>(
                     Went::End(end) => return end,
                 }
             }
-            Took::TooLong => match whole(conn.err(Code::LineTooLong, Origin::Agent)) {
+            Took::TooLong => match conn.err(Code::LineTooLong, Origin::Agent).whole() {
                 Ok(()) => return SessionEnd::TooLong,
                 Err(WriteFault) => return SessionEnd::WriteFault,
             },
@@ -111,6 +111,9 @@ fn serve_requests<L: Link, D: Desk, P: Prompter>(
 }
 
 /// Answers one request. One that asks the cache alone is read without its texts, which are long.
+///
+/// Behind any other one the stack that it used is overwritten: it may have had a passphrase in hand. Behind one that asks the cache alone that
+/// would take longer than the request.
 fn answer<L: Link, D: Desk, P: Prompter>(
     line: &Line,
     rules: &Rules,
@@ -129,7 +132,11 @@ fn answer<L: Link, D: Desk, P: Prompter>(
 {
     match read_quiet(line) {
         Some(request) => run_quiet(&request, conn, desk),
-        None => answer_whole(line, rules, options, conn, desk, prompter),
+        None => {
+            let went = answer_whole(line, rules, options, conn, desk, prompter);
+            wipe_stack();
+            went
+        }
     }
 }
 
@@ -154,9 +161,17 @@ fn answer_whole<L: Link, D: Desk, P: Prompter>(
 {
     match read_request(line) {
         Request::Cache(command) => { run_cache(&command, rules, options, conn, desk, prompter) }
-        Request::Bad(code) => match whole(conn.err(code, Origin::Agent)) {
-            Ok(()) => Went::On,
-            Err(WriteFault) => Went::End(SessionEnd::WriteFault),
-        },
+        Request::Key(_) => refuse(Code::UnknownCommand, conn),
+        Request::Bad(code) => refuse(code, conn),
+    }
+}
+
+/// Refuses a request.
+fn refuse<L: Link>(code: Code, conn: &mut Conn<'_, L>) -> Went
+    ensures { Refuses code conn.old result conn.new }
+{
+    match conn.err(code, Origin::Agent).whole() {
+        Ok(()) => Went::On,
+        Err(WriteFault) => Went::End(SessionEnd::WriteFault),
     }
 }

@@ -1,5 +1,5 @@
 -- A session at the desk is one at what the desk shows.
-use Rattle.std.proofs.Common.{◌≡◌, ℕ, List, [], Option, None, Some, Bool, false, ◌∷◌, inr, refl, sym, ◌∙◌, subst, arith}
+use Rattle.std.proofs.Common.{◌≡◌, ℕ, List, [], Option, None, Some, Bool, false, ◌∷◌, inr, refl, ap, sym, ◌∙◌, subst, arith}
 use Rattle.std.specs.Prelude.{is_some}
 use Rattle.agent_core.specs.Solos.{SoloState, AtSolo, seen, at_desk, TurnsSolo, SoloTurn}
 use Rattle.agent_core.proofs.Alone.{IsAlone, Replayed, replayed}
@@ -15,52 +15,55 @@ use Rattle.cache_policy.specs.Extending.{Taken, TakesTurn, IsExtended}
 use Rattle.cache_policy.specs.Legal.{IsLegalRun}
 use Rattle.cache_policy.specs.Replay.{first_history}
 use Rattle.cache_policy.proofs.Extending.{extends}
-use Rattle.agent_commands.specs.Events.{Event, turns_in}
-use Rattle.agent_commands.specs.Outside.{World, prompt_world, Outside, Does, received, sent, cut, asked, not_asked, turned, further}
+use Rattle.agent_commands.specs.Events.{Event}
+use Rattle.agent_ask.specs.SessionEvents.{turns_in}
+use Rattle.agent_commands.specs.Outside.{World, session_lines, prompt_world}
+use Rattle.agent_ask.specs.Worlds.{Outside, Does, received, sent, cut, asked, not_asked, turned, further}
 use Rattle.agent_commands.specs.declared.went.SessionEnd.{SessionEnd}
 use Rattle.agent_session.proofs.Turning.{turns_lead}
-use Rattle.agent_session.specs.Sessions.{surroundings, ends_with, total_of, ServesRules}
+use Rattle.agent_session.specs.Sessions.{surroundings, ends_with, supply_of, ServesRules}
 use Rattle.assuan_client.specs.Connections.{Connection}
-use Rattle.pinentry_client.specs.Dialogues.{Does as AsksChild, PinentryCall}
-use Rattle.pinentry_client.specs.States.{PinentryState, AtPinentry, seen as at_pinentry, at_prompter}
+use Rattle.pinentry_client.specs.Dialogues.{PinentryDoes, PinentryCall}
+use Rattle.pinentry_client.specs.States.{PinentryState, AtPinentry, at_pinentry, at_prompter}
 use Rattle.session_options.specs.declared.rules.Rules.{Rules}
 use Rattle.agent_top.specs.Cache.{limits_of, session, fresh_desk}
-use Rattle.agent_top.specs.Top.{outside, no_child, RunsServer, ran, number_of, status_of}
+use Rattle.agent_top.specs.Top.{machine, no_child, RunsServer, ran, exit_number, status_of}
 
 -- a session at a desk and with a pinentry, and what they show of it
 abbrev pub held_world : {C La : Type 0} → (C → Readings) → (La → Launches) → World
 held_world readings launches = prompt_world (SoloTurn readings) (PinentryCall launches)
 
 abbrev pub seen_world : World
-seen_world = prompt_world TurnsSolo AsksChild
+seen_world = prompt_world TurnsSolo PinentryDoes
 
-module _ {C La : Type 0} (readings : C → Readings) (launches : La → Launches) (total : ℕ) where
+module _ {C La : Type 0} (readings : C → Readings) (launches : La → Launches) (supply : session_lines.Supply) where
   -- the ends with what the desk and the pinentry show in their place
   abbrev pub with_seen : Outside (held_world readings launches) → Outside seen_world
   with_seen ends = record { input = ends.input; source = ends.source; output = ends.output; desk = seen readings ends.desk; ends = at_pinentry launches ends.ends }
 
   pub record Lifts (before after : Outside (held_world readings launches)) (events : List (Event PromptEvent)) : Type 0 where
-    pub leads : Leads (Does seen_world total) (with_seen before) events (with_seen after)
+    pub leads : Leads (Does seen_world supply) (with_seen before) events (with_seen after)
     pub lent : after.desk.lent ≡ before.desk.lent
     pub launcher : after.ends.lent ≡ before.ends.lent
+    pub program : after.ends.program ≡ before.ends.program
 
   pub lifts : {before after : Outside (held_world readings launches)} {events : List (Event PromptEvent)}
-      → Leads (Does (held_world readings launches) total) before events after → Lifts before after events
-  lifts none = record { leads = none; lent = refl; launcher = refl }
-  lifts (one (received known needed) more) = let r = lifts more in record { leads = one (received known needed) r.leads; lent = r.lent; launcher = r.launcher }
-  lifts (one sent more) = let r = lifts more in record { leads = one sent r.leads; lent = r.lent; launcher = r.launcher }
-  lifts (one cut more) = let r = lifts more in record { leads = one cut r.leads; lent = r.lent; launcher = r.launcher }
-  lifts (one (asked known needed) more) = let r = lifts more in record { leads = one (asked known needed) r.leads; lent = r.lent; launcher = r.launcher }
-  lifts (one (not_asked unsent split) more) = let r = lifts more in record { leads = one (not_asked unsent split) r.leads; lent = r.lent; launcher = r.launcher }
-  lifts (one (turned does) more) = let r = lifts more in record { leads = one (turned does.turns) r.leads; lent = r.lent ∙ does.lent; launcher = r.launcher }
-  lifts (one (further (called does)) more) = let r = lifts more in record { leads = one (further (called does.does)) r.leads; lent = r.lent; launcher = r.launcher ∙ does.lent }
-  lifts (one (further out_of_memory) more) = let r = lifts more in record { leads = one (further out_of_memory) r.leads; lent = r.lent; launcher = r.launcher }
+      → Leads (Does (held_world readings launches) supply) before events after → Lifts before after events
+  lifts none = record { leads = none; lent = refl; launcher = refl; program = refl }
+  lifts (one (received known needed) more) = let r = lifts more in record { leads = one (received known needed) r.leads; lent = r.lent; launcher = r.launcher; program = r.program }
+  lifts (one sent more) = let r = lifts more in record { leads = one sent r.leads; lent = r.lent; launcher = r.launcher; program = r.program }
+  lifts (one cut more) = let r = lifts more in record { leads = one cut r.leads; lent = r.lent; launcher = r.launcher; program = r.program }
+  lifts (one (asked known needed) more) = let r = lifts more in record { leads = one (asked known needed) r.leads; lent = r.lent; launcher = r.launcher; program = r.program }
+  lifts (one (not_asked unsent split) more) = let r = lifts more in record { leads = one (not_asked unsent split) r.leads; lent = r.lent; launcher = r.launcher; program = r.program }
+  lifts (one (turned does) more) = let r = lifts more in record { leads = one (turned does.turns) r.leads; lent = r.lent ∙ does.lent; launcher = r.launcher; program = r.program }
+  lifts (one (further (called does)) more) = let r = lifts more in record { leads = one (further (called does.does)) r.leads; lent = r.lent; launcher = r.launcher ∙ does.lent; program = r.program ∙ does.program }
+  lifts (one (further out_of_memory) more) = let r = lifts more in record { leads = one (further out_of_memory) r.leads; lent = r.lent; launcher = r.launcher; program = r.program }
 
 -- the run goes on by the turns of the events
-extended : (total : ℕ) (before after : Outside seen_world) (events : List (Event PromptEvent))
-    → Leads (Does seen_world total) before events after
+extended : (supply : session_lines.Supply) (before after : Outside seen_world) (events : List (Event PromptEvent))
+    → Leads (Does seen_world supply) before events after
     → IsExtended before.desk.limits before.desk.session before.desk.run (turns_in events) after.desk.run
-extended total before after events leads =
+extended supply before after events leads =
     extends at_desk TurnsSolo (λ b asked turn a turns. turns.is) before.desk after.desk (turns_in events) (turns_lead leads)
 
 first_legal : (limits : Limits) → IsLegalRun limits (first_history ∷ [])
@@ -74,35 +77,44 @@ no_some : (child : Option Connection) → is_some child ≡ false → child ≡ 
 no_some None is = refl
 no_some (Some conn) is = absurd (cc is)
 
+-- a pinentry that is shut
+shut_so : {La : Type 0} (launches : La → Launches) (rules : Rules) (pinentry : PinentryState La) → pinentry.program ≡ rules.pinentry.items
+    → IsShut (at_prompter (at_pinentry launches pinentry)) → at_pinentry launches pinentry ≡ no_child rules (launches pinentry.launcher)
+shut_so launches rules pinentry program shut = rw (program, shut.idle, no_some pinentry.child shut.childless) refl
+
 -- what a session at the desk is for the agent
 module _ {C La : Type 0} (readings : C → Readings) (launches : La → Launches) (rules : Rules) (input output input_now output_now : Side) (desk desk_now : SoloState C)
     (pinentry pinentry_now : PinentryState La) (end : SessionEnd)
     (fresh : seen readings desk ≡ fresh_desk (limits_of rules) (readings desk.clock))
-    (unused : at_pinentry launches pinentry ≡ no_child (launches pinentry.launcher))
+    (unused : at_pinentry launches pinentry ≡ no_child rules (launches pinentry.launcher))
     (served : ServesRules (SoloTurn readings) (PinentryCall launches) rules (surroundings (SoloTurn readings) (PinentryCall launches) input output desk pinentry) end
     (surroundings (SoloTurn readings) (PinentryCall launches) input_now output_now desk_now pinentry_now))
-    (shut : at_pinentry launches pinentry_now ≡ no_child (launches pinentry_now.launcher)) where
-  lifted : Lifts readings launches (total_of input.bytes) (ends_with input.bytes (surroundings (SoloTurn readings) (PinentryCall launches) input output desk pinentry))
+    (shut : IsShut (at_prompter (at_pinentry launches pinentry_now))) where
+  lifted : Lifts readings launches (supply_of input.bytes) (ends_with input.bytes (surroundings (SoloTurn readings) (PinentryCall launches) input output desk pinentry))
       (ends_with served.rest (surroundings (SoloTurn readings) (PinentryCall launches) input_now output_now desk_now pinentry_now)) served.events
-  lifted = lifts readings launches (total_of input.bytes) served.leads
+  lifted = lifts readings launches (supply_of input.bytes) served.leads
+
+  -- in the end the pinentry is shut
+  idle_now : at_pinentry launches pinentry_now ≡ no_child rules (launches pinentry_now.launcher)
+  idle_now = shut_so launches rules pinentry_now (lifted.program ∙ ap (λ (p : AtPinentry). p.program) unused) shut
 
   -- the desk as it begins
   abbrev leads_from : AtSolo → AtPinentry → AtPinentry → Type 0
   leads_from from asks asks_now =
-      Leads (Does seen_world (total_of input.bytes)) (ends_with input.bytes (surroundings TurnsSolo AsksChild input output from asks)) served.events
-      (ends_with served.rest (surroundings TurnsSolo AsksChild input_now output_now (seen readings desk_now) asks_now))
+      Leads (Does seen_world (supply_of input.bytes)) (ends_with input.bytes (surroundings TurnsSolo PinentryDoes input output from asks)) served.events
+      (ends_with served.rest (surroundings TurnsSolo PinentryDoes input_now output_now (seen readings desk_now) asks_now))
 
-  leads_so : leads_from (fresh_desk (limits_of rules) (readings desk.clock)) (no_child (launches pinentry.launcher)) (no_child (launches pinentry_now.launcher))
+  leads_so : leads_from (fresh_desk (limits_of rules) (readings desk.clock)) (no_child rules (launches pinentry.launcher)) (no_child rules (launches pinentry_now.launcher))
   leads_so =
-      subst (λ (s : AtSolo). leads_from s (no_child (launches pinentry.launcher)) (no_child (launches pinentry_now.launcher))) fresh
-      (subst (λ (p : AtPinentry). leads_from (seen readings desk) p (no_child (launches pinentry_now.launcher))) unused
-      (subst (λ (p : AtPinentry). leads_from (seen readings desk) (at_pinentry launches pinentry) p) shut lifted.leads))
+      subst (λ (s : AtSolo). leads_from s (no_child rules (launches pinentry.launcher)) (no_child rules (launches pinentry_now.launcher))) fresh
+      (subst (λ (p : AtPinentry). leads_from (seen readings desk) p (no_child rules (launches pinentry_now.launcher))) unused
+      (subst (λ (p : AtPinentry). leads_from (seen readings desk) (at_pinentry launches pinentry) p) idle_now lifted.leads))
 
-  pub ran_so : (number : ℕ) → number ≡ number_of (status_of end) → RunsServer rules (outside input output (readings desk.clock) (launches pinentry.launcher)) number
-      (outside input_now output_now (readings desk_now.clock) (launches pinentry_now.launcher))
+  pub ran_so : (number : ℕ) → number ≡ exit_number (status_of end) → RunsServer rules (machine input output (readings desk.clock) (launches pinentry.launcher)) number
+      (machine input_now output_now (readings desk_now.clock) (launches pinentry_now.launcher))
   ran_so number is =
       let extends : IsExtended (limits_of rules) session (first_history ∷ []) (turns_in served.events) (seen readings desk_now).run =
-      extended (total_of input.bytes) _ _ served.events leads_so in
+      extended (supply_of input.bytes) _ _ served.events leads_so in
       let replays : Replayed (fresh_desk (limits_of rules) (readings desk.clock)) (turns_in served.events) (seen readings desk_now) =
       replayed (record { script = refl; nobody = refl }) (turns_lead leads_so) in
       let legal = extends.legal (first_legal (limits_of rules)) in
@@ -132,6 +144,7 @@ module _ {C La : Type 0} (readings : C → Readings) (launches : La → Launches
           steps = replays.steps;
           read = replays.read;
           marked = replays.marked;
+          firsts = replays.firsts;
           replays = record {
             start = extends.start;
             legal = legal;
@@ -148,8 +161,3 @@ module _ {C La : Type 0} (readings : C → Readings) (launches : La → Launches
 
   pub launcher_so : pinentry_now.lent ≡ pinentry.lent
   launcher_so = lifted.launcher
-
--- a pinentry that is shut
-pub shut_so : {La : Type 0} (launches : La → Launches) (pinentry : PinentryState La) → IsShut (at_prompter (at_pinentry launches pinentry))
-    → at_pinentry launches pinentry ≡ no_child (launches pinentry.launcher)
-shut_so launches pinentry shut = rw (shut.idle, no_some pinentry.child shut.childless) refl

@@ -1,5 +1,5 @@
--- The options of the agent and what each takes. `--workers` and `--load` are this project's own, and so are the bounds of the
--- numbers and the length of a path; the other names are gpg-agent's (GnuPG manual, "agent options").
+-- The options of the agent and what each takes. `--workers` and `--load` are this project's own, and so are that `--extra-socket` takes
+-- no name, the bounds of the numbers and the length of a path; the other names are gpg-agent's (GnuPG manual, "agent options").
 use Rattle.std.specs.Prelude.{ℕ, ◌&&◌, nat_le, Bool, true, false, List, [], ◌∷◌, length, codes, is_some, unwrap_or, Option, Some, None, if◌then◌else◌}
 use Rattle.std.specs.Option.{option_and_then, option_map_or}
 use Rattle.assuan_text.specs.Rows.{found}
@@ -28,6 +28,7 @@ forms =
     ∷ (codes "--max-cache-ttl-ssh", seconds)
     ∷ (codes "--allow-preset-passphrase", Flag)
     ∷ (codes "--no-allow-loopback-pinentry", Flag)
+    ∷ (codes "--extra-socket", Flag)
     ∷ (codes "--min-passphrase-len", Number 0 MAX_SECRET_LEN)
     ∷ (codes "--min-passphrase-nonalpha", Number 0 MAX_SECRET_LEN)
     ∷ (codes "--pinentry-timeout", seconds)

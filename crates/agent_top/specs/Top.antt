@@ -1,5 +1,6 @@
 -- What a run of the agent leaves, and its status. The statuses are this project's own.
-use Rattle.std.specs.Prelude.{◌≡◌, ℕ, false, List, [], ◌∷◌, Option, Some, None}
+use Rattle.std.specs.Prelude.{◌≡◌, ℕ, List, [], ◌∷◌, Option, None, Some}
+use Rattle.std.specs.List.{AllByRecursion}
 use Rattle.agent_core.specs.Solos.{AtSolo, TurnsSolo}
 use Rattle.agent_ports.specs.Readings.{Readings, HasGiven}
 use Rattle.agent_ports.specs.Sides.{Side}
@@ -11,27 +12,28 @@ use Rattle.cache_policy.specs.declared.mark.MarkStep.{MarkStep}
 use Rattle.cache_policy.specs.Extending.{Taken, IsExtended}
 use Rattle.cache_policy.specs.Legal.{IsLegalRun}
 use Rattle.cache_policy.specs.Replay.{first_history, Replays, Marked}
+use Rattle.cache_policy.specs.Turns.{since_of}
 use Rattle.session_options.specs.declared.rules.Rules.{Rules}
-use Rattle.agent_commands.specs.Events.{turns_in}
+use Rattle.agent_ask.specs.SessionEvents.{turns_in}
 use Rattle.agent_commands.specs.Outside.{prompt_world}
 use Rattle.agent_commands.specs.declared.went.SessionEnd.{SessionEnd}
 use Rattle.agent_commands.specs.declared.went.SessionEnd.TheVariants.{Bye, Killed, Ended, TooLong, Spent, ReadFault, WriteFault}
 use Rattle.agent_session.specs.Sessions.{Surroundings, surroundings, ServesRules}
-use Rattle.pinentry_client.specs.Dialogues.{Does}
-use Rattle.pinentry_client.specs.States.{AtPinentry}
+use Rattle.pinentry_client.specs.Dialogues.{PinentryDoes}
+use Rattle.pinentry_client.specs.States.{AtPinentry, idle}
 use Rattle.agent_top.specs.Cache.{limits_of, session, fresh_desk}
 use Rattle.agent_top.specs.declared.status.Status.{Status}
 use Rattle.agent_top.specs.declared.status.Status.TheVariants as status
 
 -- the number that the process ends with
-abbrev pub number_of : Status → ℕ
-number_of status.Success = 0
-number_of status.NoMemory = 1
-number_of status.BadWords = 2
-number_of status.ReadFault = 3
-number_of status.WriteFault = 4
-number_of status.Spent = 6
-number_of status.TooLong = 7
+abbrev pub exit_number : Status → ℕ
+exit_number status.Success = 0
+exit_number status.NoMemory = 1
+exit_number status.BadWords = 2
+exit_number status.ReadFault = 3
+exit_number status.WriteFault = 4
+exit_number status.Spent = 6
+exit_number status.TooLong = 7
 
 -- the status after a session that ended so
 abbrev pub status_of : SessionEnd → Status
@@ -44,48 +46,52 @@ status_of Spent = status.Spent
 status_of TooLong = status.TooLong
 
 -- what a run of the agent has to do with: both sides of its link, its clock, and the children of its launcher
-pub record Outside : Type 0 where
+pub record Machine : Type 0 where
   pub input : Side
   pub output : Side
   pub clock : Readings
   pub launches : Launches
 
-abbrev pub outside : Side → Side → Readings → Launches → Outside
-outside input output clock launches = record { input = input; output = output; clock = clock; launches = launches }
+abbrev pub machine : Side → Side → Readings → Launches → Machine
+machine input output clock launches = record { input = input; output = output; clock = clock; launches = launches }
 
--- a pinentry for which no child stands
-abbrev pub no_child : Launches → AtPinentry
-no_child launches = record { launches = launches; child = None; ready = false }
+-- the pinentry that the rules name, of which no child stands
+abbrev pub no_child : Rules → Launches → AtPinentry
+no_child rules launches = idle rules.pinentry.items launches
 
--- an `Outside` (this file's, not that of `agent_commands`) as a session's surroundings: with this desk, and a pinentry without a child
-abbrev pub with_desk : AtSolo → Outside → Surroundings (prompt_world TurnsSolo Does)
-with_desk desk around = surroundings TurnsSolo Does around.input around.output desk (no_child around.launches)
+-- the machine as a session's surroundings: with this desk, and the rules' pinentry without a
+-- child
+abbrev pub with_desk : Rules → AtSolo → Machine → Surroundings (prompt_world TurnsSolo PinentryDoes)
+with_desk rules desk around = surroundings TurnsSolo PinentryDoes around.input around.output desk (no_child rules around.launches)
 
--- The run is the replay of the turns that made a mark. Each turn took one reading of the clock, and nothing else did.
+-- The run is the replay of the turns that made a mark, none of which waited: no step has a since. Each turn took one reading of the clock, and
+-- nothing else did.
 pub record ReplaysTurns (limits : Limits) (before : Readings) (turns : List Taken) (run : List History) (after : Readings) : Type 0 where
   pub readings : List ℕ
   pub given : HasGiven before readings after
   pub steps : List MarkStep
   pub read : List ℕ
   pub marked : Marked turns readings steps read
+  pub firsts : AllByRecursion (λ step. since_of step ≡ None) steps
   pub replays : Replays limits session steps read run
 
 -- A session was served, and the number is that of its end. The cache began empty. Its run is legal, and has the marks of the session's
--- turns in their order, each at the moment that the clock's reading says. Its prompts were those of a pinentry, and no child is left.
-pub record RunsSession (rules : Rules) (before : Outside) (number : ℕ) (after : Outside) : Type 0 where
+-- turns in their order, each at the moment that the clock's reading says. Its prompts were those of the rules' pinentry, and no child is
+-- left.
+pub record RunsSession (rules : Rules) (before : Machine) (number : ℕ) (after : Machine) : Type 0 where
   pub end : SessionEnd
-  pub number_is : number ≡ number_of (status_of end)
+  pub number_is : number ≡ exit_number (status_of end)
   pub desk : AtSolo
   pub clock : desk.clock ≡ after.clock
-  pub served : ServesRules TurnsSolo Does rules (with_desk (fresh_desk (limits_of rules) before.clock) before) end (with_desk desk after)
+  pub served : ServesRules TurnsSolo PinentryDoes rules (with_desk rules (fresh_desk (limits_of rules) before.clock) before) end (with_desk rules desk after)
   pub extended : IsExtended (limits_of rules) session (first_history ∷ []) (turns_in served.events) desk.run
   pub legal : IsLegalRun (limits_of rules) desk.run
   pub replays : ReplaysTurns (limits_of rules) before.clock (turns_in served.events) desk.run after.clock
 
 -- That was done, or there was no memory before the first line: then nothing is read or written.
-pub data RunsServer (rules : Rules) (before : Outside) : ℕ → Outside → Type 0 where
-  ran : {number : ℕ} {after : Outside} → RunsSession rules before number after → RunsServer rules before number after
-  no_memory : RunsServer rules before (number_of status.NoMemory) before
+pub data RunsServer (rules : Rules) (before : Machine) : ℕ → Machine → Type 0 where
+  ran : {number : ℕ} {after : Machine} → RunsSession rules before number after → RunsServer rules before number after
+  no_memory : RunsServer rules before (exit_number status.NoMemory) before
 
 -- the rules with the number of the process
 abbrev pub with_pid : ℕ → Rules → Rules

@@ -24,8 +24,8 @@ run_of given =
     one_run (is_given (codes "--server") given) (is_given (codes "--daemon") given) (is_given (codes "--load") given)
     (number_or 0 (codes "--load") given)
 
-abbrev word : List ℕ → ArrayVec ℕ
-word bytes = record { items = bytes }
+abbrev path_word : List ℕ → ArrayVec ℕ
+path_word bytes = record { items = bytes }
 
 -- each is what its option is given, or else the default; the number of the process isn't among them
 abbrev pub rules_with : List Setting → RunMode → Rules
@@ -41,9 +41,10 @@ rules_with given run = record {
   min_nonalpha = number_or default_rules.min_nonalpha (codes "--min-passphrase-nonalpha") given;
   allow_preset = is_given (codes "--allow-preset-passphrase") given;
   allow_loopback = not (is_given (codes "--no-allow-loopback-pinentry") given);
+  extra = is_given (codes "--extra-socket") given;
   s2k_count = number_or default_rules.s2k_count (codes "--s2k-count") given;
-  pinentry = word (path_or default_rules.pinentry.items (codes "--pinentry-program") given);
-  homedir = word (path_or default_rules.homedir.items (codes "--homedir") given);
+  pinentry = path_word (path_or default_rules.pinentry.items (codes "--pinentry-program") given);
+  homedir = path_word (path_or default_rules.homedir.items (codes "--homedir") given);
   run = run;
   count_in_range = count-within given;
   workers_in_range = workers-within given;
@@ -53,6 +54,15 @@ rules_with given run = record {
 abbrev pub rules_from : List Setting → Option Rules
 rules_from given =
     if list_all fits given && are_distinct given then option_map (rules_with given) (run_of given) else None
+
+abbrev pub is_daemon : RunMode → Bool
+is_daemon Daemon = true
+is_daemon Server = false
+is_daemon (Load number) = false
+
+-- a socket for restricted sessions is a daemon's
+abbrev pub if_extra_fits : Rules → Option Rules
+if_extra_fits rules = if rules.extra && not (is_daemon rules.run) then None else Some rules
 
 -- a daemon and a load aren't built yet, and are refused so long
 abbrev pub if_built_for : Rules → RunMode → Option Rules
@@ -64,4 +74,4 @@ if_built rules = if_built_for rules rules.run
 
 -- the rules that these words mean, or none where they are refused with status 2
 abbrev pub rules_of : List (List ℕ) → Option Rules
-rules_of words = option_and_then if_built (rules_from (settings words))
+rules_of words = option_and_then if_built (option_and_then if_extra_fits (rules_from (settings words)))

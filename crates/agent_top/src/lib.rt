@@ -4,7 +4,7 @@
 #[cfg(test)]
 mod dialogues;
 #[cfg(test)]
-mod prompt_tests;
+mod prompts;
 #[cfg(test)]
 mod script_tests;
 mod status;

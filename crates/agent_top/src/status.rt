@@ -22,7 +22,7 @@ pub enum Status {
 }
 
 impl Status {
-    ghost use Rattle.agent_top.specs.Top.{number_of, status_of};
+    ghost use Rattle.agent_top.specs.Top.{exit_number, status_of};
 
     /// The status of a process whose session ended so.
     pub(crate) fn of(end: SessionEnd) -> Status
@@ -39,7 +39,7 @@ impl Status {
 
     /// The number that the process ends with.
     pub fn number(self) -> u8
-        ensures { result ≡ number_of self }
+        ensures { result ≡ exit_number self }
     {
         match self {
             Status::Success => 0,

@@ -1,72 +1,61 @@
-ghost use Rattle.std.specs.Prelude.{◌≤◌, IsSome};
+ghost use Rattle.std.specs.Prelude.{◌≤◌, IfOk, IsSome};
 
 use super::*;
 use crate::dialogues::DIALOGUES;
+use crate::prompts::{Child, PIN, PROMPTS};
 use agent_ports::{
     Got, Host, Link, ListClock, ListDice, MapKeys, MemHost, MemLauncher, MemLink, MemSink,
-    MemSource, Parts, Sent, Sink, Source,
+    MemSource, NoGate, Parts, PlannedChild, Sent, Sink, Source,
 };
 use session_options::Rules;
 use std::alloc::{AllocError, Global};
+use std::rt;
+use std::sync::Wait;
 use std::test::Fail;
-
-const GREETING: &str = "OK Pleased to meet you\n";
+use std::thread::Threads;
 
 const NO_DATA: &str = "ERR 67108922 No data <GPG Agent>\n";
 
 const TOO_LONG: &str = "ERR 67109127 Line passed to IPC too long <GPG Agent>\n";
 
-fn rules(allow_preset: bool) -> Rules {
-    let mut rules = Rules::default();
-    rules.allow_preset = allow_preset;
-    rules.allow_loopback = false;
-    rules
-}
-
-/// A machine whose clock gives these readings. Its process has the number 17.
-fn host_with(alloc: Global, readings: Vec<u64>) -> MemHost
-    ensures { IsSome (⟦<MemHost as Host>⟧.server result) }
-{
-    let parts = Parts {
-        launcher: MemLauncher::new(alloc, Vec::new(alloc), Vec::new(alloc)),
-        clock: ListClock::new(readings),
-        dice: ListDice::new(Vec::new(alloc), Vec::new(alloc)),
-        keys: MapKeys::new(alloc, Vec::new(alloc)),
-    };
-    MemHost::new(17, parts)
-}
-
-/// A session on a link in memory.
-#[derive(Drop)]
-struct Case<'a> {
-    allow_preset: bool,
-    input: &'a str,
-    readings: &'a [u64],
-    /// What is written after the greeting.
-    output: &'a str,
+/// A session over memory: what it is given, and what comes of it. In a text `{part*3}` stands for three times that part.
+#[derive(Clone, Copy)]
+struct Row {
+    sent: &'static str,
+    /// What is written at first, and then.
+    greeting: &'static str,
+    answered: &'static str,
     status: u8,
+    allow_preset: bool,
+    allow_loopback: bool,
+    children: &'static [Child],
+    /// The launches, reads and writes that fail.
+    launches: &'static [u64],
+    reads: &'static [u64],
+    writes: &'static [u64],
+    /// What the clock gives.
+    readings: &'static [u64],
+    /// The most bytes that a read gives, of the client and of the children, each in a session of its own.
+    pieces: &'static [usize],
 }
 
-/// Whether the session writes what it should, with its status, where reads give at most `piece` bytes.
-fn meets(alloc: Global, case: &Case, piece: usize) -> Result<bool, AllocError>
-    requires { 1 ≤ piece }
-{
-    let input = Vec::from_slice(alloc, case.input.as_bytes())?;
-    let source = MemSource::new(input, piece, Vec::new(alloc));
-    let mut stdio = MemLink::new(source, MemSink::new(alloc, 0, Vec::new(alloc)));
-    let mut host = host_with(alloc, Vec::from_slice(alloc, case.readings)?);
-    let status = run_server(alloc, &rules(case.allow_preset), &mut stdio, &mut host);
-    let want = format!(in alloc; "{GREETING}{}", case.output)?;
-    Ok(status == case.status && stdio.written() == want.as_bytes())
-}
+const PLAIN: Row = Row {
+    sent: "",
+    greeting: "OK Pleased to meet you\n",
+    answered: "",
+    status: 0,
+    allow_preset: true,
+    allow_loopback: false,
+    children: &[],
+    launches: &[],
+    reads: &[],
+    writes: &[],
+    readings: &[],
+    pieces: &[1, 7, 4096],
+};
 
-/// Whether it does so however its bytes are cut.
-fn meets_in_any_pieces(alloc: Global, case: &Case) -> Result<bool, AllocError> {
-    Ok(meets(alloc, case, 1)? && meets(alloc, case, 7)? && meets(alloc, case, 4096)?)
-}
-
-/// What is sent, and what is written for it. Presets are allowed.
-const ANSWERS: [(&str, &str); 30] = [
+/// What is sent, and what is answered. Presets are allowed.
+const ANSWERS: [(&str, &str); 48] = [
     (
         "PRESET_PASSPHRASE id1 -1 736563726574\nGET_PASSPHRASE --no-ask --data id1\nBYE\nNOP\n",
         "OK\nD secret\nOK\nOK closing connection\n",
@@ -155,315 +144,416 @@ const ANSWERS: [(&str, &str); 30] = [
         "PRESET_PASSPHRASE a -1 31\nPRESET_PASSPHRASE a -1 32\nGET_PASSPHRASE --no-ask --data a\n",
         "OK\nOK\nD 2\nOK\n",
     ),
+    // The client is asked for a preset.
+    (
+        "PRESET_PASSPHRASE --inquire id1 -1\nD se\nD cret\nEND\nGET_PASSPHRASE --no-ask --data id1\n",
+        "S INQUIRE_MAXLEN 255\nINQUIRE PASSPHRASE\nOK\nD secret\nOK\n",
+    ),
+    (
+        "PRESET_PASSPHRASE --inquire id1 -1\nD a%0ab\n\n# x\nd\nend now\nGET_PASSPHRASE id1\n",
+        "S INQUIRE_MAXLEN 255\nINQUIRE PASSPHRASE\nOK\nOK 610A62\n",
+    ),
+    (
+        "PRESET_PASSPHRASE --inquire id1 -1\nEND\nGET_PASSPHRASE --data id1\n",
+        "S INQUIRE_MAXLEN 255\nINQUIRE PASSPHRASE\nOK\nOK\n",
+    ),
+    (
+        "PRESET_PASSPHRASE --inquire id1 -1\nD se\nCAN\nGET_PASSPHRASE id1\n",
+        "S INQUIRE_MAXLEN 255\nINQUIRE PASSPHRASE\nERR 67108963 Operation cancelled <GPG Agent>\nERR 67108922 No data <GPG Agent>\n",
+    ),
+    (
+        "PRESET_PASSPHRASE --inquire id1 -1\nD se\n",
+        "S INQUIRE_MAXLEN 255\nINQUIRE PASSPHRASE\n",
+    ),
+    (
+        "PRESET_PASSPHRASE --inquire id1 -1\nD se\nEND",
+        "S INQUIRE_MAXLEN 255\nINQUIRE PASSPHRASE\n",
+    ),
+    (
+        "PRESET_PASSPHRASE --inquire id1 -1\n",
+        "S INQUIRE_MAXLEN 255\nINQUIRE PASSPHRASE\n",
+    ),
+    // No line of an inquiry is run.
+    (
+        "PRESET_PASSPHRASE --inquire id1 -1\nD se\nNOP\nGET_PASSPHRASE id1\n",
+        "S INQUIRE_MAXLEN 255\nINQUIRE PASSPHRASE\nERR 67109138 Unexpected IPC command <GPG Agent>\nERR 67108922 No data <GPG Agent>\n",
+    ),
+    (
+        "PRESET_PASSPHRASE --inquire id1 -1\nBYE\nGET_PASSPHRASE id1\n",
+        "S INQUIRE_MAXLEN 255\nINQUIRE PASSPHRASE\nERR 67109138 Unexpected IPC command <GPG Agent>\nERR 67108922 No data <GPG Agent>\n",
+    ),
+    // A passphrase has up to 255 bytes.
+    (
+        "PRESET_PASSPHRASE --inquire id1 -1\nD {a*255}\nEND\n",
+        "S INQUIRE_MAXLEN 255\nINQUIRE PASSPHRASE\nOK\n",
+    ),
+    (
+        "PRESET_PASSPHRASE --inquire id1 -1\nD {a*256}\nEND\nNOP\n",
+        "S INQUIRE_MAXLEN 255\nINQUIRE PASSPHRASE\nERR 67109137 Too much data for IPC layer <GPG Agent>\nOK\n",
+    ),
+    (
+        "PRESET_PASSPHRASE id1 -1 {61*255}\nGET_PASSPHRASE --no-ask id1\n",
+        "OK\nOK {61*255}\n",
+    ),
+    // A cache id has up to 50 bytes.
+    ("GET_PASSPHRASE --no-ask {a*50}\n", NO_DATA),
+    (
+        "GET_PASSPHRASE --no-ask {a*51}\n",
+        "ERR 67109144 IPC parameter error <GPG Agent>\n",
+    ),
+    ("CLEAR_PASSPHRASE {a*50}\n", "OK\n"),
+    (
+        "CLEAR_PASSPHRASE {a*51}\n",
+        "ERR 67109144 IPC parameter error <GPG Agent>\n",
+    ),
+    // A line has up to 1,000 bytes.
+    ("NOP{ *997}\nNOP\n", "OK\nOK\n"),
+    ("NOP{ *997}\r\n", "OK\n"),
 ];
 
-/// Whether the input is so answered where presets are allowed.
-fn is_answered(alloc: Global, input: &str, output: &str) -> Result<bool, AllocError> {
-    let case = Case {
-        allow_preset: true,
-        input,
-        readings: &[],
-        output,
-        status: 0,
-    };
-    meets_in_any_pieces(alloc, &case)
-}
-
-#[test]
-fn requests_are_answered(rt: HostRuntime) -> Result<(), Fail> {
-    for (input, output) in ANSWERS {
-        assert!(rt; is_answered(rt.alloc(), input, output)?, "{input}");
-    }
-    Ok(())
-}
-
-#[test]
-fn the_dialogues_of_the_protocol_go_as_they_stand(rt: HostRuntime) -> Result<(), Fail> {
-    for (input, output) in DIALOGUES {
-        assert!(rt; is_answered(rt.alloc(), input, output)?, "{input}");
-    }
-    Ok(())
-}
-
-#[test]
-fn a_preset_needs_the_word_that_allows_it(rt: HostRuntime) -> Result<(), Fail> {
-    let case = Case {
+/// Sessions with other rules, clocks and faults.
+const SESSIONS: [Row; 16] = [
+    // A line that is too long ends a session.
+    Row {
+        sent: "NOP{ *998}\nNOP\n",
+        answered: TOO_LONG,
+        status: 7,
+        ..PLAIN
+    },
+    Row {
+        sent: "NOP{ *999}",
+        answered: TOO_LONG,
+        status: 7,
+        ..PLAIN
+    },
+    Row {
+        sent: "PRESET_PASSPHRASE --inquire id1 -1\nD {a*999}\nEND\n",
+        answered: "S INQUIRE_MAXLEN 255\nINQUIRE PASSPHRASE\nERR 67109127 Line passed to IPC too long <GPG Agent>\n",
+        status: 7,
+        ..PLAIN
+    },
+    // A preset needs the word that allows it.
+    Row {
+        sent: "PRESET_PASSPHRASE id1 -1 61\nPRESET_PASSPHRASE --inquire id1 -1\nGET_PASSPHRASE --no-ask id1\n",
+        answered: "ERR 67108924 Not supported <GPG Agent>\nERR 67108924 Not supported <GPG Agent>\nERR 67108922 No data <GPG Agent>\n",
         allow_preset: false,
-        input: "PRESET_PASSPHRASE id1 -1 61\nPRESET_PASSPHRASE --inquire id1 -1\nGET_PASSPHRASE --no-ask id1\n",
-        readings: &[],
-        output: "ERR 67108924 Not supported <GPG Agent>\nERR 67108924 Not supported <GPG Agent>\nERR 67108922 No data <GPG Agent>\n",
-        status: 0,
-    };
-    assert!(rt; meets_in_any_pieces(rt.alloc(), &case)?);
-    Ok(())
-}
-
-/// The timeout of a preset, and the readings of the clock at it and at each question for it. The last one finds it gone.
-const LIFETIMES: [(&str, &[u64]); 5] = [
-    ("-1", &[0, 7200, 7201]),
-    ("0", &[0, 600, 1200, 1801]),
-    (
-        "0",
-        &[
+        ..PLAIN
+    },
+    // A passphrase is given up to its lifetimes.
+    Row {
+        sent: "PRESET_PASSPHRASE a -1 7E20\n{GET_PASSPHRASE --no-ask --data a\n*2}",
+        answered: "OK\n{D ~ \nOK\n*1}ERR 67108922 No data <GPG Agent>\n",
+        readings: &[0, 7200, 7201],
+        ..PLAIN
+    },
+    Row {
+        sent: "PRESET_PASSPHRASE a 0 7E20\n{GET_PASSPHRASE --no-ask --data a\n*3}",
+        answered: "OK\n{D ~ \nOK\n*2}ERR 67108922 No data <GPG Agent>\n",
+        readings: &[0, 600, 1200, 1801],
+        ..PLAIN
+    },
+    Row {
+        sent: "PRESET_PASSPHRASE a 0 7E20\n{GET_PASSPHRASE --no-ask --data a\n*16}",
+        answered: "OK\n{D ~ \nOK\n*15}ERR 67108922 No data <GPG Agent>\n",
+        readings: &[
             0, 500, 1000, 1500, 2000, 2500, 3000, 3500, 4000, 4500, 5000, 5500, 6000, 6500, 7000,
             7200, 7201,
         ],
-    ),
-    ("10", &[0, 10, 20, 31]),
-    ("0", &[0, 601]),
+        ..PLAIN
+    },
+    Row {
+        sent: "PRESET_PASSPHRASE a 10 7E20\n{GET_PASSPHRASE --no-ask --data a\n*3}",
+        answered: "OK\n{D ~ \nOK\n*2}ERR 67108922 No data <GPG Agent>\n",
+        readings: &[0, 10, 20, 31],
+        ..PLAIN
+    },
+    Row {
+        sent: "PRESET_PASSPHRASE a 0 7E20\nGET_PASSPHRASE --no-ask --data a\n",
+        answered: "OK\nERR 67108922 No data <GPG Agent>\n",
+        readings: &[0, 601],
+        ..PLAIN
+    },
+    // The preset and 131,071 requests fill the history, behind which the cache begins empty again.
+    Row {
+        sent: "PRESET_PASSPHRASE a -1 31\n{GET_PASSPHRASE a\n*131072}",
+        answered: "OK\n{OK 31\n*131071}ERR 67108922 No data <GPG Agent>\n",
+        pieces: &[4096],
+        ..PLAIN
+    },
+    // The line that came before the read that fails is answered.
+    Row {
+        sent: "NOP\nNO",
+        answered: "OK\n",
+        status: 3,
+        reads: &[6],
+        pieces: &[1],
+        ..PLAIN
+    },
+    Row {
+        sent: "NOP\nNO",
+        answered: "OK\n",
+        status: 3,
+        reads: &[1],
+        pieces: &[7, 4096],
+        ..PLAIN
+    },
+    Row {
+        sent: "NOP\nNO",
+        answered: "OK",
+        status: 4,
+        writes: &[1],
+        pieces: &[4096],
+        ..PLAIN
+    },
+    Row {
+        sent: "NOP\nNO",
+        greeting: "OK",
+        status: 4,
+        writes: &[0],
+        pieces: &[4096],
+        ..PLAIN
+    },
+    // The seat is free behind a launch that failed.
+    Row {
+        sent: "GET_PASSPHRASE --data id1 X X X\nGET_PASSPHRASE --data id1 X X X\n",
+        answered: "ERR 67108950 No pinentry <GPG Agent>\nD pin\nOK\n",
+        children: &[(PIN, "D pin\nOK\n", "GETPIN\nBYE\n")],
+        launches: &[0],
+        ..PLAIN
+    },
+    // A line of a child that is too long.
+    Row {
+        sent: "GET_PASSPHRASE id1 X X X\n",
+        answered: "ERR 67108950 No pinentry <GPG Agent>\n",
+        children: &[(PIN, "D {a*999}\nOK\n", "GETPIN\n")],
+        ..PLAIN
+    },
 ];
 
-#[test]
-fn a_passphrase_is_given_up_to_its_lifetimes(rt: HostRuntime) -> Result<(), Fail> {
-    let alloc = rt.alloc();
-    let get = "GET_PASSPHRASE --no-ask --data a\n";
-    for (timeout, readings) in LIFETIMES {
-        let preset = format!(in alloc; "PRESET_PASSPHRASE a {timeout} 7E20\n{get}")?;
-        let given = readings.len().saturating_sub(2);
-        let input = long_text(alloc, &preset, get, given, "")?;
-        let output = long_text(alloc, "OK\n", "D ~ \nOK\n", given, NO_DATA)?;
-        let case = Case {
-            allow_preset: true,
-            input: &input,
-            readings,
-            output: &output,
-            status: 0,
-        };
-        assert!(rt; meets_in_any_pieces(alloc, &case)?, "{timeout}");
+/// A text with its repeated parts.
+fn text_of(alloc: Global, text: &str) -> Result<String, AllocError> {
+    let mut all = String::new(alloc);
+    for part in text.split('{') {
+        let (repeated, plain) = part.split_once('}').unwrap_or(("", part));
+        let (what, count) = repeated.split_once('*').unwrap_or(("", "0"));
+        for _ in 0..count.parse::<usize>().unwrap_or(0) {
+            all.push_str(what)?;
+        }
+        all.push_str(plain)?;
     }
-    Ok(())
+    Ok(all)
 }
 
-#[test]
-fn the_cache_begins_empty_again_behind_a_full_history(rt: HostRuntime) -> Result<(), Fail> {
-    let alloc = rt.alloc();
-    // The preset and 131,071 requests fill the history.
-    let preset = "PRESET_PASSPHRASE a -1 31\n";
-    let input = long_text(alloc, preset, "GET_PASSPHRASE a\n", 131_072, "")?;
-    let output = long_text(alloc, "OK\n", "OK 31\n", 131_071, NO_DATA)?;
-    let case = Case {
-        allow_preset: true,
-        input: &input,
-        readings: &[],
-        output: &output,
-        status: 0,
-    };
-    assert!(rt; meets(alloc, &case, 4096)?);
-    Ok(())
-}
-
-/// What the client answers to the question for a passphrase and sends behind it, what is written then, and the status.
-const INQUIRIES: [(&str, &str, u8); 7] = [
-    (
-        "D se\nD cret\nEND\nGET_PASSPHRASE --no-ask --data id1\n",
-        "OK\nD secret\nOK\n",
-        0,
-    ),
-    (
-        "D a%0ab\n\n# x\nd\nend now\nGET_PASSPHRASE id1\n",
-        "OK\nOK 610A62\n",
-        0,
-    ),
-    ("END\nGET_PASSPHRASE --data id1\n", "OK\nOK\n", 0),
-    (
-        "D se\nCAN\nGET_PASSPHRASE id1\n",
-        "ERR 67108963 Operation cancelled <GPG Agent>\nERR 67108922 No data <GPG Agent>\n",
-        0,
-    ),
-    ("D se\n", "", 0),
-    ("D se\nEND", "", 0),
-    ("", "", 0),
-];
-
-fn inquired(alloc: Global, client: &str, written: &str, status: u8) -> Result<bool, AllocError> {
-    let input = format!(in alloc; "PRESET_PASSPHRASE --inquire id1 -1\n{client}")?;
-    let output = format!(in alloc; "S INQUIRE_MAXLEN 255\nINQUIRE PASSPHRASE\n{written}")?;
-    let case = Case {
-        allow_preset: true,
-        input: &input,
-        readings: &[],
-        output: &output,
-        status,
-    };
-    meets_in_any_pieces(alloc, &case)
-}
-
-#[test]
-fn the_client_is_asked_for_a_preset(rt: HostRuntime) -> Result<(), Fail> {
-    for (client, written, status) in INQUIRIES {
-        assert!(rt; inquired(rt.alloc(), client, written, status)?, "{client}");
-    }
-    Ok(())
-}
-
-#[test]
-fn no_inquiry_line_is_run(rt: HostRuntime) -> Result<(), Fail> {
-    let alloc = rt.alloc();
-    let unexpected =
-        "ERR 67109138 Unexpected IPC command <GPG Agent>\nERR 67108922 No data <GPG Agent>\n";
-    assert!(rt; inquired(alloc, "D se\nNOP\nGET_PASSPHRASE id1\n", unexpected, 0)?);
-    assert!(rt; inquired(alloc, "BYE\nGET_PASSPHRASE id1\n", unexpected, 0)?);
-    Ok(())
-}
-
-/// A part so many times, between two texts.
-pub(crate) fn long_text(
+/// A machine with these children, whose clock gives these readings. Its process has the number 17.
+fn machine<'a, W: Wait>(
+    rt: &'a W,
     alloc: Global,
-    front: &str,
-    part: &str,
-    count: usize,
-    back: &str,
-) -> Result<String, AllocError> {
-    let mut text = String::from_str(alloc, front)?;
-    for _ in 0..count {
-        text.push_str(part)?;
-    }
-    text.push_str(back)?;
-    Ok(text)
-}
-
-#[test]
-fn an_inquiry_is_cut_off_past_its_limit(rt: HostRuntime) -> Result<(), Fail> {
-    let alloc = rt.alloc();
-    let most = long_text(alloc, "D ", "a", 255, "\nEND\n")?;
-    assert!(rt; inquired(alloc, &most, "OK\n", 0)?);
-    let more = long_text(alloc, "D ", "a", 256, "\nEND\nNOP\n")?;
-    let too_much = "ERR 67109137 Too much data for IPC layer <GPG Agent>\nOK\n";
-    assert!(rt; inquired(alloc, &more, too_much, 0)?);
-    let line = long_text(alloc, "D ", "a", 999, "\nEND\n")?;
-    assert!(rt; inquired(alloc, &line, TOO_LONG, 7)?);
-    Ok(())
-}
-
-#[test]
-fn a_passphrase_of_255_bytes_is_given(rt: HostRuntime) -> Result<(), Fail> {
-    let alloc = rt.alloc();
-    let digits = long_text(alloc, "", "61", 255, "")?;
-    let input = format!(in alloc;
-        "PRESET_PASSPHRASE id1 -1 {digits}\nGET_PASSPHRASE --no-ask id1\n"
-    )?;
-    let output = format!(in alloc; "OK\nOK {digits}\n")?;
-    let case = Case {
-        allow_preset: true,
-        input: &input,
-        readings: &[],
-        output: &output,
-        status: 0,
+    children: Vec<PlannedChild>,
+    row: &Row,
+) -> Result<MemHost<'a, W, NoGate>, AllocError>
+    ensures { IfOk result (λ host. IsSome (⟦<MemHost<'a, W, NoGate> as Host>⟧.server host)) }
+{
+    let failing = Vec::from_slice(alloc, row.launches)?;
+    let parts = Parts {
+        launcher: MemLauncher::new(alloc, children, failing),
+        clock: ListClock::new(Vec::from_slice(alloc, row.readings)?),
+        dice: ListDice::new(Vec::new(alloc), Vec::new(alloc)),
+        keys: MapKeys::new(alloc, Vec::new(alloc)),
     };
-    assert!(rt; meets_in_any_pieces(alloc, &case)?);
+    Ok(MemHost::new(rt, alloc, 17, parts))
+}
+
+/// The client's link, whose failing writes put two bytes.
+fn client(alloc: Global, row: &Row, piece: usize) -> Result<MemLink, AllocError> {
+    let input = text_of(alloc, row.sent)?.into_bytes();
+    let reads = Vec::from_slice(alloc, row.reads)?;
+    let writes = Vec::from_slice(alloc, row.writes)?;
+    let sink = MemSink::new(alloc, 2, writes);
+    Ok(MemLink::new(MemSource::new(input, piece, reads), sink))
+}
+
+fn planned(alloc: Global, row: &Row, piece: usize) -> Result<Vec<PlannedChild>, AllocError> {
+    let mut children = Vec::new(alloc);
+    for ((opening, _), behind, _) in row.children.iter() {
+        let gives = format!(in alloc; "{opening}{behind}")?;
+        children.push(PlannedChild {
+            gives: text_of(alloc, &gives)?.into_bytes(),
+            piece,
+            failing_reads: Vec::new(alloc),
+            failing_writes: Vec::new(alloc),
+        })?;
+    }
+    Ok(children)
+}
+
+fn rules_of(row: &Row) -> Rules {
+    let mut rules = Rules::default();
+    rules.allow_preset = row.allow_preset;
+    rules.allow_loopback = row.allow_loopback;
+    rules
+}
+
+/// What is to come of a row: what the client is written, the status, and for each child the usual program and what it is written, of
+/// the last one first.
+fn wanted(alloc: Global, row: &Row) -> Result<String, AllocError> {
+    let answered = text_of(alloc, row.answered)?;
+    let mut all = format!(in alloc; "{}{answered}{}", row.greeting, row.status)?;
+    for ((_, opening), _, behind) in row.children.iter().rev() {
+        all.push_str(format!(in alloc; "\n/usr/bin/pinentry {opening}{behind}")?.as_str())?;
+    }
+    Ok(all)
+}
+
+/// What comes of it.
+fn outcome<W: Wait>(rt: &W, alloc: Global, row: &Row, piece: usize) -> Result<String, AllocError> {
+    let mut stdio = client(alloc, row, piece)?;
+    let mut host = machine(rt, alloc, planned(alloc, row, piece)?, row)?;
+    let status = serve(alloc, &rules_of(row), &mut stdio, &mut host);
+    let answered = String::from_utf8_lossy(alloc, stdio.written())?;
+    let children = children_text(alloc, &host.server_parts().launcher)?;
+    format!(in alloc; "{answered}{status}{children}")
+}
+
+fn serve<H: Host>(alloc: Global, rules: &Rules, stdio: &mut MemLink, host: &mut H) -> u8
+    requires { IsSome (H.server host.old) }
+    ensures { IsSome (H.server host.new) }
+{
+    run_server(alloc, rules, stdio, host)
+}
+
+/// The programs that were launched, and what they were written, of the last one first.
+fn children_text(alloc: Global, launcher: &MemLauncher) -> Result<String, AllocError> {
+    let mut all = String::new(alloc);
+    for back in 0..9usize {
+        if let Some(written) = launcher.written(back) {
+            let text = String::from_utf8_lossy(alloc, written)?;
+            let program = launcher.launched(back).unwrap_or(b"");
+            let program = String::from_utf8_lossy(alloc, program)?;
+            all.push_str(format!(in alloc; "\n{program} {text}")?.as_str())?;
+        }
+    }
+    Ok(all)
+}
+
+/// What comes of a row that isn't as it should be, in some pieces.
+fn wrong<W: Wait>(rt: &W, alloc: Global, row: &Row) -> Result<Option<String>, AllocError> {
+    let wanted = wanted(alloc, row)?;
+    for piece in row.pieces.iter() {
+        let got = outcome(rt, alloc, row, *piece)?;
+        if got != wanted {
+            let text = format!(in alloc; "{} in pieces of {piece}: {got}", row.sent)?;
+            return Ok(Some(text));
+        }
+    }
+    Ok(None)
+}
+
+#[test]
+fn sessions_go_as_their_rows_say(rt: HostRuntime) -> Result<(), Fail> {
+    for row in SESSIONS {
+        assert_eq!(rt; wrong(&rt, rt.alloc(), &row)?, None);
+    }
     Ok(())
 }
 
 #[test]
-fn an_id_has_up_to_50_bytes(rt: HostRuntime) -> Result<(), Fail> {
-    let alloc = rt.alloc();
-    let refused = "ERR 67109144 IPC parameter error <GPG Agent>\n";
-    for (command, count, output) in [
-        ("GET_PASSPHRASE --no-ask ", 50usize, NO_DATA),
-        ("GET_PASSPHRASE --no-ask ", 51, refused),
-        ("CLEAR_PASSPHRASE ", 50, "OK\n"),
-        ("CLEAR_PASSPHRASE ", 51, refused),
-    ] {
-        let input = long_text(alloc, command, "a", count, "\n")?;
-        let case = Case {
-            allow_preset: true,
-            input: &input,
-            readings: &[],
-            output,
-            status: 0,
+fn requests_are_answered_as_in_the_protocol(rt: HostRuntime) -> Result<(), Fail> {
+    for (sent, answered) in ANSWERS.iter().chain(DIALOGUES.iter()) {
+        let row = Row {
+            sent,
+            answered,
+            ..PLAIN
         };
-        assert!(rt; meets_in_any_pieces(alloc, &case)?, "{count}");
+        assert_eq!(rt; wrong(&rt, rt.alloc(), &row)?, None);
     }
     Ok(())
 }
 
 #[test]
-fn a_line_has_up_to_1000_bytes(rt: HostRuntime) -> Result<(), Fail> {
-    let alloc = rt.alloc();
-    for (count, end, output, status) in [
-        (997usize, "\nNOP\n", "OK\nOK\n", 0u8),
-        (997, "\r\n", "OK\n", 0),
-        (998, "\nNOP\n", TOO_LONG, 7),
-        (999, "", TOO_LONG, 7),
-    ] {
-        let input = long_text(alloc, "NOP", " ", count, end)?;
-        let case = Case {
-            allow_preset: true,
-            input: &input,
-            readings: &[],
-            output,
-            status,
+fn prompts_go_as_their_rows_say(rt: HostRuntime) -> Result<(), Fail> {
+    for (sent, answered, children) in PROMPTS {
+        let row = Row {
+            sent,
+            answered,
+            children,
+            allow_preset: false,
+            allow_loopback: true,
+            ..PLAIN
         };
-        assert!(rt; meets_in_any_pieces(alloc, &case)?, "{count} blanks");
+        assert_eq!(rt; wrong(&rt, rt.alloc(), &row)?, None);
     }
     Ok(())
 }
 
-#[test]
-fn faults_of_the_link_have_their_statuses(rt: HostRuntime) -> Result<(), Fail> {
-    let alloc = rt.alloc();
-    let never = 99u64;
-    // The most bytes that a read gives, the numbers of the read and of the write that fail, and what comes of it.
-    for (piece, read, write, written, status) in [
-        // The line that came before the read that fails is answered.
-        (1usize, 6u64, never, "OK Pleased to meet you\nOK\n", 3u8),
-        (7, 1, never, "OK Pleased to meet you\nOK\n", 3),
-        (4096, 1, never, "OK Pleased to meet you\nOK\n", 3),
-        (4096, never, 1, "OK Pleased to meet you\nOK", 4),
-        (4096, never, 0, "OK", 4),
-    ] {
-        let input = Vec::from_slice(alloc, b"NOP\nNO")?;
-        let source = MemSource::new(input, piece, vec![in alloc; read]?);
-        let sink = MemSink::new(alloc, 2, vec![in alloc; write]?);
-        let mut stdio = MemLink::new(source, sink);
-        let mut host = host_with(alloc, Vec::new(alloc));
-        let got = run_server(alloc, &rules(true), &mut stdio, &mut host);
-        assert_eq!(rt; got, status, "{piece}, {read}, {write}");
-        assert_eq!(rt;
-            stdio.written(),
-            written.as_bytes(),
-            "{piece}, {read}, {write}"
-        );
-    }
-    Ok(())
-}
+const PRESETS: &str =
+    "GETINFO pid\nPRESET_PASSPHRASE id1 -1 736563726574\nGET_PASSPHRASE --no-ask --data id1\nBYE\nNOP\n";
 
-const WORDS: [(&str, u8, &str); 6] = [
-    ("--server --allow-preset-passphrase", 0, "D secret\n"),
-    ("--allow-preset-passphrase --server", 0, "D secret\n"),
-    ("--server", 0, "Not supported"),
-    ("--server", 0, "D 17\n"),
-    ("--server --server", 2, ""),
-    ("--daemon", 2, ""),
+/// The words, what the client sends, the status, and a part of what it is answered, with the programs that were launched.
+const WORDS: [(&[&str], &str, u8, &str); 8] = [
+    (
+        &["--server", "--allow-preset-passphrase"],
+        PRESETS,
+        0,
+        "D secret\n",
+    ),
+    (
+        &["--allow-preset-passphrase", "--server"],
+        PRESETS,
+        0,
+        "D secret\n",
+    ),
+    (&["--server"], PRESETS, 0, "Not supported"),
+    (&["--server"], PRESETS, 0, "D 17\n"),
+    (&["--server", "--server"], PRESETS, 2, ""),
+    (&["--daemon"], PRESETS, 2, ""),
+    (
+        &["--server"],
+        "GET_PASSPHRASE id1 X X X\n",
+        0,
+        "OK 61\n\n/usr/bin/pinentry ",
+    ),
+    (
+        &["--server", "--pinentry-program=/opt/a b"],
+        "GET_PASSPHRASE id1 X X X\n",
+        0,
+        "OK 61\n\n/opt/a b ",
+    ),
 ];
+
+/// A session whose pinentry gives a passphrase.
+const PROMPTED: Row = Row {
+    children: &[(PIN, "D a\nOK\n", "")],
+    ..PLAIN
+};
+
+/// The status of the agent with these words, and what is written and launched.
+fn with_words<W: Threads + Wait + rt::Clock + Sync>(
+    rt: &W,
+    alloc: Global,
+    words: &[&'static str],
+    sent: &'static str,
+) -> Result<(u8, String), AllocError> {
+    let mut given = Vec::new(alloc);
+    for word in words.iter() {
+        given.push(String::from_str(alloc, word)?)?;
+    }
+    let row = Row { sent, ..PROMPTED };
+    let mut stdio = client(alloc, &row, 64)?;
+    let mut host = machine(rt, alloc, planned(alloc, &row, 64)?, &row)?;
+    let status = run_agent(rt, alloc, &given, &mut stdio, &mut host);
+    let mut written = String::from_utf8_lossy(alloc, stdio.written())?;
+    written.push_str(&children_text(alloc, &host.server_parts().launcher)?)?;
+    Ok((status, written))
+}
 
 #[test]
 fn the_words_decide(rt: HostRuntime) -> Result<(), Fail> {
-    let alloc = rt.alloc();
-    let (input, _) = ANSWERS[0];
-    let input = format!(in alloc; "GETINFO pid\n{input}")?;
-    for (line, status, part) in WORDS {
-        let mut words = Vec::new(alloc);
-        for word in line.split(' ') {
-            words.push(String::from_str(alloc, word)?)?;
-        }
-        let source = MemSource::new(
-            Vec::from_slice(alloc, input.as_bytes())?,
-            64,
-            Vec::new(alloc),
-        );
-        let mut stdio = MemLink::new(source, MemSink::new(alloc, 0, Vec::new(alloc)));
-        let mut host = host_with(alloc, Vec::new(alloc));
-        assert_eq!(rt;
-            run_agent(&rt, alloc, &words, &mut stdio, &mut host),
-            status
-        );
-        let found = stdio
-            .written()
-            .windows(part.len().max(1))
-            .any(|bytes| bytes == part.as_bytes());
-        assert_eq!(rt; found, status == 0);
-        assert_eq!(rt; stdio.written().is_empty(), status == 2);
+    for (words, sent, status, part) in WORDS {
+        let (got, written) = with_words(&rt, rt.alloc(), words, sent)?;
+        assert_eq!(rt; got, status, "{part}");
+        // Status 2 comes where nothing was written.
+        assert_eq!(rt; written.is_empty(), status == 2, "{part}");
+        assert!(rt; written.contains(part), "{written}");
     }
     Ok(())
 }
@@ -557,8 +647,11 @@ fn each_answer_is_written_before_more_is_read(rt: HostRuntime) -> Result<(), Fai
         read_faults: 0,
         write_faults: 0,
     };
-    let mut host = host_with(alloc, Vec::new(alloc));
-    assert_eq!(rt; run_server(alloc, &rules(true), &mut stdio, &mut host), 0);
+    let mut host = machine(&rt, alloc, Vec::new(alloc), &PLAIN)?;
+    assert_eq!(rt;
+        run_server(alloc, &rules_of(&PLAIN), &mut stdio, &mut host),
+        0
+    );
     assert!(rt; stdio.written.as_slice() == all.as_bytes());
     Ok(())
 }

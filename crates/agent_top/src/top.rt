@@ -1,9 +1,9 @@
 ghost use Rattle.std.specs.Prelude.{◌≡◌, map, string_bytes, IfSome, IfNone, IsSome, is_some, false};
 ghost use Rattle.agent_core.specs.Solos.{seen};
-ghost use Rattle.pinentry_client.specs.States.{seen as at_pinentry};
+ghost use Rattle.pinentry_client.specs.States.{at_pinentry};
 ghost use Rattle.agent_top.specs.Cache.{limits_of, fresh_desk};
 ghost use Rattle.agent_top.specs.Words.{rules_of};
-ghost use Rattle.agent_top.specs.Top.{number_of, outside, with_pid, no_child, UsesParts, RunsServer};
+ghost use Rattle.agent_top.specs.Top.{exit_number, machine, with_pid, no_child, UsesParts, RunsServer};
 
 use crate::Status;
 use crate::words::{WordsFault, read_words};
@@ -35,13 +35,13 @@ pub fn run_agent<W: Threads + Wait + rt::Clock + Sync, S: Link, H: Host>(
     requires { IsSome (H.server host.old) }
     // Words that it doesn't know: nothing is read or written.
     ensures refused { IfNone (rules_of (map string_bytes words.now))
-        ((result ≡ number_of Status.BadWords) × (S.input stdio.new ≡ S.input stdio.old) × (S.output stdio.new ≡ S.output stdio.old)
+        ((result ≡ exit_number Status.BadWords) × (S.input stdio.new ≡ S.input stdio.old) × (S.output stdio.new ≡ S.output stdio.old)
         × (host.new ≡ host.old)) }
     // Other words: a session was served, or there was no memory and nothing was read or written. The host has its parts again.
     ensures served { IfSome (rules_of (map string_bytes words.now)) (λ rules. UsesParts (λ launcher clock launcher_now clock_now.
         RunsServer (with_pid (H.process host.old) rules)
-        (outside (S.input stdio.old) (S.output stdio.old) (H.Clock.readings clock) (H.Launcher.launches launcher)) result
-        (outside (S.input stdio.new) (S.output stdio.new) (H.Clock.readings clock_now) (H.Launcher.launches launcher_now)))
+        (machine (S.input stdio.old) (S.output stdio.old) (H.Clock.readings clock) (H.Launcher.launches launcher)) result
+        (machine (S.input stdio.new) (S.output stdio.new) (H.Clock.readings clock_now) (H.Launcher.launches launcher_now)))
         (H.server host.old) (H.server host.new)) }
     ensures process { H.process host.new ≡ H.process host.old }
 {
@@ -59,8 +59,8 @@ pub fn run_agent<W: Threads + Wait + rt::Clock + Sync, S: Link, H: Host>(
 pub fn run_server<S: Link, H: Host>(alloc: Global, rules: &Rules, stdio: &mut S, host: &mut H) -> u8
     requires { IsSome (H.server host.old) }
     ensures served { UsesParts (λ launcher clock launcher_now clock_now. RunsServer rules.now
-        (outside (S.input stdio.old) (S.output stdio.old) (H.Clock.readings clock) (H.Launcher.launches launcher)) result
-        (outside (S.input stdio.new) (S.output stdio.new) (H.Clock.readings clock_now) (H.Launcher.launches launcher_now)))
+        (machine (S.input stdio.old) (S.output stdio.old) (H.Clock.readings clock) (H.Launcher.launches launcher)) result
+        (machine (S.input stdio.new) (S.output stdio.new) (H.Clock.readings clock_now) (H.Launcher.launches launcher_now)))
         (H.server host.old) (H.server host.new) }
     ensures process { H.process host.new ≡ H.process host.old }
 {
@@ -89,8 +89,8 @@ fn serve_alone<S: Link, C: Clock, La: Launcher, K: Keys, R: Dice>(
     dice: &mut R,
 ) -> Status
     ensures runs { RunsServer rules.now
-        (outside (S.input stdio.old) (S.output stdio.old) (C.readings clock.old) (La.launches launcher.old)) (number_of result)
-        (outside (S.input stdio.new) (S.output stdio.new) (C.readings clock.new) (La.launches launcher.new)) }
+        (machine (S.input stdio.old) (S.output stdio.old) (C.readings clock.old) (La.launches launcher.old)) (exit_number result)
+        (machine (S.input stdio.new) (S.output stdio.new) (C.readings clock.new) (La.launches launcher.new)) }
     ensures keys { keys.new ≡ keys.old }
     ensures dice { dice.new ≡ dice.old }
 {
@@ -117,10 +117,10 @@ fn serve<S: Link, C: Clock, La: Launcher, K: Keys, R: Dice>(
     dice: &mut R,
 ) -> Status
     requires desk { seen C.readings desk.old ≡ fresh_desk (limits_of rules.now) (C.readings desk.old.clock) }
-    requires pinentry { at_pinentry La.launches pinentry.old ≡ no_child (La.launches pinentry.old.launcher) }
+    requires pinentry { at_pinentry La.launches pinentry.old ≡ no_child rules.now (La.launches pinentry.old.launcher) }
     ensures runs { RunsServer rules.now
-        (outside (S.input stdio.old) (S.output stdio.old) (C.readings desk.old.clock) (La.launches pinentry.old.launcher)) (number_of result)
-        (outside (S.input stdio.new) (S.output stdio.new) (C.readings desk.new.clock) (La.launches pinentry.new.launcher)) }
+        (machine (S.input stdio.old) (S.output stdio.old) (C.readings desk.old.clock) (La.launches pinentry.old.launcher)) (exit_number result)
+        (machine (S.input stdio.new) (S.output stdio.new) (C.readings desk.new.clock) (La.launches pinentry.new.launcher)) }
     ensures lent { desk.new.lent ≡ desk.old.lent }
     ensures launcher { pinentry.new.lent ≡ pinentry.old.lent }
     ensures childless { is_some pinentry.new.child ≡ false }
@@ -130,7 +130,9 @@ fn serve<S: Link, C: Clock, La: Launcher, K: Keys, R: Dice>(
     Status::of(serve_session(alloc, rules, stdio, desk, pinentry, keys, dice))
 }
 
-fn copied(word: &Word) -> Word {
+fn copied(word: &Word) -> Word
+    ensures { result.items ≡ word.now.items }
+{
     let mut copy = Word::new();
     copy.try_extend_from_slice(word).unwrap();
     copy

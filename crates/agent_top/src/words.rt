@@ -3,7 +3,7 @@ ghost use Rattle.std.specs.Result.{result_ok};
 ghost use Rattle.agent_top.specs.Forms.{form_of, number_or, path_or};
 ghost use Rattle.agent_top.specs.Settings.{settings};
 ghost use Rattle.agent_top.specs.Within.{IsWithin};
-ghost use Rattle.agent_top.specs.Words.{rules_of, rules_from, rules_with, run_of, if_built};
+ghost use Rattle.agent_top.specs.Words.{rules_of, rules_from, rules_with, run_of, if_extra_fits, if_built};
 
 mod forms;
 mod settings;
@@ -38,7 +38,20 @@ impl Error for WordsFault {}
 pub fn read_words(words: &[String]) -> Result<Rules, WordsFault>
     ensures { result_ok result ≡ rules_of (map string_bytes words.now) }
 {
-    rules_from(words).and_then(if_built).ok_or(WordsFault::Bad)
+    rules_from(words)
+        .and_then(if_extra_fits)
+        .and_then(if_built)
+        .ok_or(WordsFault::Bad)
+}
+
+/// The rules, where a socket for restricted sessions is asked for by a daemon alone.
+fn if_extra_fits(rules: Rules) -> Option<Rules>
+    ensures { result ≡ if_extra_fits rules }
+{
+    if rules.extra && rules.run != RunMode::Daemon {
+        return None;
+    }
+    Some(rules)
 }
 
 /// The rules, where what they ask for is built. A daemon and a load aren't yet.
@@ -92,6 +105,7 @@ fn rules_with(words: &[String], run: RunMode) -> Rules
         ) as u8,
         allow_preset: is_given(words, "--allow-preset-passphrase"),
         allow_loopback: !is_given(words, "--no-allow-loopback-pinentry"),
+        extra: is_given(words, "--extra-socket"),
         s2k_count: number_or(words, "--s2k-count", usual.s2k_count),
         pinentry: path_or(words, "--pinentry-program", &usual.pinentry),
         homedir: path_or(words, "--homedir", &usual.homedir),

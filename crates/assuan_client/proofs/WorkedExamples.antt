@@ -1,28 +1,46 @@
--- The forms of the lines of worked dialogues.
-use Rattle.std.proofs.Common.{◌≡◌, refl}
-use Rattle.std.specs.Prelude.{codes}
-use Rattle.assuan_client.specs.Forms.{form_of, Data, Note, Ok, Err, Inquiry, Foreign}
+-- The forms of the lines of worked dialogues, and how much of them is skipped at most.
+use Rattle.std.proofs.Common.{◌≡◌, [], refl}
+use Rattle.std.specs.Prelude.{codes, replicate, true, false}
+use Rattle.assuan_client.specs.Forms.{line_form, Data, Note, Ok, Err, Inquiry, Foreign}
+use Rattle.assuan_client.specs.Skipping.{skips}
 
-greeting : form_of (codes "OK Pleased to meet you") ≡ Ok
+greeting : line_form (codes "OK Pleased to meet you") ≡ Ok
 greeting = refl
 
-other_greeting : form_of (codes "HELLO") ≡ Foreign
+other_greeting : line_form (codes "HELLO") ≡ Foreign
 other_greeting = refl
 
-number : form_of (codes "D 7") ≡ Data
+number : line_form (codes "D 7") ≡ Data
 number = refl
 
-inquiry : form_of (codes "INQUIRE OTHER x y") ≡ Inquiry (codes "OTHER") (codes "x y")
+inquiry : line_form (codes "INQUIRE OTHER x y") ≡ Inquiry (codes "OTHER") (codes "x y")
 inquiry = refl
 
-cancelled : form_of (codes "ERR 83886179 Operation cancelled <Pinentry>") ≡ Err 83886179
+cancelled : line_form (codes "ERR 83886179 Operation cancelled <Pinentry>") ≡ Err 83886179
 cancelled = refl
 
-too_large : form_of (codes "ERR 4294967296") ≡ Foreign
+largest : line_form (codes "ERR 4294967295") ≡ Err 4294967295
+largest = refl
+
+too_large : line_form (codes "ERR 4294967296") ≡ Foreign
 too_large = refl
 
-status : form_of (codes "S PROGRESS x") ≡ Note
+status : line_form (codes "S PROGRESS x") ≡ Note
 status = refl
 
-empty : form_of (codes "") ≡ Foreign
+empty : line_form (codes "") ≡ Foreign
 empty = refl
+
+-- the 255th byte and the one behind it
+last_byte : skips (record { notes = 0; bytes = replicate 254 97 }) Data 1 ≡ true
+last_byte = refl
+
+one_byte_more : skips (record { notes = 0; bytes = replicate 255 97 }) Data 1 ≡ false
+one_byte_more = refl
+
+-- the 10,000th note and the one behind it
+last_note : skips (record { notes = 9999; bytes = [] }) Note 0 ≡ true
+last_note = refl
+
+one_note_more : skips (record { notes = 10000; bytes = [] }) Note 0 ≡ false
+one_note_more = refl

@@ -1,6 +1,6 @@
 -- The forms of a server's lines, as the Assuan manual has them ("server responses"). That a tab counts as a blank, and that an error's
 -- number has 1 to 10 digits and is below 2^32, is this project's own rule.
-use Rattle.std.specs.Prelude.{ℕ, ◌==◌, List, length, codes, slice_index, nat_lt, Option, Some, None, if◌then◌else◌}
+use Rattle.std.specs.Prelude.{ℕ, ◌==◌, ◌^◌, List, length, codes, slice_index, nat_lt, Option, Some, None, if◌then◌else◌}
 use Rattle.std.specs.List.{before_first, after_first}
 use Rattle.std.specs.Str.{bytes_eq}
 use Rattle.assuan_text.specs.Blanks.{is_blank}
@@ -32,7 +32,7 @@ text_of line = after_first is_blank line
 
 -- an error of this number, where it is one below 2^32
 abbrev pub error_of : Option ℕ → Form
-error_of (Some number) = if nat_lt number 4294967296 then Err number else Foreign
+error_of (Some number) = if nat_lt number (2 ^ 32) then Err number else Foreign
 error_of None = Foreign
 
 -- an inquiry, by a word that isn't empty
@@ -48,8 +48,8 @@ form_by word text =
     else if bytes_eq word (codes "INQUIRE") then inquiry_of (word_of text) (text_of text)
     else Foreign
 
-abbrev pub form_of : List ℕ → Form
-form_of line =
+abbrev pub line_form : List ℕ → Form
+line_form line =
     if is_data line then Data
     else if slice_index line 0 == 35 then Note
     else form_by (word_of line) (text_of line)

@@ -1,7 +1,7 @@
 -- What a client writes (Assuan manual, "client requests"), and what comes of it.
-use Rattle.std.specs.Prelude.{◌≡◌, ◌≢◌, ◌≤◌, ℕ, List, ◌++◌, codes, Result, Ok, Err}
-use Rattle.agent_ports.specs.Counts.{Rose}
-use Rattle.agent_ports.specs.Sides.{Side, with_bytes}
+use Rattle.std.specs.Prelude.{◌≡◌, ◌≢◌, ◌≤◌, ℕ, List, ◌++◌, codes}
+use Rattle.agent_ports.specs.Sides.{with_bytes}
+use Rattle.agent_ports.specs.Writing.{StopsWriting}
 use Rattle.assuan_escape.specs.DataLines.{AreData, data_text}
 use Rattle.assuan_text.specs.LineEnds.{line_of}
 use Rattle.assuan_client.specs.Answers.{ReadOn, state_after}
@@ -9,7 +9,6 @@ use Rattle.assuan_client.specs.Connections.{Connection}
 use Rattle.assuan_client.specs.Skipping.{Tally, nothing}
 use Rattle.assuan_client.specs.declared.answer.Answer.{Answer}
 use Rattle.assuan_client.specs.declared.answer.Answer.TheVariants.{WriteFault}
-use Rattle.assuan_client.specs.declared.«data».Unsent.{Unsent}
 
 -- the data lines of these pieces, and the line that ends them
 abbrev pub reply_text : List (List ℕ) → List ℕ
@@ -17,19 +16,6 @@ reply_text pieces = data_text pieces ++ line_of (codes "END")
 
 abbrev pub cancel_text : List ℕ
 cancel_text = line_of (codes "CAN")
-
--- some first ones of these bytes were written, and then a write failed
-pub record IsCutOff (bytes : List ℕ) (before after : Side) : Type 0 where
-  pub sent : List ℕ
-  pub unsent : List ℕ
-  pub split : bytes ≡ sent ++ unsent
-  pub written : after.bytes ≡ with_bytes before.bytes sent
-  pub rose : Rose before.faults after.faults
-
--- a call wrote these bytes, or some first ones of them
-abbrev pub HasPut : List ℕ → Side → Result (Unit {0}) Unsent → Side → Type 0
-HasPut bytes before (Ok done) after = (after.bytes ≡ with_bytes before.bytes bytes) × (before.faults ≤ after.faults)
-HasPut bytes before (Err unsent) after = IsCutOff bytes before after
 
 -- the bytes were written, and answered
 pub record IsAnswered (bytes : List ℕ) (tally : Tally) (answer : Answer) (before after : Connection) : Type 0 where
@@ -39,7 +25,7 @@ pub record IsAnswered (bytes : List ℕ) (tally : Tally) (answer : Answer) (befo
 
 -- the bytes weren't written whole, and nothing was read
 pub record IsUnanswered (bytes : List ℕ) (before after : Connection) : Type 0 where
-  pub cut : IsCutOff bytes before.output after.output
+  pub cut : StopsWriting bytes before.output after.output
   pub input : after.input ≡ before.input
   pub reader : after.reader ≡ before.reader
   pub cleared : after.tally ≡ nothing

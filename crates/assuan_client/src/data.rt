@@ -1,21 +1,18 @@
 ghost use Rattle.std.specs.Prelude.{◌≡◌, List, ℕ};
+ghost use Rattle.agent_ports.specs.Writing.{Writes};
 ghost use Rattle.assuan_escape.specs.DataLines.{AreData, data_text};
 ghost use Rattle.assuan_line.specs.Lines.{IsLine};
 ghost use Rattle.assuan_text.specs.LineEnds.{line_of};
-ghost use Rattle.assuan_client.specs.Writing.{HasPut, reply_text};
+ghost use Rattle.assuan_client.specs.Writing.{reply_text};
 
-use agent_ports::{Sent, Sink};
+use agent_ports::{Sink, WriteFault};
 use assuan_escape::full_line;
 use assuan_line::write_text;
 
-/// A write failed, and some first bytes of it went.
-#[derive(Drop)]
-pub(crate) struct Unsent;
-
 /// Writes the bytes as data lines, each as full as no cut escape allows, and `END`.
-pub(crate) fn send_reply<K: Sink>(sink: &mut K, bytes: &[u8]) -> Result<(), Unsent>
+pub(crate) fn send_reply<K: Sink>(sink: &mut K, bytes: &[u8]) -> Result<(), WriteFault>
     ensures put { (pieces : List (List ℕ)) × AreData bytes.now pieces
-        × HasPut (reply_text pieces) (K.output sink.old) result (K.output sink.new) }
+        × Writes (reply_text pieces) (K.output sink.old) result (K.output sink.new) }
     ensures beside { K.beside_output sink.new ≡ K.beside_output sink.old }
 {
     send_data(sink, bytes)?;
@@ -23,9 +20,9 @@ pub(crate) fn send_reply<K: Sink>(sink: &mut K, bytes: &[u8]) -> Result<(), Unse
 }
 
 /// Writes the bytes as data lines.
-fn send_data<K: Sink>(sink: &mut K, bytes: &[u8]) -> Result<(), Unsent>
+fn send_data<K: Sink>(sink: &mut K, bytes: &[u8]) -> Result<(), WriteFault>
     ensures put { (pieces : List (List ℕ)) × AreData bytes.now pieces
-        × HasPut (data_text pieces) (K.output sink.old) result (K.output sink.new) }
+        × Writes (data_text pieces) (K.output sink.old) result (K.output sink.new) }
     ensures beside { K.beside_output sink.new ≡ K.beside_output sink.old }
 {
     let mut rest = bytes;
@@ -40,13 +37,10 @@ fn send_data<K: Sink>(sink: &mut K, bytes: &[u8]) -> Result<(), Unsent>
 }
 
 /// Writes one line.
-pub(crate) fn send_line<K: Sink>(sink: &mut K, text: &[u8]) -> Result<(), Unsent>
+pub(crate) fn send_line<K: Sink>(sink: &mut K, text: &[u8]) -> Result<(), WriteFault>
     requires { IsLine text.now }
-    ensures put { HasPut (line_of text.now) (K.output sink.old) result (K.output sink.new) }
+    ensures put { Writes (line_of text.now) (K.output sink.old) result (K.output sink.new) }
     ensures beside { K.beside_output sink.new ≡ K.beside_output sink.old }
 {
-    match write_text(sink, &[text]) {
-        Sent::All => Ok(()),
-        Sent::Failed { .. } => Err(Unsent),
-    }
+    write_text(sink, &[text]).whole()
 }

@@ -8,3 +8,4 @@ pub mod ReadingOn
 pub mod Sending
 mod SkippedLines
 mod Slices
+mod WorkedExamples

@@ -3,6 +3,7 @@ use Rattle.std.proofs.Common.{◌≡◌, ◌≤◌, ℕ, List, length, take, dro
 use Rattle.std.proofs.lemmas.List.{take-append-drop, length-take-le}
 use Rattle.agent_ports.specs.Counts.{Rose}
 use Rattle.agent_ports.specs.Sides.{Side, with_bytes, sent_part, IfCut, IsCut}
+use Rattle.agent_ports.specs.Writing.{Writes, whole_of}
 use Rattle.agent_ports.specs.declared.link.Sent.{Sent}
 use Rattle.agent_ports.specs.declared.link.Sent.TheVariants.{All, Failed}
 use Rattle.assuan_line.specs.Written.{HasSent}
@@ -11,10 +12,17 @@ pub has_sent : (bytes : List ℕ) (before after : Side) (sent : Sent) → length
     → after.bytes ≡ with_bytes before.bytes (sent_part bytes sent) → (IsCut sent → Rose before.faults after.faults) → HasSent bytes before sent after
 has_sent bytes before after All short cut written failed = written
 has_sent bytes before after (Failed count) short cut written failed = record {
-  sent = take count bytes;
-  unsent = drop count bytes;
-  split = sym (take-append-drop count bytes);
-  written = written;
+  stopped = record {
+    sent = take count bytes;
+    unsent = drop count bytes;
+    split = sym (take-append-drop count bytes);
+    written = written;
+    rose = failed tt;
+  };
   counted = omega (arith, length-take-le count bytes cut);
-  rose = failed tt;
 }
+
+-- what became of a write, without the count
+pub sent_whole : {text : List ℕ} {before after : Side} (sent : Sent) → HasSent text before sent after → before.faults ≤ after.faults → Writes text before (whole_of sent) after
+sent_whole All went faults = record { went = went; faults = faults }
+sent_whole (Failed count) cut faults = record { went = cut.stopped; faults = faults }

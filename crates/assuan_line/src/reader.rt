@@ -100,9 +100,8 @@ impl LineReader {
         }
     }
 
-    /// A reader that takes at most `budget` bytes, and holds them as one does that found no memory.
-    #[cfg(test)]
-    pub(crate) fn without_memory(budget: u64) -> Self
+    /// A reader that takes at most `budget` bytes and no memory: it reads as one of `new` does where there is none for its ring.
+    pub fn without_memory(budget: u64) -> Self
         ensures { result ≡ record { ahead = []; left = budget; ended = None } }
     {
         LineReader {

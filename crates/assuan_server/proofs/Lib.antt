@@ -2,3 +2,5 @@ mod ErrorLines
 mod Inquiring
 mod OnlyOutcome
 mod Writing
+pub mod Reading
+mod StillOpen

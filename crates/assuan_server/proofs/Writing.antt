@@ -9,7 +9,7 @@ use Rattle.agent_ports.specs.declared.link.Sent.TheVariants.{All as Whole, Faile
 use Rattle.assuan_server.specs.Connections.{Connection}
 use Rattle.assuan_escape.specs.DataLines.{data_line, AreData, data_text}
 use Rattle.assuan_text.specs.LineEnds.{line_of}
-use Rattle.assuan_line.specs.Written.{HasCut}
+use Rattle.agent_ports.specs.Writing.{StopsWriting}
 use Rattle.assuan_server.specs.Written.{HasWritten, WritesData}
 
 -- the lines so far: whatever pieces the rest is sent in, they complete these
@@ -80,7 +80,7 @@ module _ (bytes : List ℕ) (before now : Connection) (rest : List ℕ) (sent : 
         → HasWritten (line_of (data_line (take count rest))) now (Failed part) after
         → WritesData bytes before (Err (min (sent + part) (2 ^ 64 - 1))) after
     written_cut part later wrote =
-        let cut : HasCut (line_of (data_line (take count rest))) now.output part after.output = wrote.output in
+        let cut : StopsWriting (line_of (data_line (take count rest))) now.output after.output = wrote.output.stopped in
         let whole : data_text (writing.done ++ take count rest ∷ later.0) ≡ (data_text writing.done ++ cut.sent) ++ (cut.unsent ++ data_text later.0) =
         flat_map-append (λ (piece : List ℕ). line_of (data_line piece)) writing.done (take count rest ∷ later.0)
         ∙ ap (λ (x : List ℕ). data_text writing.done ++ (x ++ data_text later.0)) cut.split
@@ -90,12 +90,14 @@ module _ (bytes : List ℕ) (before now : Connection) (rest : List ℕ) (sent : 
           are_data = writing.completes (take count rest ∷ later.0) (first later.0 later.1);
           written = record {
             output = record {
-              sent = data_text writing.done ++ cut.sent;
-              unsent = cut.unsent ++ data_text later.0;
-              split = whole;
-              written = cut.written ∙ ap (λ (o : Option (List ℕ)). with_bytes o cut.sent) writing.output ∙ with_bytes-append before.output.bytes (data_text writing.done) cut.sent;
-              counted = omega (arith, writing.counted, cut.counted, length-append (data_text writing.done) cut.sent);
-              rose = omega (arith, cut.rose, writing.faults);
+              stopped = record {
+                sent = data_text writing.done ++ cut.sent;
+                unsent = cut.unsent ++ data_text later.0;
+                split = whole;
+                written = cut.written ∙ ap (λ (o : Option (List ℕ)). with_bytes o cut.sent) writing.output ∙ with_bytes-append before.output.bytes (data_text writing.done) cut.sent;
+                rose = omega (arith, cut.rose, writing.faults);
+              };
+              counted = omega (arith, writing.counted, wrote.output.counted, length-append (data_text writing.done) cut.sent);
             };
             faults = omega (arith, writing.faults, wrote.faults);
             input = wrote.input ∙ writing.input;
@@ -109,18 +111,41 @@ module _ (bytes : List ℕ) (before now : Connection) (rest : List ℕ) (sent : 
 pub cut_after : (first second : List ℕ) (before mid after : Connection) (count part : ℕ) → HasWritten first before Whole mid → count ≡ min (length first) (2 ^ 64 - 1)
     → HasWritten second mid (Failed part) after → HasWritten (first ++ second) before (Failed (min (count + part) (2 ^ 64 - 1))) after
 cut_after first second before mid after count part one counts two =
-    let cut : HasCut second mid.output part after.output = two.output in
+    let cut : StopsWriting second mid.output after.output = two.output.stopped in
     record {
       output = record {
-        sent = first ++ cut.sent;
-        unsent = cut.unsent;
-        split = ap (λ (x : List ℕ). first ++ x) cut.split ∙ sym (append_assoc first cut.sent cut.unsent);
-        written = cut.written ∙ ap (λ (o : Option (List ℕ)). with_bytes o cut.sent) one.output ∙ with_bytes-append before.output.bytes first cut.sent;
-        counted = omega (arith, counts, cut.counted, length-append first cut.sent);
-        rose = omega (arith, cut.rose, one.faults);
+        stopped = record {
+          sent = first ++ cut.sent;
+          unsent = cut.unsent;
+          split = ap (λ (x : List ℕ). first ++ x) cut.split ∙ sym (append_assoc first cut.sent cut.unsent);
+          written = cut.written ∙ ap (λ (o : Option (List ℕ)). with_bytes o cut.sent) one.output ∙ with_bytes-append before.output.bytes first cut.sent;
+          rose = omega (arith, cut.rose, one.faults);
+        };
+        counted = omega (arith, counts, two.output.counted, length-append first cut.sent);
       };
       faults = omega (arith, one.faults, two.faults);
       input = two.input ∙ one.input;
       reader = two.reader ∙ one.reader;
       link = two.link ∙ one.link;
+    }
+
+-- the write of the first of two texts stopped
+pub cut_within : (first second : List ℕ) (before after : Connection) (part : ℕ) → HasWritten first before (Failed part) after → HasWritten (first ++ second) before (Failed part) after
+cut_within first second before after part one =
+    let cut : StopsWriting first before.output after.output = one.output.stopped in
+    record {
+      output = record {
+        stopped = record {
+          sent = cut.sent;
+          unsent = cut.unsent ++ second;
+          split = ap (λ (x : List ℕ). x ++ second) cut.split ∙ append_assoc cut.sent cut.unsent second;
+          written = cut.written;
+          rose = cut.rose;
+        };
+        counted = one.output.counted;
+      };
+      faults = one.faults;
+      input = one.input;
+      reader = one.reader;
+      link = one.link;
     }

@@ -4,5 +4,6 @@ pub mod Connections
 pub mod Errors
 pub mod Failures
 pub mod Inquiries
+pub mod Reading
 pub mod Requests
 pub mod Written

@@ -61,6 +61,17 @@ impl<'a, L: Link> Conn<'a, L> {
         }
     }
 
+    /// A connection over this link as `new` makes it where it finds no memory.
+    #[cfg(test)]
+    pub(crate) fn without_memory(link: &'a mut L, budget: u64) -> Self
+        ensures reader { result.reader ≡ record { ahead = []; left = budget; ended = None } }
+    {
+        Conn {
+            link,
+            reader: LineReader::without_memory(budget),
+        }
+    }
+
     /// Gives the link back. A caller whose own contract speaks of the link ends a connection so: what the connection did is
     /// then known of the link.
     pub fn into_link(self) -> &'a mut L

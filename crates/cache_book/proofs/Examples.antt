@@ -72,13 +72,13 @@ hidden_whole : shown (put User Endless 0 ∷ put Any Default 5 ∷ []) 5 ≡ slo
 hidden_whole = refl
 
 -- a use counts up to the greatest age
-used : shown (put Any Default 0 ∷ mark (Ask name User Quiet) (Given 0) 600 ∷ []) 1200 ≡ slot (entry 0 Any Default 0) 600 all_modes ∷ []
+used : shown (put Any Default 0 ∷ mark (Ask name User Quiet None) (Given 0) 600 ∷ []) 1200 ≡ slot (entry 0 Any Default 0) 600 all_modes ∷ []
 used = refl
 
-used_up : shown (put Any Default 0 ∷ mark (Ask name User Quiet) (Given 0) 600 ∷ []) 1201 ≡ []
+used_up : shown (put Any Default 0 ∷ mark (Ask name User Quiet None) (Given 0) 600 ∷ []) 1201 ≡ []
 used_up = refl
 
-too_old : shown (put Any Endless 0 ∷ mark (Ask name User Quiet) (Given 0) 7200 ∷ []) 7201 ≡ []
+too_old : shown (put Any Endless 0 ∷ mark (Ask name User Quiet None) (Given 0) 7200 ∷ []) 7201 ≡ []
 too_old = refl
 
 flushed : shown (put Any Endless 0 ∷ mark Flush Done 0 ∷ put User Default 1 ∷ []) 1 ≡ slot (entry 2 User Default 1) 1 user_alone ∷ []

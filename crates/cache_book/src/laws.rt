@@ -1,4 +1,4 @@
-ghost use Rattle.std.specs.Prelude.{◌≡◌, ℕ, ◌≤◌, List, [], ◌∷◌, false, None, Some};
+ghost use Rattle.std.specs.Prelude.{◌≡◌, ℕ, ◌≤◌, List, [], ◌∷◌, false, Option, None, Some};
 ghost use Rattle.cache_policy.specs.declared.life.Limits.{Limits};
 ghost use Rattle.cache_policy.specs.declared.mode.Mode.{Mode};
 ghost use Rattle.cache_policy.specs.declared.mark.Mark.{Mark};
@@ -23,7 +23,7 @@ pub fn slots_of_a_history()
     ensures same { (limits : Limits) (history : History) (mark : Mark) (moment : ℕ) → stored limits history mark.step mark.moment ≡ []
         → ((entry : Entry) → takes_away entry mark.step ≡ false) → ((number : ℕ) → gives number mark.reply ≡ false)
         → slots limits (with_mark history mark) moment ≡ slots limits history moment }
-    ensures given { (limits : Limits) (history : History) (mark : Mark) (id : List ℕ) (mode : Mode) (way : Way) (entry : Entry) → mark.step ≡ Ask id mode way
+    ensures given { (limits : Limits) (history : History) (mark : Mark) (id : List ℕ) (mode : Mode) (way : Way) (since : Option ℕ) (entry : Entry) → mark.step ≡ Ask id mode way since
         → live limits history id mode mark.moment ≡ Some entry → mark.reply ≡ Given entry.number
         → slots limits (with_mark history mark) mark.moment ≡ touched entry.number mark.moment (slots limits history mark.moment) }
     ensures stored { (limits : Limits) (history : History) (mark : Mark) (entry : Entry) → IsLegal limits history

@@ -1,5 +1,5 @@
 -- The policy reads no byte of a secret: seat, entries, live and replies are those of the history without them.
-use Rattle.std.specs.Prelude.{◌≡◌, ℕ, ◌+◌, ◌-◌, List, [], ◌∷◌, ◌++◌, length, map, drop, reverse, find, filter, fold, max, Bool, true, false, not, ◌&&◌, ◌||◌, Option, Some, None, refl, cond, if◌then◌else◌}
+use Rattle.std.specs.Prelude.{◌≡◌, ℕ, ◌+◌, ◌-◌, List, [], ◌∷◌, ◌++◌, length, map, reverse, find, filter, fold, max, Bool, true, false, not, ◌&&◌, ◌||◌, Option, Some, None, refl, cond, if◌then◌else◌}
 use Rattle.std.proofs.Common.{ap, sym, ◌∙◌, subst, arith, inl, inr, suc}
 use Rattle.std.proofs.lemmas.List.{map-append, drop-map}
 use Rattle.std.specs.List.{list_any}
@@ -24,6 +24,7 @@ use Rattle.cache_policy.specs.Entries.{entry_of, kept_under, kept, stored, entri
 use Rattle.cache_policy.specs.Seat.{under_of, is_open, gives_back, is_stop, last_open, unless_back, seat, stopped}
 use Rattle.cache_policy.specs.Live.{newest, takes_away, gone, gives, last_use, is_live, live}
 use Rattle.cache_policy.specs.Policy.{Reply, policy, prompt_ruling, ask_ruling}
+use Rattle.cache_policy.specs.Waits.{is_late}
 use Rattle.cache_policy.specs.Legal.{FollowsPolicy, NeverFall, IsLegal}
 use Rattle.cache_policy.specs.Bare.{bare_step, bare_mark, bare, bare_entry}
 use Rattle.cache_policy.proofs.Lists.{map-reverse, find-map}
@@ -45,8 +46,8 @@ length-bare [] = refl
 length-bare (mark ∷ later) = ap (λ (n : ℕ). suc n) (length-bare later)
 
 under_bare : (asked : MarkStep) → under_of (bare_step asked) ≡ under_of asked
-under_bare (Ask id mode way) = refl
-under_bare (Seat under) = refl
+under_bare (Ask id mode way since) = refl
+under_bare (Seat under since) = refl
 under_bare (Close ticket keep) = refl
 under_bare (Put id mode life secret) = refl
 under_bare (Clear id mode) = refl
@@ -55,8 +56,8 @@ under_bare (Peek id mode) = refl
 under_bare Stop = refl
 
 back_bare : (ticket : ℕ) (asked : MarkStep) → gives_back ticket (bare_step asked) ≡ gives_back ticket asked
-back_bare ticket (Ask id mode way) = refl
-back_bare ticket (Seat under) = refl
+back_bare ticket (Ask id mode way since) = refl
+back_bare ticket (Seat under since) = refl
 back_bare ticket (Close other keep) = refl
 back_bare ticket (Put id mode life secret) = refl
 back_bare ticket (Clear id mode) = refl
@@ -65,8 +66,8 @@ back_bare ticket (Peek id mode) = refl
 back_bare ticket Stop = refl
 
 stop_bare : (asked : MarkStep) → is_stop (bare_step asked) ≡ is_stop asked
-stop_bare (Ask id mode way) = refl
-stop_bare (Seat under) = refl
+stop_bare (Ask id mode way since) = refl
+stop_bare (Seat under since) = refl
 stop_bare (Close ticket keep) = refl
 stop_bare (Put id mode life secret) = refl
 stop_bare (Clear id mode) = refl
@@ -75,8 +76,8 @@ stop_bare (Peek id mode) = refl
 stop_bare Stop = refl
 
 away_bare : (entry : Entry) (asked : MarkStep) → takes_away (bare_entry entry) (bare_step asked) ≡ takes_away entry asked
-away_bare entry (Ask id mode way) = refl
-away_bare entry (Seat under) = refl
+away_bare entry (Ask id mode way since) = refl
+away_bare entry (Seat under since) = refl
 away_bare entry (Close ticket keep) = refl
 away_bare entry (Put id mode life secret) = refl
 away_bare entry (Clear id mode) = refl
@@ -141,8 +142,8 @@ stored-bare limits before (Close ticket keep) moment =
     ap (λ (n : ℕ). kept limits n moment (kept_under (seat (bare before)) ticket) (option_map (λ secret. []) keep)) (next_number-bare before)
     ∙ ap (λ (held : Option Held). kept limits (next_number before) moment (kept_under held ticket) (option_map (λ secret. []) keep)) (seat-bare before)
     ∙ kept-bare limits (next_number before) moment (kept_under (seat before) ticket) keep
-stored-bare limits before (Ask id mode way) moment = refl
-stored-bare limits before (Seat under) moment = refl
+stored-bare limits before (Ask id mode way since) moment = refl
+stored-bare limits before (Seat under since) moment = refl
 stored-bare limits before (Clear id mode) moment = refl
 stored-bare limits before Flush moment = refl
 stored-bare limits before (Peek id mode) moment = refl
@@ -198,19 +199,21 @@ live-bare limits history id mode moment =
 -- a step is ruled as it is without the bytes of secrets
 pub policy-bare : (limits : Limits) (history : History) (asked : MarkStep) (moment : ℕ)
     → policy limits (bare history) (bare_step asked) moment ≡ policy limits history asked moment
-policy-bare limits history (Ask id mode way) moment =
-    ap (λ (o : Option Entry). ask_ruling o way (stopped (bare history)) (seat (bare history))) (live-bare limits history id mode moment)
-    ∙ ap (λ (stops : Bool). ask_ruling (option_map bare_entry (live limits history id mode moment)) way stops (seat (bare history))) (stopped-bare history)
-    ∙ ap (λ (held : Option Held). ask_ruling (option_map bare_entry (live limits history id mode moment)) way (stopped history) held) (seat-bare history)
+policy-bare limits history (Ask id mode way since) moment =
+    ap (λ (o : Option Entry). ask_ruling o way (stopped (bare history)) (seat (bare history)) (is_late since moment)) (live-bare limits history id mode moment)
+    ∙ ap (λ (stops : Bool). ask_ruling (option_map bare_entry (live limits history id mode moment)) way stops (seat (bare history)) (is_late since moment)) (stopped-bare history)
+    ∙ ap (λ (held : Option Held). ask_ruling (option_map bare_entry (live limits history id mode moment)) way (stopped history) held (is_late since moment)) (seat-bare history)
     ∙ by_number (live limits history id mode moment) way
   where
     by_number : (o : Option Entry) (way : Way)
-        → ask_ruling (option_map bare_entry o) way (stopped history) (seat history) ≡ ask_ruling o way (stopped history) (seat history)
+        → ask_ruling (option_map bare_entry o) way (stopped history) (seat history) (is_late since moment)
+        ≡ ask_ruling o way (stopped history) (seat history) (is_late since moment)
     by_number None Quiet = refl
     by_number None Prompt = refl
     by_number (Some entry) way = refl
-policy-bare limits history (Seat under) moment =
-    ap (λ (stops : Bool). prompt_ruling stops (seat (bare history))) (stopped-bare history) ∙ ap (prompt_ruling (stopped history)) (seat-bare history)
+policy-bare limits history (Seat under since) moment =
+    ap (λ (stops : Bool). prompt_ruling stops (seat (bare history)) (is_late since moment)) (stopped-bare history)
+    ∙ ap (λ (held : Option Held). prompt_ruling (stopped history) held (is_late since moment)) (seat-bare history)
 policy-bare limits history (Peek id mode) moment =
     ap (λ (o : Option Entry). Reply (WhetherHeld (is_some o))) (live-bare limits history id mode moment)
     ∙ elim (live limits history id mode moment) as (λ o. Reply (WhetherHeld (is_some (option_map bare_entry o))) ≡ Reply (WhetherHeld (is_some o))) [ Some entry ↦ refl | None ↦ refl ]

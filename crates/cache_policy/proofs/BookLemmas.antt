@@ -26,8 +26,8 @@ use Rattle.cache_policy.proofs.EntriesLemmas.{entries-with_mark}
 -- a put is a put or an ask
 put_is_either : (step : MarkStep) → is_put step ≡ true → is_put_or_ask step ≡ true
 put_is_either (Put id mode life secret) h = refl
-put_is_either (Ask id mode way) h = refl
-put_is_either (Seat under) h = cc
+put_is_either (Ask id mode way since) h = refl
+put_is_either (Seat under since) h = cc
 put_is_either (Close ticket keep) h = cc
 put_is_either (Clear id mode) h = cc
 put_is_either Flush h = cc
@@ -37,8 +37,8 @@ put_is_either Stop h = cc
 -- a put or an ask takes nothing away
 takes_nothing : (entry : Entry) (step : MarkStep) → is_put_or_ask step ≡ true → takes_away entry step ≡ false
 takes_nothing entry (Put id mode life secret) h = refl
-takes_nothing entry (Ask id mode way) h = refl
-takes_nothing entry (Seat under) h = refl
+takes_nothing entry (Ask id mode way since) h = refl
+takes_nothing entry (Seat under since) h = refl
 takes_nothing entry (Close ticket keep) h = refl
 takes_nothing entry (Clear id mode) h = cc
 takes_nothing entry Flush h = cc
@@ -210,13 +210,13 @@ endless_book_of-after_put limits history book session moment id mode life secret
 
 -- and after an ask, which leaves the book alone
 pub endless_book_of-ask : (limits : Limits) (history : History) (book : Book) (session : SessionId) (moment : ℕ)
-    (id : List ℕ) (mode : Mode) (way : Way) (reply : MarkReply) →
+    (id : List ℕ) (mode : Mode) (way : Way) (since : Option ℕ) (reply : MarkReply) →
     IsEndlessBookOf limits history book → IsEndlessBookOf limits (with_mark history
-    (ask_mark session moment id mode way reply)) book
-endless_book_of-ask limits history book session moment id mode way reply h = record {
-  steps = all_append IsPutOrAsk history.marks (ask_mark session moment id mode way reply ∷ []) h.steps (refl, tt);
+    (ask_mark session moment id mode way since reply)) book
+endless_book_of-ask limits history book session moment id mode way since reply h = record {
+  steps = all_append IsPutOrAsk history.marks (ask_mark session moment id mode way since reply ∷ []) h.steps (refl, tt);
   endless = h.endless;
-  same = ap (map unnumbered) (entries-with_mark limits history (ask_mark session moment id mode way reply)
+  same = ap (map unnumbered) (entries-with_mark limits history (ask_mark session moment id mode way since reply)
       ∙ append-nil (entries limits history)) ∙ h.same;
 }
 

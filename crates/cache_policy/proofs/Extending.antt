@@ -1,6 +1,6 @@
 -- Turns at a desk extend its run.
-use Rattle.std.proofs.Common.{◌≡◌, List, [], ◌∷◌, ◌++◌, Bool, Option, Some, None, true, false, nat_eq, ◌&&◌, cond, eq-eqb, refl, sym, ◌∙◌, ap, subst, append-nil, append_assoc}
-use Rattle.std.specs.List.{filter, AllByRecursion}
+use Rattle.std.proofs.Common.{◌≡◌, ℕ, List, [], ◌∷◌, ◌++◌, Bool, Option, Some, None, true, cond, eq-eqb, refl, sym, ◌∙◌, ap, subst, append-nil, append_assoc}
+use Rattle.std.specs.List.{filter}
 use Rattle.std.proofs.lemmas.List.Elements.{filter-append}
 use Rattle.agent_ports.specs.declared.session.SessionId.{SessionId}
 use Rattle.agent_ports.specs.Leads.{Leads, none as stay, one}
@@ -8,7 +8,7 @@ use Rattle.cache_policy.specs.declared.life.Limits.{Limits}
 use Rattle.cache_policy.specs.declared.mark.Mark.{Mark}
 use Rattle.cache_policy.specs.declared.mark.MarkStep.{MarkStep}
 use Rattle.cache_policy.specs.Histories.{History}
-use Rattle.cache_policy.specs.Runs.{joined, Extends}
+use Rattle.cache_policy.specs.Runs.{joined}
 use Rattle.cache_policy.specs.Turns.{Turn}
 use Rattle.cache_policy.specs.Desks.{AtDesk, is_of, MakesMarks, marked, refused, spent, GoesOn, GoesOnWhereKnown, IsTurn}
 use Rattle.cache_policy.specs.Extending.{Taken, TakesTurn, AreMarked, none, turned, IsExtended, IsExtendedWhereKnown, ExtendsDesk}
@@ -17,8 +17,8 @@ use Rattle.cache_policy.proofs.Lists.{filter_none}
 is_own : (session : SessionId) (mark : Mark) → mark.session ≡ session → is_of session mark ≡ true
 is_own session mark by = rw (by, eq-eqb session.pass session.pass refl, eq-eqb session.count session.count refl) refl
 
-own_filtered : {limits : Limits} {session : SessionId} {asked : MarkStep} {run : List History} {turn : Turn} {own : List Mark}
-    → MakesMarks limits session asked run turn own → filter (is_of session) own ≡ own
+own_filtered : {limits : Limits} {session : SessionId} {called : ℕ} {asked : MarkStep} {run : List History} {turn : Turn} {own : List Mark}
+    → MakesMarks limits session called asked run turn own → filter (is_of session) own ≡ own
 own_filtered {session = session} (marked own is) = ap (λ (b : Bool). cond b (own ∷ []) []) (is_own session own is.by)
 own_filtered refused = refl
 own_filtered (spent all) = refl
@@ -50,8 +50,8 @@ extended_first limits session before mid after taken turns first rest =
           (filter-append (is_of session) first.others first.own
           ∙ ap (λ (m : List Mark). m ++ filter (is_of session) first.own) (filter_none (is_of session) first.others first.foreign)
           ∙ own_filtered first.makes) in
-          subst (λ (m : List Mark). AreMarked limits session after (taken ∷ turns) m) (sym shown)
-          (turned mid (record { start = rest.start; more = rest.more; marks = rest.marks }) first.makes rest.own);
+          subst (λ (m : List Mark). AreMarked limits session after before (taken ∷ turns) m) (sym shown)
+          (turned mid first (record { start = rest.start; more = rest.more; marks = rest.marks }) rest.own);
       legal = λ legal. rest.legal (first.legal legal);
     }
 

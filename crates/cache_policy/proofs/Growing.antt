@@ -1,5 +1,5 @@
 -- A legal history stays legal by a mark that follows the policy, and by a turn-over.
-use Rattle.std.specs.Prelude.{◌≡◌, ℕ, ◌+◌, ◌-◌, ◌*◌, ◌%◌, ◌<◌, ◌≤◌, ◌⊎◌, List, [], ◌∷◌, ◌++◌, length, find, reverse, filter, fold, max, Bool, true, false, not, ◌&&◌, Option, Some, None, IfSome, refl, cond, if◌then◌else◌}
+use Rattle.std.specs.Prelude.{◌≡◌, ℕ, ◌+◌, ◌<◌, ◌≤◌, List, [], ◌∷◌, ◌++◌, length, reverse, fold, max, Bool, true, false, not, ◌&&◌, Option, Some, None, IfSome, refl, cond, if◌then◌else◌}
 use Rattle.std.proofs.Common.{ap, sym, ◌∙◌, subst, arith, inl, inr}
 use Rattle.std.proofs.lemmas.Bool.{ne_eqb}
 use Rattle.std.proofs.lemmas.List.{append_assoc, append-nil, length_push}
@@ -19,7 +19,7 @@ use Rattle.cache_policy.specs.declared.mark.Mark.{Mark}
 use Rattle.cache_policy.specs.declared.mark.MarkStep.{MarkStep}
 use Rattle.cache_policy.specs.declared.mark.MarkStep.TheVariants.{Ask, Seat, Close, Put, Clear, Flush, Peek, Stop}
 use Rattle.cache_policy.specs.declared.mark.MarkReply.{MarkReply}
-use Rattle.cache_policy.specs.declared.mark.MarkReply.TheVariants.{Given, Empty, Open, Done, Held as WhetherHeld, Stopping}
+use Rattle.cache_policy.specs.declared.mark.MarkReply.TheVariants.{Given, Empty, Open, Done, Held as WhetherHeld, Stopping, Late}
 use Rattle.cache_policy.specs.declared.entry.Entry.{Entry}
 use Rattle.cache_policy.specs.declared.history.Held.{Held}
 use Rattle.cache_policy.specs.Entry.{serves, within}
@@ -29,10 +29,10 @@ use Rattle.cache_policy.specs.Entries.{entry_of, kept_under, kept, stored, entri
 use Rattle.cache_policy.specs.Seat.{is_open, under_of, gives_back, last_open, unless_back, seat, stopped}
 use Rattle.cache_policy.specs.Live.{newest, gives, last_use, is_live, live}
 use Rattle.cache_policy.specs.Policy.{Reply, policy, prompt_ruling, ask_ruling}
+use Rattle.cache_policy.specs.Waits.{is_late}
 use Rattle.cache_policy.specs.Runs.{last_base, turn_over, moment_before}
 use Rattle.cache_policy.specs.Legal.{FollowsPolicy, NeverFall, IsLegal}
 use Rattle.cache_policy.proofs.Lists.{all_reverse, all_find, filter_none}
-use Rattle.cache_policy.proofs.EntriesLemmas.{entries-with_mark}
 use Rattle.cache_policy.proofs.OneMore.{next_number-with_mark, gone-newest, last_use-with_mark}
 
 -- one mark more that follows the policy
@@ -102,8 +102,8 @@ pub stored_numbered : (limits : Limits) (before : History) (asked : MarkStep) (m
     → AreNumbered (next_number before) (stored limits before asked moment) (next_number before + 1)
 stored_numbered limits before (Put id mode life secret) moment = entry_numbered limits (next_number before) moment id mode life secret
 stored_numbered limits before (Close ticket keep) moment = kept_numbered limits (next_number before) moment (kept_under (seat before) ticket) keep
-stored_numbered limits before (Ask id mode way) moment = omega arith
-stored_numbered limits before (Seat under) moment = omega arith
+stored_numbered limits before (Ask id mode way since) moment = omega arith
+stored_numbered limits before (Seat under since) moment = omega arith
 stored_numbered limits before (Clear id mode) moment = omega arith
 stored_numbered limits before Flush moment = omega arith
 stored_numbered limits before (Peek id mode) moment = omega arith
@@ -157,22 +157,23 @@ live_below limits history id mode moment = at (newest limits history id mode) (n
     at None h = tt
     at (Some entry) h = elim (is_live history moment entry) as (λ b. IfSome (cond b (Some entry) None) (λ e. e.number < next_number history)) [ true ↦ h | false ↦ tt ]
 
-prompt_gives_none : (stops : Bool) (held : Option Held) (number : ℕ) → prompt_ruling stops held ≡ Reply (Given number) → ⊥
-prompt_gives_none true held number h = cc
-prompt_gives_none false (Some ticket) number h = cc
-prompt_gives_none false None number h = cc
+prompt_gives_none : (stops : Bool) (held : Option Held) (late : Bool) (number : ℕ) → prompt_ruling stops held late ≡ Reply (Given number) → ⊥
+prompt_gives_none true held late number h = cc
+prompt_gives_none false (Some ticket) true number h = cc
+prompt_gives_none false (Some ticket) false number h = cc
+prompt_gives_none false None late number h = cc
 
 -- what the policy gives is older than the mark that it is given by
 pub gives_older : (limits : Limits) (history : History) (asked : MarkStep) (moment number : ℕ)
     → policy limits history asked moment ≡ Reply (Given number) → number < next_number history
-gives_older limits history (Ask id mode way) moment number rules = by_live (live limits history id mode moment) way (live_below limits history id mode moment) rules
+gives_older limits history (Ask id mode way since) moment number rules = by_live (live limits history id mode moment) way (live_below limits history id mode moment) rules
   where
     by_live : (o : Option Entry) (way : Way) → IfSome o (λ entry. entry.number < next_number history)
-        → ask_ruling o way (stopped history) (seat history) ≡ Reply (Given number) → number < next_number history
+        → ask_ruling o way (stopped history) (seat history) (is_late since moment) ≡ Reply (Given number) → number < next_number history
     by_live (Some entry) way below is = let same : entry.number ≡ number = cc in omega (arith, below, same)
     by_live None Quiet below is = absurd (cc)
-    by_live None Prompt below is = absurd (prompt_gives_none (stopped history) (seat history) number is)
-gives_older limits history (Seat under) moment number rules = absurd (prompt_gives_none (stopped history) (seat history) number rules)
+    by_live None Prompt below is = absurd (prompt_gives_none (stopped history) (seat history) (is_late since moment) number is)
+gives_older limits history (Seat under since) moment number rules = absurd (prompt_gives_none (stopped history) (seat history) (is_late since moment) number rules)
 gives_older limits history (Close ticket keep) moment number rules = cc
 gives_older limits history (Put id mode life secret) moment number rules = cc
 gives_older limits history (Clear id mode) moment number rules = cc
@@ -198,6 +199,7 @@ none_gives limits start (mark ∷ others) number follows later = (
     not_given Done is = refl
     not_given (WhetherHeld held) is = refl
     not_given Stopping is = refl
+    not_given Late is = refl
 
 pub unused_yet : (limits : Limits) (history : History) (number : ℕ) → IsLegal limits history → next_number history ≤ number
     → AllByRecursion (λ mark. gives number mark.reply ≡ false) history.marks

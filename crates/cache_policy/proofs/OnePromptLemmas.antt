@@ -12,36 +12,39 @@ use Rattle.cache_policy.specs.declared.mark.Mark.{Mark}
 use Rattle.cache_policy.specs.declared.mark.MarkStep.{MarkStep}
 use Rattle.cache_policy.specs.declared.mark.MarkStep.TheVariants.{Ask, Seat, Close, Put, Clear, Flush, Peek, Stop}
 use Rattle.cache_policy.specs.declared.mark.MarkReply.{MarkReply}
-use Rattle.cache_policy.specs.declared.mark.MarkReply.TheVariants.{Given, Empty, Open, Done, Held as WhetherHeld, Stopping}
+use Rattle.cache_policy.specs.declared.mark.MarkReply.TheVariants.{Given, Empty, Open, Done, Held as WhetherHeld, Stopping, Late}
 use Rattle.cache_policy.specs.declared.entry.Entry.{Entry}
 use Rattle.cache_policy.specs.declared.history.Held.{Held}
 use Rattle.cache_policy.specs.Histories.{History, next_number, start_of, with_marks, with_mark}
 use Rattle.cache_policy.specs.Seat.{under_of, is_open, gives_back, unless_back, unless_given_back, seat, stopped}
 use Rattle.cache_policy.specs.Live.{live}
 use Rattle.cache_policy.specs.Policy.{Reply, policy, prompt_ruling, ask_ruling}
+use Rattle.cache_policy.specs.Waits.{is_late}
 use Rattle.cache_policy.specs.Runs.{IsFollowedBy, IsRun, joined, start_of_run}
 use Rattle.cache_policy.specs.Legal.{FollowsPolicy, IsLegal, IsLegalRun}
 use Rattle.cache_policy.specs.OnePrompt.{before_close, NoneOpens, HasOnePrompt}
 use Rattle.cache_policy.proofs.OneMore.{next_number-with_mark, seat-with_mark}
 use Rattle.cache_policy.proofs.Growing.{seat-turn_over}
 
-prompt_waits : (stops : Bool) (held : Held) → prompt_ruling stops (Some held) ≡ Reply Open → ⊥
-prompt_waits true held rules = cc
-prompt_waits false held rules = cc
+prompt_waits : (stops : Bool) (held : Held) (late : Bool) → prompt_ruling stops (Some held) late ≡ Reply Open → ⊥
+prompt_waits true held late rules = cc
+prompt_waits false held true rules = cc
+prompt_waits false held false rules = cc
 
-ask_waits : (found : Option Entry) (way : Way) (stops : Bool) (held : Held) → ask_ruling found way stops (Some held) ≡ Reply Open → ⊥
-ask_waits (Some entry) way stops held rules = cc
-ask_waits None Quiet stops held rules = cc
-ask_waits None Prompt stops held rules = prompt_waits stops held rules
+ask_waits : (found : Option Entry) (way : Way) (stops : Bool) (held : Held) (late : Bool) → ask_ruling found way stops (Some held) late ≡ Reply Open → ⊥
+ask_waits (Some entry) way stops held late rules = cc
+ask_waits None Quiet stops held late rules = cc
+ask_waits None Prompt stops held late rules = prompt_waits stops held late rules
 
 -- while a ticket is out no step is answered Open
 policy_waits : (limits : Limits) (before : History) (asked : MarkStep) (moment : ℕ) (held : Held) → seat before ≡ Some held
     → policy limits before asked moment ≡ Reply Open → ⊥
-policy_waits limits before (Ask id mode way) moment held out rules =
-    ask_waits (live limits before id mode moment) way (stopped before) held
-    (subst (λ (o : Option Held). ask_ruling (live limits before id mode moment) way (stopped before) o ≡ Reply Open) out rules)
-policy_waits limits before (Seat under) moment held out rules =
-    prompt_waits (stopped before) held (subst (λ (o : Option Held). prompt_ruling (stopped before) o ≡ Reply Open) out rules)
+policy_waits limits before (Ask id mode way since) moment held out rules =
+    ask_waits (live limits before id mode moment) way (stopped before) held (is_late since moment)
+    (subst (λ (o : Option Held). ask_ruling (live limits before id mode moment) way (stopped before) o (is_late since moment) ≡ Reply Open) out rules)
+policy_waits limits before (Seat under since) moment held out rules =
+    prompt_waits (stopped before) held (is_late since moment)
+    (subst (λ (o : Option Held). prompt_ruling (stopped before) o (is_late since moment) ≡ Reply Open) out rules)
 policy_waits limits before (Close ticket keep) moment held out rules = cc
 policy_waits limits before (Put id mode life secret) moment held out rules = cc
 policy_waits limits before (Clear id mode) moment held out rules = cc
@@ -56,6 +59,7 @@ not_open Empty never = refl
 not_open Done never = refl
 not_open (WhetherHeld held) never = refl
 not_open Stopping never = refl
+not_open Late never = refl
 
 -- the law, for the marks after a history: of the ticket that is out by then, and of each mark that opens one
 record StaysOne (before : History) (marks : List Mark) : Type 0 where

@@ -1,5 +1,5 @@
 -- A replay is the only one of its steps and readings.
-use Rattle.std.specs.Prelude.{◌≡◌, ◌≢◌, ℕ, ◌+◌, ◌≤◌, List, [], ◌∷◌, ◌++◌, length, map, Some, refl}
+use Rattle.std.specs.Prelude.{◌≡◌, ◌≢◌, ℕ, List, [], ◌∷◌, ◌++◌, length, map, Some, refl}
 use Rattle.std.proofs.Common.{ap, sym, ◌∙◌, subst, arith, append-nil, length-append}
 use Rattle.std.proofs.lemmas.List.{length-map}
 use Rattle.std.specs.List.{AllByRecursion}
@@ -9,8 +9,8 @@ use Rattle.cache_policy.specs.declared.life.Limits.{Limits}
 use Rattle.cache_policy.specs.declared.mark.Mark.{Mark}
 use Rattle.cache_policy.specs.declared.mark.MarkReply.{MarkReply}
 use Rattle.cache_policy.specs.declared.mark.MarkStep.{MarkStep}
-use Rattle.cache_policy.specs.Histories.{History, start_of, with_mark, moments}
-use Rattle.cache_policy.specs.Legal.{FollowsPolicy, IsLegal, IsLegalRun}
+use Rattle.cache_policy.specs.Histories.{History, start_of, with_mark}
+use Rattle.cache_policy.specs.Legal.{FollowsPolicy, IsLegal}
 use Rattle.cache_policy.specs.Policy.{Reply, policy}
 use Rattle.cache_policy.specs.Replay.{NoneEmpty, Replays}
 use Rattle.cache_policy.specs.Runs.{IsRun, joined, start_of_run, turn_over}

@@ -21,6 +21,7 @@ use Rattle.cache_policy.specs.Entries.{entries}
 use Rattle.cache_policy.specs.Seat.{seat, stopped}
 use Rattle.cache_policy.specs.Live.{newest, gone, last_use, is_live}
 use Rattle.cache_policy.specs.Policy.{Reply, policy, prompt_ruling, ask_ruling}
+use Rattle.cache_policy.specs.Waits.{is_late}
 use Rattle.cache_policy.specs.Legal.{FollowsPolicy, IsLegal}
 use Rattle.cache_policy.specs.Return.{IsGivenRightly}
 use Rattle.cache_policy.proofs.Lists.{all_reverse}
@@ -83,17 +84,18 @@ turned list front back x h =
     ∙ append_assoc (reverse back) (x ∷ []) (reverse front))))
 
 -- no step that wants the prompt is given an entry
-prompt_gives_nothing : (stops : Bool) (held : Option Held) (number : ℕ) →
-    prompt_ruling stops held ≡ Reply (Given number) → ⊥
-prompt_gives_nothing true held number h = cc
-prompt_gives_nothing false (Some ticket) number h = cc
-prompt_gives_nothing false None number h = cc
+pub prompt_gives_nothing : (stops : Bool) (held : Option Held) (late : Bool) (number : ℕ) →
+    prompt_ruling stops held late ≡ Reply (Given number) → ⊥
+prompt_gives_nothing true held late number h = cc
+prompt_gives_nothing false (Some ticket) true number h = cc
+prompt_gives_nothing false (Some ticket) false number h = cc
+prompt_gives_nothing false None late number h = cc
 
 -- nor is an ask for which nothing is live
-ask_gives_nothing : (way : Way) (stops : Bool) (held : Option Held) (number : ℕ) →
-    ask_ruling None way stops held ≡ Reply (Given number) → ⊥
-ask_gives_nothing Quiet stops held number h = cc
-ask_gives_nothing Prompt stops held number h = prompt_gives_nothing stops held number h
+ask_gives_nothing : (way : Way) (stops : Bool) (held : Option Held) (late : Bool) (number : ℕ) →
+    ask_ruling None way stops held late ≡ Reply (Given number) → ⊥
+ask_gives_nothing Quiet stops held late number h = cc
+ask_gives_nothing Prompt stops held late number h = prompt_gives_nothing stops held late number h
 
 -- an entry that may be given is not gone, and is within both lifetimes
 both : (a b : Bool) → (not a && b) ≡ true → (a ≡ false) × (b ≡ true)
@@ -102,10 +104,10 @@ both false b h = (refl, h)
 
 module _ (limits : Limits) (before : History) (mark : Mark) (number : ℕ) where
   -- the newest entry, where it is live
-  given : (id : List ℕ) (mode : Mode) (way : Way) (entry : Entry) → mark.step ≡ Ask id mode way →
+  given : (id : List ℕ) (mode : Mode) (way : Way) (since : Option ℕ) (entry : Entry) → mark.step ≡ Ask id mode way since →
       newest limits before id mode ≡ Some entry →
       entry.number ≡ number → is_live before mark.moment entry ≡ true → IsGivenRightly limits before mark number
-  given id mode way entry asked e numbered lives =
+  given id mode way since entry asked e numbered lives =
       let first : IsFirst (serves id mode) (reverse (entries limits before)) entry = found_first (serves id mode)
       (reverse (entries limits before)) entry e in
       let parts : (gone before entry ≡ false) × (within entry (last_use before entry) mark.moment
@@ -114,6 +116,7 @@ module _ (limits : Limits) (before : History) (mark : Mark) (number : ℕ) where
         id = id;
         mode = mode;
         way = way;
+        since = since;
         asked = asked;
         older = reverse first.back;
         entry = entry;
@@ -126,29 +129,29 @@ module _ (limits : Limits) (before : History) (mark : Mark) (number : ℕ) where
         in_time = parts.1;
       }
 
-  by_live : (id : List ℕ) (mode : Mode) (way : Way) (entry : Entry) → mark.step ≡ Ask id mode way →
+  by_live : (id : List ℕ) (mode : Mode) (way : Way) (since : Option ℕ) (entry : Entry) → mark.step ≡ Ask id mode way since →
       newest limits before id mode ≡ Some entry →
       (b : Bool) → is_live before mark.moment entry ≡ b →
-      ask_ruling (if b then Some entry else None) way (stopped before) (seat before) ≡ Reply (Given number) →
+      ask_ruling (if b then Some entry else None) way (stopped before) (seat before) (is_late since mark.moment) ≡ Reply (Given number) →
       IsGivenRightly limits before mark number
-  by_live id mode way entry asked e true lives h = let numbered : entry.number
-      ≡ number = cc in given id mode way entry asked e numbered lives
-  by_live id mode way entry asked e false lives h = absurd (ask_gives_nothing way (stopped before)
-      (seat before) number h)
+  by_live id mode way since entry asked e true lives h = let numbered : entry.number
+      ≡ number = cc in given id mode way since entry asked e numbered lives
+  by_live id mode way since entry asked e false lives h = absurd (ask_gives_nothing way (stopped before)
+      (seat before) (is_late since mark.moment) number h)
 
-  by_newest : (id : List ℕ) (mode : Mode) (way : Way) → mark.step ≡ Ask id mode way →
+  by_newest : (id : List ℕ) (mode : Mode) (way : Way) (since : Option ℕ) → mark.step ≡ Ask id mode way since →
       (o : Option Entry) → newest limits before id mode ≡ o →
       ask_ruling (option_and_then (λ entry. if is_live before mark.moment entry then Some entry else None) o) way
-      (stopped before) (seat before) ≡ Reply (Given number) →
+      (stopped before) (seat before) (is_late since mark.moment) ≡ Reply (Given number) →
       IsGivenRightly limits before mark number
-  by_newest id mode way asked None e h = absurd (ask_gives_nothing way (stopped before) (seat before) number h)
-  by_newest id mode way asked (Some entry) e h = by_live id mode way entry asked e
+  by_newest id mode way since asked None e h = absurd (ask_gives_nothing way (stopped before) (seat before) (is_late since mark.moment) number h)
+  by_newest id mode way since asked (Some entry) e h = by_live id mode way since entry asked e
       (is_live before mark.moment entry) refl h
 
   by_step : (step : MarkStep) → mark.step ≡ step → policy limits before step mark.moment ≡ Reply (Given number) →
       IsGivenRightly limits before mark number
-  by_step (Ask id mode way) e h = by_newest id mode way e (newest limits before id mode) refl h
-  by_step (Seat under) e h = absurd (prompt_gives_nothing (stopped before) (seat before) number h)
+  by_step (Ask id mode way since) e h = by_newest id mode way since e (newest limits before id mode) refl h
+  by_step (Seat under since) e h = absurd (prompt_gives_nothing (stopped before) (seat before) (is_late since mark.moment) number h)
   by_step (Close ticket keep) e h = cc
   by_step (Put id mode life secret) e h = cc
   by_step (Clear id mode) e h = cc

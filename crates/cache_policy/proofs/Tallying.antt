@@ -1,6 +1,5 @@
 -- A tally, by one mark more.
-use Rattle.std.proofs.Common.{◌≡◌, ℕ, ◌+◌, ◌||◌, Bool, true, false, List, [], ◌∷◌, ◌++◌, length, refl, ap, sym, ◌∙◌, add-zero, arith, length-append}
-use Rattle.std.specs.List.{filter}
+use Rattle.std.proofs.Common.{◌≡◌, ℕ, ◌+◌, Bool, true, false, List, [], ◌∷◌, ◌++◌, length, refl, ap, sym, ◌∙◌, add-zero, arith, length-append}
 use Rattle.cache_policy.specs.declared.life.Limits.{Limits}
 use Rattle.cache_policy.specs.declared.mark.Mark.{Mark}
 use Rattle.cache_policy.specs.declared.entry.Entry.{Entry}
@@ -8,7 +7,7 @@ use Rattle.cache_policy.specs.declared.tally.Tally.{Tally}
 use Rattle.cache_policy.specs.Entries.{entries, stored}
 use Rattle.cache_policy.specs.Histories.{History, with_mark}
 use Rattle.cache_policy.specs.Runs.{turn_over}
-use Rattle.cache_policy.specs.Seat.{is_open, is_stop, stopped}
+use Rattle.cache_policy.specs.Seat.{is_open, stopped}
 use Rattle.cache_policy.specs.Tallies.{how_many, one_if, is_given, is_empty, is_clear, is_flush, with_history, with_one}
 use Rattle.cache_policy.proofs.OneMore.{stopped-with_mark}
 use Rattle.cache_policy.proofs.Growing.{stopped-turn_over}

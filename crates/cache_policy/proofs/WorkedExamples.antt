@@ -10,8 +10,11 @@ use Rattle.cache_policy.specs.declared.mark.Mark.{Mark}
 use Rattle.cache_policy.specs.declared.mark.MarkStep.{MarkStep}
 use Rattle.cache_policy.specs.declared.mark.MarkStep.TheVariants.{Ask, Seat, Close, Put, Clear, Flush, Peek, Stop}
 use Rattle.cache_policy.specs.declared.mark.MarkReply.{MarkReply}
-use Rattle.cache_policy.specs.declared.mark.MarkReply.TheVariants.{Given, Empty, Open, Done, Held as WhetherHeld, Stopping}
+use Rattle.cache_policy.specs.declared.mark.MarkReply.TheVariants.{Given, Empty, Open, Done, Held as WhetherHeld, Stopping, Late}
+use Rattle.agent_ports.specs.declared.session.SessionId.{SessionId}
 use Rattle.cache_policy.specs.Histories.{History}
+use Rattle.cache_policy.specs.Turns.{since_when}
+use Rattle.cache_policy.specs.Waits.{since_by}
 use Rattle.cache_policy.specs.declared.life.Limits.{Limits}
 use Rattle.cache_policy.specs.Entries.{entries}
 use Rattle.cache_policy.specs.Seat.{seat, stopped}
@@ -45,21 +48,21 @@ abbrev put : Mode → Life → ℕ → Mark
 put mode life moment = mark (Put name mode life word) Done moment
 
 abbrev ask : MarkReply → ℕ → Mark
-ask reply moment = mark (Ask name User Quiet) reply moment
+ask reply moment = mark (Ask name User Quiet None) reply moment
 
 -- an entry at its last second, and one past it
-last_second : answer (put User (Seconds 10) 5 ∷ []) (Ask name User Quiet) 15 ≡ Reply (Given 0)
+last_second : answer (put User (Seconds 10) 5 ∷ []) (Ask name User Quiet None) 15 ≡ Reply (Given 0)
 last_second = refl
 
-one_second_late : answer (put User (Seconds 10) 5 ∷ []) (Ask name User Quiet) 16 ≡ Reply Empty
+one_second_late : answer (put User (Seconds 10) 5 ∷ []) (Ask name User Quiet None) 16 ≡ Reply Empty
 one_second_late = refl
 
 -- each use starts the ttl again
-used_again : answer (put Any Default 0 ∷ ask (Given 0) 600 ∷ ask (Given 0) 1200 ∷ []) (Ask name User Quiet) 1800
+used_again : answer (put Any Default 0 ∷ ask (Given 0) 600 ∷ ask (Given 0) 1200 ∷ []) (Ask name User Quiet None) 1800
     ≡ Reply (Given 0)
 used_again = refl
 
-used_late : answer (put Any Default 0 ∷ ask (Given 0) 600 ∷ ask (Given 0) 1200 ∷ []) (Ask name User Quiet) 1801
+used_late : answer (put Any Default 0 ∷ ask (Given 0) 600 ∷ ask (Given 0) 1200 ∷ []) (Ask name User Quiet None) 1801
     ≡ Reply Empty
 used_late = refl
 
@@ -73,14 +76,14 @@ used_throughout =
 
 -- a look starts nothing again
 looked_at : answer (put Any Default 0 ∷ mark (Peek name User) (WhetherHeld true) 600 ∷ [])
-    (Ask name User Quiet) 601 ≡ Reply Empty
+    (Ask name User Quiet None) 601 ≡ Reply Empty
 looked_at = refl
 
 -- the greatest age, and one second past it, also for an entry that is used all the time
-greatest_age : answer (put Any Endless 0 ∷ ask (Given 0) 7000 ∷ []) (Ask name User Quiet) 7200 ≡ Reply (Given 0)
+greatest_age : answer (put Any Endless 0 ∷ ask (Given 0) 7000 ∷ []) (Ask name User Quiet None) 7200 ≡ Reply (Given 0)
 greatest_age = refl
 
-too_old : answer (put Any Endless 0 ∷ ask (Given 0) 7000 ∷ []) (Ask name User Quiet) 7201 ≡ Reply Empty
+too_old : answer (put Any Endless 0 ∷ ask (Given 0) 7000 ∷ []) (Ask name User Quiet None) 7201 ≡ Reply Empty
 too_old = refl
 
 -- ssh has a default ttl of its own
@@ -99,72 +102,123 @@ cleared : FollowsPolicy limits (of [])
 cleared = (refl, (refl, (refl, (refl, (refl, tt)))))
 
 -- but one in Ssh leaves what is under User
-cleared_elsewhere : answer (put User Endless 0 ∷ mark (Clear name Ssh) Done 6 ∷ []) (Ask name User Quiet) 7
+cleared_elsewhere : answer (put User Endless 0 ∷ mark (Clear name Ssh) Done 6 ∷ []) (Ask name User Quiet None) 7
     ≡ Reply (Given 0)
 cleared_elsewhere = refl
 
 -- a flush takes everything, and a put after it serves again
-flushed_away : answer (put User Endless 0 ∷ mark Flush Done 6 ∷ []) (Ask name User Quiet) 7 ≡ Reply Empty
+flushed_away : answer (put User Endless 0 ∷ mark Flush Done 6 ∷ []) (Ask name User Quiet None) 7 ≡ Reply Empty
 flushed_away = refl
 
-flushed : answer (put User Endless 0 ∷ mark Flush Done 6 ∷ put User Endless 7 ∷ []) (Ask name User Quiet) 8
+flushed : answer (put User Endless 0 ∷ mark Flush Done 6 ∷ put User Endless 7 ∷ []) (Ask name User Quiet None) 8
     ≡ Reply (Given 2)
 flushed = refl
 
 -- a put with a ttl of 0 stores nothing, and hides nothing
-stores_nothing : answer (put User Endless 0 ∷ put User (Seconds 0) 1 ∷ []) (Ask name User Quiet) 2 ≡ Reply (Given 0)
+stores_nothing : answer (put User Endless 0 ∷ put User (Seconds 0) 1 ∷ []) (Ask name User Quiet None) 2 ≡ Reply (Given 0)
 stores_nothing = refl
 
 -- one prompt at a time; what it ends with is kept by the Close of its ticket, and by no other
 abbrev opened : List Mark
-opened = mark (Ask name User Prompt) Open 0 ∷ []
+opened = mark (Ask name User Prompt None) Open 0 ∷ []
 
-second_waits : answer opened (Ask name User Prompt) 0 ≡ Stand
+second_waits : answer opened (Ask name User Prompt None) 0 ≡ Stand
 second_waits = refl
 
-kept : answer (opened ++ mark (Close 0 (Some word)) Done 1 ∷ []) (Ask name User Prompt) 2 ≡ Reply (Given 1)
+-- a step that stands before a held seat is late after a minute, unless an entry is live, the agent has stopped or the seat is free
+second_waits_on : answer opened (Ask name User Prompt (Some 10)) 69 ≡ Stand
+second_waits_on = refl
+
+first_try_stands : answer opened (Ask name User Prompt None) 70 ≡ Stand
+first_try_stands = refl
+
+second_is_late : answer opened (Ask name User Prompt (Some 10)) 70 ≡ Reply Late
+second_is_late = refl
+
+late_for_the_seat : answer opened (Seat None (Some 10)) 70 ≡ Reply Late
+late_for_the_seat = refl
+
+late_but_free : answer (opened ++ mark (Close 0 None) Done 65 ∷ []) (Ask name User Prompt (Some 10)) 70 ≡ Reply Open
+late_but_free = refl
+
+late_but_given : answer (opened ++ put Any Default 65 ∷ []) (Ask name User Prompt (Some 10)) 70 ≡ Reply (Given 1)
+late_but_given = refl
+
+late_but_stopped : answer (opened ++ mark Stop Done 1 ∷ []) (Ask name User Prompt (Some 10)) 70 ≡ Reply Stopping
+late_but_stopped = refl
+
+quiet_is_never_late : answer opened (Ask name User Quiet (Some 10)) 70 ≡ Reply Empty
+quiet_is_never_late = refl
+
+-- a history with a step that stood, which is late and makes a mark
+abbrev with_late : History
+with_late = of (mark (Ask name User Prompt None) Open 0 ∷ mark (Ask name User Prompt (Some 10)) Late 70 ∷ mark (Close 0 None) Done 71 ∷ [])
+
+late_is_legal : FollowsPolicy limits (of []) with_late.marks
+late_is_legal = (refl, (refl, (refl, tt)))
+
+late_leaves_the_seat : seat (of (mark (Seat None None) Open 0 ∷ mark (Seat None (Some 10)) Late 70 ∷ [])) ≡ Some (record { ticket = 0; under = None })
+late_leaves_the_seat = refl
+
+-- the wait that a step hands in counts for its own session alone
+abbrev session : SessionId
+session = record { pass = 0; count = 1 }
+
+own_wait : since_by session (Some (record { session = session; since = 10 })) ≡ Some 10
+own_wait = refl
+
+wait_of_another : since_by session (Some (record { session = record { pass = 1; count = 1 }; since = 10 })) ≡ None
+wait_of_another = refl
+
+stands_since_now : since_when (Ask name User Prompt None) 69 ≡ 69
+stands_since_now = refl
+
+stands_since_then : since_when (Ask name User Prompt (Some 10)) 69 ≡ 10
+stands_since_then = refl
+
+kept : answer (opened ++ mark (Close 0 (Some word)) Done 1 ∷ []) (Ask name User Prompt None) 2 ≡ Reply (Given 1)
 kept = refl
 
-not_kept : answer (opened ++ mark (Close 0 None) Done 1 ∷ []) (Ask name User Prompt) 2 ≡ Reply Open
+not_kept : answer (opened ++ mark (Close 0 None) Done 1 ∷ []) (Ask name User Prompt None) 2 ≡ Reply Open
 not_kept = refl
 
-foreign_ticket : answer (opened ++ mark (Close 5 (Some word)) Done 1 ∷ []) (Seat None) 2 ≡ Stand
+foreign_ticket : answer (opened ++ mark (Close 5 (Some word)) Done 1 ∷ []) (Seat None None) 2 ≡ Stand
 foreign_ticket = refl
 
-kept_without_name : entries limits (of (mark (Seat None) Open 0 ∷ mark (Close 0 (Some word)) Done 1 ∷ []))
+kept_without_name : entries limits (of (mark (Seat None None) Open 0 ∷ mark (Close 0 (Some word)) Done 1 ∷ []))
     ≡ []
 kept_without_name = refl
 
 -- after a Stop no prompt is opened, and the cache goes on
-stopping : answer (put User Endless 0 ∷ mark Stop Done 1 ∷ []) (Seat None) 2 ≡ Reply Stopping
+stopping : answer (put User Endless 0 ∷ mark Stop Done 1 ∷ []) (Seat None None) 2 ≡ Reply Stopping
 stopping = refl
 
-still_given : answer (put User Endless 0 ∷ mark Stop Done 1 ∷ []) (Ask name User Prompt) 2 ≡ Reply (Given 0)
+still_given : answer (put User Endless 0 ∷ mark Stop Done 1 ∷ []) (Ask name User Prompt None) 2 ≡ Reply (Given 0)
 still_given = refl
 
-stopping_comes_first : answer (opened ++ mark Stop Done 1 ∷ []) (Ask name User Prompt) 2 ≡ Reply Stopping
+stopping_comes_first : answer (opened ++ mark Stop Done 1 ∷ []) (Ask name User Prompt None) 2 ≡ Reply Stopping
 stopping_comes_first = refl
 
 -- a ticket has the number of its Open, and what is kept by it has the default life
 abbrev opened_later : List Mark
-opened_later = put Ssh Endless 0 ∷ mark (Seat (Some (record { id = name; mode = User }))) Open 1 ∷ []
+opened_later = put Ssh Endless 0 ∷ mark (Seat (Some (record { id = name; mode = User })) None) Open 1 ∷ []
 
 its_number : seat (of opened_later) ≡ Some (record { ticket = 1; under = Some (record { id = name; mode = User }) })
 its_number = refl
 
-default_life : answer (opened_later ++ mark (Close 1 (Some word)) Done 5 ∷ []) (Ask name User Quiet) 605
+default_life : answer (opened_later ++ mark (Close 1 (Some word)) Done 5 ∷ []) (Ask name User Quiet None) 605
     ≡ Reply (Given 2)
 default_life = refl
 
-default_life_over : answer (opened_later ++ mark (Close 1 (Some word)) Done 5 ∷ []) (Ask name User Quiet) 606
+default_life_over : answer (opened_later ++ mark (Close 1 (Some word)) Done 5 ∷ []) (Ask name User Quiet None) 606
     ≡ Reply Empty
 default_life_over = refl
 
-foreign_keep : answer (opened_later ++ mark (Close 0 (Some word)) Done 5 ∷ []) (Ask name User Quiet) 6 ≡ Reply Empty
+foreign_keep : answer (opened_later ++ mark (Close 0 (Some word)) Done 5 ∷ []) (Ask name User Quiet None) 6 ≡ Reply Empty
 foreign_keep = refl
 
 closed_twice : answer (opened_later ++ mark (Close 1 None) Done 5 ∷ mark (Close 1 (Some word)) Done 6 ∷ [])
-    (Ask name User Quiet) 7 ≡ Reply Empty
+    (Ask name User Quiet None) 7 ≡ Reply Empty
 closed_twice = refl
 
 -- a ticket that was out at the start is closed in a later history, and the numbers go on from the base
@@ -176,11 +230,11 @@ later_history marks = record {
   marks = marks;
 }
 
-still_out : policy limits (later_history []) (Seat None) 9 ≡ Stand
+still_out : policy limits (later_history []) (Seat None None) 9 ≡ Stand
 still_out = refl
 
 closed_later : policy limits (later_history (mark (Close 0 (Some word)) Done 9 ∷ []))
-    (Ask name User Quiet) 9 ≡ Reply (Given 131072)
+    (Ask name User Quiet None) 9 ≡ Reply (Given 131072)
 closed_later = refl
 
 -- such a history is legal, and so is the run of it alone
@@ -202,7 +256,7 @@ legal_run = record { turns_over = tt; each = (legal, tt); moments = legal.moment
 
 -- one prompt: the marks before the first Close of a ticket, or all where there is none
 abbrev open_seat : Mark
-open_seat = mark (Seat None) Open 9
+open_seat = mark (Seat None None) Open 9
 
 abbrev close : ℕ → Mark
 close ticket = mark (Close ticket None) Done 9

@@ -1,5 +1,5 @@
 -- What is left of marks, entries and histories without the bytes of their secrets. This is the project's own.
-use Rattle.std.specs.Prelude.{List, [], map}
+use Rattle.std.specs.Prelude.{[], map}
 use Rattle.std.specs.Option.{option_map}
 use Rattle.cache_policy.specs.declared.mark.Mark.{Mark}
 use Rattle.cache_policy.specs.declared.mark.MarkStep.{MarkStep}
@@ -9,8 +9,8 @@ use Rattle.cache_policy.specs.Histories.{History}
 
 -- the step, where each secret has no bytes; whether a Close keeps one still shows
 abbrev pub bare_step : MarkStep → MarkStep
-bare_step (Ask id mode way) = Ask id mode way
-bare_step (Seat under) = Seat under
+bare_step (Ask id mode way since) = Ask id mode way since
+bare_step (Seat under since) = Seat under since
 bare_step (Close ticket keep) = Close ticket (option_map (λ secret. []) keep)
 bare_step (Put id mode life secret) = Put id mode life []
 bare_step (Clear id mode) = Clear id mode

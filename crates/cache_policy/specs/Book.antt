@@ -48,9 +48,9 @@ put_mark session moment id mode life secret =
     record { session = session; step = Put id mode life secret; reply = Done; moment = moment }
 
 -- an ask as a mark
-abbrev pub ask_mark : SessionId → ℕ → List ℕ → Mode → Way → MarkReply → Mark
-ask_mark session moment id mode way reply =
-    record { session = session; step = Ask id mode way; reply = reply; moment = moment }
+abbrev pub ask_mark : SessionId → ℕ → List ℕ → Mode → Way → Option ℕ → MarkReply → Mark
+ask_mark session moment id mode way since reply =
+    record { session = session; step = Ask id mode way since; reply = reply; moment = moment }
 
 abbrev pub is_put : MarkStep → Bool
 is_put (Put id mode life secret) = true
@@ -58,7 +58,7 @@ is_put _ = false
 
 abbrev pub is_put_or_ask : MarkStep → Bool
 is_put_or_ask (Put id mode life secret) = true
-is_put_or_ask (Ask id mode way) = true
+is_put_or_ask (Ask id mode way since) = true
 is_put_or_ask _ = false
 
 -- the mark is of a put

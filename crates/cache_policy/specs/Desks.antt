@@ -1,6 +1,6 @@
 -- A desk, at which a session takes its turns while other sessions take theirs: what each turn does to what a desk shows. This is the
 -- project's own.
-use Rattle.std.specs.Prelude.{◌≡◌, ℕ, ◌+◌, List, [], ◌∷◌, ◌++◌, Bool, false, ◌&&◌, nat_eq, length, Option, Some, None, ⊤}
+use Rattle.std.specs.Prelude.{◌≡◌, ◌≤◌, ℕ, ◌+◌, List, [], ◌∷◌, ◌++◌, Bool, true, false, length, Option, Some, None, IfSome, ⊤}
 use Rattle.std.specs.List.{AllByRecursion}
 use Rattle.agent_ports.specs.declared.session.SessionId.{SessionId}
 use Rattle.cache_policy.specs.declared.life.Limits.{Limits}
@@ -9,9 +9,10 @@ use Rattle.cache_policy.specs.declared.mark.MarkStep.{MarkStep}
 use Rattle.cache_policy.specs.declared.mark.MarkReply.TheVariants as answer
 use Rattle.cache_policy.specs.Histories.{History, next_number, with_mark}
 use Rattle.cache_policy.specs.Live.{last_use, live}
-use Rattle.cache_policy.specs.Runs.{last_base, joined, start_of_run, last_history}
+use Rattle.cache_policy.specs.Runs.{last_base, joined, start_of_run, last_history, moment_before}
 use Rattle.cache_policy.specs.Legal.{IsLegalRun}
-use Rattle.cache_policy.specs.Turns.{Turn, Given, Empty, Open, Stand, Done, Held, Stopping, Refused, FitsStep, out_after}
+use Rattle.cache_policy.specs.Turns.{Turn, Given, Empty, Open, Stand, Done, Held, Stopping, Late, Refused, FitsStep, opens, out_after, since_of, with_since}
+use Rattle.cache_policy.specs.Waits.{is_session}
 
 -- what a desk shows: by which lifetimes it goes, whose turns they are, the histories so far where they are known, and the number of the
 -- ticket that the session has
@@ -23,7 +24,7 @@ pub record AtDesk : Type 0 where
 
 -- the mark is one of the session
 abbrev pub is_of : SessionId → Mark → Bool
-is_of session mark = nat_eq mark.session.pass session.pass && nat_eq mark.session.count session.count
+is_of session mark = is_session session mark.session
 
 -- A mark on this history says how the turn came out. A passphrase that is given is that of the live entry, and a ticket has the
 -- mark's number.
@@ -33,17 +34,20 @@ Shows limits before mark (Given grant) =
     × (grant.last ≡ last_use before grant.entry) × (grant.moment ≡ mark.moment)
 Shows limits before mark Empty = mark.reply ≡ answer.Empty
 Shows limits before mark (Open number) = (mark.reply ≡ answer.Open) × (number ≡ next_number before)
-Shows limits before mark Stand = ⊥
+Shows limits before mark (Stand wait) = ⊥
 Shows limits before mark Done = mark.reply ≡ answer.Done
 Shows limits before mark (Held held) = mark.reply ≡ answer.Held held
 Shows limits before mark Stopping = mark.reply ≡ answer.Stopping
+Shows limits before mark Late = mark.reply ≡ answer.Late
 Shows limits before mark Refused = ⊥
 
--- The last mark of a run is the session's own, with the step that was asked and the turn's answer. No history without a mark comes
--- behind it.
-pub record IsOwnMark (limits : Limits) (session : SessionId) (asked : MarkStep) (turn : Turn) (run : List History) (mark : Mark) : Type 0 where
+-- The last mark of a run is the session's own, with the step that was asked, but for its since, and the turn's answer. Only a step that
+-- wants the prompt has a since, and it isn't below `called`, the moment of the last mark of the run when the turn was called. No history
+-- without a mark comes behind it.
+pub record IsOwnMark (limits : Limits) (session : SessionId) (called : ℕ) (asked : MarkStep) (turn : Turn) (run : List History) (mark : Mark) : Type 0 where
   pub by : mark.session ≡ session
-  pub asked_is : mark.step ≡ asked
+  pub asked_is : mark.step ≡ with_since (since_of mark.step) asked
+  pub waited : IfSome (since_of mark.step) (λ since. (opens asked ≡ true) × (called ≤ since))
   pub before : History
   pub last : last_history run ≡ Some (with_mark before mark)
   pub shows : Shows limits before mark turn
@@ -55,10 +59,10 @@ pub record IsSpentRun (run : List History) : Type 0 where
   pub all : last.base + length last.marks ≡ last_base
 
 -- the marks that a turn makes: its own, but none where it is refused, or where it is replied Stopping by a spent agent
-pub data MakesMarks (limits : Limits) (session : SessionId) (asked : MarkStep) (run : List History) : Turn → List Mark → Type 0 where
-  marked : {turn : Turn} (own : Mark) → IsOwnMark limits session asked turn run own → MakesMarks limits session asked run turn (own ∷ [])
-  refused : MakesMarks limits session asked run Refused []
-  spent : IsSpentRun run → MakesMarks limits session asked run Stopping []
+pub data MakesMarks (limits : Limits) (session : SessionId) (called : ℕ) (asked : MarkStep) (run : List History) : Turn → List Mark → Type 0 where
+  marked : {turn : Turn} (own : Mark) → IsOwnMark limits session called asked turn run own → MakesMarks limits session called asked run turn (own ∷ [])
+  refused : MakesMarks limits session called asked run Refused []
+  spent : IsSpentRun run → MakesMarks limits session called asked run Stopping []
 
 -- The run after a turn goes on from the run before: first by marks of other sessions, and then by the turn's own. It is legal where
 -- that was.
@@ -67,7 +71,7 @@ pub record GoesOn (limits : Limits) (session : SessionId) (before : List History
   pub others : List Mark
   pub foreign : AllByRecursion (λ mark. is_of session mark ≡ false) others
   pub own : List Mark
-  pub makes : MakesMarks limits session asked after turn own
+  pub makes : MakesMarks limits session (moment_before (joined before)) asked after turn own
   pub marks : joined after ≡ joined before ++ (others ++ own)
   pub legal : IsLegalRun limits before → IsLegalRun limits after
 

@@ -9,7 +9,7 @@ use Rattle.cache_policy.specs.Histories.{History}
 use Rattle.cache_policy.specs.Legal.{IsLegalRun}
 use Rattle.cache_policy.specs.Runs.{joined, start_of_run, Extends}
 use Rattle.cache_policy.specs.Turns.{Turn}
-use Rattle.cache_policy.specs.Desks.{AtDesk, is_of, MakesMarks}
+use Rattle.cache_policy.specs.Desks.{AtDesk, is_of, GoesOn}
 
 -- a turn that was taken: what was asked, and how it came out
 pub record Taken : Type 0 where
@@ -20,20 +20,20 @@ pub record Taken : Type 0 where
 abbrev pub TakesTurn : {D : Type 0} → (D → MarkStep → Turn → D → Type 0) → D → Taken → D → Type 0
 TakesTurn turned before taken after = turned before taken.asked taken.turn after
 
--- The marks are those of these turns, in order. Each turn's own is the last one of the run as that stood when the turn was over, which
--- says how the turn came out; and this run extends it.
-pub data AreMarked (limits : Limits) (session : SessionId) (run : List History) : List Taken → List Mark → Type 0 where
-  none : AreMarked limits session run [] []
-  turned : {taken : Taken} {turns : List Taken} {own marks : List Mark} (then : List History) → Extends then run
-      → MakesMarks limits session taken.asked then taken.turn own → AreMarked limits session run turns marks
-      → AreMarked limits session run (taken ∷ turns) (own ++ marks)
+-- The marks are those of these turns, in order. Each turn goes on from the run before it, as a desk promises, and the last run extends the run
+-- at its end.
+pub data AreMarked (limits : Limits) (session : SessionId) (run : List History) : List History → List Taken → List Mark → Type 0 where
+  none : {before : List History} → AreMarked limits session run before [] []
+  turned : {taken : Taken} {turns : List Taken} {marks : List Mark} {before : List History} (then : List History)
+      (goes : GoesOn limits session before taken.asked taken.turn then) → Extends then run
+      → AreMarked limits session run then turns marks → AreMarked limits session run before (taken ∷ turns) (goes.own ++ marks)
 
 -- the run goes on; its further marks of this session are those of the turns; and it is legal where it was
 pub record IsExtended (limits : Limits) (session : SessionId) (before : List History) (turns : List Taken) (after : List History) : Type 0 where
   pub start : start_of_run after ≡ start_of_run before
   pub more : List Mark
   pub marks : joined after ≡ joined before ++ more
-  pub own : AreMarked limits session after turns (filter (is_of session) more)
+  pub own : AreMarked limits session after before turns (filter (is_of session) more)
   pub legal : IsLegalRun limits before → IsLegalRun limits after
 
 -- the same where the run is known

@@ -5,6 +5,7 @@ pub mod Histories
 pub mod Seat
 pub mod Entries
 pub mod Live
+pub mod Waits
 pub mod Policy
 pub mod Runs
 pub mod Legal

@@ -3,7 +3,6 @@ use Rattle.std.specs.Prelude.{◌≡◌, ◌≢◌, ◌⊎◌, ℕ, List, [], �
 use Rattle.std.specs.List.{AllByRecursion}
 use Rattle.agent_ports.specs.declared.session.SessionId.{SessionId}
 use Rattle.cache_policy.specs.declared.life.Limits.{Limits}
-use Rattle.cache_policy.specs.declared.mark.Mark.{Mark}
 use Rattle.cache_policy.specs.declared.mark.MarkStep.{MarkStep}
 use Rattle.cache_policy.specs.Histories.{History, moments}
 use Rattle.cache_policy.specs.Legal.{IsLegalRun}

@@ -1,5 +1,5 @@
 -- Nothing comes back: what a mark that was replied Given says of the entry that it names.
-use Rattle.std.specs.Prelude.{◌≡◌, ℕ, List, ◌∷◌, ◌++◌, true, false}
+use Rattle.std.specs.Prelude.{◌≡◌, ℕ, List, ◌∷◌, ◌++◌, true, false, Option}
 use Rattle.std.specs.List.{AllByRecursion}
 use Rattle.cache_policy.specs.declared.mode.Mode.{Mode}
 use Rattle.cache_policy.specs.declared.life.Limits.{Limits}
@@ -18,7 +18,8 @@ pub record IsGivenRightly (limits : Limits) (before : History) (mark : Mark) (nu
   pub id : List ℕ
   pub mode : Mode
   pub way : Way
-  pub asked : mark.step ≡ Ask id mode way
+  pub since : Option ℕ
+  pub asked : mark.step ≡ Ask id mode way since
   pub older : List Entry
   pub entry : Entry
   pub newer : List Entry

@@ -13,8 +13,8 @@ use Rattle.cache_policy.specs.Histories.{History}
 
 -- what a ticket that this step opens is kept under: an Ask names its id and mode, a Seat its own
 abbrev pub under_of : MarkStep → Option Under
-under_of (Ask id mode way) = Some (record { id = id; mode = mode })
-under_of (Seat under) = under
+under_of (Ask id mode way since) = Some (record { id = id; mode = mode })
+under_of (Seat under since) = under
 under_of _ = None
 
 abbrev pub is_open : MarkReply → Bool

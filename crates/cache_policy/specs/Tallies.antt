@@ -1,6 +1,6 @@
 -- A tally counts the marks of a run, the answers among them that a client sees, the entries stored, and the steps that take some away.
 -- This is the project's own.
-use Rattle.std.specs.Prelude.{◌≡◌, ◌≤◌, ℕ, ◌+◌, List, [], ◌∷◌, length, Bool, true, false, ◌||◌, if◌then◌else◌}
+use Rattle.std.specs.Prelude.{◌≤◌, ℕ, ◌+◌, List, length, Bool, true, false, ◌||◌}
 use Rattle.std.specs.List.{filter}
 use Rattle.cache_policy.specs.declared.life.Limits.{Limits}
 use Rattle.cache_policy.specs.declared.mark.Mark.{Mark}

@@ -128,7 +128,7 @@ pub fn a_replay_is_the_only_one()
 {}
 
 /// Turns at a desk extend its run where that is known: the marks of the desk's session in it are theirs, in their order, and it stays
-/// legal.
+/// legal, also at the end of each turn.
 pub fn turns_extend_a_run<D: Desk>()
     ensures { (before after : D) (turns : List Taken) → Leads (TakesTurn D.turned) before turns after
         → ExtendsDesk (D.at before) turns (D.at after) }

@@ -19,8 +19,9 @@ mod secret;
 mod step;
 mod tally;
 mod trace;
+mod wait;
 
-pub use bounds::{MAX_MARKS, MAX_MOMENT};
+pub use bounds::{MAX_MARKS, MAX_MOMENT, MAX_WAIT};
 pub use desk::Desk;
 pub use entry::Entry;
 pub use grant::Grant;
@@ -38,6 +39,7 @@ pub use secret::{MAX_SECRET_LEN, Secret};
 pub use step::{Refused, Reply, Step};
 pub use tally::{Tally, a_tally_goes_on};
 pub use trace::{Trace, TraceStep};
+pub use wait::{Wait, since_by};
 
 #[cfg(test)]
 mod tests;

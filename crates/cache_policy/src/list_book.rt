@@ -1,4 +1,4 @@
-ghost use Rattle.std.specs.Prelude.{◌≡◌, ◌≤◌, [], ◌++◌, OnOk, OnErr, IfSome};
+ghost use Rattle.std.specs.Prelude.{◌≡◌, ◌≤◌, [], ◌++◌, OnOk, OnErr, IfSome, Option, ℕ};
 ghost use Rattle.std.specs.Option.{option_map, option_copied, option_to_list};
 ghost use Rattle.agent_ports.specs.declared.session.SessionId.{SessionId};
 ghost use Rattle.cache_policy.specs.declared.life.Limits.{Limits as Lifetimes};
@@ -105,9 +105,9 @@ impl ListBook {
         ensures endless { (limits : Lifetimes) (history : History) → IsEndlessBookOf limits history self.now
             → option_map (λ grant. grant.entry.secret) result
             ≡ option_map (λ entry. entry.secret) (live limits history id.now mode moment) }
-        ensures asked { (limits : Lifetimes) (history : History) (session : SessionId) (way : Way) (reply : MarkReply)
+        ensures asked { (limits : Lifetimes) (history : History) (session : SessionId) (way : Way) (since : Option ℕ) (reply : MarkReply)
             → IsEndlessBookOf limits history self.now
-            → IsEndlessBookOf limits (with_mark history (ask_mark session moment id.now mode way reply)) self.now }
+            → IsEndlessBookOf limits (with_mark history (ask_mark session moment id.now mode way since reply)) self.now }
     {
         grant_of(&self.stored, moment, id, mode)
     }

@@ -31,7 +31,7 @@ pub enum Way {
     Prompt,
 }
 
-/// One step of a session, with the number of its ticket in place of a ticket.
+/// One step of a session, with the number of its ticket in place of a ticket, and the moment of its first try in place of a wait.
 #[derive(Drop)]
 pub enum MarkStep {
     /// Asks for a passphrase.
@@ -39,10 +39,14 @@ pub enum MarkStep {
         id: CacheId,
         mode: Mode,
         way: Way,
+        /// The moment of the first try, in seconds, where the step stood before.
+        since: Option<u64>,
     },
     /// Asks for the seat at the prompt, whatever the cache has.
     Seat {
         under: Option<Under>,
+        /// The moment of the first try, in seconds, where the step stood before.
+        since: Option<u64>,
     },
     /// Gives a ticket back, and may keep what was typed.
     Close {
@@ -87,6 +91,8 @@ pub enum MarkReply {
     Held(bool),
     /// The agent opens no prompt any more.
     Stopping,
+    /// The step has stood before a held seat for `MAX_WAIT` seconds.
+    Late,
 }
 
 /// One step that was made: by whom, which, with which answer and at which moment.

@@ -1,6 +1,6 @@
 ghost use Rattle.std.specs.Prelude.{◌≡◌};
 
-use crate::{CacheId, Grant, Life, Mode, Secret, Under, Way};
+use crate::{CacheId, Grant, Life, Mode, Secret, Under, Wait, Way};
 use prompt_seat::Ticket;
 
 /// One step of a session, as it is asked of a desk.
@@ -10,10 +10,14 @@ pub enum Step {
         id: CacheId,
         mode: Mode,
         way: Way,
+        /// The wait of its last try, where that was replied Stand.
+        wait: Option<Wait>,
     },
     /// Asks for the seat at the prompt, whatever the cache has.
     Seat {
         under: Option<Under>,
+        /// The wait of its last try, where that was replied Stand.
+        wait: Option<Wait>,
     },
     /// Gives a ticket back, and may keep what was typed.
     Close {
@@ -44,11 +48,11 @@ pub enum Step {
 }
 
 impl Step {
-    ghost use Rattle.cache_policy.specs.Turns.{mark_step, closes};
+    ghost use Rattle.cache_policy.specs.Turns.{asked_step, closes};
 
     /// Ends the step, and gives its ticket back where it is a Close.
     pub fn into_ticket(self) -> Option<Ticket>
-        ensures { result ≡ closes (mark_step self) }
+        ensures { result ≡ closes (asked_step self) }
     {
         match self {
             Step::Close { ticket, keep: _ } => Some(ticket),
@@ -56,8 +60,9 @@ impl Step {
                 id: _,
                 mode: _,
                 way: _,
+                wait: _,
             } => None,
-            Step::Seat { under: _ } => None,
+            Step::Seat { under: _, wait: _ } => None,
             Step::Put {
                 id: _,
                 mode: _,
@@ -80,8 +85,10 @@ pub enum Reply {
     Empty,
     /// The ticket for the prompt.
     Open(Ticket),
-    /// Another session has the seat. A desk waits in place of this reply.
-    Stand,
+    /// Another session has the seat. The step is to be tried again with this. A desk waits in place of this reply.
+    Stand(Wait),
+    /// The step has stood before a held seat for `MAX_WAIT` seconds.
+    Late,
     /// Done.
     Done,
     /// Whether a passphrase is there.

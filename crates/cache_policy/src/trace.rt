@@ -3,39 +3,69 @@ ghost use Rattle.cache_policy.specs.Bare.{bare_step};
 ghost use Rattle.cache_policy.specs.Traces.{trace_step, reply_of};
 ghost use Rattle.cache_policy.specs.Turns.{mark_step, turn_of};
 
+use crate::wait::since_by;
 use crate::{CacheId, Life, MarkReply, Mode, Reply, Step, Under, Way};
 use agent_ports::SessionId;
 
-/// One step of a session, with the number of its ticket in place of a ticket and without the bytes of a secret.
+/// One step of a session, with the number of its ticket in place of a ticket, the moment of its first try in place of a wait, and without
+/// the bytes of a secret.
 #[derive(Debug, PartialEq, Eq, Drop)]
 pub enum TraceStep {
-    Ask { id: CacheId, mode: Mode, way: Way },
-    Seat { under: Option<Under> },
+    Ask {
+        id: CacheId,
+        mode: Mode,
+        way: Way,
+        since: Option<u64>,
+    },
+    Seat {
+        under: Option<Under>,
+        since: Option<u64>,
+    },
     /// Whether it keeps what was typed.
-    Close { ticket: u64, keep: bool },
-    Put { id: CacheId, mode: Mode, life: Life },
-    Clear { id: CacheId, mode: Mode },
+    Close {
+        ticket: u64,
+        keep: bool,
+    },
+    Put {
+        id: CacheId,
+        mode: Mode,
+        life: Life,
+    },
+    Clear {
+        id: CacheId,
+        mode: Mode,
+    },
     Flush,
-    Peek { id: CacheId, mode: Mode },
+    Peek {
+        id: CacheId,
+        mode: Mode,
+    },
     Stop,
 }
 
 impl TraceStep {
-    /// What a trace shows of the step.
-    pub fn of(step: &Step) -> TraceStep
-        ensures { trace_step result ≡ bare_step (mark_step step.now) }
+    /// What a trace shows of a session's step.
+    pub fn of(session: SessionId, step: &Step) -> TraceStep
+        ensures { trace_step result ≡ bare_step (mark_step session step.now) }
     {
         match step {
-            Step::Ask { id, mode, way } => TraceStep::Ask {
+            Step::Ask {
+                id,
+                mode,
+                way,
+                wait,
+            } => TraceStep::Ask {
                 id: id.copy(),
                 mode: *mode,
                 way: *way,
+                since: since_by(session, wait),
             },
-            Step::Seat { under } => TraceStep::Seat {
+            Step::Seat { under, wait } => TraceStep::Seat {
                 under: match under {
                     Some(under) => Some(under.copy()),
                     None => None,
                 },
+                since: since_by(session, wait),
             },
             Step::Close { ticket, keep } => TraceStep::Close {
                 ticket: ticket.number(),
@@ -84,10 +114,11 @@ impl MarkReply {
             Reply::Given(grant) => Some(MarkReply::Given(grant.number())),
             Reply::Empty => Some(MarkReply::Empty),
             Reply::Open(_) => Some(MarkReply::Open),
-            Reply::Stand => None,
+            Reply::Stand(_) => None,
             Reply::Done => Some(MarkReply::Done),
             Reply::Held(held) => Some(MarkReply::Held(*held)),
             Reply::Stopping => Some(MarkReply::Stopping),
+            Reply::Late => Some(MarkReply::Late),
         }
     }
 }

@@ -13,8 +13,8 @@ use Rattle.agent_ports.specs.Counts.{Rose, RoseBy}
 use Rattle.agent_ports.specs.Launches.{Launches}
 use Rattle.agent_ports.specs.Sides.{Side}
 use Rattle.assuan_client.specs.Connections.{Connection}
-use Rattle.pinentry_client.specs.Dialogues.{HasNoChild, HasChild, HasFinished, SaysBye, opened_of, stays_ready, stays_open, Does, unlaunched, started, pin_asked, consent_asked, shut, shut_alone, PinentryCall}
-use Rattle.pinentry_client.specs.States.{PinentryState, AtPinentry, seen, at_prompter}
+use Rattle.pinentry_client.specs.Dialogues.{HasNoChild, HasChild, HasFinished, SaysBye, opened_of, stays_ready, stays_open, PinentryDoes, unlaunched, started, pin_asked, consent_asked, shut, shut_alone, PinentryCall}
+use Rattle.pinentry_client.specs.States.{PinentryState, AtPinentry, at_pinentry, at_prompter}
 use Rattle.pinentry_client.specs.Talking.{StartTalk, PinTalk, ConsentTalk}
 use Rattle.pinentry_client.specs.declared.answers.Trouble.{Trouble}
 use Rattle.pinentry_client.specs.declared.answers.Trouble.TheVariants.{Failed, Broken}
@@ -65,11 +65,11 @@ call_of : {before after : AtPrompter} {call : Call} (failed : Bool) → after.re
     → (before.faults ≤ after.faults) × (failed ≡ true → Rose before.faults after.faults) → IsCall before call after
 call_of failed ready child is grew = record { ready = ready; child = child; faults = grew.0; rose = λ fails. grew.1 (sym is ∙ fails) }
 
-started_grew : (spec : PromptSpec) (end : Result ℕ Trouble) (before launches : Launches) (fresh conn : Connection) → HasChild before fresh launches
+started_grew : (program : List ℕ) (spec : PromptSpec) (end : Result ℕ Trouble) (before launches : Launches) (fresh conn : Connection) → HasChild program before fresh launches
     → RoseBy (cond (fails_by end) 1 0) (faults fresh) (faults conn)
     → (min (before.faults + 0) (2 ^ 64 - 1) ≤ min (launches.faults + faults conn) (2 ^ 64 - 1))
     × (fails_by end ≡ true → Rose (min (before.faults + 0) (2 ^ 64 - 1)) (min (launches.faults + faults conn) (2 ^ 64 - 1)))
-started_grew spec end before launches fresh conn has grew =
+started_grew program spec end before launches fresh conn has grew =
     let none : faults fresh ≡ 0 = omega (arith, has.fresh.no_read_failed, has.fresh.no_write_failed) in
     counts_grew (fails_by end) before.faults launches.faults 0 (faults conn) has.faults (subst (λ (n : ℕ). RoseBy (cond (fails_by end) 1 0) n (faults conn)) none grew)
 
@@ -77,15 +77,15 @@ bye_grew : (ready : Bool) (before after : Side) → SaysBye ready before after �
 bye_grew true before after says = says.faults
 bye_grew false before after says = omega (arith, ap (λ (s : Side). s.faults) says)
 
-pub is_call : {before after : AtPinentry} {call : Call} → Does before call after → IsCall (at_prompter before) call (at_prompter after)
+pub is_call : {before after : AtPinentry} {call : Call} → PinentryDoes before call after → IsCall (at_prompter before) call (at_prompter after)
 is_call (unlaunched {before} {launches} none) = record {
   ready = refl;
   child = λ same. absurd (cc same);
   faults = omega (arith, none.faults);
   rose = λ failed. let rose = none.rose in omega (arith, rose);
 }
-is_call (started {before} {launches} {spec} {fresh} {conn} end has talk) =
-    call_of (fails_by end) (start_ready_after spec end) (λ same. absurd (cc same)) (start_is_failed spec end) (started_grew spec end before launches fresh conn has (start_grew talk))
+is_call (started {program} {before} {launches} {spec} {fresh} {conn} end has talk) =
+    call_of (fails_by end) (start_ready_after spec end) (λ same. absurd (cc same)) (start_is_failed spec end) (started_grew program spec end before launches fresh conn has (start_grew talk))
 is_call (pin_asked {launches} {conn} {later} {error} {outcome = what} talk) =
     call_of (pin_failed what) (pin_ready_after error what) (λ same. absurd (cc same)) (pin_is_failed error what)
     (counts_grew (pin_failed what) launches.faults launches.faults (faults conn) (faults later) (omega arith) (pin_grew talk))
@@ -99,9 +99,9 @@ is_call (shut {before} {launches} {conn} {ready} {output} says has) =
 is_call shut_alone = record { ready = refl; child = λ same. refl; faults = omega arith; rose = λ failed. absurd (cc failed) }
 
 -- a call of a pinentry that does so
-pub pinentry_call : {La : Type 0} (launches : La → Launches) {before after : PinentryState La} {call : Call} → Does (seen launches before) call (seen launches after)
-    → after.lent ≡ before.lent → PinentryCall launches before call after
-pinentry_call launches does lent = record { does = does; lent = lent; is = is_call does }
+pub pinentry_call : {La : Type 0} (launches : La → Launches) {before after : PinentryState La} {call : Call} → PinentryDoes (at_pinentry launches before) call (at_pinentry launches after)
+    → after.lent ≡ before.lent → after.program ≡ before.program → PinentryCall launches before call after
+pinentry_call launches does lent program = record { does = does; lent = lent; program = program; is = is_call does }
 
 absent : {X : Type 0} (option : Option X) → is_some option ≡ false → option ≡ None
 absent None none = refl
@@ -119,34 +119,34 @@ module _ {La : Type 0} {view pinentry : PinentryState La} where
   childless_of same none = absent view.child (ap (λ (p : PinentryState La). is_some p.child) same ∙ none)
 
 -- the same by equations
-module _ {before : Launches} {child later : Option Connection} {ready : Bool} where
-  pub shuts_alone : child ≡ None → later ≡ None → Does (record { launches = before; child = child; ready = ready }) Shut (record { launches = before; child = later; ready = false })
+module _ {program : List ℕ} {before : Launches} {child later : Option Connection} {ready : Bool} where
+  pub shuts_alone : child ≡ None → later ≡ None → PinentryDoes (record { program = program; launches = before; child = child; ready = ready }) Shut (record { program = program; launches = before; child = later; ready = false })
   shuts_alone absent gone = rw (absent, gone) shut_alone
 
   pub shuts : {launches : Launches} {conn : Connection} {start input output : Side} → child ≡ Some conn → later ≡ None → start ≡ conn.output → input ≡ conn.input → SaysBye ready start output
       → HasFinished before input output launches
-      → Does (record { launches = before; child = child; ready = ready }) Shut (record { launches = launches; child = later; ready = false })
+      → PinentryDoes (record { program = program; launches = before; child = child; ready = ready }) Shut (record { program = program; launches = launches; child = later; ready = false })
   shuts {launches} {conn} {start} {input} {output} there gone output_is input_is says has =
       rw (there, gone)
       (shut (subst (λ (s : Side). SaysBye ready s output) output_is says) (subst (λ (s : Side). HasFinished before s output launches) input_is has))
 
   pub starts_none : {launches : Launches} {spec : PromptSpec} → ready ≡ false → child ≡ None → later ≡ None → HasNoChild before launches
-      → Does (record { launches = before; child = child; ready = ready }) (Start spec opened.Failed) (record { launches = launches; child = later; ready = ready })
+      → PinentryDoes (record { program = program; launches = before; child = child; ready = ready }) (Start spec opened.Failed) (record { program = program; launches = launches; child = later; ready = ready })
   starts_none idle absent still has = rw (idle, absent, still) (unlaunched has)
 
   pub starts : {launches : Launches} {spec : PromptSpec} {fresh conn : Connection} {end : Result ℕ Trouble} {opens : Opened} {later_ready : Bool} → ready ≡ false → child ≡ None → later ≡ Some conn
-      → later_ready ≡ is_ok end → opens ≡ opened_of end → HasChild before fresh launches → StartTalk spec fresh end conn
-      → Does (record { launches = before; child = child; ready = ready }) (Start spec opens) (record { launches = launches; child = later; ready = later_ready })
+      → later_ready ≡ is_ok end → opens ≡ opened_of end → HasChild program before fresh launches → StartTalk spec fresh end conn
+      → PinentryDoes (record { program = program; launches = before; child = child; ready = ready }) (Start spec opens) (record { program = program; launches = launches; child = later; ready = later_ready })
   starts {end} idle absent there ready_is opens_is has talk = rw (idle, absent, there, ready_is, opens_is) (started end has talk)
 
   pub asks_pin : {error : List ℕ} {what : Outcome} {conn after : Connection} {later_ready : Bool} → ready ≡ true → child ≡ Some conn → later ≡ Some after
       → later_ready ≡ stays_ready what → PinTalk error conn what after
-      → Does (record { launches = before; child = child; ready = ready }) (GetPin error what) (record { launches = before; child = later; ready = later_ready })
+      → PinentryDoes (record { program = program; launches = before; child = child; ready = ready }) (GetPin error what) (record { program = program; launches = before; child = later; ready = later_ready })
   asks_pin ready_there there still ready_is talk = rw (ready_there, there, still, ready_is) (pin_asked talk)
 
   pub asks_consent : {what : Consent} {conn after : Connection} {later_ready : Bool} → ready ≡ true → child ≡ Some conn → later ≡ Some after
       → later_ready ≡ stays_open what → ConsentTalk conn what after
-      → Does (record { launches = before; child = child; ready = ready }) (Confirm what) (record { launches = before; child = later; ready = later_ready })
+      → PinentryDoes (record { program = program; launches = before; child = child; ready = ready }) (Confirm what) (record { program = program; launches = before; child = later; ready = later_ready })
   asks_consent ready_there there still ready_is talk = rw (ready_there, there, still, ready_is) (consent_asked talk)
 
 -- there is none

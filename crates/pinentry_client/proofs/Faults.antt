@@ -14,7 +14,7 @@ use Rattle.assuan_client.specs.Skipping.{Tally}
 use Rattle.assuan_client.specs.Writing.{Command, IsUnanswered}
 use Rattle.assuan_client.specs.declared.answer.Answer.{Answer}
 use Rattle.assuan_client.specs.declared.answer.Answer.TheVariants as answer
-use Rattle.pinentry_client.specs.Answers.{greeted, accepted, applied, data_of, process_of, outcome_of, pin_error, consent_of, consent_error}
+use Rattle.pinentry_client.specs.Answers.{greeted, accepted, pid_after, data_of, process_of, pin_outcome, pin_error, consent_of, consent_error}
 use Rattle.pinentry_client.specs.Talking.{TellsSetting, unsent, sent, Sets, done, next, StartTalk, greets, Replies, Settles, answered, inquired, ErrorTalk, none, shown, PinTalk, ConsentTalk, outcome_by}
 use Rattle.pinentry_client.specs.declared.answers.Trouble.{Trouble}
 use Rattle.pinentry_client.specs.declared.answers.Trouble.TheVariants.{Failed, Broken}
@@ -133,7 +133,7 @@ data_fails : (setting : Setting) (bytes : List ℕ) → fails_by (data_of settin
 data_fails setting.Pid bytes = process_fails (number_of bytes)
 data_fails _ bytes = refl
 
-applied_fails : (setting : Setting) (pid : ℕ) (said : Answer) → fails_by (applied setting pid said) ≡ true → is_fault said ≡ true
+applied_fails : (setting : Setting) (pid : ℕ) (said : Answer) → fails_by (pid_after setting pid said) ≡ true → is_fault said ≡ true
 applied_fails setting pid answer.ReadFault failed = refl
 applied_fails setting pid answer.WriteFault failed = refl
 applied_fails setting pid (answer.Got bytes) failed = let never = data_fails setting bytes in absurd (cc (never, failed))
@@ -146,7 +146,7 @@ told_grew : {spec : PromptSpec} {setting : Setting} {pid : ℕ} {before after : 
     → Grew (fails_by end) before after
 told_grew (unsent absent) = omega arith
 told_grew {setting} {pid} {before} {after} (sent line said is does) =
-    weaker (is_fault said) (fails_by (applied setting pid said)) (faults before) (faults after) (applied_fails setting pid said) (exchanged_grew said does)
+    weaker (is_fault said) (fails_by (pid_after setting pid said)) (faults before) (faults after) (applied_fails setting pid said) (exchanged_grew said does)
 
 sets_grew : {spec : PromptSpec} {settings : List Setting} {pid : ℕ} {before after : Connection} {end : Result ℕ Trouble} → Sets spec settings pid before end after
     → Grew (fails_by end) before after
@@ -196,7 +196,7 @@ by_three number false false false = refl
 pin_error_never : (number : ℕ) → pin_failed (pin_error number) ≡ false
 pin_error_never number = by_three number (number % 65536 == 99) (number % 65536 == 198) (number % 65536 == 62)
 
-pin_fails : (said : Answer) → pin_failed (outcome_of said) ≡ true → is_fault said ≡ true
+pin_fails : (said : Answer) → pin_failed (pin_outcome said) ≡ true → is_fault said ≡ true
 pin_fails answer.Ok failed = cc failed
 pin_fails (answer.Got bytes) failed = cc failed
 pin_fails (answer.Err number) failed = let never = pin_error_never number in absurd (cc (never, failed))
@@ -212,7 +212,7 @@ trouble_fails (Broken why) = refl
 pub pin_grew : {error : List ℕ} {before after : Connection} {outcome : Outcome} → PinTalk error before outcome after → Grew (pin_failed outcome) before after
 pin_grew {before} {after} (PinTalk.asked {shown} {mid} said final shows does settles) =
     let command = grew_then (is_fault said) (faults before) (faults shown) (faults mid) (error_grew shows) (exchanged_grew said does) in
-    weaker (is_fault final) (pin_failed (outcome_of final)) (faults before) (faults after) (pin_fails final) (settled_grew before command settles)
+    weaker (is_fault final) (pin_failed (pin_outcome final)) (faults before) (faults after) (pin_fails final) (settled_grew before command settles)
 pin_grew {before} {after} (PinTalk.stopped trouble shows) = rw (trouble_fails trouble) (error_grew shows)
 
 abbrev pub consent_failed : Consent → Bool

@@ -9,7 +9,7 @@ use Rattle.assuan_client.specs.Skipping.{Tally}
 use Rattle.assuan_client.specs.Writing.{Command, reply_text, cancel_text}
 use Rattle.assuan_client.specs.declared.answer.Answer.{Answer}
 use Rattle.assuan_client.specs.declared.answer.Answer.TheVariants as answer
-use Rattle.pinentry_client.specs.Answers.{greeted, accepted, applied, outcome_of, consent_of}
+use Rattle.pinentry_client.specs.Answers.{greeted, accepted, pid_after, pin_outcome, consent_of}
 use Rattle.pinentry_client.specs.Dialogues.{stays_ready, stays_open}
 use Rattle.pinentry_client.specs.Settings.{IsSettingLine, IsWhereGiven}
 use Rattle.pinentry_client.specs.Talking.{TellsSetting, unsent, sent, Sets, done, next, StartTalk, greets, Replies, Settles, answered, inquired, ErrorTalk, none, shown, PinTalk, ConsentTalk, outcome_by}
@@ -48,7 +48,7 @@ sent_or_not spec setting.Ok line not there = given_or_not spec.ok.items line _ n
 sent_or_not spec setting.Cancel line not there = given_or_not spec.cancel.items line _ not there
 sent_or_not spec setting.QualityBar line not there = some_not_none not there
 
-applied_fine : (which : Setting) (pid : ℕ) (said : Answer) → fails_by (applied which pid said) ≡ false → is_fault said ≡ false
+applied_fine : (which : Setting) (pid : ℕ) (said : Answer) → fails_by (pid_after which pid said) ≡ false → is_fault said ≡ false
 applied_fine which pid answer.Ok fine = refl
 applied_fine which pid (answer.Got bytes) fine = refl
 applied_fine which pid (answer.Err number) fine = refl
@@ -57,7 +57,7 @@ applied_fine which pid (answer.Broken why) fine = refl
 applied_fine which pid answer.ReadFault fine = cc fine
 applied_fine which pid answer.WriteFault fine = cc fine
 
-applied_on : (which : Setting) (pid : ℕ) (said : Answer) → is_ok (applied which pid said) ≡ true → goes_on said ≡ true
+applied_on : (which : Setting) (pid : ℕ) (said : Answer) → is_ok (pid_after which pid said) ≡ true → goes_on said ≡ true
 applied_on which pid answer.Ok well = refl
 applied_on which pid (answer.Got bytes) well = refl
 applied_on which pid (answer.Err number) well = refl
@@ -109,7 +109,7 @@ told_alike {spec} {which} alike fine fine' (unsent absent) (sent line said is do
 told_alike {spec} {which} alike fine fine' (sent line said is does) (unsent absent) = absurd (sent_or_not spec which line absent is)
 told_alike {spec} {which} {pid} alike fine fine' (sent line said is does) (sent line' again is' does') =
     let same = exchanged_alike said again (applied_fine which pid said fine) (applied_fine which pid again fine') alike does does' in
-    record { is = ap (applied which pid) same.is; alike = λ well. same.alike (applied_on which pid said well) }
+    record { is = ap (pid_after which pid) same.is; alike = λ well. same.alike (applied_on which pid said well) }
 
 known_is : {known other : ℕ} → (let end : Result ℕ Trouble = Ok known in end) ≡ Ok other → known ≡ other
 known_is same = cc same
@@ -176,7 +176,7 @@ error_alike alike fine fine' (shown line said some is does) (shown line' again s
     let same = exchanged_alike said again (accepted_fine said fine) (accepted_fine again fine') alike does does' in
     record { is = ap accepted same.is; alike = λ well. same.alike (accepted_on said well) }
 
-pin_fine : (said : Answer) → pin_failed (outcome_of said) ≡ false → is_fault said ≡ false
+pin_fine : (said : Answer) → pin_failed (pin_outcome said) ≡ false → is_fault said ≡ false
 pin_fine answer.Ok fine = refl
 pin_fine (answer.Got bytes) fine = refl
 pin_fine (answer.Err number) fine = refl
@@ -185,7 +185,7 @@ pin_fine (answer.Broken why) fine = refl
 pin_fine answer.ReadFault fine = cc fine
 pin_fine answer.WriteFault fine = cc fine
 
-pin_on : (said : Answer) → stays_ready (outcome_of said) ≡ true → goes_on said ≡ true
+pin_on : (said : Answer) → stays_ready (pin_outcome said) ≡ true → goes_on said ≡ true
 pin_on answer.Ok well = refl
 pin_on (answer.Got bytes) well = refl
 pin_on (answer.Err number) well = refl
@@ -212,7 +212,7 @@ pin_alike {stop} alike fine fine' (PinTalk.asked said final shows does settles) 
     let last_fine = pin_fine last fine' in
     let same = exchanged_alike said again (settled_fine final_fine settles) (settled_fine last_fine settles') (shown_same.alike refl) does does' in
     let settled = settled_alike said final_fine last_fine same.alike settles (subst (λ (a : Answer). Settles true a mid' last stop) (sym same.is) settles') in
-    record { is = ap outcome_of settled.is; alike = λ well. settled.alike (pin_on final well) }
+    record { is = ap pin_outcome settled.is; alike = λ well. settled.alike (pin_on final well) }
 pin_alike alike fine fine' (PinTalk.asked said final shows does settles) (PinTalk.stopped trouble shows') =
     absurd (met_or_not (error_alike alike refl (sym (trouble_fails trouble) ∙ fine') shows shows').is)
 pin_alike alike fine fine' (PinTalk.stopped trouble shows) (PinTalk.asked again last shows' does' settles') =

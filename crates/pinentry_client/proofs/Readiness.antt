@@ -4,10 +4,10 @@ use Rattle.assuan_client.specs.Answers.{state_after}
 use Rattle.assuan_client.specs.declared.answer.Answer.{Answer}
 use Rattle.assuan_client.specs.declared.answer.Answer.TheVariants.{Ok, Got, Err, Asked, Broken, ReadFault, WriteFault}
 use Rattle.assuan_client.specs.declared.answer.State.TheVariants.{Ready}
-use Rattle.pinentry_client.specs.Answers.{outcome_of, consent_of}
+use Rattle.pinentry_client.specs.Answers.{pin_outcome, consent_of}
 use Rattle.pinentry_client.specs.Dialogues.{stays_ready, stays_open}
 
-pub pin_ready : (said : Answer) → stays_ready (outcome_of said) ≡ true → state_after said ≡ Ready
+pub pin_ready : (said : Answer) → stays_ready (pin_outcome said) ≡ true → state_after said ≡ Ready
 pin_ready Ok ready = refl
 pin_ready (Got bytes) ready = refl
 pin_ready (Err number) ready = refl

@@ -20,7 +20,7 @@ use Rattle.assuan_line.specs.declared.breach.Breach.TheVariants as breach
 use Rattle.assuan_line.specs.declared.reader.Took.{Took as Took'}
 use Rattle.assuan_line.specs.declared.reader.Took.TheVariants as took
 use Rattle.assuan_text.specs.Numbers.{number_of}
-use Rattle.pinentry_client.specs.Answers.{greeted, accepted, applied, data_of, process_of, outcome_of, consent_of}
+use Rattle.pinentry_client.specs.Answers.{greeted, accepted, pid_after, data_of, process_of, pin_outcome, consent_of}
 use Rattle.pinentry_client.specs.Talking.{TellsSetting, unsent, sent, Sets, done, next, StartTalk, greets, Replies, Settles, answered, inquired, ErrorTalk, none, shown, PinTalk, ConsentTalk, outcome_by}
 use Rattle.pinentry_client.specs.Dialogues.{opened_of, stays_ready, stays_open}
 use Rattle.pinentry_client.specs.Whole.{Questions, Dialogue, IsSpent, HasSpent, here, later}
@@ -112,7 +112,7 @@ data_never : (which : Setting) (bytes : List ℕ) → data_of which bytes ≡ Er
 data_never setting.Pid bytes is = number_never (number_of bytes) is
 data_never _ bytes is = cc is
 
-applied_spent : (which : Setting) (pid : ℕ) (said : Answer) → applied which pid said ≡ Err (Broken breach.Spent) → said ≡ spent_answer
+applied_spent : (which : Setting) (pid : ℕ) (said : Answer) → pid_after which pid said ≡ Err (Broken breach.Spent) → said ≡ spent_answer
 applied_spent which pid answer.Ok is = cc is
 applied_spent which pid (answer.Got bytes) is = absurd (data_never which bytes is)
 applied_spent which pid (answer.Err number) is = cc is
@@ -182,7 +182,7 @@ by_three number false true third is = cc is
 by_three number false false true is = cc is
 by_three number false false false is = cc is
 
-pin_spent : (said : Answer) → outcome_of said ≡ outcome.Broken breach.Spent → said ≡ spent_answer
+pin_spent : (said : Answer) → pin_outcome said ≡ outcome.Broken breach.Spent → said ≡ spent_answer
 pin_spent answer.Ok is = cc is
 pin_spent (answer.Got bytes) is = cc is
 pin_spent (answer.Err number) is = absurd (by_three number (number % 65536 == 99) (number % 65536 == 198) (number % 65536 == 62) is)

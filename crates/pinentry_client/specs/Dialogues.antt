@@ -1,5 +1,5 @@
 -- What a pinentry does by each call of a prompter: what is launched, said, answered and finished (pinentry manual, "protocol").
-use Rattle.std.specs.Prelude.{◌≡◌, ◌≤◌, ◌+◌, ℕ, Bool, true, false, List, [], codes, is_ok, Some, None, Result, Ok, Err}
+use Rattle.std.specs.Prelude.{◌≡◌, ◌≤◌, ◌+◌, ℕ, Bool, true, false, List, [], codes, is_ok, None, Result, Ok, Err}
 use Rattle.agent_ask.specs.Events.{Call, Start, GetPin, Confirm, Shut}
 use Rattle.agent_ask.specs.Prompters.{IsCall}
 use Rattle.agent_ask.specs.declared.prompter.Consent.{Consent}
@@ -10,14 +10,14 @@ use Rattle.agent_ask.specs.declared.prompter.Outcome.{Outcome}
 use Rattle.agent_ask.specs.declared.prompter.Outcome.TheVariants as outcome
 use Rattle.agent_ask.specs.declared.spec.PromptSpec.{PromptSpec}
 use Rattle.agent_ports.specs.Counts.{Rose, RoseBy}
-use Rattle.agent_ports.specs.Launches.{Launches, IsFresh, child_then, then_finished}
+use Rattle.agent_ports.specs.Launches.{Launches, IsFresh, child_then, then_launched, then_finished}
 use Rattle.agent_ports.specs.Sides.{Side, with_bytes, sent_part, IsCut}
 use Rattle.agent_ports.specs.declared.link.Sent.{Sent}
 use Rattle.assuan_client.specs.Connections.{Connection}
 use Rattle.assuan_client.specs.Skipping.{nothing}
 use Rattle.assuan_client.specs.declared.answer.State.TheVariants as state
 use Rattle.assuan_text.specs.LineEnds.{line_of}
-use Rattle.pinentry_client.specs.States.{PinentryState, AtPinentry, seen, at_prompter}
+use Rattle.pinentry_client.specs.States.{PinentryState, AtPinentry, idle, asked, at_pinentry, at_prompter}
 use Rattle.pinentry_client.specs.Talking.{StartTalk, PinTalk, ConsentTalk}
 use Rattle.pinentry_client.specs.declared.answers.Trouble.{Trouble}
 use Rattle.pinentry_client.specs.declared.answers.Trouble.TheVariants.{Failed, Broken}
@@ -26,17 +26,19 @@ use Rattle.assuan_line.specs.declared.reader.TheConstants.{BUDGET}
 -- a launch gave no child
 pub record HasNoChild (before after : Launches) : Type 0 where
   pub coming : after.coming ≡ before.coming
+  pub launched : after.launched ≡ before.launched
   pub finished : after.finished ≡ before.finished
   pub rose : Rose before.faults after.faults
   pub faults : before.faults ≤ after.faults
 
--- a child was launched: nothing was said, and its connection takes at most so many bytes
-pub record HasChild (before : Launches) (child : Connection) (after : Launches) : Type 0 where
+-- a child was launched, which runs this program: nothing was said, and its connection takes at most so many bytes
+pub record HasChild (program : List ℕ) (before : Launches) (child : Connection) (after : Launches) : Type 0 where
   pub fresh : IsFresh child.input child.output
   pub reader : child.reader ≡ record { ahead = []; left = BUDGET; ended = None }
   pub tally : child.tally ≡ nothing
   pub state : child.state ≡ state.Ready
   pub coming : before.coming ≡ child_then child.input.bytes after.coming
+  pub launched : after.launched ≡ then_launched before.launched program
   pub finished : after.finished ≡ before.finished
   pub faults : before.faults ≤ after.faults
 
@@ -56,6 +58,7 @@ SaysBye false before after = after ≡ before
 pub record HasFinished (before : Launches) (input output : Side) (after : Launches) : Type 0 where
   pub finished : after.finished ≡ then_finished before.finished input.bytes output.bytes
   pub coming : after.coming ≡ before.coming
+  pub launched : after.launched ≡ before.launched
   pub rose : RoseBy (input.faults + output.faults) before.faults after.faults
   pub faults : before.faults ≤ after.faults
 
@@ -82,21 +85,24 @@ stays_open consent.Failed = false
 stays_open (consent.Broken why) = false
 
 -- What each call does. A prompt that is started has a child of its own, unless none could be launched, and one that is shut has none.
-pub data Does : AtPinentry → Call → AtPinentry → Type 0 where
-  unlaunched : {before launches : Launches} {spec : PromptSpec} → HasNoChild before launches
-      → Does (record { launches = before; child = None; ready = false }) (Start spec opened.Failed) (record { launches = launches; child = None; ready = false })
-  started : {before launches : Launches} {spec : PromptSpec} {fresh conn : Connection} (end : Result ℕ Trouble) → HasChild before fresh launches → StartTalk spec fresh end conn
-      → Does (record { launches = before; child = None; ready = false }) (Start spec (opened_of end)) (record { launches = launches; child = Some conn; ready = is_ok end })
-  pin_asked : {launches : Launches} {conn later : Connection} {error : List ℕ} {outcome : Outcome} → PinTalk error conn outcome later
-      → Does (record { launches = launches; child = Some conn; ready = true }) (GetPin error outcome) (record { launches = launches; child = Some later; ready = stays_ready outcome })
-  consent_asked : {launches : Launches} {conn later : Connection} {consent : Consent} → ConsentTalk conn consent later
-      → Does (record { launches = launches; child = Some conn; ready = true }) (Confirm consent) (record { launches = launches; child = Some later; ready = stays_open consent })
-  shut : {before launches : Launches} {conn : Connection} {ready : Bool} {output : Side} → SaysBye ready conn.output output → HasFinished before conn.input output launches
-      → Does (record { launches = before; child = Some conn; ready = ready }) Shut (record { launches = launches; child = None; ready = false })
-  shut_alone : {launches : Launches} {ready : Bool} → Does (record { launches = launches; child = None; ready = ready }) Shut (record { launches = launches; child = None; ready = false })
+pub data PinentryDoes : AtPinentry → Call → AtPinentry → Type 0 where
+  unlaunched : {program : List ℕ} {before launches : Launches} {spec : PromptSpec} → HasNoChild before launches
+      → PinentryDoes (idle program before) (Start spec opened.Failed) (idle program launches)
+  started : {program : List ℕ} {before launches : Launches} {spec : PromptSpec} {fresh conn : Connection} (end : Result ℕ Trouble)
+      → HasChild program before fresh launches → StartTalk spec fresh end conn
+      → PinentryDoes (idle program before) (Start spec (opened_of end)) (asked program launches conn (is_ok end))
+  pin_asked : {program : List ℕ} {launches : Launches} {conn later : Connection} {error : List ℕ} {outcome : Outcome} → PinTalk error conn outcome later
+      → PinentryDoes (asked program launches conn true) (GetPin error outcome) (asked program launches later (stays_ready outcome))
+  consent_asked : {program : List ℕ} {launches : Launches} {conn later : Connection} {consent : Consent} → ConsentTalk conn consent later
+      → PinentryDoes (asked program launches conn true) (Confirm consent) (asked program launches later (stays_open consent))
+  shut : {program : List ℕ} {before launches : Launches} {conn : Connection} {ready : Bool} {output : Side} → SaysBye ready conn.output output
+      → HasFinished before conn.input output launches → PinentryDoes (asked program before conn ready) Shut (idle program launches)
+  shut_alone : {program : List ℕ} {launches : Launches} {ready : Bool}
+      → PinentryDoes (record { program = program; launches = launches; child = None; ready = ready }) Shut (idle program launches)
 
--- a call of a pinentry, which keeps its launcher
+-- a call of a pinentry, which keeps its launcher and its program
 pub record PinentryCall {La : Type 0} (launches : La → Launches) (before : PinentryState La) (call : Call) (after : PinentryState La) : Type 0 where
-  pub does : Does (seen launches before) call (seen launches after)
+  pub does : PinentryDoes (at_pinentry launches before) call (at_pinentry launches after)
   pub lent : after.lent ≡ before.lent
-  pub is : IsCall (at_prompter (seen launches before)) call (at_prompter (seen launches after))
+  pub program : after.program ≡ before.program
+  pub is : IsCall (at_prompter (at_pinentry launches before)) call (at_prompter (at_pinentry launches after))

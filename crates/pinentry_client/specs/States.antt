@@ -1,5 +1,5 @@
 -- A pinentry as contracts see it: its launcher, and its child.
-use Rattle.std.specs.Prelude.{◌≡◌, ◌+◌, ◌-◌, ◌^◌, ℕ, Bool, true, false, min, is_some, Option, Some, None, ⊤}
+use Rattle.std.specs.Prelude.{◌≡◌, ◌+◌, ◌-◌, ◌^◌, ℕ, Bool, true, false, List, min, is_some, Option, Some, None, ⊤}
 use Rattle.std.specs.Borrow.{GName}
 use Rattle.agent_ask.specs.Prompters.{AtPrompter}
 use Rattle.agent_ports.specs.Launches.{Launches}
@@ -7,6 +7,8 @@ use Rattle.assuan_client.specs.Connections.{Connection}
 use Rattle.assuan_client.specs.declared.answer.State.TheVariants.{Ready}
 
 pub record PinentryState (La : Type 0) : Type 0 where
+  -- what a child runs
+  pub program : List ℕ
   -- the launcher, and which one that is
   pub launcher : La
   pub lent : GName
@@ -17,12 +19,21 @@ pub record PinentryState (La : Type 0) : Type 0 where
 
 -- what has to do with children
 pub record AtPinentry : Type 0 where
+  pub program : List ℕ
   pub launches : Launches
   pub child : Option Connection
   pub ready : Bool
 
-abbrev pub seen : {La : Type 0} → (La → Launches) → PinentryState La → AtPinentry
-seen launches pinentry = record { launches = launches pinentry.launcher; child = pinentry.child; ready = pinentry.ready }
+abbrev pub at_pinentry : {La : Type 0} → (La → Launches) → PinentryState La → AtPinentry
+at_pinentry launches pinentry = record { program = pinentry.program; launches = launches pinentry.launcher; child = pinentry.child; ready = pinentry.ready }
+
+-- no child stands
+abbrev pub idle : List ℕ → Launches → AtPinentry
+idle program launches = record { program = program; launches = launches; child = None; ready = false }
+
+-- a child stands, which can be asked or not
+abbrev pub asked : List ℕ → Launches → Connection → Bool → AtPinentry
+asked program launches conn ready = record { program = program; launches = launches; child = Some conn; ready = ready }
 
 -- how many reads and writes of a child failed
 abbrev pub child_faults : Option Connection → ℕ
@@ -38,7 +49,7 @@ at_prompter pinentry = record {
 }
 
 -- a child that can be asked waits for a command
-abbrev pub Waits : Bool → Option Connection → Type 0
-Waits true (Some conn) = conn.state ≡ Ready
-Waits true None = ⊥
-Waits false child = ⊤
+abbrev pub ChildWaits : Bool → Option Connection → Type 0
+ChildWaits true (Some conn) = conn.state ≡ Ready
+ChildWaits true None = ⊥
+ChildWaits false child = ⊤

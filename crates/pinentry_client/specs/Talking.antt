@@ -14,7 +14,7 @@ use Rattle.assuan_client.specs.declared.answer.Answer.{Answer}
 use Rattle.assuan_client.specs.declared.answer.Answer.TheVariants as answer
 use Rattle.assuan_escape.specs.Escapes.{unescaped}
 use Rattle.assuan_text.specs.LineEnds.{line_of}
-use Rattle.pinentry_client.specs.Answers.{greeted, accepted, applied, outcome_of, consent_of}
+use Rattle.pinentry_client.specs.Answers.{greeted, accepted, pid_after, pin_outcome, consent_of}
 use Rattle.pinentry_client.specs.Settings.{IsSettingLine, IsTextLine, all_settings}
 use Rattle.pinentry_client.specs.declared.answers.Trouble.{Trouble}
 use Rattle.pinentry_client.specs.declared.answers.Trouble.TheVariants.{Failed, Broken}
@@ -28,7 +28,7 @@ Commands line answer before after = Command (line_of line) nothing answer before
 pub data TellsSetting (spec : PromptSpec) (setting : Setting) (pid : ℕ) : Connection → Result ℕ Trouble → Connection → Type 0 where
   unsent : {now : Connection} → IsSettingLine spec setting None → TellsSetting spec setting pid now (Ok pid) now
   sent : {before after : Connection} (line : List ℕ) (said : Answer) → IsSettingLine spec setting (Some line) → Commands line said before after
-      → TellsSetting spec setting pid before (applied setting pid said) after
+      → TellsSetting spec setting pid before (pid_after setting pid said) after
 
 -- These settings are told, one after another.
 pub data Sets (spec : PromptSpec) : List Setting → ℕ → Connection → Result ℕ Trouble → Connection → Type 0 where
@@ -81,7 +81,7 @@ outcome_by (Broken why) = outcome.Broken why
 -- a passphrase is asked for
 pub data PinTalk (error : List ℕ) : Connection → Outcome → Connection → Type 0 where
   asked : {before shown mid after : Connection} (said last : Answer) → ErrorTalk error before (Ok tt) shown → Commands (codes "GETPIN") said shown mid
-      → Settles true said mid last after → PinTalk error before (outcome_of last) after
+      → Settles true said mid last after → PinTalk error before (pin_outcome last) after
   stopped : {before after : Connection} (trouble : Trouble) → ErrorTalk error before (Err trouble) after → PinTalk error before (outcome_by trouble) after
 
 -- consent is asked for

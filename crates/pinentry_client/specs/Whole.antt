@@ -9,7 +9,7 @@ use Rattle.agent_ask.specs.declared.prompter.Opened.TheVariants as opened
 use Rattle.agent_ask.specs.declared.prompter.Outcome.{Outcome}
 use Rattle.agent_ask.specs.declared.prompter.Outcome.TheVariants as outcome
 use Rattle.agent_ask.specs.declared.spec.PromptSpec.{PromptSpec}
-use Rattle.agent_ports.specs.Launches.{Launches, IsFresh, child_then, then_finished}
+use Rattle.agent_ports.specs.Launches.{Launches, IsFresh, child_then, then_launched, then_finished}
 use Rattle.agent_ports.specs.Sides.{Side}
 use Rattle.assuan_client.specs.Connections.{Connection}
 use Rattle.assuan_client.specs.Skipping.{nothing}
@@ -59,13 +59,14 @@ pub record Dialogue (calls : List Call) (given left written : Option (List ℕ))
   pub left_are : input.bytes ≡ left
   pub written_are : output.bytes ≡ written
 
--- A prompt has one child of the launcher, which is the next to come and then the last of those that were finished, and they have a dialogue.
--- Where the launch failed there is none.
-pub data HasItsChild (calls : List Call) (before after : Launches) : Type 0 where
-  none : {spec : PromptSpec} {more : List Call} → calls ≡ Start spec opened.Failed ∷ more → after.coming ≡ before.coming → after.finished ≡ before.finished
-      → HasItsChild calls before after
+-- A prompt has one child of the launcher, which runs this program, is the next to come and then the last of those that were finished,
+-- and they have a dialogue. Where the launch failed there is none.
+pub data HasItsChild (program : List ℕ) (calls : List Call) (before after : Launches) : Type 0 where
+  none : {spec : PromptSpec} {more : List Call} → calls ≡ Start spec opened.Failed ∷ more → after.coming ≡ before.coming → after.launched ≡ before.launched
+      → after.finished ≡ before.finished → HasItsChild program calls before after
   one : (given left written : Option (List ℕ)) → Dialogue calls given left written → before.coming ≡ child_then given after.coming
-      → after.finished ≡ then_finished before.finished left written → HasItsChild calls before after
+      → after.launched ≡ then_launched before.launched program → after.finished ≡ then_finished before.finished left written
+      → HasItsChild program calls before after
 
 -- the same is asked
 abbrev pub AsksAlike : Call → Call → Type 0

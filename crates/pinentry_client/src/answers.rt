@@ -1,6 +1,6 @@
 ghost use Rattle.std.specs.Prelude.{◌≡◌, []};
 ghost use Rattle.assuan_text.specs.Numbers.{number_of};
-ghost use Rattle.pinentry_client.specs.Answers.{greeted, accepted, applied, refused, process_of, outcome_of, consent_of};
+ghost use Rattle.pinentry_client.specs.Answers.{greeted, accepted, pid_after, trouble_of, process_of, pin_outcome, consent_of};
 
 use crate::settings::Setting;
 use agent_ask::{Consent, Outcome};
@@ -8,6 +8,21 @@ use assuan_client::Answer;
 use assuan_line::Breach;
 use assuan_text::number_of;
 use cache_policy::Secret;
+
+/// The number of an error is its source, and in its 16 low bits its code.
+const CODES: u32 = 65_536;
+
+/// The time for an answer is over.
+const TIMEOUT: u32 = 62;
+
+/// The user cancelled.
+const CANCELED: u32 = 99;
+
+/// The user doesn't consent.
+const NOT_CONFIRMED: u32 = 114;
+
+/// The user cancelled all that was to come.
+const FULLY_CANCELED: u32 = 198;
 
 /// Why a dialogue can't go on.
 #[derive(Drop)]
@@ -26,13 +41,13 @@ pub(crate) fn greeted(answer: Answer) -> Result<(), Trouble>
         Answer::Ok => Ok(()),
         Answer::Err(number) => Err(Trouble::Broken(Breach::Code(number))),
         Answer::Got(_) => Err(Trouble::Broken(Breach::Data)),
-        answer => Err(refused(answer)),
+        answer => Err(trouble_of(answer)),
     }
 }
 
 /// Why an answer that is no end of a command isn't one.
-fn refused(answer: Answer) -> Trouble
-    ensures { result ≡ refused answer }
+fn trouble_of(answer: Answer) -> Trouble
+    ensures { result ≡ trouble_of answer }
 {
     match answer {
         Answer::Asked { .. } => Trouble::Broken(Breach::Inquiry),
@@ -48,13 +63,13 @@ pub(crate) fn accepted(answer: Answer) -> Result<(), Trouble>
     match answer {
         Answer::Ok | Answer::Err(_) => Ok(()),
         Answer::Got(_) => Err(Trouble::Broken(Breach::Data)),
-        answer => Err(refused(answer)),
+        answer => Err(trouble_of(answer)),
     }
 }
 
 /// The process that is known after the answer to a setting, or why the dialogue can't go on.
-pub(crate) fn applied(setting: Setting, pid: u32, answer: Answer) -> Result<u32, Trouble>
-    ensures { result ≡ applied setting pid answer }
+pub(crate) fn pid_after(setting: Setting, pid: u32, answer: Answer) -> Result<u32, Trouble>
+    ensures { result ≡ pid_after setting pid answer }
 {
     match answer {
         Answer::Got(digits) if setting == Setting::Pid => process_of(&digits),
@@ -76,15 +91,15 @@ fn process_of(digits: &Secret) -> Result<u32, Trouble>
 }
 
 /// What the answer to GETPIN means. An inquiry is no answer to it.
-pub(crate) fn outcome_of(answer: Answer) -> Outcome
-    ensures { result ≡ outcome_of answer }
+pub(crate) fn pin_outcome(answer: Answer) -> Outcome
+    ensures { result ≡ pin_outcome answer }
 {
     match answer {
         Answer::Ok => Outcome::Pin(no_bytes()),
         Answer::Got(pin) => Outcome::Pin(pin),
-        Answer::Err(number) => match number % 65_536 {
-            99 | 198 => Outcome::Cancelled,
-            62 => Outcome::TimedOut,
+        Answer::Err(number) => match number % CODES {
+            CANCELED | FULLY_CANCELED => Outcome::Cancelled,
+            TIMEOUT => Outcome::TimedOut,
             _ => Outcome::Broken(Breach::Code(number)),
         },
         Answer::Asked { .. } => Outcome::Broken(Breach::Inquiry),
@@ -100,10 +115,10 @@ pub(crate) fn consent_of(answer: Answer) -> Consent
     match answer {
         Answer::Ok => Consent::Yes,
         Answer::Got(_) => Consent::Broken(Breach::Data),
-        Answer::Err(number) => match number % 65_536 {
-            99 | 198 => Consent::Cancelled,
-            62 => Consent::TimedOut,
-            114 => Consent::No,
+        Answer::Err(number) => match number % CODES {
+            CANCELED | FULLY_CANCELED => Consent::Cancelled,
+            TIMEOUT => Consent::TimedOut,
+            NOT_CONFIRMED => Consent::No,
             _ => Consent::Broken(Breach::Code(number)),
         },
         Answer::Asked { .. } => Consent::Broken(Breach::Inquiry),

@@ -10,11 +10,11 @@ ghost use Rattle.assuan_line.specs.declared.reader.TheConstants.{BUDGET};
 
 use agent_ports::Launcher;
 
-/// The calls of one prompt are a dialogue with one child, which is the next that the launcher starts, and then the last that it has
-/// finished. Where it couldn't be started, there is no child.
+/// The calls of one prompt are a dialogue with one child, which runs the pinentry's program, is the next that the launcher starts, and
+/// then the last that it has finished. Where it couldn't be started, there is no child.
 pub fn a_prompt_has_its_child<La: Launcher>()
     ensures { (before after : PinentryState La) (calls : List Call) → IsOnePrompt calls → Leads (PinentryCall La.launches) before calls after
-        → HasItsChild calls (La.launches before.launcher) (La.launches after.launcher) }
+        → HasItsChild before.program calls (La.launches before.launcher) (La.launches after.launcher) }
 {}
 
 /// The bytes that a child could give decide what the calls of a prompt are answered: where the same is asked and the same calls fail, the

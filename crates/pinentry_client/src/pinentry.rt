@@ -15,7 +15,7 @@ use std::marker::Model;
 
 /// Prompts by children of a launcher, one for each prompt (pinentry manual, "protocol").
 ///
-/// Contracts see the launcher, the connection to the child that stands, if one does, and whether it can be asked.
+/// Contracts see the program, the launcher, the connection to the child that stands, if one does, and whether it can be asked.
 pub struct Pinentry<'a, La: Launcher> {
     alloc: Global,
     launcher: &'a mut La,
@@ -25,18 +25,19 @@ pub struct Pinentry<'a, La: Launcher> {
 }
 
 impl<'a, La: Launcher> Model for Pinentry<'a, La> {
-    ghost use Rattle.pinentry_client.specs.States.{PinentryState, Waits};
+    ghost use Rattle.pinentry_client.specs.States.{PinentryState, ChildWaits};
 
     ghost Value = { PinentryState La };
 
-    ghost view = { λ p. record { launcher = p.launcher.now; lent = p.launcher.ghost_name; child = p.child; ready = p.ready } };
+    ghost view = { λ p. record { program = p.program.items; launcher = p.launcher.now; lent = p.launcher.ghost_name; child = p.child; ready = p.ready } };
 
-    ghost invariant = { λ p. Waits p.ready p.child };
+    ghost invariant = { λ p. ChildWaits p.ready p.child };
 }
 
 impl<'a, La: Launcher> Pinentry<'a, La> {
     /// Children of this program, by this launcher.
     pub fn new(alloc: Global, launcher: &'a mut La, program: Word) -> Self
+        ensures program { result.program ≡ program.items }
         ensures launcher { result.launcher ≡ launcher.old }
         ensures lent { result.lent ≡ launcher.entry.ghost_name }
         ensures child { result.child ≡ None }
@@ -73,10 +74,10 @@ impl<'a, La: Launcher> Pinentry<'a, La> {
 }
 
 impl<'a, La: Launcher> Prompter for Pinentry<'a, La> {
-    ghost use Rattle.pinentry_client.specs.States.{at_prompter, seen};
+    ghost use Rattle.pinentry_client.specs.States.{at_prompter, at_pinentry};
     ghost use Rattle.pinentry_client.specs.Dialogues.{PinentryCall};
 
-    ghost at = { λ p. at_prompter (seen La.launches p) };
+    ghost at = { λ p. at_prompter (at_pinentry La.launches p) };
 
     ghost prompted = { λ before call after. PinentryCall La.launches before call after };
 

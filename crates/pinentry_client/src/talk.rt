@@ -8,7 +8,7 @@ ghost use Rattle.pinentry_client.specs.Dialogues.{stays_ready, stays_open};
 ghost use Rattle.pinentry_client.specs.Talking.{TellsSetting, Sets, StartTalk, Inquires, Settles, is_asked, ErrorTalk, PinTalk, ConsentTalk};
 ghost use Rattle.pinentry_client.specs.Settings.{all_settings};
 
-use crate::answers::{Trouble, accepted, applied, consent_of, greeted, outcome_of};
+use crate::answers::{Trouble, accepted, consent_of, greeted, pid_after, pin_outcome};
 use crate::settings::{SETTINGS, Setting, plain_line, setting_line, text_line};
 use agent_ask::{Consent, Outcome, PromptSpec};
 use agent_ports::Link;
@@ -54,7 +54,7 @@ fn tell_setting<L: Link>(
     ensures ready { OnOk result (peer.new.state ≡ state.Ready) }
 {
     match setting_line(spec, setting) {
-        Some(line) => applied(setting, pid, peer.command(&line)),
+        Some(line) => pid_after(setting, pid, peer.command(&line)),
         None => Ok(pid),
     }
 }
@@ -68,7 +68,7 @@ pub(crate) fn pin_talk<L: Link>(peer: &mut Peer<L>, error: &[u8]) -> Outcome
     match show_error(peer, error) {
         Ok(()) => {
             let answer = peer.command(&plain_line(b"GETPIN"));
-            outcome_of(settled(peer, answer, true))
+            pin_outcome(settled(peer, answer, true))
         }
         Err(Trouble::Failed) => Outcome::Failed,
         Err(Trouble::Broken(breach)) => Outcome::Broken(breach),

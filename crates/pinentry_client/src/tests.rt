@@ -8,7 +8,7 @@ use assuan_line::Breach;
 use assuan_text::Text;
 use prompt_seat::{Seat, Ticket};
 use session_options::{Options, Rules};
-use std::alloc::Global;
+use std::alloc::{AllocError, Global};
 use std::test::Fail;
 
 /// What is asked once a prompt is open.
@@ -123,6 +123,7 @@ fn consent_said(consent: Consent) -> Text {
 struct Played {
     said: Text,
     written: Text,
+    launched: Text,
 }
 
 impl Drop for Played {
@@ -130,6 +131,7 @@ impl Drop for Played {
         let Played {
             said: _,
             written: _,
+            launched: _,
         } = self;
     }
 }
@@ -152,13 +154,22 @@ fn play(
     let Some(ticket) = seat.take(1) else {
         return Err("no ticket".into());
     };
-    let mut pinentry = Pinentry::new(alloc, &mut launcher, Word::new());
+    let mut program = Word::new();
+    let _ = program.try_extend_from_slice(PROGRAM);
+    let mut pinentry = Pinentry::new(alloc, &mut launcher, program);
     let said = ask(&ticket, spec, asks, &mut pinentry);
     let _ = pinentry.into_launcher();
     let _ = seat.give(ticket);
     let written = text(launcher.written(0).unwrap_or(b""));
-    Ok(Played { said, written })
+    let launched = text(launcher.launched(0).unwrap_or(b""));
+    Ok(Played {
+        said,
+        written,
+        launched,
+    })
 }
+
+const PROGRAM: &[u8] = b"/usr/bin/pinentry";
 
 const OPENED: &[u8] = b"OK\nD 7\nOK\nOK\n";
 
@@ -189,6 +200,32 @@ fn dialogues_go_byte_for_byte(rt: HostRuntime) -> Result<(), Fail> {
         let played = play(rt.alloc(), &plain(), asks, gives, &[])?;
         assert_eq!(rt; played.said.as_slice(), said);
         assert_eq!(rt; played.written.as_slice(), written);
+        assert_eq!(rt; played.launched.as_slice(), PROGRAM);
+    }
+    Ok(())
+}
+
+/// A child's line of so many bytes without its end.
+fn comment(alloc: Global, len: usize) -> Result<Vec<u8>, AllocError> {
+    let mut line = vec![in alloc; b'#']?;
+    line.resize(len, b'x')?;
+    line.push(b'\n')?;
+    Ok(line)
+}
+
+#[test]
+fn a_child_may_not_send_a_line_that_is_too_long(rt: HostRuntime) -> Result<(), Fail> {
+    let alloc = rt.alloc();
+    for (len, said) in [
+        (1000usize, b"pid 7".as_slice()),
+        (1001, b"too long"),
+        (1002, b"too long"),
+        (5000, b"too long"),
+    ] {
+        let mut gives = comment(alloc, len)?;
+        gives.extend_from_slice(OPENED)?;
+        let played = play(alloc, &plain(), Asks::Nothing, &gives, &[])?;
+        assert_eq!(rt; played.said.as_slice(), said, "{len}");
     }
     Ok(())
 }

@@ -1,41 +1,15 @@
--- One line said behind another.
-use Rattle.std.proofs.Common.{◌≡◌, ◌≤◌, ℕ, List, [], ◌∷◌, ◌++◌, length, ◌==◌, false, Option, Result, Ok, Err, refl, ap, sym, ◌∙◌, subst, append_assoc, append-nil, arith}
+-- What is said, as lines.
+use Rattle.std.proofs.Common.{◌≡◌, ℕ, List, [], ◌∷◌, ◌++◌, length, ◌==◌, false, Result, Ok, Err, refl, ap, sym, ◌∙◌, append-nil, arith}
 use Rattle.std.specs.Prelude.{codes}
+use Rattle.std.specs.Result.{IsErr}
 use Rattle.std.proofs.lemmas.Bool.{false≢true}
-use Rattle.agent_ports.specs.Sides.{Side, with_bytes}
-use Rattle.agent_ports.proofs.Known.{with_bytes-append}
+use Rattle.agent_ports.specs.Sides.{Side}
+use Rattle.agent_ports.specs.Writing.{Writes}
+use Rattle.agent_ports.specs.declared.link.WriteFault.{WriteFault}
+use Rattle.agent_ports.proofs.Writing.{writes_as, writes_then, writes_first}
 use Rattle.assuan_text.specs.LineEnds.{line_of}
-use Rattle.pinentry_script.specs.declared.response.Unsent.{Unsent}
 use Rattle.pinentry_script.specs.Responses.{give}
 use Rattle.pinentry_script.specs.Sessions.{text_of}
-use Rattle.pinentry_script.specs.Writing.{HasSaid}
-
--- the same text in other words
-pub said_as : (first second : List ℕ) (before after : Side) (result : Result (Unit {0}) Unsent) → first ≡ second → HasSaid first before result after → HasSaid second before result after
-said_as first second before after result is said = subst (λ (text : List ℕ). HasSaid text before result after) is said
-
--- a first text was written whole, and then a second one
-pub said_then : (first second : List ℕ) (before mid after : Side) (result : Result (Unit {0}) Unsent) → HasSaid first before (Ok tt) mid → before.faults ≤ mid.faults
-    → HasSaid second mid result after → HasSaid (first ++ second) before result after
-said_then first second before mid after (Ok done) is faults said =
-    said ∙ ap (λ (o : Option (List ℕ)). with_bytes o second) is ∙ with_bytes-append before.bytes first second
-said_then first second before mid after (Err unsent) is faults stopped = record {
-  sent = first ++ stopped.sent;
-  unsent = stopped.unsent;
-  split = ap (λ (x : List ℕ). first ++ x) stopped.split ∙ sym (append_assoc first stopped.sent stopped.unsent);
-  written = stopped.written ∙ ap (λ (o : Option (List ℕ)). with_bytes o stopped.sent) is ∙ with_bytes-append before.bytes first stopped.sent;
-  rose = omega (arith, stopped.rose, faults);
-}
-
--- the first of two stopped
-pub said_first : (first second : List ℕ) (before after : Side) (unsent : Unsent) → HasSaid first before (Err unsent) after → HasSaid (first ++ second) before (Err unsent) after
-said_first first second before after unsent stopped = record {
-  sent = stopped.sent;
-  unsent = stopped.unsent ++ second;
-  split = ap (λ (x : List ℕ). x ++ second) stopped.split ∙ append_assoc stopped.sent stopped.unsent second;
-  written = stopped.written;
-  rose = stopped.rose;
-}
 
 -- the text of one line, and of a text that is given
 pub one_line : (line : List ℕ) → text_of (line ∷ []) ≡ line_of line
@@ -49,23 +23,23 @@ pub gives_text : (text : List ℕ) → (length text ≡ 0 → ⊥) → text_of (
 gives_text [] some = absurd (some refl)
 gives_text (byte ∷ text) some = refl
 
-pub nonempty : (text : List ℕ) → false ≡ (length text == 0) → length text ≡ 0 → ⊥
+nonempty : (text : List ℕ) → false ≡ (length text == 0) → length text ≡ 0 → ⊥
 nonempty text some none = false≢true (some ∙ ap (λ (n : ℕ). n == 0) none)
 
 -- a data line, of its parts
-pub data_line : (text : List ℕ) → line_of (codes "D " ++ (text ++ [])) ≡ line_of (codes "D " ++ text)
+data_line : (text : List ℕ) → line_of (codes "D " ++ (text ++ [])) ≡ line_of (codes "D " ++ text)
 data_line text = ap (λ (x : List ℕ). line_of (codes "D " ++ x)) (append-nil text)
 
 -- a text was given, whole or in part
-pub gave_then : (text : List ℕ) (before mid after : Side) (result : Result (Unit {0}) Unsent) → false ≡ (length text == 0)
-    → HasSaid (line_of (codes "D " ++ (text ++ []))) before (Ok tt) mid → before.faults ≤ mid.faults → HasSaid (line_of (codes "OK")) mid result after
-    → HasSaid (text_of (give text)) before result after
-gave_then text before mid after result some said faults then =
-    said_as (line_of (codes "D " ++ text) ++ line_of (codes "OK")) (text_of (give text)) before after result (sym (gives_text text (nonempty text some)))
-    (said_then (line_of (codes "D " ++ text)) (line_of (codes "OK")) before mid after result (said_as _ (line_of (codes "D " ++ text)) before mid (Ok tt) (data_line text) said) faults then)
+pub gave_then : (text : List ℕ) {before mid after : Side} {result : Result (Unit {0}) WriteFault} → false ≡ (length text == 0)
+    → Writes (line_of (codes "D " ++ (text ++ []))) before (Ok tt) mid → Writes (line_of (codes "OK")) mid result after → Writes (text_of (give text)) before result after
+gave_then text some line then =
+    writes_as (sym (gives_text text (nonempty text some)))
+    (writes_then (line_of (codes "D " ++ text)) (line_of (codes "OK")) (writes_as (data_line text) line) then)
 
-pub gave_part : (text : List ℕ) (before after : Side) (unsent : Unsent) → false ≡ (length text == 0)
-    → HasSaid (line_of (codes "D " ++ (text ++ []))) before (Err unsent) after → HasSaid (text_of (give text)) before (Err unsent) after
-gave_part text before after unsent some said =
-    said_as (line_of (codes "D " ++ text) ++ line_of (codes "OK")) (text_of (give text)) before after (Err unsent) (sym (gives_text text (nonempty text some)))
-    (said_first (line_of (codes "D " ++ text)) (line_of (codes "OK")) before after unsent (said_as _ (line_of (codes "D " ++ text)) before after (Err unsent) (data_line text) said))
+pub gave_part : (text : List ℕ) {before after : Side} {fault : WriteFault} (result : Result (Unit {0}) WriteFault) → IsErr result → false ≡ (length text == 0)
+    → Writes (line_of (codes "D " ++ (text ++ []))) before (Err fault) after → Writes (text_of (give text)) before result after
+gave_part text (Ok done) is some line = absurd (false≢true is)
+gave_part text (Err fault) is some line =
+    writes_as (sym (gives_text text (nonempty text some)))
+    (writes_first (line_of (codes "D " ++ text)) (line_of (codes "OK")) (writes_as (data_line text) line))

@@ -4,6 +4,7 @@ use Rattle.std.proofs.lemmas.List.Sums.{fold-append}
 use Rattle.std.proofs.lemmas.Grind.{flat_map-append}
 use Rattle.agent_ports.specs.Counts.{Rose}
 use Rattle.agent_ports.specs.Sides.{Side, with_bytes, WhereKnown}
+use Rattle.agent_ports.specs.Writing.{StopsWriting, WentOrStopped}
 use Rattle.agent_ports.proofs.Known.{known_then, known_both, known_same, with_bytes-append}
 use Rattle.assuan_line.specs.Lines.{pieces_of}
 use Rattle.assuan_line.specs.Next.{Reader, next_of, TakesWhatItNeeds}
@@ -24,7 +25,7 @@ use Rattle.pinentry_script.specs.Responses.{phrase_text, says}
 use Rattle.pinentry_script.specs.Sessions.{Session, ReadsLines, none, more, greeting, answer, Leaves, IsClosedBy, last_line, Writes, RunsSession, session_of, after_one, text_of, with_turn}
 use Rattle.pinentry_script.specs.Steps.{IsTurn}
 use Rattle.pinentry_script.specs.Turns.{turn_of}
-use Rattle.pinentry_script.specs.Writing.{HasSaid, StopsWriting, IsShortText}
+use Rattle.pinentry_script.specs.Writing.{IsShortText}
 use Rattle.pinentry_script.proofs.Saying.{one_line}
 
 -- a session over the file that has come so far, with what it was said and what was read
@@ -44,7 +45,7 @@ pub record IsServing (file : List ℕ) (input output : Side) (session : Code) (r
 
 -- the greeting was written
 pub serving_none : (file : List ℕ) (input output : Side) (session : Code) (input_now output_now : Side)
-    → HasSaid (text_of (phrase_text Greeting ∷ [])) output (Ok tt) output_now → output.faults ≤ output_now.faults → input_now ≡ input
+    → WentOrStopped (text_of (phrase_text Greeting ∷ [])) output (Ok tt) output_now → output.faults ≤ output_now.faults → input_now ≡ input
     → session.pid.now ≡ pid_of (entries_of (pieces_of file)) → IsShortText session.pid.now → session.file.now ≡ file → (session_of file []).stage ≡ session.stage
     → IsServing file input output session (record { ahead = []; left = BUDGET; ended = None }) input_now output_now
 serving_none file input output session input_now output_now said faults same pid short is stage = record {
@@ -64,7 +65,7 @@ serving_none file input output session input_now output_now said faults same pid
 
 -- where the write of the greeting failed
 pub cut_greeting : (file : List ℕ) (input output input_now output_now : Side)
-    → HasSaid (text_of (phrase_text Greeting ∷ [])) output (Err (record {})) output_now → output.faults ≤ output_now.faults → input_now ≡ input
+    → WentOrStopped (text_of (phrase_text Greeting ∷ [])) output (Err (record {})) output_now → output.faults ≤ output_now.faults → input_now ≡ input
     → RunsSession file input output WriteFault input_now output_now
 cut_greeting file input output input_now output_now stopped faults same = record {
   lines = [];
@@ -171,7 +172,7 @@ module _ (file : List ℕ) (input output : Side) (session : Code) (reader : Read
         (λ bytes left. length bytes + reader_after.left ≡ length left + BUDGET)
         serving.budget has_read.budget (λ bytes rest left first second. omega (arith, first, second)))
 
-    pub serving_more : session.stage ≢ Closed → HasSaid (text_of (says response)) output_after (Ok tt) output_then → IsServing file input output session_after reader_after input_then output_then
+    pub serving_more : session.stage ≢ Closed → WentOrStopped (text_of (says response)) output_after (Ok tt) output_then → IsServing file input output session_after reader_after input_then output_then
     serving_more going_on said = record {
       lines = serving.lines ++ line ∷ [];
       stage = ap (λ (s : Session). s.stage) next_is ∙ sym turn.stage;

@@ -3,6 +3,7 @@
 use Rattle.std.specs.Prelude.{ℕ, Bool, true, List, [], ◌∷◌, take, codes, Option, Some, None, if◌then◌else◌}
 use Rattle.std.specs.Str.{bytes_eq, str_eq_ignore_ascii_case}
 use Rattle.assuan_text.specs.Forms.{is_ignored}
+use Rattle.assuan_text.specs.Options.{arguments_of}
 use Rattle.assuan_text.specs.Rows.{found_in_any_case}
 use Rattle.assuan_text.specs.Words.{command_of, rest_of, words}
 use Rattle.pinentry_script.specs.declared.response.Phrase.TheVariants.{Done, Closing, Cancelled, Unknown}
@@ -53,7 +54,7 @@ without_qualities (pin text ∷ answers) = pin text ∷ answers
 without_qualities (phrase what ∷ answers) = phrase what ∷ answers
 without_qualities (pid digits ∷ answers) = pid digits ∷ answers
 
--- what GETINFO is answered, by its words
+-- what GETINFO is answered, by its arguments
 abbrev pub info : List ℕ → List (List ℕ) → List (List ℕ)
 info number [] = phrase_text Unknown ∷ []
 info number (what ∷ others) = if bytes_eq what (codes "pid") then give number else phrase_text Unknown ∷ []
@@ -62,7 +63,7 @@ info number (what ∷ others) = if bytes_eq what (codes "pid") then give number 
 abbrev pub carried_out : List ℕ → List Entry → List ℕ → Option Command → Turn
 carried_out number answers line None = on (phrase_text Unknown ∷ []) answers
 carried_out number answers line (Some Set) = on (phrase_text Done ∷ []) answers
-carried_out number answers line (Some GetInfo) = on (info number (words (rest_of line))) answers
+carried_out number answers line (Some GetInfo) = on (info number (arguments_of (words (rest_of line)))) answers
 carried_out number answers line (Some GetPin) = next_answer answers
 carried_out number answers line (Some Confirm) = next_answer (without_qualities answers)
 carried_out number answers line (Some Bye) = record { says = phrase_text Closing ∷ []; stage = Closed; answers = answers }

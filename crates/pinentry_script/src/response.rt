@@ -1,12 +1,13 @@
-ghost use Rattle.std.specs.Prelude.{◌≡◌, ◌≤◌};
+ghost use Rattle.std.specs.Prelude.{◌≡◌};
 ghost use Rattle.std.specs.List.{flat_map};
+ghost use Rattle.agent_ports.specs.Writing.{Writes};
 ghost use Rattle.assuan_line.specs.Lines.{IsLine};
 ghost use Rattle.assuan_text.specs.LineEnds.{line_of};
 ghost use Rattle.pinentry_script.specs.Responses.{phrase_text, give, says};
 ghost use Rattle.pinentry_script.specs.Sessions.{text_of};
-ghost use Rattle.pinentry_script.specs.Writing.{HasSaid, IsShort, IsShortText};
+ghost use Rattle.pinentry_script.specs.Writing.{IsShort, IsShortText};
 
-use agent_ports::{Link, Sent};
+use agent_ports::{Link, WriteFault};
 use assuan_line::write_text;
 
 /// A line that is always the same.
@@ -48,15 +49,14 @@ pub(crate) enum Response<'a> {
     Inquire(&'a [u8]),
 }
 
-/// A write failed.
-#[derive(Clone, Copy, Debug, PartialEq, Eq)]
-pub(crate) struct Unsent;
-
 /// Writes the lines of the response.
-pub(crate) fn write_response<S: Link>(link: &mut S, response: Response<'_>) -> Result<(), Unsent>
+#[tactic(auto, using(agent_ports::proofs::Writing::writes_nothing))]
+pub(crate) fn write_response<S: Link>(
+    link: &mut S,
+    response: Response<'_>,
+) -> Result<(), WriteFault>
     requires { IsShort response }
-    ensures said { HasSaid (text_of (says response.entry)) (S.output link.old) result (S.output link.new) }
-    ensures faults { (S.output link.old).faults ≤ (S.output link.new).faults }
+    ensures said { Writes (text_of (says response.entry)) (S.output link.old) result (S.output link.new) }
     ensures input { S.input link.new ≡ S.input link.old }
 {
     match response {
@@ -68,30 +68,24 @@ pub(crate) fn write_response<S: Link>(link: &mut S, response: Response<'_>) -> R
 }
 
 /// Writes the text as data, where it isn't empty, and OK.
-fn give<S: Link>(link: &mut S, text: &[u8]) -> Result<(), Unsent>
+fn give<S: Link>(link: &mut S, text: &[u8]) -> Result<(), WriteFault>
     requires { IsShortText text.now }
-    ensures said { HasSaid (text_of (give text.now)) (S.output link.old) result (S.output link.new) }
-    ensures faults { (S.output link.old).faults ≤ (S.output link.new).faults }
+    ensures said { Writes (text_of (give text.now)) (S.output link.old) result (S.output link.new) }
     ensures input { S.input link.new ≡ S.input link.old }
 {
     if text.is_empty() {
         return say(link, &[b"OK"]);
     }
-    match say(link, &[b"D ", text]) {
-        Ok(()) => say(link, &[b"OK"]),
-        Err(Unsent) => Err(Unsent),
-    }
+    say(link, &[b"D ", text])?;
+    say(link, &[b"OK"])
 }
 
 /// Writes one line, whose text is the parts one behind another.
-fn say<S: Link>(link: &mut S, parts: &[&[u8]]) -> Result<(), Unsent>
+#[tactic(auto, using(assuan_line::proofs::Sending::sent_whole))]
+fn say<S: Link>(link: &mut S, parts: &[&[u8]]) -> Result<(), WriteFault>
     requires { IsLine (flat_map (λ part. part.now) parts.now) }
-    ensures said { HasSaid (line_of (flat_map (λ part. part.now) parts.now)) (S.output link.old) result (S.output link.new) }
-    ensures faults { (S.output link.old).faults ≤ (S.output link.new).faults }
+    ensures said { Writes (line_of (flat_map (λ part. part.now) parts.now)) (S.output link.old) result (S.output link.new) }
     ensures input { S.input link.new ≡ S.input link.old }
 {
-    match write_text(link, parts) {
-        Sent::All => Ok(()),
-        Sent::Failed { .. } => Err(Unsent),
-    }
+    write_text(link, parts).whole()
 }

@@ -7,9 +7,9 @@ ghost use Rattle.pinentry_script.specs.Sessions.{RunsSession, status_of};
 
 use crate::ScriptEnd;
 use crate::entries::is_script;
-use crate::response::{Phrase, Response, Unsent, write_response};
+use crate::response::{Phrase, Response, write_response};
 use crate::session::{Session, Stage};
-use agent_ports::Link;
+use agent_ports::{Link, WriteFault};
 use assuan_line::{BUDGET, LineReader, Took};
 use std::alloc::Global;
 
@@ -34,7 +34,7 @@ pub fn run_script<S: Link>(alloc: Global, answers: &[u8], stdio: &mut S) -> u8
 fn serve<S: Link>(alloc: Global, file: &[u8], link: &mut S) -> ScriptEnd
     ensures { RunsSession file.now (S.input link.old) (S.output link.old) result (S.input link.new) (S.output link.new) }
 {
-    if let Err(Unsent) = write_response(link, Response::Say(Phrase::Greeting)) {
+    if let Err(WriteFault) = write_response(link, Response::Say(Phrase::Greeting)) {
         return ScriptEnd::WriteFault;
     }
     let mut reader = LineReader::new(alloc, BUDGET);
@@ -48,7 +48,7 @@ fn serve<S: Link>(alloc: Global, file: &[u8], link: &mut S) -> ScriptEnd
             Took::ReadFault => return ScriptEnd::ReadFault,
         };
         let response = session.turn(line.bytes());
-        if let Err(Unsent) = write_response(link, response) {
+        if let Err(WriteFault) = write_response(link, response) {
             return ScriptEnd::WriteFault;
         }
     }

@@ -1,5 +1,6 @@
 ghost use Rattle.std.specs.Prelude.{◌≡◌, false, length, map};
 ghost use Rattle.std.specs.List.{before_first};
+ghost use Rattle.assuan_text.specs.Options.{arguments_of};
 ghost use Rattle.assuan_text.specs.Words.{words, command_of};
 ghost use Rattle.pinentry_script.specs.Entries.{answers_in, pid_of, entries_of};
 ghost use Rattle.assuan_line.specs.Lines.{pieces_of};
@@ -10,7 +11,7 @@ ghost use Rattle.pinentry_script.specs.Steps.{IsTurn};
 
 use crate::entries::{Entry, next_answer, pid_of};
 use crate::response::{Phrase, Response};
-use assuan_text::{command_and_rest, found_in_any_case, is_ignored, next_word};
+use assuan_text::{arguments, command_and_rest, found_in_any_case, is_ignored, next_word};
 
 /// What a command is to do.
 #[derive(Clone, Copy, Debug, PartialEq, Eq)]
@@ -104,10 +105,10 @@ impl<'a> Session<'a> {
     /// What GETINFO is answered.
     fn info(&self, text: &[u8]) -> Response<'a>
         requires { IsShortText self.now.pid.now }
-        ensures says { says result ≡ info self.now.pid.now (words text.now) }
+        ensures says { says result ≡ info self.now.pid.now (arguments_of (words text.now)) }
         ensures short { IsShort result }
     {
-        match next_word(text) {
+        match next_word(arguments(text)) {
             Some((b"pid", _)) => Response::Give(self.pid),
             _ => Response::Say(Phrase::Unknown),
         }

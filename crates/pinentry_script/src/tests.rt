@@ -16,21 +16,21 @@ fn link(
 }
 
 /// A script, its input, and behind the greeting what it says, with the status.
-type Row = (&'static [u8], &'static [u8], &'static [u8], u8);
+type Row = (&'static str, &'static str, &'static str, u8);
 
-const ROWS: [Row; 15] = [
+const ROWS: [Row; 16] = [
     (
-        b"pid 4711\npin secret\n",
-        b"GETPIN\nBYE\n",
-        b"D secret\nOK\nOK closing connection\n",
+        "pid 4711\npin secret\n",
+        "GETPIN\nBYE\n",
+        "D secret\nOK\nOK closing connection\n",
         0,
     ),
-    (b"", b"", b"", 0),
+    ("", "", "", 0),
     // Each kind of answer, and the end of the list.
     (
-        b"cancel\ntimeout\nyes\nno\npin \npin %0A a\n",
-        b"GETPIN\nGETPIN\nCONFIRM\nCONFIRM\nGETPIN\nGETPIN\nGETPIN\n",
-        b"ERR 83886179 Operation cancelled <Pinentry>\n\
+        "cancel\ntimeout\nyes\nno\npin \npin %0A a\n",
+        "GETPIN\nGETPIN\nCONFIRM\nCONFIRM\nGETPIN\nGETPIN\nGETPIN\n",
+        "ERR 83886179 Operation cancelled <Pinentry>\n\
           ERR 83886142 Timeout <Pinentry>\n\
           OK\n\
           ERR 83886194 Not confirmed <Pinentry>\n\
@@ -42,9 +42,9 @@ const ROWS: [Row; 15] = [
     ),
     // An inquiry goes to END or CAN, in any case, whatever stands between.
     (
-        b"quality abc\nquality \npin x\n",
-        b"GETPIN\nD 30\n\nBYE\nend\nD 0\n Can now\nBYE\n",
-        b"INQUIRE QUALITY abc\n\
+        "quality abc\nquality \npin x\n",
+        "GETPIN\nD 30\n\nBYE\nend\nD 0\n Can now\nBYE\n",
+        "INQUIRE QUALITY abc\n\
           INQUIRE QUALITY \n\
           D x\n\
           OK\n\
@@ -53,69 +53,80 @@ const ROWS: [Row; 15] = [
     ),
     // CONFIRM passes over them, and a list that ends behind them counts as cancelled.
     (
-        b"quality a\nquality b\nyes\nquality c\n",
-        b"CONFIRM\nGETPIN\nEND\nCONFIRM\n",
-        b"OK\n\
+        "quality a\nquality b\nyes\nquality c\n",
+        "CONFIRM\nGETPIN\nEND\nCONFIRM\n",
+        "OK\n\
           INQUIRE QUALITY c\n\
           ERR 83886179 Operation cancelled <Pinentry>\n\
           ERR 83886179 Operation cancelled <Pinentry>\n",
         0,
     ),
     (
-        b"quality a\nquality b\n",
-        b"CONFIRM\n",
-        b"ERR 83886179 Operation cancelled <Pinentry>\n",
+        "quality a\nquality b\n",
+        "CONFIRM\n",
+        "ERR 83886179 Operation cancelled <Pinentry>\n",
         0,
     ),
     // The input ends within an inquiry.
-    (b"quality a\n", b"GETPIN\nD 1\n", b"INQUIRE QUALITY a\n", 0),
+    ("quality a\n", "GETPIN\nD 1\n", "INQUIRE QUALITY a\n", 0),
     // Other commands, and lines that are none.
     (
-        b"pin x\npid 12\npid 13\n",
-        b"\n \t\n# x\nOPTION a=b\nsetdesc a\nSET\nSETTIMEOUT 1\n\tgetinfo pid x\nGETINFO\nGETINFO version\nSE\nFOO\n",
-        b"OK\nOK\nOK\nOK\nD 12\nOK\n\
+        "pin x\npid 12\npid 13\n",
+        "\n \t\n# x\nOPTION a=b\nsetdesc a\nSET\nSETTIMEOUT 1\n\tgetinfo pid x\nGETINFO\nGETINFO version\nSE\nFOO\n",
+        "OK\nOK\nOK\nOK\nD 12\nOK\n\
           ERR 83886355 Unknown IPC command <Pinentry>\n\
           ERR 83886355 Unknown IPC command <Pinentry>\n\
           ERR 83886355 Unknown IPC command <Pinentry>\n\
           ERR 83886355 Unknown IPC command <Pinentry>\n",
         0,
     ),
-    (b"", b"GETINFO pid\n", b"D 0\nOK\n", 0),
-    // Nothing is read behind BYE.
-    (b"", b"bye now\nGETPIN\n", b"OK closing connection\n", 0),
-    // Bytes behind the last line feed are dropped.
-    (b"yes\n", b"GETPIN\nGETPIN", b"OK\n", 0),
-    // A carriage return belongs to a text of the script, and to no line of the input.
+    ("", "GETINFO pid\n", "D 0\nOK\n", 0),
+    // Options are passed over, and two dashes that end them.
     (
-        b"pin x\r\nquality a\r\nyes\n",
-        b"GETPIN\r\nGETPIN\nEND\r\n",
-        b"D x\r\nOK\nINQUIRE QUALITY a\r\nOK\n",
+        "pid 12\n",
+        "GETINFO -- pid\nGETINFO --x pid\nGETINFO -- -- pid\nGETINFO --pid\n",
+        "D 12\nOK\nD 12\nOK\n\
+          ERR 83886355 Unknown IPC command <Pinentry>\n\
+          ERR 83886355 Unknown IPC command <Pinentry>\n",
         0,
     ),
-    (b"pid 0\n", b"GETINFO pid\n", b"D 0\nOK\n", 0),
-    (b"", b"X", b"", 0),
+    // Nothing is read behind BYE.
+    ("", "bye now\nGETPIN\n", "OK closing connection\n", 0),
+    // Bytes behind the last line feed are dropped.
+    ("yes\n", "GETPIN\nGETPIN", "OK\n", 0),
+    // A carriage return belongs to a text of the script, and to no line of the input.
     (
-        b"no\n",
-        b"GETPIN\nBYE",
-        b"ERR 83886194 Not confirmed <Pinentry>\n",
+        "pin x\r\nquality a\r\nyes\n",
+        "GETPIN\r\nGETPIN\nEND\r\n",
+        "D x\r\nOK\nINQUIRE QUALITY a\r\nOK\n",
+        0,
+    ),
+    ("pid 0\n", "GETINFO pid\n", "D 0\nOK\n", 0),
+    ("", "X", "", 0),
+    (
+        "no\n",
+        "GETPIN\nBYE",
+        "ERR 83886194 Not confirmed <Pinentry>\n",
         0,
     ),
 ];
+
+/// What a script says to this input, and its status.
+fn answers(alloc: Global, script: &str, input: &str, piece: usize) -> Result<String, AllocError> {
+    let bytes = input.as_bytes();
+    let mut link = link(alloc, bytes, piece, Vec::new(alloc), Vec::new(alloc))?;
+    let status = run_script(alloc, script.as_bytes(), &mut link);
+    let said = String::from_utf8_lossy(alloc, link.written())?;
+    format!(in alloc; "{said}{status}")
+}
 
 #[test]
 fn scripts_answer_as_their_lines_say_in_any_pieces(rt: HostRuntime) -> Result<(), Fail> {
     let alloc = rt.alloc();
     for (script, input, said, status) in ROWS {
         for piece in [1, 7, 4096] {
-            let mut link = link(alloc, input, piece, Vec::new(alloc), Vec::new(alloc))?;
-            assert_eq!(rt;
-                run_script(alloc, script, &mut link),
-                status,
-                "at {script:?}"
-            );
-            let mut want = Vec::from_slice(alloc, b"OK Pleased to meet you\n")?;
-            want.extend_from_slice(said)?;
-            assert_eq!(rt; link.written(), want.as_slice(), "at {script:?}");
+            let want = format!(in alloc; "OK Pleased to meet you\n{said}{status}")?;
+            assert_eq!(rt; answers(alloc, script, input, piece)?, want, "at {script}");
         }
     }
     Ok(())

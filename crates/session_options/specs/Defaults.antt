@@ -32,6 +32,7 @@ default_rules = record {
   min_nonalpha = DEFAULT_MIN_NONALPHA;
   allow_preset = false;
   allow_loopback = true;
+  extra = false;
   s2k_count = DEFAULT_S2K_COUNT;
   pinentry = word (codes "/usr/bin/pinentry");
   homedir = word (codes ".");

@@ -67,6 +67,8 @@ pub struct Rules {
     pub min_nonalpha: u8,
     pub allow_preset: bool,
     pub allow_loopback: bool,
+    /// Whether a daemon listens on a further socket, for restricted sessions.
+    pub extra: bool,
     /// How many bytes a passphrase is hashed to.
     pub s2k_count: u64,
     /// The path of the pinentry.
@@ -96,6 +98,7 @@ impl Default for Rules {
             min_nonalpha: DEFAULT_MIN_NONALPHA,
             allow_preset: false,
             allow_loopback: true,
+            extra: false,
             s2k_count: DEFAULT_S2K_COUNT,
             pinentry: word(b"/usr/bin/pinentry"),
             homedir: word(b"."),

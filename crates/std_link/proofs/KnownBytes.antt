@@ -1,5 +1,5 @@
 -- What reads and writes of known bytes, one after another, come to.
-use Rattle.std.proofs.Common.{◌≡◌, ℕ, ◌+◌, ◌-◌, List, ◌++◌, length, take, drop, Option, Some, None, ap, sym, ◌∙◌, arith, append_assoc}
+use Rattle.std.proofs.Common.{◌≡◌, ℕ, ◌+◌, ◌-◌, List, [], ◌++◌, length, take, drop, Option, Some, None, refl, ap, sym, ◌∙◌, arith, append_assoc}
 use Rattle.std.proofs.lemmas.List.{take_all, length-drop}
 use Rattle.std.proofs.Math.Seq.{take-add}
 use Rattle.std.specs.Io.KnownBytes.{Keeps, Appends, Consumes}
@@ -9,6 +9,15 @@ keeps_on None mid last one two = tt
 keeps_on (Some xs) None last one two = absurd one
 keeps_on (Some xs) (Some ys) None one two = absurd two
 keeps_on (Some xs) (Some ys) (Some zs) one two = two ∙ one
+
+pub consumes_nothing : (bytes : Option (List ℕ)) → Consumes bytes bytes []
+consumes_nothing None = tt
+consumes_nothing (Some xs) = refl
+
+pub keeps_and_consumes_nothing : (first last : Option (List ℕ)) → Keeps first last → Consumes first last []
+keeps_and_consumes_nothing None last keeps = tt
+keeps_and_consumes_nothing (Some xs) None keeps = keeps
+keeps_and_consumes_nothing (Some xs) (Some ys) keeps = sym keeps
 
 pub keeps_then_consumes : (first mid last : Option (List ℕ)) (bytes : List ℕ) → Keeps first mid → Consumes mid last bytes → Consumes first last bytes
 keeps_then_consumes None mid last bytes one two = tt

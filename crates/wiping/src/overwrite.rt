@@ -2,6 +2,9 @@ ghost use Rattle.std.specs.Prelude.{◌≡◌, length, replicate};
 
 use std::hint;
 
+/// How many bytes of the stack `wipe_stack` overwrites.
+pub const WIPED_STACK_LEN: usize = 131_072;
+
 /// Overwrites the bytes with zeros.
 // The toolchain has no volatile write, and its `black_box` is the identity. A call that is not inlined, and that has an
 // effect which the optimiser may not drop, stands in for them: so the call stays, and its writes with it.
@@ -11,4 +14,12 @@ pub fn wipe(bytes: &mut [u8])
 {
     bytes.fill(0);
     hint::spin_loop();
+}
+
+/// Overwrites the stack below its caller, where calls that have returned may have left bytes. It takes a few microseconds.
+// Not inlined, since its frame must begin where those of the calls before it began.
+#[inline(never)]
+pub fn wipe_stack() {
+    let mut room = [0; WIPED_STACK_LEN];
+    wipe(&mut room);
 }

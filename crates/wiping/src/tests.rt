@@ -17,5 +17,6 @@ fn a_buffer_takes_what_fits_and_is_wiped(rt: HostRuntime) -> Result<(), Fail> {
     let mut bytes = *b"abc";
     wipe(&mut bytes[1..]);
     assert_eq!(rt; bytes.as_slice(), b"a\0\0".as_slice());
+    wipe_stack();
     Ok(())
 }

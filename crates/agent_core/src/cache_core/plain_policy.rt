@@ -7,7 +7,7 @@ use crate::stepped::{copy_under, mark_step_of};
 use agent_ports::SessionId;
 use cache_policy::{
     CacheId, Life, Limits, MAX_MOMENT, Mark, MarkReply, MarkStep, Mode, Refused, Reply, Secret,
-    Step, Under, Way,
+    Step, Under, Wait, Way,
 };
 use prompt_seat::{Seat, Ticket};
 use rand_core::utils::NextWord;
@@ -24,6 +24,8 @@ const LIMITS: Limits = Limits {
 };
 
 const ALICE: SessionId = SessionId { pass: 0, count: 1 };
+
+const BOB: SessionId = SessionId { pass: 1, count: 1 };
 
 /// What a mark stored.
 #[derive(Drop)]
@@ -68,11 +70,16 @@ fn seat(marks: &[Mark]) -> Option<usize> {
 /// What the ticket of this mark is kept under.
 fn under_of(mark: &Mark) -> Option<Under> {
     match &mark.step {
-        MarkStep::Ask { id, mode, way: _ } => Some(Under {
+        MarkStep::Ask {
+            id,
+            mode,
+            way: _,
+            since: _,
+        } => Some(Under {
             id: id.copy(),
             mode: *mode,
         }),
-        MarkStep::Seat { under } => copy_under(under),
+        MarkStep::Seat { under, since: _ } => copy_under(under),
         _ => None,
     }
 }
@@ -165,29 +172,35 @@ fn live(limits: &Limits, marks: &[Mark], id: &CacheId, mode: Mode, moment: u64) 
 }
 
 /// What a step that wants the prompt is replied. None is Stand.
-fn prompted(marks: &[Mark]) -> Option<MarkReply> {
+fn prompted(marks: &[Mark], since: Option<u64>, moment: u64) -> Option<MarkReply> {
     if marks
         .iter()
         .any(|mark| matches!(&mark.step, MarkStep::Stop))
     {
         return Some(MarkReply::Stopping);
     }
-    match seat(marks) {
-        Some(_) => None,
-        None => Some(MarkReply::Open),
+    match (seat(marks), since) {
+        (Some(_), Some(since)) if since.saturating_add(60) <= moment => { Some(MarkReply::Late) }
+        (Some(_), _) => None,
+        (None, _) => Some(MarkReply::Open),
     }
 }
 
 fn policy(limits: &Limits, marks: &[Mark], step: &MarkStep, moment: u64) -> Option<MarkReply> {
     match step {
-        MarkStep::Ask { id, mode, way } => match live(limits, marks, id, *mode, moment) {
+        MarkStep::Ask {
+            id,
+            mode,
+            way,
+            since,
+        } => match live(limits, marks, id, *mode, moment) {
             Some(number) => Some(MarkReply::Given(number)),
             None => match way {
                 Way::Quiet => Some(MarkReply::Empty),
-                Way::Prompt => prompted(marks),
+                Way::Prompt => prompted(marks, *since, moment),
             },
         },
-        MarkStep::Seat { under: _ } => prompted(marks),
+        MarkStep::Seat { under: _, since } => prompted(marks, *since, moment),
         MarkStep::Peek { id, mode } => Some(MarkReply::Held(live(
             limits, marks, id, *mode, moment,
         ).is_some())),
@@ -215,10 +228,11 @@ fn is_secret_of(marks: &[Mark], number: u64, secret: &Secret) -> bool {
     }
 }
 
-/// Words of the dice, and the ticket that is out, for the steps to come.
+/// Words of the dice, the ticket that is out, and the wait that was given last, for the steps to come.
 struct Maker {
     dice: Pcg32,
     out: Option<Ticket>,
+    wait: Option<Wait>,
 }
 
 impl Maker {
@@ -315,10 +329,25 @@ impl Maker {
         }
     }
 
+    /// A wait to hand in: the one that was given last, one of another session, or none.
+    fn wait(&mut self) -> Option<Wait> {
+        match self.dice.next_word() % 8 {
+            0 => None,
+            1 => Some(Wait::new(BOB, 0)),
+            _ => self.wait.take(),
+        }
+    }
+
     fn ask(&mut self, way: Way) -> Step {
         let id = self.id();
         let mode = self.mode();
-        Step::Ask { id, mode, way }
+        let wait = self.wait();
+        Step::Ask {
+            id,
+            mode,
+            way,
+            wait,
+        }
     }
 
     fn clear(&mut self) -> Step {
@@ -333,6 +362,7 @@ impl Maker {
             20..=29 => self.ask(Way::Prompt),
             30..=33 => Step::Seat {
                 under: self.under(),
+                wait: self.wait(),
             },
             34..=40 => self.close(),
             41 => self.close_another(),
@@ -373,7 +403,8 @@ impl Maker {
             }
             Reply::Given(_) => {}
             Reply::Empty => {}
-            Reply::Stand => {}
+            Reply::Stand(wait) => self.wait = Some(wait),
+            Reply::Late => {}
             Reply::Done => {}
             Reply::Held(_) => {}
             Reply::Stopping => {}
@@ -382,7 +413,11 @@ impl Maker {
     }
 
     fn end(self) {
-        let Maker { dice: _, out } = self;
+        let Maker {
+            dice: _,
+            out,
+            wait: _,
+        } = self;
         if let Some(ticket) = out {
             give_up(Step::Close { ticket, keep: None });
         }
@@ -405,12 +440,13 @@ fn replied_alike(alloc: Global, seed: u64, steps: u64) -> u64 {
     let mut maker = Maker {
         dice: Pcg32::new(seed, 54),
         out: None,
+        wait: None,
     };
     let mut moment = 0;
     let mut alike = 0u64;
     for _ in 0..steps {
         let step = maker.step();
-        let asked = mark_step_of(&step);
+        let asked = mark_step_of(ALICE, &step);
         let reading = maker.reading(moment);
         let now = reading.min(MAX_MOMENT).max(moment);
         let want = policy(&limits, &marks, &asked, now);

@@ -44,7 +44,7 @@ const WORKERS: Form = Form::Number {
     greatest: MAX_WORKERS as u64,
 };
 
-const FORMS: [(&[u8], Form); 16] = [
+const FORMS: [(&[u8], Form); 17] = [
     (b"--server", Form::Flag),
     (b"--daemon", Form::Flag),
     (b"--load", LOAD),
@@ -56,6 +56,7 @@ const FORMS: [(&[u8], Form); 16] = [
     (b"--max-cache-ttl-ssh", SECONDS),
     (b"--allow-preset-passphrase", Form::Flag),
     (b"--no-allow-loopback-pinentry", Form::Flag),
+    (b"--extra-socket", Form::Flag),
     (b"--min-passphrase-len", PASSPHRASE_LEN),
     (b"--min-passphrase-nonalpha", PASSPHRASE_LEN),
     (b"--pinentry-timeout", SECONDS),

@@ -25,6 +25,7 @@ fn defaults_stand_for_what_is_not_given(rt: HostRuntime) -> Result<(), Fail> {
     assert_eq!(rt; rules.min_nonalpha, 1);
     assert!(rt; !rules.allow_preset);
     assert!(rt; rules.allow_loopback);
+    assert!(rt; !rules.extra);
     assert_eq!(rt; rules.s2k_count, 4_194_304);
     assert!(rt; rules.pinentry.as_slice() == b"/usr/bin/pinentry".as_slice());
     assert!(rt; rules.homedir.as_slice() == b".".as_slice());
@@ -58,13 +59,16 @@ fn each_option_sets_its_field(rt: HostRuntime) -> Result<(), Fail> {
     Ok(())
 }
 
-const REFUSED: [&str; 27] = [
+const REFUSED: [&str; 30] = [
     "",
     "--workers=2",
     "--server --server",
     "--server --daemon",
     "--daemon",
     "--load 7",
+    "--server --extra-socket",
+    "--daemon --extra-socket",
+    "--server --extra-socket=x",
     "--server --",
     "--server -",
     "--server x",

@@ -1,17 +1,17 @@
-use Rattle.std.proofs.Common.{ℕ, List, Bool, true, false, Option, Some, None, sym, ◌∙◌, subst, refl}
+use Rattle.std.proofs.Common.{◌≡◌, ℕ, List, Bool, true, false, Option, Some, sym, refl}
 use Rattle.agent_ask.specs.Doing.{DoesCall}
-use Rattle.agent_commands.specs.Exchanges.{Exchange, LooksFirst, WithoutPrompt, by_prompt, without_prompt, quiet, nop, reset, bye, help_given, option_applied, info, clear, reload, kill}
-use Rattle.agent_commands.specs.Outside.{world, prompt_world}
+use Rattle.agent_commands.specs.Exchanges.{Exchange, is_quiet, quiet, nop, reset, bye, help_given, option_applied, info, clear, reload, kill}
+use Rattle.agent_commands.specs.Outside.{prompt_world}
 use Rattle.agent_commands.specs.Requests.{GetFields}
-use Rattle.agent_commands.specs.States.{session_state}
-use Rattle.agent_commands.specs.Steps.{Carries}
 use Rattle.agent_commands.specs.declared.request.Request.TheVariants.{Cache}
 use Rattle.agent_commands.specs.declared.response.Response.TheVariants.{Ok, Closing, Help}
 use Rattle.agent_commands.specs.declared.request.Texts.{Texts}
 use Rattle.agent_commands.proofs.Beside.{carry_beside}
 use Rattle.agent_commands.proofs.Carrying.{carry_as}
 use Rattle.agent_commands.proofs.Preparing.{prepared_on, prepared_last, turn_taken}
+use Rattle.agent_commands.proofs.Looking.{by_mode_so}
 use Rattle.agent_commands.proofs.command.carry_out.Goals as goal
+use Rattle.agent_commands.proofs.command.carry_out.Goals.{in_default-via-in-Some+else-not-no_ask, in_default-via-in_default}
 
 abbrev fields : Bool → Bool → Bool → ℕ → Bool → Option (List ℕ) → Option Texts → GetFields
 fields plain check no_ask repeat quality id texts = record {
@@ -85,38 +85,21 @@ returns-in-PresetPassphrase-clause-carries g c =
 
 pub returns-in_default-clause-carries : goal.returns-in_default-clause-carries
 returns-in_default-clause-carries g c =
-    rw (c.in-GetPassphrase.is, c.in_default.is)
+    let quiets : is_quiet c.in-GetPassphrase.no_ask c.in-GetPassphrase.texts ≡ true =
+    elim c.in_default.branch [
+      | in_default-via-in-Some+else-not-no_ask w ↦ rw w.in-Some.is w.if-not-no_ask.false
+      | in_default-via-in_default w ↦ rw w.in_default.is refl
+    ] in
+    rw c.in-GetPassphrase.is
     (carry_as {w = prompt_world g.D.Desk.turned g.P.Prompter.prompted} (λ events looks. quiet
-    {fields = fields c.in-GetPassphrase.plain c.in-GetPassphrase.check c.in-GetPassphrase.no_ask c.in-GetPassphrase.repeat c.in-GetPassphrase.quality c.in-GetPassphrase.id None} refl looks)
+    {fields = fields c.in-GetPassphrase.plain c.in-GetPassphrase.check c.in-GetPassphrase.no_ask c.in-GetPassphrase.repeat c.in-GetPassphrase.quality c.in-GetPassphrase.id c.in-GetPassphrase.texts}
+    quiets looks)
     (carry_beside g.D.Desk.turned g.P.Prompter.prompted c.args.prompter.now (c.ask_cache.ensures.carries c.args.conn.now c.requires.open)))
 
-pub returns-then-no_ask-clause-carries : goal.returns-then-no_ask-clause-carries
-returns-then-no_ask-clause-carries g c =
-    rw (c.in-GetPassphrase.is, c.in-Some.is, c.if-no_ask.true)
-    (carry_as {w = prompt_world g.D.Desk.turned g.P.Prompter.prompted} (λ events looks. quiet
-    {fields = fields c.in-GetPassphrase.plain c.in-GetPassphrase.check true c.in-GetPassphrase.repeat c.in-GetPassphrase.quality c.in-GetPassphrase.id (Some c.in-Some.texts)} refl looks)
-    (carry_beside g.D.Desk.turned g.P.Prompter.prompted c.args.prompter.now (c.ask_cache-then-no_ask.ensures.carries c.args.conn.now c.requires.open)))
-
-pub returns-in-Ask-clause-carries : goal.returns-in-Ask-clause-carries
-returns-in-Ask-clause-carries g c =
-    rw (c.in-GetPassphrase.is, c.in-Some.is, c.if-no_ask.false)
+pub returns-in-Some-clause-carries : goal.returns-in-Some-clause-carries
+returns-in-Some-clause-carries g c =
+    rw (c.in-GetPassphrase.is, c.in-Some.is, c.if-not-no_ask.true)
     (carry_as {w = prompt_world g.D.Desk.turned g.P.Prompter.prompted}
-    (λ events by. by_prompt {fields = fields c.in-GetPassphrase.plain c.in-GetPassphrase.check false c.in-GetPassphrase.repeat c.in-GetPassphrase.quality c.in-GetPassphrase.id (Some c.in-Some.texts)}
-    c.prompt_spec-spec.result refl refl (sym c.mode.ensures ∙ c.in-Ask.is) c.prompt_spec-spec.ensures by)
-    (rw c.ask_plan-plan.ensures at c.by_prompt.ensures.carries))
-
-pub returns-in_default-mode : goal.returns-in_default-mode
-returns-in_default-mode g c =
-    record {
-      carries =
-          rw (c.in-GetPassphrase.is, c.in-Some.is, c.if-no_ask.false)
-          (carry_as {w = prompt_world g.D.Desk.turned g.P.Prompter.prompted} (λ events looks. without_prompt
-          {fields = fields c.in-GetPassphrase.plain c.in-GetPassphrase.check false c.in-GetPassphrase.repeat c.in-GetPassphrase.quality c.in-GetPassphrase.id (Some c.in-Some.texts)}
-          refl refl (λ is. c.in_default-mode.not-Ask (c.mode.ensures ∙ is)) looks)
-          (carry_beside g.D.Desk.turned g.P.Prompter.prompted c.args.prompter.now
-          (subst (λ m. Carries {w = world g.D.Desk.turned} (LooksFirst c.in-GetPassphrase.plain c.in-GetPassphrase.id (WithoutPrompt c.in-GetPassphrase.plain c.in-GetPassphrase.id m))
-          (session_state g.D.Desk.turned c.args.conn.now c.args.desk.now) c.without_prompt.result (session_state g.D.Desk.turned c.without_prompt.new.conn c.without_prompt.new.desk))
-          c.mode.ensures c.without_prompt.ensures.carries)));
-      free = c.without_prompt.ensures.out ∙ c.requires.free;
-      shut = c.requires.shut;
-    }
+    (λ events by. by_mode_so {fields = fields c.in-GetPassphrase.plain c.in-GetPassphrase.check false c.in-GetPassphrase.repeat c.in-GetPassphrase.quality c.in-GetPassphrase.id (Some c.in-Some.texts)}
+    c.prompt_spec-spec.result refl refl c.prompt_spec-spec.ensures c.mode.result (sym c.mode.ensures) by)
+    (rw c.ask_plan-plan.ensures at c.get_by_mode.ensures.carries))

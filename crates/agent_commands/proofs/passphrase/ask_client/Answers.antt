@@ -1,6 +1,6 @@
 use Rattle.std.proofs.Common.{[], ◌∷◌, Ok, Err}
 use Rattle.assuan_server.specs.Inquiries.{Data}
-use Rattle.agent_commands.specs.Events.{Sent, Asked}
+use Rattle.agent_ask.specs.SessionEvents.{Sent, Asked}
 use Rattle.agent_commands.specs.Exchanges.{with_data, without_data, limit_line, inquiry}
 use Rattle.agent_commands.specs.Outside.{world}
 use Rattle.agent_commands.proofs.Carrying.{carry_after}

@@ -3,6 +3,7 @@ use Rattle.assuan_line.specs.Next.{held}
 use Rattle.agent_commands.specs.Exchanges.{LineExchange}
 use Rattle.agent_commands.specs.Outside.{prompt_world}
 use Rattle.agent_session.proofs.Serving.{serves_none, serves_on, is_over, at_end, at_spent, at_read_fault, at_too_long, cut_at_too_long}
+use Rattle.agent_commands.proofs.Saying.{said}
 use Rattle.agent_session.proofs.session.serve_requests.Goals as goal
 
 pub loop-line-init : goal.loop-line-init
@@ -47,7 +48,7 @@ returns-in-Ok g c =
     record {
       serves =
           at_too_long {w = prompt_world g.D.Desk.turned g.P.Prompter.prompted} (LineExchange c.args.rules.now) c.args.options.now _ _ _ i.serving
-          _ _ i.going c.next_request-took.ensures c.in-TooLong.is _ (rw c.in-TooLong.is at c.next_request-took.ensures.read.ended) (c.in-Ok.ensures _ _ _ c.err.ensures);
+          _ _ i.going c.next_request-took.ensures c.in-TooLong.is _ (rw c.in-TooLong.is at c.next_request-took.ensures.read.ended) (said c.in-Ok.ensures c.err.ensures);
       free = i.free;
       shut = i.shut;
     }
@@ -58,7 +59,7 @@ returns-in-Err g c =
     record {
       serves =
           cut_at_too_long {w = prompt_world g.D.Desk.turned g.P.Prompter.prompted} (LineExchange c.args.rules.now) c.args.options.now _ _ _ i.serving
-          _ _ i.going c.next_request-took.ensures c.in-TooLong.is _ _ (c.in-Err.ensures _ _ _ c.err.ensures);
+          _ _ i.going c.next_request-took.ensures c.in-TooLong.is _ _ (said c.in-Err.ensures c.err.ensures);
       free = i.free;
       shut = i.shut;
     }

@@ -1,9 +1,6 @@
 use Rattle.std.proofs.Common.{◌≡◌, ◌∙◌, length, sym, refl}
 use Rattle.std.proofs.lemmas.Bool.{eqb-true}
 use Rattle.std.proofs.lemmas.List.{nil_from_length}
-use Rattle.assuan_escape.specs.DataLines.{data_text}
-use Rattle.assuan_text.specs.LineEnds.{line_of}
-use Rattle.assuan_client.specs.Writing.{IsCutOff}
 use Rattle.assuan_client.proofs.Sending.{put_failed, putting_none, putting_more, put_all, put_cut}
 use Rattle.assuan_client.proofs.data.send_data.Goals as goal
 
@@ -13,11 +10,10 @@ loop-rest-init g c = record { putting = putting_none c.args.bytes.now (g.K.Sink.
 pub returns-in_err-sent-clause-put : goal.returns-in_err-sent-clause-put
 returns-in_err-sent-clause-put g c =
     let line = c.full_line-line.ensures in
-    let was : IsCutOff (line_of c.bytes.result.now) (g.K.Sink.output c.loop-rest.sink) (g.K.Sink.output c.send_line-sent.new.sink) = c.in_err-sent.ensures.put in
     let cut = put_cut c.args.bytes.now (g.K.Sink.output c.args.sink.now) (g.K.Sink.output c.loop-rest.sink) c.loop-rest.rest.now c.loop-rest.invariant.putting
     c.full_line-line.result.1 line.first (g.K.Sink.output c.send_line-sent.new.sink) line.others
-    (rw (c.bytes.ensures.value, line.text) at was) in
-    (cut.0, cut.1, put_failed {bytes = data_text cut.0} c.from_residual.result c.from_residual.ensures.0 cut.2)
+    (rw (c.bytes.ensures.value, line.text) at c.in_err-sent.ensures.put) in
+    (cut.0, cut.1, put_failed c.from_residual.result c.from_residual.ensures.0 cut.2)
 
 pub loop-rest-preserved : goal.loop-rest-preserved
 loop-rest-preserved g c =

@@ -34,7 +34,7 @@ pub returns-clause-none : goal.returns-clause-none
 returns-clause-none c = λ limits history id mode moment none. none_live limits history id mode moment none
 
 pub returns-clause-given : goal.returns-clause-given
-returns-clause-given c = λ limits history mark id mode way entry is lives given.
+returns-clause-given c = λ limits history mark id mode way since entry is lives given.
     slots-given limits history mark entry.number (ap (λ (s : MarkStep). stored limits history s mark.moment) is)
     (λ other. ap (takes_away other) is) (λ number. ap (gives number) given)
     (λ other known same. live_is_live limits history id mode mark.moment entry other lives known same)
@@ -42,8 +42,8 @@ returns-clause-given c = λ limits history mark id mode way entry is lives given
 -- what stores takes nothing away
 keeps : (limits : Limits) (history : History) (step_of : MarkStep) (moment : ℕ) (entry other : Entry)
     → stored limits history step_of moment ≡ entry ∷ [] → takes_away other step_of ≡ false
-keeps limits history (Ask id mode way) moment entry other is = refl
-keeps limits history (Seat under) moment entry other is = refl
+keeps limits history (Ask id mode way since) moment entry other is = refl
+keeps limits history (Seat under since) moment entry other is = refl
 keeps limits history (Close ticket keep) moment entry other is = refl
 keeps limits history (Put id mode life secret) moment entry other is = refl
 keeps limits history (Clear id mode) moment entry other is = cc

@@ -19,6 +19,7 @@ use Rattle.agent_core.proofs.Coming.{needs_fits}
 use Rattle.agent_core.proofs.Counting.{can_count, tally_stays, tally_counted}
 use Rattle.agent_core.proofs.Knowing.{seat_next, legal_last, spent_run, going, no_room, has_next, can_add, keeps_same, like_same, records_stay, is_marked}
 use Rattle.agent_core.proofs.Knowing.{Marks, made, HasRoomFor, records_marked, not_refused, not_stand, took_refused, Stands, took_stood, moment_is, added_later}
+use Rattle.agent_core.proofs.Taken.{fits_taken}
 use Rattle.agent_core.proofs.known_core.KnownCore.step.Goals as goal
 
 pub returns-then-spent-clause-takes : goal.returns-then-spent-clause-takes
@@ -32,16 +33,16 @@ returns-then-is_err-clause-takes c =
     let more : c.self.inside.core.base + c.self.inside.core.count ≢ last_base = search rules in
     let needs : c.needs_room-needs.result ≡ true = search rules in
     rw (sym c.self.view_is, c.room_for.ensures.items)
-    (subst (λ (m : ℕ). TakesStep c.self.inside.core.limits (run_of c.self.inside.histories.items) c.args.session m (mark_step c.args.step) Refused (run_of c.self.inside.histories.items))
+    (subst (λ (m : ℕ). TakesStep c.self.inside.core.limits (run_of c.self.inside.histories.items) c.args.session m (mark_step c.args.session c.args.step) Refused (run_of c.self.inside.histories.items))
     (moment_is c.self.inside.core (run_of c.self.inside.histories.items) c.args.reading keeps)
-    (no_room c.self.inside.core (run_of c.self.inside.histories.items) c.args.session _ (mark_step c.args.step) keeps more
+    (no_room c.self.inside.core (run_of c.self.inside.histories.items) c.args.session _ (mark_step c.args.session c.args.step) keeps more
     (sym (c.needs_room-needs.ensures keeps.last (legal_last c.self.inside.core (run_of c.self.inside.histories.items) keeps) keeps.stands) ∙ needs)))
 
 pub returns-then-is_err-clause-fits : goal.returns-then-is_err-clause-fits
 returns-then-is_err-clause-fits c =
     let keeps = c.self.invariant.records.keeps in
     let needs : c.needs_room-needs.result ≡ true = search rules in
-    needs_fits c.self.inside.core (mark_step c.args.step) _
+    needs_fits c.self.inside.core (mark_step c.args.session c.args.step) _
     (sym (c.needs_room-needs.ensures keeps.last (legal_last c.self.inside.core (run_of c.self.inside.histories.items) keeps) keeps.stands) ∙ needs)
 
 -- what is known of the core before the step
@@ -50,14 +51,14 @@ keeps_so c = c.self.invariant.records.keeps
 
 -- a step that has to stand
 stands_so : (c : goal.After-stood) → Stands c.self.inside.core c.step.new.self (run_of c.self.inside.histories.items) c.args.session
-    (moment_of c.self.inside.core.moment c.args.reading) (mark_step c.args.step)
+    (moment_of c.self.inside.core.moment c.args.reading) (mark_step c.args.session c.args.step) c.in-Stand.wait
 stands_so c =
     let keeps = c.self.invariant.records.keeps in
-    let step : IsStep c.self.inside.core keeps.last c.args.session (moment_of c.self.inside.core.moment c.args.reading) (mark_step c.args.step) (turn_of (Ok c.in-Ok.reply)) c.step.new.self =
+    let step : IsStep c.self.inside.core keeps.last c.args.session (moment_of c.self.inside.core.moment c.args.reading) (mark_step c.args.session c.args.step) (turn_of (Ok c.in-Ok.reply)) c.step.new.self =
     c.in-Ok.ensures.step keeps.last (legal_last c.self.inside.core (run_of c.self.inside.histories.items) keeps) keeps.stands in
     let more : c.self.inside.core.base + c.self.inside.core.count ≢ last_base = search rules in
-    took_stood c.self.inside.core c.step.new.self (run_of c.self.inside.histories.items) keeps c.args.session _ (mark_step c.args.step) more
-    (subst (λ (r : Told). IsStep c.self.inside.core keeps.last c.args.session (moment_of c.self.inside.core.moment c.args.reading) (mark_step c.args.step) (turn_of (Ok r)) c.step.new.self) c.in-Stand.is step)
+    took_stood c.self.inside.core c.step.new.self (run_of c.self.inside.histories.items) keeps c.args.session _ (mark_step c.args.session c.args.step) c.in-Stand.wait more
+    (subst (λ (r : Told). IsStep c.self.inside.core keeps.last c.args.session (moment_of c.self.inside.core.moment c.args.reading) (mark_step c.args.session c.args.step) (turn_of (Ok r)) c.step.new.self) c.in-Stand.is step)
 
 pub invariant_of-self-in-Stand : goal.invariant_of-self-in-Stand
 invariant_of-self-in-Stand c =
@@ -74,12 +75,12 @@ invariant_of-self-in-Stand c =
 pub returns-in-Stand-clause-takes : goal.returns-in-Stand-clause-takes
 returns-in-Stand-clause-takes c =
     rw (sym c.self.view_is, c.room_for.ensures.items, c.stood.ensures.turn)
-    (subst (λ (m : ℕ). TakesStep c.self.inside.core.limits (run_of c.self.inside.histories.items) c.args.session m (mark_step c.args.step) Stand (run_of c.self.inside.histories.items))
+    (subst (λ (m : ℕ). TakesStep c.self.inside.core.limits (run_of c.self.inside.histories.items) c.args.session m (mark_step c.args.session c.args.step) (Stand c.in-Stand.wait) (run_of c.self.inside.histories.items))
     (moment_is c.self.inside.core (run_of c.self.inside.histories.items) c.args.reading c.self.invariant.records.keeps) (stands_so c).takes)
 
 -- the room that the step needs is there
 room_so : (c : goal.After-add-arg-in_default-1) → HasRoomFor c.self.inside.core c.self.inside.histories c.self.inside.next c.room_for.new.next
-    (moment_of c.self.inside.core.moment c.args.reading) (mark_step c.args.step)
+    (moment_of c.self.inside.core.moment c.args.reading) (mark_step c.args.session c.args.step)
 room_so c =
     let keeps = c.self.invariant.records.keeps in
     let more : c.self.inside.core.base + c.self.inside.core.count ≢ last_base = search rules in
@@ -87,7 +88,7 @@ room_so c =
     record {
       records = c.self.invariant.records;
       more = more;
-      own = subst (λ (k : AtKnown). IfSome (closes (mark_step c.args.step)) (IsOut k.run)) (sym c.self.view_is) c.requires.own;
+      own = subst (λ (k : AtKnown). IfSome (closes (mark_step c.args.session c.args.step)) (IsOut k.run)) (sym c.self.view_is) c.requires.own;
       kept = c.room_for.ensures.kept;
       room = λ needs. room (c.needs_room-needs.ensures keeps.last (legal_last c.self.inside.core (run_of c.self.inside.histories.items) keeps) keeps.stands ∙ needs);
     }
@@ -99,22 +100,22 @@ add-requires c =
     (can_add c.self.inside.core c.room_for.new.histories c.room_for.new.next
     (subst (λ (l : List HistoryInMemory). KeepsRun c.self.inside.core (run_of l)) (sym c.room_for.ensures.items) c.self.invariant.records.keeps)
     (subst LastHasRoom (sym c.room_for.ensures.items) c.self.invariant.records.present) c.room_for.ensures.room
-    (has_next c.self.inside.core c.self.inside.histories c.self.inside.next c.room_for.new.next (mark_step c.args.step) _
+    (has_next c.self.inside.core c.self.inside.histories c.self.inside.next c.room_for.new.next (mark_step c.args.session c.args.step) _
     has.records has.more has.own has.kept has.room))
 
 -- a step that makes its mark
 marks_so : (c : goal.After-add) → Marks c.self.inside.core c.step.new.self (run_of c.self.inside.histories.items) c.args.session
-    (moment_of c.self.inside.core.moment c.args.reading) (mark_step c.args.step) (turn_of (Ok c.in-Ok.reply))
+    (moment_of c.self.inside.core.moment c.args.reading) (mark_step c.args.session c.args.step) (turn_of (Ok c.in-Ok.reply))
     c.mark_of-mark.result
 marks_so c =
     let keeps = c.self.invariant.records.keeps in
     let more : c.self.inside.core.base + c.self.inside.core.count ≢ last_base = search rules in
     let gone = going c.self.inside.core (run_of c.self.inside.histories.items) keeps more in
-    let step : IsStep c.self.inside.core keeps.last c.args.session (moment_of c.self.inside.core.moment c.args.reading) (mark_step c.args.step) (turn_of (Ok c.in-Ok.reply)) c.step.new.self =
+    let step : IsStep c.self.inside.core keeps.last c.args.session (moment_of c.self.inside.core.moment c.args.reading) (mark_step c.args.session c.args.step) (turn_of (Ok c.in-Ok.reply)) c.step.new.self =
     c.in-Ok.ensures.step keeps.last (legal_last c.self.inside.core (run_of c.self.inside.histories.items) keeps) keeps.stands in
-    let is = is_marked c.self.inside.core c.step.new.self keeps.last c.args.session _ (mark_step c.args.step) (turn_of (Ok c.in-Ok.reply))
+    let is = is_marked c.self.inside.core c.step.new.self keeps.last c.args.session _ (mark_step c.args.session c.args.step) (turn_of (Ok c.in-Ok.reply))
     (not_stand c.in-Ok.reply c.in_default.not-Stand) (not_refused c.in-Ok.reply) gone step in
-    made c.self.inside.core c.step.new.self (run_of c.self.inside.histories.items) keeps c.args.session (mark_step c.args.step) (turn_of (Ok c.in-Ok.reply)) _
+    made c.self.inside.core c.step.new.self (run_of c.self.inside.histories.items) keeps c.args.session (mark_step c.args.session c.args.step) (turn_of (Ok c.in-Ok.reply)) _
     gone c.in-Ok.ensures.limits (omega (arith, keeps.moment)) (omega (arith, keeps.stands.moment)) is _
     (c.mark_of-mark.ensures
     ∙ ap (λ (s : MarkStep). mark_of c.args.session s (reply_of (turn_of (Ok c.in-Ok.reply))) c.step.new.self.moment) c.mark_step_of-asked.ensures)
@@ -154,11 +155,11 @@ invariant_of-self-in_default c =
     let keeps = c.self.invariant.records.keeps in
     record {
       records = records_marked c.self.inside.core c.step.new.self c.self.inside.histories c.add.new.histories c.self.inside.next c.room_for.new.next c.add.new.next
-          c.args.session _ (mark_step c.args.step) (turn_of (Ok c.in-Ok.reply)) _
+          c.args.session _ (mark_step c.args.session c.args.step) (turn_of (Ok c.in-Ok.reply)) _
           (record {
             records = c.self.invariant.records;
             more = more;
-            own = subst (λ (k : AtKnown). IfSome (closes (mark_step c.args.step)) (IsOut k.run)) (sym c.self.view_is) c.requires.own;
+            own = subst (λ (k : AtKnown). IfSome (closes (mark_step c.args.session c.args.step)) (IsOut k.run)) (sym c.self.view_is) c.requires.own;
             kept = c.room_for.ensures.kept;
             room = λ needs. room (c.needs_room-needs.ensures keeps.last (legal_last c.self.inside.core (run_of c.self.inside.histories.items) keeps) keeps.stands ∙ needs);
           }) (marks_so c) (items_so c) c.add.ensures.last c.add.ensures.room
@@ -169,10 +170,13 @@ invariant_of-self-in_default c =
 pub returns-in_default-clause-takes : goal.returns-in_default-clause-takes
 returns-in_default-clause-takes c =
     rw (sym c.self.view_is, items_so c)
-    (subst (λ (m : ℕ). TakesStep c.self.inside.core.limits (run_of c.self.inside.histories.items) c.args.session m (mark_step c.args.step) (turn_of (Ok c.in-Ok.reply))
+    (subst (λ (m : ℕ). TakesStep c.self.inside.core.limits (run_of c.self.inside.histories.items) c.args.session m (mark_step c.args.session c.args.step) (turn_of (Ok c.in-Ok.reply))
     (run_with_mark (run_of c.self.inside.histories.items)
     c.mark_of-mark.result))
     (moment_is c.self.inside.core (run_of c.self.inside.histories.items) c.args.reading c.self.invariant.records.keeps) (marks_so c).takes)
+
+pub returns-in_default-clause-fits : goal.returns-in_default-clause-fits
+returns-in_default-clause-fits c = fits_taken c.args.session c.args.step (turn_of (Ok c.in-Ok.reply)) c.in-Ok.ensures.fits
 
 pub returns-in_default-clause-back : goal.returns-in_default-clause-back
 returns-in_default-clause-back c = not_stand c.in-Ok.reply c.in_default.not-Stand
@@ -184,9 +188,9 @@ returns-in_default-clause-legal c =
 pub returns-in-Err-clause-takes : goal.returns-in-Err-clause-takes
 returns-in-Err-clause-takes c =
     let keeps = c.self.invariant.records.keeps in
-    let step : IsStep c.self.inside.core keeps.last c.args.session (moment_of c.self.inside.core.moment c.args.reading) (mark_step c.args.step) Refused c.step.new.self =
+    let step : IsStep c.self.inside.core keeps.last c.args.session (moment_of c.self.inside.core.moment c.args.reading) (mark_step c.args.session c.args.step) Refused c.step.new.self =
     c.in-Err.ensures.step keeps.last (legal_last c.self.inside.core (run_of c.self.inside.histories.items) keeps) keeps.stands in
     rw (sym c.self.view_is, c.room_for.ensures.items)
-    (subst (λ (m : ℕ). TakesStep c.self.inside.core.limits (run_of c.self.inside.histories.items) c.args.session m (mark_step c.args.step) Refused (run_of c.self.inside.histories.items))
+    (subst (λ (m : ℕ). TakesStep c.self.inside.core.limits (run_of c.self.inside.histories.items) c.args.session m (mark_step c.args.session c.args.step) Refused (run_of c.self.inside.histories.items))
     (moment_is c.self.inside.core (run_of c.self.inside.histories.items) c.args.reading keeps)
-    (took_refused c.self.inside.core c.step.new.self (run_of c.self.inside.histories.items) keeps c.args.session _ (mark_step c.args.step) step))
+    (took_refused c.self.inside.core c.step.new.self (run_of c.self.inside.histories.items) keeps c.args.session _ (mark_step c.args.session c.args.step) step))

@@ -1,6 +1,7 @@
 use Rattle.std.specs.Prelude.{◌≡◌, Some, IfSome, Option, ℕ}
 use Rattle.std.proofs.Common.{sym, subst}
-use Rattle.cache_policy.specs.Turns.{mark_step, closes}
+use Rattle.agent_core.proofs.Taken.{closes_taken}
+use Rattle.cache_policy.specs.Turns.{asked_step, mark_step, closes}
 use Rattle.agent_core.specs.Seating.{Seated}
 use Rattle.agent_core.specs.Solos.{SoloState}
 use Rattle.agent_core.specs.Stepped.{turn_of_stepped}
@@ -10,20 +11,22 @@ use Rattle.agent_core.proofs.solo.Solo.attempt.Goals as goal
 
 pub step-outcome-requires : goal.step-outcome-requires
 step-outcome-requires g c = record {
-  own = own_outs c.self.inside.known.run c.self.inside.out c.self.inside.holder (closes (mark_step c.args.step))
-      (subst (λ (s : SoloState _). IfSome (closes (mark_step c.args.step)) (λ number. s.out ≡ Some number)) (sym c.self.view_is) c.requires.own)
+  own = own_outs c.self.inside.known.run c.self.inside.out c.self.inside.holder (closes (mark_step c.self.inside.session c.args.step))
+      (subst (λ (closed : Option ℕ). IfSome closed (λ number. c.self.inside.out ≡ Some number)) (sym (closes_taken c.self.inside.session c.args.step))
+      (subst (λ (s : SoloState _). IfSome (closes (asked_step c.args.step)) (λ number. s.out ≡ Some number)) (sym c.self.view_is) c.requires.own))
       c.self.invariant.seated;
 }
 
 seated : (g : given.Over) (c : goal.After-self-1 g) → Seated c.step-outcome.new.self.run c.out_after-self-inside.result c.self.inside.holder
 seated g c =
     subst (λ (o : Option ℕ). Seated c.step-outcome.new.self.run o c.self.inside.holder)
-    (sym (c.out_after-self-inside.ensures (mark_step c.args.step) c.is_close-gives_back.ensures))
-    (own_seated c.self.inside.known.run c.step-outcome.new.self.run (mark_step c.args.step) c.self.inside.out c.self.inside.holder c.self.invariant.seated
+    (sym (c.out_after-self-inside.ensures (mark_step c.self.inside.session c.args.step) (c.is_close-gives_back.ensures c.self.inside.session)))
+    (own_seated c.self.inside.known.run c.step-outcome.new.self.run (mark_step c.self.inside.session c.args.step) c.self.inside.out c.self.inside.holder c.self.invariant.seated
     (turn_of_stepped c.step-outcome.result)
-    (moves _ _ _ _ _ (mark_step c.args.step) _ c.step-outcome.ensures.was_legal c.step-outcome.ensures.takes)
+    (moves _ _ _ _ _ (mark_step c.self.inside.session c.args.step) _ c.step-outcome.ensures.was_legal c.step-outcome.ensures.takes)
     c.step-outcome.ensures.fits
-    (subst (λ (s : SoloState _). IfSome (closes (mark_step c.args.step)) (λ number. s.out ≡ Some number)) (sym c.self.view_is) c.requires.own))
+    (subst (λ (closed : Option ℕ). IfSome closed (λ number. c.self.inside.out ≡ Some number)) (sym (closes_taken c.self.inside.session c.args.step))
+    (subst (λ (s : SoloState _). IfSome (closes (asked_step c.args.step)) (λ number. s.out ≡ Some number)) (sym c.self.view_is) c.requires.own)))
 
 pub invariant_of-self : goal.invariant_of-self
 invariant_of-self g c = record {

@@ -4,7 +4,8 @@ use Rattle.cache_policy.specs.declared.life.Limits.{Limits}
 use Rattle.cache_policy.specs.Legal.{IsLegalRun}
 use Rattle.cache_policy.specs.Turns.{mark_step, closes}
 use Rattle.agent_core.specs.declared.holder.Holder.{Holder}
-use Rattle.agent_core.specs.Foreigners.{is_session, holder_after}
+use Rattle.cache_policy.specs.Waits.{is_session}
+use Rattle.agent_core.specs.Foreigners.{holder_after}
 use Rattle.agent_core.specs.Seating.{Seated}
 use Rattle.agent_core.specs.SoloInside.{lists_of}
 use Rattle.agent_core.specs.Solos.{SoloState}
@@ -16,22 +17,22 @@ use Rattle.agent_core.proofs.solo.Solo.play_step.Goals as goal
 
 pub step-outcome-requires : goal.step-outcome-requires
 step-outcome-requires g c = record {
-  own = their_outs c.self.inside.known.run c.self.inside.out c.self.inside.holder (closes (mark_step c.in-Some.step))
-      (told_closes c.self.inside.holder c.args.foreign.session c.args.foreign.step (mark_step c.in-Some.step) (sym c.in-Some.ensures.step)) c.self.invariant.seated;
+  own = their_outs c.self.inside.known.run c.self.inside.out c.self.inside.holder (closes (mark_step c.args.foreign.session c.in-Some.step))
+      (told_closes c.self.inside.holder c.args.foreign.session c.args.foreign.step (mark_step c.args.foreign.session c.in-Some.step) (sym c.in-Some.ensures.step)) c.self.invariant.seated;
 }
 
 pub unreachable-requires : goal.unreachable-requires
 unreachable-requires g c =
     none_held _ c.self.inside.holder c.told_step.new.holder c.replace.result c.in-Some-replace.field-0
-    (opened_nobody c.self.inside.known.run c.step-outcome.new.self.run (mark_step c.in-Some.step) (turn_of_stepped c.step-outcome.result) c.in-Some-into_ticket.ticket
+    (opened_nobody c.self.inside.known.run c.step-outcome.new.self.run (mark_step c.args.foreign.session c.in-Some.step) (turn_of_stepped c.step-outcome.result) c.in-Some-into_ticket.ticket
     c.self.inside.out c.self.inside.holder
-    (moves _ _ _ _ _ (mark_step c.in-Some.step) _ c.step-outcome.ensures.was_legal c.step-outcome.ensures.takes) c.in-Some-into_ticket.ensures c.self.invariant.seated)
+    (moves _ _ _ _ _ (mark_step c.args.foreign.session c.in-Some.step) _ c.step-outcome.ensures.was_legal c.step-outcome.ensures.takes) c.in-Some-into_ticket.ensures c.self.invariant.seated)
     c.in-Some.ensures.taken c.replace.ensures.value c.in-Some-replace.is
 
 -- a ticket was given
 now-opened : (g : given.Over) (c : goal.In-None g) → c.replace.new.self
-    ≡ holder_after c.self.inside.holder c.args.foreign.session (mark_step c.in-Some.step) (turn_of_stepped c.step-outcome.result)
-now-opened g c = c.replace.ensures.after ∙ holder_opened c.self.inside.holder c.args.foreign.session (mark_step c.in-Some.step) (turn_of_stepped c.step-outcome.result) _ c.in-Some-into_ticket.ensures
+    ≡ holder_after c.self.inside.holder c.args.foreign.session (mark_step c.args.foreign.session c.in-Some.step) (turn_of_stepped c.step-outcome.result)
+now-opened g c = c.replace.ensures.after ∙ holder_opened c.self.inside.holder c.args.foreign.session (mark_step c.args.foreign.session c.in-Some.step) (turn_of_stepped c.step-outcome.result) _ c.in-Some-into_ticket.ensures
 
 other-opened : (g : given.Over) (c : goal.In-None g) → is_session c.self.inside.session c.args.foreign.session ≡ false
 other-opened g c = subst (λ (s : SoloState _). is_session s.session c.args.foreign.session ≡ false) (sym c.self.view_is) c.requires
@@ -39,17 +40,17 @@ other-opened g c = subst (λ (s : SoloState _). is_session s.session c.args.fore
 seated-opened : (g : given.Over) (c : goal.In-None g) → Seated c.step-outcome.new.self.run c.self.inside.out c.replace.new.self
 seated-opened g c =
     subst (λ (h : Option Holder). Seated c.step-outcome.new.self.run c.self.inside.out h) (sym (now-opened g c))
-    (their_seated c.self.inside.known.run c.step-outcome.new.self.run (mark_step c.in-Some.step) c.self.inside.out c.self.inside.holder c.self.invariant.seated
+    (their_seated c.self.inside.known.run c.step-outcome.new.self.run (mark_step c.args.foreign.session c.in-Some.step) c.self.inside.out c.self.inside.holder c.self.invariant.seated
     c.args.foreign.session (turn_of_stepped c.step-outcome.result)
-    (moves _ _ _ _ _ (mark_step c.in-Some.step) _ c.step-outcome.ensures.was_legal c.step-outcome.ensures.takes) c.step-outcome.ensures.fits
-    (told_closes c.self.inside.holder c.args.foreign.session c.args.foreign.step (mark_step c.in-Some.step) (sym c.in-Some.ensures.step)))
+    (moves _ _ _ _ _ (mark_step c.args.foreign.session c.in-Some.step) _ c.step-outcome.ensures.was_legal c.step-outcome.ensures.takes) c.step-outcome.ensures.fits
+    (told_closes c.self.inside.holder c.args.foreign.session c.args.foreign.step (mark_step c.args.foreign.session c.in-Some.step) (sym c.in-Some.ensures.step)))
 
 pub invariant_of-self-in-None : goal.invariant_of-self-in-None
 invariant_of-self-in-None g c = record {
   seated = seated-opened g c;
   script_is = c.self.invariant.script_is;
   holder_is = subst (λ (h : Option Holder). IfSome h (λ h. is_session c.self.inside.session h.session ≡ false)) (sym (now-opened g c))
-      (holder_foreign c.self.inside.session c.args.foreign.session c.self.inside.holder (mark_step c.in-Some.step) (turn_of_stepped c.step-outcome.result)
+      (holder_foreign c.self.inside.session c.args.foreign.session c.self.inside.holder (mark_step c.args.foreign.session c.in-Some.step) (turn_of_stepped c.step-outcome.result)
       (other-opened g c) c.self.invariant.holder_is);
 }
 
@@ -64,7 +65,7 @@ returns-in-None-clause-step g c =
       holder = c.self.inside.holder;
       script = lists_of c.self.inside.script.items;
       clock = g.C.Clock.readings c.self.inside.clock.clock;
-    }) c.args.foreign (mark_step c.in-Some.step) (turn_of_stepped c.step-outcome.result)
+    }) c.args.foreign (mark_step c.args.foreign.session c.in-Some.step) (turn_of_stepped c.step-outcome.result)
     c.step-outcome.new.self.limits c.step-outcome.new.self.run (g.C.Clock.readings c.now-reading.new.self.clock) c.replace.new.self
     (other-opened g c) c.in-Some.ensures.step
     (record {
@@ -81,10 +82,10 @@ returns-in-None-clause-seated g c = seated-opened g c
 
 -- none was
 now-shut : (g : given.Over) (c : goal.In_default-into_ticket g) → c.told_step.new.holder
-    ≡ holder_after c.self.inside.holder c.args.foreign.session (mark_step c.in-Some.step) (turn_of_stepped c.step-outcome.result)
+    ≡ holder_after c.self.inside.holder c.args.foreign.session (mark_step c.args.foreign.session c.in-Some.step) (turn_of_stepped c.step-outcome.result)
 now-shut g c =
     c.in-Some.ensures.taken
-    ∙ holder_shut c.self.inside.holder c.args.foreign.session (mark_step c.in-Some.step) (turn_of_stepped c.step-outcome.result)
+    ∙ holder_shut c.self.inside.holder c.args.foreign.session (mark_step c.args.foreign.session c.in-Some.step) (turn_of_stepped c.step-outcome.result)
     (λ number is. c.in_default-into_ticket.not-Some number (c.into_ticket.ensures ∙ sym is))
 
 other-shut : (g : given.Over) (c : goal.In_default-into_ticket g) → is_session c.self.inside.session c.args.foreign.session ≡ false
@@ -93,17 +94,17 @@ other-shut g c = subst (λ (s : SoloState _). is_session s.session c.args.foreig
 seated-shut : (g : given.Over) (c : goal.In_default-into_ticket g) → Seated c.step-outcome.new.self.run c.self.inside.out c.told_step.new.holder
 seated-shut g c =
     subst (λ (h : Option Holder). Seated c.step-outcome.new.self.run c.self.inside.out h) (sym (now-shut g c))
-    (their_seated c.self.inside.known.run c.step-outcome.new.self.run (mark_step c.in-Some.step) c.self.inside.out c.self.inside.holder c.self.invariant.seated
+    (their_seated c.self.inside.known.run c.step-outcome.new.self.run (mark_step c.args.foreign.session c.in-Some.step) c.self.inside.out c.self.inside.holder c.self.invariant.seated
     c.args.foreign.session (turn_of_stepped c.step-outcome.result)
-    (moves _ _ _ _ _ (mark_step c.in-Some.step) _ c.step-outcome.ensures.was_legal c.step-outcome.ensures.takes) c.step-outcome.ensures.fits
-    (told_closes c.self.inside.holder c.args.foreign.session c.args.foreign.step (mark_step c.in-Some.step) (sym c.in-Some.ensures.step)))
+    (moves _ _ _ _ _ (mark_step c.args.foreign.session c.in-Some.step) _ c.step-outcome.ensures.was_legal c.step-outcome.ensures.takes) c.step-outcome.ensures.fits
+    (told_closes c.self.inside.holder c.args.foreign.session c.args.foreign.step (mark_step c.args.foreign.session c.in-Some.step) (sym c.in-Some.ensures.step)))
 
 pub invariant_of-self-in_default-into_ticket : goal.invariant_of-self-in_default-into_ticket
 invariant_of-self-in_default-into_ticket g c = record {
   seated = seated-shut g c;
   script_is = c.self.invariant.script_is;
   holder_is = subst (λ (h : Option Holder). IfSome h (λ h. is_session c.self.inside.session h.session ≡ false)) (sym (now-shut g c))
-      (holder_foreign c.self.inside.session c.args.foreign.session c.self.inside.holder (mark_step c.in-Some.step) (turn_of_stepped c.step-outcome.result)
+      (holder_foreign c.self.inside.session c.args.foreign.session c.self.inside.holder (mark_step c.args.foreign.session c.in-Some.step) (turn_of_stepped c.step-outcome.result)
       (other-shut g c) c.self.invariant.holder_is);
 }
 
@@ -118,7 +119,7 @@ returns-in_default-into_ticket-clause-step g c =
       holder = c.self.inside.holder;
       script = lists_of c.self.inside.script.items;
       clock = g.C.Clock.readings c.self.inside.clock.clock;
-    }) c.args.foreign (mark_step c.in-Some.step) (turn_of_stepped c.step-outcome.result)
+    }) c.args.foreign (mark_step c.args.foreign.session c.in-Some.step) (turn_of_stepped c.step-outcome.result)
     c.step-outcome.new.self.limits c.step-outcome.new.self.run (g.C.Clock.readings c.now-reading.new.self.clock) c.told_step.new.holder
     (other-shut g c) c.in-Some.ensures.step
     (record {

@@ -4,6 +4,6 @@ use Rattle.agent_lock.proofs.shared.Shared.new.Given as goal
 
 abbrev pub invariant-loop-i : goal.invariant-loop-i
 invariant-loop-i g l =
-    (l.calls_left.parts + l._i ≡ l.passes) × (l.given_left.parts + l._i ≡ l.passes) × (l.empty_left.parts + l._i ≡ l.passes) × (l.opened_left.parts + l._i ≡ l.passes)
-    × (l.calls_left.amount ≡ 0) × (l.given_left.amount ≡ 0) × (l.empty_left.amount ≡ 0) × (l.opened_left.amount ≡ 0)
-    × (vec_len l.all ≡ l._i) × All (λ pass. pass.counts ≡ no_counts) l.all.items
+    (l.left.calls.parts + l._i ≡ l.passes) × (l.left.given.parts + l._i ≡ l.passes) × (l.left.empty.parts + l._i ≡ l.passes) × (l.left.opened.parts + l._i ≡ l.passes)
+    × (l.left.calls.amount ≡ 0) × (l.left.given.amount ≡ 0) × (l.left.empty.amount ≡ 0) × (l.left.opened.amount ≡ 0)
+    × (vec_len l.all ≡ l._i) × All (λ pass. pass ≡ no_counts) l.all.items

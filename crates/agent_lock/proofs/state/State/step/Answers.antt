@@ -21,6 +21,7 @@ returns-then-spent c =
       totals = totals_given_up c.args.self.now k c.next_start-next.ensures.below all taken;
       grant = given_at _ taken;
       fits = search rules;
+      memory = search rules;
       limits = search rules;
       back = search rules;
     }
@@ -34,7 +35,7 @@ returns-in-Some c =
     let stores = rw c.limits.ensures at c.stores-stores.ensures in
     let next = c.next_start-next.ensures.start in
     let stepped =
-    marked_step c.args.self.now k c.next_start-next.ensures.below more c.step-outcome.new.self c.args.session c.args.reading (mark_step c.args.step) _ taken c.step-outcome.ensures.limits
+    marked_step c.args.self.now k c.next_start-next.ensures.below more c.step-outcome.new.self c.args.session c.args.reading (mark_step c.args.session c.args.step) _ taken c.step-outcome.ensures.limits
     c.in-Some.answer (sym c.of.ensures ∙ c.in-Some.is) _ c.stores-stores.result
     (record { session_is = refl; step_is = c.of-asked.ensures; reply_is = refl; moment_is = c.moment.ensures; stores_are = λ before moment held. stores before moment (held ∙ sym c.held.ensures) })
     c.add.new.self (record { core_is = a.core; journal_is = rw next at a.journal; carried_is = rw next at a.carried; total_is = a.total; sound = a.sound; room = a.room }) in
@@ -45,6 +46,7 @@ returns-in-Some c =
       totals = grind (arith, common_steps);
       grant = given_at _ taken;
       fits = search rules;
+      memory = search rules;
       limits = search rules;
       back = search rules;
     }
@@ -62,6 +64,7 @@ returns-in-None c =
       totals = grind (arith, common_steps);
       grant = search rules;
       fits = search rules;
+      memory = search rules;
       limits = search rules;
       back = search rules;
     }
@@ -79,6 +82,7 @@ returns-in-Err c =
       totals = grind (arith, common_steps);
       grant = search rules;
       fits = search rules;
+      memory = search rules;
       limits = search rules;
       back = search rules;
     }

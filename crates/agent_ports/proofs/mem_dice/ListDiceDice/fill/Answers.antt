@@ -2,8 +2,8 @@ use Rattle.std.proofs.Common.{◌≡◌, ◌-◌, List, ℕ, length, take, drop,
 use Rattle.agent_ports.proofs.Pieces.{next_drawn}
 use Rattle.agent_ports.proofs.mem_dice.ListDiceDice.fill.Goals as goal
 
-pub returns : goal.returns
-returns c =
+pub returns-clause-drawn : goal.returns-clause-drawn
+returns-clause-drawn c =
     let s = c.args.self.now in
     let room = length c.args.out.now in
     let part : c.copy_from_slice.new.self ≡ take room (take (length s.bytes.items - s.taken) (drop s.taken s.bytes.items)) =

@@ -3,8 +3,8 @@ use Rattle.std.specs.Map.{keys_of}
 use Rattle.agent_ports.proofs.KeyMaps.{keys_listed}
 use Rattle.agent_ports.proofs.mem_keys.MapKeysKeys.list.Goals as goal
 
-pub returns-in-Ok : goal.returns-in-Ok
-returns-in-Ok c =
+pub returns-in-Ok-clause-lists : goal.returns-in-Ok-clause-lists
+returns-in-Ok-clause-lists c =
     let entries = c.args.self.now.files.entries in
     let names : c.in-Ok.names.items ≡ keys_of entries = search rules in
     record {

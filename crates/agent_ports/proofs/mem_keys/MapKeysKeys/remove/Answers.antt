@@ -7,8 +7,8 @@ use Rattle.agent_ports.proofs.KeyMaps.{get_file, file_removed, known_keys, remov
 use Rattle.agent_ports.proofs.mem_keys.MapKeysKeys.remove.Goals as goal
 use Rattle.agent_ports.proofs.mem_keys.MapKeysKeys.remove.Goals.{in-Some, in-None}
 
-pub returns : goal.returns
-returns c =
+pub returns-clause-removes : goal.returns-clause-removes
+returns-clause-removes c =
     let before = c.args.self.now in
     let after = c.remove.new.self in
     let grip = c.args.grip.now in

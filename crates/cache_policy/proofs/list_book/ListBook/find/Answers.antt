@@ -23,5 +23,5 @@ returns-clause-endless c = λ limits history h.
     ∙ found-endless limits history c.args.self.now c.args.id.now c.args.mode c.args.moment h)
 
 pub returns-clause-asked : goal.returns-clause-asked
-returns-clause-asked c = λ limits history session way reply h.
-    endless_book_of-ask limits history c.args.self.now session c.args.moment c.args.id.now c.args.mode way reply h
+returns-clause-asked c = λ limits history session way since reply h.
+    endless_book_of-ask limits history c.args.self.now session c.args.moment c.args.id.now c.args.mode way since reply h

@@ -6,4 +6,4 @@ pub returns : goal.returns
 returns g c =
     rw (sym c.self.view_is)
     (pinentry_call g.La.Launcher.launches
-    (asks_pin (ready_of c.self.view_is c.requires) c.in-Some.is refl c.stays_ready-self-inside.ensures c.pin_talk-outcome.ensures.talk) refl)
+    (asks_pin (ready_of c.self.view_is c.requires) c.in-Some.is refl c.stays_ready-self-inside.ensures c.pin_talk-outcome.ensures.talk) refl refl)

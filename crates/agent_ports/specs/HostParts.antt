@@ -1,0 +1,34 @@
+-- A host's parts, as far as they show what they are. This is the project's own.
+use Rattle.std.specs.Prelude.{◌≡◌, ℕ, Option, Some, None, ⊤}
+use Rattle.agent_ports.specs.Sides.{Side}
+use Rattle.agent_ports.specs.Launches.{Launches}
+use Rattle.agent_ports.specs.Readings.{Readings}
+use Rattle.agent_ports.specs.KeyFiles.{KeyFiles}
+use Rattle.agent_ports.specs.declared.host.Parts.{Parts}
+
+-- how parts of these types are seen
+pub record Views (La C R K : Type 0) : Type 0 where
+  pub launches : La → Launches
+  pub readings : C → Readings
+  pub draws : R → Side
+  pub keys : K → KeyFiles
+
+module _ {La C R K : Type 0} (views : Views La C R K) where
+  -- nothing failed in these parts so far
+  pub record AreNew (parts : Parts La C R K) : Type 0 where
+    pub launcher : (views.launches parts.launcher).faults ≡ 0
+    pub dice : (views.draws parts.dice).faults ≡ 0
+    pub keys : (views.keys parts.keys).faults ≡ 0
+
+  -- other parts, with the same counts and the same contents
+  pub record AreAlike (before after : Parts La C R K) : Type 0 where
+    pub launcher : views.launches after.launcher ≡ views.launches before.launcher
+    pub clock : views.readings after.clock ≡ views.readings before.clock
+    pub dice : views.draws after.dice ≡ views.draws before.dice
+    pub keys : views.keys after.keys ≡ views.keys before.keys
+
+  -- a host that has its parts has them afterwards
+  abbrev pub AreSettled : Option (Parts La C R K) → Option (Parts La C R K) → Type 0
+  AreSettled (Some before) (Some after) = AreAlike before after
+  AreSettled (Some before) None = ⊥
+  AreSettled None after = ⊤

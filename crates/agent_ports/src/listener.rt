@@ -1,0 +1,50 @@
+ghost use Rattle.std.specs.Prelude.{◌≡◌, ◌<◌, ◌≤◌, ◌↔◌, ℕ, IsTrue};
+ghost use Rattle.agent_ports.specs.Counts.{Rose};
+ghost use Rattle.agent_ports.specs.Listening.{IfLink, NothingFailed};
+
+use crate::Link;
+
+/// What one worker heard of a listener's faults.
+pub trait Ear {
+    /// How many calls with it failed.
+    ghost faults: { Self → ℕ };
+
+    /// Whether a call with it failed.
+    fn failed(&self) -> bool
+        ensures { IsTrue result ↔ (0 < faults self.now) };
+}
+
+/// What a listener gave.
+#[derive(Drop)]
+pub enum Next<L> {
+    /// A peer that wants a session.
+    Link(L),
+    Failed,
+    /// No more links are taken.
+    Stopped,
+}
+
+/// Where links come from. Several workers share it, each with an ear of its own.
+///
+/// What crosses threads is said where threads start: a bound here would be owed by every caller.
+pub trait Listener {
+    type Link: Link;
+
+    type Ear: Ear;
+
+    /// An ear for one more worker.
+    fn ear(&self) -> Self::Ear
+        ensures { Self.Ear.faults result ≡ 0 };
+
+    /// Waits for the next link. Whether the listener was stopped is in no clause, since any worker may stop it at any time.
+    fn next(&self, ear: &mut Self::Ear) -> Next<Self::Link>
+        ensures link { IfLink result (λ link. NothingFailed (Self.Link.input link) (Self.Link.output link)) }
+        ensures failed { result ≡ Next.Failed → Rose (Self.Ear.faults ear.old) (Self.Ear.faults ear.new) }
+        ensures faults { Self.Ear.faults ear.old ≤ Self.Ear.faults ear.new };
+
+    /// Takes a link back whose session has ended.
+    fn done(&self, link: Self::Link);
+
+    /// From now on no link is taken. Sessions whose links were taken before go on.
+    fn stop(&self);
+}

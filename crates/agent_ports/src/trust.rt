@@ -1,0 +1,34 @@
+ghost use Rattle.agent_ports.specs.TrustFiles.{TrustState, ReadsTrust, ReplacesTrust};
+
+use std::alloc::Global;
+
+/// What a read of the trust file gave.
+#[derive(Debug, Drop)]
+pub enum TrustRead {
+    Found(Vec<u8>),
+    /// There is no such file.
+    Absent,
+    Failed,
+    NoMemory,
+}
+
+/// What became of a new trust file. All but `Done` leave the one before as it was.
+#[derive(Clone, Copy, Debug, PartialEq, Eq)]
+pub enum TrustDone {
+    Done,
+    Failed,
+    NoMemory,
+}
+
+/// The file of the root certificates that the user trusts.
+pub trait TrustFile {
+    /// The file, where it is known, and how many calls failed.
+    ghost trust: { Self → TrustState };
+
+    fn read(&mut self, alloc: Global) -> TrustRead
+        ensures { ReadsTrust (trust self.old) result (trust self.new) };
+
+    /// Makes these bytes the file, also where there is none yet.
+    fn replace(&mut self, alloc: Global, file: &[u8]) -> TrustDone
+        ensures { ReplacesTrust (trust self.old) file.now result (trust self.new) };
+}
