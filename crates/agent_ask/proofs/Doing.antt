@@ -1,18 +1,31 @@
 -- Events one after another: each does to the outside what its kind does.
-use Rattle.std.proofs.Common.{◌≡◌, List, [], ◌∷◌, ◌++◌, refl, ◌∙◌, arith}
+use Rattle.std.proofs.Common.{◌≡◌, ℕ, List, [], ◌∷◌, ◌++◌, Ok, Err, refl, ap, ◌∙◌, arith}
 use Rattle.agent_ports.specs.Leads.{none, one}
 use Rattle.agent_ports.proofs.Leading.{leads_then}
 use Rattle.cache_policy.specs.declared.mark.MarkStep.{MarkStep}
 use Rattle.cache_policy.specs.Turns.{Turn}
-use Rattle.agent_ask.specs.SessionEvents.{AnyEvent, Further, cache_turn}
-use Rattle.agent_ask.specs.States.{Views, AnyState, AnyLead}
-use Rattle.agent_ask.specs.Worlds.{Lines, AnyWorld, turned, further}
+use Rattle.agent_ports.specs.Sides.{Side}
+use Rattle.agent_ports.specs.Writing.{StopsWriting}
+use Rattle.agent_ports.specs.declared.link.WriteFault.{WriteFault}
+use Rattle.session_client.specs.Asking.{AnyInquired, Asked, NotAsked, HasSaid, HasReceived, HasInquired}
+use Rattle.session_client.specs.Lines.{Lines, Views}
+use Rattle.agent_ask.specs.SessionEvents.{AnyEvent, Received, Sent, Cut, Inquiry, Further, cache_turn}
+use Rattle.agent_ask.specs.States.{AnyState, AnyLead}
+use Rattle.agent_ask.specs.Worlds.{AnyWorld, received, sent, cut, asked as asked_so, not_asked, turned, further}
+
+-- the bytes of a text that went before its write stopped
+abbrev pub stopped_at : {lines : Lines} {C : Type 0} {views : Views lines C} {text : List ℕ} {start now : C} {why : WriteFault} → HasSaid views text start (Err why) now → List ℕ
+stopped_at {views} {text} {start} {now} said = let stops : StopsWriting text (views.output start) (views.output now) = said.output.went in stops.sent
+
+-- a state with this connection
+abbrev at_conn : {lines : Lines} {w : AnyWorld lines} {C : Type 0} → w.Desk → w.Ends → C → AnyState w C
+at_conn desk ends conn = record { conn = conn; desk = desk; ends = ends }
 
 module _ {lines : Lines} {w : AnyWorld lines} {C : Type 0} {views : Views lines C} where
   pub done_none : (now : AnyState w C) → AnyLead views [] now now
   done_none now = record { leads = λ supply is. (none, is); input_faults = omega arith; output_faults = omega arith; link = refl }
 
-  pub done_then : {first second : List (AnyEvent lines.Outcome w.Further)} {start mid now : AnyState w C} → AnyLead views first start mid → AnyLead views second mid now
+  pub done_then : {first second : List (AnyEvent lines.Took lines.Outcome w.Further)} {start mid now : AnyState w C} → AnyLead views first start mid → AnyLead views second mid now
       → AnyLead views (first ++ second) start now
   done_then before after = record {
     leads = λ supply is.
@@ -43,3 +56,53 @@ module _ {lines : Lines} {w : AnyWorld lines} {C : Type 0} {views : Views lines 
     output_faults = omega arith;
     link = refl;
   }
+
+  -- what is done with the connection
+  module _ (desk : w.Desk) (ends : w.Ends) where
+    -- a text was written
+    pub done_said : {text : List ℕ} {start now : C} → HasSaid views text start (Ok tt) now → AnyLead {w = w} views (Sent text ∷ []) (at_conn {w = w} desk ends start) (at_conn {w = w} desk ends now)
+    done_said said = record {
+      leads = λ supply is. (rw (said.leaves.unread, ap (λ (s : Side). s.bytes) said.leaves.input, said.output.went) (one sent none), said.leaves.supply supply is);
+      input_faults = omega (arith, ap (λ (s : Side). s.faults) said.leaves.input);
+      output_faults = said.output.faults;
+      link = said.leaves.link;
+    }
+
+    -- a write stopped
+    pub done_cut : {text : List ℕ} {start now : C} (why : WriteFault) (said : HasSaid views text start (Err why) now)
+        → AnyLead {w = w} views (Cut (stopped_at said) ∷ []) (at_conn {w = w} desk ends start) (at_conn {w = w} desk ends now)
+    done_cut why said = record {
+      leads = λ supply is. (rw (said.leaves.unread, ap (λ (s : Side). s.bytes) said.leaves.input, said.output.went.written) (one cut none), said.leaves.supply supply is);
+      input_faults = omega (arith, ap (λ (s : Side). s.faults) said.leaves.input);
+      output_faults = said.output.faults;
+      link = said.leaves.link;
+    }
+
+    -- the next request was read, or this came in its place
+    pub done_received : {took : lines.Took} {start now : C} → HasReceived views took start now → AnyLead {w = w} views (Received took ∷ []) (at_conn {w = w} desk ends start) (at_conn {w = w} desk ends now)
+    done_received read = record {
+      leads = λ supply is. let reads = read.reads supply is in (rw read.output_is (one (received reads.0 read.needed) none), reads.1);
+      input_faults = read.input_faults;
+      output_faults = read.output_faults;
+      link = read.link;
+    }
+
+    -- the client was asked
+    pub done_inquired : {word params : List ℕ} {limit : ℕ} {start now : C} (inquired : AnyInquired lines.Outcome) → HasInquired views word params limit inquired start now
+        → AnyLead {w = w} views (Inquiry word params limit inquired ∷ []) (at_conn {w = w} desk ends start) (at_conn {w = w} desk ends now)
+    done_inquired (Asked outcome) read = record {
+      leads = λ supply is. let reads = read.reads supply is in (rw read.output_is (one (asked_so reads.0 read.needed) none), reads.1);
+      input_faults = read.input_faults;
+      output_faults = read.output_faults;
+      link = read.link;
+    }
+    done_inquired (NotAsked text) stop = record {
+      leads = λ supply is. (
+        rw (stop.leaves.unread, ap (λ (s : Side). s.bytes) stop.leaves.input, stop.stopped.written, stop.sent_is)
+            (one (not_asked stop.stopped.unsent (stop.stopped.split ∙ ap (λ (t : List ℕ). t ++ stop.stopped.unsent) stop.sent_is)) none),
+        stop.leaves.supply supply is,
+      );
+      input_faults = omega (arith, ap (λ (s : Side). s.faults) stop.leaves.input);
+      output_faults = stop.faults;
+      link = stop.leaves.link;
+    }

@@ -5,3 +5,6 @@ pub mod OnlyAnswer
 pub mod Counting
 pub mod Unheard
 pub mod Doing
+pub mod Beside
+pub mod Clients
+pub mod Prompting

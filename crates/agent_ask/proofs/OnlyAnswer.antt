@@ -178,7 +178,8 @@ module _ (plan : AskPlan) (Rule : List ℕ → Type 0) where
       let differ = (only_try (try_text plan before number) (tries_called more tries called) begins tried tried' (sym (append_assoc events later more) ∙ same)).1 in absurd (cc differ)
   only_tries number before more rest called begins (Tries.again {events} {more = later} {failure} within tried tries) (Tries.over within' tried') same =
       let differ = (only_try (try_text plan before number) (tries_called more tries called) begins tried tried' (sym (append_assoc events later more) ∙ same)).1 in absurd (cc differ)
-  only_tries number before more rest called begins (Tries.again {events} {more = later} {later = made_later} {failure} {end} within tried tries) (Tries.again {events = events'} {more = later'} {failure = failure'} within' tried' tries') same =
+  only_tries number before more rest called begins (Tries.again {events} {more = later} {later = made_later} {failure} {end} within tried tries)
+      (Tries.again {events = events'} {more = later'} {failure = failure'} within' tried' tries') same =
       let both =
       only_try (try_text plan before number) (tries_called more tries called) (tries_called rest tries' begins) tried tried'
       (sym (append_assoc events later more) ∙ same ∙ append_assoc events' later' rest) in

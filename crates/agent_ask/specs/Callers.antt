@@ -1,13 +1,39 @@
 -- What the client's answers mean. This is the project's own.
-use Rattle.std.specs.Prelude.{◌≡◌, Bool, true, false, ⊤}
+use Rattle.std.specs.Prelude.{◌≡◌, ℕ, List, Bool, true, false, Option, Some, None, Result, Ok, Err, ⊤}
+use Rattle.session_client.specs.declared.unheard.Unheard.{Unheard}
+use Rattle.session_client.specs.declared.unheard.Unheard.TheVariants as unheard
 use Rattle.agent_ask.specs.Events.{Question, Launched, Wanted}
 use Rattle.agent_ask.specs.declared.caller.Heard.{Heard}
-use Rattle.agent_ask.specs.declared.caller.Heard.TheVariants.{Fine, Secret, Gone}
+use Rattle.agent_ask.specs.declared.caller.Heard.TheVariants.{Fine, Secret, Cancelled, TooMuch, Unexpected, Gone}
 
 -- the client is gone
 abbrev pub is_gone : Heard → Bool
 is_gone (Gone how) = true
 is_gone _ = false
+
+-- what it said in place of what was wanted, where it gave nothing
+abbrev pub unheard_of : Heard → Option Unheard
+unheard_of Fine = None
+unheard_of (Secret secret) = None
+unheard_of Cancelled = Some unheard.Cancelled
+unheard_of TooMuch = Some unheard.TooMuch
+unheard_of Unexpected = Some unheard.Unexpected
+unheard_of (Gone how) = Some (unheard.Gone how)
+
+-- it gave nothing
+abbrev pub IsUnheardBy : Heard → Type 0
+IsUnheardBy Fine = ⊥
+IsUnheardBy (Secret secret) = ⊥
+IsUnheardBy _ = ⊤
+
+-- what a client was heard to say that was told of a prompt, and one that was asked for a passphrase
+abbrev pub SaysNote : Result (Unit {0}) Unheard → Heard → Type 0
+SaysNote (Ok noted) heard = heard ≡ Fine
+SaysNote (Err why) heard = unheard_of heard ≡ Some why
+
+abbrev pub SaysWish : Result (List ℕ) Unheard → Heard → Type 0
+SaysWish (Ok secret) heard = heard ≡ Secret secret
+SaysWish (Err why) heard = unheard_of heard ≡ Some why
 
 -- a client that is told of a prompt gives no passphrase, and one that is asked for a passphrase gives it
 abbrev pub FitsQuestion : Question → Heard → Type 0

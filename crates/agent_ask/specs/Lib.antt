@@ -7,7 +7,11 @@ pub mod Prompts
 pub mod Consents
 pub mod Trying
 pub mod Listening
+pub mod Clients
+pub mod Further
 pub mod SessionEvents
 pub mod Worlds
 pub mod UnderTickets
 pub mod States
+pub mod Failing
+pub mod Plans

@@ -1,23 +1,10 @@
 -- How a session stands at some state of its code, and how events lead from one state to another. Its connection is of any type of which
 -- this is seen. This is the project's own.
-use Rattle.std.specs.Prelude.{◌≡◌, ◌≤◌, ℕ, List, Option}
-use Rattle.std.specs.Borrow.{GName}
-use Rattle.std.specs.Option.{option_map}
+use Rattle.std.specs.Prelude.{◌≡◌, ◌≤◌, List}
 use Rattle.agent_ports.specs.Leads.{Leads}
-use Rattle.agent_ports.specs.Sides.{Side}
 use Rattle.agent_ask.specs.SessionEvents.{AnyEvent}
-use Rattle.agent_ask.specs.Worlds.{Lines, AnyWorld, Outside, Does}
-
--- what is seen of a connection
-pub record Views (lines : Lines) (C : Type 0) : Type 1 where
-  -- both sides of its link, and which link it is
-  pub input : C → Side
-  pub output : C → Side
-  pub link : C → GName
-  -- the bytes that come next, where the source holds these
-  pub unread : C → List ℕ → List ℕ
-  -- it began with this supply, where its bytes are known
-  pub has_supply : lines.Supply → C → Type 0
+use Rattle.agent_ask.specs.Worlds.{AnyWorld, Outside, Does}
+use Rattle.session_client.specs.Lines.{Lines, Views, unread_at}
 
 -- a state in the code: the connection, the desk, and the further ends
 pub record AnyState {lines : Lines} (w : AnyWorld lines) (C : Type 0) : Type 0 where
@@ -29,7 +16,7 @@ module _ {lines : Lines} {w : AnyWorld lines} {C : Type 0} (views : Views lines 
   -- what the outside has to do with it
   abbrev pub outside_at : AnyState w C → Outside w
   outside_at state = record {
-    input = option_map (views.unread state.conn) (views.input state.conn).bytes;
+    input = unread_at views state.conn;
     source = (views.input state.conn).bytes;
     output = (views.output state.conn).bytes;
     desk = state.desk;
@@ -37,7 +24,7 @@ module _ {lines : Lines} {w : AnyWorld lines} {C : Type 0} (views : Views lines 
   }
 
   -- these events lead from one state to another, with whichever supply the connection began
-  pub record AnyLead (events : List (AnyEvent lines.Outcome w.Further)) (start now : AnyState w C) : Type 0 where
+  pub record AnyLead (events : List (AnyEvent lines.Took lines.Outcome w.Further)) (start now : AnyState w C) : Type 0 where
     pub leads : (supply : lines.Supply) → views.has_supply supply start.conn
         → Leads (Does w supply) (outside_at start) events (outside_at now) × views.has_supply supply now.conn
     pub input_faults : (views.input start.conn).faults ≤ (views.input now.conn).faults

@@ -1,29 +1,13 @@
 -- The ends of a session to the outside, and what each event does to them: it leaves the other ends as they are. This is the project's
 -- own.
-use Rattle.std.specs.Prelude.{◌≡◌, ◌⊎◌, ℕ, List, ◌++◌, Option, Some}
+use Rattle.std.specs.Prelude.{◌≡◌, ℕ, List, ◌++◌, Option}
 use Rattle.agent_ports.specs.Sides.{with_bytes, WhereKnown}
-use Rattle.assuan_line.specs.Next.{WereNeeded}
-use Rattle.assuan_line.specs.declared.reader.Took.{Took}
 use Rattle.cache_policy.specs.declared.mark.MarkStep.{MarkStep}
 use Rattle.cache_policy.specs.Extending.{Taken}
 use Rattle.cache_policy.specs.Turns.{Turn}
-use Rattle.agent_ask.specs.SessionEvents.{AnyEvent, Received, Sent, Cut, Inquiry, Asked, NotAsked, CacheTurn, Further}
-use Rattle.agent_ask.specs.declared.caller.Heard.{Heard}
-
--- How requests and inquiries stand in the bytes of a link. A read that is still undecided at some bytes needs more of them.
-pub record Lines : Type 1 where
-  -- with what a session began: how many bytes there were, and how many of them may be taken
-  pub Supply : Type 0
-  -- the next request of these bytes, or what comes in its place, and the bytes from there on
-  pub reads_request : Supply → List ℕ → Took → List ℕ → Type 0
-  pub is_request_undecided : List ℕ → Type 0
-  -- the line that asks the client, by a word and parameters
-  pub inquiry_line : List ℕ → List ℕ → List ℕ
-  -- what an inquiry comes to, within a limit, and what the client is heard to say by it
-  pub Outcome : Type 0
-  pub reads_answer : Supply → ℕ → List ℕ → Outcome → List ℕ → Type 0
-  pub is_answer_undecided : List ℕ → Type 0
-  pub says : Outcome → Heard → Type 0
+use Rattle.session_client.specs.Asking.{Asked, NotAsked}
+use Rattle.session_client.specs.Lines.{Lines, TakesNeeded}
+use Rattle.agent_ask.specs.SessionEvents.{AnyEvent, Received, Sent, Cut, Inquiry, CacheTurn, Further}
 
 -- what a session stands on beside its link: a desk that shows its turns so, and the further ends, with what their events do to them
 pub record AnyWorld (lines : Lines) : Type 1 where
@@ -43,17 +27,11 @@ pub record Outside {lines : Lines} (w : AnyWorld lines) : Type 0 where
   pub desk : w.Desk
   pub ends : w.Ends
 
--- A read takes nothing from the link, or bytes that it needs, and of its last piece at most so many more: what was there before that
--- piece decided nothing.
-abbrev pub TakesNeeded : (List ℕ → Type 0) → Option (List ℕ) → Option (List ℕ) → Option (List ℕ) → Type 0
-TakesNeeded Undecided input before after =
-    WhereKnown before after (λ rest left. (rest ≡ left) ⊎ ((ahead : List ℕ) × (input ≡ Some (ahead ++ rest)) × WereNeeded Undecided ahead rest left))
-
 -- what an event does, in a session that began with this supply of bytes, where they are known
-pub data Does {lines : Lines} (w : AnyWorld lines) (supply : lines.Supply) : Outside w → AnyEvent lines.Outcome w.Further → Outside w → Type 0 where
-  received : {before : Outside w} {took : Took} {input source : Option (List ℕ)}
+pub data Does {lines : Lines} (w : AnyWorld lines) (supply : lines.Supply) : Outside w → AnyEvent lines.Took lines.Outcome w.Further → Outside w → Type 0 where
+  received : {before : Outside w} {took : lines.Took} {input source : Option (List ℕ)}
       → WhereKnown before.input input (λ bytes rest. lines.reads_request supply bytes took rest)
-      → TakesNeeded lines.is_request_undecided before.input before.source source
+      → TakesNeeded lines.needs_request before.input before.source source
       → Does w supply before (Received took) (record before { input = input; source = source })
   sent : {before : Outside w} {text : List ℕ}
       → Does w supply before (Sent text) (record before { output = with_bytes before.output text })
@@ -61,7 +39,7 @@ pub data Does {lines : Lines} (w : AnyWorld lines) (supply : lines.Supply) : Out
       → Does w supply before (Cut text) (record before { output = with_bytes before.output text })
   asked : {before : Outside w} {word params : List ℕ} {limit : ℕ} {outcome : lines.Outcome} {input source : Option (List ℕ)}
       → WhereKnown before.input input (λ bytes rest. lines.reads_answer supply limit bytes outcome rest)
-      → TakesNeeded lines.is_answer_undecided before.input before.source source
+      → TakesNeeded lines.needs_answer before.input before.source source
       → Does w supply before (Inquiry word params limit (Asked outcome))
       (record before { input = input; source = source; output = with_bytes before.output (lines.inquiry_line word params) })
   not_asked : {before : Outside w} {word params text : List ℕ} {limit : ℕ} (unsent : List ℕ)

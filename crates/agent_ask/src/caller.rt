@@ -1,10 +1,9 @@
+ghost use Rattle.std.specs.Prelude.{◌≡◌, Some};
 ghost use Rattle.agent_ask.specs.Events.{Question, Launched, Wanted};
-ghost use Rattle.agent_ask.specs.Callers.{IsHearing};
+ghost use Rattle.agent_ask.specs.Callers.{IsHearing, IsUnheardBy, unheard_of};
 
 use cache_policy::Secret;
-
-/// The most bytes that a client may send back where it is told of a prompt. They are dropped.
-pub const MAX_NOTE_LEN: usize = 1000;
+use session_client::{Gone, Unheard};
 
 /// What the client was heard to say. It may hold a passphrase, so it isn't printed.
 #[derive(Drop)]
@@ -18,14 +17,36 @@ pub enum Heard {
     Gone(Gone),
 }
 
-/// How the client's connection was lost.
-#[derive(Clone, Copy, Debug, PartialEq, Eq)]
-pub enum Gone {
-    Ended,
-    TooLong,
-    Spent,
-    ReadFault,
-    WriteFault,
+impl From<Unheard> for Heard {
+    ghost use Rattle.std.specs.Prelude.{◌≡◌, Some};
+    ghost use Rattle.agent_ask.specs.Callers.{unheard_of};
+
+    ghost from_gives = { λ why heard. unheard_of heard ≡ Some why };
+
+    fn from(why: Unheard) -> Heard {
+        match why {
+            Unheard::Cancelled => Heard::Cancelled,
+            Unheard::TooMuch => Heard::TooMuch,
+            Unheard::Unexpected => Heard::Unexpected,
+            Unheard::Gone(gone) => Heard::Gone(gone),
+        }
+    }
+}
+
+impl Heard {
+    /// What the client said in place of what was wanted. It gave nothing.
+    pub fn unheard(self) -> Unheard
+        requires { IsUnheardBy self }
+        ensures { unheard_of self ≡ Some result }
+    {
+        match self {
+            Heard::Cancelled => Unheard::Cancelled,
+            Heard::TooMuch => Unheard::TooMuch,
+            Heard::Unexpected => Unheard::Unexpected,
+            Heard::Gone(gone) => Unheard::Gone(gone),
+            Heard::Fine | Heard::Secret(_) => unreachable!(),
+        }
+    }
 }
 
 /// The client for whom a passphrase is asked.

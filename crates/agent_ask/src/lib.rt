@@ -3,23 +3,27 @@
 
 mod ask;
 mod caller;
+mod client;
 mod consent;
 mod laws;
+mod lending;
 mod opening;
+mod plan;
 mod prompter;
 mod seat;
 mod spec;
 mod test;
-#[cfg(test)]
-mod tests;
 mod tries;
 
 pub use ask::{Asked, ask_pin};
-pub use caller::{Caller, Gone, Heard, MAX_NOTE_LEN};
+pub use caller::{Caller, Heard};
 pub use consent::{Agreed, ask_consent};
 pub use laws::{a_consent_has_one_answer, a_prompt_has_one_answer, failures_are_counted};
+pub use lending::{AnyPin, ask_leave, ask_user};
+pub use plan::{ask_plan, prompt_spec};
 pub use prompter::{Consent, Opened, Outcome, Prompter};
 pub use seat::give_back;
+pub use session_client::{Gone, MAX_NOTE_LEN};
 pub use spec::{AskPlan, PromptSpec};
 pub use test::{Test, Tested};
 pub use tries::MAX_TRIES;

@@ -8,7 +8,8 @@ use Rattle.agent_commands.specs.Events.{Event}
 use Rattle.agent_ask.specs.SessionEvents.{Sent, Cut}
 use Rattle.agent_commands.specs.Outside.{World}
 use Rattle.agent_ports.specs.Writing.{StopsWriting}
-use Rattle.agent_commands.specs.States.{WritesText, SessionState, AnswersRequest, ReaderAfter}
+use Rattle.agent_commands.specs.States.{SessionState, AnswersRequest, ReaderAfter}
+use Rattle.assuan_server.specs.Written.{WritesText}
 use Rattle.agent_commands.specs.Steps.{RespondsTo, silent, written, cut as stopped, CarriesOut}
 use Rattle.agent_commands.specs.Talks.{whole, cut}
 use Rattle.agent_commands.specs.declared.answer.Answer.{Answer}
@@ -16,8 +17,8 @@ use Rattle.agent_ports.specs.declared.link.WriteFault.{WriteFault}
 use Rattle.agent_commands.specs.declared.went.SessionEnd.TheVariants.{WriteFault as CutOff}
 use Rattle.agent_commands.specs.declared.went.Went.{Went}
 use Rattle.agent_commands.specs.declared.went.Went.TheVariants.{On, End}
-use Rattle.agent_ask.proofs.Doing.{done_none, done_then}
-use Rattle.agent_commands.proofs.Doing.{done_wrote, done_stopped}
+use Rattle.agent_ask.proofs.Doing.{done_none, done_then, done_said, done_cut}
+use Rattle.assuan_server.proofs.Clients.{said_so}
 
 module _ {w : World} (exchange : OptionValues → List (Event w.Further) → OptionValues → Went → Type 0) (before after : OptionValues) (desk : w.Desk) (ends : w.Ends) where
   abbrev at_conn : Connection → SessionState w
@@ -35,7 +36,7 @@ module _ {w : World} (exchange : OptionValues → List (Event w.Further) → Opt
   answered start answer mid now went prepared (written response text is text_is said) = record {
     events = prepared.events ++ (Sent text ∷ []);
     exchanges = whole (prepared.exchanges (Sent text ∷ []) (rw is (text, text_is, refl)));
-    done = done_then prepared.done (done_wrote desk ends text mid now said);
+    done = done_then prepared.done (done_said desk ends (said_so said));
     fits = subst (λ (r : Reader). ReaderAfter answer.went start.conn.reader r) (sym said.reader) prepared.fits;
     faults = record {
       read = λ e. omega (arith, prepared.faults.read e, ap (λ (s : Side). s.faults) said.input);
@@ -53,7 +54,7 @@ module _ {w : World} (exchange : OptionValues → List (Event w.Further) → Opt
           whole = ap (λ (x : List ℕ). prepared.events ++ (Sent x ∷ [])) stops.split;
           done_is = refl;
         });
-        done = done_then prepared.done (done_stopped desk ends text mid now fault stops said);
+        done = done_then prepared.done (done_cut desk ends fault (said_so said));
         fits = tt;
         faults = record { read = λ e. absurd (cc e); write = λ e. omega (arith, prepared.done.output_faults, stops.rose) };
       }
@@ -65,7 +66,7 @@ module _ {w : World} (exchange : OptionValues → List (Event w.Further) → Opt
   answered_text going said = record {
     events = Sent text ∷ [];
     exchanges = whole on;
-    done = done_wrote start.desk start.ends text start.conn now said;
+    done = done_said start.desk start.ends (said_so said);
     fits = (ap (λ (r : Reader). r.ended) said.reader ∙ going, omega (arith, ap held said.reader));
     faults = record { read = λ e. absurd (cc e); write = λ e. absurd (cc e) };
   }
@@ -82,7 +83,7 @@ module _ {w : World} (exchange : OptionValues → List (Event w.Further) → Opt
           whole = ap (λ (x : List ℕ). Sent x ∷ []) stops.split;
           done_is = refl;
         });
-        done = done_stopped start.desk start.ends text start.conn now why stops said;
+        done = done_cut start.desk start.ends why (said_so said);
         fits = tt;
         faults = record { read = λ e. absurd (cc e); write = λ e. stops.rose };
       }

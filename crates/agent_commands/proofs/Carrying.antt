@@ -1,12 +1,13 @@
 -- Parts of requests, one after another.
+use Rattle.agent_ask.specs.Further.{FurtherEvent}
 use Rattle.std.proofs.Common.{◌≡◌, ◌≤◌, ℕ, List, [], ◌∷◌, ◌++◌, None, Some, sym, subst, arith, append_assoc}
 use Rattle.assuan_line.specs.Next.{Reader, held}
-use Rattle.agent_ask.specs.Events.{Call, PromptEvent}
+use Rattle.agent_ask.specs.Events.{Call}
 use Rattle.assuan_server.specs.Connections.{Connection}
 use Rattle.assuan_server.specs.declared.errors.Code.{Code}
 use Rattle.cache_policy.specs.declared.mark.MarkStep.{MarkStep}
 use Rattle.cache_policy.specs.Turns.{Turn}
-use Rattle.agent_commands.specs.Answers.{failed}
+use Rattle.assuan_server.specs.Written.{failed}
 use Rattle.agent_commands.specs.Events.{Event}
 use Rattle.agent_ask.specs.SessionEvents.{Sent, cache_turn}
 use Rattle.agent_commands.specs.Outside.{World, prompt_world}
@@ -15,7 +16,6 @@ use Rattle.agent_commands.specs.Steps.{IsText, Responds, Carries}
 use Rattle.agent_commands.specs.declared.answer.Answer.{Answer}
 use Rattle.agent_commands.specs.declared.response.Response.{Response}
 use Rattle.agent_commands.specs.declared.response.Response.TheVariants.{Failed}
-use Rattle.agent_commands.specs.declared.went.SessionEnd.TheVariants.{Bye, Killed, Ended, TooLong, Spent, ReadFault, WriteFault}
 use Rattle.agent_commands.specs.declared.went.Went.{Went}
 use Rattle.agent_commands.specs.declared.went.Went.TheVariants.{On, End}
 use Rattle.agent_ask.proofs.Doing.{done_none, done_then, done_turned}
@@ -28,13 +28,7 @@ responds P response each more is = subst P (sym is.2) (each is.0 is.1)
 -- a reader that holds no more than another did
 reader_from : (went : Went) (start mid now : Reader) → held mid ≤ held start → ReaderAfter went mid now → ReaderAfter went start now
 reader_from On start mid now fewer fits = (fits.0, omega (arith, fewer, fits.1))
-reader_from (End Bye) start mid now fewer fits = fits
-reader_from (End Killed) start mid now fewer fits = fits
-reader_from (End Ended) start mid now fewer fits = fits
-reader_from (End TooLong) start mid now fewer fits = fits
-reader_from (End Spent) start mid now fewer fits = fits
-reader_from (End ReadFault) start mid now fewer fits = fits
-reader_from (End WriteFault) start mid now fewer fits = fits
+reader_from (End end) start mid now fewer fits = fits
 
 module _ {w : World} where
   -- a part is what is done of a greater one
@@ -75,7 +69,7 @@ module _ {w : World} where
   }
 
 -- a turn, and a refusal that ends its request
-pub carry_turn : {D P : Type 0} (turned : D → MarkStep → Turn → D → Type 0) (prompted : P → Call → P → Type 0) {part : List (Event PromptEvent) → Went → Type 0} {conn : Connection}
+pub carry_turn : {D P : Type 0} (turned : D → MarkStep → Turn → D → Type 0) (prompted : P → Call → P → Type 0) {part : List (Event FurtherEvent) → Went → Type 0} {conn : Connection}
     {before after : D} {prompter : P} → conn.reader.ended ≡ None → (step : MarkStep) (turn : Turn) → turned before step turn after → (code : Code)
     → part (cache_turn step turn ∷ Sent (failed code) ∷ []) On
     → Carries {w = prompt_world turned prompted} part (prompt_state turned prompted conn before prompter) (record { response = Some (Failed code); went = On })

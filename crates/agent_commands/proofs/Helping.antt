@@ -9,9 +9,9 @@ use Rattle.assuan_text.specs.LineEnds.{line_of}
 use Rattle.assuan_server.specs.Written.{comment_text}
 use Rattle.agent_commands.specs.declared.names.CommandName.{CommandName}
 use Rattle.agent_commands.specs.Answers.{ok}
-use Rattle.agent_commands.specs.States.{WritesText}
+use Rattle.assuan_server.specs.Written.{WritesText}
 use Rattle.agent_ports.specs.declared.link.WriteFault.{WriteFault}
-use Rattle.agent_commands.proofs.Saying.{said_then, said_first}
+use Rattle.assuan_server.proofs.Saying.{said_then, said_first}
 
 -- the lines of these rows
 abbrev pub comments : List (Bor (List ℕ) × CommandName) → List ℕ

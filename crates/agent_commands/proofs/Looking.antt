@@ -1,6 +1,7 @@
 -- Looks into the cache, and what is done where nothing was found.
+use Rattle.agent_ask.specs.Further.{FurtherEvent}
 use Rattle.std.proofs.Common.{◌≡◌, ℕ, Bool, false, List, [], ◌∷◌, Option, None, Some, refl, sym, ◌∙◌, subst, arith}
-use Rattle.agent_ask.specs.Events.{Call, PromptEvent}
+use Rattle.agent_ask.specs.Events.{Call}
 use Rattle.agent_ask.specs.declared.spec.AskPlan.{AskPlan}
 use Rattle.agent_ask.specs.declared.spec.PromptSpec.{PromptSpec}
 use Rattle.assuan_server.specs.Connections.{Connection}
@@ -17,12 +18,11 @@ use Rattle.session_options.specs.declared.options.PinMode.TheVariants as pin_mod
 use Rattle.session_options.specs.declared.rules.Rules.{Rules}
 use Rattle.agent_commands.specs.Events.{Event}
 use Rattle.agent_ask.specs.SessionEvents.{Sent, cache_turn}
-use Rattle.agent_commands.specs.Exchanges.{Exchange, by_prompt, without_prompt, LooksFirst, WithoutPrompt, answered, goes_on, no_id, empty, given, interrupted, ask, Keeps, unkept, kept, ByPrompt, cached, want}
+use Rattle.agent_commands.specs.Exchanges.{Exchange, without_prompt, LooksFirst, WithoutPrompt, answered, goes_on, no_id, empty, given, interrupted, ask, Keeps, unkept, kept, ByPrompt, cached, want}
 use Rattle.agent_commands.specs.Outside.{world, prompt_world}
-use Rattle.agent_commands.specs.Prompting.{IsSpec, plan_of}
 use Rattle.agent_commands.specs.Requests.{GetFields, get_passphrase}
 use Rattle.agent_commands.specs.States.{SessionState, session_state, prompt_state}
-use Rattle.agent_commands.specs.Steps.{IsText, Carries, ByMode, LooksUp, no_id as up_no_id, empty as up_empty, given as up_given, interrupted as up_interrupted, KeepsSecret, AnswersTurn, is_done, is_interrupted}
+use Rattle.agent_commands.specs.Steps.{IsText, Carries, LooksUp, no_id as up_no_id, empty as up_empty, given as up_given, interrupted as up_interrupted, KeepsSecret, AnswersTurn, is_done, is_interrupted}
 use Rattle.agent_commands.specs.declared.answer.Answer.{Answer}
 use Rattle.agent_commands.specs.declared.request.Request.TheVariants.{Cache}
 use Rattle.agent_commands.specs.declared.request.Texts.{Texts}
@@ -38,14 +38,14 @@ some_same is = cc is
 
 module _ {D : Type 0} (turned : D → MarkStep → Turn → D → Type 0) (conn : Connection) (going : conn.reader.ended ≡ None) where
   -- a turn, and then a response
-  turn_answered : (part : List (Event PromptEvent) → Went → Type 0) (response : Response) (asked : MarkStep) (turn : Turn) (before after : D) → turned before asked turn after
+  turn_answered : (part : List (Event FurtherEvent) → Went → Type 0) (response : Response) (asked : MarkStep) (turn : Turn) (before after : D) → turned before asked turn after
       → ((text : List ℕ) → IsText response text → part (cache_turn asked turn ∷ Sent text ∷ []) On)
       → Carries {w = world turned} part (session_state turned conn before) (record { response = Some response; went = On }) (session_state turned conn after)
   turn_answered part response asked turn before after does each =
       carry_after {w = world turned} {part = λ events went. part (cache_turn asked turn ∷ events) went} (cache_turn asked turn ∷ []) (done_turned asked turn conn before after tt does) (omega arith)
       (λ events done. done) (carry_answer {w = world turned} (λ events went. part (cache_turn asked turn ∷ events) went) response going each)
 
-  module _ (plain : Bool) (Otherwise : List (Event PromptEvent) → Went → Type 0) where
+  module _ (plain : Bool) (Otherwise : List (Event FurtherEvent) → Went → Type 0) where
     -- the look ended the request
     answers_so : {id : Option (List ℕ)} {before after : D} (answer : Answer) (found : Option Answer) → found ≡ Some answer → LooksUp turned plain id before found after
         → Carries {w = world turned} (LooksFirst plain id Otherwise) (session_state turned conn before) answer (session_state turned conn after)
@@ -94,23 +94,11 @@ module _ {D : Type 0} (turned : D → MarkStep → Turn → D → Type 0) (conn 
     keeps (Some id) {before} {after} taken = kept_so id taken.turn _ before after taken.turned_so taken.answers
 
 -- a passphrase where the client wants no prompt
-pub by_other_mode : {D P : Type 0} (turned : D → MarkStep → Turn → D → Type 0) (prompted : P → Call → P → Type 0) (spec : PromptSpec) (plan : AskPlan) (plain : Bool) (id : Option (List ℕ)) (mode : PinMode) → (mode ≡ pin_mode.Ask → ⊥)
-    → {start now : SessionState (prompt_world turned prompted)} {answer : Answer} → Carries {w = prompt_world turned prompted} (λ events went. LooksFirst plain id (WithoutPrompt plain id mode) events went) start answer now
-    → Carries {w = prompt_world turned prompted} (ByMode spec plan plain id mode) start answer now
-by_other_mode turned prompted spec plan plain id pin_mode.Ask not done = absurd (not refl)
-by_other_mode turned prompted spec plan plain id pin_mode.Cancel not done = done
-by_other_mode turned prompted spec plan plain id pin_mode.Error not done = done
-by_other_mode turned prompted spec plan plain id pin_mode.Loopback not done = done
-
--- a passphrase by the mode that the client wants
-pub by_mode_so : {rules : Rules} {before : OptionValues} {fields : GetFields} {texts : Texts} {events : List (Event PromptEvent)} {went : Went} (spec : PromptSpec) → fields.no_ask ≡ false
-    → fields.texts ≡ Some texts → IsSpec rules before texts.description texts.prompt fields.quality spec → (mode : PinMode) → before.mode ≡ mode
-    → ByMode spec (plan_of rules before texts.error fields.check fields.repeat) fields.plain fields.id mode events went
+pub without_mode : {rules : Rules} {before : OptionValues} {fields : GetFields} {texts : Texts} {events : List (Event FurtherEvent)} {went : Went} → fields.no_ask ≡ false
+    → fields.texts ≡ Some texts → (mode : PinMode) → before.mode ≡ mode → (mode ≡ pin_mode.Ask → ⊥)
+    → LooksFirst fields.plain fields.id (WithoutPrompt fields.plain fields.id mode) events went
     → Exchange rules before (Cache (get_passphrase fields)) events before went
-by_mode_so spec no_ask some shows pin_mode.Ask is by = by_prompt spec no_ask some is shows by
-by_mode_so spec no_ask some shows pin_mode.Cancel is looks = without_prompt no_ask some (λ e. let both = sym is ∙ e in cc both) (rw is looks)
-by_mode_so spec no_ask some shows pin_mode.Error is looks = without_prompt no_ask some (λ e. let both = sym is ∙ e in cc both) (rw is looks)
-by_mode_so spec no_ask some shows pin_mode.Loopback is looks = without_prompt no_ask some (λ e. let both = sym is ∙ e in cc both) (rw is looks)
+without_mode no_ask some mode is not looks = without_prompt no_ask some (λ e. not (sym is ∙ e)) (rw is looks)
 
 -- a passphrase that is given to a step that may open a prompt
 module _ {D P : Type 0} (at : D → AtDesk) (turned : D → MarkStep → Turn → D → Type 0) (prompted : P → Call → P → Type 0)

@@ -1,6 +1,5 @@
 -- Requests that are prepared to be answered.
-use Rattle.std.proofs.Common.{◌≡◌, ℕ, List, [], ◌∷◌, None, Some, refl, sym, subst, arith}
-use Rattle.agent_ask.specs.Events.{PromptEvent}
+use Rattle.std.proofs.Common.{◌≡◌, ℕ, Bool, Option, List, [], ◌∷◌, None, Some, refl, sym, subst, arith}
 use Rattle.assuan_line.specs.Next.{Reader}
 use Rattle.assuan_server.specs.Connections.{Connection}
 use Rattle.cache_policy.specs.declared.mark.MarkStep.{MarkStep}
@@ -9,16 +8,21 @@ use Rattle.session_options.specs.OptionValues.{OptionValues}
 use Rattle.session_options.specs.declared.rules.Rules.{Rules}
 use Rattle.agent_commands.specs.Events.{Event}
 use Rattle.agent_ask.specs.SessionEvents.{Sent, cache_turn}
-use Rattle.agent_commands.specs.Exchanges.{Exchange, one_turn, IsOneTurn, preset, clear, reload, kill, done, interrupted}
-use Rattle.agent_commands.specs.Outside.{World, world_with}
+use Rattle.agent_commands.specs.Exchanges.{Exchange, one_turn, IsOneTurn, preset as is_preset, clear, reload, kill, done, interrupted}
+use Rattle.agent_commands.specs.Outside.{World}
+use Rattle.agent_ask.specs.Further.{FurtherEvent, world_with}
 use Rattle.agent_commands.specs.States.{SessionState, ReaderAfter, FaultsRise}
-use Rattle.agent_commands.specs.Steps.{IsText, CarriesOut, AnswersTurn, is_done, is_interrupted, TakesTurn}
+use Rattle.agent_commands.specs.Steps.{AsksNobody, IsText, CarriesOut, AnswersTurn, is_done, is_interrupted, TakesTurn}
 use Rattle.agent_commands.specs.declared.answer.Answer.{Answer}
 use Rattle.agent_commands.specs.declared.request.CacheCommand.{CacheCommand}
+use Rattle.agent_commands.specs.declared.request.CacheCommand.TheVariants.{Nop, Reset, Bye, Help, SetOption, GetInfo, GetPassphrase, PresetPassphrase, ClearPassphrase, GetConfirmation, ReloadAgent, KillAgent}
+use Rattle.agent_commands.specs.declared.request.Texts.{Texts}
+use Rattle.arrayvec.specs.ArrayVec.{ArrayVec}
+use Rattle.cache_policy.specs.declared.life.Life.{Life}
 use Rattle.agent_commands.specs.declared.request.Request.TheVariants.{Cache}
 use Rattle.agent_commands.specs.declared.response.Response.{Response}
 use Rattle.agent_commands.specs.declared.response.Response.TheVariants.{Failed}
-use Rattle.agent_commands.specs.declared.went.SessionEnd.TheVariants.{Bye}
+use Rattle.agent_commands.specs.declared.went.SessionEnd.TheVariants.{Bye as AtBye}
 use Rattle.agent_commands.specs.declared.went.Went.{Went}
 use Rattle.agent_commands.specs.declared.went.Went.TheVariants.{On, End}
 use Rattle.agent_commands.proofs.Carrying.{responds, carry_answer}
@@ -33,12 +37,12 @@ module _ {w : World} (exchange : List (Event w.Further) → OptionValues → Wen
         subst (λ a. CarriesOut exchange start a after start) (sym is) (carry_answer (λ events went. exchange events after went) response going exchanges)
 
     -- and the session is over
-    pub prepared_last : answer ≡ record { response = Some response; went = End Bye } → ((text : List ℕ) → IsText response text → exchange (Sent text ∷ []) after (End Bye))
+    pub prepared_last : answer ≡ record { response = Some response; went = End AtBye } → ((text : List ℕ) → IsText response text → exchange (Sent text ∷ []) after (End AtBye))
         → CarriesOut exchange start answer after start
     prepared_last is exchanges =
         subst (λ a. CarriesOut exchange start a after start) (sym is) (record {
           events = [];
-          exchanges = responds (λ more. exchange more after (End Bye)) response exchanges;
+          exchanges = responds (λ more. exchange more after (End AtBye)) response exchanges;
           done = done_none start;
           fits = going;
           faults = record { read = λ e. absurd (cc e); write = λ e. absurd (cc e) };
@@ -61,20 +65,20 @@ module _ {w : World} (exchange : List (Event w.Further) → OptionValues → Wen
 -- a command of one turn leaves the reader open, and ends in no fault
 reader_stays : {rules : Rules} {command : CacheCommand} {step : MarkStep} {text : List ℕ} {went : Went} → IsOneTurn rules command step text went
     → (reader : Reader) → reader.ended ≡ None → ReaderAfter went reader reader
-reader_stays (preset allowed) reader going = (going, omega arith)
+reader_stays (is_preset allowed) reader going = (going, omega arith)
 reader_stays clear reader going = (going, omega arith)
 reader_stays reload reader going = (going, omega arith)
 reader_stays kill reader going = going
 
 no_fault : {w : World} {rules : Rules} {command : CacheCommand} {step : MarkStep} {text : List ℕ} {went : Went} → IsOneTurn rules command step text went
     → (start now : SessionState w) → FaultsRise went start now
-no_fault (preset allowed) start now = record { read = λ e. absurd (cc e); write = λ e. absurd (cc e) }
+no_fault (is_preset allowed) start now = record { read = λ e. absurd (cc e); write = λ e. absurd (cc e) }
 no_fault clear start now = record { read = λ e. absurd (cc e); write = λ e. absurd (cc e) }
 no_fault reload start now = record { read = λ e. absurd (cc e); write = λ e. absurd (cc e) }
 no_fault kill start now = record { read = λ e. absurd (cc e); write = λ e. absurd (cc e) }
 
 -- a command that is one turn was carried out
-module _ {D E : Type 0} (turned : D → MarkStep → Turn → D → Type 0) (does : E → PromptEvent → E → Type 0) (rules : Rules) (before : OptionValues) (conn : Connection)
+module _ {D E : Type 0} (turned : D → MarkStep → Turn → D → Type 0) (does : E → FurtherEvent → E → Type 0) (rules : Rules) (before : OptionValues) (conn : Connection)
     (going : conn.reader.ended ≡ None) (desk desk_now : D) (ends : E)
     {command : CacheCommand} {step : MarkStep} {text : List ℕ} {went : Went} (one : IsOneTurn rules command step text went)
     (response : Response) (says : (said : List ℕ) → IsText response said → said ≡ text) where
@@ -97,3 +101,21 @@ module _ {D E : Type 0} (turned : D → MarkStep → Turn → D → Type 0) (doe
   pub turn_taken : {answer : Answer} → TakesTurn turned step (record { response = Some response; went = went }) desk answer desk_now
       → CarriesOut {w = world_with turned does} (Exchange rules before (Cache command)) (at_desk desk) answer before (at_desk desk_now)
   turn_taken taken = answered_so taken.turn _ taken.turned_so taken.answers
+
+-- a command that is none of those that ask somebody
+pub asks_nobody : (command : CacheCommand)
+    → ((plain check no_ask : Bool) (repeat : ℕ) (quality : Bool) (id : Option (List ℕ)) (texts : Option Texts) → command ≡ GetPassphrase plain check no_ask repeat quality id texts → ⊥)
+    → ((id : List ℕ) (life : Life) (secret : Option (List ℕ)) → command ≡ PresetPassphrase id life secret → ⊥)
+    → ((description : ArrayVec ℕ) → command ≡ GetConfirmation description → ⊥) → AsksNobody command
+asks_nobody (GetPassphrase plain check no_ask repeat quality id texts) get preset confirmation = get plain check no_ask repeat quality id texts refl
+asks_nobody (PresetPassphrase id life secret) get preset confirmation = preset id life secret refl
+asks_nobody (GetConfirmation description) get preset confirmation = confirmation description refl
+asks_nobody Nop get preset confirmation = tt
+asks_nobody Reset get preset confirmation = tt
+asks_nobody Bye get preset confirmation = tt
+asks_nobody Help get preset confirmation = tt
+asks_nobody (SetOption text) get preset confirmation = tt
+asks_nobody (GetInfo what) get preset confirmation = tt
+asks_nobody (ClearPassphrase id mode) get preset confirmation = tt
+asks_nobody ReloadAgent get preset confirmation = tt
+asks_nobody KillAgent get preset confirmation = tt

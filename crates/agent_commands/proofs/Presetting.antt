@@ -7,7 +7,8 @@ use Rattle.cache_policy.specs.Turns.{Turn}
 use Rattle.session_options.specs.OptionValues.{OptionValues}
 use Rattle.session_options.specs.declared.rules.Rules.{Rules}
 use Rattle.agent_commands.specs.Answers.{ok}
-use Rattle.agent_ask.specs.SessionEvents.{Sent, Asked, cache_turn}
+use Rattle.agent_ask.specs.SessionEvents.{Sent, cache_turn}
+use Rattle.session_client.specs.Asking.{Asked}
 use Rattle.agent_commands.specs.Exchanges.{Exchange, with_data, without_data, ComesOut, done, interrupted, put, limit_line, inquiry}
 use Rattle.agent_commands.specs.Outside.{world}
 use Rattle.agent_commands.specs.States.{SessionState, EventsLead, ReaderAfter}

@@ -1,14 +1,15 @@
 -- Requests that ask the cache alone, by what is read of their lines.
 use Rattle.std.proofs.Common.{◌≡◌, ℕ, Bool, true, false, List, [], ◌∷◌, Option, None, Some, Result, Ok, Err, refl, sym, ap, ◌∙◌, subst}
+use Rattle.std.specs.Option.{option_and_then, option_map}
 use Rattle.std.specs.Prelude.{codes, if◌then◌else◌}
 use Rattle.assuan_server.specs.declared.errors.Code.{Code}
 use Rattle.assuan_server.specs.declared.errors.Code.TheVariants.{UnknownCommand}
-use Rattle.assuan_text.specs.Options.{options_of, arguments_of, has_option, last_option, last_value}
+use Rattle.assuan_text.specs.Options.{options_of, arguments_of, last_value}
 use Rattle.assuan_text.specs.Words.{command_of, rest_of, words}
-use Rattle.agent_commands.specs.Exchanges.{quiet_of, is_quiet}
-use Rattle.agent_commands.specs.Fields.{cache_id, text, unless_placeholder, texts, has_texts, repeats, life, cleared_mode, given_passphrase}
+use Rattle.agent_commands.specs.Exchanges.{quiet_of, quiet_fields, is_quiet}
+use Rattle.agent_commands.specs.Fields.{cache_id, text, life, cleared_mode, given_passphrase}
 use Rattle.agent_commands.specs.Names.{command_named, is_key_command}
-use Rattle.agent_commands.specs.Requests.{◌>>=◌, needed, get_of, preset_of, clear_of, confirmation_of, info_of, asked_by, either, request_by, request_of}
+use Rattle.agent_commands.specs.Requests.{◌>>=◌, needed, GetFields, get_passphrase, ReadsGet, BeginsRequest, preset_of, clear_of, confirmation_of, info_of, either, request_by, request_of}
 use Rattle.agent_commands.specs.declared.names.CommandName.{CommandName}
 use Rattle.agent_commands.specs.declared.names.CommandName.TheVariants as name
 use Rattle.agent_commands.specs.declared.request.CacheCommand.{CacheCommand}
@@ -17,28 +18,6 @@ use Rattle.agent_commands.specs.declared.request.QuietRequest.{QuietRequest}
 use Rattle.agent_commands.specs.declared.request.Request.{Request}
 use Rattle.agent_commands.specs.declared.request.Request.TheVariants.{Cache, Key, Bad}
 use Rattle.agent_commands.specs.declared.request.Texts.{Texts}
-
--- what is quiet of a GET_PASSPHRASE with these words
-abbrev quiet_get : List (List ℕ) → List (List ℕ) → Option QuietRequest
-quiet_get options arguments = quiet_of (either (get_of options arguments))
-
--- the texts of a line, by whether there are some
-texts_so : (more : List (List ℕ)) (some no_ask : Bool) → has_texts more ≡ Some some
-    → (all : Option Texts) × (texts more ≡ Some all) × (is_quiet no_ask all ≡ (if some then no_ask else true))
-texts_so [] true no_ask is = absurd (cc is)
-texts_so [] false no_ask is = (None, refl, refl)
-texts_so (error ∷ []) some no_ask is = absurd (cc is)
-texts_so (error ∷ prompt ∷ []) some no_ask is = absurd (cc is)
-texts_so (error ∷ prompt ∷ description ∷ more) true no_ask is = (_, refl, refl)
-texts_so (error ∷ prompt ∷ description ∷ more) false no_ask is = absurd (cc is)
-
-module _ (options : List (List ℕ)) (word : List ℕ) (more : List (List ℕ)) (repeat : ℕ) (repeat_is : repeats (last_option (codes "--repeat") options) ≡ Some repeat)
-    (id : List ℕ) (id_is : cache_id word ≡ Some id) (some : Bool) (some_is : has_texts more ≡ Some some) where
-  pub quiet_so : (if some then has_option (codes "--no-ask") options else true) ≡ true
-      → quiet_get options (word ∷ more) ≡ Some (record { plain = has_option (codes "--data") options; id = unless_placeholder id })
-  quiet_so is =
-      let so = texts_so more some (has_option (codes "--no-ask") options) some_is in
-      rw (repeat_is, id_is, so.1, so.2 ∙ is) refl
 
 -- no other command is quiet, whatever is read of it
 never : {A : Type 0} (first : Result A Code) (next : A → Result CacheCommand Code) → ((value : A) → quiet_of (either (next value)) ≡ None) → quiet_of (either (first >>= next)) ≡ None
@@ -60,36 +39,38 @@ never_confirmation : (arguments : List (List ℕ)) → quiet_of (either (confirm
 never_confirmation [] = refl
 never_confirmation (word ∷ more) = refl
 
-never_asked : (command : CommandName) (rest : List ℕ) → (command ≡ name.GetPassphrase → ⊥) → quiet_of (either (asked_by command rest)) ≡ None
-never_asked name.Nop rest other = refl
-never_asked name.Reset rest other = refl
-never_asked name.Bye rest other = refl
-never_asked name.Help rest other = refl
-never_asked name.SetOption rest other = refl
-never_asked name.GetInfo rest other = never (info_of (arguments_of (words rest))) _ (λ info. refl)
-never_asked name.GetPassphrase rest other = absurd (other refl)
-never_asked name.PresetPassphrase rest other = never_preset (options_of (words rest)) (arguments_of (words rest))
-never_asked name.ClearPassphrase rest other = never_clear (options_of (words rest)) (arguments_of (words rest))
-never_asked name.GetConfirmation rest other = never_confirmation (arguments_of (words rest))
-never_asked name.ReloadAgent rest other = refl
-never_asked name.KillAgent rest other = refl
-
 unnamed_so : (is_key : Bool) (line : List ℕ) → quiet_of (if is_key then Key (text line) else Bad UnknownCommand) ≡ None
 unnamed_so true line = refl
 unnamed_so false line = refl
 
-named_so : (named : Option CommandName) (line : List ℕ) → (named ≡ Some name.GetPassphrase → ⊥) → quiet_of (request_by named line) ≡ None
-named_so None line other = unnamed_so (is_key_command (command_of line)) line
-named_so (Some command) line other = never_asked command (rest_of line) (λ is. other (ap (λ (n : CommandName). Some n) is))
+-- but a GET_PASSPHRASE is, by its fields
+quiet_got : (get : Option GetFields) → quiet_of (either (needed (option_map get_passphrase get))) ≡ option_and_then quiet_fields get
+quiet_got None = refl
+quiet_got (Some fields) = refl
 
-pub quiet_line : (line : List ℕ) → command_named (command_of line) ≡ Some name.GetPassphrase
-    → quiet_of (request_of line) ≡ quiet_get (options_of (words (rest_of line))) (arguments_of (words (rest_of line)))
-unfolding request_of
-quiet_line line command = rw command refl
+-- so what is quiet of a line is what is quiet of the GET_PASSPHRASE that was read
+quiet_by : (command : Option CommandName) (line : List ℕ) (get : Option GetFields) → ReadsGet command (rest_of line) get
+    → quiet_of (request_by command line) ≡ option_and_then quiet_fields get
+quiet_by None line get is = rw is (unnamed_so (is_key_command (command_of line)) line)
+quiet_by (Some name.GetPassphrase) line get is = rw is (quiet_got get)
+quiet_by (Some name.Nop) line get is = rw is refl
+quiet_by (Some name.Reset) line get is = rw is refl
+quiet_by (Some name.Bye) line get is = rw is refl
+quiet_by (Some name.Help) line get is = rw is refl
+quiet_by (Some name.SetOption) line get is = rw is refl
+quiet_by (Some name.GetInfo) line get is = rw is (never (info_of (arguments_of (words (rest_of line)))) _ (λ info. refl))
+quiet_by (Some name.PresetPassphrase) line get is = rw is (never_preset (options_of (words (rest_of line))) (arguments_of (words (rest_of line))))
+quiet_by (Some name.ClearPassphrase) line get is = rw is (never_clear (options_of (words (rest_of line))) (arguments_of (words (rest_of line))))
+quiet_by (Some name.GetConfirmation) line get is = rw is (never_confirmation (arguments_of (words (rest_of line))))
+quiet_by (Some name.ReloadAgent) line get is = rw is refl
+quiet_by (Some name.KillAgent) line get is = rw is refl
 
-pub other_line : (line : List ℕ) → (command_named (command_of line) ≡ Some name.GetPassphrase → ⊥) → quiet_of (request_of line) ≡ None
+pub quiet_begun : (line word rest : List ℕ) (command : Option CommandName) (get : Option GetFields) → BeginsRequest line word rest command get
+    → quiet_of (request_of line) ≡ option_and_then quiet_fields get
 unfolding request_of
-other_line line other = named_so (command_named (command_of line)) line other
+quiet_begun line word rest command get begun =
+    let named : command ≡ command_named (command_of line) = begun.command_is ∙ ap command_named begun.word_is in
+    rw (sym named) (quiet_by command line get (rw begun.rest_is at begun.get_is))
 
 -- a request that is quiet is a GET_PASSPHRASE with these fields
 module _ (P : Request → Type 0) (request : QuietRequest)

@@ -3,10 +3,7 @@ use Rattle.std.specs.Prelude.{◌≡◌, ℕ, Bool, true, false, List, [], ◌++
 use Rattle.std.specs.List.{flat_map}
 use Rattle.assuan_escape.specs.Escapes.{hex_text}
 use Rattle.assuan_escape.specs.DataLines.{AreData, data_text}
-use Rattle.assuan_server.specs.Errors.{error_text}
 use Rattle.assuan_server.specs.Written.{ok_text, comment_text}
-use Rattle.assuan_server.specs.declared.errors.Code.{Code}
-use Rattle.assuan_server.specs.declared.errors.Origin.TheVariants.{Agent, Pinentry}
 use Rattle.assuan_text.specs.LineEnds.{line_of}
 use Rattle.session_options.specs.declared.rules.Rules.{Rules}
 use Rattle.agent_commands.specs.Names.{command_names}
@@ -18,14 +15,6 @@ ok = line_of (ok_text [])
 
 abbrev pub closing : List ℕ
 closing = line_of (ok_text (codes "closing connection"))
-
--- the line of an error, which is the agent's own
-abbrev pub failed : Code → List ℕ
-failed code = line_of (error_text code Agent)
-
--- the line of an error that the pinentry gave
-abbrev pub failed_at_pinentry : Code → List ℕ
-failed_at_pinentry code = line_of (error_text code Pinentry)
 
 -- a comment for each command
 abbrev pub help : List ℕ

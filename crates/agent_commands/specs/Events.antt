@@ -1,10 +1,12 @@
 -- What a session does over the lines that this project's server reads.
-use Rattle.agent_ask.specs.SessionEvents.{AnyEvent, AnyInquired}
+use Rattle.agent_ask.specs.SessionEvents.{AnyEvent}
+use Rattle.assuan_line.specs.declared.reader.Took.{Took}
 use Rattle.assuan_server.specs.Inquiries.{Outcome}
+use Rattle.session_client.specs.Asking.{AnyInquired}
 
 abbrev pub Inquired : Type 0
 Inquired = AnyInquired Outcome
 
 -- with further kinds of events beside those that every session has
 abbrev pub Event : Type 0 → Type 0
-Event F = AnyEvent Outcome F
+Event F = AnyEvent Took Outcome F

@@ -1,16 +1,20 @@
 -- Requests and what is done for them, as the GnuPG manual has them ("Agent's Assuan protocol"). The codes, the texts and the order of
 -- what is done are this project's own.
-use Rattle.std.specs.Prelude.{◌≡◌, ◌≢◌, ◌++◌, ℕ, Bool, true, false, List, [], ◌∷◌, codes, decimal, Option, Some, None, if◌then◌else◌, ⊤}
+use Rattle.std.specs.Prelude.{◌≡◌, ◌≢◌, ◌++◌, ℕ, Bool, true, false, List, [], ◌∷◌, codes, decimal, Option, Some, None, Err, if◌then◌else◌, ⊤}
 use Rattle.std.specs.Option.{option_and_then}
 use Rattle.arrayvec.specs.ArrayVec.{ArrayVec}
 use Rattle.agent_ask.specs.Consents.{AsksConsent}
-use Rattle.agent_ask.specs.Events.{PromptEvent}
 use Rattle.agent_ask.specs.Prompts.{AsksPin}
 use Rattle.agent_ask.specs.declared.ask.Asked.{Asked as Answer}
 use Rattle.agent_ask.specs.declared.ask.Asked.TheVariants as asked
-use Rattle.agent_ask.specs.declared.caller.Gone.TheVariants as gone
+use Rattle.agent_ask.specs.Callers.{unheard_of}
+use Rattle.agent_ask.specs.Failing.{AnyFails}
+use Rattle.agent_ask.specs.Further.{FurtherEvent}
+use Rattle.agent_ask.specs.Plans.{IsSpec, plan_of}
 use Rattle.agent_ask.specs.declared.caller.Heard.{Heard}
-use Rattle.agent_ask.specs.declared.caller.Heard.TheVariants.{Cancelled, TooMuch, Unexpected, Gone}
+use Rattle.session_client.specs.Asking.{Asked, said_by}
+use Rattle.session_client.specs.declared.unheard.Unheard.{Unheard}
+use Rattle.assuan_server.specs.Clients.{session_lines}
 use Rattle.agent_ask.specs.declared.consent.Agreed.{Agreed}
 use Rattle.agent_ask.specs.declared.consent.Agreed.TheVariants as agreed
 use Rattle.agent_ask.specs.declared.spec.AskPlan.{AskPlan}
@@ -36,10 +40,12 @@ use Rattle.session_options.specs.declared.options.OptionAnswer.TheVariants.{Set,
 use Rattle.session_options.specs.declared.options.PinMode.{PinMode}
 use Rattle.session_options.specs.declared.options.PinMode.TheVariants as mode
 use Rattle.session_options.specs.declared.rules.Rules.{Rules}
-use Rattle.agent_commands.specs.Answers.{ok, closing, failed, failed_at_pinentry, help, IsInfo, IsPassphrase}
+use Rattle.agent_commands.specs.Answers.{ok, closing, help, IsInfo, IsPassphrase}
+use Rattle.assuan_server.specs.Written.{failed, failed_at_pinentry}
+use Rattle.agent_commands.specs.Endings.{went_after}
 use Rattle.agent_commands.specs.Events.{Event, Inquired}
-use Rattle.agent_ask.specs.SessionEvents.{Sent, Cut, Inquiry, Asked, cache_turn}
-use Rattle.agent_commands.specs.Prompting.{IsSpec, Notes, UnderTicket, plan_of}
+use Rattle.agent_ask.specs.SessionEvents.{Sent, Cut, Inquiry, cache_turn}
+use Rattle.agent_commands.specs.Prompting.{UnderTicket}
 use Rattle.agent_commands.specs.Requests.{GetFields, get_passphrase, get_fields, request_of}
 use Rattle.agent_commands.specs.declared.request.CacheCommand.{CacheCommand}
 use Rattle.agent_commands.specs.declared.request.CacheCommand.TheVariants.{Nop, Reset, Bye, Help, SetOption, GetInfo, PresetPassphrase, ClearPassphrase, GetConfirmation, ReloadAgent, KillAgent}
@@ -85,20 +91,13 @@ limit_line = line_of (status_text (codes "INQUIRE_MAXLEN") (decimal MAX_SECRET_L
 abbrev pub inquiry : {F : Type 0} → Inquired → Event F
 inquiry inquired = Inquiry (codes "PASSPHRASE") [] MAX_SECRET_LEN inquired
 
--- what is done after an inquiry by which the client was heard to say no more than this, and how the session goes on
-pub data Fails {F : Type 0} : Heard → List (Event F) → Went → Type 0 where
-  cancelled : Fails Cancelled (Sent (failed code.Cancelled) ∷ []) On
-  too_much : Fails TooMuch (Sent (failed code.TooMuch) ∷ []) On
-  unexpected : Fails Unexpected (Sent (failed code.Unexpected) ∷ []) On
-  too_long : Fails (Gone gone.TooLong) (Sent (failed code.LineTooLong) ∷ []) (End ends.TooLong)
-  ended : Fails (Gone gone.Ended) [] (End ends.Ended)
-  spent : Fails (Gone gone.Spent) [] (End ends.Spent)
-  read_fault : Fails (Gone gone.ReadFault) [] (End ends.ReadFault)
-  write_fault : Fails (Gone gone.WriteFault) [] (End ends.WriteFault)
+-- what is done for a request whose client gave nothing, and how the session goes on
+abbrev pub Fails : {F : Type 0} → Unheard → List (Event F) → Went → Type 0
+Fails = AnyFails session_lines went_after
 
 -- the client is asked for a passphrase, and gives none
 pub data WithoutPassphrase {F : Type 0} : List (Event F) → Went → Type 0 where
-  no_data : {heard : Heard} {inquired : Inquired} {events : List (Event F)} {went : Went} → Notes heard inquired → Fails heard events went
+  no_data : {why : Unheard} {inquired : Inquired} {events : List (Event F)} {went : Went} → said_by session_lines inquired ≡ Err why → Fails why events went
       → WithoutPassphrase (Sent limit_line ∷ inquiry inquired ∷ events) went
   -- the write of the limit failed
   limit_cut : {sent : List ℕ} (unsent : List ℕ) → limit_line ≡ sent ++ unsent → WithoutPassphrase (Cut sent ∷ []) (End ends.WriteFault)
@@ -155,7 +154,7 @@ pub data EndsPin {F : Type 0} (plain : Bool) : Answer → Option (List ℕ) → 
   timed_out : EndsPin plain asked.TimedOut None (Sent (failed_at_pinentry code.Timeout) ∷ []) On
   no_pinentry : EndsPin plain asked.NoPinentry None (Sent (failed code.NoPinentry) ∷ []) On
   bad : EndsPin plain asked.Bad None (Sent (failed code.BadPass) ∷ []) On
-  unheard : {heard : Heard} {events : List (Event F)} {went : Went} → Fails heard events went → EndsPin plain (asked.Heard heard) None events went
+  unheard : {heard : Heard} {why : Unheard} {events : List (Event F)} {went : Went} → unheard_of heard ≡ Some why → Fails why events went → EndsPin plain (asked.Heard heard) None events went
 
 -- and one for consent, of which nothing is kept
 pub data EndsConsent {F : Type 0} : Agreed → Option (List ℕ) → List (Event F) → Went → Type 0 where
@@ -164,7 +163,7 @@ pub data EndsConsent {F : Type 0} : Agreed → Option (List ℕ) → List (Event
   cancelled : EndsConsent agreed.Cancelled None (Sent (failed_at_pinentry code.Cancelled) ∷ []) On
   timed_out : EndsConsent agreed.TimedOut None (Sent (failed_at_pinentry code.Timeout) ∷ []) On
   no_pinentry : EndsConsent agreed.NoPinentry None (Sent (failed code.NoPinentry) ∷ []) On
-  unheard : {heard : Heard} {events : List (Event F)} {went : Went} → Fails heard events went → EndsConsent (agreed.Heard heard) None events went
+  unheard : {heard : Heard} {why : Unheard} {events : List (Event F)} {went : Went} → unheard_of heard ≡ Some why → Fails why events went → EndsConsent (agreed.Heard heard) None events went
 
 -- A turn that wants the prompt: it gives a ticket, under which the request goes on, or it interrupts its command.
 pub data WantsPrompt {F : Type 0} (step : MarkStep) (Under : ℕ → List (Event F) → Went → Type 0) : List (Event F) → Went → Type 0 where
@@ -177,10 +176,10 @@ want None = Seat None None
 want (Some id) = Ask id User Prompt None
 
 -- A passphrase where the client wants a prompt: it is cached, or asked for by one prompt, at which every passphrase is right.
-pub data ByPrompt (spec : PromptSpec) (plan : AskPlan) (plain : Bool) : Option (List ℕ) → List (Event PromptEvent) → Went → Type 0 where
+pub data ByPrompt (spec : PromptSpec) (plan : AskPlan) (plain : Bool) : Option (List ℕ) → List (Event FurtherEvent) → Went → Type 0 where
   cached : {id text : List ℕ} {grant : Grant} → IsPassphrase plain grant.entry.secret text
       → ByPrompt spec plan plain (Some id) (cache_turn (want (Some id)) (Given grant) ∷ Sent text ∷ []) On
-  prompted : {id : Option (List ℕ)} {events : List (Event PromptEvent)} {went : Went}
+  prompted : {id : Option (List ℕ)} {events : List (Event FurtherEvent)} {went : Went}
       → WantsPrompt (want id) (UnderTicket (AsksPin spec plan (λ pin. ⊤)) (EndsPin plain)) events went
       → ByPrompt spec plan plain id events went
 
@@ -193,7 +192,7 @@ refusal_of mode.Loopback = Some code.NoPinentry
 
 -- A request: the option values before it, what the session does for it, the values after it, and how the session
 -- goes on.
-pub data Exchange (rules : Rules) (before : OptionValues) : Request → List (Event PromptEvent) → OptionValues → Went → Type 0 where
+pub data Exchange (rules : Rules) (before : OptionValues) : Request → List (Event FurtherEvent) → OptionValues → Went → Type 0 where
   refused : {code : Code} → Exchange rules before (Bad code) (Sent (failed code) ∷ []) before On
   -- no command on keys is carried out yet
   key : {line : ArrayVec ℕ} → Exchange rules before (Key line) (Sent (failed code.UnknownCommand) ∷ []) before On
@@ -206,15 +205,15 @@ pub data Exchange (rules : Rules) (before : OptionValues) : Request → List (Ev
       → Exchange rules before (Cache (SetOption text)) (Sent (option_text (applied before text.items).answer) ∷ []) (applied before text.items).after On
   info : {what : Info} {text : List ℕ} → IsInfo rules what text → Exchange rules before (Cache (GetInfo what)) (Sent text ∷ []) before On
   -- a passphrase by the cache alone
-  quiet : {fields : GetFields} {events : List (Event PromptEvent)} {went : Went}
+  quiet : {fields : GetFields} {events : List (Event FurtherEvent)} {went : Went}
       → is_quiet fields.no_ask fields.texts ≡ true → LooksFirst fields.plain fields.id (Refuses code.NoData) events went
       → Exchange rules before (Cache (get_passphrase fields)) events before went
   -- by the cache, or else by a prompt, where the client wants one
-  by_prompt : {fields : GetFields} {texts : Texts} {events : List (Event PromptEvent)} {went : Went} (spec : PromptSpec)
+  by_prompt : {fields : GetFields} {texts : Texts} {events : List (Event FurtherEvent)} {went : Went} (spec : PromptSpec)
       → fields.no_ask ≡ false → fields.texts ≡ Some texts → before.mode ≡ mode.Ask → IsSpec rules before texts.description texts.prompt fields.quality spec
       → ByPrompt spec (plan_of rules before texts.error fields.check fields.repeat) fields.plain fields.id events went
       → Exchange rules before (Cache (get_passphrase fields)) events before went
-  without_prompt : {fields : GetFields} {texts : Texts} {events : List (Event PromptEvent)} {went : Went}
+  without_prompt : {fields : GetFields} {texts : Texts} {events : List (Event FurtherEvent)} {went : Went}
       → fields.no_ask ≡ false → fields.texts ≡ Some texts → before.mode ≢ mode.Ask
       → LooksFirst fields.plain fields.id (WithoutPrompt fields.plain fields.id before.mode) events went
       → Exchange rules before (Cache (get_passphrase fields)) events before went
@@ -223,10 +222,10 @@ pub data Exchange (rules : Rules) (before : OptionValues) : Request → List (Ev
   with_data : {id secret text : List ℕ} {life : Life} {turn : Turn} {went : Went} → rules.allow_preset ≡ true → ComesOut ok On turn text went
       → Exchange rules before (Cache (PresetPassphrase id life None))
       (Sent limit_line ∷ inquiry (Asked (Data secret)) ∷ cache_turn (put id life secret) turn ∷ Sent text ∷ []) before went
-  without_data : {id : List ℕ} {life : Life} {events : List (Event PromptEvent)} {went : Went} → rules.allow_preset ≡ true → WithoutPassphrase events went
+  without_data : {id : List ℕ} {life : Life} {events : List (Event FurtherEvent)} {went : Went} → rules.allow_preset ≡ true → WithoutPassphrase events went
       → Exchange rules before (Cache (PresetPassphrase id life None)) events before went
   -- consent by a prompt, where the client wants one
-  confirmation : {description : ArrayVec ℕ} {events : List (Event PromptEvent)} {went : Went} (spec : PromptSpec)
+  confirmation : {description : ArrayVec ℕ} {events : List (Event FurtherEvent)} {went : Went} (spec : PromptSpec)
       → before.mode ≡ mode.Ask → IsSpec rules before description (record { items = [] }) false spec
       → WantsPrompt (Seat None None) (UnderTicket (AsksConsent spec before.notify) EndsConsent) events went
       → Exchange rules before (Cache (GetConfirmation description)) events before went
@@ -245,5 +244,5 @@ abbrev pub quiet_of : Request → Option QuietRequest
 quiet_of request = option_and_then quiet_fields (get_fields request)
 
 -- the exchange of a line
-abbrev pub LineExchange : Rules → OptionValues → List ℕ → List (Event PromptEvent) → OptionValues → Went → Type 0
+abbrev pub LineExchange : Rules → OptionValues → List ℕ → List (Event FurtherEvent) → OptionValues → Went → Type 0
 LineExchange rules before line events after went = Exchange rules before (request_of line) events after went

@@ -1,6 +1,6 @@
 -- The arguments of requests (GnuPG manual, "Agent GET_PASSPHRASE", "Agent PRESET_PASSPHRASE", "Agent CLEAR_PASSPHRASE"). Their
 -- bounds, the names of modes, and the texts that `X` stands for, are this project's own.
-use Rattle.std.specs.Prelude.{ℕ, ◌==◌, ◌&&◌, nat_le, Bool, true, false, List, [], ◌∷◌, length, drop, codes, Option, Some, None, Result, Ok, Err, if◌then◌else◌}
+use Rattle.std.specs.Prelude.{ℕ, ◌==◌, ◌&&◌, nat_le, Bool, true, List, [], ◌∷◌, length, drop, codes, Option, Some, None, Result, Ok, Err, if◌then◌else◌}
 use Rattle.std.specs.Option.{option_and_then}
 use Rattle.std.specs.Str.{bytes_eq}
 use Rattle.arrayvec.specs.ArrayVec.{ArrayVec}
@@ -23,8 +23,11 @@ abbrev pub is_placeholder : List ℕ → Bool
 is_placeholder word = bytes_eq word (codes "X")
 
 -- a cache id has a byte at least, and isn't too long
+abbrev pub is_cache_id : List ℕ → Bool
+is_cache_id word = nat_le 1 (length word) && nat_le (length word) MAX_ID_LEN
+
 abbrev pub cache_id : List ℕ → Option (List ℕ)
-cache_id word = if nat_le 1 (length word) && nat_le (length word) MAX_ID_LEN then Some word else None
+cache_id word = if is_cache_id word then Some word else None
 
 -- the id, where it isn't the one that stands for none
 abbrev pub unless_placeholder : List ℕ → Option (List ℕ)
@@ -38,22 +41,19 @@ text bytes = record { items = bytes }
 abbrev pub text_or : List ℕ → List ℕ → ArrayVec ℕ
 text_or usual word = if is_placeholder word then text usual else text (unescaped true word)
 
--- what a prompt says: no word for none of it, or one each for the error, the prompt and the description. `None` where
--- there are one or two.
-abbrev pub texts : List (List ℕ) → Option (Option Texts)
-texts [] = Some None
-texts (error ∷ prompt ∷ description ∷ more) = Some (Some (record {
+-- what a prompt says, by a word each for the error, the prompt and the description
+abbrev pub texts_by : List ℕ → List ℕ → List ℕ → Texts
+texts_by error prompt description = record {
   error = text_or [] error;
   prompt = text_or (codes "Passphrase:") prompt;
   description = text_or (codes "Please enter the passphrase") description;
-}))
-texts _ = None
+}
 
--- whether there are words for what a prompt says. `None` where there are one or two.
-abbrev pub has_texts : List (List ℕ) → Option Bool
-has_texts [] = Some false
-has_texts (error ∷ prompt ∷ description ∷ more) = Some true
-has_texts _ = None
+-- no word for none of it, or these three. `None` where there are one or two.
+abbrev pub texts : List (List ℕ) → Option (Option Texts)
+texts [] = Some None
+texts (error ∷ prompt ∷ description ∷ more) = Some (Some (texts_by error prompt description))
+texts _ = None
 
 -- how often a new passphrase is asked for again
 abbrev pub repeat_of : ℕ → Option ℕ

@@ -1,5 +1,5 @@
 pub mod Answers
-pub mod Clients
+pub mod Endings
 pub mod Events
 pub mod Exchanges
 pub mod Fields

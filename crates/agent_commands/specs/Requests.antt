@@ -1,7 +1,9 @@
 -- What a line asks for, or the fault for which it is refused (GnuPG manual, "Agent's Assuan protocol"). Which fault a refusal has is
 -- this project's own.
-use Rattle.std.specs.Prelude.{◌≡◌, ℕ, Bool, List, [], ◌∷◌, codes, ok_or, Option, Some, None, Result, Ok, Err, if◌then◌else◌}
+use Rattle.std.specs.Prelude.{◌≡◌, ◌≤◌, ℕ, Bool, List, [], ◌∷◌, length, codes, ok_or, Option, Some, None, Result, Ok, Err, if◌then◌else◌}
+use Rattle.std.specs.Option.{option_map}
 use Rattle.std.specs.Str.{bytes_eq}
+use Rattle.assuan_text.specs.declared.TheConstants.{MAX_LINE_LEN}
 use Rattle.assuan_text.specs.Options.{options_of, arguments_of, has_option, last_option, last_value}
 use Rattle.assuan_text.specs.Words.{command_of, rest_of, words}
 use Rattle.agent_commands.specs.Names.{command_named, is_key_command, info_named, is_listed}
@@ -83,13 +85,6 @@ get_of options (word ∷ more) = do
     texts = texts;
   }))
 
--- these are in form: how often a new passphrase is asked for again, and an id, with these words behind it
-pub record HasHead (options arguments : List (List ℕ)) (repeat : ℕ) (id : List ℕ) (more : List (List ℕ)) : Type 0 where
-  pub word : List ℕ
-  pub arguments_are : arguments ≡ word ∷ more
-  pub repeat_is : repeats (last_option (codes "--repeat") options) ≡ Some repeat
-  pub id_is : cache_id word ≡ Some id
-
 -- PRESET_PASSPHRASE [--inquire] ID TIMEOUT [DIGITS]
 abbrev pub preset_of : List (List ℕ) → List (List ℕ) → Result CacheCommand Code
 preset_of options (word ∷ timeout ∷ more) = do
@@ -137,6 +132,21 @@ either (Err code) = Bad code
 abbrev pub request_by : Option CommandName → List ℕ → Request
 request_by (Some name) line = either (asked_by name (rest_of line))
 request_by None line = if is_key_command (command_of line) then Key (text line) else Bad UnknownCommand
+
+-- what is read of a GET_PASSPHRASE before its texts are made: its fields, where they are in form. Of another command nothing is.
+abbrev pub ReadsGet : Option CommandName → List ℕ → Option GetFields → Type 0
+ReadsGet (Some name.GetPassphrase) rest get =
+    get_of (options_of (words rest)) (arguments_of (words rest)) ≡ needed (option_map get_passphrase get)
+ReadsGet _ rest get = get ≡ None
+
+-- a line, as far as it is read: its first word, what comes after it, the command of this name, and what it says where it is a GET_PASSPHRASE
+pub record BeginsRequest (line word rest : List ℕ) (command : Option CommandName) (get : Option GetFields) : Type 0 where
+  pub word_is : word ≡ command_of line
+  pub rest_is : rest ≡ rest_of line
+  pub command_is : command ≡ command_named word
+  pub get_is : ReadsGet command rest get
+  pub line_within : length line ≤ MAX_LINE_LEN
+  pub rest_within : length rest ≤ MAX_LINE_LEN
 
 unfoldable pub request_of : List ℕ → Request
 request_of line = request_by (command_named (command_of line)) line

@@ -1,44 +1,24 @@
 -- How a session stands at some state of its code, and how events lead from one state to another.
-use Rattle.std.specs.Prelude.{◌≡◌, ◌≤◌, ℕ, List, None, Some, Result, IfSome, ⊤}
+use Rattle.std.specs.Prelude.{◌≡◌, ◌≤◌, List, Option, None, Some}
 use Rattle.agent_ask.specs.Events.{Call}
-use Rattle.agent_ask.specs.States.{Views, AnyState, AnyLead}
+use Rattle.agent_ask.specs.States.{AnyState, AnyLead}
 use Rattle.agent_ports.specs.Counts.{Rose}
-use Rattle.agent_ports.specs.Writing.{Writes}
-use Rattle.agent_ports.specs.declared.link.WriteFault.{WriteFault as Fault}
 use Rattle.assuan_line.specs.Next.{Reader, held}
-use Rattle.assuan_line.specs.declared.reader.Took.TheVariants as took
+use Rattle.assuan_line.specs.declared.reader.Took.{Took}
 use Rattle.assuan_server.specs.Connections.{Connection}
-use Rattle.assuan_server.specs.Reading.{Supply, IsSupply, unread}
+use Rattle.assuan_server.specs.Clients.{answer_of, connection_views}
 use Rattle.cache_policy.specs.declared.mark.MarkStep.{MarkStep}
 use Rattle.cache_policy.specs.Turns.{Turn}
+use Rattle.session_client.specs.Asking.{HasEnded}
+use Rattle.session_client.specs.declared.unheard.Gone.{Gone}
 use Rattle.session_options.specs.OptionValues.{OptionValues}
+use Rattle.agent_commands.specs.Endings.{gone_of}
 use Rattle.agent_commands.specs.Events.{Event}
-use Rattle.agent_commands.specs.Outside.{World, session_lines, world, prompt_world}
+use Rattle.agent_commands.specs.Outside.{World, world, prompt_world}
 use Rattle.agent_commands.specs.Talks.{WholeOrCut}
-use Rattle.agent_commands.specs.declared.went.SessionEnd.TheVariants.{Bye, Killed, Ended, TooLong, Spent, ReadFault, WriteFault}
+use Rattle.agent_commands.specs.declared.went.SessionEnd.TheVariants.{ReadFault, WriteFault}
 use Rattle.agent_commands.specs.declared.went.Went.{Went}
 use Rattle.agent_commands.specs.declared.went.Went.TheVariants.{On, End}
-
--- a text was written to a connection, whole or in part, and nothing else was done with it
-pub record WritesText (text : List ℕ) (before : Connection) (result : Result (Unit {0}) Fault) (after : Connection) : Type 0 where
-  pub output : Writes text before.output result after.output
-  pub input : after.input ≡ before.input
-  pub reader : after.reader ≡ before.reader
-  pub link : after.link ≡ before.link
-
--- it began with this supply, where its bytes are known
-abbrev pub HasSupply : Supply → Connection → Type 0
-HasSupply supply conn = IfSome conn.input.bytes (λ left. IsSupply supply conn.reader left)
-
--- what is seen of it
-abbrev pub connection_views : Views session_lines Connection
-connection_views = record {
-  input = λ conn. conn.input;
-  output = λ conn. conn.output;
-  link = λ conn. conn.link;
-  unread = λ conn. unread conn.reader;
-  has_supply = HasSupply;
-}
 
 -- a state in the code: its connection, its desk, and the further ends
 abbrev pub SessionState : World → Type 0
@@ -56,16 +36,15 @@ prompt_state turned prompted conn desk prompter = record { conn = conn; desk = d
 abbrev pub EventsLead : {w : World} → List (Event w.Further) → SessionState w → SessionState w → Type 0
 EventsLead = AnyLead connection_views
 
+-- a reader is ended by how its client is gone, and is open while the client is there
+abbrev pub EndedBy : Option Gone → Option Took → Type 0
+EndedBy None ended = ended ≡ None
+EndedBy (Some how) ended = HasEnded answer_of how ended
+
 -- how the reader stands after a request that went so
 abbrev pub ReaderAfter : Went → Reader → Reader → Type 0
 ReaderAfter On before after = (after.ended ≡ None) × (held after ≤ held before)
-ReaderAfter (End Bye) before after = after.ended ≡ None
-ReaderAfter (End Killed) before after = after.ended ≡ None
-ReaderAfter (End Ended) before after = after.ended ≡ Some took.End
-ReaderAfter (End TooLong) before after = after.ended ≡ Some took.TooLong
-ReaderAfter (End Spent) before after = after.ended ≡ Some took.Spent
-ReaderAfter (End ReadFault) before after = after.ended ≡ Some took.ReadFault
-ReaderAfter (End WriteFault) before after = ⊤
+ReaderAfter (End end) before after = EndedBy (gone_of end) after.ended
 
 -- a fault is what ends a session only where its count has risen
 pub record FaultsRise {w : World} (went : Went) (start now : SessionState w) : Type 0 where

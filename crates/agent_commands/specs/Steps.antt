@@ -1,22 +1,20 @@
 -- Private: what a request takes, step by step: what is done for it, and then its response.
+use Rattle.std.specs.Option.{option_map}
 use Rattle.std.specs.Prelude.{◌≡◌, ℕ, Bool, List, [], ◌∷◌, ◌++◌, codes, decimal, Option, Some, None, Result, Ok as Whole, Err as Part, ⊤}
-use Rattle.agent_ask.specs.Events.{PromptEvent}
 use Rattle.agent_ask.specs.declared.ask.Asked.{Asked}
 use Rattle.agent_ask.specs.declared.ask.Asked.TheVariants as prompted
-use Rattle.agent_ask.specs.declared.caller.Gone.{Gone as HowGone}
-use Rattle.agent_ask.specs.declared.caller.Gone.TheVariants as gone
-use Rattle.agent_ask.specs.declared.caller.Heard.{Heard}
-use Rattle.agent_ask.specs.declared.caller.Heard.TheVariants.{Fine, Secret, Cancelled, TooMuch, Unexpected, Gone}
+use Rattle.agent_ask.specs.Callers.{unheard_of, IsUnheardBy}
 use Rattle.agent_ask.specs.declared.consent.Agreed.{Agreed}
 use Rattle.agent_ask.specs.declared.consent.Agreed.TheVariants as agreed
-use Rattle.agent_ask.specs.declared.spec.AskPlan.{AskPlan}
-use Rattle.agent_ask.specs.declared.spec.PromptSpec.{PromptSpec}
 use Rattle.agent_ports.specs.declared.link.Sent.TheVariants.{All, Failed as SentPart}
 use Rattle.assuan_server.specs.Connections.{Connection}
 use Rattle.assuan_server.specs.Written.{HasWritten}
 use Rattle.assuan_server.specs.declared.errors.Code.{Code}
 use Rattle.assuan_server.specs.declared.errors.Code.TheVariants as code
-use Rattle.assuan_server.specs.declared.inquiry.InquiredSecret.{InquiredSecret}
+use Rattle.assuan_server.specs.Clients.{connection_views, refusal_code}
+use Rattle.cache_policy.specs.declared.secret.TheConstants.{MAX_SECRET_LEN}
+use Rattle.session_client.specs.Asking.{AsksClient, gone_of}
+use Rattle.session_client.specs.declared.unheard.Unheard.{Unheard}
 use Rattle.cache_policy.specs.declared.grant.Grant.{Grant}
 use Rattle.cache_policy.specs.declared.life.Life.TheVariants.{Default}
 use Rattle.cache_policy.specs.declared.mark.MarkStep.{MarkStep}
@@ -24,22 +22,24 @@ use Rattle.cache_policy.specs.declared.mark.MarkStep.TheVariants.{Put, Clear, Fl
 use Rattle.cache_policy.specs.declared.mode.Mode.TheVariants.{User}
 use Rattle.cache_policy.specs.Turns.{Turn, Given as TurnGiven, Empty, Done}
 use Rattle.session_options.specs.OptionValues.{OptionValues}
-use Rattle.session_options.specs.declared.options.PinMode.{PinMode}
-use Rattle.session_options.specs.declared.options.PinMode.TheVariants as mode
-use Rattle.agent_commands.specs.Answers.{ok, closing, help, failed, failed_at_pinentry, version_text, IsDataAnswer, IsPassphrase}
-use Rattle.agent_commands.specs.Clients.{HearsWish, heard_of_secret}
+use Rattle.agent_commands.specs.Answers.{ok, closing, help, version_text, IsDataAnswer, IsPassphrase}
+use Rattle.assuan_server.specs.Written.{failed, failed_at_pinentry}
+use Rattle.agent_commands.specs.Endings.{went_after}
 use Rattle.agent_commands.specs.Events.{Event}
 use Rattle.agent_ask.specs.SessionEvents.{Sent}
-use Rattle.agent_commands.specs.Exchanges.{Interrupts, LooksFirst, WithoutPrompt, ByPrompt, ask, limit_line}
+use Rattle.agent_commands.specs.Exchanges.{Interrupts, ask, limit_line}
 use Rattle.agent_commands.specs.Outside.{World}
 use Rattle.agent_commands.specs.declared.answer.Answer.{Answer}
+use Rattle.agent_commands.specs.declared.request.CacheCommand.{CacheCommand}
+use Rattle.agent_commands.specs.declared.request.CacheCommand.TheVariants.{GetPassphrase, PresetPassphrase, GetConfirmation}
 use Rattle.agent_commands.specs.declared.response.Response.{Response}
 use Rattle.agent_commands.specs.declared.response.Response.TheVariants.{Ok, Closing, Help, Version, Number, Given, Passphrase, Failed, FailedAtPinentry}
 use Rattle.agent_ports.specs.declared.link.WriteFault.{WriteFault as Fault}
-use Rattle.agent_commands.specs.declared.went.SessionEnd.TheVariants.{Ended, TooLong, Spent, ReadFault, WriteFault}
+use Rattle.agent_commands.specs.declared.went.SessionEnd.TheVariants.{WriteFault}
 use Rattle.agent_commands.specs.declared.went.Went.{Went}
 use Rattle.agent_commands.specs.declared.went.Went.TheVariants.{On, End}
-use Rattle.agent_commands.specs.States.{WritesText, SessionState, EventsLead, ReaderAfter, FaultsRise}
+use Rattle.assuan_server.specs.Written.{WritesText}
+use Rattle.agent_commands.specs.States.{SessionState, EventsLead, ReaderAfter, FaultsRise}
 
 -- the lines of a response
 abbrev pub IsText : Response → List ℕ → Type 0
@@ -78,6 +78,18 @@ pub data RespondsTo (answer : Answer) (before : Connection) : Went → Connectio
   cut : {after : Connection} (response : Response) (text : List ℕ) (fault : Fault) → answer.response ≡ Some response → IsText response text
       → WritesText text before (Part fault) after → RespondsTo answer before (End WriteFault) after
 
+-- a GET_PASSPHRASE
+abbrev pub IsGet : CacheCommand → Type 0
+IsGet (GetPassphrase plain check no_ask repeat quality id texts) = Unit {0}
+IsGet _ = ⊥
+
+-- a command that wants nothing of the client or the user
+abbrev pub AsksNobody : CacheCommand → Type 0
+AsksNobody (GetPassphrase plain check no_ask repeat quality id texts) = ⊥
+AsksNobody (PresetPassphrase id life secret) = ⊥
+AsksNobody (GetConfirmation description) = ⊥
+AsksNobody _ = Unit {0}
+
 -- a step that changes the cache, and gives no ticket back
 abbrev pub IsChange : MarkStep → Type 0
 IsChange (Put id mode life secret) = Unit {0}
@@ -106,43 +118,24 @@ pub data LooksUp {D : Type 0} (turned : D → MarkStep → Turn → D → Type 0
   interrupted : {id : List ℕ} {before after : D} (turn : Turn) (why : Code) → turned before (ask id) turn after → Interrupts turn why
       → LooksUp turned plain (Some id) before (Some (record { response = Some (Failed why); went = On })) after
 
--- a passphrase by the cache or as the client wants it: by a prompt, or without one
-abbrev pub ByMode : PromptSpec → AskPlan → Bool → Option (List ℕ) → PinMode → List (Event PromptEvent) → Went → Type 0
-ByMode spec plan plain id mode.Ask events went = ByPrompt spec plan plain id events went
-ByMode spec plan plain id other events went = LooksFirst plain id (WithoutPrompt plain id other) events went
-
 -- what the client gave was kept, where there is an id, and is answered
 abbrev pub KeepsSecret : {D : Type 0} → (D → MarkStep → Turn → D → Type 0) → Bool → List ℕ → Option (List ℕ) → D → Answer → D → Type 0
 KeepsSecret turned plain secret None before answer after = (after ≡ before) × (answer ≡ record { response = Some (Passphrase secret plain); went = On })
 KeepsSecret turned plain secret (Some id) before answer after =
     TakesTurn turned (Put id User Default secret) (record { response = Some (Passphrase secret plain); went = On }) before answer after
 
--- how a request ends whose client is gone
-abbrev pub answer_gone : HowGone → Answer
-answer_gone gone.TooLong = record { response = Some (Failed code.LineTooLong); went = End TooLong }
-answer_gone gone.Ended = record { response = None; went = End Ended }
-answer_gone gone.Spent = record { response = None; went = End Spent }
-answer_gone gone.ReadFault = record { response = None; went = End ReadFault }
-answer_gone gone.WriteFault = record { response = None; went = End WriteFault }
+-- how a request ends whose client gave nothing
+abbrev pub answer_unheard : Unheard → Answer
+answer_unheard why = record { response = option_map Failed (refusal_code why); went = went_after (gone_of why) }
 
--- how one ends whose client didn't take note of a prompt, or gave no passphrase that it was asked for
-abbrev pub answer_unheard : Heard → Answer
-answer_unheard Cancelled = record { response = Some (Failed code.Cancelled); went = On }
-answer_unheard TooMuch = record { response = Some (Failed code.TooMuch); went = On }
-answer_unheard Unexpected = record { response = Some (Failed code.Unexpected); went = On }
-answer_unheard (Gone how) = answer_gone how
-answer_unheard _ = record { response = None; went = On }
+abbrev pub answer_heard : Option Unheard → Answer
+answer_heard (Some why) = answer_unheard why
+answer_heard None = record { response = None; went = On }
 
--- the passphrase that a client was heard to give, or how its request ends without one
-abbrev pub answer_heard : Heard → Result (List ℕ) Answer
-answer_heard (Secret secret) = Whole secret
-answer_heard heard = Part (answer_unheard heard)
-
--- the answers of a client but that it has taken note, or its passphrase
-abbrev pub IsUnheardBy : Heard → Type 0
-IsUnheardBy Fine = ⊥
-IsUnheardBy (Secret secret) = ⊥
-IsUnheardBy _ = ⊤
+-- the passphrase that a client gave, or how its request ends without one
+abbrev pub answer_said : Result (List ℕ) Unheard → Result (List ℕ) Answer
+answer_said (Whole secret) = Whole secret
+answer_said (Part why) = Part (answer_unheard why)
 
 -- how a request ends whose prompt gave no passphrase
 abbrev pub answer_without_pin : Asked → Answer
@@ -150,7 +143,7 @@ answer_without_pin prompted.Cancelled = record { response = Some (FailedAtPinent
 answer_without_pin prompted.TimedOut = record { response = Some (FailedAtPinentry code.Timeout); went = On }
 answer_without_pin prompted.NoPinentry = record { response = Some (Failed code.NoPinentry); went = On }
 answer_without_pin prompted.Bad = record { response = Some (Failed code.BadPass); went = On }
-answer_without_pin (prompted.Heard heard) = answer_unheard heard
+answer_without_pin (prompted.Heard heard) = answer_heard (unheard_of heard)
 answer_without_pin _ = record { response = None; went = On }
 
 abbrev pub HasNoPin : Asked → Type 0
@@ -166,7 +159,7 @@ answer_to_consent agreed.No = record { response = Some (FailedAtPinentry code.No
 answer_to_consent agreed.Cancelled = record { response = Some (FailedAtPinentry code.Cancelled); went = On }
 answer_to_consent agreed.TimedOut = record { response = Some (FailedAtPinentry code.Timeout); went = On }
 answer_to_consent agreed.NoPinentry = record { response = Some (Failed code.NoPinentry); went = On }
-answer_to_consent (agreed.Heard heard) = answer_unheard heard
+answer_to_consent (agreed.Heard heard) = answer_heard (unheard_of heard)
 
 abbrev pub IsAgreed : Agreed → Type 0
 IsAgreed (agreed.Heard heard) = IsUnheardBy heard
@@ -176,5 +169,5 @@ IsAgreed _ = ⊤
 pub data AsksSecret (start : Connection) : Result (List ℕ) Answer → Connection → Type 0 where
   limit_cut : {now : Connection} (count : ℕ) → HasWritten limit_line start (SentPart count) now
       → AsksSecret start (Part (record { response = None; went = End WriteFault })) now
-  asked : {now : Connection} (mid : Connection) (inquired : InquiredSecret) → HasWritten limit_line start All mid
-      → HearsWish (codes "PASSPHRASE") mid inquired now → AsksSecret start (answer_heard (heard_of_secret inquired)) now
+  asked : {now : Connection} (mid : Connection) (result : Result (List ℕ) Unheard) → HasWritten limit_line start All mid
+      → AsksClient connection_views (codes "PASSPHRASE") MAX_SECRET_LEN result mid now → AsksSecret start (answer_said result) now

@@ -5,7 +5,7 @@ use Rattle.assuan_line.specs.declared.reader.Took.TheVariants as took
 use Rattle.assuan_server.specs.Written.{greeting}
 use Rattle.assuan_server.specs.declared.errors.Code.TheVariants.{LineTooLong}
 use Rattle.assuan_text.specs.LineEnds.{line_of}
-use Rattle.agent_commands.specs.Answers.{failed}
+use Rattle.assuan_server.specs.Written.{failed}
 use Rattle.agent_commands.specs.Events.{Event}
 use Rattle.agent_ask.specs.SessionEvents.{Received, Sent, CutAtLast}
 use Rattle.agent_commands.specs.declared.went.SessionEnd.{SessionEnd}

@@ -1,11 +1,11 @@
 ghost use Rattle.std.specs.Prelude.{◌≡◌, None, Some};
-ghost use Rattle.agent_commands.specs.Steps.{answer_gone, answer_unheard, IsUnheardBy};
+ghost use Rattle.agent_commands.specs.Steps.{answer_unheard};
 ghost use Rattle.agent_commands.specs.declared.went.Went.TheVariants as went;
 
 use crate::response::Response;
 use crate::{SessionEnd, Went};
-use agent_ask::{Gone, Heard};
 use assuan_server::Code;
+use session_client::Unheard;
 
 /// How a request is answered, once all else is done for it, and how the session goes on then.
 #[derive(Drop)]
@@ -59,30 +59,19 @@ impl Answer {
         }
     }
 
-    /// The client is gone.
-    pub(crate) fn gone(gone: Gone) -> Answer
-        ensures { result ≡ answer_gone gone }
+    /// The client gave nothing of what was wanted.
+    pub(crate) fn unheard(why: Unheard) -> Answer
+        ensures { result ≡ answer_unheard why }
     {
-        match gone {
-            Gone::TooLong => Answer::last(Response::Failed(Code::LineTooLong), SessionEnd::TooLong),
-            Gone::Ended => Answer::silent(SessionEnd::Ended),
-            Gone::Spent => Answer::silent(SessionEnd::Spent),
-            Gone::ReadFault => Answer::silent(SessionEnd::ReadFault),
-            Gone::WriteFault => Answer::silent(SessionEnd::WriteFault),
-        }
-    }
-
-    /// The client didn't take note of a prompt, or gave no passphrase that it was asked for.
-    pub(crate) fn unheard(heard: Heard) -> Answer
-        requires { IsUnheardBy heard }
-        ensures { result ≡ answer_unheard heard }
-    {
-        match heard {
-            Heard::Cancelled => Answer::failed(Code::Cancelled),
-            Heard::TooMuch => Answer::failed(Code::TooMuch),
-            Heard::Unexpected => Answer::failed(Code::Unexpected),
-            Heard::Gone(gone) => Answer::gone(gone),
-            Heard::Fine | Heard::Secret(_) => unreachable!(),
+        Answer {
+            response: match Code::refusing(why) {
+                Some(code) => Some(Response::Failed(code)),
+                None => None,
+            },
+            went: match why {
+                Unheard::Gone(gone) => Went::End(SessionEnd::from(gone)),
+                _ => Went::On,
+            },
         }
     }
 }

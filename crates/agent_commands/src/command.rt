@@ -1,8 +1,6 @@
-ghost use Rattle.std.specs.Prelude.{◌≡◌, ℕ, true, List, [], None, Some};
-ghost use Rattle.agent_ask.specs.Callers.{FitsQuestion};
-ghost use Rattle.agent_ask.specs.Events.{Wanted};
+ghost use Rattle.std.specs.Prelude.{◌≡◌, ℕ, true, List, None, Some};
 ghost use Rattle.agent_ask.specs.Prompters.{IsShut};
-ghost use Rattle.assuan_server.specs.Connections.{IsOpen};
+ghost use Rattle.assuan_server.specs.Connections.{Connection, IsOpen};
 ghost use Rattle.cache_policy.specs.declared.mark.MarkStep.TheVariants.{Clear};
 ghost use Rattle.cache_policy.specs.Turns.{asked_step, closes, wait_of};
 ghost use Rattle.session_options.specs.OptionValues.{OptionValues};
@@ -12,19 +10,17 @@ ghost use Rattle.agent_commands.specs.Exchanges.{Exchange, LineExchange, quiet_o
 ghost use Rattle.agent_commands.specs.Outside.{world, prompt_world};
 ghost use Rattle.agent_commands.specs.Requests.{request_of};
 ghost use Rattle.agent_commands.specs.States.{session_state, prompt_state, AnswersRequest};
-ghost use Rattle.agent_commands.specs.Steps.{CarriesOut, RespondsTo, IsChange, TakesTurn, AsksSecret, IsText, answer_heard};
+ghost use Rattle.agent_commands.specs.Steps.{AsksNobody, CarriesOut, RespondsTo, IsChange, TakesTurn, AsksSecret, IsText};
 ghost use Rattle.agent_commands.specs.declared.request.CacheCommand.TheVariants as command;
 ghost use Rattle.agent_commands.specs.declared.request.Request.TheVariants as request;
 ghost use Rattle.agent_commands.specs.declared.went.Went.TheVariants as went;
 
 use crate::answer::Answer;
-use crate::client::heard_of_secret;
 use crate::confirmation::get_confirmation;
-use crate::passphrase::{ask_cache, get_by_mode};
-use crate::prompt::{ask_plan, prompt_spec};
+use crate::passphrase::{ask_cache, get_passphrase};
 use crate::response::{Response, write_response};
 use crate::{CacheCommand, Info, QuietRequest, SessionEnd, Went};
-use agent_ask::{Heard, Prompter};
+use agent_ask::Prompter;
 use agent_ports::{Link, Sent, WriteFault};
 use assuan_server::{Code, Conn};
 use cache_policy::{CacheId, Desk, Life, MAX_SECRET_LEN, Mode, Refused, Reply, Secret, Step};
@@ -101,6 +97,32 @@ fn carry_out<L: Link, D: Desk, P: Prompter>(
     ensures shut { IsShut (P.at prompter.new) }
 {
     match command {
+        CacheCommand::GetPassphrase { .. } => {
+            get_passphrase(command, rules, options, conn, desk, prompter)
+        }
+        CacheCommand::PresetPassphrase { id, life, secret } => {
+            preset_passphrase(id, *life, secret, rules, conn, desk)
+        }
+        CacheCommand::GetConfirmation { description } => {
+            get_confirmation(description, rules, options, conn, desk, prompter)
+        }
+        command => carry_alone(command, rules, options, desk),
+    }
+}
+
+/// Does what a command asks for that wants nothing of the client or the user.
+fn carry_alone<D: Desk>(
+    command: &CacheCommand,
+    rules: &Rules,
+    options: &mut Options,
+    desk: &mut D,
+) -> Answer
+    requires { AsksNobody command.now }
+    ensures carries { (conn : Connection) → IsOpen conn → CarriesOut {w = world D.turned} (Exchange rules.now options.old (request.Cache command.now))
+        (session_state D.turned conn desk.old) result options.new (session_state D.turned conn desk.new) }
+    ensures out { (D.at desk.new).out ≡ (D.at desk.old).out }
+{
+    match command {
         CacheCommand::Nop => Answer::on(Response::Ok),
         CacheCommand::Reset => {
             options.reset();
@@ -110,44 +132,14 @@ fn carry_out<L: Link, D: Desk, P: Prompter>(
         CacheCommand::Help => Answer::on(Response::Help),
         CacheCommand::SetOption { text } => Answer::on(option_response(options.set(text))),
         CacheCommand::GetInfo(info) => Answer::on(info_response(*info, rules)),
-        CacheCommand::GetPassphrase {
-            plain,
-            check,
-            no_ask,
-            repeat,
-            quality,
-            id,
-            texts,
-        } => match texts {
-            Some(texts) if !*no_ask => {
-                let spec = prompt_spec(&texts.description, &texts.prompt, *quality, rules, options);
-                let plan = ask_plan(&texts.error, *check, *repeat, rules, options);
-                get_by_mode(
-                    options.mode(),
-                    *plain,
-                    id,
-                    &spec,
-                    &plan,
-                    conn,
-                    desk,
-                    prompter,
-                )
-            }
-            _ => ask_cache(*plain, id, desk),
-        },
-        CacheCommand::PresetPassphrase { id, life, secret } => {
-            preset_passphrase(id, *life, secret, rules, conn, desk)
-        }
         CacheCommand::ClearPassphrase { id, mode } => clear_passphrase(id, *mode, desk),
-        CacheCommand::GetConfirmation { description } => {
-            get_confirmation(description, rules, options, conn, desk, prompter)
-        }
         CacheCommand::ReloadAgent => take_turn(Step::Flush, Answer::on(Response::Ok), desk),
         CacheCommand::KillAgent => take_turn(
             Step::Stop,
             Answer::last(Response::Closing, SessionEnd::Killed),
             desk,
         ),
+        _ => unreachable!(),
     }
 }
 
@@ -263,19 +255,11 @@ pub(crate) fn inquire_passphrase<L: Link>(conn: &mut Conn<'_, L>) -> Result<Secr
 {
     let mut digits = Buffer::new();
     match conn.status(b"INQUIRE_MAXLEN", digits.format(MAX_SECRET_LEN).as_bytes()) {
-        Sent::All => passphrase_of(heard_of_secret(conn.inquire_secret(b"PASSPHRASE", b""))),
+        Sent::All => match conn.inquire_secret(b"PASSPHRASE", b"").said() {
+            Ok(secret) => Ok(secret),
+            Err(why) => Err(Answer::unheard(why)),
+        },
         Sent::Failed { .. } => Err(Answer::silent(SessionEnd::WriteFault)),
-    }
-}
-
-/// The passphrase that the client was heard to give, or how its request is answered without one.
-fn passphrase_of(heard: Heard) -> Result<Secret, Answer>
-    requires { FitsQuestion (Wanted []) heard }
-    ensures { result ≡ answer_heard heard }
-{
-    match heard {
-        Heard::Secret(secret) => Ok(secret),
-        heard => Err(Answer::unheard(heard)),
     }
 }
 

@@ -15,9 +15,8 @@ ghost use Rattle.agent_commands.specs.declared.request.Request.TheVariants as re
 
 use crate::answer::Answer;
 use crate::command::without_memory;
-use crate::prompt::{ask_leave, prompt_spec};
 use crate::response::Response;
-use agent_ask::{Agreed, PromptSpec, Prompter, give_back};
+use agent_ask::{Agreed, PromptSpec, Prompter, ask_leave, give_back, prompt_spec};
 use agent_ports::Link;
 use assuan_server::{Code, Conn};
 use assuan_text::Text;
@@ -113,6 +112,6 @@ fn ending(agreed: Agreed) -> Answer
         Agreed::Cancelled => Answer::failed_at_pinentry(Code::Cancelled),
         Agreed::TimedOut => Answer::failed_at_pinentry(Code::Timeout),
         Agreed::NoPinentry => Answer::failed(Code::NoPinentry),
-        Agreed::Heard(heard) => Answer::unheard(heard),
+        Agreed::Heard(heard) => Answer::unheard(heard.unheard()),
     }
 }

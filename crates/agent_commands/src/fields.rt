@@ -1,15 +1,16 @@
-ghost use Rattle.std.specs.Prelude.{◌≡◌, ◌≤◌, ◌++◌, length, codes, [], MatchOption, Some};
+ghost use Rattle.std.specs.Prelude.{◌≡◌, ◌≤◌, ◌++◌, length, codes, [], true, MatchOption, Some};
 ghost use Rattle.std.specs.Option.{option_and_then, option_map};
 ghost use Rattle.hex.specs.Hex.{decode_of};
 ghost use Rattle.assuan_text.specs.Words.{words};
 ghost use Rattle.assuan_text.specs.Options.{options_of, last_option, last_value};
 ghost use Rattle.assuan_text.specs.declared.TheConstants.{MAX_LINE_LEN};
-ghost use Rattle.agent_commands.specs.Fields.{cache_id, unless_placeholder, text_or, texts, has_texts, repeats, life, life_of_seconds, cleared_mode, passphrase, given_passphrase};
+ghost use Rattle.agent_commands.specs.Fields.{cache_id, is_cache_id, unless_placeholder, text_or, texts, repeats, life, life_of_seconds, cleared_mode, passphrase, given_passphrase};
 
 use crate::Texts;
 use assuan_escape::unescape;
 use assuan_text::{Text, last_option, last_value, next_word, number_of};
-use cache_policy::{CacheId, Life, MAX_SECONDS, MAX_SECRET_LEN, Mode, Secret};
+use cache_policy::{CacheId, Life, MAX_ID_LEN, MAX_SECONDS, MAX_SECRET_LEN, Mode, Secret};
+use std::marker::Model;
 use wiping::wipe;
 
 /// The word that stands for none.
@@ -34,44 +35,75 @@ pub(crate) fn cache_id(word: &[u8]) -> Option<CacheId>
     CacheId::of(word)
 }
 
-/// The id, where it isn't the one that stands for none.
-pub(crate) fn unless_placeholder(id: CacheId) -> Option<CacheId>
-    ensures { result ≡ unless_placeholder id }
+/// Whether the word can be a cache id.
+pub(crate) fn is_cache_id(word: &[u8]) -> bool
+    ensures { result ≡ is_cache_id word.now }
 {
-    if id.bytes() == PLACEHOLDER {
+    1 <= word.len() && word.len() <= MAX_ID_LEN
+}
+
+/// The id, where it isn't the one that stands for none.
+pub(crate) fn unless_placeholder(id: &[u8]) -> Option<CacheId>
+    requires { is_cache_id id.now ≡ true }
+    ensures { result ≡ unless_placeholder id.now }
+{
+    if id == PLACEHOLDER {
         None
     } else {
-        Some(id)
+        CacheId::of(id)
     }
 }
 
-/// What a prompt says: `Some(None)` where there is no word, and `None` where there are one or two.
-pub(crate) fn texts(text: &[u8]) -> Option<Option<Texts>>
-    requires { length text.now ≤ MAX_LINE_LEN }
-    ensures { result ≡ texts (words text.now) }
-{
-    let Some((error, rest)) = next_word(text) else {
-        return Some(None);
-    };
-    let (prompt, rest) = next_word(rest)?;
-    let (description, _) = next_word(rest)?;
-    Some(Some(Texts {
-        error: text_or(b"", error),
-        prompt: text_or(b"Passphrase:", prompt),
-        description: text_or(b"Please enter the passphrase", description),
-    }))
+/// The words for what a prompt says. Contracts see the texts that they mean.
+#[derive(Drop)]
+pub(crate) struct TextWords<'a> {
+    error: &'a [u8],
+    prompt: &'a [u8],
+    description: &'a [u8],
 }
 
-/// Whether the text has words for what a prompt says. `None` where there are one or two.
-pub(crate) fn has_texts(text: &[u8]) -> Option<bool>
-    ensures { result ≡ has_texts (words text.now) }
-{
-    let Some((_, rest)) = next_word(text) else {
-        return Some(false);
-    };
-    let (_, rest) = next_word(rest)?;
-    next_word(rest)?;
-    Some(true)
+impl<'a> Model for TextWords<'a> {
+    ghost use Rattle.std.specs.Prelude.{◌≤◌, length};
+    ghost use Rattle.assuan_text.specs.declared.TheConstants.{MAX_LINE_LEN};
+    ghost use Rattle.agent_commands.specs.Fields.{texts_by};
+    ghost use Rattle.agent_commands.specs.declared.request.Texts.{Texts};
+
+    ghost Value = { Texts };
+
+    ghost view = { λ words. texts_by words.error.now words.prompt.now words.description.now };
+
+    ghost invariant = { λ words. (length words.error.now ≤ MAX_LINE_LEN) × (length words.prompt.now ≤ MAX_LINE_LEN)
+        × (length words.description.now ≤ MAX_LINE_LEN) };
+}
+
+impl<'a> TextWords<'a> {
+    /// The first words of the text: `Some(None)` where there is no word, and `None` where there are one or two.
+    pub(crate) fn of(text: &'a [u8]) -> Option<Option<TextWords<'a>>>
+        requires { length text.now ≤ MAX_LINE_LEN }
+        ensures { result ≡ texts (words text.now) }
+    {
+        let Some((error, rest)) = next_word(text) else {
+            return Some(None);
+        };
+        let (prompt, rest) = next_word(rest)?;
+        let (description, _) = next_word(rest)?;
+        Some(Some(TextWords {
+            error,
+            prompt,
+            description,
+        }))
+    }
+
+    /// What they mean.
+    pub(crate) fn texts(&self) -> Texts
+        ensures { result ≡ self.now }
+    {
+        Texts {
+            error: text_or(b"", self.error),
+            prompt: text_or(b"Passphrase:", self.prompt),
+            description: text_or(b"Please enter the passphrase", self.description),
+        }
+    }
 }
 
 /// The text that a word means, or the usual one where it stands for none.

@@ -3,22 +3,21 @@
 #![tactic(auto)]
 
 mod answer;
-mod client;
 mod command;
 mod confirmation;
 mod fields;
+mod get_line;
+mod line_request;
 mod names;
 mod passphrase;
-mod prompt;
 mod read;
 mod request;
 mod response;
-#[cfg(test)]
-mod tests;
 mod went;
 
 pub use command::{run_cache, run_quiet};
 pub use fields::MAX_REPEAT;
+pub use line_request::LineRequest;
 pub use names::{COMMANDS, CommandName, commands_are_as_defined};
 pub use read::{read_quiet, read_request};
 pub use request::{CacheCommand, Info, QuietRequest, Request, Texts};

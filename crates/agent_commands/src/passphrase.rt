@@ -6,22 +6,25 @@ ghost use Rattle.agent_ask.specs.Prompts.{AsksPin};
 ghost use Rattle.assuan_server.specs.Connections.{Connection, IsOpen};
 ghost use Rattle.cache_policy.specs.Turns.{asked_step, wait_of};
 ghost use Rattle.session_options.specs.declared.options.PinMode.TheVariants as pin_mode;
-ghost use Rattle.agent_commands.specs.Exchanges.{LooksFirst, Refuses, WithoutPrompt, ByPrompt, EndsPin, want};
+ghost use Rattle.agent_commands.specs.Exchanges.{Exchange, LooksFirst, Refuses, WithoutPrompt, ByPrompt, EndsPin, want};
 ghost use Rattle.agent_commands.specs.Outside.{world, prompt_world};
 ghost use Rattle.agent_commands.specs.Prompting.{UnderTicket};
 ghost use Rattle.agent_commands.specs.States.{session_state, prompt_state};
-ghost use Rattle.agent_commands.specs.Steps.{Carries, ByMode, LooksUp, KeepsSecret, HasNoPin, answer_without_pin};
+ghost use Rattle.agent_commands.specs.declared.request.Request.TheVariants as request;
+ghost use Rattle.agent_commands.specs.Steps.{IsGet, Carries, CarriesOut, LooksUp, KeepsSecret, HasNoPin, answer_without_pin};
 
+use crate::CacheCommand;
 use crate::answer::Answer;
 use crate::command::{inquire_passphrase, take_turn, without_memory};
-use crate::prompt::ask_user;
 use crate::response::Response;
-use agent_ask::{AskPlan, Asked, PromptSpec, Prompter, give_back};
+use agent_ask::{
+    AnyPin, AskPlan, Asked, PromptSpec, Prompter, ask_plan, ask_user, give_back, prompt_spec,
+};
 use agent_ports::Link;
 use assuan_server::{Code, Conn};
 use cache_policy::{CacheId, Desk, Life, Mode, Refused, Reply, Secret, Step, Way};
 use prompt_seat::Ticket;
-use session_options::PinMode;
+use session_options::{Options, PinMode, Rules};
 
 /// A passphrase from the cache alone.
 pub(crate) fn ask_cache<D: Desk>(plain: bool, id: &Option<CacheId>, desk: &mut D) -> Answer
@@ -35,28 +38,46 @@ pub(crate) fn ask_cache<D: Desk>(plain: bool, id: &Option<CacheId>, desk: &mut D
     }
 }
 
-/// A passphrase from the cache, or else as the client wants it: by a prompt, or without one.
-pub(crate) fn get_by_mode<L: Link, D: Desk, P: Prompter>(
-    mode: PinMode,
-    plain: bool,
-    id: &Option<CacheId>,
-    spec: &PromptSpec,
-    plan: &AskPlan,
+/// GET_PASSPHRASE: from the cache, or else as the client wants it: by a prompt, or without one.
+pub(crate) fn get_passphrase<L: Link, D: Desk, P: Prompter>(
+    command: &CacheCommand,
+    rules: &Rules,
+    options: &Options,
     conn: &mut Conn<'_, L>,
     desk: &mut D,
     prompter: &mut P,
 ) -> Answer
+    requires get { IsGet command.now }
     requires open { IsOpen conn.old }
     requires free { (D.at desk.old).out ≡ None }
     requires shut { IsShut (P.at prompter.old) }
-    ensures carries { Carries {w = prompt_world D.turned P.prompted} (ByMode spec.now plan.now plain id.now mode)
-        (prompt_state D.turned P.prompted conn.old desk.old prompter.old) result (prompt_state D.turned P.prompted conn.new desk.new prompter.new) }
+    ensures carries { CarriesOut {w = prompt_world D.turned P.prompted} (Exchange rules.now options.now (request.Cache command.now))
+        (prompt_state D.turned P.prompted conn.old desk.old prompter.old) result options.now (prompt_state D.turned P.prompted conn.new desk.new prompter.new) }
     ensures free { (D.at desk.new).out ≡ None }
     ensures shut { IsShut (P.at prompter.new) }
 {
-    match mode {
-        PinMode::Ask => by_prompt(plain, id, spec, plan, conn, desk, prompter),
-        mode => without_prompt(mode, plain, id, conn, desk),
+    let CacheCommand::GetPassphrase {
+        plain,
+        check,
+        no_ask,
+        repeat,
+        quality,
+        id,
+        texts,
+    } = command
+    else {
+        unreachable!()
+    };
+    match texts {
+        Some(texts) if !*no_ask => match options.mode() {
+            PinMode::Ask => {
+                let spec = prompt_spec(&texts.description, &texts.prompt, *quality, rules, options);
+                let plan = ask_plan(&texts.error, *check, *repeat, rules, options);
+                by_prompt(*plain, id, &spec, &plan, conn, desk, prompter)
+            }
+            mode => without_prompt(mode, *plain, id, conn, desk),
+        },
+        _ => ask_cache(*plain, id, desk),
     }
 }
 
@@ -211,7 +232,7 @@ fn prompt_under<L: Link, D: Desk, P: Prompter>(
     ensures free { (D.at desk.new).out ≡ None }
     ensures shut { IsShut (P.at prompter.new) }
 {
-    match ask_user(&ticket, spec, plan, conn, prompter) {
+    match ask_user(&ticket, spec, plan, &mut AnyPin, conn, prompter) {
         Asked::Pin(pin) => {
             give_back(ticket, Some(pin.copy()), desk);
             Answer::on(Response::Passphrase { secret: pin, plain })
@@ -233,7 +254,7 @@ fn without_pin(asked: Asked) -> Answer
         Asked::TimedOut => Answer::failed_at_pinentry(Code::Timeout),
         Asked::NoPinentry => Answer::failed(Code::NoPinentry),
         Asked::Bad => Answer::failed(Code::BadPass),
-        Asked::Heard(heard) => Answer::unheard(heard),
+        Asked::Heard(heard) => Answer::unheard(heard.unheard()),
         Asked::Pin(_) | Asked::NoMemory => unreachable!(),
     }
 }

@@ -1,44 +1,39 @@
-ghost use Rattle.std.specs.Prelude.{◌≡◌, ◌≤◌, length, if◌then◌else◌, Err, MatchOption, IfSome};
+ghost use Rattle.std.specs.Prelude.{◌≡◌, ◌≤◌, length, if◌then◌else◌, Some};
 ghost use Rattle.assuan_text.specs.declared.TheConstants.{MAX_LINE_LEN};
 ghost use Rattle.assuan_text.specs.Options.{options_of, arguments_of};
 ghost use Rattle.assuan_text.specs.Words.{words};
 ghost use Rattle.agent_commands.specs.Exchanges.{quiet_of};
 ghost use Rattle.agent_commands.specs.Fields.{text};
 ghost use Rattle.agent_commands.specs.Names.{is_key_command};
-ghost use Rattle.agent_commands.specs.Requests.{request_of, asked_by, either, info_of, listed_info, get_of, HasHead, preset_of, clear_of, confirmation_of};
+ghost use Rattle.agent_commands.specs.Requests.{request_of, asked_by, ReadsGet, info_of, listed_info, preset_of, clear_of, confirmation_of};
 
-use crate::fields::{
-    cache_id, cleared_mode, given_passphrase, has_texts, life, repeats, text_or, texts,
-    unless_placeholder,
-};
-use crate::names::{CommandName, HAS_OPTION, command_named, info_named, is_key_command, is_listed};
-use crate::{CacheCommand, Info, QuietRequest, Request};
+use crate::fields::{cache_id, cleared_mode, given_passphrase, life, text_or};
+use crate::get_line::GetLine;
+use crate::names::{CommandName, HAS_OPTION, info_named, is_key_command, is_listed};
+use crate::{CacheCommand, Info, LineRequest, QuietRequest, Request};
 use assuan_line::Line;
 use assuan_server::Code;
-use assuan_text::{Text, arguments, command_and_rest, has_option, next_word};
-use cache_policy::CacheId;
+use assuan_text::{Text, arguments, has_option, next_word};
 
 /// Reads a line as what it asks for.
 ///
 /// A line that a session passes over, an empty one or a comment, has no command, and is refused here.
-// Its texts' places are filled anew at each request where it is part of the session's loop.
-#[inline(never)]
-#[tactic(auto, unfolding(crate::specs::Requests::request_of))]
 pub fn read_request(line: &Line) -> Request
     ensures { result ≡ request_of line.now }
 {
-    let (word, rest) = command_and_rest(line.bytes());
-    let Some(name) = command_named(word) else {
-        return read_other(word, line.bytes());
-    };
-    match read_command(name, rest) {
-        Ok(command) => Request::Cache(command),
-        Err(code) => Request::Bad(code),
-    }
+    LineRequest::of(line).whole()
+}
+
+/// Reads a line that asks the cache alone for a passphrase, as GET_PASSPHRASE does with `--no-ask` or without texts. `None` for any
+/// other line, which `read_request` reads. Where both may be wanted, `LineRequest` reads the line once.
+pub fn read_quiet(line: &Line) -> Option<QuietRequest>
+    ensures { result ≡ quiet_of (request_of line.now) }
+{
+    LineRequest::of(line).quiet()
 }
 
 /// A line that begins with none of the commands on the cache.
-fn read_other(word: &[u8], line: &[u8]) -> Request
+pub(crate) fn read_other(word: &[u8], line: &[u8]) -> Request
     requires { length line.now ≤ MAX_LINE_LEN }
     ensures { result ≡ (if is_key_command word.now then Request.Key (text line.now) else Request.Bad Code.UnknownCommand) }
 {
@@ -49,9 +44,14 @@ fn read_other(word: &[u8], line: &[u8]) -> Request
     }
 }
 
-/// What comes after a command of this name.
-fn read_command(name: CommandName, rest: &[u8]) -> Result<CacheCommand, Code>
-    requires { length rest.now ≤ MAX_LINE_LEN }
+/// What comes after a command of this name, of which a GET_PASSPHRASE is read already.
+pub(crate) fn read_command(
+    name: CommandName,
+    rest: &[u8],
+    get: &Option<GetLine<'_>>,
+) -> Result<CacheCommand, Code>
+    requires within { length rest.now ≤ MAX_LINE_LEN }
+    requires get { ReadsGet (Some name) rest.now get.now }
     ensures { result ≡ asked_by name rest.now }
 {
     match name {
@@ -63,7 +63,10 @@ fn read_command(name: CommandName, rest: &[u8]) -> Result<CacheCommand, Code>
             text: text_of(rest),
         }),
         CommandName::GetInfo => Ok(CacheCommand::GetInfo(read_info(arguments(rest))?)),
-        CommandName::GetPassphrase => read_get(rest),
+        CommandName::GetPassphrase => match get {
+            Some(line) => Ok(line.command()),
+            None => Err(Code::Parameter),
+        },
         CommandName::PresetPassphrase => read_preset(rest),
         CommandName::ClearPassphrase => read_clear(rest),
         CommandName::GetConfirmation => read_confirmation(rest),
@@ -103,70 +106,6 @@ fn read_listed(text: &[u8]) -> Result<Info, Code>
     } else {
         Err(Code::NotSupported)
     }
-}
-
-/// What comes after GET_PASSPHRASE.
-fn read_get(text: &[u8]) -> Result<CacheCommand, Code>
-    requires { length text.now ≤ MAX_LINE_LEN }
-    ensures { result ≡ get_of (options_of (words text.now)) (arguments_of (words text.now)) }
-{
-    let Some((repeat, id, rest)) = repeat_and_id(text) else {
-        return Err(Code::Parameter);
-    };
-    let texts = texts(rest).ok_or(Code::Parameter)?;
-    Ok(CacheCommand::GetPassphrase {
-        plain: has_option(text, b"--data"),
-        check: has_option(text, b"--check"),
-        no_ask: has_option(text, b"--no-ask"),
-        repeat,
-        quality: has_option(text, b"--qualitybar"),
-        id: unless_placeholder(id),
-        texts,
-    })
-}
-
-/// How often a new passphrase is asked for again, the id, and the words after it, where a GET_PASSPHRASE has both in form.
-fn repeat_and_id(text: &[u8]) -> Option<(u8, CacheId, &[u8])>
-    ensures known { MatchOption result (get_of (options_of (words text.now)) (arguments_of (words text.now)) ≡ Err Code.Parameter)
-        (λ head. HasHead (options_of (words text.now)) (arguments_of (words text.now)) head.0 head.1 (words head.2.now)) }
-    ensures short { IfSome result (λ head. length head.2.now ≤ length text.now) }
-{
-    let (word, rest) = next_word(arguments(text))?;
-    let repeat = repeats(text)?;
-    let id = cache_id(word)?;
-    Some((repeat, id, rest))
-}
-
-/// Reads a line that asks the cache alone for a passphrase, as GET_PASSPHRASE does with `--no-ask` or without texts. `None` for any
-/// other line, which `read_request` reads.
-// The texts of a line are long, and most requests are quiet: so no text is made for these.
-pub fn read_quiet(line: &Line) -> Option<QuietRequest>
-    ensures { result ≡ quiet_of (request_of line.now) }
-{
-    let (word, rest) = command_and_rest(line.bytes());
-    let Some(name) = command_named(word) else {
-        return None;
-    };
-    match name {
-        CommandName::GetPassphrase => read_quiet_get(rest),
-        _ => None,
-    }
-}
-
-/// What comes after GET_PASSPHRASE, where it asks the cache alone.
-fn read_quiet_get(text: &[u8]) -> Option<QuietRequest>
-    ensures { result ≡ quiet_of (either (get_of (options_of (words text.now)) (arguments_of (words text.now)))) }
-{
-    let Some((_, id, rest)) = repeat_and_id(text) else {
-        return None;
-    };
-    if has_texts(rest)? && !has_option(text, b"--no-ask") {
-        return None;
-    }
-    Some(QuietRequest {
-        plain: has_option(text, b"--data"),
-        id: unless_placeholder(id),
-    })
 }
 
 /// What comes after PRESET_PASSPHRASE.

@@ -5,7 +5,7 @@ ghost use Rattle.assuan_escape.specs.Escapes.{hex_text};
 ghost use Rattle.assuan_server.specs.Written.{comment_text, ok_text};
 ghost use Rattle.agent_commands.specs.Names.{command_names};
 ghost use Rattle.agent_commands.specs.Answers.{IsDataAnswer, IsPassphrase, help};
-ghost use Rattle.agent_commands.specs.States.{WritesText};
+ghost use Rattle.assuan_server.specs.Written.{WritesText};
 ghost use Rattle.agent_commands.specs.Steps.{IsText};
 
 use crate::COMMANDS;
@@ -85,7 +85,7 @@ fn write_data<L: Link>(conn: &mut Conn<'_, L>, bytes: &[u8]) -> Result<(), Write
 }
 
 /// Writes that all is well, with a secret in hexadecimal digits, which are overwritten.
-#[tactic(auto, using(crate::proofs::Saying::said))]
+#[tactic(auto, using(assuan_server::proofs::Saying::said))]
 fn write_digits<L: Link>(conn: &mut Conn<'_, L>, secret: &Secret) -> Result<(), WriteFault>
     ensures { WritesText (line_of (ok_text (hex_text secret.now))) conn.old result conn.new }
 {

@@ -1,3 +1,8 @@
+ghost use Rattle.std.specs.Prelude.{◌≡◌};
+ghost use Rattle.agent_commands.specs.Endings.{end_of};
+
+use session_client::Gone;
+
 /// How a session ended.
 #[derive(Clone, Copy, Debug, PartialEq, Eq)]
 pub enum SessionEnd {
@@ -20,4 +25,18 @@ pub enum SessionEnd {
 pub enum Went {
     On,
     End(SessionEnd),
+}
+
+impl From<Gone> for SessionEnd {
+    ghost from_gives = { λ gone end. end ≡ end_of gone };
+
+    fn from(gone: Gone) -> SessionEnd {
+        match gone {
+            Gone::Ended => SessionEnd::Ended,
+            Gone::TooLong => SessionEnd::TooLong,
+            Gone::Spent => SessionEnd::Spent,
+            Gone::ReadFault => SessionEnd::ReadFault,
+            Gone::WriteFault => SessionEnd::WriteFault,
+        }
+    }
 }

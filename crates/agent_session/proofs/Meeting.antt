@@ -15,15 +15,17 @@ use Rattle.agent_ask.specs.SessionEvents.{Sent, Cut}
 use Rattle.agent_commands.specs.Outside.{World}
 use Rattle.agent_ask.specs.Worlds.{Outside, Does, received, sent, cut, asked, not_asked, turned, further}
 use Rattle.assuan_server.specs.Reading.{budget, Supply, unread, IsSupply}
-use Rattle.agent_commands.specs.States.{WritesText, SessionState, HasSupply, EventsLead}
+use Rattle.agent_commands.specs.States.{SessionState, EventsLead}
+use Rattle.assuan_server.specs.Clients.{HasSupply}
+use Rattle.assuan_server.specs.Written.{WritesText}
 use Rattle.agent_commands.specs.Talks.{greeted, cut_greeting}
 use Rattle.agent_ports.specs.declared.link.WriteFault.{WriteFault}
 use Rattle.agent_ports.specs.Writing.{StopsWriting}
 use Rattle.agent_commands.specs.declared.went.SessionEnd.{SessionEnd}
 use Rattle.agent_commands.specs.declared.went.SessionEnd.TheVariants.{WriteFault as CutOff}
 use Rattle.agent_commands.specs.declared.went.Went.TheVariants.{End}
-use Rattle.agent_ask.proofs.Doing.{done_then}
-use Rattle.agent_commands.proofs.Doing.{done_wrote, done_stopped}
+use Rattle.agent_ask.proofs.Doing.{done_then, done_said, done_cut}
+use Rattle.assuan_server.proofs.Clients.{said_so}
 use Rattle.agent_session.specs.Sessions.{LineRelation, Leaves, supply_of, ends_with}
 use Rattle.agent_session.specs.Serving.{ServesRequests, ServesConn, around}
 
@@ -93,7 +95,7 @@ module _ {w : World} (exchange : LineRelation w) (before : OptionValues) (start 
   met_cut now why said =
       let stopped : StopsWriting (line_of greeting) start.conn.output now.output = said.output.went in
       let last : SessionState w = record start { conn = now } in
-      let done : EventsLead {w = w} (Cut stopped.sent ∷ []) start last = done_stopped start.desk start.ends (line_of greeting) start.conn now why stopped said in
+      let done : EventsLead {w = w} (Cut stopped.sent ∷ []) start last = done_cut start.desk start.ends why (said_so said) in
       let reads : now.reader ≡ fresh = said.reader ∙ new in
       record {
         served = record {
@@ -122,7 +124,7 @@ module _ {w : World} (exchange : LineRelation w) (before : OptionValues) (start 
   pub met : (mid : Connection) (last : SessionState w) (end : SessionEnd) → WritesText (line_of greeting) start.conn (Ok tt) mid
       → ServesRequests exchange before (record start { conn = mid }) end last → ServesConn exchange before start end last
   met mid last end said talked =
-      let done : EventsLead {w = w} (Sent (line_of greeting) ∷ talked.events) start last = done_then (done_wrote start.desk start.ends (line_of greeting) start.conn mid said) talked.done in
+      let done : EventsLead {w = w} (Sent (line_of greeting) ∷ talked.events) start last = done_then (done_said start.desk start.ends (said_so said)) talked.done in
       record {
         served = record {
           events = Sent (line_of greeting) ∷ talked.events;

@@ -9,11 +9,12 @@ use Rattle.assuan_server.specs.Requests.{NextRequest}
 use Rattle.assuan_server.specs.declared.errors.Code.{Code}
 use Rattle.assuan_server.specs.declared.errors.Code.TheVariants.{LineTooLong}
 use Rattle.session_options.specs.OptionValues.{OptionValues}
-use Rattle.agent_commands.specs.Answers.{failed}
+use Rattle.assuan_server.specs.Written.{failed}
 use Rattle.agent_commands.specs.Events.{Event}
 use Rattle.agent_ask.specs.SessionEvents.{Received, Sent, Cut}
 use Rattle.agent_commands.specs.Outside.{World}
-use Rattle.agent_commands.specs.States.{WritesText, SessionState, EventsLead, ReaderAfter, FaultsRise, AnswersRequest}
+use Rattle.agent_commands.specs.States.{SessionState, EventsLead, ReaderAfter, FaultsRise, AnswersRequest}
+use Rattle.assuan_server.specs.Written.{WritesText}
 use Rattle.assuan_server.specs.Reading.{unread}
 use Rattle.agent_commands.specs.Talks.{Talk, goes_on, over, ended, spent, read_fault, too_long, cut_too_long}
 use Rattle.agent_ports.specs.declared.link.WriteFault.{WriteFault}
@@ -24,8 +25,8 @@ use Rattle.agent_commands.specs.declared.went.SessionEnd.TheVariants as ends
 use Rattle.agent_commands.specs.declared.went.Went.{Went}
 use Rattle.agent_commands.specs.declared.went.Went.TheVariants.{On, End}
 use Rattle.agent_commands.proofs.Answering.{answered_text, cut_text}
-use Rattle.agent_ask.proofs.Doing.{done_none, done_then}
-use Rattle.agent_commands.proofs.Doing.{done_received, done_wrote, done_stopped}
+use Rattle.agent_ask.proofs.Doing.{done_none, done_then, done_said, done_cut, done_received}
+use Rattle.assuan_server.proofs.Clients.{said_so, received_so}
 use Rattle.assuan_server.proofs.Reading.{here_going}
 use Rattle.agent_session.specs.Sessions.{LineRelation, Leaves}
 use Rattle.agent_session.specs.Serving.{ServesRequests, Refuses, whole, cut}
@@ -84,7 +85,7 @@ module _ {w : World} (exchange : LineRelation w) (before : OptionValues) (start 
       read = record { conn = conn; desk = now.desk; ends = now.ends }
 
       received : EventsLead {w = w} (Received answer ∷ []) now read
-      received = done_received {w = w} now.desk now.ends now.conn conn answer going next
+      received = done_received {w = w} now.desk now.ends (received_so going next)
 
       received_as : (took : Took) → answer ≡ took → EventsLead {w = w} (Received took ∷ []) now read
       received_as took is = subst (λ t. EventsLead {w = w} (Received t ∷ []) now read) is received
@@ -134,7 +135,7 @@ module _ {w : World} (exchange : LineRelation w) (before : OptionValues) (start 
             → ServesRequests exchange before start TooLong after_it
         at_too_long ended_so said =
             finishes after_it (Received took.TooLong ∷ Sent (failed LineTooLong) ∷ []) TooLong
-            (done_then (received_as took.TooLong is) (done_wrote now.desk now.ends (failed LineTooLong) conn last said)) too_long
+            (done_then (received_as took.TooLong is) (done_said now.desk now.ends (said_so said))) too_long
             (leaves_all last.reader took.TooLong (ap (λ (r : Reader). r.ended) said.reader ∙ ended_so))
             (record { read = λ e. absurd (cc e); write = λ e. absurd (cc e) })
 
@@ -143,7 +144,7 @@ module _ {w : World} (exchange : LineRelation w) (before : OptionValues) (start 
         cut_at_too_long why said =
             let stopped : StopsWriting (failed LineTooLong) conn.output last.output = said.output.went in
             finishes after_it (Received took.TooLong ∷ Cut stopped.sent ∷ []) ends.WriteFault
-            (done_then (received_as took.TooLong is) (done_stopped now.desk now.ends (failed LineTooLong) conn last why stopped said))
+            (done_then (received_as took.TooLong is) (done_cut now.desk now.ends why (said_so said)))
             (cut_too_long (record {
               before = [];
               sent = stopped.sent;

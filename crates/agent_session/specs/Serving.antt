@@ -5,8 +5,9 @@ use Rattle.assuan_server.specs.declared.errors.Code.{Code}
 use Rattle.session_options.specs.OptionValues.{OptionValues}
 use Rattle.agent_commands.specs.Events.{Event}
 use Rattle.agent_commands.specs.Outside.{World}
-use Rattle.agent_commands.specs.Answers.{failed}
-use Rattle.agent_commands.specs.States.{WritesText, SessionState, EventsLead, FaultsRise}
+use Rattle.assuan_server.specs.Written.{failed}
+use Rattle.agent_commands.specs.States.{SessionState, EventsLead, FaultsRise}
+use Rattle.assuan_server.specs.Written.{WritesText}
 use Rattle.assuan_server.specs.Reading.{unread}
 use Rattle.agent_commands.specs.Talks.{Talk}
 use Rattle.agent_ports.specs.declared.link.WriteFault.{WriteFault}

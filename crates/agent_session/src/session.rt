@@ -2,7 +2,7 @@ ghost use Rattle.std.specs.Prelude.{◌≡◌, [], None};
 ghost use Rattle.agent_ask.specs.Prompters.{IsShut};
 ghost use Rattle.assuan_server.specs.Connections.{IsOpen};
 ghost use Rattle.session_options.specs.OptionValues.{at_start};
-ghost use Rattle.agent_commands.specs.Exchanges.{LineExchange};
+ghost use Rattle.agent_commands.specs.Exchanges.{Exchange, LineExchange};
 ghost use Rattle.agent_commands.specs.Outside.{prompt_world};
 ghost use Rattle.assuan_server.specs.Reading.{budget};
 ghost use Rattle.agent_commands.specs.States.{prompt_state, AnswersRequest};
@@ -10,7 +10,7 @@ ghost use Rattle.agent_session.specs.Sessions.{surroundings, ServesRules};
 ghost use Rattle.agent_session.specs.Serving.{ServesConn, ServesRequests, Refuses};
 
 use agent_ask::Prompter;
-use agent_commands::{Request, SessionEnd, Went, read_quiet, read_request, run_cache, run_quiet};
+use agent_commands::{LineRequest, Request, SessionEnd, Went, run_cache, run_quiet};
 use agent_ports::{Dice, Keys, Link, WriteFault};
 use assuan_line::{BUDGET, Line, Took};
 use assuan_server::{Code, Conn, Origin};
@@ -110,7 +110,7 @@ fn serve_requests<L: Link, D: Desk, P: Prompter>(
     }
 }
 
-/// Answers one request. One that asks the cache alone is read without its texts, which are long.
+/// Answers one request. Its line is read once; for one that asks the cache alone the texts, which are long, are not made.
 ///
 /// Behind any other one the stack that it used is overwritten: it may have had a passphrase in hand. Behind one that asks the cache alone that
 /// would take longer than the request.
@@ -130,21 +130,22 @@ fn answer<L: Link, D: Desk, P: Prompter>(
     ensures free { (D.at desk.new).out ≡ None }
     ensures shut { IsShut (P.at prompter.new) }
 {
-    match read_quiet(line) {
-        Some(request) => run_quiet(&request, conn, desk),
+    let request = LineRequest::of(line);
+    match request.quiet() {
+        Some(quiet) => run_quiet(&quiet, conn, desk),
         None => {
-            let went = answer_whole(line, rules, options, conn, desk, prompter);
+            let went = answer_whole(&request, rules, options, conn, desk, prompter);
             wipe_stack();
             went
         }
     }
 }
 
-/// Answers one request, of which all is read.
+/// Answers one request by all that its line says.
 // Apart from the session's loop, where a place for the request would be filled anew for each line.
 #[inline(never)]
 fn answer_whole<L: Link, D: Desk, P: Prompter>(
-    line: &Line,
+    request: &LineRequest<'_>,
     rules: &Rules,
     options: &mut Options,
     conn: &mut Conn<'_, L>,
@@ -154,12 +155,12 @@ fn answer_whole<L: Link, D: Desk, P: Prompter>(
     requires open { IsOpen conn.old }
     requires free { (D.at desk.old).out ≡ None }
     requires shut { IsShut (P.at prompter.old) }
-    ensures answers { AnswersRequest {w = prompt_world D.turned P.prompted} (λ before. LineExchange rules.now before line.now) options.old
+    ensures answers { AnswersRequest {w = prompt_world D.turned P.prompted} (λ before. Exchange rules.now before request.now) options.old
         (prompt_state D.turned P.prompted conn.old desk.old prompter.old) result options.new (prompt_state D.turned P.prompted conn.new desk.new prompter.new) }
     ensures free { (D.at desk.new).out ≡ None }
     ensures shut { IsShut (P.at prompter.new) }
 {
-    match read_request(line) {
+    match request.whole() {
         Request::Cache(command) => { run_cache(&command, rules, options, conn, desk, prompter) }
         Request::Key(_) => refuse(Code::UnknownCommand, conn),
         Request::Bad(code) => refuse(code, conn),

@@ -9,6 +9,3 @@ mod tally;
 
 pub use answer::{Answer, State};
 pub use peer::{Peer, answers_are_the_only_ones};
-
-#[cfg(test)]
-mod tests;

@@ -1,6 +1,9 @@
+pub mod Clients
 mod ErrorLines
 mod Inquiring
+pub mod NoteLines
 mod OnlyOutcome
-mod Writing
 pub mod Reading
-mod StillOpen
+pub mod Saying
+pub mod StillOpen
+mod Writing

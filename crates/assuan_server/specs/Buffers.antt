@@ -1,4 +1,4 @@
--- What a buffer keeps of the bytes that an inquiry's data lines carried so far.
+-- Private: what a buffer keeps of the bytes that an inquiry's data lines carried so far.
 use Rattle.std.specs.Prelude.{◌≡◌, ◌<◌, ◌+◌, Bool, true, false, ℕ, List, length}
 use Rattle.cache_policy.specs.declared.secret.TheConstants.{MAX_SECRET_LEN}
 use Rattle.assuan_server.specs.declared.inquiry.buffer.Overflow.{Overflow}

@@ -1,5 +1,6 @@
 pub mod Asking
 pub mod Buffers
+pub mod Clients
 pub mod Connections
 pub mod Errors
 pub mod Failures

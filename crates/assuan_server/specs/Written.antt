@@ -4,7 +4,13 @@ use Rattle.agent_ports.specs.declared.link.Sent.{Sent}
 use Rattle.agent_ports.specs.declared.link.Sent.TheVariants.{All, Failed}
 use Rattle.assuan_escape.specs.DataLines.{AreData, data_text}
 use Rattle.assuan_line.specs.Written.{HasSent}
+use Rattle.assuan_text.specs.LineEnds.{line_of}
+use Rattle.agent_ports.specs.Writing.{Writes}
+use Rattle.agent_ports.specs.declared.link.WriteFault.{WriteFault as Fault}
 use Rattle.assuan_server.specs.Connections.{Connection}
+use Rattle.assuan_server.specs.Errors.{error_text}
+use Rattle.assuan_server.specs.declared.errors.Code.{Code}
+use Rattle.assuan_server.specs.declared.errors.Origin.TheVariants.{Agent, Pinentry}
 
 abbrev pub greeting : List ℕ
 greeting = codes "OK Pleased to meet you"
@@ -17,6 +23,14 @@ status_text word text = codes "S " ++ word ++ codes " " ++ text
 
 abbrev pub comment_text : List ℕ → List ℕ
 comment_text text = codes "# " ++ text
+
+-- the line of an error, which is the agent's own
+abbrev pub failed : Code → List ℕ
+failed code = line_of (error_text code Agent)
+
+-- the line of an error that the pinentry gave
+abbrev pub failed_at_pinentry : Code → List ℕ
+failed_at_pinentry code = line_of (error_text code Pinentry)
 
 -- a call wrote these bytes to a connection, or some first ones of them, and left the rest of it alone
 pub record HasWritten (bytes : List ℕ) (before : Connection) (sent : Sent) (after : Connection) : Type 0 where
@@ -42,3 +56,10 @@ pub record WritesData (bytes : List ℕ) (before : Connection) (result : Result 
   pub are_data : AreData bytes pieces
   pub written : HasWritten (data_text pieces) before (sent_of result) after
   pub counted : IfCounts result (data_text pieces)
+
+-- a text was written to a connection, whole or in part, and nothing else was done with it
+pub record WritesText (text : List ℕ) (before : Connection) (result : Result (Unit {0}) Fault) (after : Connection) : Type 0 where
+  pub output : Writes text before.output result after.output
+  pub input : after.input ≡ before.input
+  pub reader : after.reader ≡ before.reader
+  pub link : after.link ≡ before.link

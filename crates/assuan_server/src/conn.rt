@@ -62,8 +62,7 @@ impl<'a, L: Link> Conn<'a, L> {
     }
 
     /// A connection over this link as `new` makes it where it finds no memory.
-    #[cfg(test)]
-    pub(crate) fn without_memory(link: &'a mut L, budget: u64) -> Self
+    pub fn without_memory(link: &'a mut L, budget: u64) -> Self
         ensures reader { result.reader ≡ record { ahead = []; left = budget; ended = None } }
     {
         Conn {

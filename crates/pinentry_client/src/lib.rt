@@ -6,8 +6,6 @@ mod laws;
 mod pinentry;
 mod settings;
 mod talk;
-#[cfg(test)]
-mod tests;
 
 use arrayvec::ArrayVec;
 use session_options::MAX_VALUE_LEN;

@@ -5,8 +5,6 @@ mod env;
 mod names;
 mod options;
 mod rules;
-#[cfg(test)]
-mod tests;
 mod text;
 mod values;
 

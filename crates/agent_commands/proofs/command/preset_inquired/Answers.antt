@@ -6,10 +6,10 @@ use Rattle.agent_commands.proofs.command.preset_inquired.Goals as goal
 
 pub returns-in-Ok-clause-carries : goal.returns-in-Ok-clause-carries
 returns-in-Ok-clause-carries g c = λ rules before allowed.
-    let asked = asks_secret (world g.D.Desk.turned) c.args.desk.now tt c.args.conn.now c.inquire_passphrase.new.conn (Ok c.in-Ok.secret) c.requires c.in-Ok.ensures in
+    let asked = asks_secret (world g.D.Desk.turned) c.args.desk.now tt c.args.conn.now c.inquire_passphrase.new.conn (Ok c.in-Ok.secret) c.in-Ok.ensures in
     with_data_so g.D.Desk.turned rules before allowed c.args.id.now c.args.life _ _ c.store.new.desk c.in-Ok.secret asked.0 asked.1 c.store.ensures.takes
 
 pub returns-in-Err-clause-carries : goal.returns-in-Err-clause-carries
 returns-in-Err-clause-carries g c = λ rules before allowed.
     vain_so g.D.Desk.turned rules before allowed c.args.id.now c.args.life _ c.in-Err.answer _
-    (asks_secret (world g.D.Desk.turned) c.args.desk.now tt c.args.conn.now c.inquire_passphrase.new.conn (Err c.in-Err.answer) c.requires c.in-Err.ensures)
+    (asks_secret (world g.D.Desk.turned) c.args.desk.now tt c.args.conn.now c.inquire_passphrase.new.conn (Err c.in-Err.answer) c.in-Err.ensures)

@@ -2,7 +2,7 @@ use Rattle.std.proofs.Common.{sym, ◌∙◌, ap, false, [], inl, inr}
 use Rattle.assuan_server.specs.declared.errors.Code.TheVariants.{Cancelled, NoPinentry}
 use Rattle.agent_commands.specs.Exchanges.{Exchange, confirmation, unconfirmed, refusal_of}
 use Rattle.agent_commands.specs.Outside.{prompt_world}
-use Rattle.agent_commands.specs.Prompting.{IsSpec}
+use Rattle.agent_ask.specs.Plans.{IsSpec}
 use Rattle.agent_commands.specs.States.{prompt_state}
 use Rattle.agent_commands.specs.declared.request.CacheCommand.TheVariants.{GetConfirmation}
 use Rattle.agent_commands.specs.declared.request.Request.TheVariants.{Cache}

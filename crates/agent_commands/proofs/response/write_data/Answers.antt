@@ -1,5 +1,5 @@
 use Rattle.std.proofs.Common.{refl}
-use Rattle.agent_commands.proofs.Saying.{said}
+use Rattle.assuan_server.proofs.Saying.{said}
 use Rattle.agent_commands.proofs.response.write_data.Goals as goal
 
 pub returns : goal.returns

@@ -2,7 +2,7 @@ use Rattle.std.proofs.Common.{◌≡◌, arith}
 use Rattle.std.proofs.lemmas.Result.{err_from_is_err_and}
 use Rattle.agent_commands.specs.Answers.{ok}
 use Rattle.agent_commands.proofs.Helping.{one_more, stopped}
-use Rattle.agent_commands.proofs.Saying.{said, said_nothing, said_then}
+use Rattle.assuan_server.proofs.Saying.{said, said_nothing, said_then}
 use Rattle.agent_commands.proofs.response.write_help.Goals as goal
 
 pub loop-name-init : goal.loop-name-init

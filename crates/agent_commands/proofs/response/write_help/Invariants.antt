@@ -1,5 +1,5 @@
 use Rattle.std.proofs.Common.{Ok, take}
-use Rattle.agent_commands.specs.States.{WritesText}
+use Rattle.assuan_server.specs.Written.{WritesText}
 use Rattle.agent_commands.proofs.Helping.{comments}
 use Rattle.agent_commands.proofs.response.write_help.Given as goal
 

@@ -1,6 +1,7 @@
 use Rattle.std.proofs.Common.{refl}
-use Rattle.agent_commands.specs.Answers.{ok, closing, failed, failed_at_pinentry}
-use Rattle.agent_commands.proofs.Saying.{said}
+use Rattle.agent_commands.specs.Answers.{ok, closing}
+use Rattle.assuan_server.specs.Written.{failed, failed_at_pinentry}
+use Rattle.assuan_server.proofs.Saying.{said}
 use Rattle.agent_commands.proofs.response.write_response.Goals as goal
 
 pub returns-in-Ok : goal.returns-in-Ok

@@ -1,5 +1,5 @@
 use Rattle.agent_session.specs.Serving.{whole, cut}
-use Rattle.agent_commands.proofs.Saying.{said}
+use Rattle.assuan_server.proofs.Saying.{said}
 use Rattle.agent_session.proofs.session.refuse.Goals as goal
 
 pub returns-in-Ok : goal.returns-in-Ok

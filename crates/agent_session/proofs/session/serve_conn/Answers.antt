@@ -1,6 +1,6 @@
 use Rattle.agent_commands.specs.Exchanges.{LineExchange}
 use Rattle.agent_session.proofs.Meeting.{met, met_cut}
-use Rattle.agent_commands.proofs.Saying.{said}
+use Rattle.assuan_server.proofs.Saying.{said}
 use Rattle.agent_session.proofs.session.serve_conn.Goals as goal
 
 pub returns-in-Ok-clause-serves : goal.returns-in-Ok-clause-serves

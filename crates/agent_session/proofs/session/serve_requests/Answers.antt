@@ -3,7 +3,7 @@ use Rattle.assuan_line.specs.Next.{held}
 use Rattle.agent_commands.specs.Exchanges.{LineExchange}
 use Rattle.agent_commands.specs.Outside.{prompt_world}
 use Rattle.agent_session.proofs.Serving.{serves_none, serves_on, is_over, at_end, at_spent, at_read_fault, at_too_long, cut_at_too_long}
-use Rattle.agent_commands.proofs.Saying.{said}
+use Rattle.assuan_server.proofs.Saying.{said}
 use Rattle.agent_session.proofs.session.serve_requests.Goals as goal
 
 pub loop-line-init : goal.loop-line-init

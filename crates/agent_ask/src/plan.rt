@@ -1,0 +1,48 @@
+ghost use Rattle.std.specs.Prelude.{◌≡◌};
+ghost use Rattle.agent_ask.specs.Plans.{IsSpec, plan_of};
+
+use crate::{AskPlan, PromptSpec};
+use assuan_text::Text;
+use session_options::{Options, Rules};
+
+/// What a prompt shows. Its title and its buttons are the pinentry's own.
+pub fn prompt_spec(
+    description: &Text,
+    prompt: &Text,
+    quality: bool,
+    rules: &Rules,
+    options: &Options,
+) -> PromptSpec
+    ensures { IsSpec rules.now options.now description.now prompt.now quality result }
+{
+    PromptSpec {
+        title: Text::new(),
+        description: copied(description),
+        prompt: copied(prompt),
+        ok: Text::new(),
+        cancel: Text::new(),
+        quality,
+        env: options.env(),
+        timeout: rules.pinentry_timeout,
+    }
+}
+
+/// How a passphrase is asked for.
+pub fn ask_plan(error: &Text, check: bool, repeat: u8, rules: &Rules, options: &Options) -> AskPlan
+    ensures { result ≡ plan_of rules.now options.now error.now check repeat }
+{
+    AskPlan {
+        notify: options.notify(),
+        first_error: copied(error),
+        check: check.then_some((rules.min_len, rules.min_nonalpha)),
+        repeat,
+    }
+}
+
+fn copied(text: &Text) -> Text
+    ensures { result ≡ text.now }
+{
+    let mut copy = Text::new();
+    copy.try_extend_from_slice(text).unwrap();
+    copy
+}

@@ -1,0 +1,239 @@
+-- A connection as that of a session's client: what is done with it, and what its client has said.
+use Rattle.std.proofs.Common.{◌≡◌, ◌≤◌, ℕ, List, [], ◌++◌, ◌⊎◌, inl, inr, Option, None, Some, Result, Ok, Err, refl, ap, sym, ◌∙◌, subst, arith}
+use Rattle.std.specs.Prelude.{codes, decimal}
+use Rattle.std.specs.Option.{option_map}
+use Rattle.agent_ports.specs.Counts.{Rose}
+use Rattle.agent_ports.specs.Sides.{Side, WhereKnown}
+use Rattle.agent_ports.specs.declared.link.WriteFault.{WriteFault}
+use Rattle.assuan_line.specs.Lines.{IsLine}
+use Rattle.assuan_line.specs.Next.{Reader, WereNeeded, held}
+use Rattle.assuan_line.specs.declared.reader.Took.{Took}
+use Rattle.assuan_line.proofs.ReadingOn.{fewer_so, fault_so}
+use Rattle.assuan_text.specs.Forms.{is_ignored}
+use Rattle.cache_policy.specs.declared.secret.TheConstants.{MAX_SECRET_LEN}
+use Rattle.session_client.specs.Asking.{Asked, NotAsked, LeavesInput, HasSaid, HasReceived, HasInquired, LeftBy, Inquires, TellsClient, AsksClient, without_data}
+use Rattle.session_client.specs.Lines.{TakesNeeded}
+use Rattle.session_client.specs.declared.client.TheConstants.{MAX_NOTE_LEN}
+use Rattle.session_client.specs.declared.unheard.Gone.TheVariants as gone
+use Rattle.session_client.specs.declared.unheard.Unheard.{Unheard}
+use Rattle.session_client.specs.declared.unheard.Unheard.TheVariants as unheard
+use Rattle.assuan_server.specs.Asking.{Gather, Inquire, IsNotAsked}
+use Rattle.assuan_server.specs.Clients.{HasSupply, connection_views, outcome_says, secret_said, drop_said, note_text, HearsNote, HearsWish, asked, unsaid, Wishes}
+use Rattle.assuan_server.specs.Connections.{Connection, IsOpen}
+use Rattle.assuan_server.specs.Inquiries as outcome
+use Rattle.assuan_server.specs.Inquiries.{Outcome, Inquiry as Comes, IsData, AnswersDropped, ended_of, inquire_text, is_skipped}
+use Rattle.assuan_server.specs.Reading.{Supply, ReadsRequest, ReadsInquiry, IsSupply, unread}
+use Rattle.assuan_server.specs.Requests.{NextRequest}
+use Rattle.assuan_server.specs.Written.{WritesText}
+use Rattle.assuan_server.specs.declared.inquiry.Dropped.{Dropped}
+use Rattle.assuan_server.specs.declared.inquiry.Dropped.TheVariants as dropped
+use Rattle.assuan_server.specs.declared.inquiry.InquiredSecret.{InquiredSecret}
+use Rattle.assuan_server.specs.declared.inquiry.InquiredSecret.TheVariants as inquired
+use Rattle.assuan_server.proofs.Reading.{read_known, reads_past, here_going}
+
+-- a connection that was left alone but for its output has the same bytes to come
+module _ (start now : Connection) (input : now.input ≡ start.input) (reader : now.reader ≡ start.reader) (link : now.link ≡ start.link) where
+  unread_same : option_map (unread now.reader) now.input.bytes ≡ option_map (unread start.reader) start.input.bytes
+  unread_same = rw (input, reader) refl
+
+  supply_same : (supply : Supply) → HasSupply supply start → HasSupply supply now
+  supply_same supply is = rw (input, reader) is
+
+  pub leaves : LeavesInput connection_views start now
+  leaves = record {
+    input = input;
+    unread = unread_same;
+    supply = supply_same;
+    ended = ap (λ (r : Reader). r.ended) reader;
+    held = ap held reader;
+    link = link;
+  }
+
+-- a text was written, whole or in part
+abbrev pub said_so : {text : List ℕ} {start now : Connection} {result : Result (Unit {0}) WriteFault} → WritesText text start result now → HasSaid connection_views text start result now
+said_so {start} {now} said = record { output = said.output; leaves = leaves start now said.input said.reader said.link }
+
+-- what a read took
+needed_known : (Undecided : List ℕ → Type 0) (reader : Reader) (before after : Option (List ℕ)) → reader.ended ≡ None
+    → WhereKnown before after (λ rest left. (rest ≡ left) ⊎ WereNeeded Undecided reader.ahead rest left)
+    → TakesNeeded (WereNeeded Undecided) (option_map (unread reader) before) before after
+needed_known Undecided reader None None going needed = tt
+needed_known Undecided reader None (Some left) going needed = needed
+needed_known Undecided reader (Some rest) None going needed = needed
+needed_known Undecided reader (Some rest) (Some left) going (inl same) = inl same
+needed_known Undecided reader (Some rest) (Some left) going (inr needs) = inr (reader.ahead, ap (λ (x : List ℕ). Some x) (here_going reader rest going), needs)
+
+-- the next request was read
+pub received_so : {start now : Connection} {answer : Took} → IsOpen start → NextRequest start answer now → HasReceived connection_views answer start now
+received_so {start} {now} {answer} going next = record {
+  reads = λ supply is.
+      read_known supply start.reader now.reader start.input.bytes now.input.bytes _ (λ bytes rest. ReadsRequest supply bytes answer rest)
+      next.read.known next.read.budget is
+      (λ rest left is_now known.
+      subst (λ (b : List ℕ). ReadsRequest supply b answer (unread now.reader left)) (sym (here_going start.reader rest going))
+      (known.0, reads_past (λ before line. is_ignored line) supply (start.reader.ahead ++ rest) known.0 answer now.reader left next.read.ended is_now known.1));
+  needed = needed_known _ start.reader start.input.bytes now.input.bytes going next.read.needed;
+  output_is = ap (λ (s : Side). s.bytes) next.output;
+  input_faults = next.read.faults;
+  output_faults = omega (arith, ap (λ (s : Side). s.faults) next.output);
+  link = next.link;
+}
+
+-- what is known of bytes that are known
+known_as : (before after : Option (List ℕ)) (P Q : List ℕ → List ℕ → Type 0) → ((rest left : List ℕ) → P rest left → Q rest left) → WhereKnown before after P → WhereKnown before after Q
+known_as None None P Q each known = tt
+known_as None (Some left) P Q each known = absurd known
+known_as (Some rest) None P Q each known = absurd known
+known_as (Some rest) (Some left) P Q each known = each rest left known
+
+-- the data of an inquiry whose answer doesn't name them
+some_data : (before after : Option (List ℕ)) (P : List ℕ → List ℕ → Outcome → Type 0)
+    → WhereKnown before after (λ rest left. (outcome : Outcome) × P rest left outcome × IsData outcome)
+    → (bytes : List ℕ) × WhereKnown before after (λ rest left. P rest left (outcome.Data bytes))
+some_data None None P known = ([], tt)
+some_data None (Some left) P known = absurd known
+some_data (Some rest) None P known = absurd known
+some_data (Some rest) (Some left) P (outcome.Data bytes, is, named) = (bytes, is)
+some_data (Some rest) (Some left) P (outcome.Cancelled, is, named) = absurd named
+some_data (Some rest) (Some left) P (outcome.TooMuch, is, named) = absurd named
+some_data (Some rest) (Some left) P (outcome.Unexpected, is, named) = absurd named
+some_data (Some rest) (Some left) P (outcome.Ended, is, named) = absurd named
+some_data (Some rest) (Some left) P (outcome.TooLong, is, named) = absurd named
+some_data (Some rest) (Some left) P (outcome.Spent, is, named) = absurd named
+some_data (Some rest) (Some left) P (outcome.ReadFault, is, named) = absurd named
+
+-- how a connection is left by what its client has said
+left_by : (start now : Connection) (what : Outcome) → now.reader.ended ≡ ended_of what → (what ≡ outcome.ReadFault → Rose start.input.faults now.input.faults)
+    → LeftBy connection_views (outcome_says what) start now
+left_by start now (outcome.Data bytes) ended rose = ended
+left_by start now outcome.Cancelled ended rose = ended
+left_by start now outcome.TooMuch ended rose = ended
+left_by start now outcome.Unexpected ended rose = ended
+left_by start now outcome.Ended ended rose = record { ended = ended; read_fault = λ e. absurd (cc e); write_fault = λ e. absurd (cc e) }
+left_by start now outcome.TooLong ended rose = record { ended = ended; read_fault = λ e. absurd (cc e); write_fault = λ e. absurd (cc e) }
+left_by start now outcome.Spent ended rose = record { ended = ended; read_fault = λ e. absurd (cc e); write_fault = λ e. absurd (cc e) }
+left_by start now outcome.ReadFault ended rose = record { ended = ended; read_fault = λ e. rose refl; write_fault = λ e. absurd (cc e) }
+
+left_dropped : (start now : Connection) (result : Result (List ℕ) Unheard) → LeftBy connection_views result start now → LeftBy connection_views (without_data result) start now
+left_dropped start now (Ok bytes) left = left
+left_dropped start now (Err unheard.Cancelled) left = left
+left_dropped start now (Err unheard.TooMuch) left = left
+left_dropped start now (Err unheard.Unexpected) left = left
+left_dropped start now (Err (unheard.Gone how)) left = left
+
+-- an inquiry by this word and these parameters
+module _ (word params : List ℕ) (limit : ℕ) (start now : Connection) where
+  -- its line wasn't written whole
+  pub not_inquired : {A : Type 0} (not : IsNotAsked (inquire_text word params) start now)
+      → Inquires connection_views {A = A} word params limit (NotAsked not.1.output.stopped.sent) (Err (unheard.Gone gone.WriteFault)) start now
+  not_inquired (count, part) = record {
+    done = record { leaves = leaves start now part.input part.reader part.link; stopped = part.output.stopped; sent_is = refl; faults = part.faults };
+    fewer = λ is. omega (arith, ap held part.reader);
+    left = record { ended = tt; read_fault = λ e. absurd (cc e); write_fault = λ e. part.output.stopped.rose };
+  }
+
+  -- the client answered
+  module _ (going : IsOpen start) {Reads : List ℕ → Took → Reader → List ℕ → Type 0} (what : Outcome) (answer : Took)
+      (gathered : Gather Reads (inquire_text word params) start answer now)
+      (known : WhereKnown start.input.bytes now.input.bytes (λ rest left. Comes limit (start.reader.ahead ++ rest) answer what now.reader left)) where
+    answer_read : (supply : Supply) (rest left : List ℕ) → IsSupply supply now.reader left → Comes limit (start.reader.ahead ++ rest) answer what now.reader left
+        → ReadsInquiry supply limit (start.reader.ahead ++ rest) what (unread now.reader left)
+    answer_read supply rest left is inquiry = record {
+      lines = inquiry.lines;
+      took = answer;
+      past = reads_past (λ before line. is_skipped line) supply (start.reader.ahead ++ rest) inquiry.lines answer now.reader left gathered.read.ended is inquiry.reads;
+      comes_to = inquiry.comes_to;
+    }
+
+    has_inquired : HasInquired connection_views word params limit (Asked what) start now
+    has_inquired = record {
+      reads = λ supply is.
+          read_known supply start.reader now.reader start.input.bytes now.input.bytes _ (λ bytes rest. ReadsInquiry supply limit bytes what rest)
+          known gathered.read.budget is
+          (λ rest left is_now inquiry.
+          subst (λ (b : List ℕ). ReadsInquiry supply limit b what (unread now.reader left)) (sym (here_going start.reader rest going)) (answer_read supply rest left is_now inquiry));
+      needed = needed_known _ start.reader start.input.bytes now.input.bytes going gathered.read.needed;
+      output_is = gathered.written;
+      input_faults = gathered.read.faults;
+      output_faults = gathered.output_faults;
+      link = gathered.link;
+    }
+
+  -- an outcome that the answer names
+  pub inquired_so : (going : IsOpen start) (what : Outcome) → Inquire limit (inquire_text word params) (λ outcome. what ≡ outcome) start now
+      → Inquires connection_views word params limit (Asked what) (outcome_says what) start now
+  inquired_so going what inquire =
+      let ended : now.reader.ended ≡ ended_of what = inquire.gathered.read.ended ∙ inquire.ended what refl in
+      record {
+        done =
+            has_inquired going what inquire.took inquire.gathered
+            (known_as start.input.bytes now.input.bytes _ (λ rest left. Comes limit (start.reader.ahead ++ rest) inquire.took what now.reader left)
+            (λ rest left read. subst (λ o. Comes limit (start.reader.ahead ++ rest) inquire.took o now.reader left) (sym read.2) read.1) inquire.gathered.read.known);
+        fewer = λ is. omega (arith, fewer_so inquire.gathered.read is);
+        left = left_by start now what ended (λ is. fault_so inquire.gathered.read (ended ∙ ap ended_of is));
+      }
+
+  -- bytes that the answer doesn't name
+  pub inquired_data : (going : IsOpen start) → Inquire limit (inquire_text word params) (AnswersDropped None) start now
+      → (bytes : List ℕ) × Inquires connection_views {A = Unit {0}} word params limit (Asked (outcome.Data bytes)) (Ok tt) start now
+  inquired_data going inquire =
+      let known = some_data start.input.bytes now.input.bytes (λ rest left o. Comes limit (start.reader.ahead ++ rest) inquire.took o now.reader left) inquire.gathered.read.known in (
+        known.0,
+        record {
+          done = has_inquired going (outcome.Data known.0) inquire.took inquire.gathered known.1;
+          fewer = λ is. omega (arith, fewer_so inquire.gathered.read is);
+          left = inquire.gathered.read.ended ∙ inquire.ended (outcome.Data []) tt;
+        },
+      )
+
+-- the client was told of a prompt
+module _ {pid : ℕ} {start now : Connection} (going : IsOpen start) where
+  told_as : (what : Outcome) → Inquire MAX_NOTE_LEN (note_text pid) (λ outcome. what ≡ outcome) start now
+      → TellsClient connection_views pid (without_data (outcome_says what)) start now
+  told_as what inquire =
+      let inquires = inquired_so (codes "PINENTRY_LAUNCHED") (decimal pid) MAX_NOTE_LEN start now going what inquire in
+      record {
+        inquired = Asked what;
+        result_is = refl;
+        inquires = record { done = inquires.done; fewer = inquires.fewer; left = left_dropped start now (outcome_says what) inquires.left };
+      }
+
+  pub told : (what : Dropped) → HearsNote pid start what now → TellsClient connection_views pid (drop_said what) start now
+  told dropped.Done hears =
+      let gave = inquired_data (codes "PINENTRY_LAUNCHED") (decimal pid) MAX_NOTE_LEN start now going (hears.inquiry (λ e. cc e)) in
+      record { inquired = Asked (outcome.Data gave.0); result_is = refl; inquires = gave.1 }
+  told dropped.Cancelled hears = told_as outcome.Cancelled (hears.inquiry (λ e. cc e))
+  told dropped.TooMuch hears = told_as outcome.TooMuch (hears.inquiry (λ e. cc e))
+  told dropped.Unexpected hears = told_as outcome.Unexpected (hears.inquiry (λ e. cc e))
+  told dropped.Ended hears = told_as outcome.Ended (hears.inquiry (λ e. cc e))
+  told dropped.TooLong hears = told_as outcome.TooLong (hears.inquiry (λ e. cc e))
+  told dropped.Spent hears = told_as outcome.Spent (hears.inquiry (λ e. cc e))
+  told dropped.ReadFault hears = told_as outcome.ReadFault (hears.inquiry (λ e. cc e))
+  told dropped.WriteFault hears = record {
+    inquired = _;
+    result_is = refl;
+    inquires = not_inquired (codes "PINENTRY_LAUNCHED") (decimal pid) MAX_NOTE_LEN start now (hears.cut refl);
+  }
+
+-- and it was asked for a passphrase
+module _ {word : List ℕ} {start now : Connection} (going : IsOpen start) where
+  wished_as : (what : Outcome) → Inquire MAX_SECRET_LEN (inquire_text word []) (λ outcome. what ≡ outcome) start now
+      → AsksClient connection_views word MAX_SECRET_LEN (outcome_says what) start now
+  wished_as what inquire = record { inquired = Asked what; result_is = refl; inquires = inquired_so word [] MAX_SECRET_LEN start now going what inquire }
+
+  pub wished : (what : InquiredSecret) → HearsWish word start what now → AsksClient connection_views word MAX_SECRET_LEN (secret_said what) start now
+  wished (inquired.Secret secret) hears = wished_as (outcome.Data secret) (hears.inquiry (λ e. cc e))
+  wished inquired.Cancelled hears = wished_as outcome.Cancelled (hears.inquiry (λ e. cc e))
+  wished inquired.TooMuch hears = wished_as outcome.TooMuch (hears.inquiry (λ e. cc e))
+  wished inquired.Unexpected hears = wished_as outcome.Unexpected (hears.inquiry (λ e. cc e))
+  wished inquired.Ended hears = wished_as outcome.Ended (hears.inquiry (λ e. cc e))
+  wished inquired.TooLong hears = wished_as outcome.TooLong (hears.inquiry (λ e. cc e))
+  wished inquired.Spent hears = wished_as outcome.Spent (hears.inquiry (λ e. cc e))
+  wished inquired.ReadFault hears = wished_as outcome.ReadFault (hears.inquiry (λ e. cc e))
+  wished inquired.WriteFault hears = record { inquired = _; result_is = refl; inquires = not_inquired word [] MAX_SECRET_LEN start now (hears.cut refl) }
+
+  pub wishes : (what : InquiredSecret) → HearsWish word start what now → Wishes start word (secret_said what) now
+  wishes what hears = let asks = wished what hears in record { wished = asked asks; left = asks.inquires.left }
+
+pub wishes_unsaid : {word : List ℕ} {start : Connection} → IsOpen start → ¬ IsLine (inquire_text word []) → Wishes start word (Err unheard.Unexpected) start
+wishes_unsaid going unfit = record { wished = unsaid unfit; left = going }

@@ -1,0 +1,125 @@
+-- A connection as that of a session's client: the lines that its server reads, what is seen of it, and what the client has said by an
+-- inquiry (Assuan manual, "server responses"). How a request is refused whose client gave nothing is this project's own.
+use Rattle.std.specs.Prelude.{◌≡◌, ◌≢◌, ℕ, List, [], codes, decimal, Option, Some, None, Result, Ok, Err, IfSome}
+use Rattle.std.specs.Option.{option_map}
+use Rattle.assuan_line.specs.Lines.{IsLine}
+use Rattle.assuan_line.specs.Next.{WereNeeded, held}
+use Rattle.assuan_line.specs.Skipping.{IsUndecided}
+use Rattle.assuan_line.specs.declared.reader.Took.{Took}
+use Rattle.assuan_line.specs.declared.reader.Took.TheVariants as took
+use Rattle.assuan_text.specs.Forms.{is_ignored}
+use Rattle.assuan_text.specs.LineEnds.{line_of}
+use Rattle.cache_policy.specs.declared.secret.TheConstants.{MAX_SECRET_LEN}
+use Rattle.session_client.specs.Asking.{AsksClient, LeftBy, without_data}
+use Rattle.session_client.specs.Lines.{Lines, Views}
+use Rattle.session_client.specs.declared.client.TheConstants.{MAX_NOTE_LEN}
+use Rattle.session_client.specs.declared.unheard.Gone.{Gone}
+use Rattle.session_client.specs.declared.unheard.Gone.TheVariants as gone
+use Rattle.session_client.specs.declared.unheard.Unheard.{Unheard}
+use Rattle.session_client.specs.declared.unheard.Unheard.TheVariants as unheard
+use Rattle.assuan_server.specs.Asking.{Inquire, IsNotAsked}
+use Rattle.assuan_server.specs.Connections.{Connection}
+use Rattle.assuan_server.specs.Inquiries.{Outcome, Data, Cancelled, TooMuch, Unexpected, Ended, TooLong, Spent, ReadFault, Answers, AnswersDropped, inquire_text, is_skipped, outcome_of_dropped, outcome_of_secret}
+use Rattle.assuan_server.specs.Reading.{Supply, ReadsRequest, ReadsInquiry, IsSupply, unread}
+use Rattle.assuan_server.specs.Written.{failed}
+use Rattle.assuan_server.specs.declared.errors.Code.{Code}
+use Rattle.assuan_server.specs.declared.errors.Code.TheVariants as code
+use Rattle.assuan_server.specs.declared.inquiry.Dropped.{Dropped}
+use Rattle.assuan_server.specs.declared.inquiry.Dropped.TheVariants as dropped
+use Rattle.assuan_server.specs.declared.inquiry.InquiredSecret.{InquiredSecret}
+use Rattle.assuan_server.specs.declared.inquiry.InquiredSecret.TheVariants as inquired
+
+-- what the client has said by an inquiry that came to this
+abbrev pub outcome_says : Outcome → Result (List ℕ) Unheard
+outcome_says (Data bytes) = Ok bytes
+outcome_says Cancelled = Err unheard.Cancelled
+outcome_says TooMuch = Err unheard.TooMuch
+outcome_says Unexpected = Err unheard.Unexpected
+outcome_says Ended = Err (unheard.Gone gone.Ended)
+outcome_says TooLong = Err (unheard.Gone gone.TooLong)
+outcome_says Spent = Err (unheard.Gone gone.Spent)
+outcome_says ReadFault = Err (unheard.Gone gone.ReadFault)
+
+-- where nothing was read, its line couldn't be written
+abbrev pub said_by_outcome : Option Outcome → Result (List ℕ) Unheard
+said_by_outcome (Some outcome) = outcome_says outcome
+said_by_outcome None = Err (unheard.Gone gone.WriteFault)
+
+abbrev pub secret_said : InquiredSecret → Result (List ℕ) Unheard
+secret_said what = said_by_outcome (outcome_of_secret what)
+
+abbrev pub drop_said : Dropped → Result (Unit {0}) Unheard
+drop_said dropped.Done = Ok tt
+drop_said what = without_data (said_by_outcome (outcome_of_dropped what))
+
+-- the answer that ended the reader of a client that is gone so
+abbrev pub answer_of : Gone → Option Took
+answer_of gone.Ended = Some took.End
+answer_of gone.TooLong = Some took.TooLong
+answer_of gone.Spent = Some took.Spent
+answer_of gone.ReadFault = Some took.ReadFault
+answer_of gone.WriteFault = None
+
+-- the code by which a request is refused whose client has said this: one that is gone is told no more, but that its line was too long
+abbrev pub refusal_code : Unheard → Option Code
+refusal_code unheard.Cancelled = Some code.Cancelled
+refusal_code unheard.TooMuch = Some code.TooMuch
+refusal_code unheard.Unexpected = Some code.Unexpected
+refusal_code (unheard.Gone gone.TooLong) = Some code.LineTooLong
+refusal_code (unheard.Gone how) = None
+
+-- the lines that a session's server reads
+abbrev pub session_lines : Lines
+session_lines = record {
+  Supply = Supply;
+  Took = Took;
+  reads_request = ReadsRequest;
+  needs_request = WereNeeded (IsUndecided (λ lines line. is_ignored line) []);
+  inquiry_line = λ word params. line_of (inquire_text word params);
+  Outcome = Outcome;
+  reads_answer = ReadsInquiry;
+  needs_answer = WereNeeded (IsUndecided (λ lines line. is_skipped line) []);
+  says = outcome_says;
+  ended_by = answer_of;
+  refusal = λ why. option_map failed (refusal_code why);
+}
+
+-- it began with this supply, where its bytes are known
+abbrev pub HasSupply : Supply → Connection → Type 0
+HasSupply supply conn = IfSome conn.input.bytes (λ left. IsSupply supply conn.reader left)
+
+-- what is seen of it
+abbrev pub connection_views : Views session_lines Connection
+connection_views = record {
+  input = λ conn. conn.input;
+  output = λ conn. conn.output;
+  link = λ conn. conn.link;
+  unread = λ conn. unread conn.reader;
+  has_supply = HasSupply;
+  ended = λ conn. conn.reader.ended;
+  held = λ conn. held conn.reader;
+}
+
+-- the text that tells the client of a prompt in the process of this number
+abbrev pub note_text : ℕ → List ℕ
+note_text pid = inquire_text (codes "PINENTRY_LAUNCHED") (decimal pid)
+
+-- it was told of a prompt
+pub record HearsNote (pid : ℕ) (before : Connection) (what : Dropped) (after : Connection) : Type 0 where
+  pub inquiry : what ≢ dropped.WriteFault → Inquire MAX_NOTE_LEN (note_text pid) (AnswersDropped (outcome_of_dropped what)) before after
+  pub cut : what ≡ dropped.WriteFault → IsNotAsked (note_text pid) before after
+
+-- it was asked for a passphrase
+pub record HearsWish (word : List ℕ) (before : Connection) (what : InquiredSecret) (after : Connection) : Type 0 where
+  pub inquiry : what ≢ inquired.WriteFault → Inquire MAX_SECRET_LEN (inquire_text word []) (Answers (outcome_of_secret what)) before after
+  pub cut : what ≡ inquired.WriteFault → IsNotAsked (inquire_text word []) before after
+
+-- it was asked for a passphrase by a word, or the word fits no line, and nothing is asked
+pub data Wished (before : Connection) (word : List ℕ) : Result (List ℕ) Unheard → Connection → Type 0 where
+  asked : {result : Result (List ℕ) Unheard} {after : Connection} → AsksClient connection_views word MAX_SECRET_LEN result before after → Wished before word result after
+  unsaid : ¬ IsLine (inquire_text word []) → Wished before word (Err unheard.Unexpected) before
+
+-- and how the connection is left
+pub record Wishes (before : Connection) (word : List ℕ) (result : Result (List ℕ) Unheard) (after : Connection) : Type 0 where
+  pub wished : Wished before word result after
+  pub left : LeftBy connection_views result before after
