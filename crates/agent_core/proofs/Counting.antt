@@ -120,11 +120,11 @@ stored_added limits (history ∷ next ∷ later) last mark is =
     omega (arith, a, b, c)
 
 -- the marks of a run are fewer than the numbers up to its last one
-first_base : List History → ℕ
+unfoldable pub first_base : List History → ℕ
 first_base [] = 0
 first_base (history ∷ later) = history.base
 
-numbers : (run : List History) (last : History) → IsRun run → last_history run ≡ Some last → length (joined run) + first_base run ≡ last.base + length last.marks
+pub numbers : (run : List History) (last : History) → IsRun run → last_history run ≡ Some last → length (joined run) + first_base run ≡ last.base + length last.marks
 unfolding first_base
 numbers [] last is last_is = absurd is
 numbers (history ∷ []) last is last_is =

@@ -112,7 +112,7 @@ impl Core {
     }
 
     /// How many marks the history has.
-    pub(crate) fn count(&self) -> u64
+    pub fn count(&self) -> u64
         ensures value { result ≡ self.now.count }
         ensures few { result ≤ MAX_MARKS }
     {
@@ -161,8 +161,3 @@ pub(crate) fn give_up(step: Step) {
         let _ = Seat::new().give(ticket);
     }
 }
-
-#[cfg(test)]
-mod plain_policy;
-#[cfg(test)]
-mod tests;

@@ -19,4 +19,4 @@ pub use known_core::KnownCore;
 pub use laws::turns_extend_a_known_run;
 pub use opening::Opening;
 pub use solo::Solo;
-pub use stepped::without_wait;
+pub use stepped::{mark_step_of, without_wait};

@@ -335,6 +335,3 @@ fn into_ticket(outcome: Stepped) -> Option<Ticket>
         }
     }
 }
-
-#[cfg(test)]
-mod tests;

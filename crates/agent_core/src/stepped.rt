@@ -50,7 +50,7 @@ pub fn without_wait(step: Step) -> Step
 }
 
 /// A session's step as a mark has it.
-pub(crate) fn mark_step_of(session: SessionId, step: &Step) -> MarkStep
+pub fn mark_step_of(session: SessionId, step: &Step) -> MarkStep
     ensures { result ≡ mark_step session step.now }
 {
     match step {

@@ -13,6 +13,3 @@ pub use locked::Locked;
 pub use pass::{Counts, Marks, Pass};
 pub use shared::{Blanks, Closing, Shared};
 pub use shared_desk::SharedDesk;
-
-#[cfg(test)]
-mod tests;

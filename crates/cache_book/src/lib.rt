@@ -24,6 +24,3 @@ pub use modes::Modes;
 pub use shelf::Shelf;
 pub use slot::Slot;
 pub use slot_shelf::SlotShelf;
-
-#[cfg(test)]
-mod tests;

@@ -64,10 +64,9 @@ impl SlotShelf {
     }
 }
 
-#[cfg(test)]
 impl SlotShelf {
-    /// Whether the guide leads to each slot, by ranges of at most `max`.
-    pub(crate) fn is_guided(&self, max: usize) -> bool {
+    /// Whether the guide leads to each slot, by ranges of at most `max`: how long a search is at most. An answer doesn't depend on it.
+    pub fn is_guided(&self, max: usize) -> bool {
         let slots = self.slots.as_slice();
         for slot in slots {
             let hash = slot.hash();

@@ -40,6 +40,3 @@ pub use step::{Refused, Reply, Step};
 pub use tally::{Tally, a_tally_goes_on};
 pub use trace::{Trace, TraceStep};
 pub use wait::{Wait, since_by};
-
-#[cfg(test)]
-mod tests;

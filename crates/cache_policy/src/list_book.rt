@@ -140,6 +140,3 @@ fn grant_of(stored: &[Entry], moment: u64, id: &CacheId, mode: Mode) -> Option<G
     let entry = newest(stored, id, mode)?;
     Grant::of(id.copy(), mode, entry.copy(), entry.entered, moment)
 }
-
-#[cfg(test)]
-mod tests;

@@ -1,6 +1,0 @@
-use Rattle.std.specs.List.{AllByRecursion}
-use Rattle.agent_core.specs.Foreigners.{IsForeign}
-use Rattle.agent_core.proofs.solo.tests.add.Given as goal
-
-abbrev pub invariant-loop : goal.invariant-loop
-invariant-loop l = AllByRecursion (IsForeign (record { pass = 0; count = 0 })) l.list.items

@@ -1,6 +1,0 @@
-use Rattle.std.specs.Prelude.{map}
-use Rattle.agent_core.specs.Foreigners.{AllForeign}
-use Rattle.agent_core.proofs.solo.tests.script_of.Given as goal
-
-abbrev pub invariant-loop-told : goal.invariant-loop-told
-invariant-loop-told l = AllForeign (record { pass = 0; count = 0 }) (map (λ list. list.items) l.script.items)

@@ -1,5 +1,0 @@
-use Rattle.std.specs.Prelude.{◌≡◌, None}
-use Rattle.agent_lock.proofs.tests.mixed.Given as goal
-
-abbrev pub invariant-loop-number : goal.invariant-loop-number
-invariant-loop-number g l = l.desk.out ≡ None

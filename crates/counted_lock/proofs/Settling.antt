@@ -1,0 +1,190 @@
+-- What a step of the core adds to the run.
+use Rattle.std.proofs.Common.{◌≡◌, ◌≤◌, ◌<◌, ◌%◌, ◌≢◌, ◌==◌, ℕ, ◌+◌, true, false, List, [], ◌∷◌, ◌++◌, length, Option, Some, None, sym, refl, ap, ◌∙◌, subst, arith, if◌then◌else◌}
+use Rattle.std.proofs.lemmas.Bool.Decides.{nat_tests}
+use Rattle.std.proofs.lemmas.List.{append-nil}
+use Rattle.agent_ports.specs.declared.session.SessionId.{SessionId}
+use Rattle.cache_policy.specs.declared.bounds.TheConstants.{MAX_MARKS, MAX_MOMENT}
+use Rattle.cache_policy.specs.declared.history.Held.{Held}
+use Rattle.cache_policy.specs.declared.life.Limits.{Limits}
+use Rattle.cache_policy.specs.declared.mark.Mark.{Mark}
+use Rattle.cache_policy.specs.declared.mark.MarkStep.{MarkStep}
+use Rattle.cache_policy.specs.declared.tally.Tally.{Tally}
+use Rattle.cache_policy.specs.declared.wait.Wait.{Wait}
+use Rattle.cache_policy.specs.Histories.{History}
+use Rattle.cache_policy.specs.Runs.{last_base, turn_over, next_history, is_spent, run_with_mark, joined, moment_before}
+use Rattle.cache_policy.specs.Seat.{seat}
+use Rattle.cache_policy.specs.Turns.{Turn, Stand, Refused, Stopping}
+use Rattle.agent_core.specs.Cores.{AtCore, mark_of, IsStep, marked, stood, refused, spent}
+use Rattle.agent_core.specs.Known.{TakesStep}
+use Rattle.agent_core.specs.Known as known
+use Rattle.agent_core.specs.Recording.{KeepsRun, reply_of}
+use Rattle.agent_core.specs.Stepped.{IsSettled}
+use Rattle.agent_core.specs.Tallies.{one, stores, counted, Tallied, CanCount}
+use Rattle.agent_core.proofs.Counting.{can_count, tally_counted, tally_stays}
+use Rattle.agent_core.proofs.Knowing.{legal_last, spent_run, going, is_marked, made, keeps_same, keeps_refused, took_refused, took_stood, seat_next}
+use Rattle.agent_core.proofs.Seating.{going_on}
+use Rattle.counted_lock.specs.declared.board.Claim.{Claim}
+use Rattle.counted_lock.specs.declared.board.Stage.TheVariants.{Working}
+use Rattle.counted_lock.specs.declared.trial.Trial.{Trial}
+use Rattle.counted_lock.specs.Logs.{run_of_log, IsLegalLog}
+use Rattle.counted_lock.specs.Rule.{doing}
+use Rattle.counted_lock.specs.Plays.{Hand, number, Works, Counts}
+use Rattle.counted_lock.specs.Claims.{Sat, own}
+use Rattle.counted_lock.specs.Settling.{tally_with, moment_on, Stepped, Settles}
+use Rattle.counted_lock.specs.Standing.{Stands}
+use Rattle.counted_lock.proofs.LogLemmas.{joined_log, with_one, keeps_legal}
+
+-- a history that isn't spent stays below the last base
+below_next : (history : History) → history.base < last_base → history.base % MAX_MARKS ≡ 0 → is_spent (next_history history) ≡ false → (next_history history).base < last_base
+below_next history below whole more =
+    elim (length history.marks == MAX_MARKS) as (λ b. is_spent (if b then turn_over history else history) ≡ false → (if b then turn_over history else history).base < last_base) [
+      | true ↦ λ e. let other : history.base + MAX_MARKS ≢ last_base = grind (arith, nat_tests) in omega (arith, other, below, whole)
+      | false ↦ λ e. below
+    ] more
+
+-- a step leaves the run with these marks, and this tally
+pub record Adds (limits : Limits) (log : List Mark) (asked : MarkStep) (turn : Turn) (trial : Trial) (core : AtCore) (marks : List Mark) (tally : Tally) : Type 0 where
+  pub takes : TakesStep limits (run_of_log log) trial.session (moment_on log trial) asked turn (run_of_log (log ++ marks))
+  pub stands : Stands (record { core = core; tally = tally }) (log ++ marks)
+
+module _ (limits : Limits) (log : List Mark) (asked : MarkStep) (turn : Turn) (trial : Trial) (core : AtCore) (s : Stepped limits log asked turn trial core) where
+  -- no mark is made where the agent is spent
+  spent_never : is_spent (next_history s.keeps.last) ≡ false → s.before.base + s.before.count ≡ last_base → ⊥
+  spent_never more all =
+      going_on s.before.limits (run_of_log log) s.keeps.last s.keeps.legal s.keeps.last_is
+      (below_next s.keeps.last s.keeps.below (legal_last s.before (run_of_log log) s.keeps).base more) (spent_run s.before (run_of_log log) s.keeps all)
+
+  pub tally_fits : CanCount trial.tally
+  tally_fits =
+      let legal = legal_last s.before (run_of_log log) s.keeps in
+      can_count s.before.limits (run_of_log log) s.keeps.last trial.tally s.keeps.legal s.keeps.last_is s.keeps.below legal.few s.tally_is
+
+  later : moment_before (joined (run_of_log log)) ≤ moment_on log trial
+  later = let same = ap moment_before (joined_log log) in omega (arith, same)
+
+  within : moment_on log trial ≤ MAX_MOMENT
+  within =
+      let last : s.before.moment ≡ moment_before log = s.keeps.moment ∙ ap moment_before (joined_log log) in
+      let small = s.keeps.stands.moment in
+      omega (arith, last, small)
+
+  -- the step, by the lifetimes that the lock has
+  takes_at : (after : List History) → TakesStep s.before.limits (run_of_log log) trial.session (moment_on log trial) asked turn after
+      → TakesStep limits (run_of_log log) trial.session (moment_on log trial) asked turn after
+  takes_at after takes = subst (λ (l : Limits). TakesStep l (run_of_log log) trial.session (moment_on log trial) asked turn after) s.before_is takes
+
+  adds_none : TakesStep s.before.limits (run_of_log log) trial.session (moment_on log trial) asked turn (run_of_log log) → KeepsRun core (run_of_log log)
+      → Adds limits log asked turn trial core [] trial.tally
+  adds_none takes keeps =
+      let same : log ≡ log ++ [] = sym (append-nil log) in record {
+        takes = subst (λ (l : List Mark). TakesStep limits (run_of_log log) trial.session (moment_on log trial) asked turn (run_of_log l)) same (takes_at (run_of_log log) takes);
+        stands = subst (λ (l : List Mark). Stands (record { core = core; tally = trial.tally }) l) same (record {
+          keeps = keeps;
+          tally_is = tally_stays s.before.limits core.limits (run_of_log log) (run_of_log log) trial.tally (s.limits_is ∙ sym s.before_is) refl s.tally_is;
+        });
+      }
+
+  -- a step that made its mark
+  own_mark : Mark
+  own_mark = mark_of trial.session asked (reply_of turn) core.moment
+
+  tally_is_with : counted trial.tally own_mark trial.stores ≡ tally_with trial (reply_of turn)
+  unfolding own_mark
+  tally_is_with = λ i. record (tally_with trial (reply_of turn)) {
+    cleared = trial.tally.cleared + one (sym s.trial_is.clears_is i);
+    flushed = trial.tally.flushed + one (sym s.trial_is.flushes_is i);
+  }
+
+  stores_is : trial.stores ≡ stores s.before.limits (seat (next_history s.keeps.last)) asked
+  stores_is =
+      s.trial_is.stores_is
+      ∙ ap (λ (h : Option Held). stores s.before.limits h asked) (s.keeps.stands.seat_is ∙ sym (seat_next s.keeps.last))
+
+  pub adds_made : IsSettled turn → (turn ≡ Refused → ⊥) → (s.before.base + s.before.count ≡ last_base → ⊥)
+      → Adds limits log asked turn trial core (mark_of trial.session asked (reply_of turn) core.moment ∷ []) (tally_with trial (reply_of turn))
+  unfolding own_mark
+  adds_made settled taken some =
+      let run : List History = run_of_log log in
+      let more = going s.before run s.keeps some in
+      let is = is_marked s.before core s.keeps.last trial.session (moment_on log trial) asked turn settled taken more s.step in
+      let all = made s.before core run s.keeps trial.session asked turn (moment_on log trial) more (s.limits_is ∙ sym s.before_is) later within is own_mark refl in
+      let now : run_with_mark run own_mark ≡ run_of_log (log ++ own_mark ∷ []) = sym (with_one log own_mark) in
+      let tallied = tally_counted s.before.limits run s.keeps.last own_mark trial.tally trial.stores s.keeps.legal.turns_over s.keeps.last_is s.tally_is stores_is in
+      record {
+        takes = takes_at (run_of_log (log ++ own_mark ∷ []))
+            (subst (λ (r : List History). TakesStep s.before.limits run trial.session (moment_on log trial) asked turn r) now all.takes);
+        stands = record {
+          keeps = subst (KeepsRun core) now all.keeps;
+          tally_is = subst (λ (r : List History). Tallied core.limits r (tally_with trial (reply_of turn))) now
+              (subst (λ (t : Tally). Tallied core.limits (run_with_mark run own_mark) t) tally_is_with
+              (tally_stays s.before.limits core.limits (run_with_mark run own_mark) (run_with_mark run own_mark) (counted trial.tally own_mark trial.stores)
+              (s.limits_is ∙ sym s.before_is) refl tallied));
+        };
+      }
+
+  -- so the run with the mark is legal
+  pub legal_made : (tally : Tally) (marks : List Mark) → Adds limits log asked turn trial core marks tally → IsLegalLog limits (log ++ marks)
+  legal_made tally marks adds = subst (λ (l : Limits). IsLegalLog l (log ++ marks)) s.limits_is (keeps_legal core (log ++ marks) adds.stands.keeps)
+
+-- a step that found no memory
+kept_refused : (before after : AtCore) (run : List History) (last : History) (session : SessionId) (moment : ℕ) (asked : MarkStep) → KeepsRun before run
+    → IsStep before last session moment asked Refused after → KeepsRun after run
+kept_refused before after run last session moment asked keeps (marked more is) = absurd is.shows
+kept_refused before after run last session moment asked keeps (refused more why same) = keeps_refused before after run keeps same
+
+pub adds_refused : (limits : Limits) (log : List Mark) (asked : MarkStep) (trial : Trial) (core : AtCore) (s : Stepped limits log asked Refused trial core)
+    → Adds limits log asked Refused trial core [] trial.tally
+adds_refused limits log asked trial core s =
+    adds_none limits log asked Refused trial core s (took_refused s.before core (run_of_log log) s.keeps trial.session (moment_on log trial) asked s.step)
+    (kept_refused s.before core (run_of_log log) s.keeps.last trial.session (moment_on log trial) asked s.keeps s.step)
+
+-- one that has to stand
+not_spent : (limits : Limits) (log : List Mark) (asked : MarkStep) (wait : Wait) (trial : Trial) (core : AtCore) (s : Stepped limits log asked (Stand wait) trial core)
+    → IsStep s.before s.keeps.last trial.session (moment_on log trial) asked (Stand wait) core → is_spent (next_history s.keeps.last) ≡ false
+not_spent limits log asked wait trial core s (marked more is) = more
+not_spent limits log asked wait trial core s (stood more rules wait_is same) = more
+
+pub adds_stood : (limits : Limits) (log : List Mark) (asked : MarkStep) (wait : Wait) (trial : Trial) (core : AtCore) (s : Stepped limits log asked (Stand wait) trial core)
+    → Adds limits log asked (Stand wait) trial core [] trial.tally
+adds_stood limits log asked wait trial core s =
+    let some = spent_never limits log asked (Stand wait) trial core s (not_spent limits log asked wait trial core s s.step) in
+    let took = took_stood s.before core (run_of_log log) s.keeps trial.session (moment_on log trial) asked wait some s.step in
+    adds_none limits log asked (Stand wait) trial core s took.takes (keeps_same s.before core (run_of_log log) s.keeps took.same)
+
+-- and one that comes to a spent agent
+spent_step : (limits : Limits) (log : List Mark) (asked : MarkStep) (turn : Turn) (trial : Trial) (core : AtCore) (s : Stepped limits log asked turn trial core)
+    → s.before.base + s.before.count ≡ last_base → IsStep s.before s.keeps.last trial.session (moment_on log trial) asked turn core
+    → Adds limits log asked turn trial core [] trial.tally
+spent_step limits log asked turn trial core s all (marked more is) = absurd (spent_never limits log asked turn trial core s more all)
+spent_step limits log asked _ trial core s all (stood {wait = wait} more rules wait_is same) = absurd (spent_never limits log asked (Stand wait) trial core s more all)
+spent_step limits log asked _ trial core s all (refused more why same) = absurd (spent_never limits log asked Refused trial core s more all)
+spent_step limits log asked _ trial core s all (spent is same) =
+    adds_none limits log asked Stopping trial core s (known.spent (spent_run s.before (run_of_log log) s.keeps all) refl)
+    (keeps_same s.before core (run_of_log log) s.keeps same)
+
+pub adds_spent : (limits : Limits) (log : List Mark) (asked : MarkStep) (turn : Turn) (trial : Trial) (core : AtCore) (s : Stepped limits log asked turn trial core)
+    → trial.spent ≡ true → Adds limits log asked turn trial core [] trial.tally
+adds_spent limits log asked turn trial core s on = spent_step limits log asked turn trial core s (s.trial_is.spent_is.0 on) s.step
+
+-- what the seat knows then
+pub settles_none : (asked : MarkStep) (turn : Turn) (trial : Trial) (core : AtCore) (m : Sat) → Works m ((0, None) ∷ []) → Adds (own m).limits (own m).seen asked turn trial core [] trial.tally
+    → Settles trial asked turn core None m m
+settles_none asked turn trial core m works adds = record {
+  marks = [];
+  many = refl;
+  takes = adds.takes;
+  seen = λ i. record (own m) { seen = sym (append-nil (own m).seen) i };
+  works = works;
+  stands = subst (Stands (record { core = core; tally = trial.tally })) (append-nil (own m).seen) adds.stands;
+}
+
+pub settles_made : (asked : MarkStep) (turn : Turn) (trial : Trial) (core : AtCore) (mark : Mark) (tally : Tally) (m m' : Sat) → Adds (own m).limits (own m).seen asked turn trial core (mark ∷ []) tally
+    → Counts mark m m' → Works m ((0, None) ∷ []) → Settles trial asked turn core (Some tally) m m'
+settles_made asked turn trial core mark tally m m' adds counts works = record {
+  marks = mark ∷ [];
+  many = refl;
+  takes = adds.takes;
+  seen = counts.seen;
+  works = counts.works ∙ ap (λ (l : Hand). (doing (Working (number m')) (own m' ∷ []), l)) (ap (λ (z : Sat). z.1) works);
+  stands = subst (Stands (record { core = core; tally = tally })) (sym (ap (λ (z : Claim). z.seen) counts.seen)) adds.stands;
+}

@@ -1,0 +1,14 @@
+use Rattle.std.specs.Prelude.{◌≡◌, ◌≤◌, ◌-◌, [], vec_len, vec_capacity}
+use Rattle.counted_lock.specs.declared.board.Stage.TheVariants.{Idle}
+use Rattle.counted_lock.specs.Rule.{doing, blank_claims}
+use Rattle.counted_lock.specs.Passes.{AreNewPasses}
+use Rattle.counted_lock.proofs.counted.Counted.new.Given as goal
+
+abbrev pub invariant-loop-number : goal.invariant-loop-number
+invariant-loop-number l = record {
+  own : l.seat.table_id ≡ l.table.shared.table_id;
+  seat : l.seat.me ≡ (doing Idle (blank_claims l.fn.limits l.number (l.passes - l.number)), []);
+  new : AreNewPasses record { table = l.table.shared.table_id; limits = l.fn.limits; passes = l.passes } 0 l.all.items;
+  count : vec_len l.all ≡ l.number;
+  room : l.passes ≤ vec_capacity l.all;
+}

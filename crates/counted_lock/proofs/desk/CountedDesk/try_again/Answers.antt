@@ -1,0 +1,5 @@
+use Rattle.counted_lock.proofs.Desks.{later_try}
+use Rattle.counted_lock.proofs.desk.CountedDesk.try_again.Goals as goal
+
+pub returns-in_default-clause-tries : goal.returns-in_default-clause-tries
+returns-in_default-clause-tries g c = later_try _ _ _ _ _ _ _ c.step.ensures c.requires c.attempt.ensures.tries

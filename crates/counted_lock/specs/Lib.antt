@@ -1,0 +1,11 @@
+pub mod Claims
+pub mod Logs
+pub mod Standing
+pub mod Rule
+pub mod Plays
+pub mod Settling
+pub mod Taking
+pub mod Passes
+pub mod Keeping
+pub mod Turns
+pub mod Trying

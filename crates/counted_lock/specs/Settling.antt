@@ -1,0 +1,64 @@
+-- Private: what a step of the core adds to the run.
+use Rattle.std.specs.Prelude.{◌≡◌, ◌↔◌, ℕ, ◌+◌, IsTrue, List, ◌∷◌, [], ◌++◌, length, Option, None, unwrap_or}
+use Rattle.std.specs.Option.{is_some}
+use Rattle.cache_policy.specs.declared.life.Limits.{Limits}
+use Rattle.cache_policy.specs.declared.mark.Mark.{Mark}
+use Rattle.cache_policy.specs.declared.mark.MarkReply.{MarkReply}
+use Rattle.cache_policy.specs.declared.mark.MarkStep.{MarkStep}
+use Rattle.cache_policy.specs.declared.tally.Tally.{Tally}
+use Rattle.cache_policy.specs.Runs.{last_base, moment_before, moment_of}
+use Rattle.cache_policy.specs.Seat.{is_open}
+use Rattle.cache_policy.specs.Tallies.{is_given, is_empty, is_clear, is_flush}
+use Rattle.cache_policy.specs.Turns.{Turn}
+use Rattle.agent_core.specs.Cores.{AtCore, IsStep}
+use Rattle.agent_core.specs.Known.{TakesStep}
+use Rattle.agent_core.specs.Recording.{KeepsRun}
+use Rattle.agent_core.specs.Tallies.{one, stores, Tallied}
+use Rattle.counted_lock.specs.declared.trial.Trial.{Trial}
+use Rattle.counted_lock.specs.Logs.{run_of_log}
+use Rattle.counted_lock.specs.Plays.{saw, Works}
+use Rattle.counted_lock.specs.Claims.{Sat, own}
+use Rattle.counted_lock.specs.Standing.{Stands}
+
+-- what was noted of a step before the core took it is so
+pub record IsTrial (before : AtCore) (asked : MarkStep) (trial : Trial) : Type 0 where
+  pub spent_is : IsTrue trial.spent ↔ (before.base + before.count ≡ last_base)
+  pub stores_is : trial.stores ≡ stores before.limits before.held asked
+  pub clears_is : trial.clears ≡ is_clear asked
+  pub flushes_is : trial.flushes ≡ is_flush asked
+
+-- the tally with the mark of the step that was tried, with this reply
+abbrev pub tally_with : Trial → MarkReply → Tally
+tally_with trial reply = record {
+  marks = trial.tally.marks + 1;
+  given = trial.tally.given + one (is_given reply);
+  empty = trial.tally.empty + one (is_empty reply);
+  opened = trial.tally.opened + one (is_open reply);
+  stored = trial.tally.stored + one trial.stores;
+  cleared = trial.tally.cleared + one trial.clears;
+  flushed = trial.tally.flushed + one trial.flushes;
+  stopped = trial.tally.stopped;
+}
+
+-- the moment of a step that is tried on the run with these marks
+abbrev pub moment_on : List Mark → Trial → ℕ
+moment_on log trial = moment_of (moment_before log) trial.reading
+
+-- the core took a step on the run with these marks
+pub record Stepped (limits : Limits) (log : List Mark) (asked : MarkStep) (turn : Turn) (trial : Trial) (core : AtCore) : Type 0 where
+  pub before : AtCore
+  pub keeps : KeepsRun before (run_of_log log)
+  pub tally_is : Tallied before.limits (run_of_log log) trial.tally
+  pub step : IsStep before keeps.last trial.session (moment_on log trial) asked turn core
+  pub before_is : before.limits ≡ limits
+  pub limits_is : core.limits ≡ limits
+  pub trial_is : IsTrial before asked trial
+
+-- The seat that works has added these marks, for which the core stands: one where there is another tally then, and else none.
+pub record Settles (trial : Trial) (asked : MarkStep) (turn : Turn) (core : AtCore) (made : Option Tally) (m m' : Sat) : Type 0 where
+  pub marks : List Mark
+  pub many : length marks ≡ one (is_some made)
+  pub takes : TakesStep (own m).limits (run_of_log (own m).seen) trial.session (moment_on (own m).seen trial) asked turn (run_of_log ((own m).seen ++ marks))
+  pub seen : own m' ≡ saw (own m) marks
+  pub works : Works m' ((0, None) ∷ [])
+  pub stands : Stands (record { core = core; tally = unwrap_or made trial.tally }) (own m').seen

@@ -1,0 +1,56 @@
+-- What one turn at the counted lock does. This is the project's own.
+use Rattle.std.specs.Prelude.{◌≡◌, ◌≤◌, ℕ, List, [], ◌∷◌, ◌++◌, length, Option, Some}
+use Rattle.std.specs.List.{AllByRecursion}
+use Rattle.agent_ports.specs.Counts.{Rose}
+use Rattle.agent_ports.specs.Readings.{Readings, HasGiven}
+use Rattle.agent_ports.specs.declared.session.SessionId.{SessionId}
+use Rattle.cache_policy.specs.declared.mark.Mark.{Mark}
+use Rattle.cache_policy.specs.declared.mark.MarkStep.{MarkStep}
+use Rattle.cache_policy.specs.Desks.{AtDesk, MakesMarks, IsTurn}
+use Rattle.cache_policy.specs.Runs.{last_base, moment_before, moment_of}
+use Rattle.cache_policy.specs.Turns.{Turn, Stopping, Refused, MayWantMemory}
+use Rattle.agent_core.specs.Solos.{NoneTriedBefore}
+use Rattle.counted_lock.specs.Logs.{run_of_log}
+use Rattle.counted_lock.specs.Logs.{marks_by}
+use Rattle.counted_lock.specs.Passes.{AtPass, mine}
+
+-- a desk at the counted lock: its pass, the session, the ticket that this has, and its clock
+pub record AtCountedDesk (C : Type 0) : Type 0 where
+  pub pass : AtPass
+  pub session : SessionId
+  pub out : Option ℕ
+  pub clock : C
+
+-- what it shows as a desk: the run that its pass has seen
+abbrev pub at_counted : AtPass → SessionId → Option ℕ → AtDesk
+at_counted pass session out = record { limits = pass.limits; session = session; run = Some (run_of_log pass.seen); out = out }
+
+-- A turn: the pass sees the marks of others behind those that it had seen, and then the turn's own.
+pub record TurnsPass (session : SessionId) (first last : Readings) (asked : MarkStep) (before : AtPass) (turn : Turn) (after : AtPass) : Type 0 where
+  pub others : List Mark
+  pub foreign : marks_by before.number others ≡ []
+  -- the run that the step found
+  pub found : List Mark
+  pub found_is : found ≡ before.seen ++ others
+  pub own : List Mark
+  pub now : after ≡ record before { seen = found ++ own }
+  pub mine_is : mine after ≡ mine before ++ own
+  -- The own mark has the session, the asked step and the turn's answer, and its since isn't below the moment of the last mark that was seen
+  -- before. There is none only where the step is refused, or is replied Stopping by a spent agent.
+  pub makes : MakesMarks before.limits session (moment_before before.seen) asked (run_of_log after.seen) turn own
+  pub spent : own ≡ [] → turn ≡ Stopping → length after.seen ≡ last_base
+  -- a step finds no memory only where it may want some
+  pub memory : turn ≡ Refused → MayWantMemory asked
+  -- Each try takes one reading. The last of them makes the moment of the own mark, and its since isn't below the first.
+  pub first_reading : ℕ
+  pub later_readings : List ℕ
+  pub given : HasGiven first (first_reading ∷ later_readings) last
+  pub rose : Rose first.count last.count
+  pub never_falls : first.count ≤ last.count
+  pub moment : AllByRecursion (λ mark. mark.moment ≡ moment_of (moment_before found) last.last) own
+  pub since : NoneTriedBefore first_reading own
+
+-- the same at the desk, which keeps its session
+pub record CountedTurn {C : Type 0} (readings : C → Readings) (before : AtCountedDesk C) (asked : MarkStep) (turn : Turn) (after : AtCountedDesk C) : Type 0 where
+  pub turns : TurnsPass before.session (readings before.clock) (readings after.clock) asked before.pass turn after.pass
+  pub is : IsTurn (at_counted before.pass before.session before.out) asked turn (at_counted after.pass after.session after.out)

@@ -1,0 +1,45 @@
+ghost use Rattle.std.specs.Prelude.{◌≡◌, [], ◌∷◌, None};
+ghost use Rattle.cache_policy.specs.Turns.{mark_step, turn_of};
+ghost use Rattle.counted_lock.specs.Plays.{Works, IsSeatOf};
+ghost use Rattle.counted_lock.specs.Claims.{own};
+ghost use Rattle.counted_lock.specs.Settling.{Stepped, Settles};
+
+use crate::board::{Board, Place};
+use crate::steps::count;
+use crate::trial::Trial;
+use agent_core::Core;
+use cache_policy::{Refused, Reply, Step, Tally};
+use std::marker::Brand;
+use std::snapshot::Snapshot;
+
+/// Adds the mark of a step that was answered to the run, exactly where it made one, and then gives the tally with it.
+pub(crate) fn settle(
+    board: &Board,
+    seat: &mut Place,
+    core: &Core,
+    trial: &Trial,
+    asked: &Snapshot<Step>,
+    answer: &Result<Reply, Refused>,
+) -> Option<Tally>
+    requires own { IsSeatOf board.now.shared.table_id seat.old.table_id }
+    requires works { Works seat.old.me ((0, None) ∷ []) }
+    requires by { trial.now.session.pass ≡ (own seat.old.me).number }
+    requires step { Stepped (own seat.old.me).limits (own seat.old.me).seen (mark_step trial.now.session asked.now.value) (turn_of answer.now) trial.now core.now }
+    ensures own { seat.new.table_id ≡ seat.old.table_id }
+    ensures settles { Settles trial.now (mark_step trial.now.session asked.now.value) (turn_of answer.now) core.now result seat.old.me seat.new.me }
+{
+    match answer {
+        Err(_) => None,
+        Ok(reply) => match reply {
+            Reply::Stand(_) => None,
+            _ => {
+                if trial.spent {
+                    return None;
+                }
+                let tally = trial.counted(reply);
+                count::<Brand>(board, seat, trial.session, asked, reply, core.moment());
+                Some(tally)
+            }
+        },
+    }
+}
