@@ -48,6 +48,3 @@ pub use mem_listener::{ListListener, ListedLinks, MemEar};
 pub use mem_trust::MemTrust;
 pub use session::SessionId;
 pub use trust::{TrustDone, TrustFile, TrustRead};
-
-#[cfg(test)]
-mod tests;

@@ -4,8 +4,6 @@
 mod data_lines;
 mod escaping;
 mod hexadecimal;
-#[cfg(test)]
-mod tests;
 mod unescaping;
 
 pub use data_lines::{data_lines_are_the_only_ones, data_of, full_line};

@@ -3,9 +3,6 @@ ghost use Rattle.assuan_line.specs.Next.{ended_by};
 ghost use Rattle.assuan_line.specs.Reading.{HasRead};
 ghost use Rattle.assuan_line.specs.Skipping.{IsUndecided, ReadsOn};
 
-#[cfg(test)]
-mod tests;
-
 use crate::{Line, LineReader, Took};
 use agent_ports::Source;
 

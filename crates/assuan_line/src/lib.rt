@@ -16,6 +16,3 @@ pub use line::Line;
 pub use reader::{BUDGET, LineReader, Took, lines_come_in_order};
 pub use text::write_text;
 pub use writer::write_line;
-
-#[cfg(test)]
-mod tests;

@@ -7,8 +7,6 @@ mod forms;
 mod numbers;
 mod options;
 mod rows;
-#[cfg(test)]
-mod tests;
 mod words;
 
 use arrayvec::ArrayVec;

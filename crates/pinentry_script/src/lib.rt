@@ -10,6 +10,3 @@ mod session;
 pub use end::ScriptEnd;
 pub use entries::MAX_ENTRY_LEN;
 pub use run::{BAD_SCRIPT, run_script};
-
-#[cfg(test)]
-mod tests;

@@ -1,22 +1,19 @@
-ghost use Rattle.std.specs.Prelude.{◌≡◌, ◌≤◌, ◌<◌, ◌↔◌, ◌⊎◌, true, length, take, IfSome, IfNone, None, refl};
-ghost use Rattle.std.specs.Io.KnownBytes.{Keeps, Appends, Consumes, IsAtEnd};
-ghost use Rattle.agent_ports.specs.Counts.{Rose};
-ghost use Rattle.agent_ports.specs.Sides.{taken_by, IfBytes, sent_part, IfCut, IsCut};
+ghost use Rattle.std.specs.Prelude.{◌≡◌, None, refl};
 
+use crate::standing::Standing;
 use agent_ports::{Got, Link, Sent, Sink, Source};
-use std::io::{ErrorKind, Read, Write};
+use std::io::{Read, Write};
 
 /// A reader and a writer as a link. It doesn't show what they hold.
 #[derive(Drop)]
 pub struct StdLink<R, W> {
     reader: R,
     writer: W,
-    ended: bool,
-    read_faults: u64,
-    write_faults: u64,
+    standing: Standing,
 }
 
 impl<R: Read, W: Write> StdLink<R, W> {
+    /// A link over these, of which no call has failed.
     pub fn new(reader: R, writer: W) -> Self
         ensures input { ⟦<StdLink<R, W> as Source>⟧.input result ≡ record { bytes = None; faults = 0 } }
         ensures output { ⟦<StdLink<R, W> as Sink>⟧.output result ≡ record { bytes = None; faults = 0 } }
@@ -24,9 +21,7 @@ impl<R: Read, W: Write> StdLink<R, W> {
         StdLink {
             reader,
             writer,
-            ended: false,
-            read_faults: 0,
-            write_faults: 0,
+            standing: Standing::new(),
         }
     }
 
@@ -35,71 +30,27 @@ impl<R: Read, W: Write> StdLink<R, W> {
         ensures reads { result.0 ≡ (⟦<StdLink<R, W> as Source>⟧.input self.now).faults }
         ensures writes { result.1 ≡ (⟦<StdLink<R, W> as Sink>⟧.output self.now).faults }
     {
-        (self.read_faults, self.write_faults)
-    }
-
-    /// Reads, as `read` does: what the reader gave is what this gives. Behind the end the reader isn't asked again.
-    #[tactic(auto, using(crate::proofs::KnownBytes::consumes_nothing, crate::proofs::KnownBytes::keeps_and_consumes_nothing))]
-    fn read_once(&mut self, buf: &mut [u8]) -> Got
-        requires { 0 < length buf.old }
-        ensures count { IfBytes result (λ n. (1 ≤ n) × (n ≤ length buf.old)) }
-        ensures taken { Consumes (R.remaining self.old.reader) (R.remaining self.new.reader) (take (taken_by result) buf.new) }
-        ensures end { result ≡ Got.End → (self.old.ended ≡ true) ⊎ IsAtEnd (R.remaining self.new.reader) }
-        ensures ended { (result ≡ Got.End) ↔ (self.new.ended ≡ true) }
-        ensures ever_after { self.old.ended ≡ true → self.new ≡ self.old }
-        ensures failed { result ≡ Got.Failed → Rose self.old.read_faults self.new.read_faults }
-        ensures faults { self.old.read_faults ≤ self.new.read_faults }
-        ensures beside { (self.new.writer ≡ self.old.writer) × (self.new.write_faults ≡ self.old.write_faults) }
-    {
-        if self.ended {
-            return Got::End;
-        }
-        match read_some(&mut self.reader, buf) {
-            Some(0) => {
-                self.ended = true;
-                Got::End
-            }
-            Some(count) => Got::Bytes(count),
-            None => {
-                self.read_faults = self.read_faults.saturating_add(1);
-                Got::Failed
-            }
-        }
-    }
-
-    /// Writes, as `put` does: what the writer was given is what this says.
-    fn put_once(&mut self, bytes: &[u8]) -> Sent
-        ensures cut { IfCut result (λ sent. sent ≤ length bytes.now) }
-        ensures written { Appends (W.contents self.old.writer) (W.contents self.new.writer) (sent_part bytes.now result) }
-        ensures failed { IsCut result → Rose self.old.write_faults self.new.write_faults }
-        ensures faults { self.old.write_faults ≤ self.new.write_faults }
-        ensures beside { (self.new.reader ≡ self.old.reader) × (self.new.read_faults ≡ self.old.read_faults) × (self.new.ended ≡ self.old.ended) }
-    {
-        let sent = write_and_flush(&mut self.writer, bytes);
-        if sent != Sent::All {
-            self.write_faults = self.write_faults.saturating_add(1);
-        }
-        sent
+        (self.standing.read_faults, self.standing.write_faults)
     }
 }
 
 impl<R: Read, W: Write> Source for StdLink<R, W> {
-    ghost input = { λ l. record { bytes = None; faults = l.read_faults } };
+    ghost input = { λ l. record { bytes = None; faults = l.standing.read_faults } };
 
-    ghost beside_input = { λ l. record { bytes = None; faults = l.write_faults } };
+    ghost beside_input = { λ l. record { bytes = None; faults = l.standing.write_faults } };
 
     fn read(&mut self, buf: &mut [u8]) -> Got {
-        self.read_once(buf)
+        self.standing.read(&mut self.reader, buf)
     }
 }
 
 impl<R: Read, W: Write> Sink for StdLink<R, W> {
-    ghost output = { λ l. record { bytes = None; faults = l.write_faults } };
+    ghost output = { λ l. record { bytes = None; faults = l.standing.write_faults } };
 
-    ghost beside_output = { λ l. record { bytes = None; faults = l.read_faults } };
+    ghost beside_output = { λ l. record { bytes = None; faults = l.standing.read_faults } };
 
     fn put(&mut self, bytes: &[u8]) -> Sent {
-        self.put_once(bytes)
+        self.standing.put(&mut self.writer, bytes)
     }
 }
 
@@ -109,61 +60,12 @@ impl<R: Read, W: Write> Link for StdLink<R, W> {
     ghost input_beside = { λ _. refl };
 }
 
-/// Reads once, and again where a signal came in between. `None`: the read failed.
-fn read_some<R: Read>(reader: &mut R, buf: &mut [u8]) -> Option<usize>
-    ensures within { IfSome result (λ count. count ≤ length buf.new) }
-    // What it took from the reader is what it gives, and nothing only at the end.
-    ensures read { IfSome result (λ count. Consumes (R.remaining reader.old) (R.remaining reader.new) (take count buf.new)
-        × (count ≡ 0 → 0 < length buf.new → IsAtEnd (R.remaining reader.new))) }
-    ensures failed { IfNone result (Keeps (R.remaining reader.old) (R.remaining reader.new)) }
-{
-    for _ in 0..u64::MAX {
-        match reader.read(buf) {
-            Ok(count) => return Some(count),
-            Err(error) if error.kind() == ErrorKind::Interrupted => {}
-            Err(_) => break,
-        }
-    }
-    None
-}
-
-/// Writes the bytes, and flushes the writer where it took them all.
-fn write_and_flush<W: Write>(writer: &mut W, bytes: &[u8]) -> Sent
-    ensures cut { IfCut result (λ sent. sent ≤ length bytes.now) }
-    ensures written { Appends (W.contents writer.old) (W.contents writer.new) (sent_part bytes.now result) }
-{
-    let sent = write_some(writer, bytes);
-    if sent == bytes.len() && writer.flush().is_ok() {
-        return Sent::All;
-    }
-    Sent::Failed { sent }
-}
-
-/// Writes as many of the bytes as the writer takes, and says how many that were.
-fn write_some<W: Write>(writer: &mut W, bytes: &[u8]) -> usize
-    ensures within { result ≤ length bytes.now }
-    ensures written { Appends (W.contents writer.old) (W.contents writer.new) (take result bytes.now) }
-{
-    let mut sent = 0;
-    for _ in 0..u64::MAX {
-        if sent == bytes.len() {
-            break;
-        }
-        match writer.write(&bytes[sent..]) {
-            Ok(0) => break,
-            Ok(count) => sent += count,
-            Err(error) if error.kind() == ErrorKind::Interrupted => {}
-            Err(_) => break,
-        }
-    }
-    sent
-}
-
 #[cfg(test)]
 mod tests {
     use super::*;
     use std::alloc::{AllocError, Global};
     use std::io;
+    use std::io::ErrorKind;
     use std::test::Fail;
 
     /// Takes one byte a call, and counts its flushes.

@@ -1,0 +1,76 @@
+use std::io::ErrorKind;
+use std::os::unix::net::{UnixListener, UnixStream};
+use std::rt::Clock;
+use std::sync::atomic::{AtomicBool, Ordering};
+use std::time::Duration;
+use std::{io, thread};
+
+/// How many milliseconds a worker waits before it tries again, where descriptors or memory are wanting: until others have given some back.
+const PAUSE_MILLIS: u64 = 50;
+
+/// What came of waiting for a client.
+#[derive(Drop)]
+pub(crate) enum Accepted {
+    Client(UnixStream),
+    /// No client is taken any more.
+    Stopped,
+    /// The listener is broken for good.
+    Failed,
+}
+
+/// What a failed call of accept means (accept(2) in POSIX and in Linux's manual).
+#[derive(Clone, Copy, Debug, PartialEq, Eq)]
+pub(crate) enum AcceptFault {
+    /// It is that client's alone, which is gone again, or a signal came.
+    OfOneClient,
+    /// Descriptors or memory are wanting, or anything else that can pass.
+    Passing,
+    /// The descriptor doesn't listen, now and ever after.
+    Lasting,
+}
+
+impl AcceptFault {
+    pub(crate) fn of(fault: &io::Error) -> AcceptFault {
+        match fault.kind() {
+            ErrorKind::ConnectionAborted | ErrorKind::Interrupted => AcceptFault::OfOneClient,
+            _ => match fault.raw_os_error() {
+                Some(EBADF | EFAULT | EINVAL | ENOTSOCK | EOPNOTSUPP) => AcceptFault::Lasting,
+                _ => AcceptFault::Passing,
+            },
+        }
+    }
+}
+
+// Linux's numbers of the errors that say that the descriptor isn't one that listens.
+const EBADF: i32 = 9;
+
+const EFAULT: i32 = 14;
+
+const EINVAL: i32 = 22;
+
+const ENOTSOCK: i32 = 88;
+
+const EOPNOTSUPP: i32 = 95;
+
+/// Waits for the next client, and tries again after a fault that passes. A client that was queued when the listener was stopped isn't taken.
+pub(crate) fn accept_next(
+    clock: &impl Clock,
+    listener: &UnixListener,
+    stopped: &AtomicBool,
+) -> Accepted {
+    for _ in 0..u64::MAX {
+        let accepted = listener.accept();
+        if stopped.load(Ordering::SeqCst) {
+            return Accepted::Stopped;
+        }
+        match accepted {
+            Ok((client, _)) => return Accepted::Client(client),
+            Err(fault) => match AcceptFault::of(&fault) {
+                AcceptFault::OfOneClient => {}
+                AcceptFault::Passing => thread::sleep(clock, Duration::from_millis(PAUSE_MILLIS)),
+                AcceptFault::Lasting => return Accepted::Failed,
+            },
+        }
+    }
+    Accepted::Failed
+}

@@ -1,0 +1,109 @@
+ghost use Rattle.std.specs.Prelude.{◌≡◌};
+ghost use Rattle.agent_ports.specs.Listening.{NothingFailed};
+
+use crate::accepting::{Accepted, accept_next};
+use crate::path::{Bound, FileId, bind_at, socket_path};
+use agent_ports::{Ear, Link, Listener, Next, Sink, Source};
+use std::alloc::Global;
+use std::fs::Files;
+use std::net::{Net, Shutdown};
+use std::os::unix::net::UnixStream;
+use std::rt::Clock;
+use std::sync::atomic::{AtomicBool, Ordering};
+use std::{fs, io};
+use std_link::StreamLink;
+
+/// One client. Where it is gone while it is written to, the write fails; no signal is raised.
+pub type SocketLink = StreamLink<UnixStream>;
+
+/// How often one worker found the listener broken.
+#[derive(Drop)]
+pub struct SocketEar {
+    faults: u64,
+}
+
+impl SocketEar {
+    pub fn faults(&self) -> u64
+        ensures { result ≡ ⟦<SocketEar as Ear>⟧.faults self.now }
+    {
+        self.faults
+    }
+}
+
+impl Ear for SocketEar {
+    ghost faults = { λ ear. ear.faults };
+
+    fn failed(&self) -> bool {
+        self.faults > 0
+    }
+}
+
+/// Listens at a Unix socket, which is removed when this is dropped. Several workers share it.
+///
+/// Each descriptor is closed in programs that the process starts, so no such program holds a client or the socket.
+pub struct SocketListener<'a, R: Files> {
+    rt: &'a R,
+    bound: Bound,
+    path: String,
+    stopped: AtomicBool,
+}
+
+impl<'a, R: Files + Net> SocketListener<'a, R> {
+    /// Listens at the socket of this folder, which is made for its owner alone where it isn't there. Whatever had the socket's name is
+    /// removed. It fails where the path is too long for a socket (108 bytes on Linux), and then nothing was made or removed.
+    pub fn bind(rt: &'a R, alloc: Global, folder: &str) -> io::Result<Self> {
+        let path = socket_path(alloc, folder)?;
+        Ok(SocketListener {
+            rt,
+            bound: bind_at(rt, alloc, folder, &path)?,
+            path,
+            stopped: AtomicBool::new(false),
+        })
+    }
+}
+
+impl<R: Files> Drop for SocketListener<'_, R> {
+    /// Removes the socket, but not one of that name that another process has made meanwhile.
+    fn drop(self) {
+        if FileId::of(self.rt, &self.path).is_ok_and(|file| file == self.bound.file) {
+            let _ = fs::remove_file(self.rt, &self.path);
+        }
+        let Self {
+            rt: _,
+            bound: _,
+            path: _,
+            stopped: _,
+        } = self;
+    }
+}
+
+impl<R: Files + Clock> Listener for SocketListener<'_, R> {
+    type Link = SocketLink;
+
+    type Ear = SocketEar;
+
+    fn ear(&self) -> SocketEar {
+        SocketEar { faults: 0 }
+    }
+
+    fn next(&self, ear: &mut SocketEar) -> Next<SocketLink> {
+        match accept_next(self.rt, &self.bound.listener, &self.stopped) {
+            Accepted::Client(client) => Next::Link(StreamLink::new(client)),
+            Accepted::Stopped => Next::Stopped,
+            Accepted::Failed => {
+                ear.faults = ear.faults.saturating_add(1);
+                Next::Failed
+            }
+        }
+    }
+
+    fn done(&self, link: SocketLink) {
+        drop(link);
+    }
+
+    /// Workers that wait are woken, for good. What a client sent that was queued isn't read.
+    fn stop(&self) {
+        self.stopped.store(true, Ordering::SeqCst);
+        let _ = self.bound.waker.shutdown(Shutdown::Both);
+    }
+}

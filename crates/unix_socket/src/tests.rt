@@ -1,0 +1,141 @@
+use crate::accepting::AcceptFault;
+use crate::{SocketEar, SocketListener};
+use agent_ports::{Ear, Got, Listener, Next, Sent, Sink, Source};
+use std::fs::DirBuilder;
+use std::io::{ErrorKind, Read, Write};
+use std::os::unix::fs::{DirBuilderExt, MetadataExt};
+use std::os::unix::net::UnixStream;
+use std::test::Fail;
+use std::{env, fs, io, process, thread};
+
+/// A path that is this test's own, below the folder for what is temporary.
+fn own_path(rt: &HostRuntime, name: &str) -> Result<String, Fail> {
+    let temporary = env::temp_dir(rt)?;
+    let number = process::id(rt.process());
+    let Some(temporary) = temporary.as_path().to_str() else {
+        return Err(Fail::new("no text"));
+    };
+    Ok(format!(in rt.alloc(); "{temporary}/{name}{number}")?)
+}
+
+#[test]
+fn a_client_gets_its_answers_over_the_owners_socket(rt: HostRuntime) -> Result<(), Fail> {
+    let folder = own_path(&rt, "us_one")?;
+    let socket = format!(in rt.alloc(); "{folder}/S.gpg-agent")?;
+    let listener = SocketListener::bind(&rt, rt.alloc(), &folder)?;
+    let modes = (
+        fs::metadata(&rt, &folder)?.mode() & 0o777,
+        fs::symlink_metadata(&rt, &socket)?.mode() & 0o777,
+    );
+    assert_eq!(rt; modes, (0o700, 0o600));
+    let mut client = UnixStream::connect(&rt, &socket)?;
+    client.write_all(b"NOP\n")?;
+    let mut ear = listener.ear();
+    let Next::Link(mut link) = listener.next(&mut ear) else {
+        return Err(Fail::new("no link"));
+    };
+    let mut buf = [0u8; 8];
+    assert_eq!(rt; link.read(&mut buf), Got::Bytes(4));
+    assert_eq!(rt; link.put(b"OK\n"), Sent::All);
+    let mut answer = [0u8; 3];
+    client.read_exact(&mut answer)?;
+    assert_eq!(rt; answer, *b"OK\n");
+    // The client goes away: the session reads its end, and its writes fail without a signal.
+    drop(client);
+    assert_eq!(rt; link.read(&mut buf), Got::End);
+    assert_eq!(rt; link.put(b"OK\n"), Sent::Failed { sent: 0 });
+    listener.done(link);
+    drop(listener);
+    assert!(rt; !ear.failed());
+    // Neither the socket nor the folder in which it was made is left.
+    fs::remove_dir(&rt, &folder)?;
+    Ok(())
+}
+
+/// What comes behind the clients that were taken.
+fn last_of<L: Listener<Ear = SocketEar>>(listener: &L) -> (bool, bool) {
+    let mut ear = listener.ear();
+    let stopped = match listener.next(&mut ear) {
+        Next::Stopped => true,
+        Next::Failed => false,
+        Next::Link(link) => {
+            listener.done(link);
+            false
+        }
+    };
+    (stopped, ear.failed())
+}
+
+#[test]
+fn a_stop_wakes_all_workers_and_no_queued_client_is_taken(rt: HostRuntime) -> Result<(), Fail> {
+    let folder = own_path(&rt, "us_two")?;
+    let socket = format!(in rt.alloc(); "{folder}/S.gpg-agent")?;
+    let listener = SocketListener::bind(&rt, rt.alloc(), &folder)?;
+    let (first, (second, ())) = thread::join(
+        &rt,
+        || last_of(&listener),
+        || thread::join(&rt, || last_of(&listener), || listener.stop()),
+    );
+    assert_eq!(rt; (first, second), ((true, false), (true, false)));
+    drop(listener);
+    let listener = SocketListener::bind(&rt, rt.alloc(), &folder)?;
+    let client = UnixStream::connect(&rt, &socket)?;
+    listener.stop();
+    assert_eq!(rt; last_of(&listener), (true, false));
+    drop(client);
+    drop(listener);
+    fs::remove_dir(&rt, &folder)?;
+    Ok(())
+}
+
+#[test]
+fn a_path_too_long_makes_nothing_and_an_old_file_gives_way(rt: HostRuntime) -> Result<(), Fail> {
+    let folder = own_path(&rt, "us_three")?;
+    let socket = format!(in rt.alloc(); "{folder}/S.gpg-agent")?;
+    let long = format!(in rt.alloc(); "{folder}{}", "x".repeat(rt.alloc(), 100)?)?;
+    assert!(rt; SocketListener::bind(&rt, rt.alloc(), &long).is_err());
+    assert!(rt; !fs::exists(&rt, &long)?);
+    // A file where the folder should be is left as it is.
+    fs::write(&rt, &folder, b"old")?;
+    assert!(rt; SocketListener::bind(&rt, rt.alloc(), &folder).is_err());
+    assert_eq!(rt; fs::metadata(&rt, &folder)?.len(), 3);
+    fs::remove_file(&rt, &folder)?;
+    DirBuilder::new().mode(0o755).create(&rt, &folder)?;
+    fs::write(&rt, &socket, b"old")?;
+    let first = SocketListener::bind(&rt, rt.alloc(), &folder)?;
+    drop(UnixStream::connect(&rt, &socket)?);
+    // Another one takes its place, and keeps it where the first one ends.
+    let second = SocketListener::bind(&rt, rt.alloc(), &folder)?;
+    drop(first);
+    drop(UnixStream::connect(&rt, &socket)?);
+    drop(second);
+    fs::remove_dir(&rt, &folder)?;
+    Ok(())
+}
+
+#[test]
+fn an_accept_is_tried_again_unless_the_descriptor_is_wrong(rt: HostRuntime) {
+    // Linux's numbers: EINTR, ECONNABORTED; ENOMEM, ENFILE, EMFILE, EPROTO, ENOBUFS, EPERM; EBADF, EINVAL, ENOTSOCK, EOPNOTSUPP.
+    for (number, wanted) in [
+        (4, AcceptFault::OfOneClient),
+        (103, AcceptFault::OfOneClient),
+        (12, AcceptFault::Passing),
+        (23, AcceptFault::Passing),
+        (24, AcceptFault::Passing),
+        (71, AcceptFault::Passing),
+        (105, AcceptFault::Passing),
+        (1, AcceptFault::Passing),
+        (9, AcceptFault::Lasting),
+        (22, AcceptFault::Lasting),
+        (88, AcceptFault::Lasting),
+        (95, AcceptFault::Lasting),
+    ] {
+        assert_eq!(rt;
+            AcceptFault::of(&io::Error::from_raw_os_error(number)),
+            wanted
+        );
+    }
+    // The client's address isn't one.
+    let odd = io::Error::from(ErrorKind::InvalidInput);
+    assert_eq!(rt; AcceptFault::of(&odd), AcceptFault::Passing);
+}
