@@ -2,21 +2,20 @@ ghost use Rattle.std.specs.Prelude.{◌≡◌, Some, IsSome};
 
 use crate::clock::SystemClock;
 use crate::launcher::PipeLauncher;
-use agent_ports::{
-    Dice, Host, Keys, Launcher, ListDice, ListListener, MapKeys, MemEar, MemLink, MemTrust, NoGate,
-    Parts,
-};
+use agent_ports::{Dice, Host, Keys, Launcher, ListDice, MapKeys, MemTrust, NoGate, Parts};
 use arrayvec::ArrayVec;
 use session_options::MAX_VALUE_LEN;
 use std::alloc::Global;
+use std::fs::Files;
+use std::net::Net;
 use std::process::Processes;
-use std::rt;
-use std::sync::Wait;
+use std::{rt, str};
+use unix_socket::{SocketEar, SocketLink, SocketListener};
 
 type SystemParts<'a, R> = Parts<PipeLauncher<'a, R>, SystemClock<'a, R>, ListDice, MapKeys>;
 
-/// The machine that the program runs on. For now it has no random bytes, no key files and no trust file, and it doesn't listen: each call
-/// for a listener is a fault.
+/// The machine that the program runs on. It listens on a Unix socket in the folder that was settled. For now it has no random bytes, no
+/// key files and no trust file, and no second socket: each call for a listener for restricted sessions is a fault.
 #[derive(Drop)]
 pub struct SystemHost<'a, R> {
     rt: &'a R,
@@ -29,7 +28,7 @@ pub struct SystemHost<'a, R> {
     gate: NoGate,
 }
 
-impl<'a, R: rt::Clock + Processes + Wait> SystemHost<'a, R> {
+impl<'a, R: rt::Clock + Processes + Files + Net> SystemHost<'a, R> {
     pub fn new(rt: &'a R, alloc: Global, pid: u32) -> Self
         ensures { IsSome (⟦<SystemHost<'a, R> as Host>⟧.server result) }
     {
@@ -42,6 +41,14 @@ impl<'a, R: rt::Clock + Processes + Wait> SystemHost<'a, R> {
             listens: 0,
             gate: NoGate,
         }
+    }
+}
+
+impl<'a, R: Files + Net> SystemHost<'a, R> {
+    /// The socket of the folder that was settled.
+    fn socket(&self) -> Option<SocketListener<'a, R>> {
+        let folder = str::from_utf8(&self.homedir).ok()?;
+        SocketListener::bind(self.rt, self.alloc, folder).ok()
     }
 }
 
@@ -59,12 +66,12 @@ fn new_parts<'a, R: rt::Clock + Processes>(rt: &'a R, alloc: Global) -> SystemPa
     }
 }
 
-impl<'a, R: rt::Clock + Processes + Wait> Host for SystemHost<'a, R> {
-    type Link = MemLink;
+impl<'a, R: rt::Clock + Processes + Files + Net> Host for SystemHost<'a, R> {
+    type Link = SocketLink;
 
-    type Ear = MemEar;
+    type Ear = SocketEar;
 
-    type Listener = ListListener<'a, R>;
+    type Listener = SocketListener<'a, R>;
 
     type Launcher = PipeLauncher<'a, R>;
 
@@ -113,17 +120,20 @@ impl<'a, R: rt::Clock + Processes + Wait> Host for SystemHost<'a, R> {
         MemTrust::new(None, Vec::new(self.alloc))
     }
 
-    fn listen(&mut self) -> Option<ListListener<'a, R>> {
+    fn listen(&mut self) -> Option<SocketListener<'a, R>> {
+        let listener = self.socket();
+        if listener.is_none() {
+            self.listens = self.listens.saturating_add(1);
+        }
+        listener
+    }
+
+    fn listen_extra(&mut self) -> Option<SocketListener<'a, R>> {
         self.listens = self.listens.saturating_add(1);
         None
     }
 
-    fn listen_extra(&mut self) -> Option<ListListener<'a, R>> {
-        self.listens = self.listens.saturating_add(1);
-        None
-    }
-
-    fn ear_back(&mut self, ear: MemEar) {
+    fn ear_back(&mut self, ear: SocketEar) {
         self.listens = self.listens.saturating_add(ear.faults());
     }
 

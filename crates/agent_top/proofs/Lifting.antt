@@ -1,23 +1,24 @@
 -- A session at the desk is one at what the desk shows.
-use Rattle.std.proofs.Common.{◌≡◌, ℕ, List, [], Option, None, Some, Bool, false, ◌∷◌, inr, refl, ap, sym, ◌∙◌, subst, arith}
+use Rattle.agent_ask.specs.Further.{FurtherEvent}
+use Rattle.std.proofs.Common.{◌≡◌, ℕ, List, [], Option, None, Some, false, ◌∷◌, inr, refl, ap, ◌∙◌, subst, arith}
 use Rattle.std.specs.Prelude.{is_some}
 use Rattle.agent_core.specs.Solos.{SoloState, AtSolo, seen, at_desk, TurnsSolo, SoloTurn}
-use Rattle.agent_core.proofs.Alone.{IsAlone, Replayed, replayed}
+use Rattle.agent_core.proofs.Alone.{Replayed, replayed}
 use Rattle.agent_ask.specs.Doing.{called, out_of_memory}
-use Rattle.agent_ask.specs.Events.{PromptEvent}
 use Rattle.agent_ask.specs.Prompters.{IsShut}
 use Rattle.agent_ports.specs.Launches.{Launches}
 use Rattle.agent_ports.specs.Leads.{Leads, none, one}
 use Rattle.agent_ports.specs.Readings.{Readings}
 use Rattle.agent_ports.specs.Sides.{Side}
 use Rattle.cache_policy.specs.declared.life.Limits.{Limits}
-use Rattle.cache_policy.specs.Extending.{Taken, TakesTurn, IsExtended}
+use Rattle.cache_policy.specs.Extending.{IsExtended}
 use Rattle.cache_policy.specs.Legal.{IsLegalRun}
 use Rattle.cache_policy.specs.Replay.{first_history}
 use Rattle.cache_policy.proofs.Extending.{extends}
 use Rattle.agent_commands.specs.Events.{Event}
 use Rattle.agent_ask.specs.SessionEvents.{turns_in}
-use Rattle.agent_commands.specs.Outside.{World, session_lines, prompt_world}
+use Rattle.agent_commands.specs.Outside.{World, prompt_world, prompts}
+use Rattle.assuan_server.specs.Clients.{session_lines}
 use Rattle.agent_ask.specs.Worlds.{Outside, Does, received, sent, cut, asked, not_asked, turned, further}
 use Rattle.agent_commands.specs.declared.went.SessionEnd.{SessionEnd}
 use Rattle.agent_session.proofs.Turning.{turns_lead}
@@ -41,13 +42,13 @@ module _ {C La : Type 0} (readings : C → Readings) (launches : La → Launches
   abbrev pub with_seen : Outside (held_world readings launches) → Outside seen_world
   with_seen ends = record { input = ends.input; source = ends.source; output = ends.output; desk = seen readings ends.desk; ends = at_pinentry launches ends.ends }
 
-  pub record Lifts (before after : Outside (held_world readings launches)) (events : List (Event PromptEvent)) : Type 0 where
+  pub record Lifts (before after : Outside (held_world readings launches)) (events : List (Event FurtherEvent)) : Type 0 where
     pub leads : Leads (Does seen_world supply) (with_seen before) events (with_seen after)
     pub lent : after.desk.lent ≡ before.desk.lent
     pub launcher : after.ends.lent ≡ before.ends.lent
     pub program : after.ends.program ≡ before.ends.program
 
-  pub lifts : {before after : Outside (held_world readings launches)} {events : List (Event PromptEvent)}
+  pub lifts : {before after : Outside (held_world readings launches)} {events : List (Event FurtherEvent)}
       → Leads (Does (held_world readings launches) supply) before events after → Lifts before after events
   lifts none = record { leads = none; lent = refl; launcher = refl; program = refl }
   lifts (one (received known needed) more) = let r = lifts more in record { leads = one (received known needed) r.leads; lent = r.lent; launcher = r.launcher; program = r.program }
@@ -56,11 +57,11 @@ module _ {C La : Type 0} (readings : C → Readings) (launches : La → Launches
   lifts (one (asked known needed) more) = let r = lifts more in record { leads = one (asked known needed) r.leads; lent = r.lent; launcher = r.launcher; program = r.program }
   lifts (one (not_asked unsent split) more) = let r = lifts more in record { leads = one (not_asked unsent split) r.leads; lent = r.lent; launcher = r.launcher; program = r.program }
   lifts (one (turned does) more) = let r = lifts more in record { leads = one (turned does.turns) r.leads; lent = r.lent ∙ does.lent; launcher = r.launcher; program = r.program }
-  lifts (one (further (called does)) more) = let r = lifts more in record { leads = one (further (called does.does)) r.leads; lent = r.lent; launcher = r.launcher ∙ does.lent; program = r.program ∙ does.program }
-  lifts (one (further out_of_memory) more) = let r = lifts more in record { leads = one (further out_of_memory) r.leads; lent = r.lent; launcher = r.launcher; program = r.program }
+  lifts (one (further (prompts (called does))) more) = let r = lifts more in record { leads = one (further (prompts (called does.does))) r.leads; lent = r.lent; launcher = r.launcher ∙ does.lent; program = r.program ∙ does.program }
+  lifts (one (further (prompts out_of_memory)) more) = let r = lifts more in record { leads = one (further (prompts out_of_memory)) r.leads; lent = r.lent; launcher = r.launcher; program = r.program }
 
 -- the run goes on by the turns of the events
-extended : (supply : session_lines.Supply) (before after : Outside seen_world) (events : List (Event PromptEvent))
+extended : (supply : session_lines.Supply) (before after : Outside seen_world) (events : List (Event FurtherEvent))
     → Leads (Does seen_world supply) before events after
     → IsExtended before.desk.limits before.desk.session before.desk.run (turns_in events) after.desk.run
 extended supply before after events leads =

@@ -29,7 +29,7 @@ empty_word = refl
 abbrev field : {X : Type 0} → (Rules → X) → List (List ℕ) → Option X
 field of words = option_map of (rules_of words)
 
--- the table reads the three, and only one is built
+-- the table reads the three, and two are built
 server : option_map (λ r. r.run) (rules_from (settings (codes "--server" ∷ []))) ≡ Some Server
 unfolding form_of
 server = refl
@@ -46,13 +46,21 @@ load_too_great : rules_from (settings (codes "--load=4294967296" ∷ [])) ≡ No
 unfolding form_of
 load_too_great = refl
 
-only_server_is_built : field (λ r. r.run) (codes "--server" ∷ []) ≡ Some Server
+server_is_built : field (λ r. r.run) (codes "--server" ∷ []) ≡ Some Server
 unfolding form_of
-only_server_is_built = refl
+server_is_built = refl
 
-daemon_is_not_built : rules_of (codes "--daemon" ∷ []) ≡ None
+daemon_is_built : field (λ r. r.run) (codes "--daemon" ∷ []) ≡ Some Daemon
 unfolding form_of
-daemon_is_not_built = refl
+daemon_is_built = refl
+
+load_is_not_built : rules_of (codes "--load=1" ∷ []) ≡ None
+unfolding form_of
+load_is_not_built = refl
+
+extra_socket_is_not_built : rules_of (codes "--daemon" ∷ codes "--extra-socket" ∷ []) ≡ None
+unfolding form_of
+extra_socket_is_not_built = refl
 
 two_runs : rules_from (settings (codes "--server" ∷ codes "--daemon" ∷ [])) ≡ None
 unfolding form_of

@@ -1,4 +1,5 @@
 pub mod Cache
+pub mod Daemon
 pub mod Forms
 pub mod Settings
 pub mod Top

@@ -45,8 +45,8 @@ pub data Spells : List Setting → List (List ℕ) → Type 0 where
   apart : {name value : List ℕ} {given : List Setting} {words : List (List ℕ)} → holds_equals name ≡ false
       → begins_with_dash value ≡ false → Spells given words → Spells ((name, Some value) ∷ given) (name ∷ value ∷ words)
 
-abbrev pub is_given : List ℕ → List Setting → Bool
-is_given name given = is_some (found name given)
+abbrev pub is_set : List ℕ → List Setting → Bool
+is_set name given = is_some (found name given)
 
 -- the value that a name is given
 abbrev pub value_given : List ℕ → List Setting → Option (List ℕ)
@@ -55,7 +55,7 @@ value_given name given = option_and_then (λ value. value) (found name given)
 -- no name is given twice
 abbrev pub are_distinct : List Setting → Bool
 are_distinct [] = true
-are_distinct (setting ∷ others) = not (is_given setting.0 others) && are_distinct others
+are_distinct (setting ∷ others) = not (is_set setting.0 others) && are_distinct others
 
 -- a setting as the program holds it
 abbrev pub value_of : Named → Option (List ℕ)

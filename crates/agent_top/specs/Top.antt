@@ -1,5 +1,5 @@
 -- What a run of the agent leaves, and its status. The statuses are this project's own.
-use Rattle.std.specs.Prelude.{◌≡◌, ℕ, List, [], ◌∷◌, Option, None, Some}
+use Rattle.std.specs.Prelude.{◌≡◌, ℕ, List, [], ◌∷◌, Option, None, Some, ⊤}
 use Rattle.std.specs.List.{AllByRecursion}
 use Rattle.agent_core.specs.Solos.{AtSolo, TurnsSolo}
 use Rattle.agent_ports.specs.Readings.{Readings, HasGiven}
@@ -14,6 +14,8 @@ use Rattle.cache_policy.specs.Legal.{IsLegalRun}
 use Rattle.cache_policy.specs.Replay.{first_history, Replays, Marked}
 use Rattle.cache_policy.specs.Turns.{since_of}
 use Rattle.session_options.specs.declared.rules.Rules.{Rules}
+use Rattle.session_options.specs.declared.rules.RunMode.{RunMode}
+use Rattle.session_options.specs.declared.rules.RunMode.TheVariants.{Server, Daemon, Load}
 use Rattle.agent_ask.specs.SessionEvents.{turns_in}
 use Rattle.agent_commands.specs.Outside.{prompt_world}
 use Rattle.agent_commands.specs.declared.went.SessionEnd.{SessionEnd}
@@ -32,6 +34,7 @@ exit_number status.NoMemory = 1
 exit_number status.BadWords = 2
 exit_number status.ReadFault = 3
 exit_number status.WriteFault = 4
+exit_number status.ListenFault = 5
 exit_number status.Spent = 6
 exit_number status.TooLong = 7
 
@@ -105,3 +108,15 @@ pub record UsesParts {La C R K : Type 0} (GoesOn : La → C → La → C → Typ
   pub has_is : after ≡ Some has
   pub goes_on : GoesOn had.launcher had.clock has.launcher has.clock
   pub others : has ≡ record had { launcher = has.launcher; clock = has.clock }
+
+-- what is said where a session on standard input and output is asked for
+abbrev pub IfServer : RunMode → Type 0 → Type 0
+IfServer Server P = P
+IfServer Daemon P = ⊤
+IfServer (Load number) P = ⊤
+
+-- what is said where a daemon is asked for
+abbrev pub IfDaemon : RunMode → Type 0 → Type 0
+IfDaemon Server P = ⊤
+IfDaemon Daemon P = P
+IfDaemon (Load number) P = ⊤

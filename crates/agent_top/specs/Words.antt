@@ -8,7 +8,7 @@ use Rattle.session_options.specs.Defaults.{default_rules}
 use Rattle.session_options.specs.declared.rules.Rules.{Rules}
 use Rattle.session_options.specs.declared.rules.RunMode.{RunMode}
 use Rattle.session_options.specs.declared.rules.RunMode.TheVariants.{Server, Daemon, Load}
-use Rattle.agent_top.specs.Settings.{Setting, settings, is_given, are_distinct}
+use Rattle.agent_top.specs.Settings.{Setting, settings, is_set, are_distinct}
 use Rattle.agent_top.specs.Forms.{fits, number_or, path_or}
 use Rattle.agent_top.specs.Within.{count-within, workers-within}
 
@@ -21,7 +21,7 @@ one_run _ _ _ number = None
 
 abbrev pub run_of : List Setting → Option RunMode
 run_of given =
-    one_run (is_given (codes "--server") given) (is_given (codes "--daemon") given) (is_given (codes "--load") given)
+    one_run (is_set (codes "--server") given) (is_set (codes "--daemon") given) (is_set (codes "--load") given)
     (number_or 0 (codes "--load") given)
 
 abbrev path_word : List ℕ → ArrayVec ℕ
@@ -39,9 +39,9 @@ rules_with given run = record {
   pid = default_rules.pid;
   min_len = number_or default_rules.min_len (codes "--min-passphrase-len") given;
   min_nonalpha = number_or default_rules.min_nonalpha (codes "--min-passphrase-nonalpha") given;
-  allow_preset = is_given (codes "--allow-preset-passphrase") given;
-  allow_loopback = not (is_given (codes "--no-allow-loopback-pinentry") given);
-  extra = is_given (codes "--extra-socket") given;
+  allow_preset = is_set (codes "--allow-preset-passphrase") given;
+  allow_loopback = not (is_set (codes "--no-allow-loopback-pinentry") given);
+  extra = is_set (codes "--extra-socket") given;
   s2k_count = number_or default_rules.s2k_count (codes "--s2k-count") given;
   pinentry = path_word (path_or default_rules.pinentry.items (codes "--pinentry-program") given);
   homedir = path_word (path_or default_rules.homedir.items (codes "--homedir") given);
@@ -64,10 +64,11 @@ is_daemon (Load number) = false
 abbrev pub if_extra_fits : Rules → Option Rules
 if_extra_fits rules = if rules.extra && not (is_daemon rules.run) then None else Some rules
 
--- a daemon and a load aren't built yet, and are refused so long
+-- a socket for restricted sessions and a load aren't built yet, and are refused so long
 abbrev pub if_built_for : Rules → RunMode → Option Rules
 if_built_for rules Server = Some rules
-if_built_for rules _ = None
+if_built_for rules Daemon = if rules.extra then None else Some rules
+if_built_for rules (Load number) = None
 
 abbrev pub if_built : Rules → Option Rules
 if_built rules = if_built_for rules rules.run

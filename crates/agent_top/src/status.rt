@@ -5,7 +5,7 @@ use agent_commands::SessionEnd;
 /// With what status the agent's process ends.
 #[derive(Clone, Copy, Debug, PartialEq, Eq)]
 pub enum Status {
-    /// The client said BYE or stopped the agent, or its input ended.
+    /// The client said BYE or stopped the agent, or its input ended. A daemon was stopped.
     Success,
     /// There was no memory for the words of the command line, or for a session.
     NoMemory,
@@ -15,6 +15,8 @@ pub enum Status {
     ReadFault,
     /// A write failed.
     WriteFault,
+    /// A daemon has no listener, or its listener failed.
+    ListenFault,
     /// As many bytes were taken as a session may take.
     Spent,
     /// A line was too long.
@@ -47,6 +49,7 @@ impl Status {
             Status::BadWords => 2,
             Status::ReadFault => 3,
             Status::WriteFault => 4,
+            Status::ListenFault => 5,
             Status::Spent => 6,
             Status::TooLong => 7,
         }

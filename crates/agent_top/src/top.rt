@@ -3,16 +3,19 @@ ghost use Rattle.agent_core.specs.Solos.{seen};
 ghost use Rattle.pinentry_client.specs.States.{at_pinentry};
 ghost use Rattle.agent_top.specs.Cache.{limits_of, fresh_desk};
 ghost use Rattle.agent_top.specs.Words.{rules_of};
-ghost use Rattle.agent_top.specs.Top.{exit_number, machine, with_pid, no_child, UsesParts, RunsServer};
+ghost use Rattle.agent_ports.specs.HostParts.{AreSettled};
+ghost use Rattle.agent_top.specs.Daemon.{RunsDaemon};
+ghost use Rattle.agent_top.specs.Top.{exit_number, machine, with_pid, no_child, UsesParts, RunsServer, IfServer, IfDaemon};
 
 use crate::Status;
+use crate::daemon::run_daemon;
 use crate::words::{WordsFault, read_words};
 use agent_core::{KnownCore, Solo};
 use agent_ports::{Clock, Dice, Host, Keys, Launcher, Link, SessionId};
 use agent_session::serve_session;
 use cache_policy::Limits;
 use pinentry_client::{Pinentry, Word};
-use session_options::Rules;
+use session_options::{Rules, RunMode};
 use std::alloc::Global;
 use std::rt;
 use std::sync::Wait;
@@ -21,33 +24,58 @@ use std::thread::Threads;
 /// The session that is served on standard input and output.
 const SESSION: SessionId = SessionId { pass: 0, count: 0 };
 
-/// The agent. It reads its words, which leave out the program's name, and serves a session on standard input and output.
+/// The agent. It reads its words, which leave out the program's name, and serves a session on standard input and output, or as a daemon
+/// those of a listener.
 ///
 /// Its answer is the status of the process: 0 at BYE, at KILLAGENT or at the end of the input, 1 where there is no memory for the session,
 /// 2 for words that it doesn't take, 3 and 4 where a read or a write failed, 6 after 2^40 bytes, and 7 at a line of more than 1,000 bytes.
-pub fn run_agent<W: Threads + Wait + rt::Clock + Sync, S: Link, H: Host>(
-    _rt: &W,
+/// With `--daemon` it is as `run_daemon` says.
+pub fn run_agent<W: Threads + Wait + rt::Clock + Sync, S: Link, H: Host + Sync>(
+    rt: &W,
     alloc: Global,
     words: &[String],
     stdio: &mut S,
     host: &mut H,
 ) -> u8
+where
+    H::Link: Send + Sync,
+    H::Ear: Send + Sync + Drop,
+    H::Listener: Send + Sync + Drop,
+    H::Launcher: Send + Sync + Drop,
+    <H::Launcher as Launcher>::Child: Send + Sync,
+    H::Clock: Send + Sync + Drop,
+    H::Dice: Send + Sync + Drop,
+    H::Keys: Send + Sync + Drop,
+    H::Trust: Send + Sync,
+    H::Gate: Send + Sync,
     requires { IsSome (H.server host.old) }
     // Words that it doesn't know: nothing is read or written.
     ensures refused { IfNone (rules_of (map string_bytes words.now))
         ((result ≡ exit_number Status.BadWords) × (S.input stdio.new ≡ S.input stdio.old) × (S.output stdio.new ≡ S.output stdio.old)
         × (host.new ≡ host.old)) }
-    // Other words: a session was served, or there was no memory and nothing was read or written. The host has its parts again.
-    ensures served { IfSome (rules_of (map string_bytes words.now)) (λ rules. UsesParts (λ launcher clock launcher_now clock_now.
+    // Words for standard input and output: a session was served, or there was no memory and nothing was read or written. The host has its
+    // parts again.
+    ensures served { IfSome (rules_of (map string_bytes words.now)) (λ rules. IfServer rules.run (UsesParts (λ launcher clock launcher_now clock_now.
         RunsServer (with_pid (H.process host.old) rules)
         (machine (S.input stdio.old) (S.output stdio.old) (H.Clock.readings clock) (H.Launcher.launches launcher)) result
         (machine (S.input stdio.new) (S.output stdio.new) (H.Clock.readings clock_now) (H.Launcher.launches launcher_now)))
-        (H.server host.old) (H.server host.new)) }
+        (H.server host.old) (H.server host.new))) }
+    // Words for a daemon: its sessions were served and its summary was written, unless there was no listener or no memory. Nothing is read of
+    // standard input, and the host keeps its parts.
+    ensures daemon { IfSome (rules_of (map string_bytes words.now)) (λ rules. IfDaemon rules.run (
+        RunsDaemon (record { input = H.Link.input; output = H.Link.output; parts = record { launches = H.Launcher.launches; readings = H.Clock.readings; draws = H.Dice.draws; keys = H.Keys.keys } })
+        (with_pid (H.process host.old) rules) (H.listens host.old) (S.output stdio.old) result (H.listens host.new) (S.output stdio.new)
+        × (S.input stdio.new ≡ S.input stdio.old)
+        × AreSettled (record { launches = H.Launcher.launches; readings = H.Clock.readings; draws = H.Dice.draws; keys = H.Keys.keys }) (H.server host.old) (H.server host.new))) }
     ensures process { H.process host.new ≡ H.process host.old }
 {
     match read_words(words) {
         Ok(rules) => {
             let rules = with_pid(rules, host.pid());
+            if rules.run == RunMode::Daemon {
+                host.settle(&rules.homedir);
+                return run_daemon(rt, alloc, &rules, stdio, host);
+            }
             run_server(alloc, &rules, stdio, host)
         }
         Err(WordsFault::Bad) => Status::BadWords.number(),
@@ -139,7 +167,7 @@ fn copied(word: &Word) -> Word
 }
 
 /// The lifetimes that the rules say.
-fn limits_of(rules: &Rules) -> Limits
+pub(crate) fn limits_of(rules: &Rules) -> Limits
     ensures { result ≡ limits_of rules.now }
 {
     Limits {

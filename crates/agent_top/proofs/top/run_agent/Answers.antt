@@ -1,8 +1,9 @@
 use Rattle.std.proofs.Common.{sym, ap, ◌∙◌}
 use Rattle.std.specs.Result.{result_ok}
+use Rattle.agent_top.proofs.Running.{if_server}
 use Rattle.agent_top.proofs.top.run_agent.Goals as goal
 
-pub returns-in-Ok-clause-served : goal.returns-in-Ok-clause-served
-returns-in-Ok-clause-served g c =
+pub returns-else-eq-clause-served : goal.returns-else-eq-clause-served
+returns-else-eq-clause-served g c =
     let is = sym c.read_words.ensures ∙ ap result_ok c.in-Ok.is in
-    rw is (rw (sym c.pid.ensures) (rw (sym c.with_pid-rules.ensures) c.run_server.ensures.served))
+    rw is (if_server _ (rw (c.with_pid-rules.ensures, c.pid.ensures) at c.run_server.ensures.served))

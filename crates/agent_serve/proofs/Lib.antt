@@ -1,0 +1,4 @@
+mod Counting
+mod Lifting
+mod Pairs
+mod Works

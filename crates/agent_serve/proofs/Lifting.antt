@@ -1,0 +1,185 @@
+-- A session at the desk and with the pinentry is one at what they show.
+use Rattle.std.proofs.Common.{◌≡◌, List, [], ◌++◌, Option, None, Some, ◌+◌, false, refl, ap, ◌∙◌, subst}
+use Rattle.std.specs.Prelude.{is_some}
+use Rattle.agent_ask.specs.Doing.{called, out_of_memory}
+use Rattle.agent_ask.specs.Events.{Call}
+use Rattle.agent_ask.specs.Further.{FurtherEvent}
+use Rattle.agent_ask.specs.SessionEvents.{turns_in}
+use Rattle.agent_ask.specs.Worlds.{Outside, Does, received, sent, cut, asked, not_asked, turned, further}
+use Rattle.agent_commands.specs.Events.{Event}
+use Rattle.agent_commands.specs.Outside.{World, prompt_world, prompts}
+use Rattle.assuan_server.specs.Clients.{session_lines}
+use Rattle.agent_ports.specs.HostParts.{Views, AreNew}
+use Rattle.agent_ports.specs.Launches.{Launches}
+use Rattle.agent_ports.specs.Leads.{Leads, none, one}
+use Rattle.agent_ports.specs.Readings.{Readings}
+use Rattle.cache_policy.specs.declared.mark.Mark.{Mark}
+use Rattle.counted_lock.specs.Turns.{AtCountedDesk, CountedTurn}
+use Rattle.pinentry_client.specs.Dialogues.{PinentryDoes, PinentryCall}
+use Rattle.pinentry_client.specs.States.{PinentryState, AtPinentry, at_pinentry, at_prompter, idle}
+use Rattle.agent_serve.specs.Gates.{Gated}
+use Rattle.agent_ask.specs.Prompters.{IsShut}
+use Rattle.agent_commands.specs.declared.went.SessionEnd.{SessionEnd}
+use Rattle.agent_ports.specs.declared.host.Parts.{Parts}
+use Rattle.agent_ports.specs.declared.session.SessionId.{SessionId}
+use Rattle.agent_session.specs.Sessions.{surroundings, ends_with, supply_of, ServesRules}
+use Rattle.counted_lock.specs.Passes.{AtPass}
+use Rattle.session_options.specs.declared.rules.Rules.{Rules}
+use Rattle.agent_serve.proofs.Counting.{added}
+use Rattle.agent_serve.specs.Serves.{PassTurns, LinkSides, desk_at, ServesOne}
+use Rattle.agent_serve.specs.Serves as serves
+
+-- the calls of a pinentry behind a gate
+abbrev pub GatedCall : {La : Type 0} → (La → Launches) → Gated (PinentryState La) → Call → Gated (PinentryState La) → Type 0
+GatedCall launches before call after = PinentryCall launches before.prompter call after.prompter
+
+abbrev pub held_world : {C La : Type 0} → (C → Readings) → (La → Launches) → World
+held_world readings launches = prompt_world (CountedTurn readings) (GatedCall launches)
+
+abbrev pub seen_world : World
+seen_world = prompt_world (CountedTurn (λ (clock : Readings). clock)) PinentryDoes
+
+abbrev pub seen_desk : {C : Type 0} → (C → Readings) → AtCountedDesk C → AtCountedDesk Readings
+seen_desk readings desk = record { pass = desk.pass; session = desk.session; out = desk.out; clock = readings desk.clock }
+
+module _ {C La : Type 0} (readings : C → Readings) (launches : La → Launches) (supply : session_lines.Supply) where
+  abbrev pub with_seen : Outside (held_world readings launches) → Outside seen_world
+  with_seen ends = record {
+    input = ends.input;
+    source = ends.source;
+    output = ends.output;
+    desk = seen_desk readings ends.desk;
+    ends = at_pinentry launches ends.ends.prompter;
+  }
+
+  pub record Lifts (before after : Outside (held_world readings launches)) (events : List (Event FurtherEvent)) : Type 0 where
+    pub leads : Leads (Does seen_world supply) (with_seen before) events (with_seen after)
+    pub program : after.ends.prompter.program ≡ before.ends.prompter.program
+    pub lent : after.ends.prompter.lent ≡ before.ends.prompter.lent
+    pub session : after.desk.session ≡ before.desk.session
+    pub own : List Mark
+    pub turns : PassTurns before.desk.session before.desk.pass (readings before.desk.clock) (turns_in events) own after.desk.pass (readings after.desk.clock)
+
+  pub lifts : {before after : Outside (held_world readings launches)} {events : List (Event FurtherEvent)}
+      → Leads (Does (held_world readings launches) supply) before events after → Lifts before after events
+  lifts none = record { leads = none; program = refl; lent = refl; session = refl; own = []; turns = serves.none }
+  lifts (one (received known needed) more) = let r = lifts more in record { leads = one (received known needed) r.leads; program = r.program; lent = r.lent; session = r.session; own = r.own; turns = r.turns }
+  lifts (one sent more) = let r = lifts more in record { leads = one sent r.leads; program = r.program; lent = r.lent; session = r.session; own = r.own; turns = r.turns }
+  lifts (one cut more) = let r = lifts more in record { leads = one cut r.leads; program = r.program; lent = r.lent; session = r.session; own = r.own; turns = r.turns }
+  lifts (one (asked known needed) more) = let r = lifts more in record { leads = one (asked known needed) r.leads; program = r.program; lent = r.lent; session = r.session; own = r.own; turns = r.turns }
+  lifts (one (not_asked unsent split) more) = let r = lifts more in record { leads = one (not_asked unsent split) r.leads; program = r.program; lent = r.lent; session = r.session; own = r.own; turns = r.turns }
+  lifts {before} {after} (one {mid = mid} {more = later} (turned {taken = taken} does) more) =
+      let r = lifts more in
+      let same = does.is.session in
+      record {
+        leads = one (turned (record { turns = does.turns; is = does.is })) r.leads;
+        program = r.program;
+        lent = r.lent;
+        session = r.session ∙ same;
+        own = does.turns.own ++ r.own;
+        turns = serves.turned does.turns
+            (subst (λ s. PassTurns s mid.desk.pass (readings mid.desk.clock) (turns_in later) r.own after.desk.pass (readings after.desk.clock)) same r.turns);
+      }
+  lifts (one (further (prompts (called does))) more) =
+      let r = lifts more in
+      record {
+        leads = one (further (prompts (called does.does))) r.leads;
+        program = r.program ∙ does.program;
+        lent = r.lent ∙ does.lent;
+        session = r.session;
+        own = r.own;
+        turns = r.turns;
+      }
+  lifts (one (further (prompts out_of_memory)) more) = let r = lifts more in record { leads = one (further (prompts out_of_memory)) r.leads; program = r.program; lent = r.lent; session = r.session; own = r.own; turns = r.turns }
+
+no_some : {A : Type 0} (child : Option A) → is_some child ≡ false → child ≡ None
+no_some None is = refl
+no_some (Some conn) is = absurd (cc is)
+
+-- a pinentry that is shut
+shut_so : {La : Type 0} (launches : La → Launches) (rules : Rules) (pinentry : PinentryState La) → pinentry.program ≡ rules.pinentry.items
+    → IsShut (at_prompter (at_pinentry launches pinentry)) → at_pinentry launches pinentry ≡ idle rules.pinentry.items (launches pinentry.launcher)
+shut_so launches rules pinentry program shut = rw (program, shut.idle, no_some pinentry.child shut.childless) refl
+
+-- what a session at the desk is at its pass
+module _ {C La R K : Type 0} (views : Views La C R K) (rules : Rules) (session : SessionId) (before after : LinkSides) (pass : AtPass) (parts : Parts La C R K)
+    (desk desk_now : AtCountedDesk C) (gated gated_now : Gated (PinentryState La)) (end : SessionEnd)
+    (desk_is : desk ≡ record { pass = record pass { sessions = session.count + 1 }; session = session; out = None; clock = parts.clock })
+    (unused : at_pinentry views.launches gated.prompter ≡ idle rules.pinentry.items (views.launches gated.prompter.launcher))
+    (new : AreNew views parts)
+    (own : gated.prompter.launcher ≡ parts.launcher)
+    (served : ServesRules (CountedTurn views.readings) (GatedCall views.launches) rules
+    (surroundings (CountedTurn views.readings) (GatedCall views.launches) before.input before.output desk gated) end
+    (surroundings (CountedTurn views.readings) (GatedCall views.launches) after.input after.output desk_now gated_now))
+    (free : desk_now.out ≡ None)
+    (shut : IsShut (at_prompter (at_pinentry views.launches gated_now.prompter))) where
+  abbrev first : AtPass
+  first = record pass { sessions = session.count + 1 }
+
+  lifted : Lifts views.readings views.launches (supply_of before.input.bytes)
+      (ends_with before.input.bytes (surroundings (CountedTurn views.readings) (GatedCall views.launches) before.input before.output desk gated))
+      (ends_with served.rest (surroundings (CountedTurn views.readings) (GatedCall views.launches) after.input after.output desk_now gated_now)) served.events
+  lifted = lifts views.readings views.launches (supply_of before.input.bytes) served.leads
+
+  idle_now : at_pinentry views.launches gated_now.prompter ≡ idle rules.pinentry.items (views.launches gated_now.prompter.launcher)
+  idle_now = shut_so views.launches rules gated_now.prompter (lifted.program ∙ ap (λ (p : AtPinentry). p.program) unused) shut
+
+  session_now : desk_now.session ≡ session
+  session_now = lifted.session ∙ ap (λ (d : AtCountedDesk C). d.session) desk_is
+
+  seen_now : seen_desk views.readings desk_now ≡ desk_at desk_now.pass session (views.readings desk_now.clock)
+  seen_now = rw (session_now, free) refl
+
+  abbrev leads_from : AtCountedDesk Readings → AtCountedDesk Readings → AtPinentry → AtPinentry → Type 0
+  leads_from from to asks asks_now =
+      Leads (Does seen_world (supply_of before.input.bytes))
+      (ends_with before.input.bytes (surroundings (CountedTurn (λ (c : Readings). c)) PinentryDoes before.input before.output from asks)) served.events
+      (ends_with served.rest (surroundings (CountedTurn (λ (c : Readings). c)) PinentryDoes after.input after.output to asks_now))
+
+  leads_so : leads_from (desk_at first session (views.readings parts.clock)) (desk_at desk_now.pass session (views.readings desk_now.clock))
+      (idle rules.pinentry.items (views.launches gated.prompter.launcher)) (idle rules.pinentry.items (views.launches gated_now.prompter.launcher))
+  leads_so =
+      subst (λ (d : AtCountedDesk Readings). leads_from d (desk_at desk_now.pass session (views.readings desk_now.clock)) (idle rules.pinentry.items (views.launches gated.prompter.launcher))
+      (idle rules.pinentry.items (views.launches gated_now.prompter.launcher))) (ap (seen_desk views.readings) desk_is)
+      (subst (λ (d : AtCountedDesk Readings). leads_from (seen_desk views.readings desk) d (idle rules.pinentry.items (views.launches gated.prompter.launcher))
+      (idle rules.pinentry.items (views.launches gated_now.prompter.launcher))) seen_now
+      (subst (λ (p : AtPinentry). leads_from (seen_desk views.readings desk) (seen_desk views.readings desk_now) p (idle rules.pinentry.items (views.launches gated_now.prompter.launcher))) unused
+      (subst (λ (p : AtPinentry). leads_from (seen_desk views.readings desk) (seen_desk views.readings desk_now) (at_pinentry views.launches gated.prompter) p) idle_now lifted.leads)))
+
+  leads_from_parts : leads_from (desk_at first session (views.readings parts.clock)) (desk_at desk_now.pass session (views.readings desk_now.clock))
+      (idle rules.pinentry.items (views.launches parts.launcher)) (idle rules.pinentry.items (views.launches gated_now.prompter.launcher))
+  leads_from_parts =
+      subst (λ (l : La). leads_from (desk_at first session (views.readings parts.clock)) (desk_at desk_now.pass session (views.readings desk_now.clock))
+      (idle rules.pinentry.items (views.launches l)) (idle rules.pinentry.items (views.launches gated_now.prompter.launcher))) own leads_so
+
+  turns_so : PassTurns session first (views.readings parts.clock) (turns_in served.events) lifted.own desk_now.pass (views.readings desk_now.clock)
+  turns_so =
+      subst (λ (d : AtCountedDesk C). PassTurns d.session d.pass (views.readings d.clock) (turns_in served.events) lifted.own desk_now.pass (views.readings desk_now.clock)) desk_is lifted.turns
+
+  pub served_so : ServesOne views rules session before pass end after desk_now.pass
+  served_so =
+      let does = added session first desk_now.pass _ _ (turns_in served.events) lifted.own turns_so in
+      record {
+        parts = parts;
+        new = new;
+        clock_now = views.readings desk_now.clock;
+        launches_now = views.launches gated_now.prompter.launcher;
+        served = record {
+          events = served.events;
+          session = served.session;
+          rest = served.rest;
+          leads = leads_from_parts;
+          leaves = served.leaves;
+          taken = served.taken;
+          greeted = served.greeted;
+          read_fault = served.read_fault;
+          write_fault = served.write_fault;
+          input_faults = served.input_faults;
+          output_faults = served.output_faults;
+        };
+        own = lifted.own;
+        turns = turns_so;
+        adds = record { mine_is = does.adds.mine_is; by = does.adds.by; given = does.adds.given; empty = does.adds.empty; opened = does.adds.opened };
+        more = does.more;
+        now_is = does.now;
+      }

@@ -1,0 +1,14 @@
+use Rattle.std.proofs.Common.{◌≡◌, ◌≤◌}
+use Rattle.agent_serve.specs.Working.{ServesLinks}
+use Rattle.agent_serve.proofs.workers.Working.work.Given as goal
+
+abbrev pub invariant-loop : goal.invariant-loop
+invariant-loop g l = record {
+  serves : ServesLinks (record {
+    input = g.H.Link.Source.input;
+    output = g.H.Link.Sink.output;
+    parts = record { launches = g.H.Launcher.Launcher.launches; readings = g.H.Clock.Clock.readings; draws = g.H.Dice.Dice.draws; keys = g.H.Keys.Keys.keys };
+  }) l.self.rules.now l.fn.pass l.pass;
+  own : l.pass.table ≡ l.fn.pass.table;
+  faults : g.H.Ear.Ear.faults l.fn.ear ≤ g.H.Ear.Ear.faults l.ear;
+}

@@ -1,0 +1,12 @@
+use Rattle.std.proofs.Common.{arith}
+use Rattle.agent_serve.proofs.Pairs.{paired_of}
+use Rattle.agent_serve.proofs.Works.{stay_of}
+use Rattle.agent_serve.proofs.workers.run_workers.Goals as goal
+
+pub run_each-requires-after_bounds : goal.run_each-requires-after_bounds
+run_each-requires-after_bounds g c κs within = paired_of c.args.counted.now c.args.passes.items c.args.ears.items c.requires.own
+    (omega (arith, c.requires.ears, c.args.passes.ok, c.args.ears.ok))
+
+pub returns-clause-own : goal.returns-clause-own
+returns-clause-own g c =
+    stay_of c.args.counted.now _ c.args.rules.now g.H.Ear.Ear.faults c.args.passes.items c.run_each.result.0.items c.args.ears.items c.run_each.result.1.items c.requires.own c.run_each.ensures.each

@@ -1,0 +1,4 @@
+pub mod Gates
+pub mod Pairs
+pub mod Serves
+pub mod Working

@@ -1,0 +1,107 @@
+ghost use Rattle.std.specs.Prelude.{◌≡◌, ◌<◌, ◌≤◌, ◌-◌, ◌^◌, None, is_some, false};
+ghost use Rattle.pinentry_client.specs.States.{at_pinentry};
+ghost use Rattle.agent_ports.specs.HostParts.{AreNew};
+ghost use Rattle.agent_serve.specs.Serves.{ServesOne, link_of};
+
+use crate::GatedPrompter;
+use agent_commands::SessionEnd;
+use agent_ports::{Clock, Dice, Gate, GatePoint, Host, Keys, Launcher, Link, Parts, SessionId};
+use agent_session::serve_session;
+use counted_lock::{Counted, CountedDesk, CountedPass};
+use pinentry_client::{Pinentry, Word};
+use session_options::Rules;
+use std::alloc::Global;
+use std::sync::Wait;
+use std::time;
+
+/// Serves one session on a link, with parts of its own from the host, and gives the pass back. It may wait for the turns of other sessions.
+pub fn serve_one<W: Wait + time::Clock, H: Host>(
+    rt: &W,
+    alloc: Global,
+    rules: &Rules,
+    host: &H,
+    counted: &Counted,
+    pass: CountedPass,
+    session: SessionId,
+    link: &mut H::Link,
+) -> (CountedPass, SessionEnd)
+where
+    H::Launcher: Drop,
+    H::Clock: Drop,
+    H::Dice: Drop,
+    H::Keys: Drop,
+    requires own { pass.table ≡ counted.now.table }
+    requires by { session.pass ≡ pass.number }
+    requires later { pass.sessions ≤ session.count }
+    requires numbered { session.count < 2 ^ 64 - 1 }
+    ensures { ServesOne (record { launches = H.Launcher.launches; readings = H.Clock.readings; draws = H.Dice.draws; keys = H.Keys.keys })
+        rules.now session (link_of (H.Link.input link.old) (H.Link.output link.old)) pass result.1
+        (link_of (H.Link.input link.new) (H.Link.output link.new)) result.0 }
+{
+    let gate = host.gate();
+    gate.at(GatePoint::Began, session);
+    let parts = host.session_parts();
+    let served = serve_with(rt, alloc, rules, gate, parts, counted, pass, session, link);
+    gate.at(GatePoint::Ended, session);
+    served
+}
+
+/// Serves the session with these parts, which nothing was done with.
+fn serve_with<
+    W: Wait + time::Clock,
+    G: Gate,
+    L: Link,
+    La: Launcher + Drop,
+    C: Clock + Drop,
+    R: Dice + Drop,
+    K: Keys + Drop,
+>(
+    rt: &W,
+    alloc: Global,
+    rules: &Rules,
+    gate: &G,
+    parts: Parts<La, C, R, K>,
+    counted: &Counted,
+    pass: CountedPass,
+    session: SessionId,
+    link: &mut L,
+) -> (CountedPass, SessionEnd)
+    requires own { pass.table ≡ counted.now.table }
+    requires by { session.pass ≡ pass.number }
+    requires later { pass.sessions ≤ session.count }
+    requires numbered { session.count < 2 ^ 64 - 1 }
+    requires new { AreNew (record { launches = La.launches; readings = C.readings; draws = R.draws; keys = K.keys }) parts }
+    ensures { ServesOne (record { launches = La.launches; readings = C.readings; draws = R.draws; keys = K.keys })
+        rules.now session (link_of (L.input link.old) (L.output link.old)) pass result.1
+        (link_of (L.input link.new) (L.output link.new)) result.0 }
+{
+    let Parts {
+        mut launcher,
+        clock,
+        mut dice,
+        mut keys,
+    } = parts;
+    let pinentry = Pinentry::new(alloc, &mut launcher, copied(&rules.pinentry));
+    let mut prompter = GatedPrompter::new(pinentry, gate, session);
+    let mut desk = CountedDesk::new(rt, counted, pass, session, clock);
+    let end = serve_session(
+        alloc,
+        rules,
+        link,
+        &mut desk,
+        &mut prompter,
+        &mut keys,
+        &mut dice,
+    );
+    // No child is left.
+    prompter.into_prompter().into_launcher();
+    (desk.into_pass(), end)
+}
+
+fn copied(word: &Word) -> Word
+    ensures { result.items ≡ word.now.items }
+{
+    let mut copy = Word::new();
+    copy.try_extend_from_slice(word).unwrap();
+    copy
+}

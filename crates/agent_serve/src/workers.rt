@@ -1,0 +1,151 @@
+ghost use Rattle.std.specs.Prelude.{◌≡◌, ◌<◌, ◌≤◌, ◌-◌, ◌^◌, vec_len};
+ghost use Rattle.agent_ports.specs.Listening.{NothingFailed};
+ghost use Rattle.counted_lock.specs.Passes.{AreOf};
+ghost use Rattle.agent_serve.specs.Pairs.{PairedTo};
+ghost use Rattle.agent_serve.specs.Working.{ServesLinks, ServesNext};
+
+use crate::each::{Task, run_each};
+use crate::serving::serve_one;
+use agent_commands::SessionEnd;
+use agent_ports::{Ear, Host, Launcher, Listener, Next, SessionId};
+use counted_lock::{Counted, CountedPass};
+use session_options::Rules;
+use std::alloc::Global;
+use std::sync::Wait;
+use std::thread::Threads;
+use std::time;
+
+/// What all workers share.
+#[derive(Drop)]
+struct Working<'a, W: Wait + time::Clock, H: Host> {
+    rt: &'a W,
+    alloc: Global,
+    rules: &'a Rules,
+    host: &'a H,
+    listener: &'a H::Listener,
+    counted: &'a Counted,
+}
+
+impl<'a, W: Wait + time::Clock, H: Host> Working<'a, W, H>
+where
+    H::Launcher: Drop,
+    H::Clock: Drop,
+    H::Dice: Drop,
+    H::Keys: Drop,
+{
+    /// Serves links with this pass until no more come, or the pass has no number for a further session.
+    fn work(&self, pass: CountedPass, ear: H::Ear) -> (CountedPass, H::Ear)
+        requires { pass.table ≡ self.now.counted.now.table }
+        ensures pass { ServesLinks (record { input = H.Link.input; output = H.Link.output; parts = record { launches = H.Launcher.launches; readings = H.Clock.readings; draws = H.Dice.draws; keys = H.Keys.keys } })
+            self.now.rules.now pass result.0 }
+        ensures ear { H.Ear.faults ear ≤ H.Ear.faults result.1 }
+    {
+        let mut pass = pass;
+        let mut ear = ear;
+        for _ in self.rt.forever() {
+            if pass.sessions() == u64::MAX {
+                break;
+            }
+            match self.listener.next(&mut ear) {
+                Next::Link(link) => pass = self.serve(pass, link),
+                Next::Failed | Next::Stopped => break,
+            }
+        }
+        (pass, ear)
+    }
+
+    /// Serves the session of one link. One that stopped the agent also stops the listener, whether or not its client stayed for the answer.
+    fn serve(&self, pass: CountedPass, link: H::Link) -> CountedPass
+        requires own { pass.table ≡ self.now.counted.now.table }
+        requires numbered { pass.sessions < 2 ^ 64 - 1 }
+        requires fresh { NothingFailed (H.Link.input link) (H.Link.output link) }
+        ensures { ServesNext (record { input = H.Link.input; output = H.Link.output; parts = record { launches = H.Launcher.launches; readings = H.Clock.readings; draws = H.Dice.draws; keys = H.Keys.keys } })
+            self.now.rules.now pass result }
+    {
+        let mut link = link;
+        let session = SessionId {
+            pass: pass.number(),
+            count: pass.sessions(),
+        };
+        let (pass, end) = serve_one(
+            self.rt,
+            self.alloc,
+            self.rules,
+            self.host,
+            self.counted,
+            pass,
+            session,
+            &mut link,
+        );
+        self.listener.done(link);
+        if end == SessionEnd::Killed || pass.stopped() {
+            self.listener.stop();
+        }
+        pass
+    }
+}
+
+impl<'a, W: Wait + time::Clock, H: Host> Task<CountedPass, H::Ear> for Working<'a, W, H>
+where
+    H::Launcher: Drop,
+    H::Clock: Drop,
+    H::Dice: Drop,
+    H::Keys: Drop,
+{
+    ghost takes = { λ working pass ear. pass.table ≡ working.counted.now.table };
+
+    ghost did = { λ working pass ear back. ServesLinks (record { input = H.Link.input; output = H.Link.output; parts = record { launches = H.Launcher.launches; readings = H.Clock.readings; draws = H.Dice.draws; keys = H.Keys.keys } })
+        working.rules.now pass back.0 × (H.Ear.faults ear ≤ H.Ear.faults back.1) };
+
+    fn run(&self, job: CountedPass, ear: H::Ear) -> (CountedPass, H::Ear) {
+        self.work(job, ear)
+    }
+}
+
+/// Serves links by one worker for each pass and ear, each in a thread of its own; where no thread can be made the workers run one after
+/// another. All passes and ears come back, in their order.
+///
+/// A worker takes links until the listener is stopped or fails, and hands each link back whose session has ended. It stops the listener
+/// where its session has stopped the agent.
+pub fn run_workers<W: Threads + Wait + time::Clock + Sync, H: Host + Sync>(
+    rt: &W,
+    alloc: Global,
+    rules: &Rules,
+    host: &H,
+    listener: &H::Listener,
+    counted: &Counted,
+    passes: Vec<CountedPass>,
+    ears: Vec<H::Ear>,
+) -> (Vec<CountedPass>, Vec<H::Ear>)
+where
+    H::Link: Send + Sync,
+    H::Ear: Send + Sync + Drop,
+    H::Listener: Send + Sync,
+    H::Launcher: Send + Sync + Drop,
+    <H::Launcher as Launcher>::Child: Send + Sync,
+    H::Clock: Send + Sync + Drop,
+    H::Dice: Send + Sync + Drop,
+    H::Keys: Send + Sync + Drop,
+    H::Trust: Send + Sync,
+    H::Gate: Send + Sync,
+    requires own { AreOf counted.now.table passes.items }
+    requires ears { vec_len passes ≡ vec_len ears }
+    ensures own { AreOf counted.now.table result.0.items }
+    ensures all { (vec_len result.0 ≡ vec_len passes) × (vec_len result.1 ≡ vec_len ears) }
+    ensures each { PairedTo (λ pass ear back. ServesLinks (record { input = H.Link.input; output = H.Link.output; parts = record { launches = H.Launcher.launches; readings = H.Clock.readings; draws = H.Dice.draws; keys = H.Keys.keys } })
+        rules.now pass back.0 × (H.Ear.faults ear ≤ H.Ear.faults back.1)) passes.items ears.items result.0.items result.1.items }
+{
+    run_each(
+        rt,
+        &Working {
+            rt,
+            alloc,
+            rules,
+            host,
+            listener,
+            counted,
+        },
+        passes,
+        ears,
+    )
+}

@@ -1,0 +1,44 @@
+-- Ears of which one has failed.
+use Rattle.std.proofs.Common.{◌≡◌, ◌≤◌, ◌<◌, ◌⊎◌, inl, inr, ℕ, List, [], ◌∷◌, ◌++◌, Any, length, ap, sym, ◌∙◌, subst, arith}
+use Rattle.std.specs.Prelude.{slice_index_or}
+use Rattle.std.proofs.lemmas.List.{get_or_append_left}
+use Rattle.std.proofs.lemmas.Bool.{cases_lt}
+use Rattle.std.proofs.Math.Seq.{get_or-append_seam}
+use Rattle.std.proofs.Common.{length-append}
+use Rattle.agent_ports.specs.Counts.{Rose, RoseBy}
+
+any_but_last : {X : Type 0} (P : X → Type 0) (xs : List X) (x : X) → Any P (xs ++ x ∷ []) → Any P xs ⊎ P x
+any_but_last P xs x (k, y, below, at, holds) = by_place (cases_lt k (length xs)) where
+  by_place : (k < length xs) ⊎ (length xs ≤ k) → Any P xs ⊎ P x
+  by_place (inl within) = inl (k, y, within, sym (get_or_append_left xs (x ∷ []) y k within) ∙ at, holds)
+  by_place (inr behind) =
+      let here : k ≡ length xs = omega (arith, below, behind, length-append xs (x ∷ [])) in
+      inr (subst P (sym at ∙ ap (λ (n : ℕ). slice_index_or (xs ++ x ∷ []) n y) here ∙ get_or-append_seam xs x [] y) holds)
+
+-- how far the ears were given back
+pub record GaveBack {X : Type 0} (faults : X → ℕ) (ears : List X) (before : ℕ) (left : List X) (now : ℕ) : Type 0 where
+  pub risen : (before ≤ now)
+  pub failed : Any (λ ear. 0 < faults ear) ears → Rose before now ⊎ Any (λ ear. 0 < faults ear) left
+
+pub none_back : {X : Type 0} (faults : X → ℕ) (ears : List X) (listens : ℕ) → GaveBack faults ears listens ears listens
+none_back faults ears listens = record { risen = omega arith; failed = λ any. inr any }
+
+pub gave_one : {X : Type 0} (faults : X → ℕ) (ears left : List X) (ear : X) (before now then : ℕ) → GaveBack faults ears before (left ++ ear ∷ []) now
+    → RoseBy (faults ear) now then → now ≤ then → GaveBack faults ears before left then
+gave_one faults ears left ear before now then gave rose never = record {
+  risen = omega (arith, gave.risen, never);
+  failed = λ any. by_rose (gave.failed any);
+} where
+  by_last : Any (λ e. 0 < faults e) left ⊎ (0 < faults ear) → Rose before then ⊎ Any (λ e. 0 < faults e) left
+  by_last (inl some) = inr some
+  by_last (inr this) = inl (omega (arith, this, rose, gave.risen))
+
+  by_rose : Rose before now ⊎ Any (λ e. 0 < faults e) (left ++ ear ∷ []) → Rose before then ⊎ Any (λ e. 0 < faults e) left
+  by_rose (inl rise) = inl (omega (arith, rise, never))
+  by_rose (inr some) = by_last (any_but_last _ left ear some)
+
+pub all_back : {X : Type 0} (faults : X → ℕ) (ears : List X) (before now : ℕ) → GaveBack faults ears before [] now → Any (λ ear. 0 < faults ear) ears → Rose before now
+all_back faults ears before now gave any = by_rose (gave.failed any) where
+  by_rose : Rose before now ⊎ Any (λ e. 0 < faults e) [] → Rose before now
+  by_rose (inl rise) = rise
+  by_rose (inr (k, y, below, at, holds)) = absurd (omega (arith, below))

@@ -1,0 +1,38 @@
+use Rattle.std.proofs.Common.{refl, ap, ◌∙◌, arith}
+use Rattle.agent_top.proofs.Running.{listens_rose}
+use Rattle.agent_top.specs.Daemon.{summed, no_listener, no_memory}
+use Rattle.agent_top.specs.Top.{exit_number}
+use Rattle.agent_top.proofs.daemon.run_daemon.Goals as goal
+
+pub returns-in_default-clause-runs : goal.returns-in_default-clause-runs
+returns-in_default-clause-runs g c = rw c.number.ensures no_memory
+
+pub returns-in_default-with_capacity-clause-runs : goal.returns-in_default-with_capacity-clause-runs
+returns-in_default-with_capacity-clause-runs g c = rw c.number-in_default-with_capacity.ensures no_memory
+
+pub returns-in_default-listen-clause-runs : goal.returns-in_default-listen-clause-runs
+returns-in_default-listen-clause-runs g c = rw c.number-in_default-listen.ensures (no_listener (c.in_default-listen.ensures.failed refl))
+
+pub returns-clause-runs : goal.returns-clause-runs
+returns-clause-runs g c =
+    let r = c.serve_rounds-passes.result in
+    summed (record {
+      counted = c.in-Ok.counted;
+      limits = c.in-Ok.ensures.about.0 ∙ c.limits_of.ensures;
+      workers = c.in-Ok.ensures.about.1;
+      passes = r.0.items;
+      all = omega (arith, c.serve_rounds-passes.ensures.all.0, c.in-Ok.ensures.all, c.in-Ok.ensures.about.1, r.0.ok);
+      began = c.in-Ok.passes.items;
+      new = c.in-Ok.ensures.new;
+      ran = c.serve_rounds-passes.ensures.ran;
+      tally = c.close-tally.result;
+      closed = c.close-tally.ensures;
+      sent = c.write_summary-sent.result;
+      written = c.write_summary-sent.ensures.written;
+      number_is = c.number-2.ensures ∙ ap exit_number c.status_after.ensures;
+      cut = c.write_summary-sent.ensures.cut;
+      unstopped = listens_rose g.H.Ear.Ear.faults r.1.items c.in-Ok.counted r.0.items c.close-tally.result _ _ _ c.close-tally.ensures c.serve_rounds-passes.ensures.end
+          c.give_ears_back.ensures.rose c.in-Some.ensures.listens;
+      listens_stay = omega (arith, c.in-Some.ensures.listens, c.give_ears_back.ensures.listens);
+      faults_stay = c.write_summary-sent.ensures.faults;
+    })

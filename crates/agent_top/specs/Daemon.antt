@@ -1,0 +1,82 @@
+-- What a run of the daemon leaves, and its status. This is the project's own.
+use Rattle.std.specs.Prelude.{◌≡◌, ◌≤◌, ℕ, Bool, true, false, List, [], ◌∷◌, ◌++◌, length, codes, decimal, ⊤}
+use Rattle.agent_ports.specs.Counts.{Rose}
+use Rattle.agent_ports.specs.Sides.{Side, with_bytes, sent_part, IsCut}
+use Rattle.agent_ports.specs.declared.link.Sent.{Sent}
+use Rattle.agent_ports.specs.declared.link.Sent.TheVariants.{All, Failed}
+use Rattle.assuan_text.specs.LineEnds.{line_of}
+use Rattle.cache_policy.specs.declared.tally.Tally.{Tally}
+use Rattle.counted_lock.specs.Logs.{is_stopped}
+use Rattle.counted_lock.specs.Passes.{AtCounted, AtPass, AreNewPasses, IsClosed, HasLooked}
+use Rattle.session_options.specs.declared.rules.Rules.{Rules}
+use Rattle.agent_serve.specs.Working.{HostViews, ServesLinks}
+use Rattle.agent_top.specs.Cache.{limits_of}
+use Rattle.agent_top.specs.Top.{exit_number}
+use Rattle.agent_top.specs.declared.status.Status.{Status}
+use Rattle.agent_top.specs.declared.status.Status.TheVariants as status
+
+-- what was done, in numbers
+abbrev pub summary : Tally → List ℕ
+summary tally =
+    codes "marks " ++ decimal tally.marks ++ codes " given " ++ decimal tally.given ++ codes " empty " ++ decimal tally.empty
+    ++ codes " opened " ++ decimal tally.opened ++ codes " stored " ++ decimal tally.stored ++ codes " cleared " ++ decimal tally.cleared
+    ++ codes " flushed " ++ decimal tally.flushed
+
+abbrev pub summary_line : Tally → List ℕ
+summary_line tally = line_of (summary tally)
+
+-- the status behind a summary of which this was sent
+abbrev pub status_after : Bool → Sent → Status
+status_after stopped (Failed sent) = status.WriteFault
+status_after true All = status.Success
+status_after false All = status.ListenFault
+
+-- the first of these passes has seen that the agent is stopped
+abbrev pub IsFirstStopped : List AtPass → Type 0
+IsFirstStopped [] = ⊥
+IsFirstStopped (pass ∷ later) = is_stopped pass.seen ≡ true
+
+-- What the daemon does with a pass: its worker serves sessions, and it looks how far the run is.
+pub data PassRuns (Serves : AtPass → AtPass → Type 0) : AtPass → AtPass → Type 0 where
+  begun : {pass : AtPass} → PassRuns Serves pass pass
+  served : {first pass now : AtPass} → PassRuns Serves first pass → Serves pass now → PassRuns Serves first now
+  looked : {first pass now : AtPass} → PassRuns Serves first pass → HasLooked pass now → PassRuns Serves first now
+
+-- the same of each pass of a list, in their order
+abbrev pub AllRun : (AtPass → AtPass → Type 0) → List AtPass → List AtPass → Type 0
+AllRun Serves [] [] = ⊤
+AllRun Serves (first ∷ others) (now ∷ later) = PassRuns Serves first now × AllRun Serves others later
+AllRun Serves _ _ = ⊥
+
+-- the first pass looked, and the others are as they were
+abbrev pub FirstLooks : List AtPass → List AtPass → Type 0
+FirstLooks (first ∷ others) (now ∷ later) = HasLooked first now × (later ≡ others)
+FirstLooks _ _ = ⊥
+
+-- The daemon came to its end: all its passes were given back to the lock, whose run has their marks and no others, and the summary of that run
+-- was sent, whole or in part. Each pass was new, and then sessions were served at it on links of the host's, as many as came, with no turn
+-- between them. Where the agent isn't stopped a call for a link has failed. No count fell.
+pub record SumsUp {Li La C R K : Type 0} (host : HostViews Li La C R K) (rules : Rules) (listens : ℕ) (before : Side) (number listens_now : ℕ) (after : Side) : Type 0 where
+  pub counted : AtCounted
+  pub limits : counted.limits ≡ limits_of rules
+  pub workers : counted.passes ≡ rules.workers
+  pub passes : List AtPass
+  pub all : length passes ≡ counted.passes
+  pub began : List AtPass
+  pub new : AreNewPasses counted 0 began
+  pub ran : AllRun (ServesLinks host rules) began passes
+  pub tally : Tally
+  pub closed : IsClosed counted passes tally
+  pub sent : Sent
+  pub written : after.bytes ≡ with_bytes before.bytes (sent_part (summary_line tally) sent)
+  pub number_is : number ≡ exit_number (status_after tally.stopped sent)
+  pub cut : IsCut sent → Rose before.faults after.faults
+  pub unstopped : tally.stopped ≡ false → Rose listens listens_now
+  pub listens_stay : listens ≤ listens_now
+  pub faults_stay : before.faults ≤ after.faults
+
+-- That was done; or there was no listener, or no memory before the first link, and nothing was written.
+pub data RunsDaemon {Li La C R K : Type 0} (host : HostViews Li La C R K) (rules : Rules) (listens : ℕ) (before : Side) : ℕ → ℕ → Side → Type 0 where
+  summed : {number listens_now : ℕ} {after : Side} → SumsUp host rules listens before number listens_now after → RunsDaemon host rules listens before number listens_now after
+  no_listener : {listens_now : ℕ} → Rose listens listens_now → RunsDaemon host rules listens before (exit_number status.ListenFault) listens_now before
+  no_memory : RunsDaemon host rules listens before (exit_number status.NoMemory) listens before

@@ -1,0 +1,211 @@
+ghost use Rattle.std.specs.Prelude.{◌≡◌, ◌≤◌, ◌<◌, ◌+◌, ◌⊎◌, ◌++◌, Any, decimal, length, vec_len, vec_capacity, true};
+ghost use Rattle.agent_ports.specs.Counts.{Rose};
+ghost use Rattle.agent_ports.specs.Sides.{with_bytes, sent_part, IsCut};
+ghost use Rattle.arrayvec.specs.ArrayVec.{array_vec_len};
+ghost use Rattle.counted_lock.specs.Passes.{AreOf};
+ghost use Rattle.agent_serve.specs.Working.{ServesLinks};
+ghost use Rattle.agent_top.specs.Daemon.{RunsDaemon, AllRun, FirstLooks, summary_line, status_after, IsFirstStopped};
+
+use crate::Status;
+use crate::top::limits_of;
+use agent_ports::{Ear, Host, Launcher, Link, Listener, Sent, Sink};
+use agent_serve::run_workers;
+use arrayvec::ArrayVec;
+use cache_policy::Tally;
+use counted_lock::{Counted, CountedPass};
+use itoa::Buffer;
+use session_options::Rules;
+use std::alloc::Global;
+use std::rt;
+use std::sync::Wait;
+use std::thread::Threads;
+
+/// More bytes than a summary has: its words, seven numbers of at most 20 digits, and a line feed.
+const SUMMARY_ROOM: usize = 256;
+
+/// Serves the links of the host's listener until a session stops the agent, and writes a line that says what was done.
+///
+/// Its answer is the status of the process: 0 where a session stopped the agent, 1 where there is no memory for the workers, 4 where the line
+/// can't be written, and 5 where there is no listener, or where it failed before the agent was stopped. Sessions that are being served when
+/// the agent is stopped go on until their clients end them.
+pub fn run_daemon<W: Threads + Wait + rt::Clock + Sync, S: Link, H: Host + Sync>(
+    rt: &W,
+    alloc: Global,
+    rules: &Rules,
+    stdio: &mut S,
+    host: &mut H,
+) -> u8
+where
+    H::Link: Send + Sync,
+    H::Ear: Send + Sync + Drop,
+    H::Listener: Send + Sync + Drop,
+    H::Launcher: Send + Sync + Drop,
+    <H::Launcher as Launcher>::Child: Send + Sync,
+    H::Clock: Send + Sync + Drop,
+    H::Dice: Send + Sync + Drop,
+    H::Keys: Send + Sync + Drop,
+    H::Trust: Send + Sync,
+    H::Gate: Send + Sync,
+    ensures runs { RunsDaemon (record { input = H.Link.input; output = H.Link.output; parts = record { launches = H.Launcher.launches; readings = H.Clock.readings; draws = H.Dice.draws; keys = H.Keys.keys } })
+        rules.now (H.listens host.old) (S.output stdio.old) result (H.listens host.new) (S.output stdio.new) }
+    ensures input { S.input stdio.new ≡ S.input stdio.old }
+    ensures server { H.server host.new ≡ H.server host.old }
+    ensures process { H.process host.new ≡ H.process host.old }
+{
+    let Ok((counted, passes)) = Counted::new(alloc, limits_of(rules), rules.workers) else {
+        return Status::NoMemory.number();
+    };
+    let Ok(room) = Vec::with_capacity(alloc, passes.len()) else {
+        return Status::NoMemory.number();
+    };
+    let Some(listener) = host.listen() else {
+        return Status::ListenFault.number();
+    };
+    let ears = with_ears(&listener, room, passes.len());
+    let (passes, ears) = serve_rounds(rt, alloc, rules, host, &listener, &counted, passes, ears);
+    let tally = counted.close(passes);
+    drop(listener);
+    give_ears_back(host, ears);
+    let sent = write_summary(stdio, &tally);
+    status_after(&tally, sent).number()
+}
+
+/// An ear for each of so many workers.
+fn with_ears<L: Listener>(listener: &L, mut room: Vec<L::Ear>, count: usize) -> Vec<L::Ear>
+    requires empty { vec_len room ≡ 0 }
+    requires fits { count ≤ vec_capacity room }
+    ensures { vec_len result ≡ count }
+{
+    for _ in 0..count {
+        room.push_reserved(listener.ear());
+    }
+    room
+}
+
+/// Has the workers serve links until the agent is stopped, or the listener failed. Where they came back for another reason they begin again.
+fn serve_rounds<W: Threads + Wait + rt::Clock + Sync, H: Host + Sync>(
+    rt: &W,
+    alloc: Global,
+    rules: &Rules,
+    host: &H,
+    listener: &H::Listener,
+    counted: &Counted,
+    mut passes: Vec<CountedPass>,
+    mut ears: Vec<H::Ear>,
+) -> (Vec<CountedPass>, Vec<H::Ear>)
+where
+    H::Link: Send + Sync,
+    H::Ear: Send + Sync + Drop,
+    H::Listener: Send + Sync,
+    H::Launcher: Send + Sync + Drop,
+    <H::Launcher as Launcher>::Child: Send + Sync,
+    H::Clock: Send + Sync + Drop,
+    H::Dice: Send + Sync + Drop,
+    H::Keys: Send + Sync + Drop,
+    H::Trust: Send + Sync,
+    H::Gate: Send + Sync,
+    requires own { AreOf counted.now.table passes.items }
+    requires ears { vec_len passes ≡ vec_len ears }
+    requires some { 0 < vec_len passes }
+    ensures own { AreOf counted.now.table result.0.items }
+    ensures all { (vec_len result.0 ≡ vec_len passes) × (vec_len result.1 ≡ vec_len ears) }
+    ensures ran { AllRun (ServesLinks (record { input = H.Link.input; output = H.Link.output; parts = record { launches = H.Launcher.launches; readings = H.Clock.readings; draws = H.Dice.draws; keys = H.Keys.keys } }) rules.now)
+        passes.items result.0.items }
+    ensures end { IsFirstStopped result.0.items ⊎ Any (λ ear. 0 < H.Ear.faults ear) result.1.items }
+{
+    for _ in rt.forever() {
+        (passes, ears) = run_workers(rt, alloc, rules, host, listener, counted, passes, ears);
+        if sees_a_stop(rt, counted, &mut passes) {
+            return (passes, ears);
+        }
+        if any_failed(&ears) {
+            return (passes, ears);
+        }
+    }
+    unreachable!()
+}
+
+/// Looks with the first pass whether the agent is stopped.
+fn sees_a_stop<W: Wait + rt::Clock>(
+    rt: &W,
+    counted: &Counted,
+    passes: &mut Vec<CountedPass>,
+) -> bool
+    requires own { AreOf counted.now.table passes.old.items }
+    requires some { 0 < vec_len passes.old }
+    ensures own { AreOf counted.now.table passes.new.items }
+    ensures all { vec_len passes.new ≡ vec_len passes.old }
+    ensures looks { FirstLooks passes.old.items passes.new.items }
+    ensures stopped { result ≡ true → IsFirstStopped passes.new.items }
+{
+    let first = &mut passes[0];
+    counted.look(rt, first);
+    first.stopped()
+}
+
+fn any_failed<E: Ear>(ears: &[E]) -> bool
+    ensures { result ≡ true → Any (λ ear. 0 < E.faults ear) ears.now }
+{
+    ears.iter().any(|ear| ear.failed())
+}
+
+/// The host counts what the ears heard of faults.
+fn give_ears_back<H: Host>(host: &mut H, mut ears: Vec<H::Ear>)
+where
+    H::Ear: Drop,
+    ensures rose { Any (λ ear. 0 < H.Ear.faults ear) ears.items → Rose (H.listens host.old) (H.listens host.new) }
+    ensures listens { H.listens host.old ≤ H.listens host.new }
+    ensures server { H.server host.new ≡ H.server host.old }
+    ensures process { H.process host.new ≡ H.process host.old }
+{
+    while let Some(ear) = ears.pop() {
+        host.ear_back(ear);
+    }
+}
+
+fn write_summary<S: Link>(stdio: &mut S, tally: &Tally) -> Sent
+    ensures written { (S.output stdio.new).bytes ≡ with_bytes (S.output stdio.old).bytes (sent_part (summary_line tally.now) result) }
+    ensures cut { IsCut result → Rose (S.output stdio.old).faults (S.output stdio.new).faults }
+    ensures faults { (S.output stdio.old).faults ≤ (S.output stdio.new).faults }
+    ensures input { S.input stdio.new ≡ S.input stdio.old }
+{
+    stdio.put(&summary_line(tally))
+}
+
+/// What was done, as a line.
+fn summary_line(tally: &Tally) -> ArrayVec<u8, SUMMARY_ROOM>
+    ensures { result.items ≡ summary_line tally.now }
+{
+    let mut line = ArrayVec::new();
+    add_number(&mut line, b"marks ", tally.marks);
+    add_number(&mut line, b" given ", tally.given);
+    add_number(&mut line, b" empty ", tally.empty);
+    add_number(&mut line, b" opened ", tally.opened);
+    add_number(&mut line, b" stored ", tally.stored);
+    add_number(&mut line, b" cleared ", tally.cleared);
+    add_number(&mut line, b" flushed ", tally.flushed);
+    line.push(b'\n');
+    line
+}
+
+/// Appends a word and a number in decimal.
+fn add_number(line: &mut ArrayVec<u8, SUMMARY_ROOM>, word: &[u8], number: u64)
+    requires { array_vec_len line.old + length word.now + 20 ≤ SUMMARY_ROOM }
+    ensures text { line.new.items ≡ line.old.items ++ word.now ++ decimal number }
+    ensures room { array_vec_len line.new ≤ array_vec_len line.old + length word.now + 20 }
+{
+    line.try_extend_from_slice(word).unwrap();
+    line.try_extend_from_slice(Buffer::new().format(number).as_bytes())
+        .unwrap();
+}
+
+/// The status behind a summary of which this was sent.
+fn status_after(tally: &Tally, sent: Sent) -> Status
+    ensures { result ≡ status_after tally.now.stopped sent }
+{
+    match sent {
+        Sent::Failed { .. } => Status::WriteFault,
+        Sent::All if tally.stopped => Status::Success,
+        Sent::All => Status::ListenFault,
+    }
+}
