@@ -10,8 +10,10 @@
 
 void dogwood_cbc_encrypt(const uint8_t *key, size_t, const uint8_t *iv, size_t, uint8_t *bytes, size_t);
 void dogwood_cbc_decrypt(const uint8_t *key, size_t, const uint8_t *iv, size_t, uint8_t *bytes, size_t);
+void dogwood_ocb_encrypt(const uint8_t *key, size_t, const uint8_t *iv, size_t, uint8_t *bytes, size_t, uint8_t *tag, size_t);
+void dogwood_ocb_decrypt(const uint8_t *key, size_t, const uint8_t *iv, size_t, uint8_t *bytes, size_t, const uint8_t *tag, size_t);
 void dogwood_derive(const uint8_t *pass, size_t, const uint8_t *salt, size_t, uint64_t count, uint8_t *key, size_t);
-int64_t dogwood_protect(const uint8_t *clear, size_t, const uint8_t *pass, size_t, uint64_t count, uint8_t *out, size_t);
+int64_t dogwood_protect(const uint8_t *clear, size_t, const uint8_t *pass, size_t, uint64_t count, _Bool by_ocb, uint8_t *out, size_t);
 int64_t dogwood_unprotect(const uint8_t *file, size_t, const uint8_t *pass, size_t, uint8_t *out, size_t);
 
 #define LEN 65536
@@ -26,6 +28,12 @@ static void our_encryption(void) { dogwood_cbc_encrypt(key, 16, iv, 16, bytes, L
 static void our_decryption(void) { dogwood_cbc_decrypt(key, 16, iv, 16, bytes, LEN); }
 static void table_encryption(void) { table_cbc_encrypt(key, iv, bytes, LEN); }
 static void table_decryption(void) { table_cbc_decrypt(key, iv, bytes, LEN); }
+static uint8_t tag[16], other_tag[16];
+
+static void our_sealing(void) { dogwood_ocb_encrypt(key, 16, iv, 12, bytes, LEN, other_tag, 16); }
+static void our_unsealing(void) { dogwood_ocb_decrypt(key, 16, iv, 12, bytes, LEN, tag, 16); }
+static void table_sealing(void) { table_ocb(0, key, iv, bytes, LEN, other_tag); }
+static void table_unsealing(void) { table_ocb(1, key, iv, bytes, LEN, other_tag); }
 static void our_derivation(void) { dogwood_derive(pass, sizeof pass - 1, salt, 8, count, derived, 16); }
 
 #ifdef GCRYPT
@@ -40,6 +48,19 @@ static void gcrypt_cipher(int decrypts) {
 }
 static void gcrypt_encryption(void) { gcrypt_cipher(0); }
 static void gcrypt_decryption(void) { gcrypt_cipher(1); }
+static void gcrypt_ocb(int decrypts) {
+    gcry_cipher_hd_t h;
+    gcry_cipher_open(&h, GCRY_CIPHER_AES128, GCRY_CIPHER_MODE_OCB, 0);
+    gcry_cipher_setkey(h, key, 16);
+    gcry_cipher_setiv(h, iv, 12);
+    gcry_cipher_final(h);
+    if (decrypts) gcry_cipher_decrypt(h, bytes, LEN, NULL, 0);
+    else gcry_cipher_encrypt(h, bytes, LEN, NULL, 0);
+    gcry_cipher_gettag(h, other_tag, 16);
+    gcry_cipher_close(h);
+}
+static void gcrypt_sealing(void) { gcrypt_ocb(0); }
+static void gcrypt_unsealing(void) { gcrypt_ocb(1); }
 static void gcrypt_derivation(void) {
     gcry_kdf_derive(pass, sizeof pass - 1, GCRY_KDF_ITERSALTED_S2K, GCRY_MD_SHA1, salt, 8, count, 16, derived);
 }
@@ -57,7 +78,7 @@ static double once(void (*call)(void), const uint8_t *from, const uint8_t *to) {
     double t = seconds();
     call();
     t = seconds() - t;
-    if (memcmp(bytes, to, LEN)) fprintf(stderr, "another result\n"), exit(1);
+    if (memcmp(bytes, to, LEN) || memcmp(other_tag, tag, 16)) fprintf(stderr, "another result\n"), exit(1);
     return t;
 }
 
@@ -107,11 +128,11 @@ static size_t clear_key(uint8_t *out, size_t most) {
 }
 
 /* Opening a file beside its S2K alone. The status is 1 where it takes more than `bound` seconds beside 1.1 times that. */
-static int opening(const char *what, size_t most, uint64_t n, int runs, double bound) {
+static int opening(const char *what, _Bool by_ocb, size_t most, uint64_t n, int runs, double bound) {
     static uint8_t clear[LEN], file[LEN], out[LEN];
     double best[2] = {1e9, 1e9};
     size_t len = clear_key(clear, most);
-    int64_t file_len = dogwood_protect(clear, len, pass, sizeof pass - 1, n, file, LEN);
+    int64_t file_len = dogwood_protect(clear, len, pass, sizeof pass - 1, n, by_ocb, file, LEN);
     if (file_len < 0) fprintf(stderr, "no file\n"), exit(1);
     count = n;
     for (int i = 0; i < runs; i++) {
@@ -132,12 +153,15 @@ static int opening(const char *what, size_t most, uint64_t n, int runs, double b
 int main(void) {
     void (*encryptions[3])(void) = {our_encryption, table_encryption, NULL};
     void (*decryptions[3])(void) = {our_decryption, table_decryption, NULL};
+    void (*sealings[3])(void) = {our_sealing, table_sealing, NULL}, (*unsealings[3])(void) = {our_unsealing, table_unsealing, NULL};
 #ifdef GCRYPT
     gcry_check_version(NULL);
     gcry_control(GCRYCTL_DISABLE_SECMEM, 0);
     gcry_control(GCRYCTL_INITIALIZATION_FINISHED, 0);
     encryptions[2] = gcrypt_encryption;
     decryptions[2] = gcrypt_decryption;
+    sealings[2] = gcrypt_sealing;
+    unsealings[2] = gcrypt_unsealing;
 #endif
     table_aes_begin();
     for (size_t i = 0; i < LEN; i++) text[i] = (uint8_t)(i * i >> 5);
@@ -145,9 +169,15 @@ int main(void) {
     table_cbc_encrypt(key, iv, encrypted, LEN);
     int slow = row("CBC encryption, 64 KiB", encryptions, text, encrypted, 1.5);
     slow |= row("CBC decryption, 64 KiB", decryptions, encrypted, text, 1.5);
+    memcpy(encrypted, text, LEN);
+    table_ocb(0, key, iv, encrypted, LEN, tag);
+    memcpy(other_tag, tag, 16);
+    slow |= row("OCB encryption, 64 KiB", sealings, text, encrypted, 1.5);
+    slow |= row("OCB decryption, 64 KiB", unsealings, encrypted, text, 1.5);
     derivation(65536, 31);
     derivation(65011712, 5);
-    slow |= opening("opening, count 65011712", 64, 65011712, 5, 0);
-    slow |= opening("opening, 60 KiB", 61440, 65536, 31, 0.010);
+    slow |= opening("opening, count 65011712", 1, 64, 65011712, 5, 0);
+    slow |= opening("opening, 60 KiB", 1, 61440, 65536, 31, 0.010);
+    slow |= opening("opening by CBC, 60 KiB", 0, 61440, 65536, 31, 0.010);
     return slow;
 }

@@ -106,3 +106,59 @@ void table_cbc_decrypt(const uint8_t key[16], const uint8_t iv[16], uint8_t *byt
         memcpy(before, c, 16);
     }
 }
+
+/* OCB (RFC 7253) of whole blocks, with a nonce of 12 bytes, no associated data and a tag of 16 bytes. */
+typedef union { uint8_t b[16]; uint32_t w[4]; } block;
+
+static block doubled(block s) {
+    block d;
+    for (int i = 0; i < 16; i++) d.b[i] = (uint8_t)(s.b[i] << 1 | (i < 15 ? s.b[i + 1] >> 7 : 0));
+    if (s.b[0] >> 7) d.b[15] ^= 0x87;
+    return d;
+}
+
+static void add(block *to, const block *of) {
+    for (int i = 0; i < 4; i++) to->w[i] ^= of->w[i];
+}
+
+static block first_offset(const struct table_aes *t, const uint8_t nonce[12]) {
+    uint8_t stretch[24];
+    block top = {{0, 0, 0, 1}}, offset;
+    memcpy(top.b + 4, nonce, 12);
+    int bottom = top.b[15] & 63;
+    top.b[15] &= 0xC0;
+    encrypt(t, top.w);
+    memcpy(stretch, top.b, 16);
+    for (int i = 0; i < 8; i++) stretch[16 + i] = top.b[i] ^ top.b[i + 1];
+    for (int i = 0; i < 16; i++) {
+        int at = i + bottom / 8, shift = bottom % 8;
+        offset.b[i] = (uint8_t)((stretch[at] << 8 | (shift ? stretch[at + 1] : 0)) >> (8 - shift));
+    }
+    return offset;
+}
+
+void table_ocb(int decrypts, const uint8_t key[16], const uint8_t nonce[12], uint8_t *bytes, size_t len, uint8_t tag[16]) {
+    struct table_aes t;
+    block masks[16], star = {{0}}, dollar, offset, sum = {{0}}, b;
+    table_aes_keys(&t, key);
+    encrypt(&t, star.w);
+    dollar = doubled(star);
+    masks[0] = doubled(dollar);
+    for (int i = 1; i < 16; i++) masks[i] = doubled(masks[i - 1]);
+    offset = first_offset(&t, nonce);
+    for (size_t i = 1; i <= len / 16; i++) {
+        add(&offset, &masks[__builtin_ctzl(i)]);
+        memcpy(b.b, bytes + 16 * (i - 1), 16);
+        if (!decrypts) add(&sum, &b);
+        add(&b, &offset);
+        if (decrypts) decrypt(&t, b.w);
+        else encrypt(&t, b.w);
+        add(&b, &offset);
+        if (decrypts) add(&sum, &b);
+        memcpy(bytes + 16 * (i - 1), b.b, 16);
+    }
+    add(&sum, &offset);
+    add(&sum, &dollar);
+    encrypt(&t, sum.w);
+    memcpy(tag, sum.b, 16);
+}

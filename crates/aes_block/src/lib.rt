@@ -12,8 +12,6 @@ mod mixed;
 mod schedule;
 mod state;
 mod tables;
-#[cfg(test)]
-mod tests;
 mod unmixed;
 
 pub use cipher::Aes128;

@@ -6,12 +6,12 @@ use Rattle.std.specs.Simd.{first_chunks}
 use Rattle.aes_block.specs.Aes.{xor_of, encrypted, decrypted}
 use Rattle.aes_modes.specs.Cbc.{blocks_of, encrypted_blocks, decrypted_blocks, cbc_encrypted, cbc_decrypted}
 
-blocks_of-next : (s : List ℕ) → 16 ≤ length s → blocks_of s ≡ take 16 s ∷ blocks_of (drop 16 s)
+pub blocks_of-next : (s : List ℕ) → 16 ≤ length s → blocks_of s ≡ take 16 s ∷ blocks_of (drop 16 s)
 blocks_of-next s h =
     let e : length s / 16 ≡ suc (length (drop 16 s) / 16) = omega (arith, length-drop 16 s) in
     ap (λ n. first_chunks 16 n s) e
 
-blocks_of-none : (s : List ℕ) → length s < 16 → blocks_of s ≡ []
+pub blocks_of-none : (s : List ℕ) → length s < 16 → blocks_of s ≡ []
 blocks_of-none s h =
     let e : length s / 16 ≡ 0 = omega arith in
     ap (λ n. first_chunks 16 n s) e
@@ -59,15 +59,15 @@ left s c now start h =
     ∙ sym (drop-drop 16 start s)
 
 -- what is done so far, and what the rest will be, make the whole
-chain_more : (f : List ℕ → List ℕ → List ℕ) (before next s c now whole : List ℕ) (i : ℕ) → IsPut s c now (16 * i)
-    → f before (drop (16 * i) s) ≡ c ++ f next (drop 16 (drop (16 * i) s))
-    → take (16 * i) s ++ f before (drop (16 * i) s) ≡ whole
-    → take (16 * (i + 1)) now ++ f next (drop (16 * (i + 1)) now) ≡ whole
-chain_more f before next s c now whole i h step e =
+pub chain_more : (f g : List ℕ → List ℕ) (s c now whole : List ℕ) (i : ℕ) → IsPut s c now (16 * i)
+    → f (drop (16 * i) s) ≡ c ++ g (drop 16 (drop (16 * i) s))
+    → take (16 * i) s ++ f (drop (16 * i) s) ≡ whole
+    → take (16 * (i + 1)) now ++ g (drop (16 * (i + 1)) now) ≡ whole
+chain_more f g s c now whole i h step e =
     let there : 16 * (i + 1) ≡ 16 * i + 16 = omega arith in
     rw there
-    (ap₂ (λ a b. a ++ f next b) (done s c now (16 * i) h) (left s c now (16 * i) h)
-    ∙ append_assoc (take (16 * i) s) c (f next (drop 16 (drop (16 * i) s)))
+    (ap₂ (λ a b. a ++ g b) (done s c now (16 * i) h) (left s c now (16 * i) h)
+    ∙ append_assoc (take (16 * i) s) c (g (drop 16 (drop (16 * i) s)))
     ∙ ap (λ t. take (16 * i) s ++ t) (sym step)
     ∙ e)
 
@@ -81,7 +81,7 @@ pub encrypt_more : (key before s c now whole : List ℕ) (i : ℕ) → IsPut s c
     → take (16 * (i + 1)) now ++ cbc_encrypted key c (drop (16 * (i + 1)) now) ≡ whole
 encrypt_more key before s c now whole i h e =
     let room : 16 ≤ length (drop (16 * i) s) = omega (arith, length-drop (16 * i) s, h.fits) in
-    chain_more (cbc_encrypted key) before c s c now whole i h
+    chain_more (cbc_encrypted key before) (cbc_encrypted key c) s c now whole i h
     (cbc_encrypted-next key before (drop (16 * i) s) room ∙ ap (λ x. x ++ cbc_encrypted key x (drop 16 (drop (16 * i) s))) (sym e))
 
 pub decrypt_more : (key before s c now whole : List ℕ) (i : ℕ) → IsPut s c now (16 * i)
@@ -90,7 +90,7 @@ pub decrypt_more : (key before s c now whole : List ℕ) (i : ℕ) → IsPut s c
     → take (16 * (i + 1)) now ++ cbc_decrypted key (take 16 (drop (16 * i) s)) (drop (16 * (i + 1)) now) ≡ whole
 decrypt_more key before s c now whole i h e =
     let room : 16 ≤ length (drop (16 * i) s) = omega (arith, length-drop (16 * i) s, h.fits) in
-    chain_more (cbc_decrypted key) before (take 16 (drop (16 * i) s)) s c now whole i h
+    chain_more (cbc_decrypted key before) (cbc_decrypted key (take 16 (drop (16 * i) s))) s c now whole i h
     (cbc_decrypted-next key before (drop (16 * i) s) room ∙ ap (λ x. x ++ cbc_decrypted key (take 16 (drop (16 * i) s)) (drop 16 (drop (16 * i) s))) (sym e))
 
 pub encrypt_all : (key before s whole : List ℕ) (i : ℕ) → length s ≤ 16 * i

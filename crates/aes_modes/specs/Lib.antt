@@ -1,1 +1,3 @@
 pub mod Cbc
+pub mod Ocb
+pub mod Masks

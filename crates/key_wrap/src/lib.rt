@@ -133,6 +133,3 @@ fn is_wrapped_len(len: usize) -> bool
 {
     len % 8 == 0 && (24..=65_544).contains(&len)
 }
-
-#[cfg(test)]
-mod tests;

@@ -91,6 +91,3 @@ pub fn count_of(n: u64) -> Option<u64>
     };
     (MIN_COUNT..=MAX_COUNT).contains(&count).then_some(count)
 }
-
-#[cfg(test)]
-mod tests;

@@ -21,7 +21,8 @@ use Rattle.sexp_keys.specs.Parameters.{is_atom, is_parameter_len, has_name, is_p
 use Rattle.sexp_keys.specs.Key.{Key, clear_with}
 use Rattle.sexp_keys.specs.Lists.{hashed_list_of}
 use Rattle.sexp_keys.specs.declared.algorithm.Algorithm.{Algorithm}
-use Rattle.secret_file.specs.Opens.{secret_tree, hash_tree, time_of, AreSpelled, AreSecrets}
+use Rattle.secret_file.specs.Opens.{secret_tree, hash_tree, time_of, AreSpelled}
+use Rattle.secret_file.specs.Steps.{AreSecrets}
 
 pub again_read : (r : Result (Sexp × ℕ) SexpFault) (x y : Sexp × ℕ) → r ≡ Ok y → (r ≡ Err NoMemory) ⊎ (r ≡ Ok x) → Some y ≡ Some x
 again_read r x y e (inl f) = absurd cc
@@ -41,7 +42,7 @@ secret_read bytes read again short secret hash shallow h =
     again (Listed (list_of secret ∷ hash ∷ [])) h.more
     (record { spelled = refl; shallow = shallow; short = omega (arith, ap length h.parts, length-append (spelling (secret_tree secret hash)) h.more) }) h.parts
 
-pub not_padded : (bytes : List ℕ) (read : Option (Sexp × ℕ)) (t : Sexp) (n : ℕ) → read ≡ Some (t, n) → 15 < length bytes - n → (u : Sexp) (secret : List Tree) (hash : Tree)
+pub not_padded : (bytes : List ℕ) (read : Option (Sexp × ℕ)) (t : Sexp) (n : ℕ) → read ≡ Some (t, n) → 16 < length bytes - n → (u : Sexp) (secret : List Tree) (hash : Tree)
     → read ≡ Some (u, length (spelling (secret_tree secret hash))) → AreSpelled bytes (secret_tree secret hash) → ⊥
 not_padded bytes read t n e lt u secret hash f h =
     let pair : (t, n) ≡ (u, length (spelling (secret_tree secret hash))) = cc in
@@ -52,7 +53,7 @@ not_padded bytes read t n e lt u secret hash f h =
 pub not_two : (read : Option (Sexp × ℕ)) (t : Sexp) (n k : ℕ) → read ≡ Some (t, n) → (secret : List Tree) (hash : Tree) → read ≡ Some (Listed (list_of secret ∷ hash ∷ []), k) → tree_of t ≡ secret_tree secret hash
 not_two read t n k e secret hash f = let pair : (t, n) ≡ (Listed (list_of secret ∷ hash ∷ []), k) = cc in ap (λ (x : Sexp × ℕ). tree_of x.0) pair
 
-pub padded_is : (bytes : List ℕ) (t : Sexp) (n : ℕ) (u : Tree) → (n ≤ length bytes) × IsReadable (take n bytes) t → length bytes - n ≤ 15 → tree_of t ≡ u → AreSpelled bytes u
+pub padded_is : (bytes : List ℕ) (t : Sexp) (n : ℕ) (u : Tree) → (n ≤ length bytes) × IsReadable (take n bytes) t → length bytes - n ≤ 16 → tree_of t ≡ u → AreSpelled bytes u
 padded_is bytes t n u h few e = record {
   more = drop n bytes;
   parts = sym (take-append-drop n bytes) ∙ ap (λ (s : List ℕ). s ++ drop n bytes) (h.1.spelled ∙ ap spelling e);
@@ -100,8 +101,11 @@ flat_all a (n ∷ ns) [] e = absurd cc
 flat_all a (n ∷ ns) (t ∷ ts) e =
     omega (arith, flat_named a n t (and_first (is_named a n t) (pointwise (is_named a) ns ts) e), flat_all a ns ts (and_second (is_named a n t) (pointwise (is_named a) ns ts) e))
 
+pub flat_secret : (a : Algorithm) (secret : List Tree) → are_secret a secret ≡ true → depths (row secret) ≤ 1
+flat_secret a secret e = flat_all a (secret_names a) secret e
+
 pub shallow : (a : Algorithm) (secret : List Tree) (digest : List ℕ) → are_secret a secret ≡ true → depth (secret_tree secret (hash_tree digest)) ≤ most_depth
-shallow a secret digest e = omega (arith, flat_all a (secret_names a) secret e)
+shallow a secret digest e = omega (arith, flat_secret a secret e)
 
 -- ---- the clear key
 

@@ -1,34 +1,41 @@
 -- A file that is made is within the limits of one that is read.
 use Rattle.std.proofs.Common.{◌≡◌, ℕ, ◌+◌, ◌^◌, ◌<◌, ◌≤◌, true, false, IfSome, List, [], ◌∷◌, ◌++◌, length, Option, Some, None, ap, ◌∙◌, arith, length-append}
 use Rattle.std.specs.List.{flat_map}
-use Rattle.std.proofs.lemmas.List.Concat.{flat_map-cons}
 use Rattle.std.proofs.lemmas.Grind.{flat_map-append}
+use Rattle.std.proofs.lemmas.List.Concat.{flat_map-cons}
 use Rattle.sexp_canonical.specs.Tree.{Tree, leaf, list_of, row}
 use Rattle.sexp_canonical.specs.Spelling.{numeral, spelling, depth, depths}
 use Rattle.sexp_canonical.proofs.Numerals.{length-numeral}
-use Rattle.sexp_canonical.proofs.Trees.{spelled_list}
+use Rattle.sexp_canonical.proofs.Trees.{numeral_begins, spelled_list}
 use Rattle.sexp_keys.specs.Names.{algorithm_name, form_name, protected_name, time_name}
 use Rattle.sexp_keys.specs.Key.{Key, key_tree, algorithm_list}
 use Rattle.sexp_keys.specs.Lists.{time_lists}
-use Rattle.secret_file.specs.Protection.{Protection, cbc_name, hash_name, hashing_tree, derivation_tree, protection_tree}
+use Rattle.secret_file.specs.Protection.{Protection, protection_name, iv_of, hash_name, hashing_tree, derivation_tree, protection_tree}
 use Rattle.secret_file.specs.Opens.{hash_tree, secret_tree}
+use Rattle.secret_file.specs.declared.cipher.Cipher.{Cipher}
+use Rattle.secret_file.specs.declared.cipher.Cipher.TheVariants.{Cbc, Ocb}
 use Rattle.secret_file.specs.Protects.{written_protection, locked_by}
 use Rattle.std.specs.Prelude.{codes}
 
-size : List Tree → ℕ
-size ts = length (flat_map spelling ts)
-
-size-cons : (t : Tree) (ts : List Tree) → length (flat_map spelling (t ∷ ts)) ≡ length (spelling t) + length (flat_map spelling ts)
-size-cons t ts = ap length (flat_map-cons spelling t ts) ∙ length-append (spelling t) (flat_map spelling ts)
-
-size-append : (ts us : List Tree) → length (flat_map spelling (ts ++ us)) ≡ length (flat_map spelling ts) + length (flat_map spelling us)
-size-append ts us = ap length (flat_map-append spelling ts us) ∙ length-append (flat_map spelling ts) (flat_map spelling us)
-
-list_len : (ts : List Tree) → length (spelling (list_of ts)) ≡ length (flat_map spelling ts) + 2
+pub list_len : (ts : List Tree) → length (spelling (list_of ts)) ≡ length (flat_map spelling ts) + 2
 list_len ts = omega (arith, ap length (spelled_list ts), length-append (flat_map spelling ts) (41 ∷ []))
 
-atom_len : (bytes : List ℕ) → length bytes < 10 ^ 5 → length (spelling (leaf bytes)) ≤ length bytes + 6
+pub size-cons : (t : Tree) (ts : List Tree) → length (flat_map spelling (t ∷ ts)) ≡ length (spelling t) + length (flat_map spelling ts)
+size-cons t ts = ap length (flat_map-cons spelling t ts) ∙ length-append (spelling t) (flat_map spelling ts)
+
+pub size-append : (ts us : List Tree) → length (flat_map spelling (ts ++ us)) ≡ length (flat_map spelling ts) + length (flat_map spelling us)
+size-append ts us = ap length (flat_map-append spelling ts us) ∙ length-append (flat_map spelling ts) (flat_map spelling us)
+
+pub atom_len : (bytes : List ℕ) → length bytes < 10 ^ 5 → length (spelling (leaf bytes)) ≤ length bytes + 6
 atom_len bytes h = omega (arith, length-append (numeral (length bytes)) (58 ∷ bytes), length-numeral 4 (length bytes) h)
+
+pub atom_least : (bytes : List ℕ) → length bytes + 2 ≤ length (spelling (leaf bytes))
+atom_least bytes =
+    omega (arith, length-append (numeral (length bytes)) (58 ∷ bytes), ap length (numeral_begins (length bytes)).parts)
+
+-- an atom of fewer than 100 bytes
+pub short_atom_len : (bytes : List ℕ) → length bytes < 100 → length (spelling (leaf bytes)) ≤ length bytes + 3
+short_atom_len bytes h = omega (arith, length-append (numeral (length bytes)) (58 ∷ bytes), length-numeral 1 (length bytes) (omega arith))
 
 atoms2 : (a b : List ℕ) → length (flat_map spelling (leaf a ∷ leaf b ∷ [])) ≡ length (spelling (leaf a)) + length (spelling (leaf b))
 atoms2 a b = omega (arith, size-cons (leaf a) (leaf b ∷ []), size-cons (leaf b) [])
@@ -40,23 +47,29 @@ hashing_len : (salt digits : List ℕ) → length salt ≡ 8 → length digits �
 hashing_len salt digits s d =
     omega (arith, list_len (leaf hash_name ∷ leaf salt ∷ leaf digits ∷ []), atoms3 hash_name salt digits, atom_len hash_name (omega arith), atom_len salt (omega arith), atom_len digits (omega arith))
 
-derivation_len : (hashing : Tree) (iv : List ℕ) → length iv ≡ 16 → length (spelling hashing) ≤ 42 → length (spelling (derivation_tree hashing iv)) ≤ 66
+derivation_len : (hashing : Tree) (iv : List ℕ) → length iv ≤ 16 → length (spelling hashing) ≤ 42 → length (spelling (derivation_tree hashing iv)) ≤ 66
 derivation_len hashing iv v h =
     omega (arith, list_len (hashing ∷ leaf iv ∷ []), size-cons hashing (leaf iv ∷ []), size-cons (leaf iv) [], atom_len iv (omega arith))
 
-protection_len : (hashing : Tree) (iv encrypted : List ℕ) → length iv ≡ 16 → length (spelling hashing) ≤ 42 → length encrypted < 10 ^ 5 → length (spelling (protection_tree hashing iv encrypted)) ≤ length encrypted + 120
-protection_len hashing iv encrypted v h e =
-    let d = derivation_tree hashing iv in
+pub name_len : (c : Cipher) → length (protection_name c) ≤ 25
+name_len (Cbc iv) = omega arith
+name_len (Ocb iv) = omega arith
+
+protection_len : (hashing : Tree) (c : Cipher) (encrypted : List ℕ) → length (iv_of c) ≤ 16 → length (spelling hashing) ≤ 42 → length encrypted < 10 ^ 5 → length (spelling (protection_tree hashing c encrypted)) ≤ length encrypted + 120
+protection_len hashing c encrypted v h e =
+    let d = derivation_tree hashing (iv_of c) in
+    let name = protection_name c in
+    let short = name_len c in
     omega (
       arith,
-      list_len (leaf protected_name ∷ leaf cbc_name ∷ d ∷ leaf encrypted ∷ []),
-      size-cons (leaf protected_name) (leaf cbc_name ∷ d ∷ leaf encrypted ∷ []),
-      size-cons (leaf cbc_name) (d ∷ leaf encrypted ∷ []),
+      list_len (leaf protected_name ∷ leaf name ∷ d ∷ leaf encrypted ∷ []),
+      size-cons (leaf protected_name) (leaf name ∷ d ∷ leaf encrypted ∷ []),
+      size-cons (leaf name) (d ∷ leaf encrypted ∷ []),
       size-cons d (leaf encrypted ∷ []),
       size-cons (leaf encrypted) [],
       atom_len protected_name (omega arith),
-      atom_len cbc_name (omega arith),
-      derivation_len hashing iv v h,
+      atom_len name (omega arith),
+      derivation_len hashing (iv_of c) v h,
       atom_len encrypted e,
     )
 
@@ -79,7 +92,7 @@ pub secret_len : (secret : List Tree) (digest : List ℕ) → length digest ≡ 
 secret_len secret digest h =
     omega (arith, list_len (list_of secret ∷ hash_tree digest ∷ []), size-cons (list_of secret) (hash_tree digest ∷ []), size-cons (hash_tree digest) [], list_len secret, hash_len digest h)
 
-key_len : (key : Key) → length (spelling (key_tree key)) ≡ length (spelling (leaf (form_name key.is_clear))) + length (spelling (leaf (algorithm_name key.algorithm)))
+pub key_len : (key : Key) → length (spelling (key_tree key)) ≡ length (spelling (leaf (form_name key.is_clear))) + length (spelling (leaf (algorithm_name key.algorithm)))
     + length (flat_map spelling key.public) + length (flat_map spelling key.private) + length (flat_map spelling key.further) + 4
 key_len key =
     let a = algorithm_list key key.private in
@@ -97,7 +110,7 @@ key_len key =
 pub record FitsLocked (key : Key) (p : Protection) (time : Option (List ℕ)) : Type 0 where
   pub salt_len : length p.salt ≡ 8
   pub digits_len : length (numeral p.count) ≤ 10
-  pub iv_len : length p.iv ≡ 16
+  pub iv_short : length (iv_of p.cipher) ≤ 16
   pub encrypted_len : length p.encrypted ≤ length (flat_map spelling key.private) + 67
   pub times : length (flat_map spelling (time_lists time)) ≤ 41
 
@@ -114,16 +127,16 @@ locked_len key p time clear h short =
     let private-len : length (flat_map spelling key.private) ≤ 65000 = omega (arith, k) in
     let enc = h.encrypted_len in
     let times = h.times in
-    let inner = protection_len (hashing_tree p.salt (numeral p.count)) p.iv p.encrypted h.iv_len (hashing_len p.salt (numeral p.count) h.salt_len h.digits_len) (omega arith) in
+    let inner = protection_len (hashing_tree p.salt (numeral p.count)) p.cipher p.encrypted h.iv_short (hashing_len p.salt (numeral p.count) h.salt_len h.digits_len) (omega arith) in
     omega (arith, k, key_len (locked_by key p time), size-cons (written_protection p) (time_lists time), inner, atom_len (form_name false) (omega arith))
 
 -- ---- depth
 
-depths-le-append : (ts us : List Tree) (n : ℕ) → depths (row ts) ≤ n → depths (row us) ≤ n → depths (row (ts ++ us)) ≤ n
+pub depths-le-append : (ts us : List Tree) (n : ℕ) → depths (row ts) ≤ n → depths (row us) ≤ n → depths (row (ts ++ us)) ≤ n
 depths-le-append [] us n h g = g
 depths-le-append (t ∷ ts) us n h g = omega (arith, depths-le-append ts us n (omega arith) g)
 
-depths-front : (ts us : List Tree) → depths (row ts) ≤ depths (row (ts ++ us))
+pub depths-front : (ts us : List Tree) → depths (row ts) ≤ depths (row (ts ++ us))
 depths-front [] us = omega arith
 depths-front (t ∷ ts) us = omega (arith, depths-front ts us)
 

@@ -2,6 +2,7 @@ pub mod Counts
 pub mod Shapes
 pub mod Decrypted
 pub mod Within
+pub mod Unsealing
 pub mod Openings
 pub mod OneAnswer
 pub mod Fits

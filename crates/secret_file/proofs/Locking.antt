@@ -3,21 +3,24 @@ use Rattle.std.proofs.Common.{◌≡◌, ℕ, ◌+◌, ◌-◌, ◌%◌, ◌<◌
 use Rattle.std.proofs.lemmas.List.{length-take}
 use Rattle.std.specs.List.{flat_map}
 use Rattle.std.proofs.lemmas.Bool.{le-ltb}
-use Rattle.s2k_derive.specs.S2k.{octets}
+use Rattle.s2k_derive.specs.S2k.{octets, derived_key}
 use Rattle.s2k_derive.specs.declared.TheConstants.{MIN_COUNT, MAX_COUNT}
 use Rattle.sha1.specs.Sha1.{sha1}
-use Rattle.sexp_canonical.specs.Tree.{Tree, leaf, list_of}
+use Rattle.sexp_canonical.specs.Tree.{leaf, list_of}
 use Rattle.sexp_canonical.specs.Spelling.{numeral, spelling, depth}
 use Rattle.sexp_canonical.specs.declared.tree.Sexp.TheVariants.{List as Listed}
 use Rattle.sexp_canonical.proofs.Numerals.{length-numeral}
-use Rattle.sexp_keys.specs.Names.{form_name}
+use Rattle.sexp_keys.specs.Names.{algorithm_name, form_name}
 use Rattle.sexp_keys.specs.Parameters.{are_protection, are_private}
-use Rattle.sexp_keys.specs.Key.{Key, IsFormed, key_tree, algorithm_list, clear_with, protected_with}
-use Rattle.sexp_keys.specs.Lists.{hashed_list_of, key_list_of, time_lists}
-use Rattle.secret_file.specs.Protection.{Protection, AreBlocks, IsCount, IsProtection}
-use Rattle.secret_file.specs.Opens.{time_of, hash_tree, opened, Opens}
-use Rattle.secret_file.specs.Protects.{padded, secret_text, written_protection, locked_by, protected_file}
-use Rattle.secret_file.proofs.Fits.{FitsLocked, list_some, times_len, locked_len, locked_depth}
+use Rattle.sexp_keys.specs.Key.{Key, IsFormed, key_tree, algorithm_list, clear_with}
+use Rattle.sexp_keys.specs.Lists.{associated_list_of, hashed_list_of, time_lists}
+use Rattle.secret_file.specs.Protection.{Protection, iv_of, iv_len, AreOctets, IsCount, IsProtection}
+use Rattle.secret_file.specs.Opens.{time_of, hash_tree, AreSealed, Hold, Opens}
+use Rattle.secret_file.specs.Protects.{padded, secret_text, sealed_text, written_protection, locked_by, protected_file}
+use Rattle.aes_modes.specs.Cbc.{cbc_decrypted}
+use Rattle.secret_file.specs.declared.cipher.Cipher.TheVariants.{Cbc, Ocb}
+use Rattle.secret_file.proofs.Within.{sealed_size}
+use Rattle.secret_file.proofs.Fits.{list_len, size-cons, size-append, key_len, FitsLocked, list_some, times_len, locked_len, locked_depth}
 
 large_count : (n : ℕ) → 256 ≤ n → octets n ≡ n
 large_count n h = let no = le-ltb n 256 h in rw no refl
@@ -31,21 +34,22 @@ count_written count low high = record {
   accepted = record { least = low; greatest = high };
 }
 
--- what is known of the parts of a protection that is made
-pub record IsMade (key : Key) (p : Protection) (time : Option (List ℕ)) (plain : List ℕ) (pass : List ℕ) : Type 0 where
+-- what is known of a protection that is made
+pub record IsMade (key : Key) (p : Protection) (time : Option (List ℕ)) (pass : List ℕ) : Type 0 where
   pub fits : FitsLocked key p time
   pub low : MIN_COUNT ≤ p.count
   pub high : p.count ≤ MAX_COUNT
-  pub blocks : AreBlocks p.encrypted
-  pub opens : opened pass p ≡ plain
+  pub length_of_iv : length (iv_of p.cipher) ≡ iv_len p.cipher
+  pub octets : AreOctets p.cipher p.encrypted
+  pub held : Hold p.cipher (record { key = locked_by key p time; protection = p }) pass key key.private
 
-made_protection : (key : Key) (p : Protection) (time : Option (List ℕ)) (plain pass : List ℕ) → IsMade key p time plain pass → IsProtection (written_protection p) p
-made_protection key p time plain pass h = record {
+made_protection : (key : Key) (p : Protection) (time : Option (List ℕ)) (pass : List ℕ) → IsMade key p time pass → IsProtection (written_protection p) p
+made_protection key p time pass h = record {
   hashing = _;
   parts = refl;
   is_hashing = record { digits = numeral p.count; parts = refl; is_count = count_written p.count h.low h.high; salt_len = h.fits.salt_len };
-  iv_len = h.fits.iv_len;
-  blocks = h.blocks;
+  length_of_iv = h.length_of_iv;
+  octets = h.octets;
 }
 
 times_formed : (p : Protection) (time : Option (List ℕ)) → are_protection (written_protection p ∷ time_lists time) ≡ true
@@ -62,60 +66,96 @@ same_key key e = λ i. record { algorithm = key.algorithm; is_clear = e i; publi
 few_more : (n : ℕ) (padding : List ℕ) → length (take ((16 - n % 16) % 16) padding) ≤ 15
 few_more n padding = omega (arith, length-take ((16 - n % 16) % 16) padding)
 
-pub made_opens : (key : Key) (p : Protection) (time : Option (List ℕ)) (pass plain padding : List ℕ) → IsFormed key → key.is_clear ≡ true → length (spelling (key_tree key)) ≤ 65000 → depth (key_tree key) ≤ 64
-    → IsMade key p time plain pass → plain ≡ padded (secret_text key time) padding → Opens (protected_file key p time) pass key
-made_opens key p time pass plain padding formed clear short shallow h e =
+made_opens : (key : Key) (p : Protection) (time : Option (List ℕ)) (pass : List ℕ) → IsFormed key → key.is_clear ≡ true → length (spelling (key_tree key)) ≤ 65000 → depth (key_tree key) ≤ 64 → IsMade key p time pass
+    → Opens (protected_file key p time) pass key
+made_opens key p time pass formed clear short shallow h =
     let locked = locked_by key p time in
-    let n = length (secret_text key time) in
-    let more = take ((16 - n % 16) % 16) padding in
     record {
-      locked = locked;
-      protection = p;
+      locked = record { key = locked; protection = p };
       is_file = record {
         tree = Listed (leaf (form_name false) ∷ algorithm_list locked locked.private ∷ locked.further);
         read = record { spelled = refl; shallow = locked_depth key p time shallow; short = locked_len key p time clear h.fits short };
         is = record { parts = refl; formed = record { public = formed.public; private = times_formed p time; further = formed.further } };
       };
-      is_locked = record { protected = refl; protection = made_protection key p time plain pass h };
+      is_locked = record { protected = refl; protection = made_protection key p time pass h };
       secrets = record {
         secret = key.private;
         names = sym (ap (λ (c : Bool). are_private c key.algorithm key.private) clear) ∙ formed.private;
         clear = same_key key clear;
-        spelled = record {
-          more = more;
-          parts = h.opens ∙ e ∙ ap (λ (t : Option (List ℕ)). secret_text key t ++ more) (sym (times_read p time));
-          few = few_more n padding;
-        };
+        held = h.held;
       };
     }
 
-pub fits_made : (key : Key) (p : Protection) (time : Option (List ℕ)) (plain pass text padding : List ℕ) → length p.salt ≡ 8 → length p.iv ≡ 16 → MIN_COUNT ≤ p.count → p.count ≤ MAX_COUNT
-    → length (flat_map spelling (time_lists time)) ≤ 41 → length text ≤ length (flat_map spelling key.private) + 52 → 0 < length text → plain ≡ padded text padding → length plain % 16 ≡ 0 → length p.encrypted ≡ length plain
-    → opened pass p ≡ plain → IsMade key p time plain pass
-fits_made key p time plain pass text padding salt iv low high times text-len some e whole len opens =
-    let n : length plain ≡ length text + length (take ((16 - length text % 16) % 16) padding) = ap length e ∙ length-append text (take ((16 - length text % 16) % 16) padding) in
-    let few = few_more (length text) padding in
-    record {
-      fits = record { salt_len = salt; digits_len = length-numeral 9 p.count (omega arith); iv_len = iv; encrypted_len = omega arith; times = times };
-      low = low;
-      high = high;
-      blocks = record { whole = ap (λ (k : ℕ). k % 16) len ∙ whole; some = omega arith };
-      opens = opens;
-    }
+pub file_opens : (key : Key) (p : Protection) (time : Option (List ℕ)) (pass file : List ℕ) → IsFormed key → key.is_clear ≡ true → length (spelling (key_tree key)) ≤ 65000 → depth (key_tree key) ≤ 64 → IsMade key p time pass
+    → file ≡ protected_file key p time → Opens file pass key
+file_opens key p time pass file formed clear short shallow h e = subst (λ (s : List ℕ). Opens s pass key) (sym e) (made_opens key p time pass formed clear short shallow h)
 
 pub ok_more : {A E : Type 0} (r : Result A E) (P Q : A → Type 0) → ((x : A) → P x → Q x) → IfOk r P → IfOk r Q
 ok_more (Ok x) P Q f h = f x h
 ok_more (Err e) P Q f h = tt
 
+-- ---- by CBC
+
 pub text_some : (key : Key) (time : Option (List ℕ)) (text : List ℕ) → text ≡ secret_text key time → 0 < length text
 text_some key time text e = omega (arith, ap length e, list_some (list_of key.private ∷ hash_tree (sha1 (hashed_list_of key time)) ∷ []))
 
-pub file_opens : (key : Key) (p : Protection) (time : Option (List ℕ)) (pass text plain padding file : List ℕ) (lists : List Tree) → IsFormed key → key.is_clear ≡ true → length (spelling (key_tree key)) ≤ 65000 → depth (key_tree key) ≤ 64
-    → length p.salt ≡ 8 → length p.iv ≡ 16 → MIN_COUNT ≤ p.count → p.count ≤ MAX_COUNT → IfSome time (λ t. length t ≡ 15) → text ≡ secret_text key time → length text ≤ length (flat_map spelling key.private) + 52
-    → plain ≡ padded text padding → length plain % 16 ≡ 0 → length p.encrypted ≡ length plain → opened pass p ≡ plain
-    → lists ≡ written_protection p ∷ time_lists time → file ≡ key_list_of (protected_with key lists) → Opens file pass key
-file_opens key p time pass text plain padding file lists formed clear short shallow salt iv low high times text-is text-len plain-is whole len opens lists-are file-is =
-    subst (λ (s : List ℕ). Opens s pass key) (sym (file-is ∙ ap (λ (ls : List Tree). key_list_of (protected_with key ls)) lists-are))
-    (made_opens key p time pass plain padding formed clear short shallow
-    (fits_made key p time plain pass text padding salt iv low high (times_len time times) text-len (text_some key time text text-is) plain-is whole len opens)
-    (plain-is ∙ ap (λ (s : List ℕ). padded s padding) text-is))
+abbrev pub chained : List ℕ → ℕ → (iv encrypted : List ℕ) → Protection
+chained salt count iv encrypted = record { salt = salt; count = count; cipher = Cbc iv; encrypted = encrypted }
+
+pub cbc_made : (key : Key) (salt : List ℕ) (count : ℕ) (iv encrypted : List ℕ) (time : Option (List ℕ)) (pass plain text padding : List ℕ) → length salt ≡ 8 → length iv ≡ 16 → MIN_COUNT ≤ count → count ≤ MAX_COUNT
+    → IfSome time (λ t. length t ≡ 15) → text ≡ secret_text key time → length text ≤ length (flat_map spelling key.private) + 52 → plain ≡ padded text padding → length plain % 16 ≡ 0 → length encrypted ≡ length plain
+    → cbc_decrypted (derived_key pass salt count) iv encrypted ≡ plain → IsMade key (chained salt count iv encrypted) time pass
+cbc_made key salt count iv encrypted time pass plain text padding salt-len iv-len low high times text-is text-len e whole len opens =
+    let p = chained salt count iv encrypted in
+    let more = take ((16 - length text % 16) % 16) padding in
+    let n : length plain ≡ length text + length more = ap length e ∙ length-append text more in
+    let few = few_more (length text) padding in
+    let some = text_some key time text text-is in
+    record {
+      fits = record { salt_len = salt-len; digits_len = length-numeral 9 count (omega arith); iv_short = omega arith; encrypted_len = omega arith; times = times_len time times };
+      low = low;
+      high = high;
+      length_of_iv = iv-len;
+      octets = (ap (λ (k : ℕ). k % 16) len ∙ whole, omega arith);
+      held = record {
+        more = more;
+        parts = opens ∙ e ∙ ap (λ (t : List ℕ). t ++ more) (text-is ∙ ap (secret_text key) (sym (times_read p time)));
+        few = omega arith;
+      };
+    }
+
+-- ---- by OCB
+
+abbrev pub sealed : List ℕ → ℕ → (iv encrypted : List ℕ) → Protection
+sealed salt count iv encrypted = record { salt = salt; count = count; cipher = Ocb iv; encrypted = encrypted }
+
+-- what is encrypted and what is authenticated is short
+pub sealed_short : (key : Key) → length (sealed_text key) ≤ length (spelling (key_tree key))
+sealed_short key = omega (arith, key_len key, sealed_size key.private)
+
+pub associated_within : (key : Key) (time : Option (List ℕ)) → IfSome time (λ t. length t ≡ 15) → length (associated_list_of key time) ≤ length (spelling (key_tree key)) + 41
+associated_within key time h =
+    omega (
+      arith,
+      key_len key,
+      times_len time h,
+      list_len (leaf (algorithm_name key.algorithm) ∷ key.public ++ time_lists time),
+      size-cons (leaf (algorithm_name key.algorithm)) (key.public ++ time_lists time),
+      size-append key.public (time_lists time),
+    )
+
+pub ocb_made : (key : Key) (salt : List ℕ) (count : ℕ) (iv encrypted : List ℕ) (time : Option (List ℕ)) (pass assoc plain : List ℕ) → length salt ≡ 8 → length iv ≡ 12 → MIN_COUNT ≤ count → count ≤ MAX_COUNT
+    → IfSome time (λ t. length t ≡ 15) → assoc ≡ associated_list_of key time → plain ≡ sealed_text key → length encrypted ≡ length plain + 16
+    → AreSealed (derived_key pass salt count) iv assoc encrypted plain → IsMade key (sealed salt count iv encrypted) time pass
+ocb_made key salt count iv encrypted time pass assoc plain salt-len iv-len low high times assoc-is plain-is len is =
+    let p = sealed salt count iv encrypted in
+    let plain-len : length plain ≡ length (flat_map spelling key.private) + 4 = ap length plain-is ∙ sealed_size key.private in
+    record {
+      fits = record { salt_len = salt-len; digits_len = length-numeral 9 count (omega arith); iv_short = omega arith; encrypted_len = omega arith; times = times_len time times };
+      low = low;
+      high = high;
+      length_of_iv = iv-len;
+      octets = omega arith;
+      held = subst (λ (a : List ℕ). AreSealed (derived_key pass salt count) iv a encrypted (sealed_text key)) (assoc-is ∙ ap (associated_list_of key) (sym (times_read p time)))
+          (subst (AreSealed (derived_key pass salt count) iv assoc encrypted) plain-is is);
+    }

@@ -1,5 +1,5 @@
 -- A file and a passphrase have one answer.
-use Rattle.std.proofs.Common.{◌≡◌, ◌⊎◌, inl, inr, ℕ, ◌++◌, false, List, [], Ok, Err, refl, sym, ap, subst, ◌∙◌}
+use Rattle.std.proofs.Common.{◌≡◌, ◌⊎◌, inl, inr, ℕ, ◌++◌, false, IsTrue, List, [], Ok, Err, refl, sym, ap, subst, ◌∙◌}
 use Rattle.sexp_canonical.specs.Tree.{Tree}
 use Rattle.sexp_canonical.specs.View.{tree_of}
 use Rattle.sexp_canonical.specs.Spelling.{IsReadable}
@@ -13,37 +13,58 @@ use Rattle.sexp_keys.proofs.Keys as keys
 use Rattle.sexp_keys.specs.declared.fault.KeyFault.{KeyFault}
 use Rattle.sexp_keys.specs.declared.fault.KeyFault.TheVariants as faults
 use Rattle.sha1.specs.Sha1.{sha1}
-use Rattle.sexp_keys.specs.Lists.{hashed_list_of}
-use Rattle.secret_file.specs.Protection.{Protection, hashing_tree, protection_tree, has_other_name, IsProtection, IsProtectionFault}
-use Rattle.secret_file.specs.Opens.{first_of, opened, hash_tree, time_of, IsFile, AreSecrets, Opens}
-use Rattle.secret_file.specs.Answers.{refused, IsFileFault, AnswersBytes, AnswersLocked, AnswersKey, Answers}
+use Rattle.sexp_keys.specs.Lists.{associated_list_of, hashed_list_of}
+use Rattle.aes_modes.specs.Cbc.{cbc_decrypted}
+use Rattle.sexp_canonical.specs.Spelling.{spelling}
+use Rattle.secret_file.specs.Protection.{Protection, protection_name, iv_of, hashing_tree, protection_tree, has_other_name, IsProtection, IsProtectionFault}
+use Rattle.secret_file.specs.Opens.{first_of, key_by, hash_tree, sealed_tree, time_of, IsFile, LockedKey, IsLocked, Hold, OpensTo, Opens}
+use Rattle.secret_file.specs.declared.cipher.Cipher.{Cipher}
+use Rattle.secret_file.specs.declared.cipher.Cipher.TheVariants.{Cbc, Ocb}
+use Rattle.secret_file.specs.Answers.{refused, unlocked, IsFileFault, IsLockedFault, AnswersOpening, AnswersLocked, AnswersKey, Answers}
+use Rattle.secret_file.specs.declared.locked.Opened.{Opened}
+use Rattle.secret_file.specs.declared.locked.Opened.TheVariants as openings
 use Rattle.secret_file.specs.declared.unlocked.Unlocked.{Unlocked}
 use Rattle.secret_file.specs.declared.unlocked.Unlocked.TheVariants as answers
 use Rattle.secret_file.proofs.Decrypted.{one_secret}
+use Rattle.secret_file.proofs.Unsealing.{key-bytes, one_plain, one_sealed}
+use Rattle.secret_file.proofs.Shapes.{one_cipher}
 
 -- ---- the key
 
-one_clear : (locked k l : Key) (bytes : List ℕ) → AreSecrets locked bytes k → AreSecrets locked bytes l → k ≡ l
-one_clear locked k l bytes h g =
-    let same = one_secret bytes h.secret g.secret (hash_tree (sha1 (hashed_list_of k (time_of locked.private)))) (hash_tree (sha1 (hashed_list_of l (time_of locked.private)))) h.spelled g.spelled in
-    h.clear ∙ ap (clear_with locked) same.0 ∙ sym g.clear
+one_held : (c : Cipher) (locked : LockedKey) (pass : List ℕ) (k l : Key) (s r : List Tree) → Hold c locked pass k s → Hold c locked pass l r → s ≡ r
+one_held (Cbc iv) locked pass k l s r h g =
+    (one_secret (cbc_decrypted (key_by pass locked.protection) iv locked.protection.encrypted) s r (hash_tree (sha1 (hashed_list_of k (time_of locked.key.private)))) (hash_tree (sha1 (hashed_list_of l (time_of locked.key.private)))) h g).0
+one_held (Ocb iv) locked pass k l s r h g =
+    one_sealed s r
+    (one_plain (key_by pass locked.protection) iv (associated_list_of locked.key (time_of locked.key.private)) locked.protection.encrypted (spelling (sealed_tree s)) (spelling (sealed_tree r))
+    (key-bytes pass locked.protection.salt locked.protection.count) h g)
 
-one_bytes : (locked : Key) (bytes : List ℕ) (a b : Unlocked) → AnswersBytes locked bytes a → AnswersBytes locked bytes b → a ≡ b
-one_bytes locked bytes a b (inl x) (inl y) = x.2 ∙ ap answers.Key (one_clear locked x.0 y.0 bytes x.1 y.1) ∙ sym y.2
-one_bytes locked bytes a b (inl x) (inr y) = absurd (y.0 x.0 x.1)
-one_bytes locked bytes a b (inr x) (inl y) = absurd (x.0 y.0 y.1)
-one_bytes locked bytes a b (inr x) (inr y) = x.1 ∙ sym y.1
+one_clear : (locked : LockedKey) (pass : List ℕ) (k l : Key) → OpensTo locked pass k → OpensTo locked pass l → k ≡ l
+one_clear locked pass k l h g =
+    h.clear ∙ ap (clear_with locked.key) (one_held locked.protection.cipher locked pass k l h.secret g.secret h.held g.held) ∙ sym g.clear
+
+one_opening : (locked : LockedKey) (pass : List ℕ) (a b : Opened) → AnswersOpening locked pass a → AnswersOpening locked pass b → a ≡ b
+one_opening locked pass a b (inl x) (inl y) = x.2 ∙ ap openings.Key (one_clear locked pass x.0 y.0 x.1 y.1) ∙ sym y.2
+one_opening locked pass a b (inl x) (inr y) = absurd (y.0 x.0 x.1)
+one_opening locked pass a b (inr x) (inl y) = absurd (x.0 y.0 y.1)
+one_opening locked pass a b (inr x) (inr y) = x.1 ∙ sym y.1
 
 -- ---- the protection
 
+known_name : (c : Cipher) (salt digits encrypted : List ℕ) → has_other_name (protection_tree (hashing_tree salt digits) c encrypted) ≡ false
+known_name (Cbc iv) salt digits encrypted = refl
+known_name (Ocb iv) salt digits encrypted = refl
+
 right_names : (t : Tree) (p : Protection) → IsProtection t p → has_other_name t ≡ false
 right_names t p h =
-    ap has_other_name (h.parts ∙ ap (λ (u : Tree). protection_tree u p.iv p.encrypted) h.is_hashing.parts) ∙ refl
+    ap has_other_name (h.parts ∙ ap (λ (u : Tree). protection_tree u p.cipher p.encrypted) h.is_hashing.parts) ∙ known_name p.cipher p.salt h.is_hashing.digits p.encrypted
 
 one_protection : (t : Tree) (p q : Protection) → IsProtection t p → IsProtection t q → p ≡ q
 one_protection t p q h g =
-    let whole : protection_tree h.hashing p.iv p.encrypted ≡ protection_tree g.hashing q.iv q.encrypted = sym h.parts ∙ g.parts in
-    let iv : p.iv ≡ q.iv = cc in
+    let whole : protection_tree h.hashing p.cipher p.encrypted ≡ protection_tree g.hashing q.cipher q.encrypted = sym h.parts ∙ g.parts in
+    let names : protection_name p.cipher ≡ protection_name q.cipher = cc in
+    let ivs : iv_of p.cipher ≡ iv_of q.cipher = cc in
+    let cipher : p.cipher ≡ q.cipher = one_cipher p.cipher q.cipher names ivs in
     let encrypted : p.encrypted ≡ q.encrypted = cc in
     let hashing : h.hashing ≡ g.hashing = cc in
     let inner : hashing_tree p.salt h.is_hashing.digits ≡ hashing_tree q.salt g.is_hashing.digits = sym h.is_hashing.parts ∙ hashing ∙ g.is_hashing.parts in
@@ -53,7 +74,7 @@ one_protection t p q h g =
     let n = g.is_hashing.is_count in
     let written : m.written ≡ n.written = numeral_injective m.written n.written (sym m.spelled ∙ digits ∙ n.spelled) in
     let count : p.count ≡ q.count = m.value ∙ ap octets written ∙ sym n.value in
-    λ i. record { salt = salt i; count = count i; iv = iv i; encrypted = encrypted i }
+    λ i. record { salt = salt i; count = count i; cipher = cipher i; encrypted = encrypted i }
 
 one_protection_fault : (t : Tree) (f g : KeyFault) → IsProtectionFault t f → IsProtectionFault t g → f ≡ g
 one_protection_fault t f g (inl x) (inl y) = x.1 ∙ sym y.1
@@ -65,12 +86,22 @@ no_protection_fault : (t : Tree) (p : Protection) (f : KeyFault) → IsProtectio
 no_protection_fault t p f h (inl x) = let e = x.0 in let d = right_names t p h in cc
 no_protection_fault t p f h (inr x) = x.1 p h
 
-one_locked : (locked : Key) (pass : List ℕ) (a b : Unlocked) → AnswersLocked locked pass a → AnswersLocked locked pass b → a ≡ b
-one_locked locked pass a b (inl x) (inl y) = x.2 ∙ ap refused (one_protection_fault (first_of locked.private) x.0 y.0 x.1 y.1) ∙ sym y.2
-one_locked locked pass a b (inl x) (inr y) = absurd (no_protection_fault (first_of locked.private) y.0 x.0 y.1 x.1)
-one_locked locked pass a b (inr x) (inl y) = absurd (no_protection_fault (first_of locked.private) x.0 y.0 x.1 y.1)
-one_locked locked pass a b (inr x) (inr y) =
-    one_bytes locked (opened pass y.0) a b (subst (λ (p : Protection). AnswersBytes locked (opened pass p) a) (one_protection (first_of locked.private) x.0 y.0 x.1 y.1) x.2) y.2
+one_locked_key : (l m : LockedKey) → l.key ≡ m.key → IsLocked l → IsLocked m → l ≡ m
+one_locked_key l m e h g =
+    let protections = one_protection (first_of m.key.private) l.protection m.protection (subst (λ (k : Key). IsProtection (first_of k.private) l.protection) e h.protection) g.protection in
+    λ i. record { key = e i; protection = protections i }
+
+fault_of_locked : (locked : LockedKey) (key : Key) (fault : KeyFault) → locked.key ≡ key → IsLocked locked → IsProtectionFault (first_of key.private) fault → ⊥
+fault_of_locked locked key fault e h f =
+    no_protection_fault (first_of locked.key.private) locked.protection fault h.protection (subst (λ (k : Key). IsProtectionFault (first_of k.private) fault) (sym e) f)
+
+one_locked : (key : Key) (pass : List ℕ) (a b : Unlocked) → AnswersLocked key pass a → AnswersLocked key pass b → a ≡ b
+one_locked key pass a b (inl x) (inl y) = x.2 ∙ ap refused (one_protection_fault (first_of key.private) x.0 y.0 x.1 y.1) ∙ sym y.2
+one_locked key pass a b (inl x) (inr y) = absurd (fault_of_locked y.0 key x.0 y.1 y.2 x.1)
+one_locked key pass a b (inr x) (inl y) = absurd (fault_of_locked x.0 key y.0 x.1 x.2 y.1)
+one_locked key pass a b (inr x) (inr y) =
+    let same = one_locked_key x.0 y.0 (x.1 ∙ sym y.1) x.2 y.2 in
+    x.3.2 ∙ ap unlocked (one_opening y.0 pass x.3.0 y.3.0 (subst (λ (l : LockedKey). AnswersOpening l pass x.3.0) same x.3.1) y.3.1) ∙ sym y.3.2
 
 one_key : (key : Key) (pass : List ℕ) (a b : Unlocked) → AnswersKey key pass a → AnswersKey key pass b → a ≡ b
 one_key key pass a b (inl x) (inl y) = x.1 ∙ sym y.1
@@ -117,9 +148,15 @@ one_answer file pass a b (inr x) (inr y) =
 
 -- ---- what opens is answered by its key, and nothing else is
 
-pub opens_answers : (file pass : List ℕ) (key : Key) → Opens file pass key → Answers file pass (answers.Key key)
-opens_answers file pass key h =
-    inr (h.locked, h.is_file, inr (h.is_locked.protected, inr (h.protection, h.is_locked.protection, inl (key, h.secrets, refl))))
+pub locked_answers : (file pass : List ℕ) (locked : LockedKey) (opening : Opened) → IsFile file locked.key → IsLocked locked → AnswersOpening locked pass opening → Answers file pass (unlocked opening)
+locked_answers file pass locked opening f h a = inr (locked.key, f, inr (h.protected, inr (locked, refl, h, (opening, a, refl))))
+
+pub unlocked_answers : (file pass : List ℕ) (key : Key) (fault : KeyFault) → IsFile file key → (IsTrue key.is_clear → ⊥) → IsLockedFault key fault → Answers file pass (refused fault)
+unlocked_answers file pass key fault f protected (inl x) = absurd (protected x.0)
+unlocked_answers file pass key fault f protected (inr x) = inr (key, f, inr (x.0, inl (fault, x.1, refl)))
+
+opens_answers : (file pass : List ℕ) (key : Key) → Opens file pass key → Answers file pass (answers.Key key)
+opens_answers file pass key h = locked_answers file pass h.locked (openings.Key key) h.is_file h.is_locked (inl (key, h.secrets, refl))
 
 pub opens : (file pass : List ℕ) (r : Unlocked) → (r ≡ answers.NoMemory) ⊎ Answers file pass r → (key : Key) → Opens file pass key → (r ≡ answers.NoMemory) ⊎ (r ≡ answers.Key key)
 opens file pass r (inl e) key h = inl e
@@ -132,23 +169,27 @@ no_key faults.Shadowed key e = cc
 no_key faults.NotSupported key e = cc
 no_key faults.NoMemory key e = cc
 
-key_bytes : (locked key : Key) (bytes : List ℕ) → AnswersBytes locked bytes (answers.Key key) → AreSecrets locked bytes key
-key_bytes locked key bytes (inl x) = let e = x.2 in let same : x.0 ≡ key = cc in subst (AreSecrets locked bytes) same x.1
-key_bytes locked key bytes (inr x) = absurd (let e = x.1 in cc)
+pub key_opening : (locked : LockedKey) (pass : List ℕ) (key : Key) → AnswersOpening locked pass (openings.Key key) → OpensTo locked pass key
+key_opening locked pass key (inl x) = let e = x.2 in let same : x.0 ≡ key = cc in subst (OpensTo locked pass) same x.1
+key_opening locked pass key (inr x) = absurd (let e = x.1 in cc)
 
-key_locked : (file pass : List ℕ) (locked key : Key) → IsFile file locked → locked.is_clear ≡ false → AnswersLocked locked pass (answers.Key key) → Opens file pass key
-key_locked file pass locked key f e (inl x) = absurd (no_key x.0 key x.2)
-key_locked file pass locked key f e (inr x) = record {
-  locked = locked;
-  protection = x.0;
-  is_file = f;
-  is_locked = record { protected = e; protection = x.1 };
-  secrets = key_bytes locked key (opened pass x.0) x.2;
+key_unlocked : (locked : LockedKey) (pass : List ℕ) (opening : Opened) (key : Key) → AnswersOpening locked pass opening → answers.Key key ≡ unlocked opening → OpensTo locked pass key
+key_unlocked locked pass (openings.Key other) key a e = let same : other ≡ key = cc in key_opening locked pass key (subst (λ (k : Key). AnswersOpening locked pass (openings.Key k)) same a)
+key_unlocked locked pass openings.BadPassphrase key a e = absurd cc
+key_unlocked locked pass openings.NoMemory key a e = absurd cc
+
+key_locked : (file pass : List ℕ) (locked key : Key) → IsFile file locked → AnswersLocked locked pass (answers.Key key) → Opens file pass key
+key_locked file pass locked key f (inl x) = absurd (no_key x.0 key x.2)
+key_locked file pass locked key f (inr x) = record {
+  locked = x.0;
+  is_file = subst (IsFile file) (sym x.1) f;
+  is_locked = x.2;
+  secrets = key_unlocked x.0 pass x.3.0 key x.3.1 x.3.2;
 }
 
 key_key : (file pass : List ℕ) (locked key : Key) → IsFile file locked → AnswersKey locked pass (answers.Key key) → Opens file pass key
 key_key file pass locked key f (inl x) = absurd (let e = x.1 in cc)
-key_key file pass locked key f (inr x) = key_locked file pass locked key f x.0 x.1
+key_key file pass locked key f (inr x) = key_locked file pass locked key f x.1
 
 key_file : (file pass : List ℕ) (key : Key) → Answers file pass (answers.Key key) → Opens file pass key
 key_file file pass key (inl x) = absurd (no_key x.0 key x.2)

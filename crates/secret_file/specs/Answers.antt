@@ -7,8 +7,10 @@ use Rattle.sexp_keys.specs.Key.{Key}
 use Rattle.sexp_keys.specs.Faults.{IsFirstFault}
 use Rattle.sexp_keys.specs.declared.fault.KeyFault.{KeyFault}
 use Rattle.sexp_keys.specs.declared.fault.KeyFault.TheVariants as faults
-use Rattle.secret_file.specs.Protection.{Protection, IsProtection, IsProtectionFault}
-use Rattle.secret_file.specs.Opens.{first_of, opened, IsFile, AreSecrets}
+use Rattle.secret_file.specs.Protection.{IsProtectionFault}
+use Rattle.secret_file.specs.Opens.{first_of, LockedKey, IsFile, IsLocked, OpensTo}
+use Rattle.secret_file.specs.declared.locked.Opened.{Opened}
+use Rattle.secret_file.specs.declared.locked.Opened.TheVariants as openings
 use Rattle.secret_file.specs.declared.unlocked.Unlocked.{Unlocked}
 use Rattle.secret_file.specs.declared.unlocked.Unlocked.TheVariants as answers
 
@@ -26,17 +28,29 @@ IsFileFault file fault =
     (((tree : Sexp) → IsReadable file tree → ⊥) × (fault ≡ faults.InvSexp))
     ⊎ ((tree : Sexp) × IsReadable file tree × IsFirstFault (tree_of tree) fault)
 
--- what is decrypted opens the key, or the passphrase is bad
-abbrev pub AnswersBytes : Key → List ℕ → Unlocked → Type 0
-AnswersBytes locked bytes answer =
-    ((key : Key) × AreSecrets locked bytes key × (answer ≡ answers.Key key))
-    ⊎ (((key : Key) → AreSecrets locked bytes key → ⊥) × (answer ≡ answers.BadPassphrase))
+-- a clear key isn't locked, and a protected one has the fault of its protection
+abbrev pub IsLockedFault : Key → KeyFault → Type 0
+IsLockedFault key fault =
+    ((key.is_clear ≡ true) × (fault ≡ faults.BadSecKey))
+    ⊎ ((key.is_clear ≡ false) × IsProtectionFault (first_of key.private) fault)
 
--- the protection has a fault, or it stands and is opened
+-- the locked key opens by the passphrase, or the passphrase is bad
+abbrev pub AnswersOpening : LockedKey → List ℕ → Opened → Type 0
+AnswersOpening locked pass answer =
+    ((key : Key) × OpensTo locked pass key × (answer ≡ openings.Key key))
+    ⊎ (((key : Key) → OpensTo locked pass key → ⊥) × (answer ≡ openings.BadPassphrase))
+
+-- the answer that an opening is
+abbrev pub unlocked : Opened → Unlocked
+unlocked (openings.Key key) = answers.Key key
+unlocked openings.BadPassphrase = answers.BadPassphrase
+unlocked openings.NoMemory = answers.NoMemory
+
+-- the protection has a fault, or the locked key is opened
 abbrev pub AnswersLocked : Key → List ℕ → Unlocked → Type 0
-AnswersLocked locked pass answer =
-    ((fault : KeyFault) × IsProtectionFault (first_of locked.private) fault × (answer ≡ refused fault))
-    ⊎ ((p : Protection) × IsProtection (first_of locked.private) p × AnswersBytes locked (opened pass p) answer)
+AnswersLocked key pass answer =
+    ((fault : KeyFault) × IsProtectionFault (first_of key.private) fault × (answer ≡ refused fault))
+    ⊎ ((locked : LockedKey) × (locked.key ≡ key) × IsLocked locked × ((opening : Opened) × AnswersOpening locked pass opening × (answer ≡ unlocked opening)))
 
 -- the key is clear, or it is protected
 abbrev pub AnswersKey : Key → List ℕ → Unlocked → Type 0

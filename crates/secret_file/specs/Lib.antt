@@ -1,5 +1,6 @@
 pub mod Protection
 pub mod Opens
+pub mod Codes
 pub mod Answers
 pub mod Steps
 pub mod Protects

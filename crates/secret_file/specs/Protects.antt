@@ -5,10 +5,12 @@ use Rattle.sexp_canonical.specs.Tree.{Tree}
 use Rattle.sexp_canonical.specs.Spelling.{numeral, spelling}
 use Rattle.s2k_derive.specs.S2k.{derived_key}
 use Rattle.aes_modes.specs.Cbc.{cbc_encrypted}
+use Rattle.aes_modes.specs.Ocb.{ocb_sealed}
 use Rattle.sexp_keys.specs.Key.{Key, protected_with}
-use Rattle.sexp_keys.specs.Lists.{key_list_of, hashed_list_of, time_lists}
+use Rattle.sexp_keys.specs.Lists.{key_list_of, associated_list_of, hashed_list_of, time_lists}
 use Rattle.secret_file.specs.Protection.{Protection, hashing_tree, protection_tree}
-use Rattle.secret_file.specs.Opens.{hash_tree, secret_tree}
+use Rattle.secret_file.specs.Opens.{hash_tree, secret_tree, sealed_tree}
+use Rattle.secret_file.specs.declared.cipher.Cipher.TheVariants.{Cbc, Ocb}
 
 -- the text and the fewest first bytes of the padding with which it is whole blocks
 abbrev pub padded : List ℕ → List ℕ → List ℕ
@@ -18,17 +20,30 @@ padded text padding = text ++ take ((16 - length text % 16) % 16) padding
 abbrev pub secret_text : Key → Option (List ℕ) → List ℕ
 secret_text key time = spelling (secret_tree key.private (hash_tree (sha1 (hashed_list_of key time))))
 
+-- the secret parameters alone
+abbrev pub sealed_text : Key → List ℕ
+sealed_text key = spelling (sealed_tree key.private)
+
 -- the list of the protection, with the count in decimal
 abbrev pub written_protection : Protection → Tree
-written_protection p = protection_tree (hashing_tree p.salt (numeral p.count)) p.iv p.encrypted
+written_protection p = protection_tree (hashing_tree p.salt (numeral p.count)) p.cipher p.encrypted
 
--- how a clear key is protected
-abbrev pub protection_by : Key → (pass salt iv padding : List ℕ) → ℕ → Option (List ℕ) → Protection
-protection_by key pass salt iv padding count time = record {
+-- how a clear key is protected by CBC
+abbrev pub cbc_protection : Key → (pass salt iv padding : List ℕ) → ℕ → Option (List ℕ) → Protection
+cbc_protection key pass salt iv padding count time = record {
   salt = salt;
   count = count;
-  iv = iv;
+  cipher = Cbc iv;
   encrypted = cbc_encrypted (derived_key pass salt count) iv (padded (secret_text key time) padding);
+}
+
+-- how it is protected by OCB
+abbrev pub ocb_protection : Key → (pass salt iv : List ℕ) → ℕ → Option (List ℕ) → Protection
+ocb_protection key pass salt iv count time = record {
+  salt = salt;
+  count = count;
+  cipher = Ocb iv;
+  encrypted = ocb_sealed (derived_key pass salt count) iv (associated_list_of key time) (sealed_text key);
 }
 
 -- the protected key

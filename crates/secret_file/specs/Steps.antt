@@ -1,12 +1,39 @@
--- Private: what the steps of opening know.
-use Rattle.std.specs.Prelude.{◌≡◌, ℕ, List, length}
+-- Private: what the steps of reading a protection and of opening know.
+use Rattle.std.specs.Prelude.{◌≡◌, ◌≤◌, ℕ, List, length, Option, Some, None, Result, Ok, Err, IsTrue}
+use Rattle.std.specs.List.{flat_map}
+use Rattle.sha1.specs.Sha1.{sha1}
 use Rattle.sexp_canonical.specs.Tree.{Tree}
-use Rattle.secret_file.specs.Protection.{Protection, IsProtection}
-use Rattle.secret_file.specs.Opens.{first_of, opened}
+use Rattle.sexp_canonical.specs.Spelling.{spelling}
+use Rattle.sexp_keys.specs.Parameters.{are_secret}
+use Rattle.sexp_keys.specs.Key.{Key, clear_with}
+use Rattle.sexp_keys.specs.Lists.{hashed_list_of}
+use Rattle.sexp_keys.specs.declared.fault.KeyFault.{KeyFault}
+use Rattle.secret_file.specs.declared.locked.Opened.{Opened}
+use Rattle.secret_file.specs.declared.locked.Opened.TheVariants as openings
+use Rattle.secret_file.specs.declared.cipher.Cipher.{Cipher}
+use Rattle.secret_file.specs.Protection.{protection_name, iv_of, iv_len}
+use Rattle.secret_file.specs.Opens.{secret_tree, hash_tree, time_of, AreSpelled, LockedKey, OpensTo}
 
--- the bytes are what the lists of a protected key decrypt to
-pub record IsDecrypted (lists : List Tree) (pass : List ℕ) (bytes : List ℕ) : Type 0 where
-  pub p : Protection
-  pub protection : IsProtection (first_of lists) p
-  pub value : bytes ≡ opened pass p
-  pub len : length bytes ≡ length p.encrypted
+-- what is decrypted by CBC is the secret parameters of the locked key and the digest of the clear one
+pub record AreSecrets (locked : Key) (bytes : List ℕ) (key : Key) : Type 0 where
+  pub secret : List Tree
+  pub names : IsTrue (are_secret locked.algorithm secret)
+  pub clear : key ≡ clear_with locked secret
+  pub spelled : AreSpelled bytes (secret_tree secret (hash_tree (sha1 (hashed_list_of key (time_of locked.private)))))
+
+-- the clear key to which the locked one opens, whose secret parameters are no longer than the octets; or there is none
+abbrev pub IsOpening : LockedKey → List ℕ → Option Key → Type 0
+IsOpening locked pass None = (key : Key) → OpensTo locked pass key → ⊥
+IsOpening locked pass (Some key) = OpensTo locked pass key × (length (flat_map spelling key.private) ≤ length locked.protection.encrypted)
+
+-- what an opening answers
+abbrev pub opening_of : Result (Option Key) KeyFault → Opened
+opening_of (Ok (Some key)) = openings.Key key
+opening_of (Ok None) = openings.BadPassphrase
+opening_of (Err fault) = openings.NoMemory
+
+-- the cipher has this name and this initialization vector
+pub record IsCipher (name iv : List ℕ) (cipher : Cipher) : Type 0 where
+  pub named : name ≡ protection_name cipher
+  pub iv_is : iv ≡ iv_of cipher
+  pub len : length iv ≡ iv_len cipher

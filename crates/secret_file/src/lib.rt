@@ -2,16 +2,17 @@
 //! keys, agent/keyformat.txt).
 #![tactic(auto)]
 
+mod cipher;
 mod laws;
+mod locked;
 mod parts;
 mod protecting;
 mod protection;
+mod sealed;
 mod secrets;
 mod unlocked;
 
-pub use laws::one_answer;
-pub use protecting::protect;
-pub use unlocked::{Unlocked, unprotect};
-
-#[cfg(test)]
-mod tests;
+pub use laws::{one_answer, unprotect_is_three_calls};
+pub use locked::{Locked, Opened};
+pub use protecting::{protect, protect_cbc};
+pub use unlocked::{Unlocked, key_of, unprotect};

@@ -75,6 +75,18 @@ pub(crate) fn both(mut items: Vec<Sexp>) -> Option<(Sexp, Sexp)>
     Some((first, second))
 }
 
+/// The only one of these.
+pub(crate) fn only(mut items: Vec<Sexp>) -> Option<Sexp>
+    ensures found { IfSome result (λ tree. trees items.items ≡ tree_of tree ∷ []) }
+    ensures none { IfNone result ((tree : Tree) → trees items.items ≡ tree ∷ [] → ⊥) }
+{
+    let tree = items.pop()?;
+    if !items.is_empty() {
+        return None;
+    }
+    Some(tree)
+}
+
 /// The expression at the front of the bytes, where one is read there, and how many bytes it has.
 pub(crate) fn front_of(alloc: Global, bytes: &[u8]) -> Result<Option<(Sexp, usize)>, KeyFault>
     ensures found { IfOk result (λ read. IfSome read (λ r. (r.1 ≤ length bytes.now) × IsReadable (take r.1 bytes.now) r.0)) }

@@ -10,17 +10,19 @@ ghost use Rattle.sexp_canonical.specs.Spelling.{most_depth, depth, spelling};
 ghost use Rattle.s2k_derive.specs.S2k.{derived_key};
 ghost use Rattle.s2k_derive.specs.declared.TheConstants.{MAX_PASSPHRASE_LEN, MIN_COUNT, MAX_COUNT};
 ghost use Rattle.aes_modes.specs.Cbc.{cbc_encrypted, cbc_decrypted};
+ghost use Rattle.aes_modes.specs.Ocb.{ocb_sealed};
 ghost use Rattle.sexp_keys.specs.Names.{time_name};
 ghost use Rattle.sexp_keys.specs.Key.{key_tree};
 ghost use Rattle.sexp_keys.specs.Lists.{key_list_of, time_lists};
 ghost use Rattle.sexp_canonical.specs.Spelling.{numeral};
-ghost use Rattle.secret_file.specs.Protection.{hashing_tree, derivation_tree};
-ghost use Rattle.secret_file.specs.Opens.{hash_tree, Opens};
-ghost use Rattle.secret_file.specs.Protects.{padded, secret_text, written_protection, protection_by, protected_file};
+ghost use Rattle.secret_file.specs.Protection.{iv_of, hashing_tree, derivation_tree};
+ghost use Rattle.secret_file.specs.Opens.{hash_tree, AreSealed, Opens};
+ghost use Rattle.secret_file.specs.Protects.{padded, secret_text, sealed_text, written_protection, cbc_protection, ocb_protection, protected_file};
 
-use crate::protection::{CBC_NAME, HASH_NAME, PROTECTED, Protection};
+use crate::cipher::Cipher;
+use crate::protection::{HASH_NAME, PROTECTED, Protection, protection_name};
 use crate::secrets::digest_of;
-use aes_modes::{cbc_encrypt, decryption_undoes_encryption};
+use aes_modes::{cbc_encrypt, decryption_undoes_encryption, ocb_encrypt};
 use itoa::Buffer;
 use s2k_derive::derive;
 use sexp_canonical::{Bytes, Sexp, append_atom, append_list};
@@ -90,6 +92,42 @@ fn encrypted_by(pass: &[u8], salt: &[u8; 8], count: u64, iv: &[u8; 16], plain: B
     bytes
 }
 
+/// `((secret..))`
+fn sealed_text(alloc: Global, key: &KeyList) -> Result<Bytes, AllocError>
+    ensures { IfOk result (λ text. text ≡ sealed_text key.now) }
+{
+    let mut text = Bytes::new(alloc);
+    text.extend_from_slice(b"(")?;
+    append_list(&mut text, key.private())?;
+    text.extend_from_slice(b")")?;
+    Ok(text)
+}
+
+// Encrypts the bytes in their place, and appends their tag.
+fn sealed_by(
+    pass: &[u8],
+    salt: &[u8; 8],
+    count: u64,
+    iv: &[u8; 12],
+    assoc: &[u8],
+    plain: Bytes,
+) -> Result<Vec<u8>, AllocError>
+    requires pass { length pass.now ≤ MAX_PASSPHRASE_LEN }
+    requires bounded { count ≤ MAX_COUNT }
+    requires assoc { length assoc.now ≤ 65536 }
+    requires short { length plain ≤ 65536 }
+    ensures value { IfOk result (λ bytes. bytes.items ≡ ocb_sealed (derived_key pass.now salt.now count) iv.now assoc.now plain) }
+    ensures sealed { IfOk result (λ bytes. AreSealed (derived_key pass.now salt.now count) iv.now assoc.now bytes.items plain) }
+    ensures len { IfOk result (λ bytes. length bytes.items ≡ length plain + 16) }
+{
+    let mut bytes = plain.into_vec();
+    let mut key = derive(pass, salt, count);
+    let tag = ocb_encrypt(&key, iv, assoc, bytes.as_mut_slice());
+    wipe(&mut key);
+    bytes.extend_from_slice(&tag)?;
+    Ok(bytes)
+}
+
 fn count_atom(alloc: Global, count: u64) -> Result<Sexp, AllocError>
     ensures { IfOk result (λ tree. tree ≡ Sexp.Atom (numeral count)) }
 {
@@ -109,10 +147,19 @@ fn hashing_list(alloc: Global, salt: &[u8; 8], count: u64) -> Result<Sexp, Alloc
     Ok(Sexp::list(items))
 }
 
-fn derivation_list(alloc: Global, hashing: Sexp, iv: &[u8; 16]) -> Result<Sexp, AllocError>
-    ensures { IfOk result (λ tree. tree_of tree ≡ derivation_tree (tree_of hashing) iv.now) }
+fn iv_of(cipher: &Cipher) -> &[u8]
+    ensures { result.now ≡ iv_of cipher.now }
 {
-    let items = vec![in alloc; hashing, Sexp::atom(alloc, iv)?]?;
+    match cipher {
+        Cipher::Cbc(iv) => iv,
+        Cipher::Ocb(iv) => iv,
+    }
+}
+
+fn derivation_list(alloc: Global, hashing: Sexp, cipher: &Cipher) -> Result<Sexp, AllocError>
+    ensures { IfOk result (λ tree. tree_of tree ≡ derivation_tree (tree_of hashing) (iv_of cipher.now)) }
+{
+    let items = vec![in alloc; hashing, Sexp::atom(alloc, iv_of(cipher))?]?;
     Ok(Sexp::list(items))
 }
 
@@ -120,15 +167,15 @@ fn protection_list(alloc: Global, p: &Protection<'_>) -> Result<Sexp, AllocError
     ensures { IfOk result (λ tree. tree_of tree ≡ written_protection (record {
       salt = p.now.salt;
       count = p.now.count;
-      iv = p.now.iv;
+      cipher = p.now.cipher;
       encrypted = p.now.encrypted.now;
     })) }
 {
     let hashing = hashing_list(alloc, &p.salt, p.count)?;
-    let derivation = derivation_list(alloc, hashing, &p.iv)?;
+    let derivation = derivation_list(alloc, hashing, &p.cipher)?;
     let items = vec![in alloc;
         Sexp::atom(alloc, PROTECTED)?,
-        Sexp::atom(alloc, CBC_NAME)?,
+        Sexp::atom(alloc, protection_name(p.cipher))?,
         derivation,
         Sexp::atom(alloc, p.encrypted)?,
     ]?;
@@ -154,7 +201,7 @@ fn private_lists(
     ensures { IfOk result (λ lists. trees lists.items ≡ written_protection (record {
       salt = p.now.salt;
       count = p.now.count;
-      iv = p.now.iv;
+      cipher = p.now.cipher;
       encrypted = p.now.encrypted.now;
     }) ∷ time_lists (option_copied time.entry)) }
 {
@@ -182,10 +229,66 @@ fn bytes_of(time: &[u8; 15]) -> &[u8]
     time
 }
 
-/// A protected key file of a clear key. The padding, of which the fewest bytes are taken, the salt and the initialization
-/// vector should be random. The count is that of the bytes that are hashed; the time is one of ISO 8601, as
+// The file of a key that is protected so.
+fn file_of(
+    alloc: Global,
+    key: &KeyList,
+    p: &Protection<'_>,
+    time: Option<&[u8]>,
+) -> Result<Vec<u8>, AllocError>
+    ensures { IfOk result (λ file. file.items ≡ protected_file key.now (record {
+      salt = p.now.salt;
+      count = p.now.count;
+      cipher = p.now.cipher;
+      encrypted = p.now.encrypted.now;
+    }) (option_copied time.entry)) }
+{
+    let lists = private_lists(alloc, p, time)?;
+    key.protected_list(alloc, lists.as_slice())
+}
+
+/// A protected key file of a clear key, by OCB. The salt and the initialization vector should be random, and no vector is
+/// used twice under a passphrase and a salt. The count is that of the bytes that are hashed; the time is one of ISO 8601, as
 /// `20240101T000000`.
 pub fn protect(
+    alloc: Global,
+    key: &KeyList,
+    pass: &[u8],
+    salt: &[u8; 8],
+    iv: &[u8; 12],
+    count: u64,
+    time: Option<&[u8; 15]>,
+) -> Result<Vec<u8>, AllocError>
+    requires clear { IsTrue key.now.is_clear }
+    requires short { length (key_list_of key.now) ≤ 65000 }
+    requires shallow { depth (key_tree key.now) ≤ most_depth }
+    requires pass { length pass.now ≤ MAX_PASSPHRASE_LEN }
+    requires least { MIN_COUNT ≤ count }
+    requires greatest { count ≤ MAX_COUNT }
+    ensures file { IfOk result (λ file. file.items ≡ protected_file key.now
+        (ocb_protection key.now pass.now salt.now iv.now count (option_copied time.entry)) (option_copied time.entry)) }
+
+    // The file opens by the passphrase to the key.
+    ensures opens { IfOk result (λ file. Opens file.items pass.now key.now) }
+{
+    let is_clear = key.is_clear();
+    prove!(is_clear);
+    let time = slice_of(time);
+    let text = sealed_text(alloc, key)?;
+    let assoc = key.associated_list(alloc, time)?;
+    let encrypted = sealed_by(pass, salt, count, iv, assoc.as_slice(), text)?;
+    let protection = Protection {
+        salt: *salt,
+        count,
+        cipher: Cipher::Ocb(*iv),
+        encrypted: encrypted.as_slice(),
+    };
+    file_of(alloc, key, &protection, time)
+}
+
+/// A protected key file of a clear key, by CBC, as it was written before. The padding, of which the fewest bytes are taken,
+/// should be random too.
+pub fn protect_cbc(
     alloc: Global,
     key: &KeyList,
     pass: &[u8],
@@ -202,7 +305,7 @@ pub fn protect(
     requires least { MIN_COUNT ≤ count }
     requires greatest { count ≤ MAX_COUNT }
     ensures file { IfOk result (λ file. file.items ≡ protected_file key.now
-        (protection_by key.now pass.now salt.now iv.now padding.now count (option_copied time.entry)) (option_copied time.entry)) }
+        (cbc_protection key.now pass.now salt.now iv.now padding.now count (option_copied time.entry)) (option_copied time.entry)) }
 
     // The file opens by the passphrase to the key.
     ensures opens { IfOk result (λ file. Opens file.items pass.now key.now) }
@@ -216,9 +319,8 @@ pub fn protect(
     let protection = Protection {
         salt: *salt,
         count,
-        iv: *iv,
+        cipher: Cipher::Cbc(*iv),
         encrypted: encrypted.as_slice(),
     };
-    let lists = private_lists(alloc, &protection, time)?;
-    key.protected_list(alloc, lists.as_slice())
+    file_of(alloc, key, &protection, time)
 }

@@ -4,9 +4,13 @@ ghost use Rattle.std.specs.Prelude.{◌≡◌, ℕ, List, [], ◌∷◌, drop, l
 ghost use Rattle.sexp_canonical.specs.View.{tree_of, trees};
 ghost use Rattle.sexp_canonical.specs.Tree.{Tree};
 ghost use Rattle.secret_file.specs.Protection as parts;
-ghost use Rattle.secret_file.specs.Protection.{hash_name, derivation_tree, is_other, first_items, has_other_name, AreBlocks, IsCount, IsHashing, IsProtection, IsProtectionFault};
-ghost use Rattle.secret_file.specs.Opens.{first_of};
+ghost use Rattle.secret_file.specs.Protection.{hash_name, protection_name, derivation_tree, is_other, is_unknown, first_items, has_other_name, AreOctets, IsCount, IsHashing, IsProtection, IsProtectionFault};
+ghost use Rattle.std.specs.Option.{option_copied};
+ghost use Rattle.secret_file.specs.Opens.{first_of, time_in, time_of};
+ghost use Rattle.secret_file.specs.Steps.{IsCipher};
+ghost use Rattle.secret_file.specs.declared.cipher.Cipher.{Cipher};
 
+use crate::cipher::Cipher;
 use crate::parts::{array_of, behind_name, only_atom, split_atom, split_tree};
 use assuan_text::number_of;
 use itoa::Buffer;
@@ -16,9 +20,24 @@ use sexp_keys::KeyFault;
 
 pub(crate) const PROTECTED: &[u8] = b"protected";
 
-pub(crate) const CBC_NAME: &[u8] = b"openpgp-s2k3-sha1-aes-cbc";
+const CBC_NAME: &[u8] = b"openpgp-s2k3-sha1-aes-cbc";
+
+const OCB_NAME: &[u8] = b"openpgp-s2k3-ocb-aes";
 
 pub(crate) const HASH_NAME: &[u8] = b"sha1";
+
+/// How many bytes the tag of OCB has.
+pub(crate) const TAG_LEN: usize = 16;
+
+/// The name of a protection.
+pub(crate) fn protection_name(cipher: Cipher) -> &'static [u8]
+    ensures { result.now ≡ protection_name cipher }
+{
+    match cipher {
+        Cipher::Cbc(_) => CBC_NAME,
+        Cipher::Ocb(_) => OCB_NAME,
+    }
+}
 
 fn is_other(name: &[u8], lists: &[Sexp]) -> bool
     ensures { result ≡ is_other name.now (trees lists.now) }
@@ -42,9 +61,15 @@ fn has_other_name(tree: &Sexp) -> bool
     ensures { result ≡ has_other_name (tree_of tree.now) }
 {
     match tree.items() {
-        [_, others @ ..] => is_other(CBC_NAME, others) || has_other_hash(others),
+        [_, others @ ..] => is_unknown(others) || has_other_hash(others),
         [] => false,
     }
+}
+
+fn is_unknown(others: &[Sexp]) -> bool
+    ensures { result ≡ is_unknown (trees others.now) }
+{
+    is_other(CBC_NAME, others) && is_other(OCB_NAME, others)
 }
 
 // The same of the items behind the first.
@@ -82,14 +107,45 @@ fn hashing_of(list: &Sexp) -> Option<([u8; 8], u64)>
 }
 
 // The first list of `(hashing iv)`, and the initialization vector.
-fn derivation_of(list: &Sexp) -> Option<(&Sexp, [u8; 16])>
-    ensures found { IfSome result (λ d. (tree_of list.now ≡ derivation_tree (tree_of d.0.now) d.1) × (length d.1 ≡ 16)) }
-    ensures none { IfNone result ((hashing : Tree) (iv : List ℕ)
-        → tree_of list.now ≡ derivation_tree hashing iv → length iv ≡ 16 → ⊥) }
+fn derivation_of(list: &Sexp) -> Option<(&Sexp, &[u8])>
+    ensures found { IfSome result (λ d. tree_of list.now ≡ derivation_tree (tree_of d.0.now) d.1.now) }
+    ensures none { IfNone result ((hashing : Tree) (iv : List ℕ) → tree_of list.now ≡ derivation_tree hashing iv → ⊥) }
 {
     let (hashing, behind) = split_tree(list.items())?;
-    let iv = only_atom(behind)?;
-    Some((hashing, array_of(iv)?))
+    Some((hashing, only_atom(behind)?))
+}
+
+// The cipher of this name and this initialization vector.
+fn cipher_of(name: &[u8], iv: &[u8]) -> Option<Cipher>
+    ensures found { IfSome result (λ cipher. IsCipher name.now iv.now cipher) }
+    ensures none { IfNone result ((cipher : Cipher) → IsCipher name.now iv.now cipher → ⊥) }
+{
+    if name == CBC_NAME {
+        Some(Cipher::Cbc(array_of(iv)?))
+    } else if name == OCB_NAME {
+        Some(Cipher::Ocb(array_of(iv)?))
+    } else {
+        None
+    }
+}
+
+/// The time of a protection, where there is one.
+pub(crate) fn time_of(lists: &[Sexp]) -> Option<&[u8]>
+    ensures { option_copied result ≡ time_of (trees lists.now) }
+{
+    match lists {
+        [_, list, ..] => time_in(list.items()),
+        _ => None,
+    }
+}
+
+fn time_in(items: &[Sexp]) -> Option<&[u8]>
+    ensures { option_copied result ≡ time_in (trees items.now) }
+{
+    match items {
+        [_, Sexp::Atom(time), ..] => Some(time.as_slice()),
+        _ => None,
+    }
 }
 
 /// The parts of a protection.
@@ -97,14 +153,14 @@ fn derivation_of(list: &Sexp) -> Option<(&Sexp, [u8; 16])>
 pub(crate) struct Protection<'a> {
     pub(crate) salt: [u8; 8],
     pub(crate) count: u64,
-    pub(crate) iv: [u8; 16],
+    pub(crate) cipher: Cipher,
     pub(crate) encrypted: &'a [u8],
 }
 
 /// The protection that the first of the lists of a protected key is.
 pub(crate) fn protection_of(lists: &[Sexp]) -> Result<Protection<'_>, KeyFault>
     ensures found { IfOk result (λ p. IsProtection (first_of (trees lists.now))
-        (record { salt = p.salt; count = p.count; iv = p.iv; encrypted = p.encrypted.now })) }
+        (record { salt = p.salt; count = p.count; cipher = p.cipher; encrypted = p.encrypted.now })) }
     ensures fault { IfErr result (IsProtectionFault (first_of (trees lists.now))) }
 {
     let Some((list, _)) = split_tree(lists) else {
@@ -115,7 +171,7 @@ pub(crate) fn protection_of(lists: &[Sexp]) -> Result<Protection<'_>, KeyFault>
 
 fn protection_in(list: &Sexp) -> Result<Protection<'_>, KeyFault>
     ensures found { IfOk result (λ p. IsProtection (tree_of list.now)
-        (record { salt = p.salt; count = p.count; iv = p.iv; encrypted = p.encrypted.now })) }
+        (record { salt = p.salt; count = p.count; cipher = p.cipher; encrypted = p.encrypted.now })) }
     ensures fault { IfErr result (IsProtectionFault (tree_of list.now)) }
 {
     if has_other_name(list) {
@@ -130,28 +186,32 @@ fn protection_in(list: &Sexp) -> Result<Protection<'_>, KeyFault>
 // The protection, where the list has all its parts.
 fn shaped(list: &Sexp) -> Option<Protection<'_>>
     ensures found { IfSome result (λ p. IsProtection (tree_of list.now)
-        (record { salt = p.salt; count = p.count; iv = p.iv; encrypted = p.encrypted.now })) }
+        (record { salt = p.salt; count = p.count; cipher = p.cipher; encrypted = p.encrypted.now })) }
     ensures none { IfNone result ((p : parts.Protection) → IsProtection (tree_of list.now) p → ⊥) }
 {
     let behind = behind_name(PROTECTED, list.items())?;
-    let behind = behind_name(CBC_NAME, behind)?;
+    let (name, behind) = split_atom(behind)?;
     let (derivation, behind) = split_tree(behind)?;
     let encrypted = only_atom(behind)?;
     let (hashing, iv) = derivation_of(derivation)?;
+    let cipher = cipher_of(name, iv)?;
     let (salt, count) = hashing_of(hashing)?;
-    if !are_blocks(encrypted) {
+    if !are_octets(cipher, encrypted) {
         return None;
     }
     Some(Protection {
         salt,
         count,
-        iv,
+        cipher,
         encrypted,
     })
 }
 
-fn are_blocks(bytes: &[u8]) -> bool
-    ensures { IsTrue result ↔ AreBlocks bytes.now }
+fn are_octets(cipher: Cipher, bytes: &[u8]) -> bool
+    ensures { IsTrue result ↔ AreOctets cipher bytes.now }
 {
-    !bytes.is_empty() && bytes.len().is_multiple_of(16)
+    match cipher {
+        Cipher::Cbc(_) => !bytes.is_empty() && bytes.len().is_multiple_of(16),
+        Cipher::Ocb(_) => bytes.len() > TAG_LEN,
+    }
 }

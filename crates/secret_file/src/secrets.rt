@@ -1,25 +1,33 @@
-//! What is decrypted: the secret parameters of a key, and the digest of the clear key.
+//! What is decrypted by CBC: the secret parameters of a key, and the digest of the clear key.
 
-ghost use Rattle.std.specs.Prelude.{◌≡◌, ◌↔◌, ◌≤◌, ℕ, List, length, IfOk, IfErr, IfSome, IfNone, IsTrue};
+ghost use Rattle.std.specs.Prelude.{◌≡◌, ◌↔◌, ◌≤◌, ◌%◌, ℕ, List, length, IfOk, IfErr, IfSome, IfNone, IsTrue};
 ghost use Rattle.std.specs.Option.{option_copied};
 ghost use Rattle.sha1.specs.Sha1.{sha1};
+ghost use Rattle.s2k_derive.specs.S2k.{derived_key};
+ghost use Rattle.s2k_derive.specs.declared.TheConstants.{MAX_PASSPHRASE_LEN, MAX_COUNT};
+ghost use Rattle.aes_modes.specs.Cbc.{cbc_decrypted};
 ghost use Rattle.sexp_canonical.specs.Tree.{Tree};
 ghost use Rattle.sexp_canonical.specs.View.{tree_of, trees};
 ghost use Rattle.sexp_canonical.specs.Spelling.{most_bytes, most_depth, depth};
 ghost use Rattle.sexp_keys.specs.Key.{Key};
 ghost use Rattle.sexp_keys.specs.Lists.{hashed_list_of};
 ghost use Rattle.sexp_keys.specs.declared.fault.KeyFault.{KeyFault};
-ghost use Rattle.secret_file.specs.Opens.{hash_tree, secret_tree, time_in, time_of, AreSpelled, AreSecrets};
+ghost use Rattle.secret_file.specs.Opens.{hash_tree, secret_tree, AreSpelled};
+ghost use Rattle.secret_file.specs.Steps.{AreSecrets, IsOpening};
+ghost use Rattle.secret_file.specs.declared.cipher.Cipher.{Cipher};
 
 use crate::parts::{behind_name, both, front_of, only_atom};
-use crate::protection::HASH_NAME;
+use crate::protection::{HASH_NAME, Protection, time_of};
+use aes_modes::cbc_decrypt;
+use s2k_derive::derive;
 use sexp_canonical::{Bytes, Items, Sexp};
 use sexp_keys::{KeyFault, KeyList};
 use sha1::Sha1;
 use std::alloc::{AllocError, Global};
+use wiping::wipe;
 
-// The most bytes behind the expression: one less than a block.
-const MAX_PADDING: usize = 15;
+// The most bytes behind the expression: a block, which GnuPG adds where the expression fills its last one.
+const MAX_PADDING: usize = 16;
 
 /// The two lists that are decrypted.
 #[derive(Drop)]
@@ -94,15 +102,11 @@ pub(crate) fn digest_of(
     Ok(Sha1::digest(text.as_slice()))
 }
 
-/// The clear key, where these bytes are its secret parameters and its digest.
-pub(crate) fn clear_key(
-    alloc: Global,
-    locked: KeyList,
-    bytes: &[u8],
-) -> Result<Option<KeyList>, KeyFault>
+// The clear key, where these bytes are its secret parameters and its digest.
+fn clear_key(alloc: Global, locked: &KeyList, bytes: &[u8]) -> Result<Option<KeyList>, KeyFault>
     requires { length bytes.now ≤ most_bytes }
-    ensures found { IfOk result (λ found. IfSome found (AreSecrets locked bytes.now)) }
-    ensures none { IfOk result (λ found. IfNone found ((key : Key) → AreSecrets locked bytes.now key → ⊥)) }
+    ensures found { IfOk result (λ found. IfSome found (AreSecrets locked.now bytes.now)) }
+    ensures none { IfOk result (λ found. IfNone found ((key : Key) → AreSecrets locked.now bytes.now key → ⊥)) }
     ensures fault { IfErr result (λ fault. fault ≡ KeyFault.NoMemory) }
 {
     let secrets = secrets_of(alloc, bytes)?;
@@ -110,50 +114,61 @@ pub(crate) fn clear_key(
         return Ok(None);
     };
     let Secrets { secret, hash } = secrets;
-    let time = time_copied(alloc, locked.private())?;
-    let Some(key) = locked.with_secret(secret) else {
+    let found = locked.with_secret(alloc, secret)?;
+    let Some(key) = found else {
         return Ok(None);
     };
-    let digest = digest_of(alloc, &key, slice_of(&time))?;
+    let digest = digest_of(alloc, &key, time_of(locked.private()))?;
     if !is_hash(&hash, &digest) {
         return Ok(None);
     }
     Ok(Some(key))
 }
 
-fn time_copied(alloc: Global, lists: &[Sexp]) -> Result<Option<Bytes>, AllocError>
-    ensures { IfOk result (λ time. time ≡ time_of (trees lists.now)) }
+// What the octets are decrypted to by CBC under the key of the passphrase.
+fn decrypted(
+    alloc: Global,
+    protection: &Protection<'_>,
+    iv: &[u8; 16],
+    pass: &[u8],
+) -> Result<Bytes, AllocError>
+    requires short { length pass.now ≤ MAX_PASSPHRASE_LEN }
+    requires bounded { protection.now.count ≤ MAX_COUNT }
+    requires whole { length protection.now.encrypted.now % 16 ≡ 0 }
+    ensures value { IfOk result (λ bytes. bytes ≡ cbc_decrypted (derived_key pass.now protection.now.salt protection.now.count)
+        iv.now protection.now.encrypted.now) }
+    ensures len { IfOk result (λ bytes. length bytes ≡ length protection.now.encrypted.now) }
 {
-    match time_of(lists) {
-        Some(time) => Ok(Some(Bytes(Vec::from_slice(alloc, time)?))),
-        None => Ok(None),
-    }
+    let mut bytes = Vec::from_slice(alloc, protection.encrypted)?;
+    let mut key = derive(pass, &protection.salt, protection.count);
+    cbc_decrypt(&key, iv, bytes.as_mut_slice());
+    wipe(&mut key);
+    Ok(Bytes::from(bytes))
 }
 
-fn slice_of(bytes: &Option<Bytes>) -> Option<&[u8]>
-    ensures { option_copied result ≡ bytes.now }
+/// The clear key of a locked one that is protected by CBC, where it opens by the passphrase.
+pub(crate) fn decrypted_key(
+    alloc: Global,
+    locked: &KeyList,
+    protection: &Protection<'_>,
+    iv: &[u8; 16],
+    pass: &[u8],
+) -> Result<Option<KeyList>, KeyFault>
+    requires short { length pass.now ≤ MAX_PASSPHRASE_LEN }
+    requires bounded { protection.now.count ≤ MAX_COUNT }
+    requires whole { length protection.now.encrypted.now % 16 ≡ 0 }
+    requires within { length protection.now.encrypted.now ≤ most_bytes }
+    ensures found { IfOk result (IsOpening (record {
+      key = locked.now;
+      protection = record {
+        salt = protection.now.salt;
+        count = protection.now.count;
+        cipher = Cipher.Cbc iv.now;
+        encrypted = protection.now.encrypted.now;
+      };
+    }) pass.now) }
+    ensures fault { IfErr result (λ fault. fault ≡ KeyFault.NoMemory) }
 {
-    match bytes {
-        Some(bytes) => Some(bytes.as_slice()),
-        None => None,
-    }
-}
-
-// The time of a protection, where there is one.
-fn time_of(lists: &[Sexp]) -> Option<&[u8]>
-    ensures { option_copied result ≡ time_of (trees lists.now) }
-{
-    match lists {
-        [_, list, ..] => time_in(list.items()),
-        _ => None,
-    }
-}
-
-fn time_in(items: &[Sexp]) -> Option<&[u8]>
-    ensures { option_copied result ≡ time_in (trees items.now) }
-{
-    match items {
-        [_, Sexp::Atom(time), ..] => Some(time.as_slice()),
-        _ => None,
-    }
+    let bytes = decrypted(alloc, protection, iv, pass)?;
+    clear_key(alloc, locked, bytes.as_slice())
 }

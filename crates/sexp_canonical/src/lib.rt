@@ -24,6 +24,3 @@ pub const MAX_BYTES: usize = 65_536;
 
 /// The most lists that may be open at one place of an expression where it is read.
 pub const MAX_DEPTH: usize = 64;
-
-#[cfg(test)]
-mod tests;

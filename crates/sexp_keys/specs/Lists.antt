@@ -19,9 +19,17 @@ abbrev pub time_lists : Option (List ℕ) → List Tree
 time_lists None = []
 time_lists (Some time) = list_of (leaf time_name ∷ leaf time ∷ []) ∷ []
 
+-- `(alg public.. behind..)`, with the time of a protection last
+abbrev pub timed_list_of : Key → List Tree → Option (List ℕ) → List ℕ
+timed_list_of key behind time = spelling (algorithm_list key (behind ++ time_lists time))
+
 -- `(alg public.. secret..)` of a clear key, with the time of its protection last
 abbrev pub hashed_list_of : Key → Option (List ℕ) → List ℕ
-hashed_list_of key time = spelling (algorithm_list key (key.private ++ time_lists time))
+hashed_list_of key time = timed_list_of key key.private time
+
+-- `(alg public..)`, with the time of its protection last
+abbrev pub associated_list_of : Key → Option (List ℕ) → List ℕ
+associated_list_of key time = timed_list_of key [] time
 
 -- the grip is the SHA-1 of the public list
 abbrev pub grip_of : Key → List ℕ

@@ -51,28 +51,21 @@ impl KeyList {
         read_key(alloc, tree)
     }
 
-    /// The clear key with these secret parameters, where they are those of its algorithm. It takes no memory.
-    pub fn with_secret(self, secret: Items) -> Option<KeyList>
-        ensures found { IsSome result ↔ IsTrue (are_secret self.algorithm secret) }
-        ensures key { IfSome result (λ key. key ≡ clear_with self secret) }
+    /// The clear key with these secret parameters, where they are those of its algorithm. Its other lists are copied.
+    pub fn with_secret(&self, alloc: Global, secret: Items) -> Result<Option<KeyList>, AllocError>
+        ensures found { IfOk result (λ found. IsSome found ↔ IsTrue (are_secret self.now.algorithm secret)) }
+        ensures key { IfOk result (λ found. IfSome found (λ key. key ≡ clear_with self.now secret)) }
     {
         if !are_secret(self.algorithm, secret.as_slice()) {
-            return None;
+            return Ok(None);
         }
-        let KeyList {
-            algorithm,
-            is_clear: _,
-            public,
-            private: _,
-            further,
-        } = self;
-        Some(KeyList {
-            algorithm,
+        Ok(Some(KeyList {
+            algorithm: self.algorithm,
             is_clear: true,
-            public,
+            public: copies_of(alloc, self.public.as_slice())?,
             private: secret,
-            further,
-        })
+            further: copies_of(alloc, self.further.as_slice())?,
+        }))
     }
 }
 

@@ -14,6 +14,3 @@ pub use algorithm::Algorithm;
 pub use fault::KeyFault;
 pub use key_list::KeyList;
 pub use laws::one_answer;
-
-#[cfg(test)]
-mod tests;

@@ -1,6 +1,6 @@
 //! The lists of a key.
 
-ghost use Rattle.std.specs.Prelude.{◌≡◌, ◌∷◌, ◌++◌, IfOk, OnOk, IsTrue};
+ghost use Rattle.std.specs.Prelude.{◌≡◌, ◌≤◌, ◌∷◌, ◌++◌, length, IfOk, OnOk, IsTrue};
 ghost use Rattle.std.specs.Option.{option_copied};
 ghost use Rattle.std.specs.List.{flat_map};
 ghost use Rattle.sexp_canonical.specs.Tree.{leaf, list_of};
@@ -8,7 +8,7 @@ ghost use Rattle.sexp_canonical.specs.View.{trees};
 ghost use Rattle.sexp_canonical.specs.Spelling.{spelling};
 ghost use Rattle.sexp_keys.specs.Names.{form_name};
 ghost use Rattle.sexp_keys.specs.Key.{IsFormed, algorithm_list, protected_with};
-ghost use Rattle.sexp_keys.specs.Lists.{public_list_of, key_list_of, grip_of, hashed_list_of, time_lists};
+ghost use Rattle.sexp_keys.specs.Lists.{public_list_of, key_list_of, grip_of, timed_list_of, hashed_list_of, associated_list_of, time_lists};
 
 use crate::algorithm::Algorithm;
 use crate::key_list::KeyList;
@@ -53,7 +53,10 @@ impl KeyList {
     /// `(private-key (alg public.. secret..) further..)`, the whole clear key.
     pub fn private_list(&self, alloc: Global) -> Result<Vec<u8>, AllocError>
         requires { IsTrue self.now.is_clear }
-        ensures { IfOk result (λ text. text.items ≡ key_list_of self.now) }
+        ensures list { IfOk result (λ text. text.items ≡ key_list_of self.now) }
+
+        // It has the two blocks at least that a key wrap takes.
+        ensures long { IfOk result (λ text. 16 ≤ length text.items) }
     {
         self.whole_list(alloc)
     }
@@ -102,8 +105,27 @@ impl KeyList {
         requires { IsTrue self.now.is_clear }
         ensures { IfOk result (λ text. text.items ≡ hashed_list_of self.now (option_copied time.entry)) }
     {
+        self.timed_list(alloc, self.private.as_slice(), time)
+    }
+
+    /// `(alg public..)`, with `(protected-at time)` last where there is a time: what is authenticated beside the secret
+    /// parameters of a protected key.
+    pub fn associated_list(&self, alloc: Global, time: Option<&[u8]>) -> Result<Vec<u8>, AllocError>
+        ensures { IfOk result (λ text. text.items ≡ associated_list_of self.now (option_copied time.entry)) }
+    {
+        self.timed_list(alloc, &[], time)
+    }
+
+    fn timed_list(
+        &self,
+        alloc: Global,
+        behind: &[Sexp],
+        time: Option<&[u8]>,
+    ) -> Result<Vec<u8>, AllocError>
+        ensures { IfOk result (λ text. text.items ≡ timed_list_of self.now (trees behind.now) (option_copied time.entry)) }
+    {
         let mut text = Bytes::new(alloc);
-        append_algorithm(&mut text, self, self.private.as_slice(), time)?;
+        append_algorithm(&mut text, self, behind, time)?;
         Ok(text.into_vec())
     }
 }

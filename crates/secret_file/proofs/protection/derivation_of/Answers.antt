@@ -4,5 +4,5 @@ use Rattle.secret_file.proofs.protection.derivation_of.Goals as goal
 
 pub returns-clause-found : goal.returns-clause-found
 returns-clause-found c =
-    derivation_is (tree_of c.args.list.now) (trees c.items.result.now) (trees c.in_ok-hashing.behind.now) (tree_of c.in_ok-hashing.hashing.now) c.in_ok-iv.iv.now c.in_ok-array_of.field-0
-    c.items.ensures c.in_ok-hashing.ensures.found c.in_ok-iv.ensures.found c.in_ok-array_of.ensures.found
+    derivation_is (tree_of c.args.list.now) (trees c.items.result.now) (trees c.in_ok-hashing.behind.now) (tree_of c.in_ok-hashing.hashing.now) c.in_ok-only_atom.field-0.now
+    c.items.ensures c.in_ok-hashing.ensures.found c.in_ok-only_atom.ensures.found

@@ -15,13 +15,13 @@ returns-in_default-clause-none c = λ secret hash shallow h.
 
 pub returns-then-bytes-len-gt-MAX_PADDING-clause-none : goal.returns-then-bytes-len-gt-MAX_PADDING-clause-none
 returns-then-bytes-len-gt-MAX_PADDING-clause-none c = λ secret hash shallow h.
-    let long : 15 < length c.args.bytes.now - c.in-Some.len = omega arith in
+    let long : 16 < length c.args.bytes.now - c.in-Some.len = omega arith in
     not_padded c.args.bytes.now c.in_ok-read.read c.in-Some.tree c.in-Some.len c.in-Some.is long (Listed (list_of secret ∷ hash ∷ [])) secret hash
     (secret_read c.args.bytes.now c.in_ok-read.read c.in_ok-read.ensures.again c.requires secret hash shallow h) h
 
 pub returns-clause-found : goal.returns-clause-found
 returns-clause-found c =
-    let few : length c.args.bytes.now - c.in-Some.len ≤ 15 = omega arith in
+    let few : length c.args.bytes.now - c.in-Some.len ≤ 16 = omega arith in
     some_more c.two_lists.result (λ s. tree_of c.in-Some.tree ≡ secret_tree s.secret (tree_of s.hash)) (λ s. AreSpelled c.args.bytes.now (secret_tree s.secret (tree_of s.hash)))
     (λ s e. padded_is c.args.bytes.now c.in-Some.tree c.in-Some.len (secret_tree s.secret (tree_of s.hash)) (rw c.in-Some.is at c.in_ok-read.ensures.found) few e)
     c.two_lists.ensures.found

@@ -1,0 +1,83 @@
+-- A tag is a block.
+use Rattle.std.proofs.Common.{◌≡◌, ℕ, ◌+◌, ◌-◌, ◌*◌, ◌/◌, ◌<◌, List, [], ◌∷◌, ◌++◌, length, map, arith, length-drop, lit<, subst}
+use Rattle.std.specs.Prelude.{replicate}
+use Rattle.std.proofs.lemmas.List.{length-replicate}
+use Rattle.aes_block.specs.Aes.{IsBytes, xor_of, encrypted}
+use Rattle.aes_block.proofs.Blocks.{AreBlocks, IsBytes-append, IsBytes-drop}
+use Rattle.aes_block.proofs.Undone.{small_at, encrypted-bytes, xor_of-bytes}
+use Rattle.aes_modes.specs.Cbc.{blocks_of}
+use Rattle.aes_modes.specs.Ocb.{zeros, l_dollar, first_offset, offset, rest_of, padded, last_offset, sum_from, checksum, hashed_blocks, hash, ocb_tag}
+use Rattle.aes_modes.proofs.OcbUndone.{small-zeros, zeros-bytes, double-bytes, first_offset-bytes, offset-bytes, offset_after-bytes, first_chunks-front}
+
+sum_from-bytes : (s : List ℕ) (bs : List (List ℕ)) → IsBytes 16 s → AreBlocks 16 bs → IsBytes 16 (sum_from s bs)
+unfolding sum_from
+sum_from-bytes s [] h k = h
+sum_from-bytes s (b ∷ bs) h k = sum_from-bytes (xor_of s b) bs (xor_of-bytes 16 s b h k.0) k.1
+
+append-blocks : (a b : List (List ℕ)) → AreBlocks 16 a → AreBlocks 16 b → AreBlocks 16 (a ++ b)
+append-blocks [] b h k = k
+append-blocks (x ∷ xs) b h k = (h.0, append-blocks xs b h.1 k)
+
+map-blocks : (f : List ℕ → List ℕ) (bs : List (List ℕ)) → ((b : List ℕ) → IsBytes 16 b → IsBytes 16 (f b)) → AreBlocks 16 bs → AreBlocks 16 (map f bs)
+map-blocks f [] h k = tt
+map-blocks f (b ∷ bs) h k = (h b k.0, map-blocks f bs h k.1)
+
+padded-blocks : (rest : List ℕ) → length rest < 16 → IsBytes (length rest) rest → AreBlocks 16 (padded rest)
+unfolding padded
+padded-blocks [] fits h = tt
+padded-blocks (x ∷ xs) fits h =
+    let rest = x ∷ xs in
+    let n = length (x ∷ xs) in
+    let more : List ℕ = 0x80 ∷ replicate (15 - n) 0 in
+    let len : length more ≡ 16 - n = omega (arith, length-replicate {A = ℕ} (15 - n) 0) in
+    let end : IsBytes (16 - n) more = record { len = len; small = small_at more (lit< tt, small-zeros (15 - n)) } in
+    let whole : n + (16 - n) ≡ 16 = omega arith in
+    (subst (λ m. IsBytes m (rest ++ more)) whole (IsBytes-append n (16 - n) rest more h end), tt)
+
+rest-blocks : (s : List ℕ) → IsBytes (length s) s → AreBlocks 16 (padded (rest_of s))
+rest-blocks s h =
+    let n = 16 * (length s / 16) in
+    let len = length-drop n s in
+    padded-blocks (rest_of s) (omega arith) (IsBytes-drop n (length s) (length (rest_of s)) s (omega arith) h)
+
+whole-blocks : (s : List ℕ) → IsBytes (length s) s → AreBlocks 16 (blocks_of s)
+whole-blocks s h = first_chunks-front 16 (length s / 16) (length s) s (omega arith) h
+
+hashed_blocks-blocks : (key : List ℕ) (i : ℕ) (bs : List (List ℕ)) → IsBytes 16 key → AreBlocks 16 bs → AreBlocks 16 (hashed_blocks key i bs)
+unfolding hashed_blocks
+hashed_blocks-blocks key i [] h k = tt
+hashed_blocks-blocks key i (b ∷ bs) h k =
+    let o = offset-bytes key zeros (i + 1) zeros-bytes in
+    (encrypted-bytes key (xor_of b (offset key zeros (i + 1))) h (xor_of-bytes 16 b (offset key zeros (i + 1)) k.0 o), hashed_blocks-blocks key (i + 1) bs h k.1)
+
+last_offset-bytes : (key first s : List ℕ) → IsBytes 16 key → IsBytes 16 first → IsBytes 16 (last_offset key first s)
+unfolding last_offset
+last_offset-bytes key first s h k =
+    offset_after-bytes key (offset key first (length s / 16)) (rest_of s) h (offset-bytes key first (length s / 16) k)
+
+checksum-bytes : (plain : List ℕ) → IsBytes (length plain) plain → IsBytes 16 (checksum plain)
+unfolding checksum
+checksum-bytes plain h =
+    sum_from-bytes zeros (blocks_of plain ++ padded (rest_of plain)) zeros-bytes
+    (append-blocks (blocks_of plain) (padded (rest_of plain)) (whole-blocks plain h) (rest-blocks plain h))
+
+hash-bytes : (key assoc : List ℕ) → IsBytes 16 key → IsBytes (length assoc) assoc → IsBytes 16 (hash key assoc)
+unfolding hash
+hash-bytes key assoc h k =
+    let last = last_offset key zeros assoc in
+    let o = last_offset-bytes key zeros assoc h zeros-bytes in
+    let f : List ℕ → List ℕ = λ b. encrypted key (xor_of b last) in
+    sum_from-bytes zeros (hashed_blocks key 0 (blocks_of assoc) ++ map f (padded (rest_of assoc))) zeros-bytes
+    (append-blocks (hashed_blocks key 0 (blocks_of assoc)) (map f (padded (rest_of assoc)))
+    (hashed_blocks-blocks key 0 (blocks_of assoc) h (whole-blocks assoc k))
+    (map-blocks f (padded (rest_of assoc)) (λ b p. encrypted-bytes key (xor_of b last) h (xor_of-bytes 16 b last p o)) (rest-blocks assoc k)))
+
+pub ocb_tag-bytes : (key nonce assoc plain : List ℕ) → IsBytes 16 key → IsBytes (length assoc) assoc → IsBytes (length plain) plain
+    → IsBytes 16 (ocb_tag key nonce assoc plain)
+unfolding ocb_tag l_dollar
+ocb_tag-bytes key nonce assoc plain h k p =
+    let last = last_offset key (first_offset key nonce) plain in
+    let o = last_offset-bytes key (first_offset key nonce) plain h (first_offset-bytes key nonce) in
+    let sum = xor_of-bytes 16 (checksum plain) last (checksum-bytes plain p) o in
+    let all = xor_of-bytes 16 (xor_of (checksum plain) last) (l_dollar key) sum (double-bytes _) in
+    xor_of-bytes 16 (encrypted key (xor_of (xor_of (checksum plain) last) (l_dollar key))) (hash key assoc) (encrypted-bytes key _ h all) (hash-bytes key assoc h k)

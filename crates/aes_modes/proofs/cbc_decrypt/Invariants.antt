@@ -1,8 +1,0 @@
-use Rattle.std.proofs.Common.{◌≡◌, ◌*◌, ◌++◌, take, drop}
-use Rattle.aes_modes.specs.Cbc.{cbc_decrypted}
-use Rattle.aes_modes.proofs.cbc_decrypt.Given as goal
-
--- the blocks that are done, and what the others will be, make the whole
-abbrev pub invariant-loop-i : goal.invariant-loop-i
-invariant-loop-i l =
-    take (16 * l.i) l.bytes ++ cbc_decrypted l.key l.previous (drop (16 * l.i) l.bytes) ≡ cbc_decrypted l.key l.iv l.fn.bytes

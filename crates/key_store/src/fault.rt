@@ -1,0 +1,39 @@
+//! Why a call on the files came to nothing.
+
+ghost use Rattle.std.specs.Prelude.{◌≡◌, ◌↔◌};
+ghost use Rattle.std.specs.IoError.{error_kind};
+ghost use Rattle.std.specs.declared.io.ErrorKind.TheVariants as kind;
+ghost use Rattle.key_store.specs.declared.fault.Fault.TheVariants.{Absent, NoMemory};
+
+use std::alloc::AllocError;
+use std::io;
+use std::io::ErrorKind;
+
+#[derive(Clone, Copy)]
+pub(crate) enum Fault {
+    /// There is no such file.
+    Absent,
+    NoMemory,
+    Failed,
+}
+
+impl From<AllocError> for Fault {
+    ghost from_gives = { λ _ fault. fault ≡ NoMemory };
+
+    fn from(_: AllocError) -> Fault {
+        Fault::NoMemory
+    }
+}
+
+impl From<io::Error> for Fault {
+    ghost from_gives = { λ error fault. ((fault ≡ Absent) ↔ (error_kind error ≡ kind.NotFound))
+        × ((fault ≡ NoMemory) ↔ (error_kind error ≡ kind.OutOfMemory)) };
+
+    fn from(error: io::Error) -> Fault {
+        match error.kind() {
+            ErrorKind::NotFound => Fault::Absent,
+            ErrorKind::OutOfMemory => Fault::NoMemory,
+            _ => Fault::Failed,
+        }
+    }
+}

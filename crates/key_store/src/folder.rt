@@ -1,0 +1,173 @@
+ghost use Rattle.std.specs.Prelude.{◌≡◌, ◌≤◌, length, None, IfOk};
+ghost use Rattle.std.specs.List.Sorted.{IsStrictlySortedBy};
+ghost use Rattle.agent_ports.specs.KeyFiles.{grip_cmp};
+ghost use Rattle.agent_ports.specs.Counts.{Rose};
+ghost use Rattle.agent_ports.specs.declared.keys.TheConstants.{MAX_KEY_FILE_LEN};
+
+use crate::fault::Fault;
+use crate::files::{read_file, remove_leftover, write_new_file};
+use crate::names::{KEY_ENDING, NEW_ENDING, folder_path, grip_of_name, key_path};
+use agent_ports::{Grip, KeyDone, KeyNames, KeyRead, Keys};
+use std::alloc::{AllocError, Global};
+use std::collections::BTreeSet;
+use std::fs::{DirBuilder, File};
+use std::io::ErrorKind;
+use std::os::unix::fs::DirBuilderExt;
+use std::rt::Files;
+use std::{fs, io};
+
+/// The keys of a home directory. Changes hold the folder's lock, so that they come one after another, whichever program makes
+/// them by this crate; a read needs none.
+#[derive(Drop)]
+pub struct FolderKeys<'a, R> {
+    rt: &'a R,
+    folder: String,
+    faults: u64,
+}
+
+impl<'a, R: Files<File = File>> FolderKeys<'a, R> {
+    /// The keys under a home directory. Their folder is made by the first `replace`, and the home directory must be there by then.
+    pub fn new(rt: &'a R, alloc: Global, homedir: &str) -> Result<Self, AllocError>
+        ensures { IfOk result (λ keys. ⟦<FolderKeys<'a, R> as Keys>⟧.keys keys ≡ record { files = None; faults = 0 }) }
+    {
+        Ok(FolderKeys {
+            rt,
+            folder: folder_path(alloc, homedir)?,
+            faults: 0,
+        })
+    }
+
+    fn read_key(&self, alloc: Global, grip: &Grip) -> Result<Vec<u8>, Fault>
+        ensures { IfOk result (λ bytes. length bytes.items ≤ MAX_KEY_FILE_LEN) }
+    {
+        let path = key_path(alloc, self.folder.as_str(), grip, KEY_ENDING)?;
+        read_file(self.rt, alloc, path.as_str())
+    }
+
+    fn list_grips(&self, alloc: Global) -> Result<Vec<Grip>, Fault>
+        ensures { IfOk result (λ grips. IsStrictlySortedBy grip_cmp grips.items) }
+    {
+        let mut grips = BTreeSet::new(alloc);
+        for entry in fs::read_dir(&(self.rt, alloc), self.folder.as_str())? {
+            match entry {
+                Ok(entry) => {
+                    if let Some(grip) = grip_of_name(entry.file_name()) {
+                        grips.insert(grip).map_err(AllocError::from)?;
+                    }
+                }
+                // A name that isn't UTF-8 is no key's.
+                Err(error) if error.kind() == ErrorKind::InvalidFilename => {}
+                Err(error) => return Err(error.into()),
+            }
+        }
+        Ok(grips.iter().copied().collect(alloc)?)
+    }
+
+    fn replace_key(&self, alloc: Global, grip: &Grip, file: &[u8]) -> Result<(), Fault> {
+        let path = key_path(alloc, self.folder.as_str(), grip, KEY_ENDING)?;
+        let new_path = key_path(alloc, self.folder.as_str(), grip, NEW_ENDING)?;
+        self.make_folder()?;
+        let folder = self.lock_folder()?;
+        // What a crash left.
+        remove_leftover(self.rt, new_path.as_str())?;
+        if let Err(error) = self.put_in_place(new_path.as_str(), path.as_str(), file) {
+            let _ = fs::remove_file(self.rt, new_path.as_str());
+            return Err(error.into());
+        }
+        // The file is in its place, whether or not the system can sync a folder.
+        let _ = folder.sync_all();
+        Ok(())
+    }
+
+    fn remove_key(&self, alloc: Global, grip: &Grip) -> Result<(), Fault> {
+        let path = key_path(alloc, self.folder.as_str(), grip, KEY_ENDING)?;
+        let new_path = key_path(alloc, self.folder.as_str(), grip, NEW_ENDING)?;
+        let folder = self.lock_folder()?;
+        remove_leftover(self.rt, new_path.as_str())?;
+        fs::remove_file(self.rt, path.as_str())?;
+        let _ = folder.sync_all();
+        Ok(())
+    }
+
+    fn put_in_place(&self, new_path: &str, path: &str, file: &[u8]) -> io::Result<()> {
+        write_new_file(self.rt, new_path, file)?;
+        fs::rename(self.rt, new_path, path)
+    }
+
+    fn make_folder(&self) -> io::Result<()> {
+        match DirBuilder::new()
+            .mode(0o700)
+            .create(self.rt, self.folder.as_str())
+        {
+            Err(error) if error.kind() != ErrorKind::AlreadyExists => Err(error),
+            _ => Ok(()),
+        }
+    }
+
+    // The folder, locked until it is dropped.
+    fn lock_folder(&self) -> io::Result<File> {
+        let folder = File::open(self.rt, self.folder.as_str())?;
+        folder.lock()?;
+        Ok(folder)
+    }
+
+    fn count_fault(&mut self)
+        ensures rose { Rose self.old.faults self.new.faults }
+        ensures never_falls { self.old.faults ≤ self.new.faults }
+    {
+        self.faults = self.faults.saturating_add(1);
+    }
+}
+
+impl<R: Files<File = File>> Keys for FolderKeys<'_, R> {
+    ghost keys = { λ k. record { files = None; faults = k.faults } };
+
+    fn read(&mut self, alloc: Global, grip: &Grip) -> KeyRead {
+        match self.read_key(alloc, grip) {
+            Ok(file) => KeyRead::Found(file),
+            Err(Fault::Absent) => KeyRead::Absent,
+            Err(Fault::NoMemory) => KeyRead::NoMemory,
+            Err(Fault::Failed) => {
+                self.count_fault();
+                KeyRead::Failed
+            }
+        }
+    }
+
+    fn list(&mut self, alloc: Global) -> KeyNames {
+        match self.list_grips(alloc) {
+            Ok(grips) => KeyNames::Names(grips),
+            // No folder yet, and so no key.
+            Err(Fault::Absent) => KeyNames::Names(Vec::new(alloc)),
+            Err(Fault::NoMemory) => KeyNames::NoMemory,
+            Err(Fault::Failed) => {
+                self.count_fault();
+                KeyNames::Failed
+            }
+        }
+    }
+
+    fn replace(&mut self, alloc: Global, grip: &Grip, file: &[u8]) -> KeyDone {
+        match self.replace_key(alloc, grip, file) {
+            Ok(()) => KeyDone::Done,
+            Err(Fault::NoMemory) => KeyDone::NoMemory,
+            // Also where the home directory isn't there.
+            Err(Fault::Absent | Fault::Failed) => {
+                self.count_fault();
+                KeyDone::Failed
+            }
+        }
+    }
+
+    fn remove(&mut self, alloc: Global, grip: &Grip) -> KeyDone {
+        match self.remove_key(alloc, grip) {
+            Ok(()) => KeyDone::Done,
+            Err(Fault::Absent) => KeyDone::Absent,
+            Err(Fault::NoMemory) => KeyDone::NoMemory,
+            Err(Fault::Failed) => {
+                self.count_fault();
+                KeyDone::Failed
+            }
+        }
+    }
+}
