@@ -1,0 +1,9 @@
+mod LineLemmas
+mod NoMemory
+mod KeyLemmas
+mod OneAnswer
+mod Plain
+mod Ended
+mod LeftOut
+mod Replaced
+mod WorkedExamples

@@ -1,0 +1,23 @@
+-- No text has a lack of memory as its fault.
+use Rattle.std.proofs.Common.{◌≡◌, inl, inr, ℕ, List, length, Some, None}
+use Rattle.std.specs.Prelude.{◌==◌}
+use Rattle.std.proofs.lemmas.Bool.{cond_both}
+use Rattle.sexp_canonical.specs.Spelling.{most_depth}
+use Rattle.sexp_advanced.specs.Bytes.{is_blank, without_front}
+use Rattle.sexp_advanced.specs.Signs.{Found, sign, broken_atom, ended, no_item}
+use Rattle.sexp_advanced.specs.Reading.{fault_of, place_of}
+use Rattle.sexp_advanced.specs.declared.signs.Sign.TheVariants.{Open, Close, Atom}
+use Rattle.sexp_advanced.specs.declared.fault.AdvFault.TheVariants.{BadByte, Deep, NoMemory}
+use Rattle.key_lines.specs.KeyText.{IsTextFault}
+
+never : (place lists_open : ℕ) (found : Found) → fault_of place lists_open found ≡ Some NoMemory → ⊥
+never place lists_open (sign Open rest) = cond_both (lists_open == most_depth) (Some (Deep place)) None (λ f. f ≡ Some NoMemory → ⊥) (λ _ e. absurd cc) (λ _ e. absurd cc)
+never place lists_open (sign Close rest) = cond_both (lists_open == 0) (Some (BadByte place)) None (λ f. f ≡ Some NoMemory → ⊥) (λ _ e. absurd cc) (λ _ e. absurd cc)
+never place lists_open (sign (Atom bytes) rest) = λ e. absurd cc
+never place lists_open broken_atom = λ e. absurd cc
+never place lists_open ended = λ e. absurd cc
+never place lists_open no_item = λ e. absurd cc
+
+pub no-memory : (value : List ℕ) → IsTextFault value NoMemory → ⊥
+no-memory value (inl h) = never (place_of value (without_front is_blank h.rest)) (length h.lists) h.found h.is
+no-memory value (inr h) = let e = h.is in absurd (cc e)

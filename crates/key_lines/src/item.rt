@@ -1,0 +1,46 @@
+ghost use Rattle.std.specs.Prelude.{◌≡◌, true, false, IfOk, MatchOption};
+ghost use Rattle.std.specs.List.{concat};
+ghost use Rattle.key_lines.specs.Lines.{lines_of};
+ghost use Rattle.key_lines.specs.KeyItem.{has_key, before_key, from_key, value_of, after_item};
+
+use crate::forms::{form_of, value_in};
+use crate::lines::{next_line, text_of};
+use sexp_canonical::Bytes;
+use std::alloc::{AllocError, Global};
+
+/// The file cut before the first line of its `Key` item.
+pub(crate) fn cut_at_key(file: &[u8]) -> Option<(&[u8], &[u8])>
+    ensures { MatchOption result (has_key file.now ≡ false)
+        (λ parts. (has_key file.now ≡ true) × (parts.0.now ≡ before_key file.now) × (lines_of parts.1.now ≡ from_key file.now)) }
+{
+    let mut rest = file;
+    while let Some((line, after)) = next_line(rest) {
+        if form_of(line).is_key() {
+            return Some((&file[..file.len() - rest.len()], rest));
+        }
+        rest = after;
+    }
+    None
+}
+
+/// The value of the item at the front of the bytes, and what comes after its lines.
+pub(crate) fn item_at(alloc: Global, bytes: &[u8]) -> Result<(Bytes, &[u8]), AllocError>
+    ensures value { IfOk result (λ parts. parts.0 ≡ value_of (lines_of bytes.now)) }
+    ensures after { IfOk result (λ parts. parts.1.now ≡ concat (after_item (lines_of bytes.now))) }
+{
+    let mut value = Bytes::new(alloc);
+    let Some((line, after)) = next_line(bytes) else {
+        return Ok((value, bytes));
+    };
+    value.extend_from_slice(value_in(text_of(line)))?;
+    let mut rest = after;
+    while let Some((line, after)) = next_line(rest) {
+        if !form_of(line).goes_on() {
+            return Ok((value, rest));
+        }
+        value.extend_from_slice(b" ")?;
+        value.extend_from_slice(text_of(line))?;
+        rest = after;
+    }
+    Ok((value, rest))
+}

@@ -1,0 +1,11 @@
+pub mod Behind
+pub mod Delimited
+pub mod OneSign
+pub mod Open
+pub mod OneAnswer
+pub mod Again
+pub mod Written
+pub mod WorkedExamples
+pub mod Following
+pub mod Spelled
+pub mod Stays

@@ -1,0 +1,9 @@
+pub mod Bytes
+pub mod Pieces
+pub mod Signs
+pub mod Reading
+pub mod Steps
+pub mod Writing
+pub mod Octets
+pub mod Left
+pub mod Grammar

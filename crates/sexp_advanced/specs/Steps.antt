@@ -1,0 +1,59 @@
+-- What the steps of reading know of a text.
+use Rattle.std.specs.Prelude.{◌≡◌, ℕ, List, [], ◌∷◌, ◌++◌, length, map, Option, Some, None}
+use Rattle.std.specs.Global.{Vec}
+use Rattle.sexp_canonical.specs.Tree.{Tree, leaf, list_of}
+use Rattle.sexp_canonical.specs.View.{tree_of, trees}
+use Rattle.sexp_canonical.specs.Spelling.{most_depth}
+use Rattle.sexp_canonical.specs.Reading.{OpenLists}
+use Rattle.sexp_canonical.specs.declared.tree.Sexp.{Sexp}
+use Rattle.sexp_advanced.specs.declared.signs.Sign.{Sign}
+use Rattle.sexp_advanced.specs.declared.signs.Sign.TheVariants.{Open, Close, Atom}
+use Rattle.sexp_canonical.specs.declared.fault.SexpFault.{SexpFault}
+use Rattle.sexp_canonical.specs.declared.fault.SexpFault.TheVariants.{BadByte as CanonicalBadByte, BadLength as CanonicalBadLength, Deep as CanonicalDeep, Short as CanonicalShort, NoMemory as CanonicalNoMemory}
+use Rattle.sexp_advanced.specs.Signs.{Found}
+use Rattle.sexp_advanced.specs.Reading.{fault_of}
+use Rattle.sexp_advanced.specs.declared.fault.AdvFault.{AdvFault}
+use Rattle.sexp_advanced.specs.declared.fault.AdvFault.TheVariants.{BadAtom, Short, NoMemory}
+
+-- at the place stands no sign, and that is the fault
+pub record HasNoSign (Is : Found → Type 0) (place : ℕ) (fault : AdvFault) : Type 0 where
+  pub found : Found
+  pub stands : Is found
+  pub is : (lists_open : ℕ) → fault_of place lists_open found ≡ Some fault
+
+-- the fault of a canonical atom, with the place where it begins
+abbrev pub verbatim_fault_at : ℕ → SexpFault → AdvFault
+verbatim_fault_at place (CanonicalBadByte at) = BadAtom place
+verbatim_fault_at place (CanonicalBadLength at) = BadAtom place
+verbatim_fault_at place (CanonicalDeep at) = BadAtom place
+verbatim_fault_at place CanonicalShort = Short
+verbatim_fault_at place CanonicalNoMemory = NoMemory
+
+-- the lists that are open, as trees
+abbrev pub lists_of : List (Vec Sexp) → OpenLists
+lists_of open-lists = map (λ items. trees items.items) open-lists
+
+-- a tree becomes the last item of the innermost list, or is the whole where none is open
+pub record AddsItem (old new : OpenLists) (tree : Tree) : Type 0 where
+  pub outer : OpenLists
+  pub items : List Tree
+  pub before : old ≡ outer ++ items ∷ []
+  pub after : new ≡ outer ++ (items ++ tree ∷ []) ∷ []
+
+abbrev pub AddsTree : (old new : OpenLists) → Tree → Option Sexp → Type 0
+AddsTree old new tree None = AddsItem old new tree
+AddsTree old new tree (Some whole) = (old ≡ []) × (tree_of whole ≡ tree)
+
+-- the innermost list is at its end
+pub record AddsList (old new : OpenLists) (r : Option Sexp) : Type 0 where
+  pub outer : OpenLists
+  pub items : List Tree
+  pub before : old ≡ outer ++ items ∷ []
+  pub adds : AddsTree outer new (list_of items) r
+
+-- what a sign makes of the open lists
+abbrev pub Adds : (old new : OpenLists) → Sign → Option Sexp → Type 0
+Adds old new Open None = (length old ≡ most_depth → ⊥) × (new ≡ old ++ [] ∷ [])
+Adds old new Open (Some whole) = ⊥
+Adds old new Close r = AddsList old new r
+Adds old new (Atom bytes) r = AddsTree old new (leaf bytes) r
