@@ -1,0 +1,7 @@
+pub mod Doing
+pub mod Opening
+pub mod Reading
+pub mod Seating
+pub mod Unwrapping
+mod WorkedExamples
+mod WorkedExchanges

@@ -1,0 +1,24 @@
+-- Tickets that requests hold, and the turns that give them.
+use Rattle.std.proofs.Common.{◌≡◌, ℕ, List, [], true, false, Option, Some, None, Ok, is_some, refl}
+use Rattle.agent_ports.specs.declared.grip.Grip.{Grip}
+use Rattle.cache_policy.specs.declared.mark.MarkStep.TheVariants.{Ask}
+use Rattle.cache_policy.specs.declared.mark.Way.{Way}
+use Rattle.cache_policy.specs.declared.mark.Way.TheVariants.{Quiet, Prompt}
+use Rattle.cache_policy.specs.declared.mode.Mode.{Mode}
+use Rattle.cache_policy.specs.Turns.{Open, FitsStep, opens}
+use Rattle.key_commands.specs.Parts.{returns}
+use Rattle.key_commands.specs.Passphrases.{TakesSeat}
+
+-- only a question that may open a prompt is answered by a ticket
+pub wants_prompt : (id : List ℕ) (mode : Mode) (way : Way) (number : ℕ) → FitsStep (Ask id mode way None) (Open number) → opens (Ask id mode way None) ≡ true
+wants_prompt id mode Quiet number fits = absurd fits
+wants_prompt id mode Prompt number fits = refl
+
+pub none_held : (held : Option ℕ) → is_some held ≡ false → held ≡ None
+none_held None is = refl
+none_held (Some ticket) is = cc is
+
+-- a request that holds a ticket takes no other
+pub keeps_seat : (grip : Grip) (held : Option ℕ) → is_some held ≡ true → TakesSeat grip held [] (Ok tt) held
+keeps_seat grip None is = cc is
+keeps_seat grip (Some ticket) is = returns

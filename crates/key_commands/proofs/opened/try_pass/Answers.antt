@@ -1,0 +1,19 @@
+use Rattle.std.proofs.Common.{[], ◌∷◌}
+use Rattle.key_commands.specs.Events.{out_of_memory}
+use Rattle.key_commands.specs.Passphrases.{opens, stays, no_memory}
+use Rattle.key_commands.specs.Steps.{nothing, memory}
+use Rattle.key_commands.proofs.Opening.{opens_so, stays_so}
+use Rattle.key_commands.proofs.opened.try_pass.Goals as goal
+
+pub returns-in-Key-clause-tries : goal.returns-in-Key-clause-tries
+returns-in-Key-clause-tries c =
+    let opened = opens_so c.args.locked.now c.args.pass c.in-Key.key (rw c.bytes.ensures.value at c.in-Key.ensures.answer) in
+    record { events = []; alone = nothing; does = λ held. opens opened }
+
+pub returns-in-BadPassphrase-clause-tries : goal.returns-in-BadPassphrase-clause-tries
+returns-in-BadPassphrase-clause-tries c =
+    let stayed = stays_so c.args.locked.now c.args.pass (rw c.bytes.ensures.value at c.in-BadPassphrase.ensures.answer) in
+    record { events = []; alone = nothing; does = λ held. stays stayed }
+
+pub returns-in-NoMemory-clause-tries : goal.returns-in-NoMemory-clause-tries
+returns-in-NoMemory-clause-tries c = record { events = out_of_memory ∷ []; alone = memory; does = λ held. no_memory }

@@ -1,0 +1,28 @@
+-- Private: what a session does for its requests on keys, over the lines that this project's server reads.
+use Rattle.std.specs.Prelude.{ℕ, List}
+use Rattle.agent_ask.specs.Further.{EventOf, KeyCall, Read, Keys, Dice, Drew, NotDrawn, NoMemory}
+use Rattle.agent_ask.specs.SessionEvents.{Further}
+use Rattle.agent_ports.specs.declared.grip.Grip.{Grip}
+use Rattle.agent_ports.specs.declared.keys.KeyRead.{KeyRead}
+use Rattle.assuan_server.specs.Clients.{session_lines}
+
+abbrev pub Event : Type 0
+Event = EventOf session_lines
+
+-- the keys were called, and answered so
+abbrev pub called : KeyCall → Event
+called call = Further (Keys call)
+
+abbrev pub read : Grip → KeyRead → Event
+read grip answer = called (Read grip answer)
+
+-- random bytes were drawn, or so many couldn't be
+abbrev pub drew : List ℕ → Event
+drew bytes = Further (Dice (Drew bytes))
+
+abbrev pub not_drawn : ℕ → Event
+not_drawn count = Further (Dice (NotDrawn count))
+
+-- the command found no memory for work of its own
+abbrev pub out_of_memory : Event
+out_of_memory = Further NoMemory

@@ -1,0 +1,155 @@
+-- Private: requests on keys and what is done for them, as the GnuPG manual has them ("Agent's Assuan protocol"). The codes, the texts and the order of
+-- what is done are this project's own.
+use Rattle.std.specs.Prelude.{◌++◌, ℕ, nat_le, Bool, true, false, List, [], ◌∷◌, length, take, drop, Option, Some, None, Ok, Err}
+use Rattle.agent_ask.specs.SessionEvents.{Sent}
+use Rattle.agent_ports.specs.declared.grip.Grip.{Grip}
+use Rattle.assuan_server.specs.declared.errors.Code.TheVariants as code
+use Rattle.cache_policy.specs.declared.life.Life.TheVariants.{Default}
+use Rattle.cache_policy.specs.declared.mark.MarkStep.TheVariants.{Put, Clear}
+use Rattle.cache_policy.specs.declared.mode.Mode.TheVariants.{Normal, Nonce}
+use Rattle.assuan_escape.specs.Escapes.{hex_text}
+use Rattle.session_options.specs.OptionValues.{OptionValues}
+use Rattle.session_options.specs.declared.rules.Rules.{Rules}
+use Rattle.sexp_keys.specs.Lists.{key_list_of}
+use Rattle.key_commands.specs.Events.{Event}
+use Rattle.key_commands.specs.Files.{rewritten}
+use Rattle.key_commands.specs.Lines.{ok, grip_text, nonce_line, limit_line, text}
+use Rattle.key_commands.specs.Parts.{Part, ◌>>=◌, Returns, Refuses, needed, wanted, or_else, Changes, Closes, Writes, Finds, Draws, refusal_events, refusal_went}
+use Rattle.key_commands.specs.Passphrases.{OldPassphrase, NewPassphrase, VerifiesPassphrase, LooksForNonce}
+use Rattle.key_commands.specs.declared.refusal.Refusal.{Refusal}
+use Rattle.key_commands.specs.declared.refusal.Refusal.TheVariants.{Agent}
+use Rattle.key_commands.specs.declared.request.Direction.{Direction}
+use Rattle.key_commands.specs.declared.request.Direction.TheVariants.{Import, Export}
+use Rattle.key_commands.specs.declared.request.KeyRequest.{KeyRequest}
+use Rattle.key_commands.specs.declared.request.KeyRequest.TheVariants.{HaveKey, KeyInfo, ListKeys, KeyWrap, ImportKey, ExportKey, Passwd, DeleteKey, Bad}
+use Rattle.key_commands.specs.declared.went.KeyWent.{KeyWent}
+use Rattle.key_commands.specs.declared.went.KeyWent.TheVariants.{On}
+use Rattle.key_commands.specs.declared.wrapping.TheConstants.{MAX_LIST_LEN}
+use Rattle.key_commands.specs.declared.wrap_keys.WrapKeys.{WrapKeys}
+use Rattle.key_commands.specs.KeyParts.{Tells, ReadsFile, Replaces, Removes, Protects, KeepsNew, HasOne, TellsInfo, ListsGrips, WritesInfos, max_key_data, AsksKeyData, Unwraps, NamesKey, IsFree, LooksOver, WrapsKey, Consents}
+
+-- what a request is answered where it isn't refused, and the wrapping keys after it
+pub record KeyReply : Type 0 where
+  pub text : List ℕ
+  pub wraps : WrapKeys
+
+abbrev pub reply : WrapKeys → List ℕ → KeyReply
+reply wraps text = record { text = text; wraps = wraps }
+
+-- ---- KEYWRAP_KEY
+
+abbrev pub wrap_key : Direction → WrapKeys → Option (List ℕ)
+wrap_key Import wraps = wraps.import
+wrap_key Export wraps = wraps.export
+
+abbrev pub with_wrap_key : Direction → List ℕ → WrapKeys → WrapKeys
+with_wrap_key Import key wraps = record { import = Some key; export = wraps.export }
+with_wrap_key Export key wraps = record { import = wraps.import; export = Some key }
+
+module _ (rules : Rules) (options : OptionValues) where
+  -- ---- what is done for each request
+
+  module _ (wraps : WrapKeys) where
+    unfoldable pub HaveKeyReplies : List Grip → Part KeyReply
+    HaveKeyReplies grips = do
+      one ← HasOne grips
+      Returns (reply wraps ok)
+
+    unfoldable pub KeyInfoReplies : Grip → Part KeyReply
+    KeyInfoReplies grip = do
+      file ← ReadsFile grip
+      line ← TellsInfo grip file.key
+      Returns (reply wraps (line ++ ok))
+
+    unfoldable pub ListKeysReplies : Part KeyReply
+    ListKeysReplies = do
+      grips ← ListsGrips
+      written ← WritesInfos grips
+      Returns (reply wraps ok)
+
+    -- the first request of a session for a direction draws its key
+    unfoldable pub KeyWrapReplies : Direction → Part KeyReply
+    KeyWrapReplies way = do
+      key ← or_else (wrap_key way wraps) (Draws 16)
+      text ← Tells key
+      Returns (reply (with_wrap_key way key wraps) text)
+
+    unfoldable pub ImportKeyReplies : Bool → Option (List ℕ) → Part KeyReply
+    ImportKeyReplies force nonce = do
+      wrap ← needed code.Parameter wraps.import
+      told ← Writes (limit_line max_key_data)
+      wrapped ← AsksKeyData
+      key ← Unwraps wrap wrapped
+      grip ← NamesKey key
+      free ← IsFree force grip
+      found ← LooksOver nonce
+      pass ← or_else found (NewPassphrase rules options grip)
+      -- a salt of 8 bytes, an initialization vector of 12, and a nonce of 12
+      drawn ← Draws 32
+      file ← Protects key pass (take 8 drawn) (take 12 (drop 8 drawn)) options.s2k_count
+      cached ← Changes (Put (hex_text (drop 20 drawn)) Nonce Default pass)
+      replaced ← Replaces grip file
+      kept ← KeepsNew grip pass
+      Returns (reply wraps (nonce_line (hex_text (drop 20 drawn)) ++ ok))
+
+    unfoldable pub ExportKeyReplies : Grip → Option (List ℕ) → Part KeyReply
+    ExportKeyReplies grip nonce = do
+      wrap ← needed code.Parameter wraps.export
+      file ← ReadsFile grip
+      opened ← OldPassphrase rules options grip nonce file.key
+      closed ← Closes opened.by
+      wrapped ← WrapsKey wrap opened.key
+      text ← Tells wrapped
+      Returns (reply wraps text)
+
+    unfoldable pub PasswdReplies : Grip → (nonce new_nonce : Option (List ℕ)) → Part KeyReply
+    PasswdReplies grip nonce new_nonce = do
+      file ← ReadsFile grip
+      opened ← OldPassphrase rules options grip nonce file.key
+      short ← wanted code.BadSecKey (nat_le (length (key_list_of opened.key)) MAX_LIST_LEN)
+      found ← LooksForNonce new_nonce
+      pass ← or_else found (NewPassphrase rules options grip)
+      -- a salt of 8 bytes, and an initialization vector of 12
+      drawn ← Draws 20
+      list ← Protects opened.key pass (take 8 drawn) (drop 8 drawn) options.s2k_count
+      replaced ← Replaces grip (rewritten file.bytes list)
+      kept ← KeepsNew grip pass
+      Returns (reply wraps ok)
+
+    -- PASSWD --verify
+    unfoldable pub VerifyReplies : Grip → Part KeyReply
+    VerifyReplies grip = do
+      file ← ReadsFile grip
+      opened ← VerifiesPassphrase rules options grip file.key
+      closed ← Closes opened.by
+      Returns (reply wraps ok)
+
+    unfoldable pub DeleteKeyReplies : Bool → Grip → Part KeyReply
+    DeleteKeyReplies force grip = do
+      there ← Finds grip
+      some ← wanted code.NoSecKey there
+      agreed ← Consents rules options force grip
+      removed ← Removes grip
+      cleared ← Changes (Clear (grip_text grip) Normal)
+      Returns (reply wraps ok)
+
+    -- what is done for a request, up to its reply
+    abbrev pub Replies : KeyRequest → Part KeyReply
+    Replies (HaveKey grips) = HaveKeyReplies grips
+    Replies (KeyInfo grip) = KeyInfoReplies grip
+    Replies ListKeys = ListKeysReplies
+    Replies (KeyWrap way) = KeyWrapReplies way
+    Replies (ImportKey force nonce) = ImportKeyReplies force nonce
+    Replies (ExportKey grip nonce) = ExportKeyReplies grip nonce
+    Replies (Passwd grip old new true) = VerifyReplies grip
+    Replies (Passwd grip old new false) = PasswdReplies grip old new
+    Replies (DeleteKey grip force) = DeleteKeyReplies force grip
+    Replies (Bad code) = Refuses (Agent code)
+
+  -- A request: the wrapping keys before it, what the session does for it, the wrapping keys after it, and how the session goes on. A ticket that
+  -- is still held is given back before the reply, and nothing is kept.
+  pub data Exchange (before : WrapKeys) (request : KeyRequest) : List Event → WrapKeys → KeyWent → Type 0 where
+    answered : (events : List Event) (held : Option ℕ) (reply : KeyReply) {back : List Event} → Replies before request None events (Ok reply) held → Closes None held back (Ok tt) None
+        → Exchange before request (events ++ (back ++ Sent reply.text ∷ [])) reply.wraps On
+    refused : (events : List Event) (held : Option ℕ) (why : Refusal) {back : List Event} → Replies before request None events (Err why) held → Closes None held back (Ok tt) None
+        → Exchange before request (events ++ (back ++ refusal_events why)) before (refusal_went why)

@@ -1,0 +1,228 @@
+-- Private: the parts of requests on keys that are no passphrase's: what is done with key files and with wrapped keys, and how consent is asked for (GnuPG
+-- manual, "Agent's Assuan protocol"). The codes, the texts and the order of what is done are this project's own.
+use Rattle.std.specs.Prelude.{◌≡◌, ◌≢◌, ℕ, Bool, true, false, List, [], ◌∷◌, codes, not, Option, Some, None, Result, Ok, Err}
+use Rattle.std.specs.Option.{option_map}
+use Rattle.agent_ask.specs.Callers.{unheard_of}
+use Rattle.agent_ask.specs.Consents.{AsksConsent}
+use Rattle.agent_ask.specs.Events.{PromptEvent}
+use Rattle.agent_ask.specs.Further.{Listed, Replaced, Removed}
+use Rattle.agent_ask.specs.Plans.{IsSpec}
+use Rattle.agent_ask.specs.SessionEvents.{Inquiry, cache_turn}
+use Rattle.agent_ask.specs.UnderTickets.{AnyInSession}
+use Rattle.agent_ask.specs.declared.consent.Agreed.{Agreed}
+use Rattle.agent_ask.specs.declared.consent.Agreed.TheVariants as agreed
+use Rattle.agent_ask.specs.declared.spec.PromptSpec.{PromptSpec}
+use Rattle.agent_ports.specs.declared.grip.Grip.{Grip}
+use Rattle.agent_ports.specs.declared.keys.KeyDone.{KeyDone}
+use Rattle.agent_ports.specs.declared.keys.KeyDone.TheVariants as key_done
+use Rattle.agent_ports.specs.declared.keys.KeyNames.TheVariants as key_names
+use Rattle.agent_ports.specs.declared.keys.KeyRead.{KeyRead}
+use Rattle.agent_ports.specs.declared.keys.KeyRead.TheVariants as key_read
+use Rattle.assuan_server.specs.Clients.{session_lines}
+use Rattle.assuan_server.specs.Inquiries.{Outcome, IsAtEnd}
+use Rattle.assuan_server.specs.declared.errors.Code.{Code}
+use Rattle.assuan_server.specs.declared.errors.Code.TheVariants as code
+use Rattle.cache_policy.specs.declared.grant.Grant.{Grant}
+use Rattle.cache_policy.specs.declared.mark.MarkStep.TheVariants.{Seat}
+use Rattle.cache_policy.specs.Turns.{Given, Empty, Stopping, Refused}
+use Rattle.secret_file.specs.Protects.{ocb_protection, protected_file}
+use Rattle.session_client.specs.Asking.{Asked}
+use Rattle.session_options.specs.OptionValues.{OptionValues}
+use Rattle.session_options.specs.declared.options.PinMode.{PinMode}
+use Rattle.session_options.specs.declared.options.PinMode.TheVariants as mode
+use Rattle.session_options.specs.declared.rules.Rules.{Rules}
+use Rattle.sexp_keys.specs.Key.{Key}
+use Rattle.sexp_keys.specs.Lists.{grip_of}
+use Rattle.sexp_keys.specs.declared.fault.KeyFault.{KeyFault}
+use Rattle.key_commands.specs.Events.{Event, called, read, out_of_memory}
+use Rattle.key_commands.specs.Files.{FileSays}
+use Rattle.key_commands.specs.Lines.{IsDataAnswer, info_line, text, delete_description}
+use Rattle.key_commands.specs.Parts.{Part, ◌>>=◌, Returns, Refuses, wanted, unless, Seats, Changes, Peeks, Closes, Writes, Inquires, Finds, read_fault}
+use Rattle.key_commands.specs.Passphrases.{ask_nonce, put_key}
+use Rattle.key_commands.specs.Faults.{fault_code}
+use Rattle.key_commands.specs.Wrapping.{wrapped_key, WrappedSays}
+use Rattle.key_commands.specs.declared.refusal.Refusal.{Refusal}
+use Rattle.key_commands.specs.declared.refusal.Refusal.TheVariants.{Agent, Pinentry, Client}
+use Rattle.agent_ports.specs.declared.keys.KeyNames.{KeyNames}
+
+-- bytes are answered by data lines
+pub data Tells (bytes : List ℕ) (held : Option ℕ) : List Event → Result (List ℕ) Refusal → Option ℕ → Type 0 where
+  tells : {text : List ℕ} → IsDataAnswer bytes text → Tells bytes held [] (Ok text) held
+
+-- ---- key files
+
+-- the bytes of the file that a read gave, and the keys that were listed
+abbrev pub file_in : KeyRead → Option (List ℕ)
+file_in (key_read.Found file) = Some file.items
+file_in _ = None
+
+abbrev pub grips_in : KeyNames → Option (List Grip)
+grips_in (key_names.Names grips) = Some grips.items
+grips_in _ = None
+
+-- the bytes of a key's file, and the key that they are
+pub record KeyFile : Type 0 where
+  pub bytes : List ℕ
+  pub key : Key
+
+-- a key's file is read
+pub data ReadsFile (grip : Grip) (held : Option ℕ) : List Event → Result KeyFile Refusal → Option ℕ → Type 0 where
+  is_key : {answer : KeyRead} {file : List ℕ} {key : Key} → file_in answer ≡ Some file → FileSays file (Ok key)
+      → ReadsFile grip held (read grip answer ∷ []) (Ok (record { bytes = file; key = key })) held
+  faulty : {answer : KeyRead} {file : List ℕ} {fault : KeyFault} → file_in answer ≡ Some file → FileSays file (Err fault)
+      → ReadsFile grip held (read grip answer ∷ []) (Err (Agent (fault_code fault))) held
+  no_memory : {answer : KeyRead} {file : List ℕ} → file_in answer ≡ Some file → ReadsFile grip held (read grip answer ∷ out_of_memory ∷ []) (Err (Agent code.NoMemory)) held
+  unread : {answer : KeyRead} {code : Code} → read_fault answer ≡ Some code → ReadsFile grip held (read grip answer ∷ []) (Err (Agent code)) held
+
+-- how a change of a key's file is refused, where it isn't done
+abbrev pub change_fault : KeyDone → Option Code
+change_fault key_done.Done = None
+change_fault key_done.Absent = Some code.NoSecKey
+change_fault key_done.Failed = Some code.General
+change_fault key_done.NoMemory = Some code.NoMemory
+
+pub data Replaces (grip : Grip) (file : List ℕ) (held : Option ℕ) : List Event → Result (Unit {0}) Refusal → Option ℕ → Type 0 where
+  done : Replaces grip file held (called (Replaced grip file key_done.Done) ∷ []) (Ok tt) held
+  not_done : {answer : KeyDone} {code : Code} → change_fault answer ≡ Some code → Replaces grip file held (called (Replaced grip file answer) ∷ []) (Err (Agent code)) held
+
+pub data Removes (grip : Grip) (held : Option ℕ) : List Event → Result (Unit {0}) Refusal → Option ℕ → Type 0 where
+  done : Removes grip held (called (Removed grip key_done.Done) ∷ []) (Ok tt) held
+  not_done : {answer : KeyDone} {code : Code} → change_fault answer ≡ Some code → Removes grip held (called (Removed grip answer) ∷ []) (Err (Agent code)) held
+
+-- a clear key is protected by this passphrase, salt and initialization vector, by OCB and with this count
+pub data Protects (key : Key) (pass salt iv : List ℕ) (count : ℕ) (held : Option ℕ) : List Event → Result (List ℕ) Refusal → Option ℕ → Type 0 where
+  made : Protects key pass salt iv count held [] (Ok (protected_file key (ocb_protection key pass salt iv count None) None)) held
+  no_memory : Protects key pass salt iv count held (out_of_memory ∷ []) (Err (Agent code.NoMemory)) held
+
+-- a passphrase that was given for a key's new file is kept: by the ticket that the request holds, or else by a turn of its own
+abbrev pub KeepsNew : Grip → List ℕ → Part (Unit {0})
+KeepsNew grip pass None = Changes (put_key grip pass) None
+KeepsNew grip pass (Some ticket) = Closes (Some pass) (Some ticket)
+
+-- ---- HAVEKEY
+
+-- one of the keys is there. They are looked for in order, to the first that is there.
+abbrev pub HasOne : List Grip → Part (Unit {0})
+HasOne [] = Refuses (Agent code.NoSecKey)
+HasOne (grip ∷ more) = do
+  there ← Finds grip
+  unless there (HasOne more)
+
+-- ---- KEYINFO
+
+-- a key's line
+abbrev pub TellsInfo : Grip → Key → Part (List ℕ)
+TellsInfo grip key = do
+  cached ← Peeks grip
+  Returns (info_line grip cached key.is_clear)
+
+-- the keys that there are
+pub data ListsGrips (held : Option ℕ) : List Event → Result (List Grip) Refusal → Option ℕ → Type 0 where
+  listed : {answer : KeyNames} {grips : List Grip} → grips_in answer ≡ Some grips → ListsGrips held (called (Listed answer) ∷ []) (Ok grips) held
+  faulted : ListsGrips held (called (Listed key_names.Failed) ∷ []) (Err (Agent code.General)) held
+  no_memory : ListsGrips held (called (Listed key_names.NoMemory) ∷ []) (Err (Agent code.NoMemory)) held
+
+-- A listed key's file is read. One that isn't there any more, or that is no key, is passed over.
+pub data ReadsListed (grip : Grip) (held : Option ℕ) : List Event → Result (Option Key) Refusal → Option ℕ → Type 0 where
+  is_key : {answer : KeyRead} {file : List ℕ} {key : Key} → file_in answer ≡ Some file → FileSays file (Ok key) → ReadsListed grip held (read grip answer ∷ []) (Ok (Some key)) held
+  faulty : {answer : KeyRead} {file : List ℕ} {fault : KeyFault} → file_in answer ≡ Some file → FileSays file (Err fault) → ReadsListed grip held (read grip answer ∷ []) (Ok None) held
+  absent : ReadsListed grip held (read grip key_read.Absent ∷ []) (Ok None) held
+  no_memory : {answer : KeyRead} {file : List ℕ} → file_in answer ≡ Some file → ReadsListed grip held (read grip answer ∷ out_of_memory ∷ []) (Err (Agent code.NoMemory)) held
+  unread : {answer : KeyRead} {code : Code} → answer ≢ key_read.Absent → read_fault answer ≡ Some code → ReadsListed grip held (read grip answer ∷ []) (Err (Agent code)) held
+
+abbrev pub WritesInfo : Grip → Option Key → Part (Unit {0})
+WritesInfo grip None = Returns tt
+WritesInfo grip (Some key) = do
+  line ← TellsInfo grip key
+  Writes line
+
+-- a line for each of these keys, each written before the next key is read
+abbrev pub WritesInfos : List Grip → Part (Unit {0})
+WritesInfos [] = Returns tt
+WritesInfos (grip ∷ more) = do
+  key ← ReadsListed grip
+  written ← WritesInfo grip key
+  WritesInfos more
+
+-- ---- IMPORT_KEY
+
+-- how many bytes of a key are taken
+abbrev pub max_key_data : ℕ
+max_key_data = 65544
+
+-- The client sends a wrapped key. Where there is no memory for its bytes they are read to their end.
+pub data AsksKeyData (held : Option ℕ) : List Event → Result (List ℕ) Refusal → Option ℕ → Type 0 where
+  asked : {events : List Event} {result : Result (List ℕ) Refusal} → Inquires (codes "KEYDATA") max_key_data held events result held → AsksKeyData held events result held
+  no_memory : {outcome : Outcome} → IsAtEnd outcome
+      → AsksKeyData held (Inquiry (codes "KEYDATA") [] max_key_data (Asked outcome) ∷ out_of_memory ∷ []) (Err (Agent code.NoMemory)) held
+
+-- the key that wrapped bytes are
+pub data Unwraps (wrap wrapped : List ℕ) (held : Option ℕ) : List Event → Result Key Refusal → Option ℕ → Type 0 where
+  is_key : {key : Key} → WrappedSays wrap wrapped (Ok key) → Unwraps wrap wrapped held [] (Ok key) held
+  refused : {code : Code} → WrappedSays wrap wrapped (Err code) → Unwraps wrap wrapped held [] (Err (Agent code)) held
+  no_memory : Unwraps wrap wrapped held (out_of_memory ∷ []) (Err (Agent code.NoMemory)) held
+
+-- a key is named by the grip of its public list
+pub data NamesKey (key : Key) (held : Option ℕ) : List Event → Result Grip Refusal → Option ℕ → Type 0 where
+  named : {grip : Grip} → grip.0 ≡ grip_of key → NamesKey key held [] (Ok grip) held
+  no_memory : NamesKey key held (out_of_memory ∷ []) (Err (Agent code.NoMemory)) held
+
+-- a file that is there isn't replaced, unless that is wanted
+abbrev pub IsFree : (force : Bool) → Grip → Part (Unit {0})
+IsFree true grip = Returns tt
+IsFree false grip = do
+  there ← Finds grip
+  wanted code.FileExists (not there)
+
+-- what is cached under a nonce, where there is one. A look that is replied Stopping finds nothing here.
+pub data LooksOver : Option (List ℕ) → Option ℕ → List Event → Result (Option (List ℕ)) Refusal → Option ℕ → Type 0 where
+  no_nonce : {held : Option ℕ} → LooksOver None held [] (Ok None) held
+  given : {nonce : List ℕ} {held : Option ℕ} {grant : Grant} → LooksOver (Some nonce) held (cache_turn (ask_nonce nonce) (Given grant) ∷ []) (Ok (Some grant.entry.secret)) held
+  empty : {nonce : List ℕ} {held : Option ℕ} → LooksOver (Some nonce) held (cache_turn (ask_nonce nonce) Empty ∷ []) (Ok None) held
+  stopping : {nonce : List ℕ} {held : Option ℕ} → LooksOver (Some nonce) held (cache_turn (ask_nonce nonce) Stopping ∷ []) (Ok None) held
+  no_memory : {nonce : List ℕ} {held : Option ℕ} → LooksOver (Some nonce) held (cache_turn (ask_nonce nonce) Refused ∷ []) (Err (Agent code.NoMemory)) held
+
+-- ---- EXPORT_KEY
+
+-- a clear key is wrapped
+pub data WrapsKey (wrap : List ℕ) (key : Key) (held : Option ℕ) : List Event → Result (List ℕ) Refusal → Option ℕ → Type 0 where
+  is_wrapped : WrapsKey wrap key held [] (Ok (wrapped_key wrap key)) held
+  no_memory : WrapsKey wrap key held (out_of_memory ∷ []) (Err (Agent code.NoMemory)) held
+
+-- ---- DELETE_KEY
+
+-- how a request is refused whose prompt gave no consent
+abbrev pub consent_refusal : Agreed → Option Refusal
+consent_refusal agreed.Yes = None
+consent_refusal agreed.No = Some (Pinentry code.NotConfirmed)
+consent_refusal agreed.Cancelled = Some (Pinentry code.Cancelled)
+consent_refusal agreed.TimedOut = Some (Pinentry code.Timeout)
+consent_refusal agreed.NoPinentry = Some (Agent code.NoPinentry)
+consent_refusal (agreed.Heard heard) = option_map Client (unheard_of heard)
+
+-- one prompt for consent, in the session: its events, and its answer
+pub record PromptsConsent (spec : PromptSpec) (notify : Bool) (shown : List Event) (answer : Agreed) : Type 0 where
+  pub prompt : List PromptEvent
+  pub asks : AsksConsent spec notify prompt answer
+  pub in_session : AnyInSession session_lines prompt shown
+
+module _ (rules : Rules) (options : OptionValues) where
+  -- one prompt for consent under the ticket that the request holds
+  pub data Agrees (grip : Grip) : Option ℕ → List Event → Result (Unit {0}) Refusal → Option ℕ → Type 0 where
+    consents : {ticket : ℕ} {shown : List Event} (spec : PromptSpec) → IsSpec rules options (text (delete_description grip)) (text []) false spec
+        → PromptsConsent spec options.notify shown agreed.Yes → Agrees grip (Some ticket) shown (Ok tt) (Some ticket)
+    refused : {ticket : ℕ} {shown : List Event} {answer : Agreed} {why : Refusal} (spec : PromptSpec) → IsSpec rules options (text (delete_description grip)) (text []) false spec
+        → PromptsConsent spec options.notify shown answer → consent_refusal answer ≡ Some why → Agrees grip (Some ticket) shown (Err why) (Some ticket)
+
+  abbrev agrees_by : PinMode → Grip → Part (Unit {0})
+  agrees_by mode.Ask grip = do
+    seated ← Seats (Seat None None)
+    Agrees grip
+  agrees_by mode.Cancel grip = Refuses (Agent code.Cancelled)
+  agrees_by mode.Error grip = Refuses (Agent code.NoPinentry)
+  agrees_by mode.Loopback grip = Refuses (Agent code.NoPinentry)
+
+  -- the user agrees that a key is deleted, unless nobody is to be asked
+  abbrev pub Consents : (force : Bool) → Grip → Part (Unit {0})
+  Consents true grip = Returns tt
+  Consents false grip = agrees_by options.mode grip

@@ -1,0 +1,14 @@
+pub mod Names
+pub mod Requests
+pub mod Events
+pub mod Lines
+pub mod Faults
+pub mod Wrapping
+pub mod Parts
+pub mod States
+pub mod Steps
+pub mod Files
+pub mod Passphrases
+pub mod Trials
+pub mod KeyParts
+pub mod Exchanges

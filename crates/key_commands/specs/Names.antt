@@ -1,0 +1,20 @@
+-- The names that requests on keys have (GnuPG manual, "Agent's Assuan protocol").
+use Rattle.std.specs.Prelude.{ℕ, List, [], ◌∷◌, codes, Option}
+use Rattle.assuan_text.specs.Rows.{found_in_any_case}
+use Rattle.key_commands.specs.declared.names.KeyCommandName.{KeyCommandName}
+use Rattle.key_commands.specs.declared.names.KeyCommandName.TheVariants.{HaveKey, KeyInfo, KeyWrap, ImportKey, ExportKey, Passwd, DeleteKey}
+
+abbrev pub commands : List (List ℕ × KeyCommandName)
+commands =
+    (codes "HAVEKEY", HaveKey)
+    ∷ (codes "KEYINFO", KeyInfo)
+    ∷ (codes "KEYWRAP_KEY", KeyWrap)
+    ∷ (codes "IMPORT_KEY", ImportKey)
+    ∷ (codes "EXPORT_KEY", ExportKey)
+    ∷ (codes "PASSWD", Passwd)
+    ∷ (codes "DELETE_KEY", DeleteKey)
+    ∷ []
+
+-- the command of this name, whatever the case of its letters
+unfoldable pub command_named : List ℕ → Option KeyCommandName
+command_named word = found_in_any_case word commands

@@ -1,0 +1,206 @@
+-- Private: how a request comes by the passphrase of a key, old or new (GnuPG manual, "Agent EXPORT", "Agent PASSWD"). Where it is looked for, in which order, and what
+-- is kept of it, is this project's own.
+use Rattle.std.specs.Prelude.{◌≡◌, ◌==◌, ℕ, Bool, true, false, List, [], ◌∷◌, length, codes, Option, Some, None, Result, Ok, Err, not, ⊤}
+use Rattle.std.specs.Option.{option_map}
+use Rattle.agent_ask.specs.Callers.{unheard_of}
+use Rattle.agent_ask.specs.Events.{PromptEvent}
+use Rattle.agent_ask.specs.Plans.{IsSpec, plan_of}
+use Rattle.agent_ask.specs.Prompts.{AsksPin}
+use Rattle.agent_ask.specs.UnderTickets.{AnyInSession}
+use Rattle.agent_ask.specs.declared.ask.Asked.{Asked}
+use Rattle.agent_ask.specs.declared.ask.Asked.TheVariants as asked
+use Rattle.agent_ask.specs.declared.spec.AskPlan.{AskPlan}
+use Rattle.agent_ask.specs.declared.spec.PromptSpec.{PromptSpec}
+use Rattle.agent_ports.specs.declared.grip.Grip.{Grip}
+use Rattle.assuan_server.specs.Clients.{session_lines}
+use Rattle.assuan_server.specs.declared.errors.Code.TheVariants as code
+use Rattle.cache_policy.specs.declared.life.Life.TheVariants.{Default}
+use Rattle.cache_policy.specs.declared.mark.MarkStep.{MarkStep}
+use Rattle.cache_policy.specs.declared.mark.MarkStep.TheVariants.{Ask, Seat, Put}
+use Rattle.cache_policy.specs.declared.mark.Way.{Way}
+use Rattle.cache_policy.specs.declared.mark.Way.TheVariants.{Quiet, Prompt}
+use Rattle.cache_policy.specs.declared.mode.Mode.TheVariants.{Normal, Nonce}
+use Rattle.cache_policy.specs.declared.secret.TheConstants.{MAX_SECRET_LEN}
+use Rattle.secret_file.specs.Answers.{IsLockedFault}
+use Rattle.secret_file.specs.Opens.{LockedKey, IsLocked, OpensTo}
+use Rattle.session_options.specs.OptionValues.{OptionValues}
+use Rattle.session_options.specs.declared.options.PinMode.{PinMode}
+use Rattle.session_options.specs.declared.options.PinMode.TheVariants as mode
+use Rattle.session_options.specs.declared.rules.Rules.{Rules}
+use Rattle.sexp_keys.specs.Key.{Key}
+use Rattle.sexp_keys.specs.declared.fault.KeyFault.{KeyFault}
+use Rattle.key_commands.specs.Events.{Event, out_of_memory}
+use Rattle.key_commands.specs.Lines.{grip_text, text, old_description, new_description, field_text}
+use Rattle.key_commands.specs.Parts.{Part, ◌>>=◌, Returns, Refuses, needed, wanted, or_else, Asks, Seats, Changes, AsksClient}
+use Rattle.key_commands.specs.Faults.{fault_code}
+use Rattle.key_commands.specs.declared.opened.OpenedKey.{OpenedKey}
+use Rattle.key_commands.specs.declared.refusal.Refusal.{Refusal}
+use Rattle.key_commands.specs.declared.refusal.Refusal.TheVariants.{Agent, Pinentry, Client}
+
+-- ---- the cache
+
+-- the question for what is cached under a nonce, and for a key's passphrase, which may open a prompt
+abbrev pub ask_nonce : List ℕ → MarkStep
+ask_nonce nonce = Ask nonce Nonce Quiet None
+
+abbrev pub ask_key : Grip → Way → MarkStep
+ask_key grip way = Ask (grip_text grip) Normal way None
+
+-- the seat for a prompt whose passphrase is a key's
+abbrev pub seat_for : Grip → MarkStep
+seat_for grip = Seat (Some (record { id = grip_text grip; mode = Normal })) None
+
+-- a key's passphrase is kept
+abbrev pub put_key : Grip → List ℕ → MarkStep
+put_key grip pass = Put (grip_text grip) Normal Default pass
+
+-- what is cached under a nonce, where there is one
+abbrev pub LooksForNonce : Option (List ℕ) → Part (Option (List ℕ))
+LooksForNonce None = Returns None
+LooksForNonce (Some nonce) = Asks (ask_nonce nonce)
+
+-- whether a request may open a prompt: where its client wants one
+abbrev pub way_of : PinMode → Way
+way_of mode.Ask = Prompt
+way_of _ = Quiet
+
+-- a request has one ticket at most: it takes the seat unless it has one
+abbrev pub TakesSeat : Grip → Part (Unit {0})
+TakesSeat grip None = Seats (seat_for grip) None
+TakesSeat grip (Some ticket) = Returns tt (Some ticket)
+
+-- ---- prompts
+
+-- one prompt for a passphrase that is right by this rule, in the session: its events, and its answer
+pub record PromptsPin (spec : PromptSpec) (plan : AskPlan) (Rule : List ℕ → Type 0) (shown : List Event) (answer : Asked) : Type 0 where
+  pub prompt : List PromptEvent
+  pub asks : AsksPin spec plan Rule prompt answer
+  pub in_session : AnyInSession session_lines prompt shown
+
+-- how a request is refused whose prompt gave no passphrase
+abbrev pub pin_refusal : Asked → Option Refusal
+pin_refusal (asked.Pin pin) = None
+pin_refusal asked.Cancelled = Some (Pinentry code.Cancelled)
+pin_refusal asked.TimedOut = Some (Pinentry code.Timeout)
+pin_refusal asked.NoPinentry = Some (Agent code.NoPinentry)
+pin_refusal asked.Bad = Some (Agent code.BadPass)
+pin_refusal (asked.Heard heard) = option_map Client (unheard_of heard)
+pin_refusal asked.NoMemory = Some (Agent code.NoMemory)
+
+-- ---- the old passphrase
+
+abbrev pub opened_by : Key → List ℕ → OpenedKey
+opened_by key pass = record { key = key; by = Some pass }
+
+-- a protected key, whose protection may have a fault that no passphrase decides
+pub data Locks (key : Key) (held : Option ℕ) : List Event → Result LockedKey Refusal → Option ℕ → Type 0 where
+  is_locked : {locked : LockedKey} → locked.key ≡ key → IsLocked locked → Locks key held [] (Ok locked) held
+  has_fault : {fault : KeyFault} → IsLockedFault key fault → Locks key held [] (Err (Agent (fault_code fault))) held
+  no_memory : Locks key held (out_of_memory ∷ []) (Err (Agent code.NoMemory)) held
+
+-- the key opens by this passphrase
+abbrev pub OpensBy : LockedKey → List ℕ → Type 0
+OpensBy locked pass = (key : Key) × OpensTo locked pass key
+
+-- A passphrase is tried on it: the clear key, or none. No want of memory is taken for a passphrase that doesn't open it.
+pub data Tries (locked : LockedKey) (pass : List ℕ) (held : Option ℕ) : List Event → Result (Option OpenedKey) Refusal → Option ℕ → Type 0 where
+  opens : {key : Key} → OpensTo locked pass key → Tries locked pass held [] (Ok (Some (opened_by key pass))) held
+  stays : ¬ OpensBy locked pass → Tries locked pass held [] (Ok None) held
+  no_memory : Tries locked pass held (out_of_memory ∷ []) (Err (Agent code.NoMemory)) held
+
+-- one that was found is tried, where one was
+abbrev pub TriesFound : LockedKey → Option (List ℕ) → Part (Option OpenedKey)
+TriesFound locked None = Returns None
+TriesFound locked (Some pass) = Tries locked pass
+
+module _ (rules : Rules) (options : OptionValues) (grip : Grip) where
+  -- one prompt under the ticket that the request holds, at which a passphrase is right that opens the key
+  pub data PromptsOld (locked : LockedKey) : Option ℕ → List Event → Result OpenedKey Refusal → Option ℕ → Type 0 where
+    opens_by : {ticket : ℕ} {shown : List Event} {pin : List ℕ} {key : Key} (spec : PromptSpec)
+        → IsSpec rules options (text (old_description grip)) (text field_text) false spec
+        → PromptsPin spec (plan_of rules options (text []) false 0) (OpensBy locked) shown (asked.Pin pin) → OpensTo locked pin key
+        → PromptsOld locked (Some ticket) shown (Ok (opened_by key pin)) (Some ticket)
+    refused : {ticket : ℕ} {shown : List Event} {answer : Asked} {why : Refusal} (spec : PromptSpec)
+        → IsSpec rules options (text (old_description grip)) (text field_text) false spec
+        → PromptsPin spec (plan_of rules options (text []) false 0) (OpensBy locked) shown answer → pin_refusal answer ≡ Some why
+        → PromptsOld locked (Some ticket) shown (Err why) (Some ticket)
+
+  -- the client itself gives the passphrase, and it is kept
+  unfoldable pub ClientOld : LockedKey → Part OpenedKey
+  ClientOld locked = do
+    pass ← AsksClient (codes "PASSPHRASE") MAX_SECRET_LEN
+    tried ← Tries locked pass
+    opened ← needed code.BadPass tried
+    kept ← Changes (put_key grip pass)
+    Returns opened
+
+  -- the passphrase comes from no cache: as the client wants it
+  abbrev pub UncachedOld : PinMode → LockedKey → Part OpenedKey
+  UncachedOld mode.Ask locked = do
+    seated ← TakesSeat grip
+    PromptsOld locked
+  UncachedOld mode.Cancel locked = Refuses (Agent code.Cancelled)
+  UncachedOld mode.Error locked = Refuses (Agent code.NoPinentry)
+  UncachedOld mode.Loopback locked = ClientOld locked
+
+  -- A locked key is opened by what is cached under the nonce, or else under the key, or else as the client wants it. What is cached and doesn't
+  -- open it is passed over.
+  unfoldable pub OpensLocked : Option (List ℕ) → LockedKey → Part OpenedKey
+  OpensLocked nonce locked = do
+    by_nonce ← LooksForNonce nonce
+    first ← TriesFound locked by_nonce
+    or_else first (do
+      cached ← Asks (ask_key grip (way_of options.mode))
+      second ← TriesFound locked cached
+      or_else second (UncachedOld options.mode locked))
+
+  abbrev old_by : Option (List ℕ) → Key → Bool → Part OpenedKey
+  old_by id key true = Returns (record { key = key; by = None })
+  old_by id key false = do
+    locked ← Locks key
+    OpensLocked id locked
+
+  -- The old passphrase of a key. A clear one needs none.
+  abbrev pub OldPassphrase : Option (List ℕ) → Key → Part OpenedKey
+  OldPassphrase nonce key = old_by nonce key key.is_clear
+
+  abbrev verified_by : Key → Bool → Part OpenedKey
+  verified_by key true = Returns (record { key = key; by = None })
+  verified_by key false = do
+    locked ← Locks key
+    UncachedOld options.mode locked
+
+  -- The passphrase of a key is asked for and tried, whatever is cached. A clear one has none.
+  abbrev pub VerifiesPassphrase : Key → Part OpenedKey
+  VerifiesPassphrase key = verified_by key key.is_clear
+
+  -- ---- a new passphrase
+
+  -- one prompt under the ticket that the request holds, for a passphrase that meets the check and is repeated once
+  pub data PromptsNew : Option ℕ → List Event → Result (List ℕ) Refusal → Option ℕ → Type 0 where
+    given : {ticket : ℕ} {shown : List Event} {pin : List ℕ} (spec : PromptSpec) → IsSpec rules options (text (new_description grip)) (text field_text) true spec
+        → PromptsPin spec (plan_of rules options (text []) true 1) (λ pin. ⊤) shown (asked.Pin pin)
+        → PromptsNew (Some ticket) shown (Ok pin) (Some ticket)
+    refused : {ticket : ℕ} {shown : List Event} {answer : Asked} {why : Refusal} (spec : PromptSpec)
+        → IsSpec rules options (text (new_description grip)) (text field_text) true spec
+        → PromptsPin spec (plan_of rules options (text []) true 1) (λ pin. ⊤) shown answer → pin_refusal answer ≡ Some why
+        → PromptsNew (Some ticket) shown (Err why) (Some ticket)
+
+  -- the client itself gives one, which isn't empty
+  unfoldable pub ClientNew : Part (List ℕ)
+  ClientNew = do
+    pass ← AsksClient (codes "NEW_PASSPHRASE") MAX_SECRET_LEN
+    some ← wanted code.BadPass (not (length pass == 0))
+    Returns pass
+
+  abbrev new_by : PinMode → Part (List ℕ)
+  new_by mode.Ask = do
+    seated ← TakesSeat grip
+    PromptsNew
+  new_by mode.Cancel = Refuses (Agent code.Cancelled)
+  new_by mode.Error = Refuses (Agent code.NoPinentry)
+  new_by mode.Loopback = ClientNew
+
+  -- a new passphrase for a key, as the client wants it
+  abbrev pub NewPassphrase : Part (List ℕ)
+  NewPassphrase = new_by options.mode

@@ -1,0 +1,137 @@
+-- What a line with a command on keys asks for, or the fault for which it is refused (GnuPG manual, "Agent's Assuan protocol"). Which fault a
+-- refusal has, and which words are passed over, is this project's own.
+use Rattle.std.specs.Prelude.{ℕ, ◌==◌, nat_le, nat_lt, ◌&&◌, Bool, true, false, List, [], ◌∷◌, length, codes, ok_or, Option, Some, None, Result, Ok, Err, if◌then◌else◌}
+use Rattle.agent_ports.specs.declared.grip.Grip.{Grip}
+use Rattle.assuan_server.specs.declared.errors.Code.{Code}
+use Rattle.assuan_server.specs.declared.errors.Code.TheVariants.{NotSupported, UnknownCommand, Parameter}
+use Rattle.assuan_text.specs.Options.{options_of, arguments_of, has_option, last_value}
+use Rattle.assuan_text.specs.Words.{command_of, rest_of, words}
+use Rattle.cache_policy.specs.declared.id.TheConstants.{MAX_ID_LEN}
+use Rattle.hex.specs.Hex.{decode_of}
+use Rattle.hex.specs.declared.error.FromHexError.{FromHexError}
+use Rattle.key_commands.specs.Names.{command_named}
+use Rattle.key_commands.specs.declared.grips.TheConstants.{MAX_GRIPS}
+use Rattle.key_commands.specs.declared.names.KeyCommandName.{KeyCommandName}
+use Rattle.key_commands.specs.declared.names.KeyCommandName.TheVariants as name
+use Rattle.key_commands.specs.declared.request.Direction.{Direction}
+use Rattle.key_commands.specs.declared.request.Direction.TheVariants.{Import, Export}
+use Rattle.key_commands.specs.declared.request.KeyRequest.{KeyRequest}
+use Rattle.key_commands.specs.declared.request.KeyRequest.TheVariants.{HaveKey, KeyInfo, ListKeys, KeyWrap, ImportKey, ExportKey, Passwd, DeleteKey, Bad}
+
+infixl 10 ◌>>=◌
+-- what is read, and then what follows it; or else the first fault
+abbrev pub ◌>>=◌ : {A B : Type 0} → Result A Code → (A → Result B Code) → Result B Code
+(Ok value) >>= next = next value
+(Err code) >>= next = Err code
+
+-- a field that has to be there, and to be in form
+abbrev pub needed : {A : Type 0} → Option A → Result A Code
+needed field = ok_or field Parameter
+
+abbrev pub grip_of_bytes : Result (List ℕ) FromHexError → Option Grip
+grip_of_bytes (Ok bytes) = Some (record { 0 = bytes })
+grip_of_bytes (Err fault) = None
+
+-- a key is named by its grip: 40 hexadecimal digits, of either case
+abbrev pub grip : List ℕ → Option Grip
+grip word = if length word == 40 then grip_of_bytes (decode_of word) else None
+
+-- the key that the first word names
+abbrev pub first_grip : List (List ℕ) → Option Grip
+first_grip [] = None
+first_grip (word ∷ more) = grip word
+
+-- the keys that all words name, of which each has to be one
+abbrev pub all_grips : List (List ℕ) → Result (List Grip) Code
+all_grips [] = Ok []
+all_grips (word ∷ more) = do
+  first ← needed (grip word)
+  others ← all_grips more
+  Ok (first ∷ others)
+
+-- one key at least. No line has room for more than the most that are kept.
+abbrev pub some_grips : List (List ℕ) → Result (List Grip) Code
+some_grips words = if nat_le 1 (length words) && nat_le (length words) MAX_GRIPS then all_grips words else Err Parameter
+
+-- a nonce is a cache id: it has a byte at least, and isn't too long. `None` where it isn't one; there may be none.
+abbrev pub nonce : Option (List ℕ) → Option (Option (List ℕ))
+nonce None = Some None
+nonce (Some id) = if nat_lt 0 (length id) && nat_le (length id) MAX_ID_LEN then Some (Some id) else None
+
+-- the first word, where there is one
+abbrev pub first_word : List (List ℕ) → Option (List ℕ)
+first_word [] = None
+first_word (word ∷ more) = Some word
+
+-- HAVEKEY GRIP..
+abbrev pub have_of : List (List ℕ) → Result KeyRequest Code
+have_of arguments = do
+  grips ← some_grips arguments
+  Ok (HaveKey grips)
+
+-- KEYINFO GRIP, or KEYINFO --list
+abbrev pub info_of : List (List ℕ) → List (List ℕ) → Result KeyRequest Code
+info_of options arguments =
+    if has_option (codes "--list") options then Ok ListKeys
+    else (needed (first_grip arguments) >>= λ grip. Ok (KeyInfo grip))
+
+-- one of two, and not both
+abbrev pub direction : Bool → Bool → Option Direction
+direction true false = Some Import
+direction false true = Some Export
+direction _ _ = None
+
+-- KEYWRAP_KEY --import|--export
+abbrev pub wrap_of : List (List ℕ) → Result KeyRequest Code
+wrap_of options = do
+  way ← needed (direction (has_option (codes "--import") options) (has_option (codes "--export") options))
+  Ok (KeyWrap way)
+
+-- IMPORT_KEY [--force] [NONCE]
+abbrev pub import_of : List (List ℕ) → List (List ℕ) → Result KeyRequest Code
+import_of options arguments = do
+  nonce ← needed (nonce (first_word arguments))
+  Ok (ImportKey (has_option (codes "--force") options) nonce)
+
+-- EXPORT_KEY [--cache-nonce=NONCE] GRIP
+abbrev pub export_of : List (List ℕ) → List (List ℕ) → Result KeyRequest Code
+export_of options arguments = do
+  grip ← needed (first_grip arguments)
+  nonce ← needed (nonce (last_value (codes "--cache-nonce") options))
+  Ok (ExportKey grip nonce)
+
+-- PASSWD [--cache-nonce=NONCE] [--passwd-nonce=NONCE] [--verify] GRIP
+abbrev pub passwd_of : List (List ℕ) → List (List ℕ) → Result KeyRequest Code
+passwd_of options arguments = do
+  grip ← needed (first_grip arguments)
+  old ← needed (nonce (last_value (codes "--cache-nonce") options))
+  new ← needed (nonce (last_value (codes "--passwd-nonce") options))
+  Ok (Passwd grip old new (has_option (codes "--verify") options))
+
+-- DELETE_KEY [--force|--stub-only] GRIP. A stub alone is never deleted.
+abbrev pub delete_of : List (List ℕ) → List (List ℕ) → Result KeyRequest Code
+delete_of options arguments = do
+  grip ← needed (first_grip arguments)
+  (if has_option (codes "--stub-only") options then Err NotSupported else Ok (DeleteKey grip (has_option (codes "--force") options)))
+
+-- a command, and what comes after it
+abbrev pub asked_by : KeyCommandName → List ℕ → Result KeyRequest Code
+asked_by name.HaveKey rest = have_of (arguments_of (words rest))
+asked_by name.KeyInfo rest = info_of (options_of (words rest)) (arguments_of (words rest))
+asked_by name.KeyWrap rest = wrap_of (options_of (words rest))
+asked_by name.ImportKey rest = import_of (options_of (words rest)) (arguments_of (words rest))
+asked_by name.ExportKey rest = export_of (options_of (words rest)) (arguments_of (words rest))
+asked_by name.Passwd rest = passwd_of (options_of (words rest)) (arguments_of (words rest))
+asked_by name.DeleteKey rest = delete_of (options_of (words rest)) (arguments_of (words rest))
+
+abbrev pub either : Result KeyRequest Code → KeyRequest
+either (Ok request) = request
+either (Err code) = Bad code
+
+-- the command that the line begins with, with the rest of the line
+abbrev pub request_by : Option KeyCommandName → List ℕ → KeyRequest
+request_by (Some name) line = either (asked_by name (rest_of line))
+request_by None line = Bad UnknownCommand
+
+unfoldable pub key_request_of : List ℕ → KeyRequest
+key_request_of line = request_by (command_named (command_of line)) line

@@ -1,0 +1,26 @@
+//! The commands on the agent's key files: a line of the client read as a request, or refused by a code, what each request does, and the
+//! parts of doing it. No request is carried out yet.
+#![tactic(auto)]
+
+mod faults;
+mod files;
+mod grips;
+mod held;
+mod names;
+mod opened;
+mod read;
+mod refusal;
+mod request;
+mod texts;
+mod turns;
+mod went;
+mod wrap_keys;
+mod wrapping;
+
+pub use grips::{Grips, MAX_GRIPS};
+pub use names::{KEY_COMMANDS, KeyCommandName, key_commands_are_as_defined};
+pub use read::read_key;
+pub use request::{Direction, KeyRequest};
+pub use went::KeyWent;
+pub use wrap_keys::WrapKeys;
+pub use wrapping::MAX_LIST_LEN;

@@ -1,0 +1,41 @@
+ghost use Rattle.std.specs.Prelude.{◌≡◌, map};
+ghost use Rattle.key_commands.specs.Names.{commands, command_named};
+ghost use Rattle.key_commands.specs.declared.names.TheConstants.{KEY_COMMANDS};
+
+use assuan_text::found_in_any_case;
+
+/// The commands on keys that are known.
+#[derive(Clone, Copy, Debug, PartialEq, Eq)]
+pub enum KeyCommandName {
+    HaveKey,
+    KeyInfo,
+    KeyWrap,
+    ImportKey,
+    ExportKey,
+    Passwd,
+    DeleteKey,
+}
+
+/// The commands by their names, in the order in which HELP tells them.
+pub const KEY_COMMANDS: [(&[u8], KeyCommandName); 7] = [
+    (b"HAVEKEY", KeyCommandName::HaveKey),
+    (b"KEYINFO", KeyCommandName::KeyInfo),
+    (b"KEYWRAP_KEY", KeyCommandName::KeyWrap),
+    (b"IMPORT_KEY", KeyCommandName::ImportKey),
+    (b"EXPORT_KEY", KeyCommandName::ExportKey),
+    (b"PASSWD", KeyCommandName::Passwd),
+    (b"DELETE_KEY", KeyCommandName::DeleteKey),
+];
+
+/// A law: `KEY_COMMANDS` has the names as they are defined, in this order.
+pub fn key_commands_are_as_defined()
+    ensures { map (λ row. (row.0.now, row.1)) KEY_COMMANDS ≡ commands }
+{}
+
+/// The command of this name, whatever the case of its letters.
+#[tactic(auto, unfolding(crate::specs::Names::command_named))]
+pub(crate) fn command_named(word: &[u8]) -> Option<KeyCommandName>
+    ensures { result ≡ command_named word.now }
+{
+    found_in_any_case(word, &KEY_COMMANDS)
+}

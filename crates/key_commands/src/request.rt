@@ -1,0 +1,57 @@
+use crate::Grips;
+use agent_ports::Grip;
+use assuan_server::Code;
+use cache_policy::CacheId;
+
+/// What a line with a command on keys asks for (GnuPG manual, "Agent's Assuan protocol").
+#[derive(Drop)]
+pub enum KeyRequest {
+    /// Whether one of these keys is there.
+    HaveKey {
+        grips: Grips,
+    },
+    /// What is known of a key.
+    KeyInfo {
+        grip: Grip,
+    },
+    /// And of each key that there is.
+    ListKeys,
+    /// The session's wrapping key for one direction.
+    KeyWrap(Direction),
+    ImportKey {
+        /// A key's file is replaced where there is one.
+        force: bool,
+        /// A nonce under which the cache has the passphrase.
+        nonce: Option<CacheId>,
+    },
+    ExportKey {
+        grip: Grip,
+        /// A nonce under which the cache has the passphrase.
+        nonce: Option<CacheId>,
+    },
+    Passwd {
+        grip: Grip,
+        /// A nonce under which the cache has the old passphrase.
+        nonce: Option<CacheId>,
+        /// And one under which it has the new one.
+        new_nonce: Option<CacheId>,
+        /// The passphrase is only asked for and tried.
+        verify: bool,
+    },
+    DeleteKey {
+        grip: Grip,
+        /// Nobody is asked for consent.
+        force: bool,
+    },
+    /// The line is refused.
+    Bad(Code),
+}
+
+/// Which way a wrapped key goes.
+#[derive(Clone, Copy, Debug, PartialEq, Eq)]
+pub enum Direction {
+    /// Into the agent.
+    Import,
+    /// Out of the agent.
+    Export,
+}

@@ -1,0 +1,124 @@
+//! Turns at the desk, as parts of a request.
+
+ghost use Rattle.std.specs.Prelude.{◌≡◌, true, None};
+ghost use Rattle.cache_policy.specs.declared.mark.MarkStep.TheVariants.{Ask, Seat, Put};
+ghost use Rattle.cache_policy.specs.Turns.{asked_step, closes, opens};
+ghost use Rattle.key_commands.specs.Parts.{Asks, Changes, Closes, Peeks};
+ghost use Rattle.key_commands.specs.Passphrases.{TakesSeat, put_key};
+ghost use Rattle.key_commands.specs.Lines.{grip_text};
+ghost use Rattle.key_commands.specs.Steps.{DoesTurn, DoesTurns};
+
+use crate::held::Held;
+use crate::refusal::Refusal;
+use crate::texts::key_id;
+use agent_ask::give_back;
+use agent_ports::Grip;
+use assuan_server::Code;
+use cache_policy::{CacheId, Desk, Life, Mode, Refused, Reply, Secret, Step, Under, Way};
+
+/// Asks for what is cached. Where that is wanted, it may open a prompt, whose ticket is held then.
+pub(crate) fn ask_cache<D: Desk>(
+    id: CacheId,
+    mode: Mode,
+    way: Way,
+    held: &mut Held,
+    desk: &mut D,
+) -> Result<Option<Secret>, Refusal>
+    requires out { (D.at desk.old).out ≡ held.old }
+    requires free { opens (Ask id mode way None) ≡ true → held.old ≡ None }
+    ensures turn { DoesTurn D.turned (Asks (Ask id mode way None)) held.old desk.old result held.new desk.new }
+    ensures out { (D.at desk.new).out ≡ held.new }
+{
+    match desk.turn(Step::Ask {
+        id,
+        mode,
+        way,
+        wait: None,
+    }) {
+        Ok(Reply::Given(grant)) => Ok(Some(grant.secret().copy())),
+        Ok(Reply::Empty) => Ok(None),
+        Ok(Reply::Open(ticket)) => {
+            held.put(ticket);
+            Ok(None)
+        }
+        Ok(Reply::Stopping) => Err(Refusal::Agent(Code::Cancelled)),
+        Ok(Reply::Late) => Err(Refusal::Agent(Code::Timeout)),
+        Ok(_) => unreachable!(),
+        Err(Refused { step }) => Err(without_memory(step)),
+    }
+}
+
+/// Takes the seat for a prompt whose passphrase is this key's, unless a ticket is held.
+pub(crate) fn take_seat<D: Desk>(grip: &Grip, held: &mut Held, desk: &mut D) -> Result<(), Refusal>
+    requires out { (D.at desk.old).out ≡ held.old }
+    ensures turn { DoesTurns D.turned (TakesSeat grip.now) held.old desk.old result held.new desk.new }
+    ensures out { (D.at desk.new).out ≡ held.new }
+{
+    if held.is_held() {
+        return Ok(());
+    }
+    let under = Under {
+        id: key_id(grip),
+        mode: Mode::Normal,
+    };
+    match desk.turn(Step::Seat {
+        under: Some(under),
+        wait: None,
+    }) {
+        Ok(Reply::Open(ticket)) => {
+            held.put(ticket);
+            Ok(())
+        }
+        Ok(Reply::Stopping) => Err(Refusal::Agent(Code::Cancelled)),
+        Ok(Reply::Late) => Err(Refusal::Agent(Code::Timeout)),
+        Ok(_) => unreachable!(),
+        Err(Refused { step }) => Err(without_memory(step)),
+    }
+}
+
+/// Keeps a key's passphrase in the cache.
+pub(crate) fn keep_pass<D: Desk>(
+    grip: &Grip,
+    pass: &Secret,
+    held: &Held,
+    desk: &mut D,
+) -> Result<(), Refusal>
+    requires out { (D.at desk.old).out ≡ held.now }
+    ensures turn { DoesTurn D.turned (Changes (put_key grip.now pass.now)) held.now desk.old result held.now desk.new }
+    ensures out { (D.at desk.new).out ≡ held.now }
+{
+    match desk.turn(Step::Put {
+        id: key_id(grip),
+        mode: Mode::Normal,
+        life: Life::Default,
+        secret: pass.copy(),
+    }) {
+        Ok(Reply::Done) => Ok(()),
+        Ok(Reply::Stopping) => Err(Refusal::Agent(Code::Cancelled)),
+        Ok(_) => unreachable!(),
+        Err(Refused { step }) => Err(without_memory(step)),
+    }
+}
+
+/// Gives a ticket that is held back, with the passphrase that is kept.
+pub(crate) fn close<D: Desk>(keep: Option<Secret>, held: &mut Held, desk: &mut D)
+    requires out { (D.at desk.old).out ≡ held.old }
+    ensures turn { DoesTurns D.turned (Closes keep) held.old desk.old (Ok tt) None desk.new }
+    ensures none { held.new ≡ None }
+    ensures out { (D.at desk.new).out ≡ None }
+{
+    if let Some(ticket) = held.take() {
+        give_back(ticket, keep, desk);
+    }
+}
+
+/// How a request is refused whose step found no memory. The step has no ticket.
+fn without_memory(step: Step) -> Refusal
+    requires { closes (asked_step step) ≡ None }
+    ensures { result ≡ Refusal.Agent Code.NoMemory }
+{
+    match step.into_ticket() {
+        None => Refusal::Agent(Code::NoMemory),
+        Some(_) => unreachable!(),
+    }
+}

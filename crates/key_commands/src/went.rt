@@ -1,0 +1,9 @@
+use session_client::Gone;
+
+/// How a session goes on after a request on keys.
+#[derive(Clone, Copy, Debug, PartialEq, Eq)]
+pub enum KeyWent {
+    On,
+    /// Its client is gone.
+    Gone(Gone),
+}
