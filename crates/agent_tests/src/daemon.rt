@@ -1,0 +1,226 @@
+//! The daemon over links in memory: what it answers, and with what status and summary it ends.
+
+use crate::serving::{host_of, parts, planned, preset_rules};
+use agent_ports::{ListedLinks, MemLink, MemParts, MemSink, MemSource, NoGate, PlannedLink};
+use agent_top::run_daemon;
+use std::alloc::{AllocError, Global};
+use std::rt;
+use std::sync::{Mutex, Wait};
+use std::test::Fail;
+use std::thread::Threads;
+
+/// A daemon: its links, and what comes of it.
+#[derive(Clone, Copy)]
+struct Row {
+    workers: u32,
+    /// What each client sends, and what it is answered, in the order in which their sessions end. Those that aren't taken have no answer.
+    links: &'static [(&'static str, &'static str)],
+    /// The calls that fail, by their number from 0: for the listener, for a link, reads and writes of each link, and writes of the summary.
+    listens: &'static [u64],
+    nexts: &'static [u64],
+    reads: &'static [u64],
+    writes: &'static [u64],
+    summaries: &'static [u64],
+    status: u8,
+    summary: &'static str,
+}
+
+const NOTHING: &str = "marks 0 given 0 empty 0 opened 0 stored 0 cleared 0 flushed 0\n";
+
+/// The one that a client stops has a mark of the stop.
+const STOPPED: &str = "marks 1 given 0 empty 0 opened 0 stored 0 cleared 0 flushed 0\n";
+
+const PLAIN: Row = Row {
+    workers: 1,
+    links: &[],
+    listens: &[],
+    nexts: &[],
+    reads: &[],
+    writes: &[],
+    summaries: &[],
+    status: 5,
+    summary: NOTHING,
+};
+
+const GREETING: &str = "OK Pleased to meet you\n";
+
+const NOP: (&str, &str) = ("NOP\n", "OK Pleased to meet you\nOK\n");
+
+const KILL: (&str, &str) = (
+    "KILLAGENT\n",
+    "OK Pleased to meet you\nOK closing connection\n",
+);
+
+const ROWS: [Row; 12] = [
+    // A passphrase that one client presets is another's until it is forgotten. Behind KILLAGENT no link is taken.
+    Row {
+        links: &[
+            (
+                "PRESET_PASSPHRASE id1 -1 736563726574\nBYE\n",
+                "OK Pleased to meet you\nOK\nOK closing connection\n",
+            ),
+            (
+                "GET_PASSPHRASE --no-ask --data id1\n",
+                "OK Pleased to meet you\nD secret\nOK\n",
+            ),
+            ("RELOADAGENT\n", "OK Pleased to meet you\nOK\n"),
+            (
+                "GET_PASSPHRASE --no-ask id1\nKILLAGENT\n",
+                "OK Pleased to meet you\nERR 67108922 No data <GPG Agent>\nOK closing connection\n",
+            ),
+            ("NOP\n", ""),
+        ],
+        status: 0,
+        summary: "marks 5 given 1 empty 1 opened 0 stored 1 cleared 0 flushed 1\n",
+        ..PLAIN
+    },
+    // What is typed for one client is given to the next.
+    Row {
+        links: &[
+            (
+                "GET_PASSPHRASE --data id1 X X X\n",
+                "OK Pleased to meet you\nD pin\nOK\n",
+            ),
+            (
+                "GET_PASSPHRASE --no-ask --data id1\n",
+                "OK Pleased to meet you\nD pin\nOK\n",
+            ),
+            KILL,
+        ],
+        status: 0,
+        summary: "marks 4 given 1 empty 0 opened 1 stored 1 cleared 0 flushed 0\n",
+        ..PLAIN
+    },
+    // No link comes any more.
+    PLAIN,
+    Row {
+        links: &[NOP, NOP, NOP],
+        workers: 2,
+        ..PLAIN
+    },
+    // There is no listener: nothing is written.
+    Row {
+        links: &[("KILLAGENT\n", "")],
+        listens: &[0],
+        summary: "",
+        ..PLAIN
+    },
+    // A call for a link fails.
+    Row {
+        links: &[("KILLAGENT\n", "")],
+        nexts: &[0],
+        ..PLAIN
+    },
+    Row {
+        links: &[NOP, ("KILLAGENT\n", "")],
+        nexts: &[1],
+        ..PLAIN
+    },
+    // The link of the one that stops the agent is gone before its answer, or its read fails.
+    Row {
+        links: &[("KILLAGENT\n", GREETING), ("NOP\n", "")],
+        writes: &[1],
+        status: 0,
+        summary: STOPPED,
+        ..PLAIN
+    },
+    Row {
+        links: &[("KILLAGENT\n", GREETING), ("NOP\n", GREETING)],
+        reads: &[0],
+        ..PLAIN
+    },
+    // The summary can't be written.
+    Row {
+        links: &[KILL],
+        summaries: &[0],
+        status: 4,
+        summary: "",
+        ..PLAIN
+    },
+    Row {
+        summaries: &[0],
+        status: 4,
+        summary: "",
+        ..PLAIN
+    },
+    // With more workers than clients.
+    Row {
+        workers: 64,
+        links: &[KILL],
+        status: 0,
+        summary: STOPPED,
+        ..PLAIN
+    },
+];
+
+fn links_of(alloc: Global, row: &Row) -> Result<Vec<PlannedLink>, AllocError> {
+    let mut links = Vec::new(alloc);
+    for (sent, _) in row.links.iter() {
+        links.push(planned(alloc, sent, row.reads, row.writes)?)?;
+    }
+    Ok(links)
+}
+
+/// Parts for each session.
+fn sessions_of(alloc: Global, row: &Row) -> Result<Vec<MemParts>, AllocError> {
+    let mut all = Vec::new(alloc);
+    for _ in row.links.iter() {
+        all.push(parts(alloc)?)?;
+    }
+    Ok(all)
+}
+
+/// What is to come of a row: what each link is written that is taken, the summary, and the status.
+fn wanted(alloc: Global, row: &Row) -> Result<String, AllocError> {
+    let mut all = String::new(alloc);
+    for (_, answered) in row.links.iter() {
+        all.push_str(answered)?;
+    }
+    format!(in alloc; "{all}{}{}", row.summary, row.status)
+}
+
+/// What comes of it.
+fn outcome<W: Threads + Wait + rt::Clock + Sync>(
+    rt: &W,
+    alloc: Global,
+    row: &Row,
+) -> Result<String, AllocError> {
+    let nexts = Vec::from_slice(alloc, row.nexts)?;
+    let listens = Vec::from_slice(alloc, row.listens)?;
+    let summaries = Vec::from_slice(alloc, row.summaries)?;
+    let links = Mutex::new(ListedLinks::new(alloc, links_of(alloc, row)?, nexts)?);
+    let sessions = sessions_of(alloc, row)?;
+    let mut host = host_of(rt, alloc, &links, sessions, listens, NoGate)?;
+    let source = MemSource::new(Vec::new(alloc), 1, Vec::new(alloc));
+    let mut stdio = MemLink::new(source, MemSink::new(alloc, 0, summaries));
+    let mut rules = preset_rules();
+    rules.workers = row.workers.clamp(1, 64);
+    let status = run_daemon(rt, alloc, &rules, &mut stdio, &mut host);
+    let answered = answered_text(rt, alloc, &links)?;
+    let summary = String::from_utf8_lossy(alloc, stdio.written())?;
+    format!(in alloc; "{answered}{summary}{status}")
+}
+
+/// What the links were written whose sessions have ended.
+fn answered_text<W: Wait>(
+    rt: &W,
+    alloc: Global,
+    links: &Mutex<ListedLinks>,
+) -> Result<String, AllocError> {
+    let links = links.lock(rt);
+    let mut all = String::new(alloc);
+    for place in 0..9usize {
+        let written = links.written(place).unwrap_or(b"");
+        all.push_str(&String::from_utf8_lossy(alloc, written)?)?;
+    }
+    Ok(all)
+}
+
+#[test]
+fn daemons_end_as_their_rows_say(rt: HostRuntime) -> Result<(), Fail> {
+    for row in ROWS {
+        let got = outcome(&rt, rt.alloc(), &row)?;
+        assert_eq!(rt; got, wanted(rt.alloc(), &row)?);
+    }
+    Ok(())
+}

@@ -1,0 +1,27 @@
+//! Tests of sessions: what a prompt is asked and answers, requests read, and whole sessions and runs of the agent from bytes to bytes.
+//!
+//! They stand in a crate of their own since a crate with tests is proved twice.
+#![tactic(auto)]
+
+#[cfg(test)]
+mod asking;
+#[cfg(test)]
+mod daemon;
+#[cfg(test)]
+mod dialogues;
+#[cfg(test)]
+mod options;
+#[cfg(test)]
+mod pinentry;
+#[cfg(test)]
+mod prompts;
+#[cfg(test)]
+mod requests;
+#[cfg(test)]
+mod script;
+#[cfg(test)]
+mod serving;
+#[cfg(test)]
+mod sessions;
+#[cfg(test)]
+mod words;

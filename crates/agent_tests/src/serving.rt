@@ -1,0 +1,332 @@
+//! Sessions over links at passes of the counted lock.
+
+ghost use Rattle.std.specs.Prelude.{◌≡◌, ◌+◌, ◌<◌, ◌≤◌, length};
+
+use agent_ports::{
+    Gate, HoldGate, Host, ListClock, ListDice, ListedLinks, Listener, MapKeys, MemHost,
+    MemLauncher, MemLink, MemParts, MemSink, MemSource, NoGate, Parts, PlannedChild, PlannedLink,
+    SessionId,
+};
+use agent_serve::{run_workers, serve_one};
+use cache_policy::{Limits, Tally};
+use counted_lock::{Counted, CountedPass};
+use session_options::Rules;
+use std::alloc::{AllocError, Global};
+use std::sync::{Mutex, Wait};
+use std::test::Fail;
+use std::thread::Threads;
+use std::time::Clock;
+
+/// The manual's lifetimes.
+const LIMITS: Limits = Limits {
+    ttl: 600,
+    max: 7200,
+    ttl_ssh: 1800,
+    max_ssh: 7200,
+};
+
+/// The rules of an agent at which passphrases may be preset.
+pub(crate) fn preset_rules() -> Rules {
+    let mut rules = Rules::default();
+    rules.allow_preset = true;
+    rules
+}
+
+/// A machine's parts, whose pinentry is told `pin`.
+pub(crate) fn parts(alloc: Global) -> Result<MemParts, AllocError> {
+    let gives = b"OK\nD 9\nOK\nOK\nOK\nOK\nD pin\nOK\n";
+    let child = PlannedChild {
+        gives: Vec::from_slice(alloc, gives)?,
+        piece: 64,
+        failing_reads: Vec::new(alloc),
+        failing_writes: Vec::new(alloc),
+    };
+    Ok(Parts {
+        launcher: MemLauncher::new(alloc, vec![in alloc; child]?, Vec::new(alloc)),
+        clock: ListClock::new(Vec::new(alloc)),
+        dice: ListDice::new(Vec::new(alloc), Vec::new(alloc)),
+        keys: MapKeys::new(alloc, Vec::new(alloc)),
+    })
+}
+
+/// At which pass a session is, what its client sends, and what that is answered.
+type Row = (usize, &'static str, &'static str);
+
+const ROWS: [Row; 4] = [
+    (
+        0,
+        "PRESET_PASSPHRASE id1 -1 736563726574\n",
+        "OK Pleased to meet you\nOK\n",
+    ),
+    (
+        1,
+        "GET_PASSPHRASE --no-ask --data id1\n",
+        "OK Pleased to meet you\nD secret\nOK\n",
+    ),
+    (2, "RELOADAGENT\n", "OK Pleased to meet you\nOK\n"),
+    (
+        1,
+        "GET_PASSPHRASE --no-ask --data id1\n",
+        "OK Pleased to meet you\nERR 67108922 No data <GPG Agent>\n",
+    ),
+];
+
+/// What came of rows: the first that was answered otherwise, what the second pass had made and seen, and what was done.
+#[derive(Clone, Copy, Debug, PartialEq, Eq)]
+struct Came {
+    wrong: Option<usize>,
+    calls: u64,
+    front: u64,
+    sessions: u64,
+    tally: Tally,
+}
+
+/// A client that sends this.
+fn client(alloc: Global, sent: &str) -> Result<MemLink, AllocError> {
+    let bytes = Vec::from_slice(alloc, sent.as_bytes())?;
+    let source = MemSource::new(bytes, 7, Vec::new(alloc));
+    Ok(MemLink::new(source, MemSink::new(alloc, 0, Vec::new(alloc))))
+}
+
+/// Serves the pass's next session.
+fn served<W: Wait + Clock>(
+    rt: &W,
+    alloc: Global,
+    host: &MemHost<'_, W, NoGate>,
+    counted: &Counted,
+    pass: CountedPass,
+    link: &mut MemLink,
+) -> CountedPass
+    requires own { pass.table ≡ counted.now.table }
+    requires few { pass.sessions < 1000 }
+    ensures own { result.table ≡ pass.table }
+    ensures next { result.sessions ≡ pass.sessions + 1 }
+{
+    let session = SessionId {
+        pass: pass.number(),
+        count: pass.sessions(),
+    };
+    let rules = preset_rules();
+    let (pass, _) = serve_one(rt, alloc, &rules, host, counted, pass, session, link);
+    pass
+}
+
+/// The passes of three workers.
+type Three = (CountedPass, CountedPass, CountedPass);
+
+/// Serves the link's session at the first, the second or the third pass.
+fn served_at<W: Wait + Clock>(
+    rt: &W,
+    alloc: Global,
+    host: &MemHost<'_, W, NoGate>,
+    counted: &Counted,
+    passes: Three,
+    whose: usize,
+    link: &mut MemLink,
+) -> Three
+    requires own { (passes.0.table ≡ counted.now.table) × (passes.1.table ≡ counted.now.table) × (passes.2.table ≡ counted.now.table) }
+    requires few { (passes.0.sessions < 1000) × (passes.1.sessions < 1000) × (passes.2.sessions < 1000) }
+    ensures own { (result.0.table ≡ counted.now.table) × (result.1.table ≡ counted.now.table) × (result.2.table ≡ counted.now.table) }
+    ensures few { (result.0.sessions ≤ passes.0.sessions + 1) × (result.1.sessions ≤ passes.1.sessions + 1) × (result.2.sessions ≤ passes.2.sessions + 1) }
+{
+    let (first, second, third) = passes;
+    match whose {
+        0 => {
+            let first = served(rt, alloc, host, counted, first, link);
+            (first, second, third)
+        }
+        1 => {
+            let second = served(rt, alloc, host, counted, second, link);
+            (first, second, third)
+        }
+        _ => {
+            let third = served(rt, alloc, host, counted, third, link);
+            (first, second, third)
+        }
+    }
+}
+
+/// Serves the rows' sessions one after another, and gives the first that was answered otherwise.
+fn served_rows<W: Wait + Clock>(
+    rt: &W,
+    alloc: Global,
+    host: &MemHost<'_, W, NoGate>,
+    counted: &Counted,
+    passes: Three,
+    links: &mut Vec<MemLink>,
+    rows: &[Row],
+) -> (Option<usize>, Three)
+    requires few { length rows.now < 1000 }
+    requires own { (passes.0.table ≡ counted.now.table) × (passes.1.table ≡ counted.now.table) × (passes.2.table ≡ counted.now.table) }
+    requires new { (passes.0.sessions ≡ 0) × (passes.1.sessions ≡ 0) × (passes.2.sessions ≡ 0) }
+    ensures own { (result.1.0.table ≡ counted.now.table) × (result.1.1.table ≡ counted.now.table) × (result.1.2.table ≡ counted.now.table) }
+{
+    let mut passes = passes;
+    let mut wrong = None;
+    for place in 0..rows.len() {
+        let (whose, _, answered) = rows[place];
+        if let Some(link) = links.get_mut(place) {
+            passes = served_at(rt, alloc, host, counted, passes, whose, link);
+            if link.written() != answered.as_bytes() && wrong.is_none() {
+                wrong = Some(place);
+            }
+        } else {
+            wrong = Some(place);
+        }
+    }
+    (wrong, passes)
+}
+
+/// Serves sessions at three passes, in the order of the rows.
+fn play<W: Wait + Clock>(rt: &W, alloc: Global, rows: &[Row]) -> Result<Option<Came>, AllocError>
+    requires { length rows.now < 1000 }
+{
+    let host = MemHost::new(rt, alloc, 17, parts(alloc)?);
+    let mut links = Vec::new(alloc);
+    for (_, sent, _) in rows {
+        links.push(client(alloc, sent)?)?;
+    }
+    let (counted, mut all) = Counted::new(alloc, LIMITS, 3)?;
+    let (Some(third), Some(second), Some(first)) = (all.pop(), all.pop(), all.pop()) else {
+        return Ok(None);
+    };
+    let passes = (first, second, third);
+    let (wrong, passes) = served_rows(rt, alloc, &host, &counted, passes, &mut links, rows);
+    let (first, second, third) = passes;
+    let (calls, front) = (second.calls(), second.front());
+    let sessions = second.sessions();
+    all.push_reserved(first);
+    all.push_reserved(second);
+    all.push_reserved(third);
+    let tally = counted.close(all);
+    Ok(Some(Came {
+        wrong,
+        calls,
+        front,
+        sessions,
+        tally,
+    }))
+}
+
+#[test]
+fn sessions_at_three_passes_share_one_cache(rt: HostRuntime) -> Result<(), Fail> {
+    let came = Came {
+        wrong: None,
+        calls: 2,
+        front: 4,
+        sessions: 2,
+        tally: Tally {
+            marks: 4,
+            given: 1,
+            empty: 1,
+            opened: 0,
+            stored: 1,
+            cleared: 0,
+            flushed: 1,
+            stopped: false,
+        },
+    };
+    assert_eq!(rt; play(&rt, rt.alloc(), &ROWS)?, Some(came));
+    Ok(())
+}
+
+/// A link whose client sends this.
+pub(crate) fn planned(
+    alloc: Global,
+    sent: &str,
+    failing_reads: &[u64],
+    failing_writes: &[u64],
+) -> Result<PlannedLink, AllocError> {
+    Ok(PlannedLink {
+        gives: Vec::from_slice(alloc, sent.as_bytes())?,
+        piece: 7,
+        failing_reads: Vec::from_slice(alloc, failing_reads)?,
+        failing_writes: Vec::from_slice(alloc, failing_writes)?,
+    })
+}
+
+/// What came of two workers, of whose sessions one is held at its open prompt until the other has ended: what the links were written, by the
+/// order of their ends, and whether the wait for that was given up.
+#[derive(Drop)]
+struct Pair {
+    first: String,
+    second: String,
+    gave_up: bool,
+    tally: Tally,
+}
+
+fn written<W: Wait>(
+    rt: &W,
+    alloc: Global,
+    links: &Mutex<ListedLinks>,
+    place: usize,
+) -> Result<String, AllocError> {
+    let links = links.lock(rt);
+    String::from_utf8_lossy(alloc, links.written(place).unwrap_or(b""))
+}
+
+/// A machine whose daemon has these links and parts. The calls for a listener of these numbers, from 0, fail.
+pub(crate) fn host_of<'l, W: Wait, G: Gate + Drop>(
+    rt: &'l W,
+    alloc: Global,
+    links: &'l Mutex<ListedLinks>,
+    sessions: Vec<MemParts>,
+    failing: Vec<u64>,
+    gate: G,
+) -> Result<MemHost<'l, W, G>, AllocError> {
+    Ok(
+        MemHost::new(rt, alloc, 17, parts(alloc)?)
+            .with_gate(gate)
+            .with_sessions(sessions, Vec::new(alloc))
+            .with_links(links, None, failing),
+    )
+}
+
+fn run_pair<W: Threads + Wait + Clock + Sync>(
+    rt: &W,
+    alloc: Global,
+) -> Result<Option<Pair>, AllocError> {
+    let prompted = planned(alloc, "GET_PASSPHRASE --data id1 X X X\n", &[], &[])?;
+    let quiet = planned(alloc, "GET_PASSPHRASE --no-ask id2\n", &[], &[])?;
+    let coming = vec![in alloc; prompted, quiet]?;
+    let links = Mutex::new(ListedLinks::new(alloc, coming, Vec::new(alloc))?);
+    let sessions = vec![in alloc; parts(alloc)?, parts(alloc)?]?;
+    let gate = HoldGate::new(2_000_000_000);
+    let mut host = host_of(rt, alloc, &links, sessions, Vec::new(alloc), gate)?;
+    let Some(listener) = host.listen() else {
+        return Ok(None);
+    };
+    let ears = vec![in alloc; listener.ear(), listener.ear()]?;
+    let (counted, passes) = Counted::new(alloc, LIMITS, 2)?;
+    let rules = preset_rules();
+    let (passes, _) = run_workers(rt, alloc, &rules, &host, &listener, &counted, passes, ears);
+    let tally = counted.close(passes);
+    Ok(Some(Pair {
+        first: written(rt, alloc, &links, 0)?,
+        second: written(rt, alloc, &links, 1)?,
+        gave_up: host.gate().gave_up(),
+        tally,
+    }))
+}
+
+#[test]
+fn a_second_session_is_answered_while_the_first_prompt_is_open(
+    rt: HostRuntime,
+) -> Result<(), Fail> {
+    let pair = run_pair(&rt, rt.alloc())?.ok_or("no listener")?;
+    assert!(rt; !pair.gave_up);
+    let quiet = "OK Pleased to meet you\nERR 67108922 No data <GPG Agent>\n";
+    let prompted = "OK Pleased to meet you\nD pin\nOK\n";
+    assert!(rt;
+        pair.first.as_str() == quiet || pair.second.as_str() == quiet,
+        "{}",
+        pair.first
+    );
+    assert!(rt;
+        pair.first.as_str() == prompted || pair.second.as_str() == prompted,
+        "{}",
+        pair.second
+    );
+    assert_eq!(rt; pair.tally.opened, 1);
+    Ok(())
+}

@@ -1,0 +1,7 @@
+use Rattle.std.proofs.Common.{refl}
+use Rattle.assuan_server.specs.Inquiries.{Data}
+use Rattle.assuan_server.proofs.StillOpen.{closed_so}
+use Rattle.line_tests.proofs.server.ask_and_give.Goals as goal
+
+pub give-requires : goal.give-requires
+give-requires c = closed_so (Data c.in-Secret.secret) refl refl (c.in-Secret.ensures.inquiry (λ e. cc e))
