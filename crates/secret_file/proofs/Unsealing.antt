@@ -156,7 +156,8 @@ not_listed key salt count iv encrypted pass assoc plain bytes e is b none clear 
     none h.secret (shallow_sealed h.secret key h.names) (b ∙ same_sealed key salt count iv encrypted pass assoc plain e is clear h)
 
 unsealed_none : (key : Key) (salt : List ℕ) (count : ℕ) (iv encrypted pass assoc plain : List ℕ) (secret : List Tree) → assoc ≡ associated_list_of key (time_of key.private)
-    → AreSealed (derived_key pass salt count) iv assoc encrypted plain → plain ≡ spelling (sealed_tree secret) → (are_secret key.algorithm secret ≡ true → ⊥) → (clear : Key) → OpensTo (sealed_locked key salt count iv encrypted) pass clear → ⊥
+    → AreSealed (derived_key pass salt count) iv assoc encrypted plain → plain ≡ spelling (sealed_tree secret) → (are_secret key.algorithm secret ≡ true → ⊥)
+    → (clear : Key) → OpensTo (sealed_locked key salt count iv encrypted) pass clear → ⊥
 unsealed_none key salt count iv encrypted pass assoc plain secret e is listed none clear h =
     let same : secret ≡ h.secret = one_sealed secret h.secret (sym listed ∙ same_sealed key salt count iv encrypted pass assoc plain e is clear h) in
     none (ap (are_secret key.algorithm) same ∙ h.names)
