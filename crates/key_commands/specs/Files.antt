@@ -25,12 +25,27 @@ pub data FileSays (file : List ℕ) : Result Key KeyFault → Type 0 where
   canonical : {bytes : List ℕ} {said : Result Key KeyFault} → Canon file (Some bytes) → CanonicalSays bytes said → FileSays file said
   no_canonical : Canon file None → FileSays file (Err InvSexp)
 
+-- the file is some key
+abbrev pub IsSomeKey : List ℕ → Type 0
+IsSomeKey file = (key : Key) × FileSays file (Ok key)
+
+-- and so is the canonical one
+abbrev pub IsSomeList : List ℕ → Type 0
+IsSomeList list = (key : Key) × IsFile list key
+
+-- the file is the other with the key of this list in place of its own, and every other byte the same
+pub record IsWithList (file list new : List ℕ) : Type 0 where
+  pub old : KeyFile
+  pub tree : Sexp
+  pub has : IsKeyFile file old
+  pub spelled : list ≡ spelling_of tree
+  pub parts : new ≡ with_key old tree
+
 -- A key's canonical list is written over a file: as it is over a canonical file, and as the key between the other lines of an extended one. A new file
 -- that is longer than files may be is refused.
 pub data Rewrites (file list : List ℕ) (held : Option ℕ) : List Event → Result (List ℕ) Refusal → Option ℕ → Type 0 where
-  canonical : is_canonical file ≡ true → Rewrites file list held [] (Ok list) held
-  extended : {old : KeyFile} (tree : Sexp) → is_canonical file ≡ false → IsKeyFile file old → list ≡ spelling_of tree → length (with_key old tree) ≤ most_bytes
-      → Rewrites file list held [] (Ok (with_key old tree)) held
-  long : {old : KeyFile} (tree : Sexp) → is_canonical file ≡ false → IsKeyFile file old → list ≡ spelling_of tree → most_bytes < length (with_key old tree)
+  canonical_file : is_canonical file ≡ true → Rewrites file list held [] (Ok list) held
+  extended_file : {new : List ℕ} → is_canonical file ≡ false → IsWithList file list new → length new ≤ most_bytes → Rewrites file list held [] (Ok new) held
+  too_long : (new : List ℕ) → is_canonical file ≡ false → IsWithList file list new → most_bytes < length new
       → Rewrites file list held [] (Err (Agent code.BadSecKey)) held
   no_memory : Rewrites file list held (out_of_memory ∷ []) (Err (Agent code.NoMemory)) held
