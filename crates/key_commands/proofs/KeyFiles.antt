@@ -1,5 +1,5 @@
 -- What key files say, and how they are written over.
-use Rattle.std.proofs.Common.{◌≡◌, ◌≢◌, ◌⊎◌, ◌≤◌, ℕ, true, false, List, [], ◌++◌, length, Option, Some, Result, Ok, Err, IfOk, IfErr, inl, inr, refl, ap, sym, subst, ◌∙◌}
+use Rattle.std.proofs.Common.{◌≡◌, ◌≢◌, ◌⊎◌, ◌≤◌, ℕ, true, false, List, [], ◌++◌, length, Some, Result, Ok, Err, IfOk, IfErr, inl, inr, refl, ap, sym, subst, ◌∙◌}
 use Rattle.std.proofs.lemmas.List.{append-nil}
 use Rattle.key_lines.specs.Canon.{is_canonical, Canon}
 use Rattle.key_lines.specs.KeyFile.{KeyFile, IsKeyFile, IsFault}
@@ -17,28 +17,20 @@ use Rattle.sexp_keys.specs.declared.fault.KeyFault.{KeyFault}
 use Rattle.sexp_keys.specs.declared.fault.KeyFault.TheVariants.{InvSexp, NoMemory}
 use Rattle.secret_file.specs.Answers.{IsFileFault}
 use Rattle.secret_file.specs.Opens.{FitsFile, IsFile}
-use Rattle.agent_ports.specs.declared.grip.Grip.{Grip}
-use Rattle.key_commands.specs.Events.{Event}
-use Rattle.key_commands.specs.Files.{FileSays, IsSomeKey, canonical, no_canonical}
-use Rattle.key_commands.specs.KeyParts.{KeyFile as ReadKey, ReadsFile, is_key}
+use Rattle.key_commands.specs.Files.{FileSays, canonical, no_canonical}
 
 -- ---- canonical files
 
-module _ (file : List ℕ) (is : is_canonical file ≡ true) (result : Result Key KeyFault) where
-  pub canonical_key : IfOk result (IsFile file) → IfOk result (λ key. FileSays file (Ok key))
-  canonical_key says = elim result as (λ r. IfOk r (IsFile file) → IfOk r (λ key. FileSays file (Ok key))) [
-    | Ok key ↦ λ is_file. canonical (inl (is, refl)) is_file
-    | Err fault ↦ λ _. tt
-  ] says
+module _ (file : List ℕ) (is : is_canonical file ≡ true) where
+  pub canonical_key : (result : Result Key KeyFault) → IfOk result (IsFile file) → IfOk result (λ key. FileSays file (Ok key))
+  canonical_key (Ok key) is_file = canonical (inl (is, refl)) is_file
+  canonical_key (Err fault) is_file = tt
 
-  pub canonical_fault : IfErr result (λ fault. (fault ≡ NoMemory) ⊎ IsFileFault file fault) → IfErr result (λ fault. (fault ≡ NoMemory) ⊎ FileSays file (Err fault))
-  canonical_fault says = elim result as (λ r. IfErr r (λ fault. (fault ≡ NoMemory) ⊎ IsFileFault file fault) → IfErr r (λ fault. (fault ≡ NoMemory) ⊎ FileSays file (Err fault))) [
-    | Ok key ↦ λ _. tt
-    | Err fault ↦ λ some. elim some [
-      | inl memory ↦ inl memory
-      | inr is_fault ↦ inr (canonical (inl (is, refl)) is_fault)
-    ]
-  ] says
+  pub canonical_fault : (result : Result Key KeyFault) → IfErr result (λ fault. (fault ≡ NoMemory) ⊎ IsFileFault file fault)
+      → IfErr result (λ fault. (fault ≡ NoMemory) ⊎ FileSays file (Err fault))
+  canonical_fault (Ok key) says = tt
+  canonical_fault (Err fault) (inl memory) = inl memory
+  canonical_fault (Err fault) (inr is_fault) = inr (canonical (inl (is, refl)) is_fault)
 
 -- ---- files in the extended format
 
@@ -56,36 +48,23 @@ module _ (file : List ℕ) (extended : is_canonical file ≡ false) where
     readable : IsReadable (spelling_of lines.tree) lines.tree
     readable = record { spelled = refl; shallow = has.text.0.reads.shallow; short = has.text.1 }
 
-    fits : (key : Key) → IsKey (tree_of lines.tree) key → FitsFile key
-    fits key is = record {
+    -- so it is the key that the expression is, within the limits, or has the expression's fault
+    pub extended_key : (result : Result Key KeyFault) → IfOk result (IsKey (tree_of lines.tree)) → IfOk result (λ key. FileSays file (Ok key))
+    extended_key (Ok key) is = canonical stands (record { tree = lines.tree; read = readable; is = is })
+    extended_key (Err fault) is = tt
+
+    pub extended_fits : (result : Result Key KeyFault) → IfOk result (IsKey (tree_of lines.tree)) → IfOk result FitsFile
+    extended_fits (Ok key) is = record {
       short = subst (λ (t : Tree). length (spelling t) ≤ most_bytes) is.parts has.text.1;
       shallow = subst (λ (t : Tree). depth t ≤ most_depth) is.parts has.text.0.reads.shallow;
     }
+    extended_fits (Err fault) is = tt
 
-    -- the key that is read from its expression, or the fault of that
-    module _ (result : Result Key KeyFault) where
-      pub extended_key : IfOk result (IsKey (tree_of lines.tree)) → IfOk result (λ key. FileSays file (Ok key))
-      extended_key says = elim result as (λ r. IfOk r (IsKey (tree_of lines.tree)) → IfOk r (λ key. FileSays file (Ok key))) [
-        | Ok key ↦ λ is. canonical stands (record { tree = lines.tree; read = readable; is = is })
-        | Err fault ↦ λ _. tt
-      ] says
-
-      pub extended_fits : IfOk result (IsKey (tree_of lines.tree)) → IfOk result FitsFile
-      extended_fits says = elim result as (λ r. IfOk r (IsKey (tree_of lines.tree)) → IfOk r FitsFile) [
-        | Ok key ↦ λ is. fits key is
-        | Err fault ↦ λ _. tt
-      ] says
-
-      pub extended_fault : IfErr result (λ fault. (fault ≡ NoMemory) ⊎ IsFirstFault (tree_of lines.tree) fault)
-          → IfErr result (λ fault. (fault ≡ NoMemory) ⊎ FileSays file (Err fault))
-      extended_fault says = elim result as (λ r. IfErr r (λ fault. (fault ≡ NoMemory) ⊎ IsFirstFault (tree_of lines.tree) fault)
-          → IfErr r (λ fault. (fault ≡ NoMemory) ⊎ FileSays file (Err fault))) [
-            | Ok key ↦ λ _. tt
-            | Err fault ↦ λ some. elim some [
-              | inl memory ↦ inl memory
-              | inr is ↦ inr (canonical stands (inr (lines.tree, readable, is)))
-            ]
-          ] says
+    pub extended_fault : (result : Result Key KeyFault) → IfErr result (λ fault. (fault ≡ NoMemory) ⊎ IsFirstFault (tree_of lines.tree) fault)
+        → IfErr result (λ fault. (fault ≡ NoMemory) ⊎ FileSays file (Err fault))
+    extended_fault (Ok key) says = tt
+    extended_fault (Err fault) (inl memory) = inl memory
+    extended_fault (Err fault) (inr is) = inr (canonical stands (inr (lines.tree, readable, is)))
 
 -- an extended file that is some key has lines around it
 pub has_lines : (file : List ℕ) (key : Key) → is_canonical file ≡ false → FileSays file (Ok key) → (lines : KeyFile) × IsKeyFile file lines
@@ -113,7 +92,3 @@ module _ (list : List ℕ) (key : Key) (is : IsFile list key) (result : Result (
         let pair : (is.tree, length (spelling_of is.tree)) ≡ (tree, len) = cc (so, same) in
         subst (λ (t : Sexp). IsReadable list t) (ap (λ (p : Sexp × ℕ). p.0) pair) is.read
   ]
-
--- a file that was read is some key
-pub read_is_key : {grip : Grip} {held after : Option ℕ} {events : List Event} {file : ReadKey} → ReadsFile grip held events (Ok file) after → IsSomeKey file.bytes
-read_is_key (is_key found says) = (_, says)
