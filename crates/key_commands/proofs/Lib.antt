@@ -1,5 +1,7 @@
+pub mod AtClient
 pub mod Doing
 pub mod Opening
+pub mod Partial
 pub mod Reading
 pub mod Seating
 pub mod Unwrapping

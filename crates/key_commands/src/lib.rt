@@ -6,6 +6,7 @@ mod faults;
 mod files;
 mod grips;
 mod held;
+mod inquiries;
 mod names;
 mod opened;
 mod read;
