@@ -1,4 +1,5 @@
 pub mod AtClient
+pub mod AtPrompt
 pub mod Doing
 pub mod Opening
 pub mod Partial

@@ -2,6 +2,7 @@
 //! parts of doing it. No request is carried out yet.
 #![tactic(auto)]
 
+mod asking;
 mod faults;
 mod files;
 mod grips;
@@ -9,6 +10,7 @@ mod held;
 mod inquiries;
 mod names;
 mod opened;
+mod prompts;
 mod read;
 mod refusal;
 mod request;

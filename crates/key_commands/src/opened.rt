@@ -61,6 +61,16 @@ pub(crate) struct OpensKey<'l> {
     pub(crate) opened: Option<KeyList>,
 }
 
+impl<'l> OpensKey<'l> {
+    /// What it opened last.
+    pub(crate) fn into_opened(self) -> Option<KeyList>
+        ensures { result ≡ self.entry.opened }
+    {
+        let OpensKey { opened, .. } = self;
+        opened
+    }
+}
+
 impl<'l> Test for OpensKey<'l> {
     ghost use Rattle.key_commands.specs.Passphrases.{OpensBy};
     ghost use Rattle.key_commands.specs.Trials.{IsTrial, trial_means};
