@@ -37,11 +37,12 @@ use Rattle.key_commands.specs.Parts.{Part, refusal_went}
 use Rattle.key_commands.specs.Partial.{NoTurn, DoesAtPrompter}
 use Rattle.key_commands.specs.Passphrases.{PromptsPin, pin_refusal}
 use Rattle.key_commands.specs.States.{ReaderAfter, FaultsRise, KeyState, key_state}
-use Rattle.key_commands.specs.Trials.{IsTrial}
+use Rattle.key_commands.specs.Trials.{IsTrial, IsUsable}
 use Rattle.key_commands.specs.declared.refusal.Refusal.{Refusal}
 use Rattle.key_commands.specs.declared.refusal.Refusal.TheVariants.{Client}
 use Rattle.key_commands.specs.declared.went.KeyWent.TheVariants.{On}
 use Rattle.key_commands.proofs.AtClient.{reader_unheard, faults_unheard}
+use Rattle.key_commands.proofs.Opening.{usable_so}
 
 -- ---- refusals
 
@@ -182,7 +183,7 @@ module _ {T : Type 0} (locked_of : T → LockedKey) (opened_of : T → Option Ke
         fits = keeps.3;
       }
 
-pub opens_last : {locked : LockedKey} {pin : List ℕ} {opened : Option Key} {key : Key} → OpenedLast locked pin opened → Some key ≡ opened → OpensTo locked pin key × FitsFile key
+pub opens_last : {locked : LockedKey} {pin : List ℕ} {opened : Option Key} {key : Key} → OpenedLast locked pin opened → Some key ≡ opened → OpensTo locked pin key × IsUsable key
 opens_last {locked} {pin} {key} last is =
     let same : last.key ≡ key = cc (last.is, is) in
-    (subst (λ (k : Key). OpensTo locked pin k) same last.opens, subst FitsFile same last.fits)
+    let opens = subst (λ (k : Key). OpensTo locked pin k) same last.opens in (opens, usable_so opens (subst FitsFile same last.fits))

@@ -1,6 +1,7 @@
 pub mod AtClient
 pub mod AtPrompt
 pub mod Doing
+pub mod Joining
 pub mod Opening
 pub mod Partial
 pub mod Reading

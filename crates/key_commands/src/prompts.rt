@@ -3,10 +3,10 @@
 ghost use Rattle.std.specs.Prelude.{◌≡◌, Some, IfOk, IsSome, is_some, true};
 ghost use Rattle.agent_ask.specs.Prompters.{IsShut};
 ghost use Rattle.assuan_server.specs.Connections.{IsOpen};
-ghost use Rattle.secret_file.specs.Opens.{FitsFile};
 ghost use Rattle.key_commands.specs.Lines.{field_text};
 ghost use Rattle.key_commands.specs.Partial.{DoesAtPrompter};
 ghost use Rattle.key_commands.specs.Passphrases.{PromptsOld, PromptsNew, pin_refusal};
+ghost use Rattle.key_commands.specs.Trials.{IsUsable};
 
 use crate::asking::Asking;
 use crate::held::Held;
@@ -34,7 +34,7 @@ pub(crate) fn prompt_old<L: Link, P: Prompter>(
     ensures prompts { DoesAtPrompter (PromptsOld asking.now.rules.now asking.now.options.now asking.now.grip.now locked.now) P.prompted
         held.now conn.old prompter.old result conn.new prompter.new }
     ensures shut { IsShut (P.at prompter.new) }
-    ensures fits { IfOk result (λ opened. FitsFile opened.key) }
+    ensures usable { IfOk result (λ opened. IsUsable opened.key) }
 {
     let Some(ticket) = held.ticket() else {
         unreachable!()

@@ -19,8 +19,8 @@ returns-in-Some-into_opened-clause-prompts g c =
     rw (← c.ticket.ensures, c.in-Some.is)
     (prompt_gave g.P.Prompter.prompted c.in-Pin.ensures.asked c.in-Pin.ensures.left (λ events prompts. opens_by c.prompt_spec-spec.result spec (planned plan prompts) (opens_last last c.in-Some-into_opened.ensures).0))
 
-pub returns-in-Some-into_opened-clause-fits : goal.returns-in-Some-into_opened-clause-fits
-returns-in-Some-into_opened-clause-fits g c =
+pub returns-in-Some-into_opened-clause-usable : goal.returns-in-Some-into_opened-clause-usable
+returns-in-Some-into_opened-clause-usable g c =
     let last = opened_last (λ test. test.locked.now) (λ test. test.opened) (c.in-Pin.ensures.accepted c.in-Pin.pin refl) in
     (opens_last last c.in-Some-into_opened.ensures).1
 
