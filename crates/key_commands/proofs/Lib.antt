@@ -1,4 +1,5 @@
 pub mod Doing
+pub mod Listing
 pub mod Opening
 pub mod Reading
 pub mod Seating

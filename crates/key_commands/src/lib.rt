@@ -2,10 +2,12 @@
 //! parts of doing it. No request is carried out yet.
 #![tactic(auto)]
 
+mod drawing;
 mod faults;
 mod files;
 mod grips;
 mod held;
+mod key_calls;
 mod names;
 mod opened;
 mod read;
