@@ -6,6 +6,7 @@ pub mod Faults
 pub mod Wrapping
 pub mod Parts
 pub mod States
+pub mod Partial
 pub mod Steps
 pub mod Files
 pub mod Passphrases

@@ -7,6 +7,7 @@ mod faults;
 mod files;
 mod grips;
 mod held;
+mod inquiries;
 mod key_calls;
 mod names;
 mod opened;
