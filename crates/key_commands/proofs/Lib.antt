@@ -1,9 +1,12 @@
 pub mod AtClient
 pub mod Doing
+pub mod Going
 pub mod Listing
 pub mod Opening
 pub mod Partial
+pub mod Prompts
 pub mod Reading
+pub mod Replying
 pub mod Seating
 pub mod Unwrapping
 mod WorkedExamples

@@ -2,6 +2,7 @@
 //! parts of doing it. No request is carried out yet.
 #![tactic(auto)]
 
+mod consent;
 mod drawing;
 mod faults;
 mod files;
@@ -13,6 +14,7 @@ mod names;
 mod opened;
 mod read;
 mod refusal;
+mod reply;
 mod request;
 mod texts;
 mod turns;
