@@ -13,3 +13,4 @@ pub mod Passphrases
 pub mod Trials
 pub mod KeyParts
 pub mod Exchanges
+pub mod Replies

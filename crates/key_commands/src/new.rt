@@ -10,7 +10,7 @@ ghost use Rattle.key_commands.specs.Passphrases.{ClientNew, NewPassphrase, new_b
 use crate::asking::Asking;
 use crate::held::Held;
 use crate::inquiries::ask_client;
-use crate::prompts::prompt_new;
+use crate::prompting::prompt_new;
 use crate::refusal::Refusal;
 use crate::turns::take_seat;
 use agent_ask::Prompter;

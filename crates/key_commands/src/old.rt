@@ -14,7 +14,7 @@ use crate::held::Held;
 use crate::inquiries::ask_client;
 use crate::nonces::look_for_nonce;
 use crate::opened::{OpenedKey, lock_of, try_found, try_pass};
-use crate::prompts::prompt_old;
+use crate::prompting::prompt_old;
 use crate::refusal::Refusal;
 use crate::texts::key_id;
 use crate::turns::{ask_cache, keep_pass, take_seat};

@@ -1,7 +1,7 @@
 use Rattle.std.proofs.Common.{false, refl}
 use Rattle.key_commands.specs.Passphrases.{opens_by, refused}
 use Rattle.key_commands.proofs.AtPrompt.{prompt_gave, prompt_refused, pin_refuses, opened_last, opens_last, spec_says, plan_says, planned}
-use Rattle.key_commands.proofs.prompts.prompt_old.Goals as goal
+use Rattle.key_commands.proofs.prompting.prompt_old.Goals as goal
 
 pub pin_refusal-requires : goal.pin_refusal-requires
 pin_refusal-requires g c = pin_refuses c.ask_user.result c.ask_user.ensures.unheard c.in_default-ask_user.not-Pin
