@@ -29,7 +29,7 @@ pub data FileSays (file : List ℕ) : Result Key KeyFault → Type 0 where
 abbrev pub IsSomeKey : List ℕ → Type 0
 IsSomeKey file = (key : Key) × FileSays file (Ok key)
 
--- and so is the canonical one
+-- the bytes are the canonical list of some key
 abbrev pub IsSomeList : List ℕ → Type 0
 IsSomeList list = (key : Key) × IsFile list key
 
