@@ -1,18 +1,25 @@
 -- Parts of a request that were done, one after another.
-use Rattle.std.proofs.Common.{◌≡◌, ◌≤◌, ℕ, List, [], ◌∷◌, ◌++◌, Option, Result, Ok, Err, arith}
+use Rattle.std.proofs.Common.{◌≡◌, ◌≤◌, ℕ, List, [], ◌∷◌, ◌++◌, Option, Some, Result, Ok, Err, subst, arith}
 use Rattle.agent_ask.specs.Events.{Call}
-use Rattle.agent_ask.specs.Further.{FurtherEnds, NoMemory, no_memory}
-use Rattle.agent_ask.specs.SessionEvents.{cache_turn}
+use Rattle.agent_ask.specs.Further.{FurtherEnds, KeyCall, DoesKeys, Keys, Dice, NoMemory, keys as does_keys, dice as does_dice, no_memory}
+use Rattle.agent_ask.specs.SessionEvents.{Further, cache_turn}
 use Rattle.agent_ask.proofs.Doing.{done_none, done_then, done_turned, done_further}
+use Rattle.agent_ports.specs.KeyFiles.{KeyFiles}
+use Rattle.agent_ports.specs.Sides.{Side}
+use Rattle.agent_ports.specs.declared.keys.KeyDone.{KeyDone}
+use Rattle.agent_ports.specs.declared.keys.KeyDone.TheVariants.{Done}
 use Rattle.assuan_line.specs.Next.{Reader, held}
 use Rattle.assuan_server.specs.Connections.{Connection, IsOpen}
+use Rattle.assuan_server.specs.declared.errors.Code.{Code}
 use Rattle.cache_policy.specs.declared.mark.MarkStep.{MarkStep}
 use Rattle.cache_policy.specs.Turns.{Turn}
-use Rattle.key_commands.specs.Events.{Event, out_of_memory}
+use Rattle.key_commands.specs.Events.{Event, called, out_of_memory}
+use Rattle.key_commands.specs.KeyParts.{change_fault}
 use Rattle.key_commands.specs.Parts.{Part, ◌>>=◌, goes_on, stops}
-use Rattle.key_commands.specs.States.{KeyWorld, KeyState, ReaderAfter, FaultsRise, went_by, DoesPart}
-use Rattle.key_commands.specs.Steps.{DoesTurn, DoesTurns, still, one, AreAlone, nothing, memory, DoesAlone}
+use Rattle.key_commands.specs.States.{KeyWorld, KeyState, KeyLead, key_state, ReaderAfter, FaultsRise, went_by, DoesPart}
+use Rattle.key_commands.specs.Steps.{DoesTurn, DoesTurns, still, one, AreAlone, nothing, memory, DoesAlone, KeysLead, none, calls, wants_memory, DoesKeyCalls, DoesDrawing, IsChanged}
 use Rattle.key_commands.specs.declared.refusal.Refusal.{Refusal}
+use Rattle.key_commands.specs.declared.refusal.Refusal.TheVariants.{Agent}
 use Rattle.key_commands.specs.declared.went.KeyWent.{KeyWent}
 use Rattle.key_commands.specs.declared.went.KeyWent.TheVariants.{On, Gone}
 
@@ -20,6 +27,46 @@ use Rattle.key_commands.specs.declared.went.KeyWent.TheVariants.{On, Gone}
 reader_from : (went : KeyWent) (start mid now : Reader) → held mid ≤ held start → ReaderAfter went mid now → ReaderAfter went start now
 reader_from On start mid now fewer fits = (fits.0, omega (arith, fewer, fits.1))
 reader_from (Gone how) start mid now fewer fits = fits
+
+keys_then : {first second : List Event} {start mid now : KeyFiles} → KeysLead start first mid → KeysLead mid second now → KeysLead start (first ++ second) now
+keys_then none later = later
+keys_then (calls does more) later = calls does (keys_then more later)
+keys_then (wants_memory more) later = wants_memory (keys_then more later)
+
+-- calls of the keys that came to a value, and then the next ones
+pub calls_then : {A B : Type 0} {part : Part A} {next : A → Part B} {start mid now : KeyFiles} {value : A} {result : Result B Refusal}
+    → DoesKeyCalls part start (Ok value) mid → DoesKeyCalls (next value) mid result now → DoesKeyCalls (part >>= next) start result now
+calls_then first second = record {
+  events = first.events ++ second.events;
+  lead = keys_then first.lead second.lead;
+  does = λ held. goes_on (first.does held) (second.does held);
+}
+
+-- calls that were refused
+pub calls_stop : {A B : Type 0} {part : Part A} {next : A → Part B} {start now : KeyFiles} {why : Refusal}
+    → DoesKeyCalls part start (Err why) now → DoesKeyCalls (part >>= next) start (Err why) now
+calls_stop first = record { events = first.events; lead = first.lead; does = λ held. stops (first.does held) }
+
+-- one call
+pub one_call : {A : Type 0} {part : Part A} {result : Result A Refusal} {start now : KeyFiles} (call : KeyCall) → DoesKeys start call now
+    → ((held : Option ℕ) → part held (called call ∷ []) result held) → DoesKeyCalls part start result now
+one_call call does is = record { events = called call ∷ []; lead = calls does none; does = is }
+
+-- one call, by which memory was wanted then
+pub one_call_of_memory : {A : Type 0} {part : Part A} {result : Result A Refusal} {start now : KeyFiles} (call : KeyCall) → DoesKeys start call now
+    → ((held : Option ℕ) → part held (called call ∷ out_of_memory ∷ []) result held) → DoesKeyCalls part start result now
+one_call_of_memory call does is = record { events = called call ∷ out_of_memory ∷ []; lead = calls does (wants_memory none); does = is }
+
+-- a change of a key's file, which is done or refused
+pub change_made : {part : Part (Unit {0})} {start now : KeyFiles} (call : KeyDone → KeyCall) (answer : KeyDone) (result : Result (Unit {0}) Refusal) → DoesKeys start (call answer) now
+    → IsChanged answer result → ((held : Option ℕ) → part held (called (call Done) ∷ []) (Ok tt) held)
+    → ((code : Code) → change_fault answer ≡ Some code → (held : Option ℕ) → part held (called (call answer) ∷ []) (Err (Agent code)) held) → DoesKeyCalls part start result now
+change_made {start} {now} call answer (Ok changed) does is done refused = one_call (call Done) (subst (λ (a : KeyDone). DoesKeys start (call a) now) is does) done
+change_made call answer (Err why) does is done refused = rw is.2 (one_call (call answer) does (refused is.0 is.1))
+
+-- none
+pub no_calls : {A : Type 0} {part : Part A} {result : Result A Refusal} (keys : KeyFiles) → ((held : Option ℕ) → part held [] result held) → DoesKeyCalls part keys result keys
+no_calls keys does = record { events = []; lead = none; does = does }
 
 module _ {D P : Type 0} (turned : D → MarkStep → Turn → D → Type 0) (prompted : P → Call → P → Type 0) where
   -- a part came to a value, and then the next was done
@@ -95,3 +142,35 @@ module _ {D P : Type 0} (turned : D → MarkStep → Turn → D → Type 0) (pro
 
       pub part_alone : DoesAlone part result → DoesPart turned prompted part ticket (at_desk desk) result ticket (at_desk desk)
       part_alone done = alone_by done.events done.alone (done.does ticket)
+
+  -- what is done at the keys or the dice alone
+  module _ (conn : Connection) (desk : D) (prompter : P) where
+    keys_lead : (dice : Side) {events : List Event} {start now : KeyFiles} → KeysLead start events now
+        → KeyLead turned prompted events (key_state turned prompted conn desk prompter start dice) (key_state turned prompted conn desk prompter now dice)
+    keys_lead dice {start} none = done_none (key_state turned prompted conn desk prompter start dice)
+    keys_lead dice (calls {mid} {call} does more) =
+        done_then (done_further {w = KeyWorld turned prompted} (Keys call) conn desk _ (record { prompter = prompter; keys = mid; dice = dice }) (does_keys does)) (keys_lead dice more)
+    keys_lead dice {start} (wants_memory more) =
+        done_then (done_further {w = KeyWorld turned prompted} NoMemory conn desk (record { prompter = prompter; keys = start; dice = dice }) _ no_memory) (keys_lead dice more)
+
+    pub part_called : {A : Type 0} {part : Part A} {result : Result A Refusal} {keys now : KeyFiles} (dice : Side) (ticket : Option ℕ) → IsOpen conn → went_by result ≡ On
+        → DoesKeyCalls part keys result now
+        → DoesPart turned prompted part ticket (key_state turned prompted conn desk prompter keys dice) result ticket (key_state turned prompted conn desk prompter now dice)
+    part_called {result} dice ticket going on done = record {
+      events = done.events;
+      does = done.does ticket;
+      done = keys_lead dice done.lead;
+      fits = still_open (went_by result) on conn going;
+      faults = no_fault (went_by result) on _ _;
+    }
+
+    pub part_drawn : {A : Type 0} {part : Part A} {result : Result A Refusal} (keys : KeyFiles) {dice now : Side} (ticket : Option ℕ) → IsOpen conn → went_by result ≡ On
+        → DoesDrawing part dice result now
+        → DoesPart turned prompted part ticket (key_state turned prompted conn desk prompter keys dice) result ticket (key_state turned prompted conn desk prompter keys now)
+    part_drawn {result} keys {dice} {now} ticket going on done = record {
+      events = Further (Dice done.draw) ∷ [];
+      does = done.does ticket;
+      done = done_further {w = KeyWorld turned prompted} (Dice done.draw) conn desk (record { prompter = prompter; keys = keys; dice = dice }) _ (does_dice done.draws);
+      fits = still_open (went_by result) on conn going;
+      faults = no_fault (went_by result) on _ _;
+    }

@@ -1,13 +1,16 @@
 -- Tickets that requests hold, and the turns that give them.
-use Rattle.std.proofs.Common.{◌≡◌, ℕ, List, [], true, false, Option, Some, None, Ok, is_some, refl}
+use Rattle.std.proofs.Common.{◌≡◌, ℕ, List, [], true, false, Option, Some, None, Result, Ok, is_some, refl}
 use Rattle.agent_ports.specs.declared.grip.Grip.{Grip}
+use Rattle.cache_policy.specs.declared.mark.MarkStep.{MarkStep}
 use Rattle.cache_policy.specs.declared.mark.MarkStep.TheVariants.{Ask}
 use Rattle.cache_policy.specs.declared.mark.Way.{Way}
 use Rattle.cache_policy.specs.declared.mark.Way.TheVariants.{Quiet, Prompt}
 use Rattle.cache_policy.specs.declared.mode.Mode.{Mode}
-use Rattle.cache_policy.specs.Turns.{Open, FitsStep, opens}
-use Rattle.key_commands.specs.Parts.{returns}
-use Rattle.key_commands.specs.Passphrases.{TakesSeat}
+use Rattle.cache_policy.specs.Turns.{Turn, Open, FitsStep, opens}
+use Rattle.key_commands.specs.Parts.{Seats, returns}
+use Rattle.key_commands.specs.Passphrases.{TakesSeat, seat_for}
+use Rattle.key_commands.specs.Steps.{DoesTurn, DoesTurns, one}
+use Rattle.key_commands.specs.declared.refusal.Refusal.{Refusal}
 
 -- only a question that may open a prompt is answered by a ticket
 pub wants_prompt : (id : List ℕ) (mode : Mode) (way : Way) (number : ℕ) → FitsStep (Ask id mode way None) (Open number) → opens (Ask id mode way None) ≡ true
@@ -22,3 +25,9 @@ none_held (Some ticket) is = cc is
 pub keeps_seat : (grip : Grip) (held : Option ℕ) → is_some held ≡ true → TakesSeat grip held [] (Ok tt) held
 keeps_seat grip None is = cc is
 keeps_seat grip (Some ticket) is = returns
+
+-- one that holds none takes the seat
+pub seat_taken : {D : Type 0} {turned : D → MarkStep → Turn → D → Type 0} {desk now : D} {result : Result (Unit {0}) Refusal} {after : Option ℕ} (grip : Grip) (held : Option ℕ) → held ≡ None
+    → DoesTurn turned (Seats (seat_for grip)) held desk result after now → DoesTurns turned (TakesSeat grip) held desk result after now
+seat_taken grip None is done = one (record { step = done.step; turn = done.turn; turned_so = done.turned_so; does = done.does })
+seat_taken grip (Some ticket) is done = cc is

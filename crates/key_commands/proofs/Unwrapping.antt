@@ -28,7 +28,7 @@ all_zero : (count : ℕ) → list_all (λ b. b == 0) (replicate count 0) ≡ tru
 all_zero zero = refl
 all_zero (suc count) = all_zero count
 
-zeros_len : (count : ℕ) → length {A = ℕ} (replicate count 0) ≡ count
+pub zeros_len : (count : ℕ) → length {A = ℕ} (replicate count 0) ≡ count
 zeros_len zero = refl
 zeros_len (suc count) = ap suc (zeros_len count)
 

@@ -16,13 +16,14 @@ use Rattle.secret_file.specs.Opens.{LockedKey, IsLocked, OpensTo}
 use Rattle.secret_file.specs.Protects.{ocb_protection, protected_file}
 use Rattle.session_options.specs.OptionValues.{OptionValues}
 use Rattle.session_options.specs.declared.rules.Rules.{Rules}
+use Rattle.key_lines.specs.Canon.{is_canonical}
 use Rattle.sexp_canonical.specs.Tree.{Tree}
 use Rattle.sexp_keys.specs.Key.{Key}
 use Rattle.sexp_keys.specs.Lists.{key_list_of}
 use Rattle.sexp_keys.specs.declared.algorithm.Algorithm.{Algorithm}
 use Rattle.key_commands.specs.Events.{called, read, drew, not_drawn}
 use Rattle.key_commands.specs.Exchanges.{Exchange, answered, refused, with_wrap_key, KeyInfoReplies, KeyWrapReplies, ExportKeyReplies, PasswdReplies, DeleteKeyReplies, reply}
-use Rattle.key_commands.specs.Files.{FileSays}
+use Rattle.key_commands.specs.Files.{FileSays, canonical_file}
 use Rattle.key_commands.specs.KeyParts.{is_key, file_in, tells, made, done as replaced}
 use Rattle.key_commands.specs.Lines.{ok, info_line, grip_text, IsDataAnswer}
 use Rattle.key_commands.specs.Parts.{goes_on, stops, returns, refuses, peeked, absent, unheld, drawn, given, done, faulted}
@@ -75,19 +76,19 @@ module _ (rules : Rules) (options : OptionValues) (wraps : WrapKeys) (grip : Gri
   unfolding KeyWrapReplies
   no_wrap_key = refused (not_drawn 16 ∷ []) None (Agent General) (stops faulted) unheld
 
-  -- A protected key's passphrase is changed by two nonces of which the one gives the old and the other the new one. Nobody is asked, and the new one is
+  -- A protected key's passphrase, in a canonical file, is changed by two nonces of which the one gives the old and the other the new one. Nobody is asked, and the new one is
   -- kept.
   changed_by_nonces : {algorithm : Algorithm} {public private further : List Tree} {old new drawn_bytes : List ℕ} {clear : Key} {locked : LockedKey} {file : List ℕ} {first second : Grant}
       (answer : KeyRead)
       → let key : Key = record { algorithm = algorithm; is_clear = false; public = public; private = private; further = further } in
       let made_file : List ℕ = protected_file clear (ocb_protection clear second.entry.secret (take 8 drawn_bytes) (drop 8 drawn_bytes) options.s2k_count None) None in
-      file_in answer ≡ Some file → FileSays file (Ok key) → locked.key ≡ key → IsLocked locked → OpensTo locked first.entry.secret clear
+      file_in answer ≡ Some file → FileSays file (Ok key) → is_canonical file ≡ true → locked.key ≡ key → IsLocked locked → OpensTo locked first.entry.secret clear
       → nat_le (length (key_list_of clear)) MAX_LIST_LEN ≡ true → length drawn_bytes ≡ 20
       → Exchange rules options wraps (Passwd grip (Some old) (Some new) false)
       (read grip answer ∷ cache_turn (ask_nonce old) (Given first) ∷ cache_turn (ask_nonce new) (Given second) ∷ drew drawn_bytes ∷ called (Replaced grip made_file IsDone)
       ∷ cache_turn (put_key grip second.entry.secret) Done ∷ Sent ok ∷ []) wraps On
   unfolding PasswdReplies OpensLocked
-  changed_by_nonces {old} {new} {drawn_bytes} {clear} {first} {second} answer is says key_is locked_is opens_to short twenty =
+  changed_by_nonces {old} {new} {drawn_bytes} {clear} {first} {second} answer is says in_form key_is locked_is opens_to short twenty =
       answered (read grip answer ∷ cache_turn (ask_nonce old) (Given first) ∷ cache_turn (ask_nonce new) (Given second) ∷ drew drawn_bytes ∷ called (Replaced grip _ IsDone)
       ∷ cache_turn (put_key grip second.entry.secret) Done ∷ []) None (reply wraps ok)
       (goes_on (is_key is says)
@@ -97,5 +98,6 @@ module _ (rules : Rules) (options : OptionValues) (wraps : WrapKeys) (grip : Gri
       (goes_on returns
       (goes_on (drawn twenty)
       (goes_on made
+      (goes_on (canonical_file in_form)
       (goes_on replaced
-      (goes_on done returns))))))))) unheld
+      (goes_on done returns)))))))))) unheld

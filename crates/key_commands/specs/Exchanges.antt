@@ -12,7 +12,7 @@ use Rattle.session_options.specs.OptionValues.{OptionValues}
 use Rattle.session_options.specs.declared.rules.Rules.{Rules}
 use Rattle.sexp_keys.specs.Lists.{key_list_of}
 use Rattle.key_commands.specs.Events.{Event}
-use Rattle.key_commands.specs.Files.{rewritten}
+use Rattle.key_commands.specs.Files.{Rewrites}
 use Rattle.key_commands.specs.Lines.{ok, grip_text, nonce_line, limit_line, text}
 use Rattle.key_commands.specs.Parts.{Part, ◌>>=◌, Returns, Refuses, needed, wanted, or_else, Changes, Closes, Writes, Finds, Draws, refusal_events, refusal_went}
 use Rattle.key_commands.specs.Passphrases.{OldPassphrase, NewPassphrase, VerifiesPassphrase, LooksForNonce}
@@ -112,7 +112,8 @@ module _ (rules : Rules) (options : OptionValues) where
       -- a salt of 8 bytes, and an initialization vector of 12
       drawn ← Draws 20
       list ← Protects opened.key pass (take 8 drawn) (drop 8 drawn) options.s2k_count
-      replaced ← Replaces grip (rewritten file.bytes list)
+      new ← Rewrites file.bytes list
+      replaced ← Replaces grip new
       kept ← KeepsNew grip pass
       Returns (reply wraps ok)
 

@@ -41,6 +41,7 @@ use Rattle.key_commands.specs.Parts.{Part, ◌>>=◌, Returns, Refuses, wanted, 
 use Rattle.key_commands.specs.Passphrases.{ask_nonce, put_key}
 use Rattle.key_commands.specs.Faults.{fault_code}
 use Rattle.key_commands.specs.Wrapping.{wrapped_key, WrappedSays}
+use Rattle.key_commands.specs.declared.key_calls.KeyFile.{KeyFile}
 use Rattle.key_commands.specs.declared.refusal.Refusal.{Refusal}
 use Rattle.key_commands.specs.declared.refusal.Refusal.TheVariants.{Agent, Pinentry, Client}
 use Rattle.agent_ports.specs.declared.keys.KeyNames.{KeyNames}
@@ -59,11 +60,6 @@ file_in _ = None
 abbrev pub grips_in : KeyNames → Option (List Grip)
 grips_in (key_names.Names grips) = Some grips.items
 grips_in _ = None
-
--- the bytes of a key's file, and the key that they are
-pub record KeyFile : Type 0 where
-  pub bytes : List ℕ
-  pub key : Key
 
 -- a key's file is read
 pub data ReadsFile (grip : Grip) (held : Option ℕ) : List Event → Result KeyFile Refusal → Option ℕ → Type 0 where

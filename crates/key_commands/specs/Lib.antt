@@ -6,9 +6,11 @@ pub mod Faults
 pub mod Wrapping
 pub mod Parts
 pub mod States
+pub mod Partial
 pub mod Steps
 pub mod Files
 pub mod Passphrases
 pub mod Trials
 pub mod KeyParts
 pub mod Exchanges
+pub mod Replies

@@ -1,12 +1,27 @@
 -- Private: what the steps of a request know.
-use Rattle.std.specs.Prelude.{ℕ, ◌==◌, ◌&&◌, nat_lt, Bool, List, [], ◌∷◌, length, Option, Result}
+use Rattle.std.specs.Prelude.{◌≡◌, ℕ, ◌==◌, ◌&&◌, nat_lt, Bool, List, [], ◌∷◌, length, Option, Some, None, Result, Ok, Err, ⊤}
 use Rattle.std.specs.List.{list_all}
-use Rattle.agent_ask.specs.SessionEvents.{cache_turn}
+use Rattle.agent_ask.specs.Callers.{IsUnheardBy}
+use Rattle.agent_ask.specs.Further.{KeyCall, Draw, Dice, DoesKeys, DoesDraw}
+use Rattle.agent_ask.specs.SessionEvents.{Further, cache_turn}
+use Rattle.agent_ask.specs.declared.consent.Agreed.{Agreed}
+use Rattle.agent_ask.specs.declared.consent.Agreed.TheVariants as agreed
+use Rattle.agent_ports.specs.KeyFiles.{KeyFiles}
+use Rattle.agent_ports.specs.Sides.{Side}
+use Rattle.agent_ports.specs.declared.keys.KeyDone.{KeyDone}
+use Rattle.agent_ports.specs.declared.keys.KeyDone.TheVariants.{Done}
+use Rattle.assuan_server.specs.declared.errors.Code.{Code}
+use Rattle.assuan_server.specs.declared.errors.Code.TheVariants as code
 use Rattle.cache_policy.specs.declared.mark.MarkStep.{MarkStep}
 use Rattle.cache_policy.specs.Turns.{Turn}
-use Rattle.key_commands.specs.Events.{Event, out_of_memory}
+use Rattle.sexp_keys.specs.Key.{Key}
+use Rattle.sexp_keys.specs.declared.fault.KeyFault.{KeyFault}
+use Rattle.sexp_keys.specs.declared.fault.KeyFault.TheVariants as fault
+use Rattle.key_commands.specs.Events.{Event, called, out_of_memory}
+use Rattle.key_commands.specs.KeyParts.{change_fault, consent_refusal}
 use Rattle.key_commands.specs.Parts.{Part}
 use Rattle.key_commands.specs.declared.refusal.Refusal.{Refusal}
+use Rattle.key_commands.specs.declared.refusal.Refusal.TheVariants.{Agent}
 
 -- these are zero bytes, and fewer than a block of the wrapping
 abbrev pub are_padding : List ℕ → Bool
@@ -36,3 +51,41 @@ pub record DoesAlone {A : Type 0} (part : Part A) (result : Result A Refusal) : 
   pub events : List Event
   pub alone : AreAlone events
   pub does : (held : Option ℕ) → part held events result held
+
+-- calls of the keys, one after another, by which memory may be wanted
+pub data KeysLead : KeyFiles → List Event → KeyFiles → Type 0 where
+  none : {keys : KeyFiles} → KeysLead keys [] keys
+  calls : {before mid after : KeyFiles} {call : KeyCall} {events : List Event} → DoesKeys before call mid → KeysLead mid events after → KeysLead before (called call ∷ events) after
+  wants_memory : {before after : KeyFiles} {events : List Event} → KeysLead before events after → KeysLead before (out_of_memory ∷ events) after
+
+-- a part in which the keys alone are called, whatever ticket is held
+pub record DoesKeyCalls {A : Type 0} (part : Part A) (before : KeyFiles) (result : Result A Refusal) (after : KeyFiles) : Type 0 where
+  pub events : List Event
+  pub lead : KeysLead before events after
+  pub does : (held : Option ℕ) → part held events result held
+
+-- a part that is one draw of random bytes, whatever ticket is held
+pub record DoesDrawing {A : Type 0} (part : Part A) (before : Side) (result : Result A Refusal) (after : Side) : Type 0 where
+  pub draw : Draw
+  pub draws : DoesDraw before draw after
+  pub does : (held : Option ℕ) → part held (Further (Dice draw) ∷ []) result held
+
+-- a change of a key's file was done, or is refused by this answer
+abbrev pub IsChanged : KeyDone → Result (Unit {0}) Refusal → Type 0
+IsChanged done (Ok changed) = done ≡ Done
+IsChanged done (Err why) = (code : Code) × (change_fault done ≡ Some code) × (why ≡ Agent code)
+
+-- a listed key whose file has this fault: it is passed over, unless memory was wanted
+abbrev pub unlisted : KeyFault → Result (Option Key) Refusal
+unlisted fault.NoMemory = Err (Agent code.NoMemory)
+unlisted _ = Ok None
+
+-- what a prompt for consent comes to: where it isn't yes or no, the client gave nothing
+abbrev pub IsAgreed : Agreed → Type 0
+IsAgreed (agreed.Heard heard) = IsUnheardBy heard
+IsAgreed _ = ⊤
+
+-- the request goes on, or is refused so
+abbrev pub IsConsented : Agreed → Result (Unit {0}) Refusal → Type 0
+IsConsented answer (Ok consented) = answer ≡ agreed.Yes
+IsConsented answer (Err why) = consent_refusal answer ≡ Some why

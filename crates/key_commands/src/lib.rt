@@ -2,14 +2,24 @@
 //! parts of doing it. No request is carried out yet.
 #![tactic(auto)]
 
+mod asking;
+mod consent;
+mod drawing;
 mod faults;
 mod files;
 mod grips;
 mod held;
+mod inquiries;
+mod key_calls;
 mod names;
+mod new;
+mod nonces;
+mod old;
 mod opened;
+mod prompting;
 mod read;
 mod refusal;
+mod reply;
 mod request;
 mod texts;
 mod turns;

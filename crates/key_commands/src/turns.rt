@@ -1,9 +1,9 @@
 //! Turns at the desk, as parts of a request.
 
-ghost use Rattle.std.specs.Prelude.{◌≡◌, true, None};
+ghost use Rattle.std.specs.Prelude.{◌≡◌, true, None, IsOk, IsSome};
 ghost use Rattle.cache_policy.specs.declared.mark.MarkStep.TheVariants.{Ask, Seat, Put};
 ghost use Rattle.cache_policy.specs.Turns.{asked_step, closes, opens};
-ghost use Rattle.key_commands.specs.Parts.{Asks, Changes, Closes, Peeks};
+ghost use Rattle.key_commands.specs.Parts.{Asks, Changes, Closes, Peeks, Seats};
 ghost use Rattle.key_commands.specs.Passphrases.{TakesSeat, put_key};
 ghost use Rattle.key_commands.specs.Lines.{grip_text};
 ghost use Rattle.key_commands.specs.Steps.{DoesTurn, DoesTurns};
@@ -61,10 +61,22 @@ pub(crate) fn take_seat<D: Desk>(grip: &Grip, held: &mut Held, desk: &mut D) -> 
         id: key_id(grip),
         mode: Mode::Normal,
     };
-    match desk.turn(Step::Seat {
-        under: Some(under),
-        wait: None,
-    }) {
+    seat(Some(under), held, desk)
+}
+
+/// Takes the seat for a prompt, whose passphrase is cached so where it is one for a passphrase.
+pub(crate) fn seat<D: Desk>(
+    under: Option<Under>,
+    held: &mut Held,
+    desk: &mut D,
+) -> Result<(), Refusal>
+    requires none { held.old ≡ None }
+    requires out { (D.at desk.old).out ≡ held.old }
+    ensures turn { DoesTurn D.turned (Seats (Seat under None)) held.old desk.old result held.new desk.new }
+    ensures out { (D.at desk.new).out ≡ held.new }
+    ensures seated { IsOk result → IsSome held.new }
+{
+    match desk.turn(Step::Seat { under, wait: None }) {
         Ok(Reply::Open(ticket)) => {
             held.put(ticket);
             Ok(())

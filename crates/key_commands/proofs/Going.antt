@@ -1,0 +1,57 @@
+-- Parts that are refused by errors of the agent's own, after which the session goes on.
+use Rattle.std.proofs.Common.{◌≡◌, ℕ, List, Bool, Option, Result, refl}
+use Rattle.agent_ports.specs.declared.grip.Grip.{Grip}
+use Rattle.cache_policy.specs.declared.mark.MarkStep.{MarkStep}
+use Rattle.sexp_keys.specs.Key.{Key}
+use Rattle.key_commands.specs.Events.{Event}
+use Rattle.key_commands.specs.KeyParts.{ReadsFile, is_key, faulty, no_memory as no_file_memory, unread, ListsGrips, listed, faulted as not_listed, no_memory as no_list_memory, ReadsListed, Removes, done as removed, not_done as not_removed}
+use Rattle.key_commands.specs.KeyParts as part
+use Rattle.key_commands.specs.Parts.{Seats, Changes, Peeks, Finds, Draws, opened, done, interrupted, peeked, found, absent, faulted, no_memory, drawn}
+use Rattle.key_commands.specs.States.{went_by}
+use Rattle.key_commands.specs.declared.key_calls.KeyFile.{KeyFile}
+use Rattle.key_commands.specs.declared.refusal.Refusal.{Refusal}
+use Rattle.key_commands.specs.declared.went.KeyWent.TheVariants.{On}
+
+pub seats_on : {before after : Option ℕ} {events : List Event} {step : MarkStep} {result : Result (Unit {0}) Refusal} → Seats step before events result after → went_by result ≡ On
+seats_on opened = refl
+seats_on (interrupted by) = refl
+
+pub changes_on : {before after : Option ℕ} {events : List Event} {step : MarkStep} {result : Result (Unit {0}) Refusal} → Changes step before events result after → went_by result ≡ On
+changes_on done = refl
+changes_on (interrupted by) = refl
+
+pub peeks_on : {before after : Option ℕ} {events : List Event} {grip : Grip} {result : Result Bool Refusal} → Peeks grip before events result after → went_by result ≡ On
+peeks_on peeked = refl
+peeks_on (interrupted by) = refl
+
+pub finds_on : {before after : Option ℕ} {events : List Event} {grip : Grip} {result : Result Bool Refusal} → Finds grip before events result after → went_by result ≡ On
+finds_on found = refl
+finds_on absent = refl
+finds_on faulted = refl
+finds_on no_memory = refl
+
+pub draws_on : {before after : Option ℕ} {events : List Event} {count : ℕ} {result : Result (List ℕ) Refusal} → Draws count before events result after → went_by result ≡ On
+draws_on (drawn len) = refl
+draws_on faulted = refl
+
+pub file_on : {before after : Option ℕ} {events : List Event} {grip : Grip} {result : Result KeyFile Refusal} → ReadsFile grip before events result after → went_by result ≡ On
+file_on (is_key there says) = refl
+file_on (faulty there says) = refl
+file_on (no_file_memory there) = refl
+file_on (unread why) = refl
+
+pub listed_on : {before after : Option ℕ} {events : List Event} {grip : Grip} {result : Result (Option Key) Refusal} → ReadsListed grip before events result after → went_by result ≡ On
+listed_on (part.is_key there says) = refl
+listed_on (part.faulty there says) = refl
+listed_on part.absent = refl
+listed_on (part.no_memory there) = refl
+listed_on (part.unread not_absent why) = refl
+
+pub grips_on : {before after : Option ℕ} {events : List Event} {result : Result (List Grip) Refusal} → ListsGrips before events result after → went_by result ≡ On
+grips_on (listed is) = refl
+grips_on not_listed = refl
+grips_on no_list_memory = refl
+
+pub removes_on : {before after : Option ℕ} {events : List Event} {grip : Grip} {result : Result (Unit {0}) Refusal} → Removes grip before events result after → went_by result ≡ On
+removes_on removed = refl
+removes_on (not_removed why) = refl

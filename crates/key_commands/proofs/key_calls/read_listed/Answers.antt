@@ -1,0 +1,26 @@
+use Rattle.std.proofs.Common.{refl, ◌∙◌}
+use Rattle.agent_ask.specs.Further.{Read}
+use Rattle.agent_ports.specs.declared.keys.KeyRead.TheVariants.{Found, Absent, Failed, NoMemory}
+use Rattle.key_commands.specs.KeyParts.{is_key, absent, unread}
+use Rattle.key_commands.proofs.Doing.{one_call}
+use Rattle.key_commands.proofs.Listing.{unlisted_so}
+use Rattle.key_commands.proofs.key_calls.read_listed.Goals as goal
+
+pub returns-in-Absent : goal.returns-in-Absent
+returns-in-Absent g c = one_call (Read c.args.grip.now Absent) c.in-Absent.ensures (λ held. absent)
+
+pub returns-in-Failed : goal.returns-in-Failed
+returns-in-Failed g c = one_call (Read c.args.grip.now Failed) c.in-Failed.ensures (λ held. unread (λ e. cc e) refl)
+
+pub returns-in-NoMemory : goal.returns-in-NoMemory
+returns-in-NoMemory g c = one_call (Read c.args.grip.now NoMemory) c.in-NoMemory.ensures (λ held. unread (λ e. cc e) refl)
+
+pub returns-in-Ok : goal.returns-in-Ok
+returns-in-Ok g c =
+    let bytes = c.as_slice.ensures ∙ c.from-bytes.ensures in
+    one_call (Read c.args.grip.now (Found c.in-Found.file)) c.in-Found.ensures (λ held. is_key refl (rw bytes at c.in-Ok.ensures.key))
+
+pub returns : goal.returns
+returns g c =
+    let bytes = c.as_slice.ensures ∙ c.from-bytes.ensures in
+    rw c.unlisted.ensures (unlisted_so c.args.grip.now (Found c.in-Found.file) refl c.in-Found.ensures c.in-Err.fault (rw bytes at c.in-Err.ensures.fault))

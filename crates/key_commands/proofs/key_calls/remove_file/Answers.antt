@@ -1,0 +1,7 @@
+use Rattle.agent_ask.specs.Further.{Removed}
+use Rattle.key_commands.specs.KeyParts.{done, not_done}
+use Rattle.key_commands.proofs.Doing.{change_made}
+use Rattle.key_commands.proofs.key_calls.remove_file.Goals as goal
+
+pub returns : goal.returns
+returns g c = change_made (λ answer. Removed c.args.grip.now answer) c.remove.result c.changed.result c.remove.ensures c.changed.ensures (λ held. done) (λ code refused held. not_done refused)

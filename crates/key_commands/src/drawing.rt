@@ -1,0 +1,53 @@
+//! Draws of random bytes, as parts of a request.
+
+ghost use Rattle.std.specs.Prelude.{◌≡◌, IfOk};
+ghost use Rattle.key_commands.specs.Parts.{Draws};
+ghost use Rattle.key_commands.specs.Steps.{DoesDrawing};
+
+use crate::refusal::Refusal;
+use agent_ports::Dice;
+use assuan_server::Code;
+use std::marker::Model;
+use wiping::wipe;
+
+/// Random bytes, which are overwritten when they are dropped. Contracts see them as a list.
+pub struct Drawn<const N: usize> {
+    bytes: [u8; N],
+}
+
+impl<const N: usize> Model for Drawn<N> {
+    ghost use Rattle.std.specs.Prelude.{◌≡◌, ℕ, List, length};
+
+    ghost Value = { List ℕ };
+
+    ghost view = { λ drawn. drawn.bytes };
+
+    ghost invariant = { λ drawn. length drawn.bytes ≡ N };
+}
+
+impl<const N: usize> Drawn<N> {
+    pub(crate) fn bytes(&self) -> &[u8; N]
+        ensures { result.now ≡ self.now }
+    {
+        &self.bytes
+    }
+}
+
+impl<const N: usize> Drop for Drawn<N> {
+    fn drop(self) {
+        let Drawn { mut bytes } = self;
+        wipe(&mut bytes);
+    }
+}
+
+/// Draws `N` random bytes.
+pub(crate) fn draw<const N: usize, R: Dice>(dice: &mut R) -> Result<Drawn<N>, Refusal>
+    ensures { DoesDrawing (Draws N) (R.draws dice.old) result (R.draws dice.new) }
+{
+    let mut drawn = Drawn { bytes: [0; N] };
+    if dice.fill(&mut drawn.bytes) {
+        Ok(drawn)
+    } else {
+        Err(Refusal::Agent(Code::General))
+    }
+}

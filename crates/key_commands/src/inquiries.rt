@@ -1,0 +1,51 @@
+//! What the client is told and asked, as parts of a request.
+
+ghost use Rattle.std.specs.Prelude.{[]};
+ghost use Rattle.assuan_line.specs.Lines.{IsLine};
+ghost use Rattle.assuan_server.specs.Connections.{IsOpen};
+ghost use Rattle.assuan_server.specs.Inquiries.{inquire_text};
+ghost use Rattle.assuan_server.specs.Written.{WritesText};
+ghost use Rattle.cache_policy.specs.declared.secret.TheConstants.{MAX_SECRET_LEN};
+ghost use Rattle.key_commands.specs.Lines.{limit_line};
+ghost use Rattle.key_commands.specs.Parts.{AsksClient, Writes};
+ghost use Rattle.key_commands.specs.Partial.{DoesAtClient};
+
+use crate::refusal::Refusal;
+use agent_ports::{Link, WriteFault};
+use assuan_server::Conn;
+use cache_policy::{MAX_SECRET_LEN, Secret};
+use itoa::Buffer;
+use session_client::{Gone, Unheard};
+
+/// Asks the client for a passphrase by this word. It is told first how many bytes are taken.
+pub(crate) fn ask_client<L: Link>(word: &[u8], conn: &mut Conn<'_, L>) -> Result<Secret, Refusal>
+    requires open { IsOpen conn.old }
+    requires one_line { IsLine (inquire_text word.now []) }
+    ensures { DoesAtClient (AsksClient word.now MAX_SECRET_LEN) conn.old result conn.new }
+{
+    tell_limit(MAX_SECRET_LEN, conn)?;
+    match conn.inquire_secret(word, b"").said() {
+        Ok(secret) => Ok(secret),
+        Err(why) => Err(Refusal::Client(why)),
+    }
+}
+
+/// Tells the client how many bytes are taken of what it is asked for.
+pub(crate) fn tell_limit<L: Link>(limit: usize, conn: &mut Conn<'_, L>) -> Result<(), Refusal>
+    requires { IsOpen conn.old }
+    ensures { DoesAtClient (Writes (limit_line limit)) conn.old result conn.new }
+{
+    match write_limit(limit, conn) {
+        Ok(()) => Ok(()),
+        Err(WriteFault) => Err(Refusal::Client(Unheard::Gone(Gone::WriteFault))),
+    }
+}
+
+#[tactic(auto, using(assuan_server::proofs::Saying::said))]
+fn write_limit<L: Link>(limit: usize, conn: &mut Conn<'_, L>) -> Result<(), WriteFault>
+    ensures { WritesText (limit_line limit) conn.old result conn.new }
+{
+    let mut digits = Buffer::new();
+    conn.status(b"INQUIRE_MAXLEN", digits.format(limit).as_bytes())
+        .whole()
+}

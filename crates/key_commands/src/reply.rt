@@ -1,0 +1,109 @@
+//! What is written for a request, once all else is done for it.
+
+ghost use Rattle.std.specs.Prelude.{◌≡◌, ◌++◌, ℕ, List, length, false};
+ghost use Rattle.assuan_escape.specs.Escapes.{hex_text};
+ghost use Rattle.assuan_server.specs.Written.{WritesText};
+ghost use Rattle.assuan_text.specs.LineEnds.{has_lf};
+ghost use Rattle.key_commands.specs.Lines.{ok, nonce_line, IsDataAnswer};
+ghost use Rattle.key_commands.specs.Parts.{refusal_line, refusal_went};
+ghost use Rattle.key_commands.specs.Replies.{IsReply, WritesLine, RespondsTo, went_unless_cut};
+
+use crate::refusal::Refusal;
+use crate::texts::write_info;
+use crate::went::KeyWent;
+use agent_ports::{Grip, Link, WriteFault};
+use assuan_escape::upper_hex;
+use assuan_server::{Code, Conn, Origin};
+use session_client::{Gone, Unheard};
+use sexp_canonical::Bytes;
+
+/// What a request is answered where it isn't refused.
+#[derive(Drop)]
+pub(crate) enum Reply {
+    Ok,
+    /// What is known of a key: whether its passphrase is cached, and whether its file is clear.
+    Info {
+        grip: Grip,
+        cached: bool,
+        clear: bool,
+    },
+    /// Bytes by data lines, which are overwritten.
+    Data(Bytes),
+    /// The nonce under which a passphrase was cached.
+    Nonce([u8; 12]),
+}
+
+/// Writes the reply of a request, or how it is refused, and says how the session goes on.
+pub(crate) fn respond<L: Link>(reply: &Result<Reply, Refusal>, conn: &mut Conn<'_, L>) -> KeyWent
+    ensures { RespondsTo conn.old reply.now result conn.new }
+{
+    match reply {
+        Ok(reply) => went_unless_cut(KeyWent::On, write_reply(reply, conn)),
+        Err(why) => went_unless_cut(went_after(*why), write_refusal(*why, conn)),
+    }
+}
+
+/// How a session goes on whose last write came to this: where it was whole, as it would go on.
+fn went_unless_cut(whole: KeyWent, written: Result<(), WriteFault>) -> KeyWent
+    ensures { result ≡ went_unless_cut whole written }
+{
+    match written {
+        Ok(()) => whole,
+        Err(WriteFault) => KeyWent::Gone(Gone::WriteFault),
+    }
+}
+
+/// Writes a reply.
+fn write_reply<L: Link>(reply: &Reply, conn: &mut Conn<'_, L>) -> Result<(), WriteFault>
+    ensures { (text : List ℕ) × IsReply reply.now text × WritesText text conn.old result conn.new }
+{
+    match reply {
+        Reply::Ok => conn.ok(b"").whole(),
+        Reply::Info {
+            grip,
+            cached,
+            clear,
+        } => {
+            write_info(conn, grip, *cached, *clear)?;
+            conn.ok(b"").whole()
+        }
+        Reply::Data(bytes) => conn.last_data(bytes.as_slice()).whole(),
+        Reply::Nonce(nonce) => {
+            write_nonce(nonce, conn)?;
+            conn.ok(b"").whole()
+        }
+    }
+}
+
+/// Writes the nonce under which a passphrase was cached.
+#[tactic(auto, using(assuan_server::proofs::Saying::said))]
+fn write_nonce<L: Link>(nonce: &[u8; 12], conn: &mut Conn<'_, L>) -> Result<(), WriteFault>
+    ensures { WritesText (nonce_line (hex_text nonce.now)) conn.old result conn.new }
+{
+    conn.status(b"CACHE_NONCE", &upper_hex(nonce)).whole()
+}
+
+/// Writes the line of a refusal, where there is one.
+fn write_refusal<L: Link>(why: Refusal, conn: &mut Conn<'_, L>) -> Result<(), WriteFault>
+    ensures { WritesLine (refusal_line why) conn.old result conn.new }
+{
+    let (code, origin) = match why {
+        Refusal::Agent(code) => (code, Origin::Agent),
+        Refusal::Pinentry(code) => (code, Origin::Pinentry),
+        Refusal::Client(why) => match Code::refusing(why) {
+            Some(code) => (code, Origin::Agent),
+            None => return Ok(()),
+        },
+    };
+    conn.err(code, origin).whole()
+}
+
+/// How a session goes on after a refusal.
+fn went_after(why: Refusal) -> KeyWent
+    ensures { result ≡ refusal_went why }
+{
+    match why {
+        Refusal::Client(Unheard::Gone(gone)) => KeyWent::Gone(gone),
+        _ => KeyWent::On,
+    }
+}
