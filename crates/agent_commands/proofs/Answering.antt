@@ -59,7 +59,7 @@ module _ {w : World} (exchange : OptionValues → List (Event w.Further) → Opt
         faults = record { read = λ e. absurd (cc e); write = λ e. omega (arith, prepared.done.output_faults, stops.rose) };
       }
 
-module _ {w : World} (exchange : OptionValues → List (Event w.Further) → OptionValues → Went → Type 0) (before after : OptionValues) (start : SessionState w) (now : Connection) (text : List ℕ)
+module _ {w : World} {S : Type 0} (exchange : S → List (Event w.Further) → S → Went → Type 0) (before after : S) (start : SessionState w) (now : Connection) (text : List ℕ)
     (on : exchange before (Sent text ∷ []) after On) where
   -- nothing is done but to write one text, and the session goes on
   pub answered_text : start.conn.reader.ended ≡ None → WritesText text start.conn (Ok tt) now → AnswersRequest exchange before start On after (record start { conn = now })

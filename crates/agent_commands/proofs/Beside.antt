@@ -1,43 +1,50 @@
--- What is done without the prompter, with it beside.
+-- What is done at some further ends, with others beside them.
 use Rattle.std.proofs.Common.{List}
 use Rattle.agent_ask.specs.Events.{Call}
-use Rattle.agent_ask.specs.Further.{FurtherEvent}
+use Rattle.agent_ask.specs.Further.{FurtherEvent, world_with}
 use Rattle.agent_ask.proofs.Beside.{done_beside}
 use Rattle.cache_policy.specs.declared.mark.MarkStep.{MarkStep}
 use Rattle.cache_policy.specs.Turns.{Turn}
-use Rattle.session_options.specs.OptionValues.{OptionValues}
 use Rattle.agent_commands.specs.Events.{Event}
 use Rattle.agent_commands.specs.Outside.{world, prompt_world, DoesPrompts}
-use Rattle.agent_commands.specs.States.{SessionState, prompt_state, EventsLead, AnswersRequest}
+use Rattle.agent_commands.specs.States.{SessionState, prompt_state, AnswersRequest}
 use Rattle.agent_commands.specs.Steps.{Carries}
+use Rattle.agent_commands.specs.Talks.{WholeOrCut, whole, cut}
 use Rattle.agent_commands.specs.declared.answer.Answer.{Answer}
 use Rattle.agent_commands.specs.declared.went.Went.{Went}
 
-module _ {D P : Type 0} (turned : D → MarkStep → Turn → D → Type 0) (prompted : P → Call → P → Type 0) (prompter : P) where
-  abbrev state_beside : SessionState (world turned) → SessionState (prompt_world turned prompted)
-  state_beside state = prompt_state turned prompted state.conn state.desk prompter
+-- an exchange that is one of another relation too
+pub exchange_as : {S T : Type 0} {exchange : S → List (Event FurtherEvent) → S → Went → Type 0} {other : T → List (Event FurtherEvent) → T → Went → Type 0} {before after : S} {from to : T}
+    → ((events : List (Event FurtherEvent)) (went : Went) → exchange before events after went → other from events to went)
+    → {events : List (Event FurtherEvent)} {went : Went} → WholeOrCut exchange before events after went → WholeOrCut other from events to went
+exchange_as same (whole exchanged) = whole (same _ _ exchanged)
+exchange_as same (cut exchanged last) = cut (same _ _ exchanged) last
 
-  events_beside : {events : List (Event FurtherEvent)} {start now : SessionState (world turned)} → EventsLead {w = world turned} events start now
-      → EventsLead {w = prompt_world turned prompted} events (state_beside start) (state_beside now)
-  events_beside done = done_beside turned (λ before what after. ⊥) (DoesPrompts prompted) (λ none. prompter) (λ before after what never. absurd never) done
+module _ {D E Whole : Type 0} (turned : D → MarkStep → Turn → D → Type 0) (does : E → FurtherEvent → E → Type 0) (whole_does : Whole → FurtherEvent → Whole → Type 0)
+    (put : E → Whole) (each : (before after : E) (what : FurtherEvent) → does before what after → whole_does (put before) what (put after)) where
+  abbrev pub state_beside : SessionState (world_with turned does) → SessionState (world_with turned whole_does)
+  state_beside state = record { conn = state.conn; desk = state.desk; ends = put state.ends }
 
-  pub carry_beside : {part : List (Event FurtherEvent) → Went → Type 0} {start now : SessionState (world turned)} {answer : Answer} → Carries {w = world turned} part start answer now
-      → Carries {w = prompt_world turned prompted} part (state_beside start) answer (state_beside now)
-  carry_beside done = record {
+  pub answers_beside : {S T : Type 0} {exchange : S → List (Event FurtherEvent) → S → Went → Type 0} {other : T → List (Event FurtherEvent) → T → Went → Type 0} {before after : S} {from to : T}
+      {start now : SessionState (world_with turned does)} {went : Went} → ((events : List (Event FurtherEvent)) (went : Went) → exchange before events after went → other from events to went)
+      → AnswersRequest {w = world_with turned does} exchange before start went after now
+      → AnswersRequest {w = world_with turned whole_does} other from (state_beside start) went to (state_beside now)
+  answers_beside same done = record {
     events = done.events;
-    exchanges = done.exchanges;
-    done = events_beside done.done;
+    exchanges = exchange_as same done.exchanges;
+    done = done_beside turned does whole_does put each done.done;
     fits = done.fits;
     faults = record { read = done.faults.read; write = done.faults.write };
   }
 
-  pub answered_beside : {exchange : OptionValues → List (Event FurtherEvent) → OptionValues → Went → Type 0} {before after : OptionValues} {start now : SessionState (world turned)} {went : Went}
-      → AnswersRequest {w = world turned} exchange before start went after now
-      → AnswersRequest {w = prompt_world turned prompted} exchange before (state_beside start) went after (state_beside now)
-  answered_beside done = record {
-    events = done.events;
-    exchanges = done.exchanges;
-    done = events_beside done.done;
-    fits = done.fits;
-    faults = record { read = done.faults.read; write = done.faults.write };
-  }
+-- a part that was done without the prompter, with it beside
+pub carry_beside : {D P : Type 0} (turned : D → MarkStep → Turn → D → Type 0) (prompted : P → Call → P → Type 0) (prompter : P) {part : List (Event FurtherEvent) → Went → Type 0}
+    {start now : SessionState (world turned)} {answer : Answer} → Carries {w = world turned} part start answer now
+    → Carries {w = prompt_world turned prompted} part (prompt_state turned prompted start.conn start.desk prompter) answer (prompt_state turned prompted now.conn now.desk prompter)
+carry_beside turned prompted prompter done = record {
+  events = done.events;
+  exchanges = done.exchanges;
+  done = done_beside turned (λ before what after. ⊥) (DoesPrompts prompted) (λ none. prompter) (λ before after what never. absurd never) done.done;
+  fits = done.fits;
+  faults = record { read = done.faults.read; write = done.faults.write };
+}

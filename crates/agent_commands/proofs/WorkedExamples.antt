@@ -60,6 +60,10 @@ listed_pair : request_of (codes "GETINFO cmd_has_option PRESET_PASSPHRASE inquir
 unfolding request_of command_named info_named is_listed
 listed_pair = refl
 
+listed_key_pair : request_of (codes "GETINFO cmd_has_option PASSWD verify") ≡ Cache (GetInfo Listed)
+unfolding request_of command_named info_named is_listed
+listed_key_pair = refl
+
 half_a_pair : request_of (codes "GETINFO cmd_has_option FOO") ≡ Bad Parameter
 unfolding request_of command_named info_named
 half_a_pair = refl

@@ -16,9 +16,13 @@ ok = line_of (ok_text [])
 abbrev pub closing : List ℕ
 closing = line_of (ok_text (codes "closing connection"))
 
--- a comment for each command
+-- a comment for each of these names
+abbrev pub comments : List (List ℕ) → List ℕ
+comments names = flat_map (λ name. line_of (comment_text name)) names
+
+-- and for each command
 abbrev pub help : List ℕ
-help = flat_map (λ name. line_of (comment_text name)) command_names ++ ok
+help = comments command_names ++ ok
 
 -- these bytes as data lines
 pub record IsDataAnswer (bytes text : List ℕ) : Type 0 where

@@ -52,7 +52,7 @@ use Rattle.agent_commands.specs.declared.request.CacheCommand.TheVariants.{Nop, 
 use Rattle.agent_commands.specs.declared.request.Info.{Info}
 use Rattle.agent_commands.specs.declared.request.QuietRequest.{QuietRequest}
 use Rattle.agent_commands.specs.declared.request.Request.{Request}
-use Rattle.agent_commands.specs.declared.request.Request.TheVariants.{Cache, Key, Bad}
+use Rattle.agent_commands.specs.declared.request.Request.TheVariants.{Cache, Bad}
 use Rattle.agent_commands.specs.declared.request.Texts.{Texts}
 use Rattle.agent_commands.specs.declared.went.SessionEnd.TheVariants as ends
 use Rattle.agent_commands.specs.declared.went.Went.{Went}
@@ -190,12 +190,10 @@ refusal_of mode.Cancel = Some code.Cancelled
 refusal_of mode.Error = Some code.NoPinentry
 refusal_of mode.Loopback = Some code.NoPinentry
 
--- A request: the option values before it, what the session does for it, the values after it, and how the session
--- goes on.
+-- A request on the cache or on the session, or a line that is refused: the option values before it, what the session does for it, the values after
+-- it, and how the session goes on. What is done for a command on keys is said elsewhere.
 pub data Exchange (rules : Rules) (before : OptionValues) : Request → List (Event FurtherEvent) → OptionValues → Went → Type 0 where
   refused : {code : Code} → Exchange rules before (Bad code) (Sent (failed code) ∷ []) before On
-  -- no command on keys is carried out yet
-  key : {line : ArrayVec ℕ} → Exchange rules before (Key line) (Sent (failed code.UnknownCommand) ∷ []) before On
   nop : Exchange rules before (Cache Nop) (Sent ok ∷ []) before On
   -- what the rules said stays
   reset : Exchange rules before (Cache Reset) (Sent ok ∷ []) (at_start before.rules_count before.allow_loopback) On

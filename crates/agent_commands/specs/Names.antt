@@ -1,6 +1,6 @@
 -- The names that requests have (GnuPG manual, "Agent's Assuan protocol"; the commands of any Assuan server are those of the
 -- Assuan manual, "client requests").
-use Rattle.std.specs.Prelude.{ℕ, Bool, List, [], ◌∷◌, codes, map, Option}
+use Rattle.std.specs.Prelude.{ℕ, Bool, List, [], ◌∷◌, ◌++◌, codes, map, Option}
 use Rattle.std.specs.Option.{is_some}
 use Rattle.assuan_text.specs.Rows.{found, found_in_any_case, has_pair}
 use Rattle.agent_commands.specs.declared.names.CommandName.{CommandName}
@@ -24,10 +24,6 @@ commands =
     ∷ (codes "KILLAGENT", KillAgent)
     ∷ []
 
--- their names, in this order
-abbrev pub command_names : List (List ℕ)
-command_names = map (λ row. row.0) commands
-
 -- the command of this name, whatever the case of its letters
 unfoldable pub command_named : List ℕ → Option CommandName
 command_named word = found_in_any_case word commands
@@ -43,6 +39,10 @@ key_commands =
     ∷ (codes "PASSWD", tt)
     ∷ (codes "DELETE_KEY", tt)
     ∷ []
+
+-- the names of all of them, in this order
+abbrev pub command_names : List (List ℕ)
+command_names = map (λ row. row.0) commands ++ map (λ row. row.0) key_commands
 
 unfoldable pub is_key_command : List ℕ → Bool
 is_key_command word = is_some (found_in_any_case word key_commands)
@@ -68,6 +68,15 @@ listed =
     ∷ (codes "GET_PASSPHRASE", codes "qualitybar")
     ∷ (codes "PRESET_PASSPHRASE", codes "inquire")
     ∷ (codes "CLEAR_PASSPHRASE", codes "mode")
+    ∷ (codes "KEYINFO", codes "list")
+    ∷ (codes "KEYWRAP_KEY", codes "import")
+    ∷ (codes "KEYWRAP_KEY", codes "export")
+    ∷ (codes "IMPORT_KEY", codes "force")
+    ∷ (codes "EXPORT_KEY", codes "cache-nonce")
+    ∷ (codes "PASSWD", codes "cache-nonce")
+    ∷ (codes "PASSWD", codes "passwd-nonce")
+    ∷ (codes "PASSWD", codes "verify")
+    ∷ (codes "DELETE_KEY", codes "force")
     ∷ []
 
 -- both are listed so, byte for byte

@@ -11,7 +11,6 @@ use Rattle.cache_policy.specs.declared.mark.MarkStep.{MarkStep}
 use Rattle.cache_policy.specs.Turns.{Turn}
 use Rattle.session_client.specs.Asking.{HasEnded}
 use Rattle.session_client.specs.declared.unheard.Gone.{Gone}
-use Rattle.session_options.specs.OptionValues.{OptionValues}
 use Rattle.agent_commands.specs.Endings.{gone_of}
 use Rattle.agent_commands.specs.Events.{Event}
 use Rattle.agent_commands.specs.Outside.{World, world, prompt_world}
@@ -51,9 +50,9 @@ pub record FaultsRise {w : World} (went : Went) (start now : SessionState w) : T
   pub read : went ≡ End ReadFault → Rose start.conn.input.faults now.conn.input.faults
   pub write : went ≡ End WriteFault → Rose start.conn.output.faults now.conn.output.faults
 
--- a request was answered, whole or in part
-pub record AnswersRequest {w : World} (exchange : OptionValues → List (Event w.Further) → OptionValues → Went → Type 0)
-    (before : OptionValues) (start : SessionState w) (went : Went) (after : OptionValues) (now : SessionState w) : Type 0 where
+-- a request was answered, whole or in part, whatever is kept between requests
+pub record AnswersRequest {w : World} {S : Type 0} (exchange : S → List (Event w.Further) → S → Went → Type 0)
+    (before : S) (start : SessionState w) (went : Went) (after : S) (now : SessionState w) : Type 0 where
   pub events : List (Event w.Further)
   pub exchanges : WholeOrCut exchange before events after went
   pub done : EventsLead events start now

@@ -1,6 +1,6 @@
 ghost use Rattle.std.specs.Prelude.{◌≡◌, map};
-ghost use Rattle.agent_commands.specs.declared.names.TheConstants.{COMMANDS};
-ghost use Rattle.agent_commands.specs.Names.{commands, command_named, is_key_command, info_named, is_listed};
+ghost use Rattle.agent_commands.specs.declared.names.TheConstants.{COMMANDS, KEY_COMMANDS};
+ghost use Rattle.agent_commands.specs.Names.{commands, key_commands, command_named, is_key_command, info_named, is_listed};
 
 use crate::Info;
 use assuan_text::{found, found_in_any_case, has_pair};
@@ -22,7 +22,7 @@ pub enum CommandName {
     KillAgent,
 }
 
-/// The commands by their names, in the order in which HELP tells them.
+/// The commands on the cache by their names, in the order in which HELP tells them.
 pub const COMMANDS: [(&[u8], CommandName); 12] = [
     (b"NOP", CommandName::Nop),
     (b"RESET", CommandName::Reset),
@@ -38,8 +38,8 @@ pub const COMMANDS: [(&[u8], CommandName); 12] = [
     (b"KILLAGENT", CommandName::KillAgent),
 ];
 
-/// The commands on keys. None is carried out yet, and HELP leaves them out.
-const KEY_COMMANDS: [(&[u8], ()); 7] = [
+/// The commands on keys, which HELP tells behind those on the cache, in this order.
+pub const KEY_COMMANDS: [(&[u8], ()); 7] = [
     (b"HAVEKEY", ()),
     (b"KEYINFO", ()),
     (b"KEYWRAP_KEY", ()),
@@ -49,9 +49,10 @@ const KEY_COMMANDS: [(&[u8], ()); 7] = [
     (b"DELETE_KEY", ()),
 ];
 
-/// A law: `COMMANDS` has the names as they are defined, in this order.
+/// A law: `COMMANDS` and `KEY_COMMANDS` have the names as they are defined, in this order.
 pub fn commands_are_as_defined()
-    ensures { map (λ row. (row.0.now, row.1)) COMMANDS ≡ commands }
+    ensures cache { map (λ row. (row.0.now, row.1)) COMMANDS ≡ commands }
+    ensures keys { map (λ row. (row.0.now, row.1)) KEY_COMMANDS ≡ key_commands }
 {}
 
 /// What GETINFO can be asked for by one word.
@@ -64,7 +65,7 @@ const INFOS: [(&[u8], Info); 3] = [
 /// The word of GETINFO before a command and an option.
 pub(crate) const HAS_OPTION: &[u8] = b"cmd_has_option";
 
-const LISTED: [(&[u8], &[u8]); 7] = [
+const LISTED: [(&[u8], &[u8]); 16] = [
     (b"GET_PASSPHRASE", b"data"),
     (b"GET_PASSPHRASE", b"check"),
     (b"GET_PASSPHRASE", b"no-ask"),
@@ -72,6 +73,15 @@ const LISTED: [(&[u8], &[u8]); 7] = [
     (b"GET_PASSPHRASE", b"qualitybar"),
     (b"PRESET_PASSPHRASE", b"inquire"),
     (b"CLEAR_PASSPHRASE", b"mode"),
+    (b"KEYINFO", b"list"),
+    (b"KEYWRAP_KEY", b"import"),
+    (b"KEYWRAP_KEY", b"export"),
+    (b"IMPORT_KEY", b"force"),
+    (b"EXPORT_KEY", b"cache-nonce"),
+    (b"PASSWD", b"cache-nonce"),
+    (b"PASSWD", b"passwd-nonce"),
+    (b"PASSWD", b"verify"),
+    (b"DELETE_KEY", b"force"),
 ];
 
 /// The command of this name, whatever the case of its letters.

@@ -1,14 +1,13 @@
-ghost use Rattle.std.specs.Prelude.{◌≡◌, ◌++◌, ℕ, List};
-ghost use Rattle.std.specs.List.{flat_map};
+ghost use Rattle.std.specs.Prelude.{◌≡◌, ◌++◌, ℕ, List, All, map};
+ghost use Rattle.assuan_line.specs.Lines.{IsLine};
 ghost use Rattle.assuan_text.specs.LineEnds.{line_of};
 ghost use Rattle.assuan_escape.specs.Escapes.{hex_text};
 ghost use Rattle.assuan_server.specs.Written.{comment_text, ok_text};
-ghost use Rattle.agent_commands.specs.Names.{command_names};
-ghost use Rattle.agent_commands.specs.Answers.{IsDataAnswer, IsPassphrase, help};
+ghost use Rattle.agent_commands.specs.Answers.{IsDataAnswer, IsPassphrase, comments, help};
 ghost use Rattle.assuan_server.specs.Written.{WritesText};
 ghost use Rattle.agent_commands.specs.Steps.{IsText};
 
-use crate::COMMANDS;
+use crate::{COMMANDS, KEY_COMMANDS};
 use agent_ports::{Link, WriteFault};
 use assuan_escape::upper_hex;
 use assuan_server::{Code, Conn, Origin};
@@ -99,8 +98,18 @@ fn write_digits<L: Link>(conn: &mut Conn<'_, L>, secret: &Secret) -> Result<(), 
 fn write_help<L: Link>(conn: &mut Conn<'_, L>) -> Result<(), WriteFault>
     ensures { WritesText help conn.old result conn.new }
 {
-    for (name, _) in COMMANDS {
+    write_names(conn, &COMMANDS)?;
+    write_names(conn, &KEY_COMMANDS)?;
+    conn.ok(b"").whole()
+}
+
+/// Writes a comment for each row of a table, with its name.
+fn write_names<L: Link, T>(conn: &mut Conn<'_, L>, rows: &[(&[u8], T)]) -> Result<(), WriteFault>
+    requires { All (λ row. IsLine (comment_text row.0.now)) rows.now }
+    ensures { WritesText (comments (map (λ row. row.0.now) rows.now)) conn.old result conn.new }
+{
+    for (name, _) in rows {
         conn.comment(name).whole()?;
     }
-    conn.ok(b"").whole()
+    Ok(())
 }

@@ -1,23 +1,28 @@
-use Rattle.std.proofs.Common.{◌≡◌, arith}
 use Rattle.std.proofs.lemmas.Result.{err_from_is_err_and}
-use Rattle.agent_commands.specs.Answers.{ok}
-use Rattle.agent_commands.proofs.Helping.{one_more, stopped}
-use Rattle.assuan_server.proofs.Saying.{said, said_nothing, said_then}
+use Rattle.std.proofs.Common.{ℕ, List, ◌++◌, map}
+use Rattle.agent_commands.specs.Answers.{ok, comments}
+use Rattle.agent_commands.specs.declared.names.TheConstants.{COMMANDS, KEY_COMMANDS}
+use Rattle.assuan_server.proofs.Saying.{said, said_then, said_first}
 use Rattle.agent_commands.proofs.response.write_help.Goals as goal
 
-pub loop-name-init : goal.loop-name-init
-loop-name-init g c = said_nothing c.args.conn.now
+abbrev cache_lines : List ℕ
+cache_lines = comments (map (λ row. row.0.now) COMMANDS)
 
-pub returns-in_err-whole : goal.returns-in_err-whole
-returns-in_err-whole g c =
+abbrev key_lines : List ℕ
+key_lines = comments (map (λ row. row.0.now) KEY_COMMANDS)
+
+pub returns-in_err-write_names : goal.returns-in_err-write_names
+returns-in_err-write_names g c =
     let p = err_from_is_err_and c.from_residual.result c.from_residual.ensures.1 in
-    rw p.1 (stopped _ c.loop-name.name-index _ (omega arith) _ _ _ c.loop-name.invariant _ (said c.in_err-whole.ensures c.comment.ensures))
+    rw p.1 (said_first cache_lines (key_lines ++ ok) _ _ _ (rw c.in_err-write_names.was at c.write_names.ensures))
 
-pub loop-name-preserved : goal.loop-name-preserved
-loop-name-preserved g c =
-    one_more _ c.loop-name.name-index _ (omega arith) _ _ _ c.loop-name.invariant (said c.in_ok-whole.ensures c.comment.ensures)
+pub returns-in_err-write_names-2 : goal.returns-in_err-write_names-2
+returns-in_err-write_names-2 g c =
+    let p = err_from_is_err_and c.from_residual-in_err-write_names-2.result c.from_residual-in_err-write_names-2.ensures.1 in
+    rw p.1 (said_then cache_lines (key_lines ++ ok) _ _ _ _ (rw c.in_ok-write_names.was at c.write_names.ensures)
+    (said_first key_lines ok _ _ _ (rw c.in_err-write_names-2.was at c.write_names-2.ensures)))
 
 pub returns : goal.returns
 returns g c =
-    let all : c.loop-name.name-index ≡ 12 = omega (arith, c.loop-name.auto.name-index-end, c.loop-name-test.false) in
-    said_then _ ok _ c.loop-name.conn _ _ (rw all at c.loop-name.invariant) (said c.whole-2.ensures c.ok.ensures)
+    said_then cache_lines (key_lines ++ ok) _ _ _ _ (rw c.in_ok-write_names.was at c.write_names.ensures)
+    (said_then key_lines ok _ _ _ _ (rw c.in_ok-write_names-2.was at c.write_names-2.ensures) (said c.whole.ensures c.ok.ensures))
