@@ -1,7 +1,9 @@
 ghost use Rattle.std.specs.Prelude.{◌≡◌, None};
 
-/// The wrapping keys of a session, where they were drawn (RFC 3394). They stay as they are until its end.
-#[derive(Drop)]
+use wiping::wipe;
+
+/// The wrapping keys of a session, where they were drawn (RFC 3394). They stay as they are until its end, and are overwritten when they are
+/// dropped.
 pub struct WrapKeys {
     /// Under which keys come into the agent.
     pub import: Option<[u8; 16]>,
@@ -17,6 +19,21 @@ impl WrapKeys {
         WrapKeys {
             import: None,
             export: None,
+        }
+    }
+}
+
+impl Drop for WrapKeys {
+    fn drop(self) {
+        let WrapKeys {
+            mut import,
+            mut export,
+        } = self;
+        if let Some(key) = &mut import {
+            wipe(key);
+        }
+        if let Some(key) = &mut export {
+            wipe(key);
         }
     }
 }
