@@ -1,3 +1,4 @@
+mod Beside
 mod Meeting
 mod Serving
 pub mod Turning

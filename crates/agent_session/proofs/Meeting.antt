@@ -9,7 +9,6 @@ use Rattle.assuan_line.specs.Next.{Reader}
 use Rattle.assuan_server.specs.Connections.{Connection}
 use Rattle.assuan_server.specs.Written.{greeting}
 use Rattle.assuan_text.specs.LineEnds.{line_of}
-use Rattle.session_options.specs.OptionValues.{OptionValues}
 use Rattle.agent_commands.specs.Events.{Event}
 use Rattle.agent_ask.specs.SessionEvents.{Sent, Cut}
 use Rattle.agent_commands.specs.Outside.{World}
@@ -76,7 +75,7 @@ taken_known reader None (Some left) known total = known
 taken_known reader (Some bytes) None known total = known
 taken_known reader (Some bytes) (Some left) known total = omega (arith, total)
 
-module _ {w : World} (exchange : LineRelation w) (before : OptionValues) (start : SessionState w) (new : start.conn.reader ≡ fresh) where
+module _ {w : World} {S : Type 0} (exchange : LineRelation w S) (before : S) (start : SessionState w) (new : start.conn.reader ≡ fresh) where
   -- what was done, from the first byte on
   module _ (last : SessionState w) (events : List (Event w.Further)) (done : EventsLead events start last) where
     abbrev from_start : Option (List ℕ) → Type 0

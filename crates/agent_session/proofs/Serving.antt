@@ -8,7 +8,6 @@ use Rattle.assuan_server.specs.Connections.{Connection}
 use Rattle.assuan_server.specs.Requests.{NextRequest}
 use Rattle.assuan_server.specs.declared.errors.Code.{Code}
 use Rattle.assuan_server.specs.declared.errors.Code.TheVariants.{LineTooLong}
-use Rattle.session_options.specs.OptionValues.{OptionValues}
 use Rattle.assuan_server.specs.Written.{failed}
 use Rattle.agent_commands.specs.Events.{Event}
 use Rattle.agent_ask.specs.SessionEvents.{Received, Sent, Cut}
@@ -53,20 +52,20 @@ leaves ends.WriteFault before after left is = leaves_part after left
 leaves_all : (reader : Reader) (took : Took) → reader.ended ≡ Some took → (left : List ℕ) → unread reader left ≡ left
 leaves_all reader took is left = rw is refl
 
-module _ {w : World} (exchange : LineRelation w) (before : OptionValues) (start : SessionState w) where
+module _ {w : World} {S : Type 0} (exchange : LineRelation w S) (before : S) (start : SessionState w) where
   -- How a session stands between two requests: whatever it does from there on completes what it did so far.
-  pub record IsServing (now : SessionState w) (options : OptionValues) : Type 0 where
+  pub record IsServing (now : SessionState w) (kept : S) : Type 0 where
     pub events : List (Event w.Further)
     pub done : EventsLead events start now
-    pub continues : (more : List (Event w.Further)) (end : SessionEnd) → Talk exchange options more end → Talk exchange before (events ++ more) end
+    pub continues : (more : List (Event w.Further)) (end : SessionEnd) → Talk exchange kept more end → Talk exchange before (events ++ more) end
 
   pub serves_none : IsServing start before
   serves_none = record { events = []; done = done_none start; continues = λ more end talk. talk }
 
-  module _ (now : SessionState w) (options : OptionValues) (serving : IsServing now options) where
+  module _ (now : SessionState w) (kept : S) (serving : IsServing now kept) where
     -- the session's end, after these events more
     finishes : (last : SessionState w) (more : List (Event w.Further)) (end : SessionEnd) → EventsLead more now last
-        → Talk exchange options more end → ((left : List ℕ) → Leaves end (unread last.conn.reader left) left)
+        → Talk exchange kept more end → ((left : List ℕ) → Leaves end (unread last.conn.reader left) left)
         → FaultsRise (End end) now last → ServesRequests exchange before start end last
     finishes last more end done talk leaves_so faults = record {
       events = serving.events ++ more;
@@ -90,8 +89,8 @@ module _ {w : World} (exchange : LineRelation w) (before : OptionValues) (start 
       received_as : (took : Took) → answer ≡ took → EventsLead {w = w} (Received took ∷ []) now read
       received_as took is = subst (λ t. EventsLead {w = w} (Received t ∷ []) now read) is received
 
-      module _ (line : List ℕ) (is : answer ≡ took.Line line) (after : OptionValues) (last : SessionState w) where
-        pub serves_on : AnswersRequest {w = w} (λ kept. exchange kept line) options read On after last → IsServing last after
+      module _ (line : List ℕ) (is : answer ≡ took.Line line) (after : S) (last : SessionState w) where
+        pub serves_on : AnswersRequest {w = w} (λ k. exchange k line) kept read On after last → IsServing last after
         serves_on answered = record {
           events = serving.events ++ (Received (took.Line line) ∷ answered.events);
           done = done_then serving.done (done_then (received_as (took.Line line) is) answered.done);
@@ -100,7 +99,7 @@ module _ {w : World} (exchange : LineRelation w) (before : OptionValues) (start 
               (serving.continues (Received (took.Line line) ∷ (answered.events ++ more)) end (goes_on line answered.exchanges talk));
         }
 
-        pub is_over : (end : SessionEnd) → AnswersRequest {w = w} (λ kept. exchange kept line) options read (End end) after last
+        pub is_over : (end : SessionEnd) → AnswersRequest {w = w} (λ k. exchange k line) kept read (End end) after last
             → ServesRequests exchange before start end last
         is_over end answered =
             finishes last (Received (took.Line line) ∷ answered.events) end (done_then (received_as (took.Line line) is) answered.done)
@@ -155,7 +154,7 @@ module _ {w : World} (exchange : LineRelation w) (before : OptionValues) (start 
             (leaves_part last.reader) (record { read = λ e. absurd (cc e); write = λ e. omega (arith, received.output_faults, stopped.rose) })
 
 -- a request was refused
-pub refused_so : {w : World} (exchange : OptionValues → List (Event w.Further) → OptionValues → Went → Type 0) (before : OptionValues) {code : Code} (start : SessionState w)
+pub refused_so : {w : World} {S : Type 0} (exchange : S → List (Event w.Further) → S → Went → Type 0) (before : S) {code : Code} (start : SessionState w)
     (now : Connection) {went : Went} → exchange before (Sent (failed code) ∷ []) before On → start.conn.reader.ended ≡ None → Refuses code start.conn went now
     → AnswersRequest exchange before start went before (record start { conn = now })
 refused_so exchange before {code} start now on going (whole said) = answered_text exchange before before start now (failed code) on going said

@@ -2,7 +2,6 @@
 use Rattle.std.specs.Prelude.{◌≡◌, ℕ, List, Ok as Whole, Err as Part}
 use Rattle.assuan_server.specs.Connections.{Connection}
 use Rattle.assuan_server.specs.declared.errors.Code.{Code}
-use Rattle.session_options.specs.OptionValues.{OptionValues}
 use Rattle.agent_commands.specs.Events.{Event}
 use Rattle.agent_commands.specs.Outside.{World}
 use Rattle.assuan_server.specs.Written.{failed}
@@ -18,7 +17,7 @@ use Rattle.agent_commands.specs.declared.went.Went.TheVariants.{On, End}
 use Rattle.agent_session.specs.Sessions.{Surroundings, Leaves, LineRelation, ServesSession}
 
 -- the requests of a session were answered up to its end
-pub record ServesRequests {w : World} (exchange : LineRelation w) (before : OptionValues) (start : SessionState w) (end : SessionEnd) (now : SessionState w) : Type 0 where
+pub record ServesRequests {w : World} {S : Type 0} (exchange : LineRelation w S) (before : S) (start : SessionState w) (end : SessionEnd) (now : SessionState w) : Type 0 where
   pub events : List (Event w.Further)
   pub talk : Talk exchange before events end
   pub done : EventsLead events start now
@@ -35,6 +34,6 @@ abbrev pub around : {w : World} → SessionState w → Surroundings w
 around state = record { input = state.conn.input; output = state.conn.output; desk = state.desk; ends = state.ends }
 
 -- a session was served on a connection, from its greeting on
-pub record ServesConn {w : World} (exchange : LineRelation w) (before : OptionValues) (start : SessionState w) (end : SessionEnd) (now : SessionState w) : Type 0 where
+pub record ServesConn {w : World} {S : Type 0} (exchange : LineRelation w S) (before : S) (start : SessionState w) (end : SessionEnd) (now : SessionState w) : Type 0 where
   pub served : ServesSession exchange before (around start) end (around now)
   pub link : now.conn.link ≡ start.conn.link

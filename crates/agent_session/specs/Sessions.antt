@@ -3,22 +3,23 @@ use Rattle.std.specs.Prelude.{◌≡◌, ◌≤◌, ◌+◌, ℕ, List, [], ◌�
 use Rattle.std.specs.Option.{option_map_or}
 use Rattle.agent_ask.specs.Events.{Call}
 use Rattle.agent_ports.specs.Counts.{Rose}
+use Rattle.agent_ports.specs.KeyFiles.{KeyFiles}
 use Rattle.agent_ports.specs.Leads.{Leads}
 use Rattle.agent_ports.specs.Sides.{Side, WhereKnown}
 use Rattle.cache_policy.specs.declared.mark.MarkStep.{MarkStep}
 use Rattle.cache_policy.specs.Turns.{Turn}
-use Rattle.session_options.specs.OptionValues.{OptionValues, at_start}
 use Rattle.session_options.specs.declared.rules.Rules.{Rules}
 use Rattle.agent_commands.specs.Events.{Event}
 use Rattle.agent_ask.specs.SessionEvents.{Cut}
-use Rattle.agent_commands.specs.Exchanges.{LineExchange}
-use Rattle.agent_commands.specs.Outside.{World, prompt_world}
+use Rattle.agent_commands.specs.Outside.{World}
 use Rattle.agent_ask.specs.Worlds.{Outside, Does}
 use Rattle.assuan_server.specs.Reading.{budget, Supply}
 use Rattle.agent_commands.specs.Talks.{Session}
 use Rattle.agent_commands.specs.declared.went.Went.{Went}
 use Rattle.agent_commands.specs.declared.went.SessionEnd.{SessionEnd}
 use Rattle.agent_commands.specs.declared.went.SessionEnd.TheVariants.{Bye, Killed, Ended, TooLong, Spent, ReadFault, WriteFault}
+use Rattle.key_commands.specs.States.{KeyWorld}
+use Rattle.agent_session.specs.Exchanges.{SessionExchange, kept_at_start}
 
 -- what a session has to do with: both sides of its link, its desk, and the further ends
 pub record Surroundings (w : World) : Type 0 where
@@ -27,10 +28,15 @@ pub record Surroundings (w : World) : Type 0 where
   pub desk : w.Desk
   pub ends : w.Ends
 
--- where they are a prompter
-abbrev pub surroundings : {D P : Type 0} (turned : D → MarkStep → Turn → D → Type 0) (prompted : P → Call → P → Type 0) → Side → Side → D → P
-    → Surroundings (prompt_world turned prompted)
-surroundings turned prompted input output desk prompter = record { input = input; output = output; desk = desk; ends = prompter }
+-- where these are a prompter, the keys and the dice
+abbrev pub surroundings : {D P : Type 0} (turned : D → MarkStep → Turn → D → Type 0) (prompted : P → Call → P → Type 0) → Side → Side → D → P → KeyFiles → Side
+    → Surroundings (KeyWorld turned prompted)
+surroundings turned prompted input output desk prompter keys dice = record {
+  input = input;
+  output = output;
+  desk = desk;
+  ends = record { prompter = prompter; keys = keys; dice = dice };
+}
 
 -- its ends, where these bytes come next
 abbrev pub ends_with : {w : World} → Option (List ℕ) → Surroundings w → Outside w
@@ -51,14 +57,14 @@ Leaves TooLong rest left = rest ≡ left
 Leaves Spent rest left = rest ≡ left
 Leaves ReadFault rest left = rest ≡ left
 
--- what is done for a line by the option values before it, the values after it, and how the session goes on
-abbrev pub LineRelation : World → Type 1
-LineRelation w = OptionValues → List ℕ → List (Event w.Further) → OptionValues → Went → Type 0
+-- what is done for a line by what was kept before it, what is kept after it, and how the session goes on
+abbrev pub LineRelation : World → Type 0 → Type 1
+LineRelation w S = S → List ℕ → List (Event w.Further) → S → Went → Type 0
 
 -- What a session did to what it has to do with. Its events are a session's, and lead its ends from before to after: the bytes that
 -- were written are theirs, their turns are the desk's, and their requests and inquiries are those of the bytes that were read, of
 -- which each took no more than it may, and all together no more than the budget allows.
-pub record ServesSession {w : World} (exchange : LineRelation w) (start : OptionValues) (before : Surroundings w) (end : SessionEnd) (after : Surroundings w) : Type 0 where
+pub record ServesSession {w : World} {S : Type 0} (exchange : LineRelation w S) (start : S) (before : Surroundings w) (end : SessionEnd) (after : Surroundings w) : Type 0 where
   pub events : List (Event w.Further)
   pub session : Session exchange start events end
   -- the bytes from the session's last place on
@@ -75,8 +81,7 @@ pub record ServesSession {w : World} (exchange : LineRelation w) (start : Option
   pub input_faults : before.input.faults ≤ after.input.faults
   pub output_faults : before.output.faults ≤ after.output.faults
 
--- a session of the agent's: its lines are requests, and no option is set before the first
-abbrev pub ServesRules : {D P : Type 0} (turned : D → MarkStep → Turn → D → Type 0) (prompted : P → Call → P → Type 0) → Rules → Surroundings (prompt_world turned prompted)
-    → SessionEnd → Surroundings (prompt_world turned prompted) → Type 0
-ServesRules turned prompted rules before end after =
-    ServesSession {w = prompt_world turned prompted} (LineExchange rules) (at_start rules.s2k_count rules.allow_loopback) before end after
+-- a session of the agent's: its lines are requests, and nothing was kept before the first
+abbrev pub ServesRules : {D P : Type 0} (turned : D → MarkStep → Turn → D → Type 0) (prompted : P → Call → P → Type 0) → Rules → Surroundings (KeyWorld turned prompted)
+    → SessionEnd → Surroundings (KeyWorld turned prompted) → Type 0
+ServesRules turned prompted rules before end after = ServesSession {w = KeyWorld turned prompted} (SessionExchange rules) (kept_at_start rules) before end after

@@ -1,8 +1,8 @@
 ghost use Rattle.std.specs.Prelude.{List};
 ghost use Rattle.cache_policy.specs.Extending.{ExtendsDesk};
 ghost use Rattle.agent_ask.specs.SessionEvents.{turns_in};
-ghost use Rattle.agent_commands.specs.Outside.{prompt_world};
 ghost use Rattle.agent_commands.specs.declared.went.SessionEnd.{SessionEnd as Ends};
+ghost use Rattle.key_commands.specs.States.{KeyWorld};
 ghost use Rattle.session_options.specs.declared.rules.Rules.{Rules};
 ghost use Rattle.agent_session.specs.Sessions.{Surroundings, ServesRules};
 
@@ -12,7 +12,7 @@ use cache_policy::{Desk, turns_extend_a_run};
 /// What a session does extends its desk's run, where that is known: the session's marks in it are those of the turns among its events,
 /// in their order, and it stays legal.
 pub fn a_session_extends_a_run<D: Desk, P: Prompter>()
-    ensures { (rules : Rules) (before after : Surroundings (prompt_world D.turned P.prompted)) (end : Ends) → (served : ServesRules D.turned P.prompted rules before end after)
+    ensures { (rules : Rules) (before after : Surroundings (KeyWorld D.turned P.prompted)) (end : Ends) → (served : ServesRules D.turned P.prompted rules before end after)
         → ExtendsDesk (D.at before.desk) (turns_in served.events) (D.at after.desk) }
 {
     turns_extend_a_run::<D>();

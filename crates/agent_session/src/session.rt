@@ -1,49 +1,48 @@
 ghost use Rattle.std.specs.Prelude.{◌≡◌, [], None};
 ghost use Rattle.agent_ask.specs.Prompters.{IsShut};
 ghost use Rattle.assuan_server.specs.Connections.{IsOpen};
-ghost use Rattle.session_options.specs.OptionValues.{at_start};
-ghost use Rattle.agent_commands.specs.Exchanges.{Exchange, LineExchange};
-ghost use Rattle.agent_commands.specs.Outside.{prompt_world};
 ghost use Rattle.assuan_server.specs.Reading.{budget};
-ghost use Rattle.agent_commands.specs.States.{prompt_state, AnswersRequest};
+ghost use Rattle.agent_commands.specs.States.{AnswersRequest};
+ghost use Rattle.key_commands.specs.States.{KeyWorld, key_state};
+ghost use Rattle.agent_session.specs.Exchanges.{kept_at_start, went_after_key, RequestExchange, SessionExchange};
 ghost use Rattle.agent_session.specs.Sessions.{surroundings, ServesRules};
 ghost use Rattle.agent_session.specs.Serving.{ServesConn, ServesRequests, Refuses};
 
+use crate::Kept;
 use agent_ask::Prompter;
 use agent_commands::{LineRequest, Request, SessionEnd, Went, run_cache, run_quiet};
 use agent_ports::{Dice, Keys, Link, WriteFault};
 use assuan_line::{BUDGET, Line, Took};
 use assuan_server::{Code, Conn, Origin};
 use cache_policy::Desk;
-use session_options::{Options, Rules};
+use key_commands::{KeyWent, read_key, run_key};
+use session_options::Rules;
 use std::alloc::Global;
 use wiping::wipe_stack;
 
 /// Serves a session on a link: greets, and answers request after request until the session ends. No ticket of the session is out and no
 /// prompt is open when it returns.
 ///
-/// The keys and the dice aren't used yet.
+/// Its wrapping keys are overwritten in the end.
 pub fn serve_session<L: Link, D: Desk, P: Prompter, K: Keys, R: Dice>(
     alloc: Global,
     rules: &Rules,
     link: &mut L,
     desk: &mut D,
     prompter: &mut P,
-    _keys: &mut K,
-    _dice: &mut R,
+    keys: &mut K,
+    dice: &mut R,
 ) -> SessionEnd
     requires free { (D.at desk.old).out ≡ None }
     requires shut { IsShut (P.at prompter.old) }
     ensures serves { ServesRules D.turned P.prompted rules.now
-        (surroundings D.turned P.prompted (L.input link.old) (L.output link.old) desk.old prompter.old) result
-        (surroundings D.turned P.prompted (L.input link.new) (L.output link.new) desk.new prompter.new) }
+        (surroundings D.turned P.prompted (L.input link.old) (L.output link.old) desk.old prompter.old (K.keys keys.old) (R.draws dice.old)) result
+        (surroundings D.turned P.prompted (L.input link.new) (L.output link.new) desk.new prompter.new (K.keys keys.new) (R.draws dice.new)) }
     ensures free { (D.at desk.new).out ≡ None }
     ensures shut { IsShut (P.at prompter.new) }
-    ensures keys { _keys.new ≡ _keys.old }
-    ensures dice { _dice.new ≡ _dice.old }
 {
     let mut conn = Conn::new(alloc, link, BUDGET);
-    let end = serve_conn(rules, &mut conn, desk, prompter);
+    let end = serve_conn(alloc, rules, &mut conn, desk, prompter, keys, dice);
     wipe_stack();
     // So what the connection did is known of the link.
     conn.into_link();
@@ -51,40 +50,55 @@ pub fn serve_session<L: Link, D: Desk, P: Prompter, K: Keys, R: Dice>(
 }
 
 /// Greets the client, and answers its requests.
-fn serve_conn<L: Link, D: Desk, P: Prompter>(
+fn serve_conn<L: Link, D: Desk, P: Prompter, K: Keys, R: Dice>(
+    alloc: Global,
     rules: &Rules,
     conn: &mut Conn<'_, L>,
     desk: &mut D,
     prompter: &mut P,
+    keys: &mut K,
+    dice: &mut R,
 ) -> SessionEnd
     requires fresh { conn.old.reader ≡ record { ahead = []; left = budget; ended = None } }
     requires free { (D.at desk.old).out ≡ None }
     requires shut { IsShut (P.at prompter.old) }
-    ensures serves { ServesConn {w = prompt_world D.turned P.prompted} (LineExchange rules.now) (at_start rules.now.s2k_count rules.now.allow_loopback)
-        (prompt_state D.turned P.prompted conn.old desk.old prompter.old) result
-        (prompt_state D.turned P.prompted conn.new desk.new prompter.new) }
+    ensures serves { ServesConn {w = KeyWorld D.turned P.prompted} (SessionExchange rules.now) (kept_at_start rules.now)
+        (key_state D.turned P.prompted conn.old desk.old prompter.old (K.keys keys.old) (R.draws dice.old)) result
+        (key_state D.turned P.prompted conn.new desk.new prompter.new (K.keys keys.new) (R.draws dice.new)) }
     ensures free { (D.at desk.new).out ≡ None }
     ensures shut { IsShut (P.at prompter.new) }
 {
     match conn.greet().whole() {
-        Ok(()) => serve_requests(rules, &mut Options::new(rules), conn, desk, prompter),
+        Ok(()) => serve_requests(
+            alloc,
+            rules,
+            &mut Kept::new(rules),
+            conn,
+            desk,
+            prompter,
+            keys,
+            dice,
+        ),
         Err(WriteFault) => SessionEnd::WriteFault,
     }
 }
 
 /// Answers requests up to the end of the session.
-fn serve_requests<L: Link, D: Desk, P: Prompter>(
+fn serve_requests<L: Link, D: Desk, P: Prompter, K: Keys, R: Dice>(
+    alloc: Global,
     rules: &Rules,
-    options: &mut Options,
+    kept: &mut Kept,
     conn: &mut Conn<'_, L>,
     desk: &mut D,
     prompter: &mut P,
+    keys: &mut K,
+    dice: &mut R,
 ) -> SessionEnd
     requires open { IsOpen conn.old }
     requires free { (D.at desk.old).out ≡ None }
     requires shut { IsShut (P.at prompter.old) }
-    ensures serves { ServesRequests {w = prompt_world D.turned P.prompted} (LineExchange rules.now) options.old (prompt_state D.turned P.prompted conn.old desk.old prompter.old) result
-        (prompt_state D.turned P.prompted conn.new desk.new prompter.new) }
+    ensures serves { ServesRequests {w = KeyWorld D.turned P.prompted} (SessionExchange rules.now) kept.old (key_state D.turned P.prompted conn.old desk.old prompter.old (K.keys keys.old) (R.draws dice.old)) result
+        (key_state D.turned P.prompted conn.new desk.new prompter.new (K.keys keys.new) (R.draws dice.new)) }
     ensures free { (D.at desk.new).out ≡ None }
     ensures shut { IsShut (P.at prompter.new) }
 {
@@ -92,7 +106,7 @@ fn serve_requests<L: Link, D: Desk, P: Prompter>(
         let mut took = conn.next_request();
         match &mut took {
             Took::Line(line) => {
-                let went = answer(line, rules, options, conn, desk, prompter);
+                let went = answer(alloc, line, rules, kept, conn, desk, prompter, keys, dice);
                 line.clear();
                 match went {
                     Went::On => {}
@@ -114,19 +128,22 @@ fn serve_requests<L: Link, D: Desk, P: Prompter>(
 ///
 /// Behind any other one the stack that it used is overwritten: it may have had a passphrase in hand. Behind one that asks the cache alone that
 /// would take longer than the request.
-fn answer<L: Link, D: Desk, P: Prompter>(
+fn answer<L: Link, D: Desk, P: Prompter, K: Keys, R: Dice>(
+    alloc: Global,
     line: &Line,
     rules: &Rules,
-    options: &mut Options,
+    kept: &mut Kept,
     conn: &mut Conn<'_, L>,
     desk: &mut D,
     prompter: &mut P,
+    keys: &mut K,
+    dice: &mut R,
 ) -> Went
     requires open { IsOpen conn.old }
     requires free { (D.at desk.old).out ≡ None }
     requires shut { IsShut (P.at prompter.old) }
-    ensures answers { AnswersRequest {w = prompt_world D.turned P.prompted} (λ before. LineExchange rules.now before line.now) options.old
-        (prompt_state D.turned P.prompted conn.old desk.old prompter.old) result options.new (prompt_state D.turned P.prompted conn.new desk.new prompter.new) }
+    ensures answers { AnswersRequest {w = KeyWorld D.turned P.prompted} (λ before. SessionExchange rules.now before line.now) kept.old
+        (key_state D.turned P.prompted conn.old desk.old prompter.old (K.keys keys.old) (R.draws dice.old)) result kept.new (key_state D.turned P.prompted conn.new desk.new prompter.new (K.keys keys.new) (R.draws dice.new)) }
     ensures free { (D.at desk.new).out ≡ None }
     ensures shut { IsShut (P.at prompter.new) }
 {
@@ -134,7 +151,9 @@ fn answer<L: Link, D: Desk, P: Prompter>(
     match request.quiet() {
         Some(quiet) => run_quiet(&quiet, conn, desk),
         None => {
-            let went = answer_whole(&request, rules, options, conn, desk, prompter);
+            let went = answer_whole(
+                alloc, &request, rules, kept, conn, desk, prompter, keys, dice,
+            );
             wipe_stack();
             went
         }
@@ -144,25 +163,45 @@ fn answer<L: Link, D: Desk, P: Prompter>(
 /// Answers one request by all that its line says.
 // Apart from the session's loop, where a place for the request would be filled anew for each line.
 #[inline(never)]
-fn answer_whole<L: Link, D: Desk, P: Prompter>(
+fn answer_whole<L: Link, D: Desk, P: Prompter, K: Keys, R: Dice>(
+    alloc: Global,
     request: &LineRequest<'_>,
     rules: &Rules,
-    options: &mut Options,
+    kept: &mut Kept,
     conn: &mut Conn<'_, L>,
     desk: &mut D,
     prompter: &mut P,
+    keys: &mut K,
+    dice: &mut R,
 ) -> Went
     requires open { IsOpen conn.old }
     requires free { (D.at desk.old).out ≡ None }
     requires shut { IsShut (P.at prompter.old) }
-    ensures answers { AnswersRequest {w = prompt_world D.turned P.prompted} (λ before. Exchange rules.now before request.now) options.old
-        (prompt_state D.turned P.prompted conn.old desk.old prompter.old) result options.new (prompt_state D.turned P.prompted conn.new desk.new prompter.new) }
+    ensures answers { AnswersRequest {w = KeyWorld D.turned P.prompted} (λ before. RequestExchange rules.now before request.now) kept.old
+        (key_state D.turned P.prompted conn.old desk.old prompter.old (K.keys keys.old) (R.draws dice.old)) result kept.new (key_state D.turned P.prompted conn.new desk.new prompter.new (K.keys keys.new) (R.draws dice.new)) }
     ensures free { (D.at desk.new).out ≡ None }
     ensures shut { IsShut (P.at prompter.new) }
 {
     match request.whole() {
-        Request::Cache(command) => { run_cache(&command, rules, options, conn, desk, prompter) }
-        Request::Key(_) => refuse(Code::UnknownCommand, conn),
+        Request::Cache(command) => {
+            run_cache(&command, rules, &mut kept.options, conn, desk, prompter)
+        }
+        Request::Key(line) => {
+            let request = read_key(&line);
+            let went = run_key(
+                alloc,
+                &request,
+                rules,
+                &kept.options,
+                &mut kept.wraps,
+                conn,
+                desk,
+                prompter,
+                keys,
+                dice,
+            );
+            went_after_key(went)
+        }
         Request::Bad(code) => refuse(code, conn),
     }
 }
@@ -174,5 +213,15 @@ fn refuse<L: Link>(code: Code, conn: &mut Conn<'_, L>) -> Went
     match conn.err(code, Origin::Agent).whole() {
         Ok(()) => Went::On,
         Err(WriteFault) => Went::End(SessionEnd::WriteFault),
+    }
+}
+
+/// How the session goes on after a request on keys.
+fn went_after_key(went: KeyWent) -> Went
+    ensures { result ≡ went_after_key went }
+{
+    match went {
+        KeyWent::On => Went::On,
+        KeyWent::Gone(gone) => Went::End(SessionEnd::from(gone)),
     }
 }

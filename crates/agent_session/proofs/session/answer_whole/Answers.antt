@@ -1,23 +1,27 @@
 use Rattle.std.proofs.Common.{◌∙◌, sym, subst}
-use Rattle.agent_commands.specs.Exchanges.{Exchange, refused, key}
-use Rattle.agent_commands.specs.Outside.{prompt_world}
-use Rattle.agent_commands.specs.States.{prompt_state, AnswersRequest}
+use Rattle.agent_commands.specs.Exchanges.{refused}
+use Rattle.agent_commands.specs.States.{AnswersRequest}
+use Rattle.key_commands.specs.States.{KeyWorld, key_state}
+use Rattle.agent_session.specs.Exchanges.{RequestExchange, cache}
+use Rattle.agent_session.proofs.Beside.{cached_beside, keyed_beside}
 use Rattle.agent_session.proofs.Serving.{refused_so}
 use Rattle.agent_session.proofs.session.answer_whole.Goals as goal
 
 pub returns-in-Cache-clause-answers : goal.returns-in-Cache-clause-answers
 returns-in-Cache-clause-answers g c =
-    subst (λ r. AnswersRequest {w = prompt_world g.D.Desk.turned g.P.Prompter.prompted} (λ before. Exchange c.args.rules.now before r) c.args.options.now
-    (prompt_state g.D.Desk.turned g.P.Prompter.prompted c.args.conn.now c.args.desk.now c.args.prompter.now) c.run_cache.result c.run_cache.new.options
-    (prompt_state g.D.Desk.turned g.P.Prompter.prompted c.run_cache.new.conn c.run_cache.new.desk c.run_cache.new.prompter))
-    (sym c.in-Cache.is ∙ c.whole.ensures) c.run_cache.ensures.answers
+    subst (λ r. AnswersRequest {w = KeyWorld g.D.Desk.turned g.P.Prompter.prompted} (λ before. RequestExchange c.args.rules.now before r) c.args.kept.now
+    (key_state g.D.Desk.turned g.P.Prompter.prompted c.args.conn.now c.args.desk.now c.args.prompter.now (g.K.Keys.keys c.args.keys.now) (g.R.Dice.draws c.args.dice.now)) c.run_cache.result
+    (record c.args.kept.now { options = c.run_cache.new.options })
+    (key_state g.D.Desk.turned g.P.Prompter.prompted c.run_cache.new.conn c.run_cache.new.desk c.run_cache.new.prompter (g.K.Keys.keys c.args.keys.now) (g.R.Dice.draws c.args.dice.now)))
+    (sym c.in-Cache.is ∙ c.whole.ensures)
+    (cached_beside g.D.Desk.turned g.P.Prompter.prompted c.args.rules.now (g.K.Keys.keys c.args.keys.now) (g.R.Dice.draws c.args.dice.now) c.args.kept.now.wraps _ c.run_cache.ensures.answers)
 
 pub returns-in-Key-clause-answers : goal.returns-in-Key-clause-answers
 returns-in-Key-clause-answers g c =
-    refused_so {w = prompt_world g.D.Desk.turned g.P.Prompter.prompted} (λ kept. Exchange c.args.rules.now kept c.args.request.now) c.args.options.now _ _
-    (rw (sym c.whole.ensures ∙ c.in-Key.is) key) c.requires.open c.refuse.ensures
+    rw (c.went_after_key.ensures, sym c.whole.ensures ∙ c.in-Key.is)
+    (keyed_beside g.D.Desk.turned g.P.Prompter.prompted c.args.rules.now c.args.kept.now.options (rw (c.read_key-request.ensures, c.deref.ensures.0) at c.run_key-went.ensures.answers))
 
 pub returns-in-Bad-clause-answers : goal.returns-in-Bad-clause-answers
 returns-in-Bad-clause-answers g c =
-    refused_so {w = prompt_world g.D.Desk.turned g.P.Prompter.prompted} (λ kept. Exchange c.args.rules.now kept c.args.request.now) c.args.options.now _ _
-    (rw (sym c.whole.ensures ∙ c.in-Bad.is) refused) c.requires.open c.refuse-in-Bad.ensures
+    refused_so {w = KeyWorld g.D.Desk.turned g.P.Prompter.prompted} (λ kept. RequestExchange c.args.rules.now kept c.args.request.now) c.args.kept.now _ _
+    (rw (sym c.whole.ensures ∙ c.in-Bad.is) (cache refused)) c.requires.open c.refuse.ensures

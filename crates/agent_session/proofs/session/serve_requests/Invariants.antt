@@ -1,17 +1,16 @@
 use Rattle.std.proofs.Common.{◌≡◌, None}
 use Rattle.assuan_line.specs.Next.{held}
 use Rattle.agent_ask.specs.Prompters.{IsShut}
-use Rattle.agent_commands.specs.Exchanges.{LineExchange}
-use Rattle.agent_commands.specs.Outside.{prompt_world}
-use Rattle.agent_commands.specs.States.{prompt_state}
+use Rattle.key_commands.specs.States.{KeyWorld, key_state}
+use Rattle.agent_session.specs.Exchanges.{SessionExchange}
 use Rattle.agent_session.proofs.Serving.{IsServing}
 use Rattle.agent_session.proofs.session.serve_requests.Given as goal
 
 abbrev pub invariant-loop-line : goal.invariant-loop-line
 invariant-loop-line g l =
     record {
-      serving : IsServing {w = prompt_world g.D.Desk.turned g.P.Prompter.prompted} (LineExchange l.fn.rules) l.fn.options
-          (prompt_state g.D.Desk.turned g.P.Prompter.prompted l.fn.conn l.fn.desk l.fn.prompter) (prompt_state g.D.Desk.turned g.P.Prompter.prompted l.conn l.desk l.prompter) l.options;
+      serving : IsServing {w = KeyWorld g.D.Desk.turned g.P.Prompter.prompted} (SessionExchange l.fn.rules) l.fn.kept
+          (key_state g.D.Desk.turned g.P.Prompter.prompted l.fn.conn l.fn.desk l.fn.prompter (g.K.Keys.keys l.fn.keys) (g.R.Dice.draws l.fn.dice)) (key_state g.D.Desk.turned g.P.Prompter.prompted l.conn l.desk l.prompter (g.K.Keys.keys l.keys) (g.R.Dice.draws l.dice)) l.kept;
       going : l.conn.reader.ended ≡ None;
       free : (g.D.Desk.at l.desk).out ≡ None;
       shut : IsShut (g.P.Prompter.at l.prompter);
