@@ -3,18 +3,21 @@ use Rattle.std.proofs.Common.{◌≡◌, List, [], ◌++◌, Option, None, Some,
 use Rattle.std.specs.Prelude.{is_some}
 use Rattle.agent_ask.specs.Doing.{called, out_of_memory}
 use Rattle.agent_ask.specs.Events.{Call}
-use Rattle.agent_ask.specs.Further.{FurtherEvent}
+use Rattle.agent_ask.specs.Further.{FurtherEvent, prompt, keys, dice, no_memory}
 use Rattle.agent_ask.specs.SessionEvents.{turns_in}
 use Rattle.agent_ask.specs.Worlds.{Outside, Does, received, sent, cut, asked, not_asked, turned, further}
 use Rattle.agent_commands.specs.Events.{Event}
-use Rattle.agent_commands.specs.Outside.{World, prompt_world, prompts}
+use Rattle.agent_commands.specs.Outside.{World}
 use Rattle.assuan_server.specs.Clients.{session_lines}
 use Rattle.agent_ports.specs.HostParts.{Views, AreNew}
+use Rattle.agent_ports.specs.KeyFiles.{KeyFiles}
 use Rattle.agent_ports.specs.Launches.{Launches}
 use Rattle.agent_ports.specs.Leads.{Leads, none, one}
 use Rattle.agent_ports.specs.Readings.{Readings}
+use Rattle.agent_ports.specs.Sides.{Side}
 use Rattle.cache_policy.specs.declared.mark.Mark.{Mark}
 use Rattle.counted_lock.specs.Turns.{AtCountedDesk, CountedTurn}
+use Rattle.key_commands.specs.States.{KeyWorld}
 use Rattle.pinentry_client.specs.Dialogues.{PinentryDoes, PinentryCall}
 use Rattle.pinentry_client.specs.States.{PinentryState, AtPinentry, at_pinentry, at_prompter, idle}
 use Rattle.agent_serve.specs.Gates.{Gated}
@@ -34,10 +37,10 @@ abbrev pub GatedCall : {La : Type 0} → (La → Launches) → Gated (PinentrySt
 GatedCall launches before call after = PinentryCall launches before.prompter call after.prompter
 
 abbrev pub held_world : {C La : Type 0} → (C → Readings) → (La → Launches) → World
-held_world readings launches = prompt_world (CountedTurn readings) (GatedCall launches)
+held_world readings launches = KeyWorld (CountedTurn readings) (GatedCall launches)
 
 abbrev pub seen_world : World
-seen_world = prompt_world (CountedTurn (λ (clock : Readings). clock)) PinentryDoes
+seen_world = KeyWorld (CountedTurn (λ (clock : Readings). clock)) PinentryDoes
 
 abbrev pub seen_desk : {C : Type 0} → (C → Readings) → AtCountedDesk C → AtCountedDesk Readings
 seen_desk readings desk = record { pass = desk.pass; session = desk.session; out = desk.out; clock = readings desk.clock }
@@ -49,13 +52,13 @@ module _ {C La : Type 0} (readings : C → Readings) (launches : La → Launches
     source = ends.source;
     output = ends.output;
     desk = seen_desk readings ends.desk;
-    ends = at_pinentry launches ends.ends.prompter;
+    ends = record { prompter = at_pinentry launches ends.ends.prompter.prompter; keys = ends.ends.keys; dice = ends.ends.dice };
   }
 
   pub record Lifts (before after : Outside (held_world readings launches)) (events : List (Event FurtherEvent)) : Type 0 where
     pub leads : Leads (Does seen_world supply) (with_seen before) events (with_seen after)
-    pub program : after.ends.prompter.program ≡ before.ends.prompter.program
-    pub lent : after.ends.prompter.lent ≡ before.ends.prompter.lent
+    pub program : after.ends.prompter.prompter.program ≡ before.ends.prompter.prompter.program
+    pub lent : after.ends.prompter.prompter.lent ≡ before.ends.prompter.prompter.lent
     pub session : after.desk.session ≡ before.desk.session
     pub own : List Mark
     pub turns : PassTurns before.desk.session before.desk.pass (readings before.desk.clock) (turns_in events) own after.desk.pass (readings after.desk.clock)
@@ -80,17 +83,20 @@ module _ {C La : Type 0} (readings : C → Readings) (launches : La → Launches
         turns = serves.turned does.turns
             (subst (λ s. PassTurns s mid.desk.pass (readings mid.desk.clock) (turns_in later) r.own after.desk.pass (readings after.desk.clock)) same r.turns);
       }
-  lifts (one (further (prompts (called does))) more) =
+  lifts (one (further (prompt (called does))) more) =
       let r = lifts more in
       record {
-        leads = one (further (prompts (called does.does))) r.leads;
+        leads = one (further (prompt (called does.does))) r.leads;
         program = r.program ∙ does.program;
         lent = r.lent ∙ does.lent;
         session = r.session;
         own = r.own;
         turns = r.turns;
       }
-  lifts (one (further (prompts out_of_memory)) more) = let r = lifts more in record { leads = one (further (prompts out_of_memory)) r.leads; program = r.program; lent = r.lent; session = r.session; own = r.own; turns = r.turns }
+  lifts (one (further (prompt out_of_memory)) more) = let r = lifts more in record { leads = one (further (prompt out_of_memory)) r.leads; program = r.program; lent = r.lent; session = r.session; own = r.own; turns = r.turns }
+  lifts (one (further (keys does)) more) = let r = lifts more in record { leads = one (further (keys does)) r.leads; program = r.program; lent = r.lent; session = r.session; own = r.own; turns = r.turns }
+  lifts (one (further (dice does)) more) = let r = lifts more in record { leads = one (further (dice does)) r.leads; program = r.program; lent = r.lent; session = r.session; own = r.own; turns = r.turns }
+  lifts (one (further no_memory) more) = let r = lifts more in record { leads = one (further no_memory) r.leads; program = r.program; lent = r.lent; session = r.session; own = r.own; turns = r.turns }
 
 no_some : {A : Type 0} (child : Option A) → is_some child ≡ false → child ≡ None
 no_some None is = refl
@@ -103,22 +109,22 @@ shut_so launches rules pinentry program shut = rw (program, shut.idle, no_some p
 
 -- what a session at the desk is at its pass
 module _ {C La R K : Type 0} (views : Views La C R K) (rules : Rules) (session : SessionId) (before after : LinkSides) (pass : AtPass) (parts : Parts La C R K)
-    (desk desk_now : AtCountedDesk C) (gated gated_now : Gated (PinentryState La)) (end : SessionEnd)
+    (desk desk_now : AtCountedDesk C) (gated gated_now : Gated (PinentryState La)) (keys_now : KeyFiles) (dice_now : Side) (end : SessionEnd)
     (desk_is : desk ≡ record { pass = record pass { sessions = session.count + 1 }; session = session; out = None; clock = parts.clock })
     (unused : at_pinentry views.launches gated.prompter ≡ idle rules.pinentry.items (views.launches gated.prompter.launcher))
     (new : AreNew views parts)
     (own : gated.prompter.launcher ≡ parts.launcher)
     (served : ServesRules (CountedTurn views.readings) (GatedCall views.launches) rules
-    (surroundings (CountedTurn views.readings) (GatedCall views.launches) before.input before.output desk gated) end
-    (surroundings (CountedTurn views.readings) (GatedCall views.launches) after.input after.output desk_now gated_now))
+    (surroundings (CountedTurn views.readings) (GatedCall views.launches) before.input before.output desk gated (views.keys parts.keys) (views.draws parts.dice)) end
+    (surroundings (CountedTurn views.readings) (GatedCall views.launches) after.input after.output desk_now gated_now keys_now dice_now))
     (free : desk_now.out ≡ None)
     (shut : IsShut (at_prompter (at_pinentry views.launches gated_now.prompter))) where
   abbrev first : AtPass
   first = record pass { sessions = session.count + 1 }
 
   lifted : Lifts views.readings views.launches (supply_of before.input.bytes)
-      (ends_with before.input.bytes (surroundings (CountedTurn views.readings) (GatedCall views.launches) before.input before.output desk gated))
-      (ends_with served.rest (surroundings (CountedTurn views.readings) (GatedCall views.launches) after.input after.output desk_now gated_now)) served.events
+      (ends_with before.input.bytes (surroundings (CountedTurn views.readings) (GatedCall views.launches) before.input before.output desk gated (views.keys parts.keys) (views.draws parts.dice)))
+      (ends_with served.rest (surroundings (CountedTurn views.readings) (GatedCall views.launches) after.input after.output desk_now gated_now keys_now dice_now)) served.events
   lifted = lifts views.readings views.launches (supply_of before.input.bytes) served.leads
 
   idle_now : at_pinentry views.launches gated_now.prompter ≡ idle rules.pinentry.items (views.launches gated_now.prompter.launcher)
@@ -133,8 +139,8 @@ module _ {C La R K : Type 0} (views : Views La C R K) (rules : Rules) (session :
   abbrev leads_from : AtCountedDesk Readings → AtCountedDesk Readings → AtPinentry → AtPinentry → Type 0
   leads_from from to asks asks_now =
       Leads (Does seen_world (supply_of before.input.bytes))
-      (ends_with before.input.bytes (surroundings (CountedTurn (λ (c : Readings). c)) PinentryDoes before.input before.output from asks)) served.events
-      (ends_with served.rest (surroundings (CountedTurn (λ (c : Readings). c)) PinentryDoes after.input after.output to asks_now))
+      (ends_with before.input.bytes (surroundings (CountedTurn (λ (c : Readings). c)) PinentryDoes before.input before.output from asks (views.keys parts.keys) (views.draws parts.dice))) served.events
+      (ends_with served.rest (surroundings (CountedTurn (λ (c : Readings). c)) PinentryDoes after.input after.output to asks_now keys_now dice_now))
 
   leads_so : leads_from (desk_at first session (views.readings parts.clock)) (desk_at desk_now.pass session (views.readings desk_now.clock))
       (idle rules.pinentry.items (views.launches gated.prompter.launcher)) (idle rules.pinentry.items (views.launches gated_now.prompter.launcher))
@@ -164,6 +170,8 @@ module _ {C La R K : Type 0} (views : Views La C R K) (rules : Rules) (session :
         new = new;
         clock_now = views.readings desk_now.clock;
         launches_now = views.launches gated_now.prompter.launcher;
+        keys_now = keys_now;
+        dice_now = dice_now;
         served = record {
           events = served.events;
           session = served.session;

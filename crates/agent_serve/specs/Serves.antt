@@ -2,9 +2,9 @@
 use Rattle.std.specs.Prelude.{◌≡◌, ◌+◌, ℕ, Bool, true, false, List, [], ◌∷◌, ◌++◌, filter, length, None}
 use Rattle.std.specs.List.{AllByRecursion}
 use Rattle.agent_ask.specs.SessionEvents.{turns_in}
-use Rattle.agent_commands.specs.Outside.{prompt_world}
 use Rattle.agent_commands.specs.declared.went.SessionEnd.{SessionEnd}
 use Rattle.agent_ports.specs.HostParts.{Views, AreNew}
+use Rattle.agent_ports.specs.KeyFiles.{KeyFiles}
 use Rattle.agent_ports.specs.Launches.{Launches}
 use Rattle.agent_ports.specs.Readings.{Readings}
 use Rattle.agent_ports.specs.Sides.{Side}
@@ -18,6 +18,7 @@ use Rattle.cache_policy.specs.Tallies.{is_given, is_empty, how_many}
 use Rattle.cache_policy.specs.Turns.{Turn, Given, Empty, Open}
 use Rattle.counted_lock.specs.Passes.{AtPass, mine}
 use Rattle.counted_lock.specs.Turns.{AtCountedDesk, TurnsPass, CountedTurn}
+use Rattle.key_commands.specs.States.{KeyWorld}
 use Rattle.pinentry_client.specs.Dialogues.{PinentryDoes}
 use Rattle.pinentry_client.specs.States.{idle}
 use Rattle.session_options.specs.declared.rules.Rules.{Rules}
@@ -66,20 +67,23 @@ pub record AddsMarks (session : SessionId) (turns : List Taken) (own : List Mark
 abbrev pub desk_at : AtPass → SessionId → Readings → AtCountedDesk Readings
 desk_at pass session clock = record { pass = pass; session = session; out = None; clock = clock }
 
--- the desk and the pinentry that the rules name, of which no child stands, as what a session has to do with
-abbrev pub at_pass : Rules → SessionId → LinkSides → AtPass → Readings → Launches → Surroundings (prompt_world (CountedTurn (λ clock. clock)) PinentryDoes)
-at_pass rules session link pass clock launches =
-    surroundings (CountedTurn (λ readings. readings)) PinentryDoes link.input link.output (desk_at pass session clock) (idle rules.pinentry.items launches)
+-- the desk, the pinentry that the rules name, of which no child stands, the keys and the dice, as what a session has to do with
+abbrev pub at_pass : Rules → SessionId → LinkSides → AtPass → Readings → Launches → KeyFiles → Side → Surroundings (KeyWorld (CountedTurn (λ clock. clock)) PinentryDoes)
+at_pass rules session link pass clock launches keys dice =
+    surroundings (CountedTurn (λ readings. readings)) PinentryDoes link.input link.output (desk_at pass session clock) (idle rules.pinentry.items launches) keys dice
 
--- A session was served at this pass, with new parts of its own, of the types that the host has: so by a clock and a launcher of the host's. It
--- ended so, and no ticket and no child of it is left. What it did to the run is what its turns did.
+-- A session was served at this pass, with new parts of its own, of the types that the host has: so by a clock, a launcher, keys and dice of the
+-- host's. It ended so, and no ticket and no child of it is left. What it did to the run is what its turns did.
 pub record ServesOne {La C R K : Type 0} (views : Views La C R K) (rules : Rules) (session : SessionId) (before : LinkSides) (pass : AtPass) (end : SessionEnd) (after : LinkSides) (now : AtPass) : Type 0 where
   pub parts : Parts La C R K
   pub new : AreNew views parts
   pub clock_now : Readings
   pub launches_now : Launches
-  pub served : ServesRules (CountedTurn (λ readings. readings)) PinentryDoes rules (at_pass rules session before (record pass { sessions = session.count + 1 }) (views.readings parts.clock) (views.launches parts.launcher)) end
-      (at_pass rules session after now clock_now launches_now)
+  pub keys_now : KeyFiles
+  pub dice_now : Side
+  pub served : ServesRules (CountedTurn (λ readings. readings)) PinentryDoes rules
+      (at_pass rules session before (record pass { sessions = session.count + 1 }) (views.readings parts.clock) (views.launches parts.launcher) (views.keys parts.keys) (views.draws parts.dice))
+      end (at_pass rules session after now clock_now launches_now keys_now dice_now)
   pub own : List Mark
   pub turns : PassTurns session (record pass { sessions = session.count + 1 }) (views.readings parts.clock) (turns_in served.events) own now clock_now
   pub adds : AddsMarks session (turns_in served.events) own pass now
