@@ -1,11 +1,12 @@
 -- A session at the desk is one at what the desk shows.
-use Rattle.agent_ask.specs.Further.{FurtherEvent}
+use Rattle.agent_ask.specs.Further.{FurtherEvent, prompt, keys, dice, no_memory}
 use Rattle.std.proofs.Common.{◌≡◌, ℕ, List, [], Option, None, Some, false, ◌∷◌, inr, refl, ap, ◌∙◌, subst, arith}
 use Rattle.std.specs.Prelude.{is_some}
 use Rattle.agent_core.specs.Solos.{SoloState, AtSolo, seen, at_desk, TurnsSolo, SoloTurn}
 use Rattle.agent_core.proofs.Alone.{Replayed, replayed}
 use Rattle.agent_ask.specs.Doing.{called, out_of_memory}
 use Rattle.agent_ask.specs.Prompters.{IsShut}
+use Rattle.agent_ports.specs.KeyFiles.{KeyFiles}
 use Rattle.agent_ports.specs.Launches.{Launches}
 use Rattle.agent_ports.specs.Leads.{Leads, none, one}
 use Rattle.agent_ports.specs.Readings.{Readings}
@@ -17,13 +18,14 @@ use Rattle.cache_policy.specs.Replay.{first_history}
 use Rattle.cache_policy.proofs.Extending.{extends}
 use Rattle.agent_commands.specs.Events.{Event}
 use Rattle.agent_ask.specs.SessionEvents.{turns_in}
-use Rattle.agent_commands.specs.Outside.{World, prompt_world, prompts}
+use Rattle.agent_commands.specs.Outside.{World}
 use Rattle.assuan_server.specs.Clients.{session_lines}
 use Rattle.agent_ask.specs.Worlds.{Outside, Does, received, sent, cut, asked, not_asked, turned, further}
 use Rattle.agent_commands.specs.declared.went.SessionEnd.{SessionEnd}
 use Rattle.agent_session.proofs.Turning.{turns_lead}
 use Rattle.agent_session.specs.Sessions.{surroundings, ends_with, supply_of, ServesRules}
 use Rattle.assuan_client.specs.Connections.{Connection}
+use Rattle.key_commands.specs.States.{KeyWorld}
 use Rattle.pinentry_client.specs.Dialogues.{PinentryDoes, PinentryCall}
 use Rattle.pinentry_client.specs.States.{PinentryState, AtPinentry, at_pinentry, at_prompter}
 use Rattle.session_options.specs.declared.rules.Rules.{Rules}
@@ -32,21 +34,27 @@ use Rattle.agent_top.specs.Top.{machine, no_child, RunsServer, ran, exit_number,
 
 -- a session at a desk and with a pinentry, and what they show of it
 abbrev pub held_world : {C La : Type 0} → (C → Readings) → (La → Launches) → World
-held_world readings launches = prompt_world (SoloTurn readings) (PinentryCall launches)
+held_world readings launches = KeyWorld (SoloTurn readings) (PinentryCall launches)
 
 abbrev pub seen_world : World
-seen_world = prompt_world TurnsSolo PinentryDoes
+seen_world = KeyWorld TurnsSolo PinentryDoes
 
 module _ {C La : Type 0} (readings : C → Readings) (launches : La → Launches) (supply : session_lines.Supply) where
   -- the ends with what the desk and the pinentry show in their place
   abbrev pub with_seen : Outside (held_world readings launches) → Outside seen_world
-  with_seen ends = record { input = ends.input; source = ends.source; output = ends.output; desk = seen readings ends.desk; ends = at_pinentry launches ends.ends }
+  with_seen ends = record {
+    input = ends.input;
+    source = ends.source;
+    output = ends.output;
+    desk = seen readings ends.desk;
+    ends = record { prompter = at_pinentry launches ends.ends.prompter; keys = ends.ends.keys; dice = ends.ends.dice };
+  }
 
   pub record Lifts (before after : Outside (held_world readings launches)) (events : List (Event FurtherEvent)) : Type 0 where
     pub leads : Leads (Does seen_world supply) (with_seen before) events (with_seen after)
     pub lent : after.desk.lent ≡ before.desk.lent
-    pub launcher : after.ends.lent ≡ before.ends.lent
-    pub program : after.ends.program ≡ before.ends.program
+    pub launcher : after.ends.prompter.lent ≡ before.ends.prompter.lent
+    pub program : after.ends.prompter.program ≡ before.ends.prompter.program
 
   pub lifts : {before after : Outside (held_world readings launches)} {events : List (Event FurtherEvent)}
       → Leads (Does (held_world readings launches) supply) before events after → Lifts before after events
@@ -57,8 +65,11 @@ module _ {C La : Type 0} (readings : C → Readings) (launches : La → Launches
   lifts (one (asked known needed) more) = let r = lifts more in record { leads = one (asked known needed) r.leads; lent = r.lent; launcher = r.launcher; program = r.program }
   lifts (one (not_asked unsent split) more) = let r = lifts more in record { leads = one (not_asked unsent split) r.leads; lent = r.lent; launcher = r.launcher; program = r.program }
   lifts (one (turned does) more) = let r = lifts more in record { leads = one (turned does.turns) r.leads; lent = r.lent ∙ does.lent; launcher = r.launcher; program = r.program }
-  lifts (one (further (prompts (called does))) more) = let r = lifts more in record { leads = one (further (prompts (called does.does))) r.leads; lent = r.lent; launcher = r.launcher ∙ does.lent; program = r.program ∙ does.program }
-  lifts (one (further (prompts out_of_memory)) more) = let r = lifts more in record { leads = one (further (prompts out_of_memory)) r.leads; lent = r.lent; launcher = r.launcher; program = r.program }
+  lifts (one (further (prompt (called does))) more) = let r = lifts more in record { leads = one (further (prompt (called does.does))) r.leads; lent = r.lent; launcher = r.launcher ∙ does.lent; program = r.program ∙ does.program }
+  lifts (one (further (prompt out_of_memory)) more) = let r = lifts more in record { leads = one (further (prompt out_of_memory)) r.leads; lent = r.lent; launcher = r.launcher; program = r.program }
+  lifts (one (further (keys does)) more) = let r = lifts more in record { leads = one (further (keys does)) r.leads; lent = r.lent; launcher = r.launcher; program = r.program }
+  lifts (one (further (dice does)) more) = let r = lifts more in record { leads = one (further (dice does)) r.leads; lent = r.lent; launcher = r.launcher; program = r.program }
+  lifts (one (further no_memory) more) = let r = lifts more in record { leads = one (further no_memory) r.leads; lent = r.lent; launcher = r.launcher; program = r.program }
 
 -- the run goes on by the turns of the events
 extended : (supply : session_lines.Supply) (before after : Outside seen_world) (events : List (Event FurtherEvent))
@@ -85,14 +96,14 @@ shut_so launches rules pinentry program shut = rw (program, shut.idle, no_some p
 
 -- what a session at the desk is for the agent
 module _ {C La : Type 0} (readings : C → Readings) (launches : La → Launches) (rules : Rules) (input output input_now output_now : Side) (desk desk_now : SoloState C)
-    (pinentry pinentry_now : PinentryState La) (end : SessionEnd)
+    (pinentry pinentry_now : PinentryState La) (files files_now : KeyFiles) (draws draws_now : Side) (end : SessionEnd)
     (fresh : seen readings desk ≡ fresh_desk (limits_of rules) (readings desk.clock))
     (unused : at_pinentry launches pinentry ≡ no_child rules (launches pinentry.launcher))
-    (served : ServesRules (SoloTurn readings) (PinentryCall launches) rules (surroundings (SoloTurn readings) (PinentryCall launches) input output desk pinentry) end
-    (surroundings (SoloTurn readings) (PinentryCall launches) input_now output_now desk_now pinentry_now))
+    (served : ServesRules (SoloTurn readings) (PinentryCall launches) rules (surroundings (SoloTurn readings) (PinentryCall launches) input output desk pinentry files draws) end
+    (surroundings (SoloTurn readings) (PinentryCall launches) input_now output_now desk_now pinentry_now files_now draws_now))
     (shut : IsShut (at_prompter (at_pinentry launches pinentry_now))) where
-  lifted : Lifts readings launches (supply_of input.bytes) (ends_with input.bytes (surroundings (SoloTurn readings) (PinentryCall launches) input output desk pinentry))
-      (ends_with served.rest (surroundings (SoloTurn readings) (PinentryCall launches) input_now output_now desk_now pinentry_now)) served.events
+  lifted : Lifts readings launches (supply_of input.bytes) (ends_with input.bytes (surroundings (SoloTurn readings) (PinentryCall launches) input output desk pinentry files draws))
+      (ends_with served.rest (surroundings (SoloTurn readings) (PinentryCall launches) input_now output_now desk_now pinentry_now files_now draws_now)) served.events
   lifted = lifts readings launches (supply_of input.bytes) served.leads
 
   -- in the end the pinentry is shut
@@ -102,8 +113,8 @@ module _ {C La : Type 0} (readings : C → Readings) (launches : La → Launches
   -- the desk as it begins
   abbrev leads_from : AtSolo → AtPinentry → AtPinentry → Type 0
   leads_from from asks asks_now =
-      Leads (Does seen_world (supply_of input.bytes)) (ends_with input.bytes (surroundings TurnsSolo PinentryDoes input output from asks)) served.events
-      (ends_with served.rest (surroundings TurnsSolo PinentryDoes input_now output_now (seen readings desk_now) asks_now))
+      Leads (Does seen_world (supply_of input.bytes)) (ends_with input.bytes (surroundings TurnsSolo PinentryDoes input output from asks files draws)) served.events
+      (ends_with served.rest (surroundings TurnsSolo PinentryDoes input_now output_now (seen readings desk_now) asks_now files_now draws_now))
 
   leads_so : leads_from (fresh_desk (limits_of rules) (readings desk.clock)) (no_child rules (launches pinentry.launcher)) (no_child rules (launches pinentry_now.launcher))
   leads_so =
@@ -111,8 +122,8 @@ module _ {C La : Type 0} (readings : C → Readings) (launches : La → Launches
       (subst (λ (p : AtPinentry). leads_from (seen readings desk) p (no_child rules (launches pinentry_now.launcher))) unused
       (subst (λ (p : AtPinentry). leads_from (seen readings desk) (at_pinentry launches pinentry) p) idle_now lifted.leads))
 
-  pub ran_so : (number : ℕ) → number ≡ exit_number (status_of end) → RunsServer rules (machine input output (readings desk.clock) (launches pinentry.launcher)) number
-      (machine input_now output_now (readings desk_now.clock) (launches pinentry_now.launcher))
+  pub ran_so : (number : ℕ) → number ≡ exit_number (status_of end) → RunsServer rules (machine input output (readings desk.clock) (launches pinentry.launcher) files draws) number
+      (machine input_now output_now (readings desk_now.clock) (launches pinentry_now.launcher) files_now draws_now)
   ran_so number is =
       let extends : IsExtended (limits_of rules) session (first_history ∷ []) (turns_in served.events) (seen readings desk_now).run =
       extended (supply_of input.bytes) _ _ served.events leads_so in

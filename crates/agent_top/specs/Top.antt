@@ -2,6 +2,7 @@
 use Rattle.std.specs.Prelude.{◌≡◌, ℕ, List, [], ◌∷◌, Option, None, Some, ⊤}
 use Rattle.std.specs.List.{AllByRecursion}
 use Rattle.agent_core.specs.Solos.{AtSolo, TurnsSolo}
+use Rattle.agent_ports.specs.KeyFiles.{KeyFiles}
 use Rattle.agent_ports.specs.Readings.{Readings, HasGiven}
 use Rattle.agent_ports.specs.Sides.{Side}
 use Rattle.agent_ports.specs.Launches.{Launches}
@@ -17,10 +18,10 @@ use Rattle.session_options.specs.declared.rules.Rules.{Rules}
 use Rattle.session_options.specs.declared.rules.RunMode.{RunMode}
 use Rattle.session_options.specs.declared.rules.RunMode.TheVariants.{Server, Daemon, Load}
 use Rattle.agent_ask.specs.SessionEvents.{turns_in}
-use Rattle.agent_commands.specs.Outside.{prompt_world}
 use Rattle.agent_commands.specs.declared.went.SessionEnd.{SessionEnd}
 use Rattle.agent_commands.specs.declared.went.SessionEnd.TheVariants.{Bye, Killed, Ended, TooLong, Spent, ReadFault, WriteFault}
 use Rattle.agent_session.specs.Sessions.{Surroundings, surroundings, ServesRules}
+use Rattle.key_commands.specs.States.{KeyWorld}
 use Rattle.pinentry_client.specs.Dialogues.{PinentryDoes}
 use Rattle.pinentry_client.specs.States.{AtPinentry, idle}
 use Rattle.agent_top.specs.Cache.{limits_of, session, fresh_desk}
@@ -48,15 +49,17 @@ status_of WriteFault = status.WriteFault
 status_of Spent = status.Spent
 status_of TooLong = status.TooLong
 
--- what a run of the agent has to do with: both sides of its link, its clock, and the children of its launcher
+-- what a run of the agent has to do with: both sides of its link, its clock, the children of its launcher, the key files, and the random bytes
 pub record Machine : Type 0 where
   pub input : Side
   pub output : Side
   pub clock : Readings
   pub launches : Launches
+  pub keys : KeyFiles
+  pub dice : Side
 
-abbrev pub machine : Side → Side → Readings → Launches → Machine
-machine input output clock launches = record { input = input; output = output; clock = clock; launches = launches }
+abbrev pub machine : Side → Side → Readings → Launches → KeyFiles → Side → Machine
+machine input output clock launches keys dice = record { input = input; output = output; clock = clock; launches = launches; keys = keys; dice = dice }
 
 -- the pinentry that the rules name, of which no child stands
 abbrev pub no_child : Rules → Launches → AtPinentry
@@ -64,8 +67,8 @@ no_child rules launches = idle rules.pinentry.items launches
 
 -- the machine as a session's surroundings: with this desk, and the rules' pinentry without a
 -- child
-abbrev pub with_desk : Rules → AtSolo → Machine → Surroundings (prompt_world TurnsSolo PinentryDoes)
-with_desk rules desk around = surroundings TurnsSolo PinentryDoes around.input around.output desk (no_child rules around.launches)
+abbrev pub with_desk : Rules → AtSolo → Machine → Surroundings (KeyWorld TurnsSolo PinentryDoes)
+with_desk rules desk around = surroundings TurnsSolo PinentryDoes around.input around.output desk (no_child rules around.launches) around.keys around.dice
 
 -- The run is the replay of the turns that made a mark, none of which waited: no step has a since. Each turn took one reading of the clock, and
 -- nothing else did.
@@ -80,7 +83,7 @@ pub record ReplaysTurns (limits : Limits) (before : Readings) (turns : List Take
 
 -- A session was served, and the number is that of its end. The cache began empty. Its run is legal, and has the marks of the session's
 -- turns in their order, each at the moment that the clock's reading says. Its prompts were those of the rules' pinentry, and no child is
--- left.
+-- left. Its events lead the key files and the random bytes from what they were to what they are.
 pub record RunsSession (rules : Rules) (before : Machine) (number : ℕ) (after : Machine) : Type 0 where
   pub end : SessionEnd
   pub number_is : number ≡ exit_number (status_of end)
@@ -100,14 +103,13 @@ pub data RunsServer (rules : Rules) (before : Machine) : ℕ → Machine → Typ
 abbrev pub with_pid : ℕ → Rules → Rules
 with_pid pid rules = record rules { pid = pid }
 
--- The host's parts were taken and given back. `GoesOn` says what became of the launcher and the clock; the others are as they were.
-pub record UsesParts {La C R K : Type 0} (GoesOn : La → C → La → C → Type 0) (before after : Option (Parts La C R K)) : Type 0 where
+-- The host's parts were taken and given back, and this became of them.
+pub record UsesParts {La C R K : Type 0} (GoesOn : Parts La C R K → Parts La C R K → Type 0) (before after : Option (Parts La C R K)) : Type 0 where
   pub had : Parts La C R K
   pub has : Parts La C R K
   pub had_is : before ≡ Some had
   pub has_is : after ≡ Some has
-  pub goes_on : GoesOn had.launcher had.clock has.launcher has.clock
-  pub others : has ≡ record had { launcher = has.launcher; clock = has.clock }
+  pub goes_on : GoesOn had has
 
 -- what is said where a session on standard input and output is asked for
 abbrev pub IfServer : RunMode → Type 0 → Type 0

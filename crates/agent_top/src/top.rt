@@ -55,10 +55,10 @@ where
         × (host.new ≡ host.old)) }
     // Words for standard input and output: a session was served, or there was no memory and nothing was read or written. The host has its
     // parts again.
-    ensures served { IfSome (rules_of (map string_bytes words.now)) (λ rules. IfServer rules.run (UsesParts (λ launcher clock launcher_now clock_now.
+    ensures served { IfSome (rules_of (map string_bytes words.now)) (λ rules. IfServer rules.run (UsesParts (λ had has.
         RunsServer (with_pid (H.process host.old) rules)
-        (machine (S.input stdio.old) (S.output stdio.old) (H.Clock.readings clock) (H.Launcher.launches launcher)) result
-        (machine (S.input stdio.new) (S.output stdio.new) (H.Clock.readings clock_now) (H.Launcher.launches launcher_now)))
+        (machine (S.input stdio.old) (S.output stdio.old) (H.Clock.readings had.clock) (H.Launcher.launches had.launcher) (H.Keys.keys had.keys) (H.Dice.draws had.dice)) result
+        (machine (S.input stdio.new) (S.output stdio.new) (H.Clock.readings has.clock) (H.Launcher.launches has.launcher) (H.Keys.keys has.keys) (H.Dice.draws has.dice)))
         (H.server host.old) (H.server host.new))) }
     // Words for a daemon: its sessions were served and its summary was written, unless there was no listener or no memory. Nothing is read of
     // standard input, and the host keeps its parts.
@@ -72,8 +72,8 @@ where
     match read_words(words) {
         Ok(rules) => {
             let rules = with_pid(rules, host.pid());
+            host.settle(&rules.homedir);
             if rules.run == RunMode::Daemon {
-                host.settle(&rules.homedir);
                 return run_daemon(rt, alloc, &rules, stdio, host);
             }
             run_server(alloc, &rules, stdio, host)
@@ -86,9 +86,9 @@ where
 /// host's parts.
 pub fn run_server<S: Link, H: Host>(alloc: Global, rules: &Rules, stdio: &mut S, host: &mut H) -> u8
     requires { IsSome (H.server host.old) }
-    ensures served { UsesParts (λ launcher clock launcher_now clock_now. RunsServer rules.now
-        (machine (S.input stdio.old) (S.output stdio.old) (H.Clock.readings clock) (H.Launcher.launches launcher)) result
-        (machine (S.input stdio.new) (S.output stdio.new) (H.Clock.readings clock_now) (H.Launcher.launches launcher_now)))
+    ensures served { UsesParts (λ had has. RunsServer rules.now
+        (machine (S.input stdio.old) (S.output stdio.old) (H.Clock.readings had.clock) (H.Launcher.launches had.launcher) (H.Keys.keys had.keys) (H.Dice.draws had.dice)) result
+        (machine (S.input stdio.new) (S.output stdio.new) (H.Clock.readings has.clock) (H.Launcher.launches has.launcher) (H.Keys.keys has.keys) (H.Dice.draws has.dice)))
         (H.server host.old) (H.server host.new) }
     ensures process { H.process host.new ≡ H.process host.old }
 {
@@ -117,10 +117,8 @@ fn serve_alone<S: Link, C: Clock, La: Launcher, K: Keys, R: Dice>(
     dice: &mut R,
 ) -> Status
     ensures runs { RunsServer rules.now
-        (machine (S.input stdio.old) (S.output stdio.old) (C.readings clock.old) (La.launches launcher.old)) (exit_number result)
-        (machine (S.input stdio.new) (S.output stdio.new) (C.readings clock.new) (La.launches launcher.new)) }
-    ensures keys { keys.new ≡ keys.old }
-    ensures dice { dice.new ≡ dice.old }
+        (machine (S.input stdio.old) (S.output stdio.old) (C.readings clock.old) (La.launches launcher.old) (K.keys keys.old) (R.draws dice.old)) (exit_number result)
+        (machine (S.input stdio.new) (S.output stdio.new) (C.readings clock.new) (La.launches launcher.new) (K.keys keys.new) (R.draws dice.new)) }
 {
     let Ok(core) = KnownCore::new(alloc, limits_of(rules)) else {
         return Status::NoMemory;
@@ -147,13 +145,11 @@ fn serve<S: Link, C: Clock, La: Launcher, K: Keys, R: Dice>(
     requires desk { seen C.readings desk.old ≡ fresh_desk (limits_of rules.now) (C.readings desk.old.clock) }
     requires pinentry { at_pinentry La.launches pinentry.old ≡ no_child rules.now (La.launches pinentry.old.launcher) }
     ensures runs { RunsServer rules.now
-        (machine (S.input stdio.old) (S.output stdio.old) (C.readings desk.old.clock) (La.launches pinentry.old.launcher)) (exit_number result)
-        (machine (S.input stdio.new) (S.output stdio.new) (C.readings desk.new.clock) (La.launches pinentry.new.launcher)) }
+        (machine (S.input stdio.old) (S.output stdio.old) (C.readings desk.old.clock) (La.launches pinentry.old.launcher) (K.keys keys.old) (R.draws dice.old)) (exit_number result)
+        (machine (S.input stdio.new) (S.output stdio.new) (C.readings desk.new.clock) (La.launches pinentry.new.launcher) (K.keys keys.new) (R.draws dice.new)) }
     ensures lent { desk.new.lent ≡ desk.old.lent }
     ensures launcher { pinentry.new.lent ≡ pinentry.old.lent }
     ensures childless { is_some pinentry.new.child ≡ false }
-    ensures keys { keys.new ≡ keys.old }
-    ensures dice { dice.new ≡ dice.old }
 {
     Status::of(serve_session(alloc, rules, stdio, desk, pinentry, keys, dice))
 }
