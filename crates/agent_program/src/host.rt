@@ -1,21 +1,28 @@
 ghost use Rattle.std.specs.Prelude.{◌≡◌, Some, IsSome};
 
 use crate::clock::SystemClock;
+use crate::dice::SystemDice;
+use crate::keys::SystemKeys;
 use crate::launcher::PipeLauncher;
-use agent_ports::{Dice, Host, Keys, Launcher, ListDice, MapKeys, MemTrust, NoGate, Parts};
+use agent_ports::{Dice, Host, Keys, Launcher, MemTrust, NoGate, Parts};
 use arrayvec::ArrayVec;
 use session_options::MAX_VALUE_LEN;
 use std::alloc::Global;
-use std::fs::Files;
+use std::fs::{File, Files};
 use std::net::Net;
 use std::process::Processes;
 use std::{rt, str};
 use unix_socket::{SocketEar, SocketLink, SocketListener};
 
-type SystemParts<'a, R> = Parts<PipeLauncher<'a, R>, SystemClock<'a, R>, ListDice, MapKeys>;
+type SystemParts<'a, R> = Parts<
+    PipeLauncher<'a, R>,
+    SystemClock<'a, R>,
+    SystemDice<'a, R>,
+    SystemKeys<'a, R>,
+>;
 
-/// The machine that the program runs on. It listens on a Unix socket in the folder that was settled. For now it has no random bytes, no
-/// key files and no trust file, and no second socket: each call for a listener for restricted sessions is a fault.
+/// The machine that the program runs on. It listens on a Unix socket in the folder that was settled, and has the key files of that folder. For
+/// now it has no trust file, and no second socket: each call for a listener for restricted sessions is a fault.
 #[derive(Drop)]
 pub struct SystemHost<'a, R> {
     rt: &'a R,
@@ -28,7 +35,7 @@ pub struct SystemHost<'a, R> {
     gate: NoGate,
 }
 
-impl<'a, R: rt::Clock + Processes + Files + Net> SystemHost<'a, R> {
+impl<'a, R: rt::Clock + Processes + Files<File = File> + Net> SystemHost<'a, R> {
     pub fn new(rt: &'a R, alloc: Global, pid: u32) -> Self
         ensures { IsSome (⟦<SystemHost<'a, R> as Host>⟧.server result) }
     {
@@ -36,7 +43,7 @@ impl<'a, R: rt::Clock + Processes + Files + Net> SystemHost<'a, R> {
             rt,
             alloc,
             pid,
-            parts: Some(new_parts(rt, alloc)),
+            parts: Some(new_parts(rt, alloc, b"")),
             homedir: ArrayVec::new(),
             listens: 0,
             gate: NoGate,
@@ -52,21 +59,27 @@ impl<'a, R: Files + Net> SystemHost<'a, R> {
     }
 }
 
-/// Parts of the system in which nothing was done.
-fn new_parts<'a, R: rt::Clock + Processes>(rt: &'a R, alloc: Global) -> SystemParts<'a, R>
+/// Parts of the system in which nothing was done, with the key files of this folder.
+fn new_parts<'a, R: rt::Clock + Processes + Files<File = File>>(
+    rt: &'a R,
+    alloc: Global,
+    homedir: &[u8],
+) -> SystemParts<'a, R>
     ensures launcher { (⟦<PipeLauncher<'a, R> as Launcher>⟧.launches result.launcher).faults ≡ 0 }
-    ensures dice { (⟦<ListDice as Dice>⟧.draws result.dice).faults ≡ 0 }
-    ensures keys { (⟦<MapKeys as Keys>⟧.keys result.keys).faults ≡ 0 }
+    ensures dice { (⟦<SystemDice<'a, R> as Dice>⟧.draws result.dice).faults ≡ 0 }
+    ensures keys { (⟦<SystemKeys<'a, R> as Keys>⟧.keys result.keys).faults ≡ 0 }
 {
+    let mut keys = SystemKeys::new(rt);
+    keys.settle(homedir);
     Parts {
         launcher: PipeLauncher::new(rt, alloc),
         clock: SystemClock::new(rt),
-        dice: ListDice::new(Vec::new(alloc), Vec::new(alloc)),
-        keys: MapKeys::new(alloc, Vec::new(alloc)),
+        dice: SystemDice::new(rt),
+        keys,
     }
 }
 
-impl<'a, R: rt::Clock + Processes + Files + Net> Host for SystemHost<'a, R> {
+impl<'a, R: rt::Clock + Processes + Files<File = File> + Net> Host for SystemHost<'a, R> {
     type Link = SocketLink;
 
     type Ear = SocketEar;
@@ -77,9 +90,9 @@ impl<'a, R: rt::Clock + Processes + Files + Net> Host for SystemHost<'a, R> {
 
     type Clock = SystemClock<'a, R>;
 
-    type Dice = ListDice;
+    type Dice = SystemDice<'a, R>;
 
-    type Keys = MapKeys;
+    type Keys = SystemKeys<'a, R>;
 
     type Trust = MemTrust;
 
@@ -94,6 +107,9 @@ impl<'a, R: rt::Clock + Processes + Files + Net> Host for SystemHost<'a, R> {
     fn settle(&mut self, homedir: &[u8]) {
         self.homedir.clear();
         let _ = self.homedir.try_extend_from_slice(homedir);
+        if let Some(parts) = &mut self.parts {
+            parts.keys.settle(homedir);
+        }
     }
 
     fn pid(&self) -> u32 {
@@ -113,7 +129,7 @@ impl<'a, R: rt::Clock + Processes + Files + Net> Host for SystemHost<'a, R> {
     }
 
     fn session_parts(&self) -> SystemParts<'a, R> {
-        new_parts(self.rt, self.alloc)
+        new_parts(self.rt, self.alloc, &self.homedir)
     }
 
     fn trust(&self) -> MemTrust {

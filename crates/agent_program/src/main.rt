@@ -2,7 +2,9 @@
 #![tactic(auto)]
 
 mod clock;
+mod dice;
 mod host;
+mod keys;
 mod launcher;
 
 use agent_top::{Status, run_agent};
