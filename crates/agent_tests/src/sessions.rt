@@ -28,11 +28,11 @@ pub(crate) type KeyFile = (&'static str, &'static [u8]);
 pub(crate) struct Row {
     pub(crate) sent: &'static str,
     /// What is written at first, and then.
-    greeting: &'static str,
+    pub(crate) greeting: &'static str,
     pub(crate) answered: &'static str,
     pub(crate) status: u8,
-    allow_preset: bool,
-    allow_loopback: bool,
+    pub(crate) allow_preset: bool,
+    pub(crate) allow_loopback: bool,
     pub(crate) children: &'static [Child],
     /// The key files before the session, by their grips, and those behind it, where they are looked at.
     pub(crate) files: &'static [KeyFile],
@@ -43,13 +43,13 @@ pub(crate) struct Row {
     pub(crate) key_faults: &'static [u64],
     pub(crate) draw_faults: &'static [u64],
     /// The launches, reads and writes that fail.
-    launches: &'static [u64],
-    reads: &'static [u64],
-    writes: &'static [u64],
+    pub(crate) launches: &'static [u64],
+    pub(crate) reads: &'static [u64],
+    pub(crate) writes: &'static [u64],
     /// What the clock gives.
-    readings: &'static [u64],
+    pub(crate) readings: &'static [u64],
     /// The most bytes that a read gives, of the client and of the children, each in a session of its own.
-    pieces: &'static [usize],
+    pub(crate) pieces: &'static [usize],
 }
 
 pub(crate) const PLAIN: Row = Row {
@@ -79,7 +79,7 @@ pub(crate) const KEYS: Row = Row {
 };
 
 /// What is sent, and what is answered. Presets are allowed.
-const ANSWERS: [(&str, &str); 48] = [
+const ANSWERS: [(&str, &str); 49] = [
     (
         "PRESET_PASSPHRASE id1 -1 736563726574\nGET_PASSPHRASE --no-ask --data id1\nBYE\nNOP\n",
         "OK\nD secret\nOK\nOK closing connection\n",
