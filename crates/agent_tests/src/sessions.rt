@@ -1,10 +1,12 @@
 ghost use Rattle.std.specs.Prelude.{◌≤◌, IfOk, IsSome};
 
 use crate::dialogues::DIALOGUES;
+use crate::key_sessions::{KEY_SESSIONS, WITH_A_KEY};
 use crate::prompts::{Child, PIN, PROMPTS};
 use agent_ports::{
-    Got, Host, Link, ListClock, ListDice, MapKeys, MemHost, MemLauncher, MemLink, MemSink,
-    MemSource, NoGate, Parts, PlannedChild, Sent, Sink, Source,
+    Got, Grip, Host, KeyNames, KeyRead, Keys, Link, ListClock, ListDice, MAX_KEY_FILE_LEN, MapKeys,
+    MemHost, MemLauncher, MemLink, MemSink, MemSource, NoGate, Parts, PlannedChild, Sent, Sink,
+    Source,
 };
 use agent_top::{Status, run_agent, run_server};
 use session_options::Rules;
@@ -18,28 +20,39 @@ const NO_DATA: &str = "ERR 67108922 No data <GPG Agent>\n";
 
 const TOO_LONG: &str = "ERR 67109127 Line passed to IPC too long <GPG Agent>\n";
 
+/// The file of a key, by its grip.
+pub(crate) type KeyFile = (&'static str, &'static [u8]);
+
 /// A session over memory: what it is given, and what comes of it. In a text `{part*3}` stands for three times that part.
 #[derive(Clone, Copy)]
-struct Row {
-    sent: &'static str,
+pub(crate) struct Row {
+    pub(crate) sent: &'static str,
     /// What is written at first, and then.
-    greeting: &'static str,
-    answered: &'static str,
-    status: u8,
-    allow_preset: bool,
-    allow_loopback: bool,
-    children: &'static [Child],
+    pub(crate) greeting: &'static str,
+    pub(crate) answered: &'static str,
+    pub(crate) status: u8,
+    pub(crate) allow_preset: bool,
+    pub(crate) allow_loopback: bool,
+    pub(crate) children: &'static [Child],
+    /// The key files before the session, by their grips, and those behind it, where they are looked at.
+    pub(crate) files: &'static [KeyFile],
+    pub(crate) files_after: Option<&'static [KeyFile]>,
+    /// The bytes to draw.
+    pub(crate) dice: &'static [u8],
+    /// The calls of the keys and the draws that fail.
+    pub(crate) key_faults: &'static [u64],
+    pub(crate) draw_faults: &'static [u64],
     /// The launches, reads and writes that fail.
-    launches: &'static [u64],
-    reads: &'static [u64],
-    writes: &'static [u64],
+    pub(crate) launches: &'static [u64],
+    pub(crate) reads: &'static [u64],
+    pub(crate) writes: &'static [u64],
     /// What the clock gives.
-    readings: &'static [u64],
+    pub(crate) readings: &'static [u64],
     /// The most bytes that a read gives, of the client and of the children, each in a session of its own.
-    pieces: &'static [usize],
+    pub(crate) pieces: &'static [usize],
 }
 
-const PLAIN: Row = Row {
+pub(crate) const PLAIN: Row = Row {
     sent: "",
     greeting: "OK Pleased to meet you\n",
     answered: "",
@@ -47,6 +60,11 @@ const PLAIN: Row = Row {
     allow_preset: true,
     allow_loopback: false,
     children: &[],
+    files: &[],
+    files_after: None,
+    dice: &[],
+    key_faults: &[],
+    draw_faults: &[],
     launches: &[],
     reads: &[],
     writes: &[],
@@ -54,8 +72,14 @@ const PLAIN: Row = Row {
     pieces: &[1, 7, 4096],
 };
 
+/// A session on keys, whose client may give passphrases itself.
+pub(crate) const KEYS: Row = Row {
+    allow_loopback: true,
+    ..PLAIN
+};
+
 /// What is sent, and what is answered. Presets are allowed.
-const ANSWERS: [(&str, &str); 48] = [
+const ANSWERS: [(&str, &str); 49] = [
     (
         "PRESET_PASSPHRASE id1 -1 736563726574\nGET_PASSPHRASE --no-ask --data id1\nBYE\nNOP\n",
         "OK\nD secret\nOK\nOK closing connection\n",
@@ -110,8 +134,9 @@ const ANSWERS: [(&str, &str); 48] = [
     ),
     ("GETINFO cmd_has_option GET_PASSPHRASE repeat\n", "OK\n"),
     ("GETINFO cmd_has_option CLEAR_PASSPHRASE mode\n", "OK\n"),
+    ("GETINFO cmd_has_option KEYINFO list\n", "OK\n"),
     (
-        "GETINFO cmd_has_option KEYINFO list\n",
+        "GETINFO cmd_has_option KEYINFO force\n",
         "ERR 67108924 Not supported <GPG Agent>\n",
     ),
     (
@@ -357,10 +382,46 @@ fn machine<'a, W: Wait>(
     let parts = Parts {
         launcher: MemLauncher::new(alloc, children, failing),
         clock: ListClock::new(Vec::from_slice(alloc, row.readings)?),
-        dice: ListDice::new(Vec::new(alloc), Vec::new(alloc)),
-        keys: MapKeys::new(alloc, Vec::new(alloc)),
+        dice: ListDice::new(
+            Vec::from_slice(alloc, row.dice)?,
+            Vec::from_slice(alloc, row.draw_faults)?,
+        ),
+        keys: keys_of(alloc, row)?,
     };
     Ok(MemHost::new(rt, alloc, 17, parts))
+}
+
+fn keys_of(alloc: Global, row: &Row) -> Result<MapKeys, AllocError> {
+    let mut keys = MapKeys::new(alloc, Vec::from_slice(alloc, row.key_faults)?);
+    for (grip, file) in row.files.iter() {
+        if let Some(grip) = Grip::of_hex(grip.as_bytes())
+            && file.len() <= MAX_KEY_FILE_LEN
+        {
+            keys.insert(grip, Vec::from_slice(alloc, file)?)?;
+        }
+    }
+    Ok(keys)
+}
+
+/// Whether these are the keys' files, each of them and no other.
+fn are_files(alloc: Global, keys: &mut MapKeys, files: &[KeyFile]) -> bool {
+    let KeyNames::Names(names) = keys.list(alloc) else {
+        return false;
+    };
+    names.len() == files.len()
+        && files
+            .iter()
+            .all(|(grip, file)| is_file(alloc, keys, grip, file))
+}
+
+fn is_file(alloc: Global, keys: &mut MapKeys, grip: &str, file: &[u8]) -> bool {
+    let Some(grip) = Grip::of_hex(grip.as_bytes()) else {
+        return false;
+    };
+    match keys.read(alloc, &grip) {
+        KeyRead::Found(bytes) => bytes.as_slice() == file,
+        _ => false,
+    }
 }
 
 /// The client's link, whose failing writes put two bytes.
@@ -410,8 +471,13 @@ fn outcome<W: Wait>(rt: &W, alloc: Global, row: &Row, piece: usize) -> Result<St
     let mut host = machine(rt, alloc, planned(alloc, row, piece)?, row)?;
     let status = serve(alloc, &rules_of(row), &mut stdio, &mut host);
     let answered = String::from_utf8_lossy(alloc, stdio.written())?;
-    let children = children_text(alloc, &host.server_parts().launcher)?;
-    format!(in alloc; "{answered}{status}{children}")
+    let mut parts = host.server_parts();
+    let children = children_text(alloc, &parts.launcher)?;
+    let kept = match row.files_after {
+        Some(files) if !are_files(alloc, &mut parts.keys, files) => "\nother key files",
+        _ => "",
+    };
+    format!(in alloc; "{answered}{status}{children}{kept}")
 }
 
 fn serve<H: Host>(alloc: Global, rules: &Rules, stdio: &mut MemLink, host: &mut H) -> u8
@@ -458,12 +524,25 @@ fn sessions_go_as_their_rows_say(rt: HostRuntime) -> Result<(), Fail> {
 
 #[test]
 fn requests_are_answered_as_in_the_protocol(rt: HostRuntime) -> Result<(), Fail> {
-    for (sent, answered) in ANSWERS.iter().chain(DIALOGUES.iter()) {
-        let row = Row {
-            sent,
-            answered,
-            ..PLAIN
-        };
+    for (answers, plain) in [
+        (ANSWERS.as_slice(), PLAIN),
+        (DIALOGUES.as_slice(), WITH_A_KEY),
+    ] {
+        for (sent, answered) in answers {
+            let row = Row {
+                sent,
+                answered,
+                ..plain
+            };
+            assert_eq!(rt; wrong(&rt, rt.alloc(), &row)?, None);
+        }
+    }
+    Ok(())
+}
+
+#[test]
+fn sessions_on_keys_go_as_their_rows_say(rt: HostRuntime) -> Result<(), Fail> {
+    for row in KEY_SESSIONS {
         assert_eq!(rt; wrong(&rt, rt.alloc(), &row)?, None);
     }
     Ok(())
