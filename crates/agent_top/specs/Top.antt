@@ -1,5 +1,5 @@
 -- What a run of the agent leaves, and its status. The statuses are this project's own.
-use Rattle.std.specs.Prelude.{◌≡◌, ℕ, List, [], ◌∷◌, Option, None, Some, ⊤}
+use Rattle.std.specs.Prelude.{◌≡◌, ◌⊎◌, ℕ, List, [], ◌∷◌, Option, None, Some, ⊤}
 use Rattle.std.specs.List.{AllByRecursion}
 use Rattle.agent_core.specs.Solos.{AtSolo, TurnsSolo}
 use Rattle.agent_ports.specs.Readings.{Readings, HasGiven}
@@ -108,6 +108,10 @@ pub record UsesParts {La C R K : Type 0} (GoesOn : La → C → La → C → Typ
   pub has_is : after ≡ Some has
   pub goes_on : GoesOn had.launcher had.clock has.launcher has.clock
   pub others : has ≡ record had { launcher = has.launcher; clock = has.clock }
+
+-- the words were refused, unless there was no memory to read them
+abbrev pub IsRefusal : ℕ → Type 0
+IsRefusal number = (number ≡ exit_number status.BadWords) ⊎ (number ≡ exit_number status.NoMemory)
 
 -- what is said where a session on standard input and output is asked for
 abbrev pub IfServer : RunMode → Type 0 → Type 0
