@@ -9,7 +9,7 @@ fn read(alloc: Global, line: &str) -> Result<Result<Rules, WordsFault>, AllocErr
     for word in line.split(' ') {
         words.push(String::from_str(alloc, word)?)?;
     }
-    Ok(read_words(&words))
+    Ok(read_words(alloc, &words))
 }
 
 #[test]
@@ -60,7 +60,7 @@ fn each_option_sets_its_field(rt: HostRuntime) -> Result<(), Fail> {
     Ok(())
 }
 
-const REFUSED: [&str; 30] = [
+const REFUSED: [&str; 38] = [
     "",
     "--workers=2",
     "--server --server",
@@ -70,8 +70,16 @@ const REFUSED: [&str; 30] = [
     "--server --extra-socket",
     "--daemon --extra-socket",
     "--server --extra-socket=x",
+    "--",
     "--server --",
+    "-- --server",
     "--server -",
+    "--server --homedir -",
+    "--server --homedir --",
+    "-h",
+    "--help",
+    "--server --version",
+    "--serv",
     "--server x",
     "--server=1",
     "--server --SERVER",
@@ -96,9 +104,13 @@ const REFUSED: [&str; 30] = [
 #[test]
 fn other_words_are_refused(rt: HostRuntime) -> Result<(), Fail> {
     for line in REFUSED {
-        assert!(rt; read(rt.alloc(), line)?.is_err(), "{line}");
+        assert_eq!(rt;
+            read(rt.alloc(), line)?.err(),
+            Some(WordsFault::Bad),
+            "{line}"
+        );
     }
-    let fault = read_words(&[]).err().ok_or("taken")?;
+    let fault = read_words(rt.alloc(), &[]).err().ok_or("taken")?;
     let text = format!(in rt.alloc(); "{fault}")?;
     assert_eq!(rt;
         text.as_str(),

@@ -2,7 +2,9 @@ mod Ears
 mod Lifting
 mod Rounds
 mod Running
-mod SettingLemmas
+mod OptionReading
+mod OptionRows
+mod OptionWalk
 mod Stopping
 mod Spelling
 mod WorkedExamples

@@ -1,5 +1,5 @@
 -- What the agent does by its run mode, and what the daemon leaves.
-use Rattle.std.specs.Prelude.{IsSome}
+use Rattle.std.specs.Prelude.{IsSome, IfSome}
 use Rattle.std.proofs.Common.{Option, None, Some, refl, sym, ◌≡◌, ◌≤◌, ◌<◌, ◌⊎◌, inl, inr, ℕ, List, [], ◌∷◌, Any, true, false, ap, ◌∙◌, subst, arith}
 use Rattle.agent_ports.specs.Counts.{Rose}
 use Rattle.agent_ports.specs.HostParts.{Views, AreSettled}
@@ -13,8 +13,10 @@ use Rattle.session_options.specs.declared.rules.Rules.{Rules}
 use Rattle.session_options.specs.declared.rules.RunMode.{RunMode}
 use Rattle.session_options.specs.declared.rules.RunMode.TheVariants.{Server, Daemon, Load}
 use Rattle.agent_top.proofs.Stopping.{stays_stopped}
-use Rattle.agent_top.specs.Daemon.{IsFirstStopped}
-use Rattle.agent_top.specs.Top.{IfServer, RunsServer, machine, UsesParts}
+use Rattle.agent_serve.specs.Working.{HostViews}
+use Rattle.agent_top.specs.Daemon.{RunsDaemon, no_memory as no_memory_for_it, IsFirstStopped}
+use Rattle.agent_top.specs.Top.{IfServer, IfDaemon, UsesParts, RunsServer, no_memory, machine, with_pid, exit_number}
+use Rattle.agent_top.specs.declared.status.Status.TheVariants as status
 
 pub if_server : (run : RunMode) {P : Type 0} → P → IfServer run P
 if_server Server p = p
@@ -43,6 +45,36 @@ module _ {La C R K : Type 0} (views : Views La C R K) where
     some_is e = cc e
   uses_settled rules input output number input_now output_now (Some had) None after there alike uses = absurd alike
   uses_settled rules input output number input_now output_now None mid after there alike uses = absurd (cc there)
+
+if_daemon : (run : RunMode) {P : Type 0} → P → IfDaemon run P
+if_daemon Server p = tt
+if_daemon Daemon p = p
+if_daemon (Load number) p = tt
+
+any_rules : (rules : Option Rules) {P : Rules → Type 0} → ((given : Rules) → P given) → IfSome rules P
+any_rules None p = tt
+any_rules (Some given) p = p given
+
+settled_already : {La C R K : Type 0} (views : Views La C R K) (parts : Option (Parts La C R K)) → AreSettled views parts parts
+settled_already views None = tt
+settled_already views (Some parts) = record { launcher = refl; clock = refl; dice = refl; keys = refl }
+
+parts_of : {La C R K : Type 0} (parts : Option (Parts La C R K)) → IsSome parts → (had : Parts La C R K) × (parts ≡ Some had)
+parts_of None some = absurd (cc some)
+parts_of (Some had) some = (had, refl)
+
+-- where there was no memory for the words, the server didn't run
+pub no_words_served : {La C R K : Type 0} (views : Views La C R K) (rules : Option Rules) (pid number : ℕ) (input output : Side) (parts : Option (Parts La C R K)) → IsSome parts → number ≡ exit_number status.NoMemory
+    → IfSome rules (λ given. IfServer given.run (UsesParts (RunsWith views (with_pid pid given) input output number input output) parts parts))
+no_words_served views rules pid number input output parts some is =
+    let had = parts_of parts some in
+    any_rules rules (λ given. if_server given.run (record { had = had.0; has = had.0; had_is = had.1; has_is = had.1; goes_on = rw is no_memory }))
+
+-- nor the daemon
+pub no_words_for_daemon : {Li La C R K : Type 0} (host : HostViews Li La C R K) (rules : Option Rules) (pid number listens : ℕ) (input output : Side) (parts : Option (Parts La C R K)) → number ≡ exit_number status.NoMemory
+    → IfSome rules (λ given. IfDaemon given.run (RunsDaemon host (with_pid pid given) listens output number listens output × (input ≡ input) × AreSettled host.parts parts parts))
+no_words_for_daemon host rules pid number listens input output parts is =
+    any_rules rules (λ given. if_daemon given.run (rw is no_memory_for_it, refl, settled_already host.parts parts))
 
 -- a pass that has seen a stop stands in a run that is stopped
 stopped_tally : (counted : AtCounted) (passes : List AtPass) (tally : Tally) → IsClosed counted passes tally → IsFirstStopped passes → tally.stopped ≡ true

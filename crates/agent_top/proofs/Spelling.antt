@@ -14,7 +14,6 @@ use Rattle.assuan_text.specs.Rows.{found}
 use Rattle.agent_top.specs.Forms.{forms, form_of, is_of_form, fits}
 use Rattle.agent_top.specs.Settings.{Setting, is_equals, holds_equals, begins_with_dash, alone, is_value_of, settings, Spells, none, bare, joined, apart}
 use Rattle.agent_top.specs.declared.words.forms.Form.{Form}
-use Rattle.agent_top.proofs.SettingLemmas.{none_holds}
 
 and_false : (b : Bool) → (b && false) ≡ false
 and_false true = refl
@@ -27,6 +26,15 @@ or_right false h = h
 not_true : (b : Bool) → not b ≡ true → b ≡ false
 not_true true h = absurd (cc h)
 not_true false h = refl
+
+holds_later : (b : Bool) (word : List ℕ) → cond (not b) (1 + position_or_len is_equals word) 0 ≡ 1 + length word
+    → (position_or_len is_equals word ≡ length word → holds_equals word ≡ false) → (b || holds_equals word) ≡ false
+holds_later true word e rest = absurd (omega (arith, e))
+holds_later false word e rest = rest (omega (arith, e))
+
+none_holds : (word : List ℕ) → position_or_len is_equals word ≡ length word → holds_equals word ≡ false
+none_holds [] e = refl
+none_holds (byte ∷ word) e = holds_later (is_equals byte) word (omega (arith, e)) (none_holds word)
 
 place_within : (word : List ℕ) → position_or_len is_equals word ≤ length word
 place_within word = prefix_len-le-length (λ byte. not (is_equals byte)) word

@@ -2,9 +2,8 @@
 -- dash is a value only after `=` is this project's own.
 use Rattle.std.specs.Prelude.{◌≡◌, ℕ, ◌==◌, ◌&&◌, not, Bool, true, false, List, [], ◌∷◌, ◌++◌, Option, Some, None, is_some, slice_index, if◌then◌else◌}
 use Rattle.std.specs.List.{list_any, before_first, after_first}
-use Rattle.std.specs.Option.{option_and_then, option_map}
+use Rattle.std.specs.Option.{option_and_then}
 use Rattle.assuan_text.specs.Rows.{found}
-use Rattle.agent_top.specs.declared.words.settings.Setting.{Setting as Named}
 
 -- what a word names, and its value, if it has one
 abbrev pub Setting : Type 0
@@ -56,10 +55,3 @@ value_given name given = option_and_then (λ value. value) (found name given)
 abbrev pub are_distinct : List Setting → Bool
 are_distinct [] = true
 are_distinct (setting ∷ others) = not (is_set setting.0 others) && are_distinct others
-
--- a setting as the program holds it
-abbrev pub value_of : Named → Option (List ℕ)
-value_of named = option_map (λ value. value.now) named.value
-
-abbrev pub setting_of : Named → Setting
-setting_of named = (named.name.now, value_of named)

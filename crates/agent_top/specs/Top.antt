@@ -1,5 +1,5 @@
 -- What a run of the agent leaves, and its status. The statuses are this project's own.
-use Rattle.std.specs.Prelude.{◌≡◌, ℕ, List, [], ◌∷◌, Option, None, Some, ⊤}
+use Rattle.std.specs.Prelude.{◌≡◌, ◌⊎◌, ℕ, List, [], ◌∷◌, Option, None, Some, ⊤}
 use Rattle.std.specs.List.{AllByRecursion}
 use Rattle.agent_core.specs.Solos.{AtSolo, TurnsSolo}
 use Rattle.agent_ports.specs.KeyFiles.{KeyFiles}
@@ -110,6 +110,10 @@ pub record UsesParts {La C R K : Type 0} (GoesOn : Parts La C R K → Parts La C
   pub had_is : before ≡ Some had
   pub has_is : after ≡ Some has
   pub goes_on : GoesOn had has
+
+-- the words were refused, unless there was no memory to read them
+abbrev pub IsRefusal : ℕ → Type 0
+IsRefusal number = (number ≡ exit_number status.BadWords) ⊎ (number ≡ exit_number status.NoMemory)
 
 -- what is said where a session on standard input and output is asked for
 abbrev pub IfServer : RunMode → Type 0 → Type 0

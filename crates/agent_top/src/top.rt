@@ -5,7 +5,7 @@ ghost use Rattle.agent_top.specs.Cache.{limits_of, fresh_desk};
 ghost use Rattle.agent_top.specs.Words.{rules_of};
 ghost use Rattle.agent_ports.specs.HostParts.{AreSettled};
 ghost use Rattle.agent_top.specs.Daemon.{RunsDaemon};
-ghost use Rattle.agent_top.specs.Top.{exit_number, machine, with_pid, no_child, UsesParts, RunsServer, IfServer, IfDaemon};
+ghost use Rattle.agent_top.specs.Top.{exit_number, machine, with_pid, IsRefusal, no_child, UsesParts, RunsServer, IfServer, IfDaemon};
 
 use crate::Status;
 use crate::daemon::run_daemon;
@@ -27,7 +27,7 @@ const SESSION: SessionId = SessionId { pass: 0, count: 0 };
 /// The agent. It reads its words, which leave out the program's name, and serves a session on standard input and output, or as a daemon
 /// those of a listener.
 ///
-/// Its answer is the status of the process: 0 at BYE, at KILLAGENT or at the end of the input, 1 where there is no memory for the session,
+/// Its answer is the status of the process: 0 at BYE, at KILLAGENT or at the end of the input, 1 where there is no memory for the words or the session,
 /// 2 for words that it doesn't take, 3 and 4 where a read or a write failed, 6 after 2^40 bytes, and 7 at a line of more than 1,000 bytes.
 /// With `--daemon` it is as `run_daemon` says.
 pub fn run_agent<W: Threads + Wait + rt::Clock + Sync, S: Link, H: Host + Sync>(
@@ -49,9 +49,9 @@ where
     H::Trust: Send + Sync,
     H::Gate: Send + Sync,
     requires { IsSome (H.server host.old) }
-    // Words that it doesn't know: nothing is read or written.
+    // Words that it doesn't know, or has no memory to read: nothing is read or written.
     ensures refused { IfNone (rules_of (map string_bytes words.now))
-        ((result ≡ exit_number Status.BadWords) × (S.input stdio.new ≡ S.input stdio.old) × (S.output stdio.new ≡ S.output stdio.old)
+        (IsRefusal result × (S.input stdio.new ≡ S.input stdio.old) × (S.output stdio.new ≡ S.output stdio.old)
         × (host.new ≡ host.old)) }
     // Words for standard input and output: a session was served, or there was no memory and nothing was read or written. The host has its
     // parts again.
@@ -69,7 +69,7 @@ where
         × AreSettled (record { launches = H.Launcher.launches; readings = H.Clock.readings; draws = H.Dice.draws; keys = H.Keys.keys }) (H.server host.old) (H.server host.new))) }
     ensures process { H.process host.new ≡ H.process host.old }
 {
-    match read_words(words) {
+    match read_words(alloc, words) {
         Ok(rules) => {
             let rules = with_pid(rules, host.pid());
             host.settle(&rules.homedir);
@@ -79,6 +79,7 @@ where
             run_server(alloc, &rules, stdio, host)
         }
         Err(WordsFault::Bad) => Status::BadWords.number(),
+        Err(WordsFault::NoMemory) => Status::NoMemory.number(),
     }
 }
 

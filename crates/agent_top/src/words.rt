@@ -1,31 +1,48 @@
-ghost use Rattle.std.specs.Prelude.{◌≡◌, ◌≤◌, length, map, string_bytes};
-ghost use Rattle.std.specs.Result.{result_ok};
-ghost use Rattle.agent_top.specs.Forms.{form_of, number_or, path_or};
+ghost use Rattle.std.specs.Prelude.{◌≡◌, ◌≤◌, IfOk, IfErr, Some, None, true, false, length, map, string_bytes};
+ghost use Rattle.agent_top.specs.Forms.{form_of, forms, number_or, path_or};
+ghost use Rattle.agent_top.specs.Options.{are_readable, flag_in};
 ghost use Rattle.agent_top.specs.Settings.{settings};
 ghost use Rattle.agent_top.specs.Within.{IsWithin};
 ghost use Rattle.agent_top.specs.Words.{rules_of, rules_from, rules_with, run_of, if_extra_fits, if_built};
 
 mod forms;
+mod options;
 mod settings;
 
 use arrayvec::ArrayVec;
 use forms::{form_of, number_for, path_of};
+use options::Given;
 use session_options::{MAX_VALUE_LEN, Rules, RunMode};
 pub use settings::words_are_read_as_spelled;
-use settings::{all_fit, are_distinct, is_set, value_given};
+use std::alloc::{AllocError, Global};
 use std::error::Error;
 use std::fmt;
 
-/// The words of the command line are none that the agent takes.
+/// Why words of the command line aren't taken.
 #[derive(Clone, Copy, Debug, PartialEq, Eq)]
 pub enum WordsFault {
     /// An unknown word, one given twice, a value out of form, or no word that says what to do.
     Bad,
+    /// There was no memory to read them.
+    NoMemory,
+}
+
+impl From<AllocError> for WordsFault {
+    ghost use Rattle.agent_top.specs.declared.words.WordsFault.{WordsFault};
+
+    ghost from_gives = { λ _ fault. fault ≡ WordsFault.NoMemory };
+
+    fn from(_error: AllocError) -> WordsFault {
+        WordsFault::NoMemory
+    }
 }
 
 impl fmt::Display for WordsFault {
     fn fmt<W: fmt::Write>(&self, f: &mut fmt::Formatter<W>) -> fmt::Result {
-        f.write_str("unknown or faulty words on the command line")
+        f.write_str(match self {
+            WordsFault::Bad => "unknown or faulty words on the command line",
+            WordsFault::NoMemory => "out of memory",
+        })
     }
 }
 
@@ -33,10 +50,12 @@ impl Error for WordsFault {}
 
 /// Reads the words of the command line, without the program's name, as the rules that they mean (GnuPG manual, "agent
 /// options"). `--extra-socket` and `--load` are refused, since they aren't built yet.
-pub fn read_words(words: &[String]) -> Result<Rules, WordsFault>
-    ensures { result_ok result ≡ rules_of (map string_bytes words.now) }
+pub fn read_words(alloc: Global, words: &[String]) -> Result<Rules, WordsFault>
+    ensures rules { IfOk result (λ rules. rules_of (map string_bytes words.now) ≡ Some rules) }
+    ensures bad { IfErr result (λ fault. fault ≡ WordsFault.Bad → rules_of (map string_bytes words.now) ≡ None) }
 {
-    rules_from(words)
+    let given = Given::read(alloc, words)?;
+    rules_from(&given)
         .and_then(if_extra_fits)
         .and_then(if_built)
         .ok_or(WordsFault::Bad)
@@ -63,64 +82,65 @@ fn if_built(rules: Rules) -> Option<Rules>
     }
 }
 
-/// The rules that the words mean.
-fn rules_from(words: &[String]) -> Option<Rules>
-    ensures { result ≡ rules_from (settings (map string_bytes words.now)) }
+/// The rules that the settings mean.
+fn rules_from(given: &Given<'_>) -> Option<Rules>
+    requires { are_readable given.now ≡ true }
+    ensures { result ≡ rules_from given.now }
 {
-    if !all_fit(words) || !are_distinct(words) {
+    if !given.fits() {
         return None;
     }
-    let run = run_of(words)?;
-    Some(rules_with(words, run))
+    let run = run_of(given)?;
+    Some(rules_with(given, run))
 }
 
 /// The rules that settings mean, where each has the form of its option.
 #[tactic(auto, unfolding(crate::specs::Forms::form_of))]
-fn rules_with(words: &[String], run: RunMode) -> Rules
-    ensures { result ≡ rules_with (settings (map string_bytes words.now)) run }
+fn rules_with(given: &Given<'_>, run: RunMode) -> Rules
+    ensures { result ≡ rules_with given.now run }
 {
     let usual = Rules::default();
     Rules {
-        default_ttl: number_or(words, "--default-cache-ttl", usual.default_ttl.into()) as u32,
-        max_ttl: number_or(words, "--max-cache-ttl", usual.max_ttl.into()) as u32,
+        default_ttl: number_or(given, "--default-cache-ttl", usual.default_ttl.into()) as u32,
+        max_ttl: number_or(given, "--max-cache-ttl", usual.max_ttl.into()) as u32,
         default_ttl_ssh: number_or(
-            words,
+            given,
             "--default-cache-ttl-ssh",
             usual.default_ttl_ssh.into(),
         ) as u32,
-        max_ttl_ssh: number_or(words, "--max-cache-ttl-ssh", usual.max_ttl_ssh.into()) as u32,
+        max_ttl_ssh: number_or(given, "--max-cache-ttl-ssh", usual.max_ttl_ssh.into()) as u32,
         pinentry_timeout: number_or(
-            words,
+            given,
             "--pinentry-timeout",
             usual.pinentry_timeout.into(),
         ) as u32,
-        workers: number_or(words, "--workers", usual.workers.into()) as u32,
+        workers: number_or(given, "--workers", usual.workers.into()) as u32,
         pid: usual.pid,
-        min_len: number_or(words, "--min-passphrase-len", usual.min_len.into()) as u8,
+        min_len: number_or(given, "--min-passphrase-len", usual.min_len.into()) as u8,
         min_nonalpha: number_or(
-            words,
+            given,
             "--min-passphrase-nonalpha",
             usual.min_nonalpha.into(),
         ) as u8,
-        allow_preset: is_set(words, "--allow-preset-passphrase"),
-        allow_loopback: !is_set(words, "--no-allow-loopback-pinentry"),
-        extra: is_set(words, "--extra-socket"),
-        s2k_count: number_or(words, "--s2k-count", usual.s2k_count),
-        pinentry: path_or(words, "--pinentry-program", &usual.pinentry),
-        homedir: path_or(words, "--homedir", &usual.homedir),
+        allow_preset: given.is_set("--allow-preset-passphrase"),
+        allow_loopback: !given.is_set("--no-allow-loopback-pinentry"),
+        extra: given.is_set("--extra-socket"),
+        s2k_count: number_or(given, "--s2k-count", usual.s2k_count),
+        pinentry: path_or(given, "--pinentry-program", &usual.pinentry),
+        homedir: path_or(given, "--homedir", &usual.homedir),
         run,
     }
 }
 
-/// What the words say that the agent is to do, where they say one thing.
+/// What the settings say that the agent is to do, where they say one thing.
 #[tactic(auto, unfolding(crate::specs::Forms::form_of))]
-fn run_of(words: &[String]) -> Option<RunMode>
-    ensures { result ≡ run_of (settings (map string_bytes words.now)) }
+fn run_of(given: &Given<'_>) -> Option<RunMode>
+    ensures { result ≡ run_of given.now }
 {
-    let server = is_set(words, "--server");
-    let daemon = is_set(words, "--daemon");
-    let load = is_set(words, "--load");
-    let number = number_or(words, "--load", 0) as u32;
+    let server = given.is_set("--server");
+    let daemon = given.is_set("--daemon");
+    let load = given.value("--load").is_some();
+    let number = number_or(given, "--load", 0) as u32;
     match (server, daemon, load) {
         (true, false, false) => Some(RunMode::Server),
         (false, true, false) => Some(RunMode::Daemon),
@@ -130,23 +150,25 @@ fn run_of(words: &[String]) -> Option<RunMode>
 }
 
 /// The number that an option is given, or else its default.
-fn number_or(words: &[String], name: &str, default: u64) -> u64
-    requires { IsWithin (form_of name.now) default }
-    ensures number { result ≡ number_or default name.now (settings (map string_bytes words.now)) }
+fn number_or(given: &Given<'_>, name: &str, default: u64) -> u64
+    requires within { IsWithin (form_of name.now) default }
+    requires value { flag_in name.now forms ≡ false }
+    ensures number { result ≡ number_or default name.now given.now }
     ensures within { IsWithin (form_of name.now) result }
 {
-    match (form_of(name), value_given(words, name)) {
+    match (form_of(name), given.value(name)) {
         (Some(form), Some(value)) => number_for(form, value).unwrap_or(default),
         _ => default,
     }
 }
 
 /// The path that an option is given, or else its default.
-fn path_or(words: &[String], name: &str, default: &[u8]) -> ArrayVec<u8, MAX_VALUE_LEN>
-    requires { length default.now ≤ 200 }
-    ensures { result.items ≡ path_or default.now name.now (settings (map string_bytes words.now)) }
+fn path_or(given: &Given<'_>, name: &str, default: &[u8]) -> ArrayVec<u8, MAX_VALUE_LEN>
+    requires default { length default.now ≤ 200 }
+    requires value { flag_in name.now forms ≡ false }
+    ensures { result.items ≡ path_or default.now name.now given.now }
 {
-    let path = match value_given(words, name).and_then(path_of) {
+    let path = match given.value(name).and_then(path_of) {
         Some(path) => path.as_bytes(),
         None => default,
     };

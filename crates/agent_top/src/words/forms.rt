@@ -1,10 +1,9 @@
 ghost use Rattle.std.specs.Prelude.{◌≡◌, Some};
 ghost use Rattle.std.specs.Option.{option_map};
-ghost use Rattle.agent_top.specs.Forms.{form_of, fits, path_of, number_between, number_for};
-ghost use Rattle.agent_top.specs.Settings.{setting_of};
+ghost use Rattle.assuan_text.specs.Rows.{found, rows_of};
+ghost use Rattle.agent_top.specs.Forms.{form_of, is_of_form, path_of, number_between, number_for};
 
-use super::settings::Setting;
-use assuan_text::{found, number_of};
+use assuan_text::number_of;
 use cache_policy::{MAX_SECONDS, MAX_SECRET_LEN};
 use session_options::{MAX_S2K_COUNT, MAX_WORKERS, MIN_S2K_COUNT, MIN_WORKERS};
 
@@ -44,43 +43,54 @@ const WORKERS: Form = Form::Number {
     greatest: MAX_WORKERS as u64,
 };
 
-const FORMS: [(&[u8], Form); 17] = [
-    (b"--server", Form::Flag),
-    (b"--daemon", Form::Flag),
-    (b"--load", LOAD),
-    (b"--homedir", Form::Path),
-    (b"--pinentry-program", Form::Path),
-    (b"--default-cache-ttl", SECONDS),
-    (b"--max-cache-ttl", SECONDS),
-    (b"--default-cache-ttl-ssh", SECONDS),
-    (b"--max-cache-ttl-ssh", SECONDS),
-    (b"--allow-preset-passphrase", Form::Flag),
-    (b"--no-allow-loopback-pinentry", Form::Flag),
-    (b"--extra-socket", Form::Flag),
-    (b"--min-passphrase-len", PASSPHRASE_LEN),
-    (b"--min-passphrase-nonalpha", PASSPHRASE_LEN),
-    (b"--pinentry-timeout", SECONDS),
-    (b"--s2k-count", S2K_COUNT),
-    (b"--workers", WORKERS),
+pub(super) const FORMS: [(&str, Form); 17] = [
+    ("--server", Form::Flag),
+    ("--daemon", Form::Flag),
+    ("--load", LOAD),
+    ("--homedir", Form::Path),
+    ("--pinentry-program", Form::Path),
+    ("--default-cache-ttl", SECONDS),
+    ("--max-cache-ttl", SECONDS),
+    ("--default-cache-ttl-ssh", SECONDS),
+    ("--max-cache-ttl-ssh", SECONDS),
+    ("--allow-preset-passphrase", Form::Flag),
+    ("--no-allow-loopback-pinentry", Form::Flag),
+    ("--extra-socket", Form::Flag),
+    ("--min-passphrase-len", PASSPHRASE_LEN),
+    ("--min-passphrase-nonalpha", PASSPHRASE_LEN),
+    ("--pinentry-timeout", SECONDS),
+    ("--s2k-count", S2K_COUNT),
+    ("--workers", WORKERS),
 ];
 
 /// What the option of this name takes.
 #[tactic(auto, unfolding(crate::specs::Forms::form_of))]
-pub(crate) fn form_of(name: &str) -> Option<Form>
+pub(super) fn form_of(name: &str) -> Option<Form>
     ensures { result ≡ form_of name.now }
 {
-    found(name.as_bytes(), &FORMS)
+    named(name, &FORMS)
 }
 
-/// Whether the setting's name is known, and its value has the form of that option.
-pub(crate) fn fits(setting: Setting<'_>) -> bool
-    ensures { result ≡ fits (setting_of setting.entry) }
+/// What the first row of this name has.
+fn named(name: &str, rows: &[(&str, Form)]) -> Option<Form>
+    ensures { result ≡ found name.now (rows_of rows.now) }
 {
-    match (form_of(setting.name), setting.value) {
-        (Some(Form::Flag), None) => true,
-        (Some(Form::Path), Some(value)) => path_of(value).is_some(),
-        (Some(form), Some(value)) => number_for(form, value).is_some(),
-        _ => false,
+    for (known, form) in rows {
+        if *known == name {
+            return Some(*form);
+        }
+    }
+    None
+}
+
+/// Whether a value has the form of its option.
+pub(super) fn is_of_form(form: Form, value: &str) -> bool
+    ensures { result ≡ is_of_form form (Some value.now) }
+{
+    match form {
+        Form::Flag => false,
+        Form::Path => path_of(value).is_some(),
+        Form::Number { .. } => number_for(form, value).is_some(),
     }
 }
 

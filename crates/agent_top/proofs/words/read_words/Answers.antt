@@ -1,0 +1,8 @@
+use Rattle.std.proofs.Common.{map}
+use Rattle.std.specs.Prelude.{string_bytes}
+use Rattle.agent_top.proofs.OptionReading.{fault_is, no_rules}
+use Rattle.agent_top.proofs.words.read_words.Goals as goal
+
+pub returns-in_err-given-clause-bad : goal.returns-in_err-given-clause-bad
+returns-in_err-given-clause-bad c =
+    fault_is c.from_residual.result _ _ c.from_residual.ensures.1 (λ bad. no_rules (map string_bytes c.args.words.now) (c.in_err-given.ensures.bad bad))
