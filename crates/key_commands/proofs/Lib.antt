@@ -9,6 +9,7 @@ pub mod Partial
 pub mod Prompts
 pub mod Reading
 pub mod Replying
+pub mod Requesting
 pub mod Seating
 pub mod Unwrapping
 mod WorkedExamples
