@@ -1,7 +1,7 @@
 pub mod AtClient
 pub mod Doing
 pub mod Going
-pub mod Listing
+pub mod ListedKeys
 pub mod Opening
 pub mod Partial
 pub mod Prompts
@@ -9,5 +9,6 @@ pub mod Reading
 pub mod Replying
 pub mod Seating
 pub mod Unwrapping
+pub mod KeyDraws
 mod WorkedExamples
 mod WorkedExchanges

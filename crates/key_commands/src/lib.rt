@@ -3,6 +3,7 @@
 #![tactic(auto)]
 
 mod consent;
+mod deleting;
 mod drawing;
 mod faults;
 mod files;
@@ -10,6 +11,7 @@ mod grips;
 mod held;
 mod inquiries;
 mod key_calls;
+mod listing;
 mod names;
 mod opened;
 mod read;
@@ -22,6 +24,7 @@ mod went;
 mod wrap_keys;
 mod wrapping;
 
+pub use drawing::Drawn;
 pub use grips::{Grips, MAX_GRIPS};
 pub use names::{KEY_COMMANDS, KeyCommandName, key_commands_are_as_defined};
 pub use read::read_key;
