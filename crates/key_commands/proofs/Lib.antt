@@ -1,4 +1,5 @@
 pub mod AtClient
+pub mod Deletions
 pub mod Doing
 pub mod Going
 pub mod ListedKeys
@@ -10,5 +11,6 @@ pub mod Replying
 pub mod Seating
 pub mod Unwrapping
 pub mod KeyDraws
+pub mod KeyInfos
 mod WorkedExamples
 mod WorkedExchanges

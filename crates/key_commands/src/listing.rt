@@ -49,10 +49,11 @@ pub(crate) fn key_info<D: Desk, K: Keys>(
     desk: &mut D,
     keys: &mut K,
 ) -> Result<Reply, Refusal>
-    requires { (D.at desk.old).out ≡ held.now }
-    ensures tells { (rules : TheRules) (options : OptionValues) (wraps : WrapKeys) (conn : Connection) (dice : Side) → IsOpen conn → held.now ≡ None
+    requires none { held.now ≡ None }
+    requires out { (D.at desk.old).out ≡ held.now }
+    ensures tells { (rules : TheRules) (options : OptionValues) (wraps : WrapKeys) (conn : Connection) (dice : Side) → IsOpen conn
         → CarriesOut D.turned NoCall (KeyInfoReplies rules options wraps grip.now) wraps (key_state D.turned NoCall conn desk.old tt (K.keys keys.old) dice)
-        result wraps held.now (key_state D.turned NoCall conn desk.new tt (K.keys keys.new) dice) }
+        result wraps None (key_state D.turned NoCall conn desk.new tt (K.keys keys.new) dice) }
     ensures out { (D.at desk.new).out ≡ held.now }
 {
     let file = read_file(alloc, grip, keys)?;
@@ -73,10 +74,11 @@ pub(crate) fn list_keys<L: Link, D: Desk, K: Keys>(
     keys: &mut K,
 ) -> Result<Reply, Refusal>
     requires open { IsOpen conn.old }
+    requires none { held.now ≡ None }
     requires out { (D.at desk.old).out ≡ held.now }
-    ensures tells { (rules : TheRules) (options : OptionValues) (wraps : WrapKeys) (dice : Side) → held.now ≡ None
+    ensures tells { (rules : TheRules) (options : OptionValues) (wraps : WrapKeys) (dice : Side)
         → CarriesOut D.turned NoCall (ListKeysReplies rules options wraps) wraps (key_state D.turned NoCall conn.old desk.old tt (K.keys keys.old) dice)
-        result wraps held.now (key_state D.turned NoCall conn.new desk.new tt (K.keys keys.new) dice) }
+        result wraps None (key_state D.turned NoCall conn.new desk.new tt (K.keys keys.new) dice) }
     ensures out { (D.at desk.new).out ≡ held.now }
 {
     let grips = list_grips(alloc, keys)?;

@@ -1,4 +1,4 @@
-use Rattle.std.proofs.Common.{ℕ, List, Result, map, drop}
+use Rattle.std.proofs.Common.{Result, drop}
 use Rattle.agent_ports.specs.KeyFiles.{KeyFiles}
 use Rattle.key_commands.specs.KeyParts.{HasOne}
 use Rattle.key_commands.specs.Steps.{DoesKeyCalls}

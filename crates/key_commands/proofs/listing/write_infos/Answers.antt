@@ -1,9 +1,8 @@
 use Rattle.std.proofs.Common.{refl, None}
 use Rattle.std.proofs.lemmas.Result.{err_from_is_err_and}
-use Rattle.agent_ports.specs.Sides.{Side}
 use Rattle.key_commands.specs.Parts.{returns}
 use Rattle.key_commands.specs.Partial.{NoCall}
-use Rattle.key_commands.proofs.Doing.{part_still, part_then, part_stops}
+use Rattle.key_commands.proofs.Doing.{part_still}
 use Rattle.key_commands.proofs.ListedKeys.{tells_on, tells_in_vain, tells_none}
 use Rattle.key_commands.proofs.listing.write_infos.Goals as goal
 

@@ -1,4 +1,4 @@
-use Rattle.std.proofs.Common.{◌≡◌, ℕ, List, Option, Result, drop}
+use Rattle.std.proofs.Common.{◌≡◌, ℕ, Option, Result, drop}
 use Rattle.agent_ports.specs.Sides.{Side}
 use Rattle.assuan_server.specs.Connections.{IsOpen}
 use Rattle.key_commands.specs.KeyParts.{WritesInfos}
