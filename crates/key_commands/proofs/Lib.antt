@@ -3,6 +3,8 @@ pub mod Deletions
 pub mod Doing
 pub mod Going
 pub mod ListedKeys
+pub mod AtPrompt
+pub mod Joining
 pub mod Opening
 pub mod Partial
 pub mod Prompts

@@ -1,10 +1,11 @@
 -- Locked keys that a passphrase opens, or doesn't.
-use Rattle.std.proofs.Common.{◌≡◌, ◌⊎◌, ℕ, List, inl, inr}
+use Rattle.std.proofs.Common.{◌≡◌, ◌⊎◌, ℕ, List, inl, inr, refl}
 use Rattle.secret_file.specs.Answers.{AnswersOpening}
-use Rattle.secret_file.specs.Opens.{LockedKey, OpensTo}
+use Rattle.secret_file.specs.Opens.{LockedKey, OpensTo, FitsFile}
 use Rattle.secret_file.specs.declared.locked.Opened.TheVariants.{Key as Opens, BadPassphrase, NoMemory}
 use Rattle.sexp_keys.specs.Key.{Key}
 use Rattle.key_commands.specs.Passphrases.{OpensBy}
+use Rattle.key_commands.specs.Trials.{IsUsable}
 
 module _ (locked : LockedKey) (pass : List ℕ) where
   pub opens_so : (key : Key) → (Opens key ≡ NoMemory) ⊎ AnswersOpening locked pass (Opens key) → OpensTo locked pass key
@@ -16,3 +17,7 @@ module _ (locked : LockedKey) (pass : List ℕ) where
   stays_so (inl memory) = cc memory
   stays_so (inr (inl found)) = cc found.2
   stays_so (inr (inr none)) = λ by. none.0 by.0 by.1
+
+-- a key that was opened is clear
+pub usable_so : {locked : LockedKey} {pass : List ℕ} {key : Key} → OpensTo locked pass key → FitsFile key → IsUsable key
+usable_so opens fits = record { clear = rw opens.clear refl; fits = fits }

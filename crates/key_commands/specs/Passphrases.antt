@@ -113,6 +113,13 @@ abbrev pub TriesFound : LockedKey → Option (List ℕ) → Part (Option OpenedK
 TriesFound locked None = Returns None
 TriesFound locked (Some pass) = Tries locked pass
 
+-- the client itself gives a new passphrase, which isn't empty
+unfoldable pub ClientNew : Part (List ℕ)
+ClientNew = do
+  pass ← AsksClient (codes "NEW_PASSPHRASE") MAX_SECRET_LEN
+  some ← wanted code.BadPass (not (length pass == 0))
+  Returns pass
+
 module _ (rules : Rules) (options : OptionValues) (grip : Grip) where
   -- one prompt under the ticket that the request holds, at which a passphrase is right that opens the key
   pub data PromptsOld (locked : LockedKey) : Option ℕ → List Event → Result OpenedKey Refusal → Option ℕ → Type 0 where
@@ -143,18 +150,22 @@ module _ (rules : Rules) (options : OptionValues) (grip : Grip) where
   UncachedOld mode.Error locked = Refuses (Agent code.NoPinentry)
   UncachedOld mode.Loopback locked = ClientOld locked
 
+  -- what is cached under the key opens it, or else it is opened as the client wants it
+  abbrev pub CachedOld : LockedKey → Part OpenedKey
+  CachedOld locked = do
+    cached ← Asks (ask_key grip (way_of options.mode))
+    second ← TriesFound locked cached
+    or_else second (UncachedOld options.mode locked)
+
   -- A locked key is opened by what is cached under the nonce, or else under the key, or else as the client wants it. What is cached and doesn't
   -- open it is passed over.
   unfoldable pub OpensLocked : Option (List ℕ) → LockedKey → Part OpenedKey
   OpensLocked nonce locked = do
     by_nonce ← LooksForNonce nonce
     first ← TriesFound locked by_nonce
-    or_else first (do
-      cached ← Asks (ask_key grip (way_of options.mode))
-      second ← TriesFound locked cached
-      or_else second (UncachedOld options.mode locked))
+    or_else first (CachedOld locked)
 
-  abbrev old_by : Option (List ℕ) → Key → Bool → Part OpenedKey
+  abbrev pub old_by : Option (List ℕ) → Key → Bool → Part OpenedKey
   old_by id key true = Returns (record { key = key; by = None })
   old_by id key false = do
     locked ← Locks key
@@ -164,7 +175,7 @@ module _ (rules : Rules) (options : OptionValues) (grip : Grip) where
   abbrev pub OldPassphrase : Option (List ℕ) → Key → Part OpenedKey
   OldPassphrase nonce key = old_by nonce key key.is_clear
 
-  abbrev verified_by : Key → Bool → Part OpenedKey
+  abbrev pub verified_by : Key → Bool → Part OpenedKey
   verified_by key true = Returns (record { key = key; by = None })
   verified_by key false = do
     locked ← Locks key
@@ -186,14 +197,7 @@ module _ (rules : Rules) (options : OptionValues) (grip : Grip) where
         → PromptsPin spec (plan_of rules options (text []) true 1) (λ pin. ⊤) shown answer → pin_refusal answer ≡ Some why
         → PromptsNew (Some ticket) shown (Err why) (Some ticket)
 
-  -- the client itself gives one, which isn't empty
-  unfoldable pub ClientNew : Part (List ℕ)
-  ClientNew = do
-    pass ← AsksClient (codes "NEW_PASSPHRASE") MAX_SECRET_LEN
-    some ← wanted code.BadPass (not (length pass == 0))
-    Returns pass
-
-  abbrev new_by : PinMode → Part (List ℕ)
+  abbrev pub new_by : PinMode → Part (List ℕ)
   new_by mode.Ask = do
     seated ← TakesSeat grip
     PromptsNew

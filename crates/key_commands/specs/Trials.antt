@@ -1,16 +1,21 @@
 -- Private: passphrases that are tried on a locked key at a prompt, and what their answers mean.
-use Rattle.std.specs.Prelude.{◌≡◌, ℕ, List, Option, Some, ⊤}
+use Rattle.std.specs.Prelude.{◌≡◌, ℕ, List, Option, Some, IsTrue, ⊤}
 use Rattle.std.proofs.Common.{sym, subst}
 use Rattle.agent_ask.specs.Tests.{Judges, IsTest}
 use Rattle.agent_ask.specs.declared.test.Tested.{Tested}
 use Rattle.agent_ask.specs.declared.test.Tested.TheVariants.{Yes, No, NoMemory}
-use Rattle.secret_file.specs.Opens.{LockedKey, OpensTo}
+use Rattle.secret_file.specs.Opens.{LockedKey, OpensTo, FitsFile}
 use Rattle.sexp_keys.specs.Key.{Key}
 use Rattle.key_commands.specs.Passphrases.{OpensBy}
 
--- what is kept of a passphrase that was answered so
+-- a clear key within the limits of a file that is read
+pub record IsUsable (key : Key) : Type 0 where
+  pub clear : IsTrue key.is_clear
+  pub fits : FitsFile key
+
+-- what is kept of a passphrase that was answered so: the key that it opens, which fits a file
 abbrev pub Keeps : LockedKey → List ℕ → Tested → Option Key → Type 0
-Keeps locked pin Yes opened = (key : Key) × (opened ≡ Some key) × OpensTo locked pin key
+Keeps locked pin Yes opened = (key : Key) × (opened ≡ Some key) × OpensTo locked pin key × FitsFile key
 Keeps locked pin No opened = ¬ OpensBy locked pin
 Keeps locked pin NoMemory opened = ⊤
 

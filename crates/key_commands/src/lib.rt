@@ -2,6 +2,7 @@
 //! parts of doing it. No request is carried out yet.
 #![tactic(auto)]
 
+mod asking;
 mod consent;
 mod deleting;
 mod drawing;
@@ -13,7 +14,11 @@ mod inquiries;
 mod key_calls;
 mod listing;
 mod names;
+mod new;
+mod nonces;
+mod old;
 mod opened;
+mod prompting;
 mod read;
 mod refusal;
 mod reply;

@@ -1,10 +1,10 @@
 //! Keys that a passphrase opens.
 
-ghost use Rattle.std.specs.Prelude.{◌≡◌, Ok, Some};
+ghost use Rattle.std.specs.Prelude.{◌≡◌, IfOk, IfSome};
 ghost use Rattle.secret_file.specs.Opens.{FitsFile};
-ghost use Rattle.key_commands.specs.Passphrases.{Locks, Tries};
+ghost use Rattle.key_commands.specs.Passphrases.{Locks, Tries, TriesFound};
 ghost use Rattle.key_commands.specs.Steps.{DoesAlone};
-ghost use Rattle.key_commands.specs.declared.opened.OpenedKey.{OpenedKey as ClearKey};
+ghost use Rattle.key_commands.specs.Trials.{IsUsable};
 
 use crate::faults::fault_code;
 use crate::refusal::Refusal;
@@ -41,7 +41,7 @@ pub(crate) fn try_pass(
     pass: Secret,
 ) -> Result<Option<OpenedKey>, Refusal>
     ensures tries { DoesAlone (Tries locked.now pass) result }
-    ensures fits { (opened : ClearKey) → result ≡ Ok (Some opened) → FitsFile opened.key }
+    ensures usable { IfOk result (λ found. IfSome found (λ opened. IsUsable opened.key)) }
 {
     match locked.open(alloc, pass.bytes()) {
         Opened::Key(key) => Ok(Some(OpenedKey {
@@ -53,12 +53,37 @@ pub(crate) fn try_pass(
     }
 }
 
+/// Tries a passphrase that was found, where one was.
+pub(crate) fn try_found(
+    alloc: Global,
+    locked: &Locked,
+    found: Option<Secret>,
+) -> Result<Option<OpenedKey>, Refusal>
+    ensures tries { DoesAlone (TriesFound locked.now found) result }
+    ensures usable { IfOk result (λ found. IfSome found (λ opened. IsUsable opened.key)) }
+{
+    match found {
+        Some(pass) => try_pass(alloc, locked, pass),
+        None => Ok(None),
+    }
+}
+
 /// The test of a prompt: a passphrase is right that opens a locked key. What it opened last is kept.
 #[derive(Drop)]
 pub(crate) struct OpensKey<'l> {
     pub(crate) alloc: Global,
     pub(crate) locked: &'l Locked,
     pub(crate) opened: Option<KeyList>,
+}
+
+impl<'l> OpensKey<'l> {
+    /// What it opened last.
+    pub(crate) fn into_opened(self) -> Option<KeyList>
+        ensures { result ≡ self.entry.opened }
+    {
+        let OpensKey { opened, .. } = self;
+        opened
+    }
 }
 
 impl<'l> Test for OpensKey<'l> {

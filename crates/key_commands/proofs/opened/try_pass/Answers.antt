@@ -1,8 +1,8 @@
-use Rattle.std.proofs.Common.{[], ◌∷◌}
+use Rattle.std.proofs.Common.{[], ◌∷◌, refl}
 use Rattle.key_commands.specs.Events.{out_of_memory}
 use Rattle.key_commands.specs.Passphrases.{opens, stays, no_memory}
 use Rattle.key_commands.specs.Steps.{nothing, memory}
-use Rattle.key_commands.proofs.Opening.{opens_so, stays_so}
+use Rattle.key_commands.proofs.Opening.{opens_so, stays_so, usable_so}
 use Rattle.key_commands.proofs.opened.try_pass.Goals as goal
 
 pub returns-in-Key-clause-tries : goal.returns-in-Key-clause-tries
@@ -17,3 +17,7 @@ returns-in-BadPassphrase-clause-tries c =
 
 pub returns-in-NoMemory-clause-tries : goal.returns-in-NoMemory-clause-tries
 returns-in-NoMemory-clause-tries c = record { events = out_of_memory ∷ []; alone = memory; does = λ held. no_memory }
+
+pub returns-in-Key-clause-usable : goal.returns-in-Key-clause-usable
+returns-in-Key-clause-usable c =
+    usable_so (opens_so c.args.locked.now c.args.pass c.in-Key.key (rw c.bytes.ensures.value at c.in-Key.ensures.answer)) (c.in-Key.ensures.fits c.in-Key.key refl)

@@ -1,0 +1,7 @@
+use Rattle.std.proofs.Common.{[]}
+use Rattle.key_commands.specs.Parts.{returns}
+use Rattle.key_commands.specs.Steps.{nothing}
+use Rattle.key_commands.proofs.opened.try_found.Goals as goal
+
+pub returns-in-None-clause-tries : goal.returns-in-None-clause-tries
+returns-in-None-clause-tries c = rw c.in-None.is (record { events = []; alone = nothing; does = λ held. returns })

@@ -1,0 +1,22 @@
+use Rattle.std.proofs.Common.{true}
+use Rattle.key_commands.specs.Passphrases.{given, refused}
+use Rattle.key_commands.proofs.AtPrompt.{prompt_gave, prompt_refused, pin_refuses, spec_says, plan_says, planned}
+use Rattle.key_commands.proofs.prompting.prompt_new.Goals as goal
+
+pub pin_refusal-requires : goal.pin_refusal-requires
+pin_refusal-requires g c = pin_refuses c.ask_user.result c.ask_user.ensures.unheard c.in_default-ask_user.not-Pin
+
+pub returns-in-Pin-clause-prompts : goal.returns-in-Pin-clause-prompts
+returns-in-Pin-clause-prompts g c =
+    let spec = spec_says c.new_description.ensures c.field_text.ensures c.prompt_spec-spec.ensures in
+    let plan = plan_says c.args.asking.now.rules.now c.args.asking.now.options.now true 1 c.ask_plan-plan.ensures c.new.ensures in
+    rw (← c.ticket.ensures, c.in-Some.is)
+    (prompt_gave g.P.Prompter.prompted c.in-Pin.ensures.asked c.in-Pin.ensures.left (λ events prompts. given c.prompt_spec-spec.result spec (planned plan prompts)))
+
+pub returns-in_default-ask_user-clause-prompts : goal.returns-in_default-ask_user-clause-prompts
+returns-in_default-ask_user-clause-prompts g c =
+    let spec = spec_says c.new_description.ensures c.field_text.ensures c.prompt_spec-spec.ensures in
+    let plan = plan_says c.args.asking.now.rules.now c.args.asking.now.options.now true 1 c.ask_plan-plan.ensures c.new.ensures in
+    rw (← c.ticket.ensures, c.in-Some.is)
+    (prompt_refused g.P.Prompter.prompted c.ask_user.ensures.asked c.pin_refusal.ensures c.ask_user.ensures.left
+    (λ events prompts. refused c.prompt_spec-spec.result spec (planned plan prompts) c.pin_refusal.ensures))

@@ -1,0 +1,76 @@
+//! A new passphrase for a key: from the user, or the client itself.
+
+ghost use Rattle.std.specs.Prelude.{◌≡◌};
+ghost use Rattle.agent_ask.specs.Prompters.{IsShut};
+ghost use Rattle.assuan_server.specs.Connections.{IsOpen};
+ghost use Rattle.session_options.specs.declared.options.PinMode.TheVariants as pin_mode;
+ghost use Rattle.key_commands.specs.Partial.{DoesAtClient, LeavesKeys};
+ghost use Rattle.key_commands.specs.Passphrases.{ClientNew, NewPassphrase, new_by};
+
+use crate::asking::Asking;
+use crate::held::Held;
+use crate::inquiries::ask_client;
+use crate::prompting::prompt_new;
+use crate::refusal::Refusal;
+use crate::turns::take_seat;
+use agent_ask::Prompter;
+use agent_ports::Link;
+use assuan_server::{Code, Conn};
+use cache_policy::{Desk, Secret};
+use session_options::PinMode;
+
+/// A new passphrase for a key, as the client wants it. The ticket of a prompt is held when it returns.
+pub(crate) fn new_passphrase<L: Link, D: Desk, P: Prompter>(
+    asking: &Asking<'_>,
+    held: &mut Held,
+    conn: &mut Conn<'_, L>,
+    desk: &mut D,
+    prompter: &mut P,
+) -> Result<Secret, Refusal>
+    requires open { IsOpen conn.old }
+    requires out { (D.at desk.old).out ≡ held.old }
+    requires shut { IsShut (P.at prompter.old) }
+    ensures does { LeavesKeys D.turned P.prompted (NewPassphrase asking.now.rules.now asking.now.options.now asking.now.grip.now)
+        held.old conn.old desk.old prompter.old result held.new conn.new desk.new prompter.new }
+    ensures out { (D.at desk.new).out ≡ held.new }
+    ensures shut { IsShut (P.at prompter.new) }
+{
+    match asking.options.mode() {
+        PinMode::Ask => new_by_user(asking, held, conn, desk, prompter),
+        PinMode::Cancel => Err(Refusal::Agent(Code::Cancelled)),
+        PinMode::Error => Err(Refusal::Agent(Code::NoPinentry)),
+        PinMode::Loopback => new_by_client(conn),
+    }
+}
+
+/// One that the user gives, under the seat that the request has or takes.
+fn new_by_user<L: Link, D: Desk, P: Prompter>(
+    asking: &Asking<'_>,
+    held: &mut Held,
+    conn: &mut Conn<'_, L>,
+    desk: &mut D,
+    prompter: &mut P,
+) -> Result<Secret, Refusal>
+    requires open { IsOpen conn.old }
+    requires out { (D.at desk.old).out ≡ held.old }
+    requires shut { IsShut (P.at prompter.old) }
+    ensures does { LeavesKeys D.turned P.prompted (new_by asking.now.rules.now asking.now.options.now asking.now.grip.now pin_mode.Ask)
+        held.old conn.old desk.old prompter.old result held.new conn.new desk.new prompter.new }
+    ensures out { (D.at desk.new).out ≡ held.new }
+    ensures shut { IsShut (P.at prompter.new) }
+{
+    take_seat(asking.grip, held, desk)?;
+    prompt_new(asking, held, conn, prompter)
+}
+
+/// One that the client itself gives, which isn't empty.
+fn new_by_client<L: Link>(conn: &mut Conn<'_, L>) -> Result<Secret, Refusal>
+    requires open { IsOpen conn.old }
+    ensures { DoesAtClient ClientNew conn.old result conn.new }
+{
+    let pass = ask_client(b"NEW_PASSPHRASE", conn)?;
+    if pass.bytes().is_empty() {
+        return Err(Refusal::Agent(Code::BadPass));
+    }
+    Ok(pass)
+}

@@ -1,0 +1,27 @@
+//! Passphrases that are cached under a nonce.
+
+ghost use Rattle.std.specs.Prelude.{◌≡◌};
+ghost use Rattle.key_commands.specs.Passphrases.{LooksForNonce};
+ghost use Rattle.key_commands.specs.Steps.{DoesTurns};
+
+use crate::held::Held;
+use crate::refusal::Refusal;
+use crate::turns::ask_cache;
+use cache_policy::{CacheId, Desk, Mode, Secret, Way};
+
+/// What is cached under a nonce, where there is one. It opens no prompt.
+pub(crate) fn look_for_nonce<D: Desk>(
+    nonce: Option<CacheId>,
+    held: &mut Held,
+    desk: &mut D,
+) -> Result<Option<Secret>, Refusal>
+    requires out { (D.at desk.old).out ≡ held.old }
+    ensures turn { DoesTurns D.turned (LooksForNonce nonce) held.old desk.old result held.new desk.new }
+    ensures same { held.new ≡ held.old }
+    ensures out { (D.at desk.new).out ≡ held.new }
+{
+    match nonce {
+        None => Ok(None),
+        Some(nonce) => ask_cache(nonce, Mode::Nonce, Way::Quiet, held, desk),
+    }
+}

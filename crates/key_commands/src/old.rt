@@ -1,0 +1,218 @@
+//! The old passphrase of a key: from the cache, the user, or the client itself.
+
+ghost use Rattle.std.specs.Prelude.{◌≡◌, IfOk, None};
+ghost use Rattle.agent_ask.specs.Prompters.{IsShut};
+ghost use Rattle.assuan_server.specs.Connections.{IsOpen};
+ghost use Rattle.secret_file.specs.Opens.{FitsFile};
+ghost use Rattle.session_options.specs.declared.options.PinMode.TheVariants as pin_mode;
+ghost use Rattle.key_commands.specs.Partial.{DoesAtDesk, LeavesKeys};
+ghost use Rattle.key_commands.specs.Passphrases.{ClientOld, UncachedOld, CachedOld, OpensLocked, OldPassphrase, VerifiesPassphrase, way_of};
+ghost use Rattle.key_commands.specs.Trials.{IsUsable};
+
+use crate::asking::Asking;
+use crate::held::Held;
+use crate::inquiries::ask_client;
+use crate::nonces::look_for_nonce;
+use crate::opened::{OpenedKey, lock_of, try_found, try_pass};
+use crate::prompting::prompt_old;
+use crate::refusal::Refusal;
+use crate::texts::key_id;
+use crate::turns::{ask_cache, keep_pass, take_seat};
+use agent_ask::Prompter;
+use agent_ports::Link;
+use assuan_server::{Code, Conn};
+use cache_policy::{CacheId, Desk, Mode, Way};
+use secret_file::Locked;
+use session_options::PinMode;
+use sexp_keys::KeyList;
+
+/// The clear key: a protected one is opened by what is cached under the nonce or under the key, or else as the client wants it. A clear one
+/// needs no passphrase. The ticket of a prompt is held when it returns.
+pub(crate) fn old_passphrase<L: Link, D: Desk, P: Prompter>(
+    asking: &Asking<'_>,
+    nonce: Option<CacheId>,
+    key: KeyList,
+    held: &mut Held,
+    conn: &mut Conn<'_, L>,
+    desk: &mut D,
+    prompter: &mut P,
+) -> Result<OpenedKey, Refusal>
+    requires fits { FitsFile key }
+    requires free { held.old ≡ None }
+    requires open { IsOpen conn.old }
+    requires out { (D.at desk.old).out ≡ held.old }
+    requires shut { IsShut (P.at prompter.old) }
+    ensures does { LeavesKeys D.turned P.prompted (OldPassphrase asking.now.rules.now asking.now.options.now asking.now.grip.now nonce key)
+        held.old conn.old desk.old prompter.old result held.new conn.new desk.new prompter.new }
+    ensures out { (D.at desk.new).out ≡ held.new }
+    ensures shut { IsShut (P.at prompter.new) }
+    ensures usable { IfOk result (λ opened. IsUsable opened.key) }
+{
+    if key.is_clear() {
+        return Ok(OpenedKey { key, by: None });
+    }
+    let locked = lock_of(asking.alloc, key)?;
+    open_locked(asking, nonce, &locked, held, conn, desk, prompter)
+}
+
+/// The clear key, by a passphrase that is asked for, whatever is cached. A clear one needs none.
+pub(crate) fn verified_passphrase<L: Link, D: Desk, P: Prompter>(
+    asking: &Asking<'_>,
+    key: KeyList,
+    held: &mut Held,
+    conn: &mut Conn<'_, L>,
+    desk: &mut D,
+    prompter: &mut P,
+) -> Result<OpenedKey, Refusal>
+    requires fits { FitsFile key }
+    requires open { IsOpen conn.old }
+    requires out { (D.at desk.old).out ≡ held.old }
+    requires shut { IsShut (P.at prompter.old) }
+    ensures does { LeavesKeys D.turned P.prompted (VerifiesPassphrase asking.now.rules.now asking.now.options.now asking.now.grip.now key)
+        held.old conn.old desk.old prompter.old result held.new conn.new desk.new prompter.new }
+    ensures out { (D.at desk.new).out ≡ held.new }
+    ensures shut { IsShut (P.at prompter.new) }
+    ensures usable { IfOk result (λ opened. IsUsable opened.key) }
+{
+    if key.is_clear() {
+        return Ok(OpenedKey { key, by: None });
+    }
+    let locked = lock_of(asking.alloc, key)?;
+    open_uncached(asking, &locked, held, conn, desk, prompter)
+}
+
+/// Opens a locked key by what is cached under the nonce, or else under the key, or else as the client wants it.
+fn open_locked<L: Link, D: Desk, P: Prompter>(
+    asking: &Asking<'_>,
+    nonce: Option<CacheId>,
+    locked: &Locked,
+    held: &mut Held,
+    conn: &mut Conn<'_, L>,
+    desk: &mut D,
+    prompter: &mut P,
+) -> Result<OpenedKey, Refusal>
+    requires free { held.old ≡ None }
+    requires open { IsOpen conn.old }
+    requires out { (D.at desk.old).out ≡ held.old }
+    requires shut { IsShut (P.at prompter.old) }
+    ensures does { LeavesKeys D.turned P.prompted (OpensLocked asking.now.rules.now asking.now.options.now asking.now.grip.now nonce locked.now)
+        held.old conn.old desk.old prompter.old result held.new conn.new desk.new prompter.new }
+    ensures out { (D.at desk.new).out ≡ held.new }
+    ensures shut { IsShut (P.at prompter.new) }
+    ensures usable { IfOk result (λ opened. IsUsable opened.key) }
+{
+    let found = look_for_nonce(nonce, held, desk)?;
+    match try_found(asking.alloc, locked, found)? {
+        Some(opened) => Ok(opened),
+        None => open_cached(asking, locked, held, conn, desk, prompter),
+    }
+}
+
+/// Opens a locked key by what is cached under it, or else as the client wants it.
+fn open_cached<L: Link, D: Desk, P: Prompter>(
+    asking: &Asking<'_>,
+    locked: &Locked,
+    held: &mut Held,
+    conn: &mut Conn<'_, L>,
+    desk: &mut D,
+    prompter: &mut P,
+) -> Result<OpenedKey, Refusal>
+    requires free { held.old ≡ None }
+    requires open { IsOpen conn.old }
+    requires out { (D.at desk.old).out ≡ held.old }
+    requires shut { IsShut (P.at prompter.old) }
+    ensures does { LeavesKeys D.turned P.prompted (CachedOld asking.now.rules.now asking.now.options.now asking.now.grip.now locked.now)
+        held.old conn.old desk.old prompter.old result held.new conn.new desk.new prompter.new }
+    ensures out { (D.at desk.new).out ≡ held.new }
+    ensures shut { IsShut (P.at prompter.new) }
+    ensures usable { IfOk result (λ opened. IsUsable opened.key) }
+{
+    let way = way_of(asking.options.mode());
+    let found = ask_cache(key_id(asking.grip), Mode::Normal, way, held, desk)?;
+    match try_found(asking.alloc, locked, found)? {
+        Some(opened) => Ok(opened),
+        None => open_uncached(asking, locked, held, conn, desk, prompter),
+    }
+}
+
+/// Whether a request may open a prompt: where its client wants one.
+fn way_of(mode: PinMode) -> Way
+    ensures { result ≡ way_of mode }
+{
+    match mode {
+        PinMode::Ask => Way::Prompt,
+        _ => Way::Quiet,
+    }
+}
+
+/// Opens a locked key by a passphrase that comes from no cache.
+fn open_uncached<L: Link, D: Desk, P: Prompter>(
+    asking: &Asking<'_>,
+    locked: &Locked,
+    held: &mut Held,
+    conn: &mut Conn<'_, L>,
+    desk: &mut D,
+    prompter: &mut P,
+) -> Result<OpenedKey, Refusal>
+    requires open { IsOpen conn.old }
+    requires out { (D.at desk.old).out ≡ held.old }
+    requires shut { IsShut (P.at prompter.old) }
+    ensures does { LeavesKeys D.turned P.prompted
+        (UncachedOld asking.now.rules.now asking.now.options.now asking.now.grip.now asking.now.options.now.mode locked.now)
+        held.old conn.old desk.old prompter.old result held.new conn.new desk.new prompter.new }
+    ensures out { (D.at desk.new).out ≡ held.new }
+    ensures shut { IsShut (P.at prompter.new) }
+    ensures usable { IfOk result (λ opened. IsUsable opened.key) }
+{
+    match asking.options.mode() {
+        PinMode::Ask => open_by_user(asking, locked, held, conn, desk, prompter),
+        PinMode::Cancel => Err(Refusal::Agent(Code::Cancelled)),
+        PinMode::Error => Err(Refusal::Agent(Code::NoPinentry)),
+        PinMode::Loopback => open_by_client(asking, locked, held, conn, desk),
+    }
+}
+
+/// Opens a locked key by the user's passphrase, under the seat that the request has or takes.
+fn open_by_user<L: Link, D: Desk, P: Prompter>(
+    asking: &Asking<'_>,
+    locked: &Locked,
+    held: &mut Held,
+    conn: &mut Conn<'_, L>,
+    desk: &mut D,
+    prompter: &mut P,
+) -> Result<OpenedKey, Refusal>
+    requires open { IsOpen conn.old }
+    requires out { (D.at desk.old).out ≡ held.old }
+    requires shut { IsShut (P.at prompter.old) }
+    ensures does { LeavesKeys D.turned P.prompted (UncachedOld asking.now.rules.now asking.now.options.now asking.now.grip.now pin_mode.Ask locked.now)
+        held.old conn.old desk.old prompter.old result held.new conn.new desk.new prompter.new }
+    ensures out { (D.at desk.new).out ≡ held.new }
+    ensures shut { IsShut (P.at prompter.new) }
+    ensures usable { IfOk result (λ opened. IsUsable opened.key) }
+{
+    take_seat(asking.grip, held, desk)?;
+    prompt_old(asking, locked, held, conn, prompter)
+}
+
+/// Opens a locked key by the passphrase that the client itself gives, which is kept.
+fn open_by_client<L: Link, D: Desk>(
+    asking: &Asking<'_>,
+    locked: &Locked,
+    held: &Held,
+    conn: &mut Conn<'_, L>,
+    desk: &mut D,
+) -> Result<OpenedKey, Refusal>
+    requires open { IsOpen conn.old }
+    requires out { (D.at desk.old).out ≡ held.now }
+    ensures does { DoesAtDesk (ClientOld asking.now.rules.now asking.now.options.now asking.now.grip.now locked.now) D.turned
+        held.now conn.old desk.old result held.now conn.new desk.new }
+    ensures out { (D.at desk.new).out ≡ held.now }
+    ensures usable { IfOk result (λ opened. IsUsable opened.key) }
+{
+    let pass = ask_client(b"PASSPHRASE", conn)?;
+    let Some(opened) = try_pass(asking.alloc, locked, pass.copy())? else {
+        return Err(Refusal::Agent(Code::BadPass));
+    };
+    keep_pass(asking.grip, &pass, held, desk)?;
+    Ok(opened)
+}

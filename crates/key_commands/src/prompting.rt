@@ -1,0 +1,118 @@
+//! Prompts for the passphrase of a key, as parts of a request that holds a ticket.
+
+ghost use Rattle.std.specs.Prelude.{◌≡◌, Some, IfOk, IsSome, is_some, true};
+ghost use Rattle.agent_ask.specs.Prompters.{IsShut};
+ghost use Rattle.assuan_server.specs.Connections.{IsOpen};
+ghost use Rattle.key_commands.specs.Lines.{field_text};
+ghost use Rattle.key_commands.specs.Partial.{DoesAtPrompter};
+ghost use Rattle.key_commands.specs.Passphrases.{PromptsOld, PromptsNew, pin_refusal};
+ghost use Rattle.key_commands.specs.Trials.{IsUsable};
+
+use crate::asking::Asking;
+use crate::held::Held;
+use crate::opened::{OpenedKey, OpensKey};
+use crate::refusal::Refusal;
+use crate::texts::{new_description, old_description};
+use agent_ask::{AnyPin, Asked, Prompter, ask_plan, ask_user, prompt_spec};
+use agent_ports::Link;
+use assuan_server::{Code, Conn};
+use assuan_text::Text;
+use cache_policy::Secret;
+use secret_file::Locked;
+
+/// Asks the user for the passphrase of a locked key: the clear key, as the accepted passphrase opened it.
+pub(crate) fn prompt_old<L: Link, P: Prompter>(
+    asking: &Asking<'_>,
+    locked: &Locked,
+    held: &Held,
+    conn: &mut Conn<'_, L>,
+    prompter: &mut P,
+) -> Result<OpenedKey, Refusal>
+    requires open { IsOpen conn.old }
+    requires shut { IsShut (P.at prompter.old) }
+    requires seated { is_some held.now ≡ true }
+    ensures prompts { DoesAtPrompter (PromptsOld asking.now.rules.now asking.now.options.now asking.now.grip.now locked.now) P.prompted
+        held.now conn.old prompter.old result conn.new prompter.new }
+    ensures shut { IsShut (P.at prompter.new) }
+    ensures usable { IfOk result (λ opened. IsUsable opened.key) }
+{
+    let Some(ticket) = held.ticket() else {
+        unreachable!()
+    };
+    let spec = prompt_spec(
+        &old_description(asking.grip),
+        &field_text(),
+        false,
+        asking.rules,
+        asking.options,
+    );
+    let plan = ask_plan(&Text::new(), false, 0, asking.rules, asking.options);
+    let mut test = OpensKey {
+        alloc: asking.alloc,
+        locked,
+        opened: None,
+    };
+    match ask_user(ticket, &spec, &plan, &mut test, conn, prompter) {
+        Asked::Pin(pin) => match test.into_opened() {
+            Some(key) => Ok(OpenedKey { key, by: Some(pin) }),
+            None => unreachable!(),
+        },
+        asked => Err(pin_refusal(asked)),
+    }
+}
+
+/// Asks the user for a new passphrase of a key, which meets the check and is repeated.
+pub(crate) fn prompt_new<L: Link, P: Prompter>(
+    asking: &Asking<'_>,
+    held: &Held,
+    conn: &mut Conn<'_, L>,
+    prompter: &mut P,
+) -> Result<Secret, Refusal>
+    requires open { IsOpen conn.old }
+    requires shut { IsShut (P.at prompter.old) }
+    requires seated { is_some held.now ≡ true }
+    ensures prompts { DoesAtPrompter (PromptsNew asking.now.rules.now asking.now.options.now asking.now.grip.now) P.prompted
+        held.now conn.old prompter.old result conn.new prompter.new }
+    ensures shut { IsShut (P.at prompter.new) }
+{
+    let Some(ticket) = held.ticket() else {
+        unreachable!()
+    };
+    let spec = prompt_spec(
+        &new_description(asking.grip),
+        &field_text(),
+        true,
+        asking.rules,
+        asking.options,
+    );
+    let plan = ask_plan(&Text::new(), true, 1, asking.rules, asking.options);
+    match ask_user(ticket, &spec, &plan, &mut AnyPin, conn, prompter) {
+        Asked::Pin(pin) => Ok(pin),
+        asked => Err(pin_refusal(asked)),
+    }
+}
+
+/// What stands before the field of a passphrase.
+fn field_text() -> Text
+    ensures { result.items ≡ field_text }
+{
+    let mut text = Text::new();
+    text.try_extend_from_slice(b"Passphrase:").unwrap();
+    text
+}
+
+/// How a request is refused whose prompt gave no passphrase.
+fn pin_refusal(asked: Asked) -> Refusal
+    requires { IsSome (pin_refusal asked) }
+    ensures { pin_refusal asked ≡ Some result }
+{
+    match asked {
+        Asked::Cancelled => Refusal::Pinentry(Code::Cancelled),
+        Asked::TimedOut => Refusal::Pinentry(Code::Timeout),
+        Asked::NoPinentry => Refusal::Agent(Code::NoPinentry),
+        Asked::Bad => Refusal::Agent(Code::BadPass),
+        Asked::Heard(heard) => Refusal::Client(heard.unheard()),
+        Asked::NoMemory => Refusal::Agent(Code::NoMemory),
+        Asked::Pin(_) => unreachable!(),
+    }
+}
