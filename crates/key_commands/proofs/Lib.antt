@@ -1,9 +1,10 @@
 pub mod AtClient
-pub mod AtPrompt
+pub mod Deletions
 pub mod Doing
 pub mod Going
+pub mod ListedKeys
+pub mod AtPrompt
 pub mod Joining
-pub mod Listing
 pub mod Opening
 pub mod Partial
 pub mod Prompts
@@ -12,5 +13,7 @@ pub mod Replying
 pub mod Requesting
 pub mod Seating
 pub mod Unwrapping
+pub mod KeyDraws
+pub mod KeyInfos
 mod WorkedExamples
 mod WorkedExchanges

@@ -139,12 +139,16 @@ WritesInfo grip (Some key) = do
   line ← TellsInfo grip key
   Writes line
 
+abbrev pub TellsListed : Grip → Part (Unit {0})
+TellsListed grip = do
+  key ← ReadsListed grip
+  WritesInfo grip key
+
 -- a line for each of these keys, each written before the next key is read
 abbrev pub WritesInfos : List Grip → Part (Unit {0})
 WritesInfos [] = Returns tt
 WritesInfos (grip ∷ more) = do
-  key ← ReadsListed grip
-  written ← WritesInfo grip key
+  told ← TellsListed grip
   WritesInfos more
 
 -- ---- IMPORT_KEY

@@ -4,6 +4,7 @@
 
 mod asking;
 mod consent;
+mod deleting;
 mod drawing;
 mod faults;
 mod files;
@@ -11,6 +12,7 @@ mod grips;
 mod held;
 mod inquiries;
 mod key_calls;
+mod listing;
 mod names;
 mod new;
 mod nonces;
@@ -29,6 +31,7 @@ mod went;
 mod wrap_keys;
 mod wrapping;
 
+pub use drawing::Drawn;
 pub use grips::{Grips, MAX_GRIPS};
 pub use names::{KEY_COMMANDS, KeyCommandName, key_commands_are_as_defined};
 pub use read::read_key;
