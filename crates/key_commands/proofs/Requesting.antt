@@ -20,7 +20,7 @@ use Rattle.key_commands.specs.declared.refusal.Refusal.TheVariants.{Agent}
 use Rattle.key_commands.specs.declared.reply.Reply.TheVariants as replies
 use Rattle.key_commands.specs.declared.went.KeyWent.TheVariants.{On}
 use Rattle.key_commands.specs.declared.wrap_keys.WrapKeys.{WrapKeys}
-use Rattle.key_commands.proofs.Joining.{keeps_on}
+use Rattle.key_commands.proofs.Going.{changes_on}
 
 -- a request whose reply is OK alone
 pub replies_ok : {D P : Type 0} {turned : D → MarkStep → Turn → D → Type 0} {prompted : P → Call → P → Type 0} {part : Part KeyReply} {before after : WrapKeys} {held : Option ℕ}
@@ -57,7 +57,7 @@ short_on (long beyond) = refl
 short_on no_short_memory = refl
 
 pub kept_on : (grip : Grip) (pass : List ℕ) (before after : Option ℕ) (result : Result (Unit {0}) Refusal) (events : List Event) → KeepsNew grip pass before events result after → went_by result ≡ On
-kept_on grip pass None after result events changes = keeps_on changes
+kept_on grip pass None after result events changes = changes_on changes
 kept_on grip pass (Some ticket) after result events (closed turn) = refl
 
 pub wraps_on : {wrap : List ℕ} {key : Key} {before after : Option ℕ} {events : List Event} {result : Result (List ℕ) Refusal} → WrapsKey wrap key before events result after → went_by result ≡ On
