@@ -1,13 +1,15 @@
 -- Parts that are refused by errors of the agent's own, after which the session goes on.
-use Rattle.std.proofs.Common.{◌≡◌, ℕ, List, Bool, Option, Result, refl}
+use Rattle.std.proofs.Common.{◌≡◌, ℕ, List, [], Bool, Option, Some, None, Result, refl}
+use Rattle.agent_ports.specs.Sides.{Side}
 use Rattle.agent_ports.specs.declared.grip.Grip.{Grip}
 use Rattle.cache_policy.specs.declared.mark.MarkStep.{MarkStep}
 use Rattle.sexp_keys.specs.Key.{Key}
 use Rattle.key_commands.specs.Events.{Event}
 use Rattle.key_commands.specs.KeyParts.{ReadsFile, is_key, faulty, no_memory as no_file_memory, unread, ListsGrips, listed, faulted as not_listed, no_memory as no_list_memory, ReadsListed, Removes, done as removed, not_done as not_removed}
 use Rattle.key_commands.specs.KeyParts as part
-use Rattle.key_commands.specs.Parts.{Seats, Changes, Peeks, Finds, Draws, opened, done, interrupted, peeked, found, absent, faulted, no_memory, drawn}
+use Rattle.key_commands.specs.Parts.{Part, or_else, returns, Seats, Changes, Peeks, Finds, Draws, opened, done, interrupted, peeked, found, absent, faulted, no_memory, drawn}
 use Rattle.key_commands.specs.States.{went_by}
+use Rattle.key_commands.specs.Steps.{DoesDrawings, no_draw, one_draw}
 use Rattle.key_commands.specs.declared.key_calls.KeyFile.{KeyFile}
 use Rattle.key_commands.specs.declared.refusal.Refusal.{Refusal}
 use Rattle.key_commands.specs.declared.went.KeyWent.TheVariants.{On}
@@ -55,3 +57,13 @@ grips_on no_list_memory = refl
 pub removes_on : {before after : Option ℕ} {events : List Event} {grip : Grip} {result : Result (Unit {0}) Refusal} → Removes grip before events result after → went_by result ≡ On
 removes_on removed = refl
 removes_on (not_removed why) = refl
+
+pub or_else_on : {before after : Option ℕ} {events : List Event} {A : Type 0} (kept : Option A) (other : Part A) {result : Result A Refusal}
+    → (other before events result after → went_by result ≡ On) → or_else kept other before events result after → went_by result ≡ On
+or_else_on None other each does = each does
+or_else_on (Some value) other each returns = refl
+
+pub drawings_on : {A : Type 0} {part : Part A} {dice now : Side} {result : Result A Refusal} → ((held : Option ℕ) (events : List Event) → part held events result held → went_by result ≡ On)
+    → DoesDrawings part dice result now → went_by result ≡ On
+drawings_on each (no_draw does) = each None [] (does None)
+drawings_on each (one_draw drawing) = each None _ (drawing.does None)

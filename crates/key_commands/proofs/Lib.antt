@@ -1,17 +1,21 @@
 pub mod AtClient
-pub mod AtPrompt
+pub mod Deletions
 pub mod Doing
 pub mod Going
+pub mod ListedKeys
+pub mod AtPrompt
 pub mod Joining
 pub mod KeyFiles
-pub mod Listing
 pub mod Opening
 pub mod Partial
 pub mod Prompts
 pub mod Reading
 pub mod Replying
+pub mod Requesting
 pub mod Seating
 pub mod Unwrapping
+pub mod KeyDraws
+pub mod KeyInfos
 mod WorkedExamples
 mod WorkedExchanges
 mod WorkedFiles

@@ -70,6 +70,11 @@ pub record DoesDrawing {A : Type 0} (part : Part A) (before : Side) (result : Re
   pub draws : DoesDraw before draw after
   pub does : (held : Option ℕ) → part held (Further (Dice draw) ∷ []) result held
 
+-- one draw at most
+pub data DoesDrawings {A : Type 0} (part : Part A) (before : Side) (result : Result A Refusal) : Side → Type 0 where
+  no_draw : ((held : Option ℕ) → part held [] result held) → DoesDrawings part before result before
+  one_draw : {after : Side} → DoesDrawing part before result after → DoesDrawings part before result after
+
 -- a change of a key's file was done, or is refused by this answer
 abbrev pub IsChanged : KeyDone → Result (Unit {0}) Refusal → Type 0
 IsChanged done (Ok changed) = done ≡ Done

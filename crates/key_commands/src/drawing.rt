@@ -1,6 +1,6 @@
 //! Draws of random bytes, as parts of a request.
 
-ghost use Rattle.std.specs.Prelude.{◌≡◌, IfOk};
+ghost use Rattle.std.specs.Prelude.{◌≡◌};
 ghost use Rattle.key_commands.specs.Parts.{Draws};
 ghost use Rattle.key_commands.specs.Steps.{DoesDrawing};
 
@@ -30,6 +30,13 @@ impl<const N: usize> Drawn<N> {
         ensures { result.now ≡ self.now }
     {
         &self.bytes
+    }
+
+    /// The same bytes once more.
+    pub(crate) fn copy(&self) -> Drawn<N>
+        ensures { result ≡ self.now }
+    {
+        Drawn { bytes: self.bytes }
     }
 }
 

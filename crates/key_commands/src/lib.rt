@@ -4,19 +4,24 @@
 
 mod asking;
 mod consent;
+mod deleting;
 mod drawing;
+mod export;
 mod faults;
 mod files;
 mod grips;
 mod held;
 mod inquiries;
 mod key_calls;
+mod listing;
 mod names;
 mod new;
 mod nonces;
 mod old;
 mod opened;
+mod passwd;
 mod prompting;
+mod protecting;
 mod read;
 mod refusal;
 mod reply;
@@ -27,6 +32,7 @@ mod went;
 mod wrap_keys;
 mod wrapping;
 
+pub use drawing::Drawn;
 pub use grips::{Grips, MAX_GRIPS};
 pub use names::{KEY_COMMANDS, KeyCommandName, key_commands_are_as_defined};
 pub use read::read_key;

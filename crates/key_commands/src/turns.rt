@@ -1,7 +1,8 @@
 //! Turns at the desk, as parts of a request.
 
 ghost use Rattle.std.specs.Prelude.{◌≡◌, true, None, IsOk, IsSome};
-ghost use Rattle.cache_policy.specs.declared.mark.MarkStep.TheVariants.{Ask, Seat, Put};
+ghost use Rattle.cache_policy.specs.declared.mark.MarkStep.TheVariants.{Ask, Seat, Put, Clear};
+ghost use Rattle.cache_policy.specs.declared.mode.Mode.TheVariants.{Normal};
 ghost use Rattle.cache_policy.specs.Turns.{asked_step, closes, opens};
 ghost use Rattle.key_commands.specs.Parts.{Asks, Changes, Closes, Peeks, Seats};
 ghost use Rattle.key_commands.specs.Passphrases.{TakesSeat, put_key};
@@ -104,6 +105,40 @@ pub(crate) fn keep_pass<D: Desk>(
         mode: Mode::Normal,
         life: Life::Default,
         secret: pass.copy(),
+    }) {
+        Ok(Reply::Done) => Ok(()),
+        Ok(Reply::Stopping) => Err(Refusal::Agent(Code::Cancelled)),
+        Ok(_) => unreachable!(),
+        Err(Refused { step }) => Err(without_memory(step)),
+    }
+}
+
+/// Whether a key's passphrase is cached. It isn't used, and lives no longer by this.
+pub(crate) fn peek<D: Desk>(grip: &Grip, held: &Held, desk: &mut D) -> Result<bool, Refusal>
+    requires out { (D.at desk.old).out ≡ held.now }
+    ensures turn { DoesTurn D.turned (Peeks grip.now) held.now desk.old result held.now desk.new }
+    ensures out { (D.at desk.new).out ≡ held.now }
+{
+    match desk.turn(Step::Peek {
+        id: key_id(grip),
+        mode: Mode::Normal,
+    }) {
+        Ok(Reply::Held(cached)) => Ok(cached),
+        Ok(Reply::Stopping) => Err(Refusal::Agent(Code::Cancelled)),
+        Ok(_) => unreachable!(),
+        Err(Refused { step }) => Err(without_memory(step)),
+    }
+}
+
+/// Removes a key's passphrase from the cache.
+pub(crate) fn clear_pass<D: Desk>(grip: &Grip, held: &Held, desk: &mut D) -> Result<(), Refusal>
+    requires out { (D.at desk.old).out ≡ held.now }
+    ensures turn { DoesTurn D.turned (Changes (Clear (grip_text grip.now) Normal)) held.now desk.old result held.now desk.new }
+    ensures out { (D.at desk.new).out ≡ held.now }
+{
+    match desk.turn(Step::Clear {
+        id: key_id(grip),
+        mode: Mode::Normal,
     }) {
         Ok(Reply::Done) => Ok(()),
         Ok(Reply::Stopping) => Err(Refusal::Agent(Code::Cancelled)),
