@@ -1,13 +1,13 @@
 -- Parts that are refused by errors of the agent's own, after which the session goes on.
-use Rattle.std.proofs.Common.{◌≡◌, ℕ, List, [], Bool, Option, Some, None, Result, refl}
+use Rattle.std.proofs.Common.{◌≡◌, ℕ, List, [], ◌∷◌, Bool, true, false, Option, Some, None, Result, refl}
 use Rattle.agent_ports.specs.Sides.{Side}
 use Rattle.agent_ports.specs.declared.grip.Grip.{Grip}
 use Rattle.cache_policy.specs.declared.mark.MarkStep.{MarkStep}
 use Rattle.sexp_keys.specs.Key.{Key}
 use Rattle.key_commands.specs.Events.{Event}
-use Rattle.key_commands.specs.KeyParts.{ReadsFile, is_key, faulty, no_memory as no_file_memory, unread, ListsGrips, listed, faulted as not_listed, no_memory as no_list_memory, ReadsListed, Removes, done as removed, not_done as not_removed}
+use Rattle.key_commands.specs.KeyParts.{HasOne, Unwraps, NamesKey, ReadsFile, is_key, faulty, no_memory as no_file_memory, unread, ListsGrips, listed, faulted as not_listed, no_memory as no_list_memory, ReadsListed, Removes, done as removed, not_done as not_removed}
 use Rattle.key_commands.specs.KeyParts as part
-use Rattle.key_commands.specs.Parts.{Part, or_else, returns, Seats, Changes, Peeks, Finds, Draws, opened, done, interrupted, peeked, found, absent, faulted, no_memory, drawn}
+use Rattle.key_commands.specs.Parts.{Part, or_else, unless, returns, refuses, stops, goes_on, Seats, Changes, Peeks, Finds, Draws, opened, done, interrupted, peeked, found, absent, faulted, no_memory, drawn}
 use Rattle.key_commands.specs.States.{went_by}
 use Rattle.key_commands.specs.Steps.{DoesDrawings, no_draw, one_draw}
 use Rattle.key_commands.specs.declared.key_calls.KeyFile.{KeyFile}
@@ -67,3 +67,23 @@ pub drawings_on : {A : Type 0} {part : Part A} {dice now : Side} {result : Resul
     → DoesDrawings part dice result now → went_by result ≡ On
 drawings_on each (no_draw does) = each None [] (does None)
 drawings_on each (one_draw drawing) = each None _ (drawing.does None)
+
+pub unwraps_on : {before after : Option ℕ} {events : List Event} {wrap wrapped : List ℕ} {result : Result Key Refusal} → Unwraps wrap wrapped before events result after → went_by result ≡ On
+unwraps_on (part.is_key says) = refl
+unwraps_on (part.refused says) = refl
+unwraps_on part.no_memory = refl
+
+pub names_on : {before after : Option ℕ} {events : List Event} {key : Key} {result : Result Grip Refusal} → NamesKey key before events result after → went_by result ≡ On
+names_on (part.named is) = refl
+names_on part.no_memory = refl
+
+pub unless_on : {before after : Option ℕ} {events : List Event} (is : Bool) (other : Part (Unit {0})) {result : Result (Unit {0}) Refusal}
+    → (other before events result after → went_by result ≡ On) → unless is other before events result after → went_by result ≡ On
+unless_on true other each returns = refl
+unless_on false other each does = each does
+
+pub one_on : (before after : Option ℕ) (events : List Event) (grips : List Grip) (result : Result (Unit {0}) Refusal) → HasOne grips before events result after → went_by result ≡ On
+one_on before after events [] result refuses = refl
+one_on before after events (grip ∷ more) result (stops first) = finds_on first
+one_on before after events (grip ∷ more) result (goes_on {events = later_events} {value} {mid} first later) =
+    unless_on value (HasOne more) (one_on mid after later_events more result) later

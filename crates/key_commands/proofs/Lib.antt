@@ -1,4 +1,5 @@
 pub mod AtClient
+pub mod Carrying
 pub mod Deletions
 pub mod Doing
 pub mod Going
@@ -12,6 +13,7 @@ pub mod Reading
 pub mod Replying
 pub mod Seating
 pub mod Unwrapping
+pub mod KeyData
 pub mod KeyDraws
 pub mod KeyInfos
 mod WorkedExamples

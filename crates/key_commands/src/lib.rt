@@ -20,6 +20,7 @@ mod old;
 mod opened;
 mod prompting;
 mod read;
+mod receiving;
 mod refusal;
 mod reply;
 mod request;

@@ -160,7 +160,7 @@ pub(crate) fn close<D: Desk>(keep: Option<Secret>, held: &mut Held, desk: &mut D
 }
 
 /// How a request is refused whose step found no memory. The step has no ticket.
-fn without_memory(step: Step) -> Refusal
+pub(crate) fn without_memory(step: Step) -> Refusal
     requires { closes (asked_step step) ≡ None }
     ensures { result ≡ Refusal.Agent Code.NoMemory }
 {
