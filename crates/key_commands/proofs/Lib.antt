@@ -5,6 +5,7 @@ pub mod Doing
 pub mod Going
 pub mod ListedKeys
 pub mod AtPrompt
+pub mod Importing
 pub mod Joining
 pub mod Opening
 pub mod Partial
@@ -12,6 +13,7 @@ pub mod Prompts
 pub mod Reading
 pub mod Replying
 pub mod Seating
+pub mod Storing
 pub mod Unwrapping
 pub mod KeyData
 pub mod KeyDraws
