@@ -12,6 +12,7 @@ pub mod Partial
 pub mod Prompts
 pub mod Reading
 pub mod Replying
+pub mod Requesting
 pub mod Seating
 pub mod Storing
 pub mod Unwrapping

@@ -1,6 +1,6 @@
 -- Private: requests on keys and what is done for them, as the GnuPG manual has them ("Agent's Assuan protocol"). The codes, the texts and the order of
 -- what is done are this project's own.
-use Rattle.std.specs.Prelude.{◌++◌, ℕ, nat_le, Bool, true, false, List, [], ◌∷◌, length, take, drop, Option, Some, None, Ok, Err}
+use Rattle.std.specs.Prelude.{◌++◌, ℕ, Bool, true, false, List, [], ◌∷◌, take, drop, Option, Some, None, Ok, Err}
 use Rattle.agent_ask.specs.SessionEvents.{Sent}
 use Rattle.agent_ports.specs.declared.grip.Grip.{Grip}
 use Rattle.assuan_server.specs.declared.errors.Code.TheVariants as code
@@ -11,7 +11,6 @@ use Rattle.assuan_escape.specs.Escapes.{hex_text}
 use Rattle.session_options.specs.OptionValues.{OptionValues}
 use Rattle.session_options.specs.declared.rules.Rules.{Rules}
 use Rattle.sexp_keys.specs.Key.{Key}
-use Rattle.sexp_keys.specs.Lists.{key_list_of}
 use Rattle.key_commands.specs.Events.{Event}
 use Rattle.key_commands.specs.Files.{rewritten}
 use Rattle.key_commands.specs.Lines.{ok, grip_text, nonce_line}
@@ -25,9 +24,8 @@ use Rattle.key_commands.specs.declared.request.KeyRequest.{KeyRequest}
 use Rattle.key_commands.specs.declared.request.KeyRequest.TheVariants.{HaveKey, KeyInfo, ListKeys, KeyWrap, ImportKey, ExportKey, Passwd, DeleteKey, Bad}
 use Rattle.key_commands.specs.declared.went.KeyWent.{KeyWent}
 use Rattle.key_commands.specs.declared.went.KeyWent.TheVariants.{On}
-use Rattle.key_commands.specs.declared.wrapping.TheConstants.{MAX_LIST_LEN}
 use Rattle.key_commands.specs.declared.wrap_keys.WrapKeys.{WrapKeys}
-use Rattle.key_commands.specs.KeyParts.{Tells, ReadsFile, Replaces, Removes, Protects, KeepsNew, HasOne, TellsInfo, ListsGrips, WritesInfos, ReceivesKey, NamesKey, IsFree, LooksOver, WrapsKey, Consents}
+use Rattle.key_commands.specs.KeyParts.{Tells, ReadsFile, Replaces, Removes, Protects, IsShort, KeepsNew, HasOne, TellsInfo, ListsGrips, WritesInfos, ReceivesKey, NamesKey, IsFree, LooksOver, WrapsKey, Consents}
 
 -- what a request is answered where it isn't refused, and the wrapping keys after it
 pub record KeyReply : Type 0 where
@@ -66,6 +64,29 @@ module _ (rules : Rules) (options : OptionValues) where
   FoundOrNew nonce grip = do
     found ← LooksOver nonce
     or_else found (NewPassphrase rules options grip)
+
+  -- ---- PASSWD, once the key is open
+
+  -- a new passphrase: what is cached under the nonce, or else as the client wants it
+  abbrev pub RenewsPassphrase : Grip → Option (List ℕ) → Part (List ℕ)
+  RenewsPassphrase grip nonce = do
+    found ← LooksForNonce nonce
+    or_else found (NewPassphrase rules options grip)
+
+  -- a clear key's file is protected by a passphrase, which is kept
+  unfoldable pub RewritesFile : Grip → (file : List ℕ) → Key → (pass : List ℕ) → Part (Unit {0})
+  RewritesFile grip file key pass = do
+    -- a salt of 8 bytes, and an initialization vector of 12
+    drawn ← Draws 20
+    list ← Protects key pass (take 8 drawn) (drop 8 drawn) options.s2k_count
+    replaced ← Replaces grip (rewritten file list)
+    KeepsNew grip pass
+
+  abbrev pub ChangesOpened : Grip → Option (List ℕ) → (file : List ℕ) → Key → Part (Unit {0})
+  ChangesOpened grip nonce file key = do
+    short ← IsShort key
+    pass ← RenewsPassphrase grip nonce
+    RewritesFile grip file key pass
 
   -- ---- what is done for each request
 
@@ -118,14 +139,7 @@ module _ (rules : Rules) (options : OptionValues) where
     PasswdReplies grip nonce new_nonce = do
       file ← ReadsFile grip
       opened ← OldPassphrase rules options grip nonce file.key
-      short ← wanted code.BadSecKey (nat_le (length (key_list_of opened.key)) MAX_LIST_LEN)
-      found ← LooksForNonce new_nonce
-      pass ← or_else found (NewPassphrase rules options grip)
-      -- a salt of 8 bytes, and an initialization vector of 12
-      drawn ← Draws 20
-      list ← Protects opened.key pass (take 8 drawn) (drop 8 drawn) options.s2k_count
-      replaced ← Replaces grip (rewritten file.bytes list)
-      kept ← KeepsNew grip pass
+      changed ← ChangesOpened grip new_nonce file.bytes opened.key
       Returns (reply wraps ok)
 
     -- PASSWD --verify

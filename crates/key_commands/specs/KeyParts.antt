@@ -1,6 +1,6 @@
 -- Private: the parts of requests on keys that are no passphrase's: what is done with key files and with wrapped keys, and how consent is asked for (GnuPG
 -- manual, "Agent's Assuan protocol"). The codes, the texts and the order of what is done are this project's own.
-use Rattle.std.specs.Prelude.{◌≡◌, ◌≢◌, ℕ, Bool, true, false, List, [], ◌∷◌, codes, not, Option, Some, None, Result, Ok, Err}
+use Rattle.std.specs.Prelude.{◌≡◌, ◌≢◌, ◌≤◌, ◌<◌, length, ℕ, Bool, true, false, List, [], ◌∷◌, codes, not, Option, Some, None, Result, Ok, Err}
 use Rattle.std.specs.Option.{option_map}
 use Rattle.agent_ask.specs.Callers.{unheard_of}
 use Rattle.agent_ask.specs.Consents.{AsksConsent}
@@ -32,7 +32,7 @@ use Rattle.session_options.specs.declared.options.PinMode.{PinMode}
 use Rattle.session_options.specs.declared.options.PinMode.TheVariants as mode
 use Rattle.session_options.specs.declared.rules.Rules.{Rules}
 use Rattle.sexp_keys.specs.Key.{Key}
-use Rattle.sexp_keys.specs.Lists.{grip_of}
+use Rattle.sexp_keys.specs.Lists.{grip_of, key_list_of}
 use Rattle.sexp_keys.specs.declared.fault.KeyFault.{KeyFault}
 use Rattle.key_commands.specs.Events.{Event, called, read, out_of_memory}
 use Rattle.key_commands.specs.Files.{FileSays}
@@ -44,6 +44,7 @@ use Rattle.key_commands.specs.Wrapping.{wrapped_key, WrappedSays}
 use Rattle.key_commands.specs.declared.key_calls.KeyFile.{KeyFile}
 use Rattle.key_commands.specs.declared.refusal.Refusal.{Refusal}
 use Rattle.key_commands.specs.declared.refusal.Refusal.TheVariants.{Agent, Pinentry, Client}
+use Rattle.key_commands.specs.declared.wrapping.TheConstants.{MAX_LIST_LEN}
 use Rattle.agent_ports.specs.declared.keys.KeyNames.{KeyNames}
 
 -- bytes are answered by data lines
@@ -89,6 +90,12 @@ pub data Removes (grip : Grip) (held : Option ℕ) : List Event → Result (Unit
 pub data Protects (key : Key) (pass salt iv : List ℕ) (count : ℕ) (held : Option ℕ) : List Event → Result (List ℕ) Refusal → Option ℕ → Type 0 where
   made : Protects key pass salt iv count held [] (Ok (protected_file key (ocb_protection key pass salt iv count None) None)) held
   no_memory : Protects key pass salt iv count held (out_of_memory ∷ []) (Err (Agent code.NoMemory)) held
+
+-- a clear key is short enough to be protected
+pub data IsShort (key : Key) (held : Option ℕ) : List Event → Result (Unit {0}) Refusal → Option ℕ → Type 0 where
+  short : length (key_list_of key) ≤ MAX_LIST_LEN → IsShort key held [] (Ok tt) held
+  long : MAX_LIST_LEN < length (key_list_of key) → IsShort key held [] (Err (Agent code.BadSecKey)) held
+  no_memory : IsShort key held (out_of_memory ∷ []) (Err (Agent code.NoMemory)) held
 
 -- a passphrase that was given for a key's new file is kept: by the ticket that the request holds, or else by a turn of its own
 abbrev pub KeepsNew : Grip → List ℕ → Part (Unit {0})
