@@ -8,9 +8,9 @@ use Rattle.cache_policy.specs.declared.mark.MarkStep.{MarkStep}
 use Rattle.cache_policy.specs.Turns.{Turn}
 use Rattle.sexp_keys.specs.Key.{Key}
 use Rattle.key_commands.specs.Events.{Event}
-use Rattle.key_commands.specs.KeyParts.{IsFree, Protects, Replaces, KeepsNew, HasOne, Unwraps, NamesKey, ReadsFile, is_key, faulty, no_memory as no_file_memory, unread, ListsGrips, listed, faulted as not_listed, no_memory as no_list_memory, ReadsListed, Removes, done as removed, not_done as not_removed}
+use Rattle.key_commands.specs.KeyParts.{LooksOver, IsFree, HasOne, Unwraps, NamesKey, ReadsFile, is_key, faulty, no_memory as no_file_memory, unread, ListsGrips, listed, faulted as not_listed, no_memory as no_list_memory, ReadsListed, Removes, done as removed, not_done as not_removed}
 use Rattle.key_commands.specs.KeyParts as part
-use Rattle.key_commands.specs.Parts.{Part, wanted, Closes, unheld, closed, or_else, unless, returns, refuses, stops, goes_on, Seats, Changes, Peeks, Finds, Draws, opened, done, interrupted, peeked, found, absent, faulted, no_memory, drawn}
+use Rattle.key_commands.specs.Parts.{Part, wanted, or_else, unless, returns, refuses, stops, goes_on, Seats, Changes, Peeks, Finds, Draws, opened, done, interrupted, peeked, found, absent, faulted, no_memory, drawn}
 use Rattle.key_commands.specs.States.{went_by}
 use Rattle.key_commands.specs.Steps.{DoesDrawings, no_draw, one_draw, DoesTurns, still, one}
 use Rattle.key_commands.specs.declared.key_calls.KeyFile.{KeyFile}
@@ -91,23 +91,6 @@ one_on before after events (grip ∷ more) result (stops first) = finds_on first
 one_on before after events (grip ∷ more) result (goes_on {events = later_events} {value} {mid} first later) =
     unless_on value (HasOne more) (one_on mid after later_events more result) later
 
-pub protects_on : {before after : Option ℕ} {events : List Event} {key : Key} {pass salt iv : List ℕ} {count : ℕ} {result : Result (List ℕ) Refusal}
-    → Protects key pass salt iv count before events result after → went_by result ≡ On
-protects_on part.made = refl
-protects_on part.no_memory = refl
-
-pub replaces_on : {before after : Option ℕ} {events : List Event} {grip : Grip} {file : List ℕ} {result : Result (Unit {0}) Refusal} → Replaces grip file before events result after → went_by result ≡ On
-replaces_on part.done = refl
-replaces_on (part.not_done why) = refl
-
-pub closes_on : {before after : Option ℕ} {events : List Event} {keep : Option (List ℕ)} {result : Result (Unit {0}) Refusal} → Closes keep before events result after → went_by result ≡ On
-closes_on unheld = refl
-closes_on (closed turn) = refl
-
-pub keeps_new_on : (grip : Grip) (pass : List ℕ) (before after : Option ℕ) (events : List Event) (result : Result (Unit {0}) Refusal) → KeepsNew grip pass before events result after → went_by result ≡ On
-keeps_new_on grip pass None after events result does = changes_on does
-keeps_new_on grip pass (Some ticket) after events result does = closes_on does
-
 pub turns_on : {D A : Type 0} {turned : D → MarkStep → Turn → D → Type 0} {part : Part A} {before after : Option ℕ} {desk now : D} {result : Result A Refusal}
     → ((events : List Event) → part before events result after → went_by result ≡ On) → DoesTurns turned part before desk result after now → went_by result ≡ On
 turns_on each (still does) = each [] does
@@ -121,3 +104,10 @@ pub free_on : (before after : Option ℕ) (events : List Event) (force : Bool) (
 free_on before after events true grip result returns = refl
 free_on before after events false grip result (stops first) = finds_on first
 free_on before after events false grip result (goes_on {events = later_events} {value} {mid} first later) = wanted_on mid after later_events FileExists (not value) result later
+
+pub over_on : {before after : Option ℕ} {events : List Event} {nonce : Option (List ℕ)} {result : Result (Option (List ℕ)) Refusal} → LooksOver nonce before events result after → went_by result ≡ On
+over_on part.no_nonce = refl
+over_on part.given = refl
+over_on part.empty = refl
+over_on part.stopping = refl
+over_on part.no_memory = refl

@@ -5,7 +5,7 @@ pub mod Doing
 pub mod Going
 pub mod ListedKeys
 pub mod AtPrompt
-pub mod Importing
+pub mod Imports
 pub mod Joining
 pub mod Opening
 pub mod Partial

@@ -1,30 +1,27 @@
 -- A key that came in is stored, or not.
-use Rattle.std.proofs.Common.{◌≡◌, ℕ, List, take, drop, Option, None, Ok, Err, refl}
-use Rattle.agent_ask.specs.Events.{Call}
+use Rattle.std.proofs.Common.{ℕ, List, take, drop, Option, None, Ok, Err, refl}
 use Rattle.agent_ask.specs.Further.{FurtherEnds}
 use Rattle.agent_ports.specs.KeyFiles.{KeyFiles}
 use Rattle.agent_ports.specs.Sides.{Side}
 use Rattle.agent_ports.specs.declared.grip.Grip.{Grip}
 use Rattle.assuan_escape.specs.Escapes.{hex_text}
 use Rattle.assuan_server.specs.Connections.{Connection, IsOpen}
-use Rattle.assuan_server.specs.declared.errors.Code.TheVariants as code
 use Rattle.cache_policy.specs.declared.life.Life.TheVariants.{Default}
 use Rattle.cache_policy.specs.declared.mark.MarkStep.{MarkStep}
 use Rattle.cache_policy.specs.declared.mark.MarkStep.TheVariants.{Put}
 use Rattle.cache_policy.specs.declared.mode.Mode.TheVariants.{Nonce}
 use Rattle.cache_policy.specs.Turns.{Turn}
-use Rattle.session_options.specs.OptionValues.{OptionValues}
-use Rattle.session_options.specs.declared.rules.Rules.{Rules}
 use Rattle.sexp_keys.specs.Key.{Key}
 use Rattle.key_commands.specs.Exchanges.{StoresKey}
 use Rattle.key_commands.specs.KeyParts.{Protects, Replaces, KeepsNew}
 use Rattle.key_commands.specs.Parts.{Draws, Changes, returns}
 use Rattle.key_commands.specs.Partial.{NoCall}
 use Rattle.key_commands.specs.States.{DoesPart, KeyState, key_state}
-use Rattle.key_commands.specs.Steps.{DoesTurn, DoesTurns, still, one, DoesAlone, DoesKeyCalls, DoesDrawing}
+use Rattle.key_commands.specs.Steps.{DoesTurn, DoesTurns, DoesAlone, DoesKeyCalls, DoesDrawing}
 use Rattle.key_commands.specs.declared.refusal.Refusal.{Refusal}
 use Rattle.key_commands.proofs.Doing.{part_drawn, part_alone, part_turned, part_turns, part_called, part_still, part_then, part_stops}
-use Rattle.key_commands.proofs.Going.{draws_on, protects_on, changes_on, replaces_on, turns_on, keeps_new_on}
+use Rattle.key_commands.proofs.Going.{draws_on, changes_on, turns_on}
+use Rattle.key_commands.proofs.Requesting.{protects_on, replaces_on, kept_on}
 
 module _ {D : Type 0} (turned : D → MarkStep → Turn → D → Type 0) (count : ℕ) (key : Key) (grip : Grip) (pass : List ℕ) (conn : Connection) (going : IsOpen conn) (held : Option ℕ)
     (desk : D) (keys : KeyFiles) (dice thrown : Side) where
@@ -67,7 +64,7 @@ module _ {D : Type 0} (turned : D → MarkStep → Turn → D → Type 0) (count
               (part_then turned NoCall (part_alone turned NoCall conn (ends keys thrown) (Protects key pass (take 8 drawn) (take 12 (drop 8 drawn)) count) (Ok file) desk held going refl protected)
               (part_then turned NoCall (part_turned turned NoCall conn (ends keys thrown) going refl cached)
               (part_then turned NoCall (part_called turned NoCall conn desk_mid tt thrown held going refl replaced)
-              (part_stops turned NoCall (part_turns turned NoCall conn (ends now thrown) going (turns_on (λ events does. keeps_new_on grip pass held after events (Err why) does) turns) turns)))))
+              (part_stops turned NoCall (part_turns turned NoCall conn (ends now thrown) going (turns_on (λ events does. kept_on grip pass held after (Err why) events does) turns) turns)))))
 
           pub all_stored : DoesTurns turned (KeepsNew grip pass) held desk_mid (Ok tt) after desk_now → DoesPart turned NoCall (StoresKey count key grip pass) held (at desk keys dice) (Ok (drop 20 drawn)) after (at desk_now now thrown)
           all_stored turns =

@@ -10,6 +10,7 @@ mod faults;
 mod files;
 mod grips;
 mod held;
+mod importing;
 mod inquiries;
 mod key_calls;
 mod listing;

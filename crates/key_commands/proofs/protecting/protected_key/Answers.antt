@@ -1,4 +1,4 @@
-use Rattle.std.proofs.Common.{[], ◌∷◌, ◌∙◌, sym}
+use Rattle.std.proofs.Common.{[], ◌∷◌}
 use Rattle.key_commands.specs.Events.{out_of_memory}
 use Rattle.key_commands.specs.KeyParts.{made}
 use Rattle.key_commands.specs.KeyParts as part

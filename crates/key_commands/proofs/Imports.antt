@@ -5,13 +5,9 @@ use Rattle.agent_ask.specs.Further.{FurtherEnds}
 use Rattle.agent_ports.specs.KeyFiles.{KeyFiles}
 use Rattle.agent_ports.specs.Sides.{Side}
 use Rattle.agent_ports.specs.declared.grip.Grip.{Grip}
-use Rattle.assuan_escape.specs.Escapes.{hex_text}
 use Rattle.assuan_server.specs.Connections.{Connection, IsOpen}
 use Rattle.assuan_server.specs.declared.errors.Code.TheVariants as code
-use Rattle.cache_policy.specs.declared.life.Life.TheVariants.{Default}
 use Rattle.cache_policy.specs.declared.mark.MarkStep.{MarkStep}
-use Rattle.cache_policy.specs.declared.mark.MarkStep.TheVariants.{Put}
-use Rattle.cache_policy.specs.declared.mode.Mode.TheVariants.{Nonce}
 use Rattle.cache_policy.specs.Turns.{Turn}
 use Rattle.session_options.specs.OptionValues.{OptionValues}
 use Rattle.session_options.specs.declared.rules.Rules.{Rules}
