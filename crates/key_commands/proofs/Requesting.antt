@@ -1,5 +1,5 @@
 -- Requests for whose reply all was done, and new passphrases that are kept.
-use Rattle.std.proofs.Common.{◌≡◌, ℕ, List, true, false, Option, Some, None, Result, Ok, is_some, refl}
+use Rattle.std.proofs.Common.{◌≡◌, ℕ, List, [], true, false, Option, Some, None, Result, Ok, Err, is_some, refl, subst}
 use Rattle.agent_ask.specs.Events.{Call}
 use Rattle.agent_ports.specs.declared.grip.Grip.{Grip}
 use Rattle.cache_policy.specs.declared.mark.MarkStep.{MarkStep}
@@ -7,18 +7,20 @@ use Rattle.cache_policy.specs.Turns.{Turn}
 use Rattle.sexp_keys.specs.Key.{Key}
 use Rattle.key_commands.specs.Events.{Event}
 use Rattle.key_commands.specs.Exchanges.{KeyReply, reply}
-use Rattle.key_commands.specs.KeyParts.{KeepsNew, Protects, made, no_memory, Replaces, done as is_replaced, not_done, IsShort, short, long, no_memory as no_short_memory}
+use Rattle.key_commands.specs.KeyParts.{KeepsNew, Protects, made, no_memory, Replaces, done as is_replaced, not_done, IsShort, short, long, no_memory as no_short_memory, WrapsKey, is_wrapped, no_memory as no_wrap_memory}
 use Rattle.key_commands.specs.Lines.{ok}
-use Rattle.key_commands.specs.Parts.{Part, Changes, Closes, closed}
+use Rattle.assuan_server.specs.declared.errors.Code.{Code}
+use Rattle.key_commands.specs.Parts.{Part, Changes, Closes, closed, needed, returns, refuses}
 use Rattle.key_commands.specs.Passphrases.{put_key}
 use Rattle.key_commands.specs.Replies.{CarriesOut, comes_to}
 use Rattle.key_commands.specs.States.{KeyState, DoesPart, went_by}
 use Rattle.key_commands.specs.Steps.{DoesTurn, DoesTurns, still, one}
 use Rattle.key_commands.specs.declared.refusal.Refusal.{Refusal}
+use Rattle.key_commands.specs.declared.refusal.Refusal.TheVariants.{Agent}
 use Rattle.key_commands.specs.declared.reply.Reply.TheVariants as replies
 use Rattle.key_commands.specs.declared.went.KeyWent.TheVariants.{On}
 use Rattle.key_commands.specs.declared.wrap_keys.WrapKeys.{WrapKeys}
-use Rattle.key_commands.proofs.Joining.{keeps_on}
+use Rattle.key_commands.proofs.Going.{changes_on}
 
 -- a request whose reply is OK alone
 pub replies_ok : {D P : Type 0} {turned : D → MarkStep → Turn → D → Type 0} {prompted : P → Call → P → Type 0} {part : Part KeyReply} {before after : WrapKeys} {held : Option ℕ}
@@ -55,5 +57,19 @@ short_on (long beyond) = refl
 short_on no_short_memory = refl
 
 pub kept_on : (grip : Grip) (pass : List ℕ) (before after : Option ℕ) (result : Result (Unit {0}) Refusal) (events : List Event) → KeepsNew grip pass before events result after → went_by result ≡ On
-kept_on grip pass None after result events changes = keeps_on changes
+kept_on grip pass None after result events changes = changes_on changes
 kept_on grip pass (Some ticket) after result events (closed turn) = refl
+
+pub wraps_on : {wrap : List ℕ} {key : Key} {before after : Option ℕ} {events : List Event} {result : Result (List ℕ) Refusal} → WrapsKey wrap key before events result after → went_by result ≡ On
+wraps_on is_wrapped = refl
+wraps_on no_wrap_memory = refl
+
+-- ---- values that have to be there
+
+pub needed_there : {A : Type 0} (code : Code) (held : Option ℕ) {value : A} (found : Option A) → found ≡ Some value → needed code found held [] (Ok value) held
+needed_there code held None is = cc is
+needed_there {A} code held {value} (Some other) is = let same : other ≡ value = cc is in subst (λ (v : A). needed code (Some other) held [] (Ok v) held) same returns
+
+pub needed_missing : {A : Type 0} (code : Code) (held : Option ℕ) (found : Option A) → found ≡ None → needed code found held [] (Err (Agent code)) held
+needed_missing code held None is = refuses
+needed_missing code held (Some value) is = cc is

@@ -6,6 +6,7 @@ mod asking;
 mod consent;
 mod deleting;
 mod drawing;
+mod export;
 mod faults;
 mod files;
 mod grips;

@@ -39,7 +39,7 @@ impl WrapKeys {
     }
 
     /// The key for one direction, where it was drawn.
-    fn key(&self, way: Direction) -> Option<&Drawn<16>>
+    pub(crate) fn key(&self, way: Direction) -> Option<&Drawn<16>>
         ensures { option_copied result ≡ wrap_key way self.now }
     {
         match way {
