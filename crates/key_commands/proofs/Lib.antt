@@ -1,9 +1,11 @@
 pub mod AtClient
+pub mod Carrying
 pub mod Deletions
 pub mod Doing
 pub mod Going
 pub mod ListedKeys
 pub mod AtPrompt
+pub mod Imports
 pub mod Joining
 pub mod KeyFiles
 pub mod Opening
@@ -13,7 +15,9 @@ pub mod Reading
 pub mod Replying
 pub mod Requesting
 pub mod Seating
+pub mod Storing
 pub mod Unwrapping
+pub mod KeyData
 pub mod KeyDraws
 pub mod KeyInfos
 mod WorkedExamples

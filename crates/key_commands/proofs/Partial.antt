@@ -10,10 +10,14 @@ use Rattle.assuan_server.specs.Connections.{Connection, IsOpen}
 use Rattle.cache_policy.specs.declared.mark.MarkStep.{MarkStep}
 use Rattle.cache_policy.specs.Turns.{Turn}
 use Rattle.key_commands.specs.Events.{Event}
+use Rattle.key_commands.specs.Exchanges.{KeyReply}
 use Rattle.key_commands.specs.Parts.{Part}
 use Rattle.key_commands.specs.Partial.{NoTurn, NoCall, DoesAtPrompter, DoesAtDesk, DoesAtClient, LeavesKeys}
+use Rattle.key_commands.specs.Replies.{CarriesOut, comes_to, stops_at}
 use Rattle.key_commands.specs.States.{KeyWorld, KeyState, DoesPart, key_state}
 use Rattle.key_commands.specs.declared.refusal.Refusal.{Refusal}
+use Rattle.key_commands.specs.declared.reply.Reply.{Reply}
+use Rattle.key_commands.specs.declared.wrap_keys.WrapKeys.{WrapKeys}
 
 -- Each turn of a desk is one of another desk that holds it, and each call of a prompter one of another prompter.
 module _ {E Q D P : Type 0} (part_turned : E → MarkStep → Turn → E → Type 0) (part_prompted : Q → Call → Q → Type 0)
@@ -61,6 +65,12 @@ module _ {E Q D P : Type 0} (part_turned : E → MarkStep → Turn → E → Typ
     fits = done.fits;
     faults = record { read = done.faults.read; write = done.faults.write };
   }
+
+  -- all of a request but its reply
+  pub carries_in : {part : Part KeyReply} {before after : WrapKeys} {held : Option ℕ} {answer : Result Reply Refusal} {start now : KeyState part_turned part_prompted}
+      → CarriesOut part_turned part_prompted part before start answer after held now → CarriesOut turned prompted part before (state_in start) answer after held (state_in now)
+  carries_in (comes_to each) = comes_to (λ text is. part_in (each text is))
+  carries_in (stops_at part) = stops_at (part_in part)
 
 module _ {D P : Type 0} (turned : D → MarkStep → Turn → D → Type 0) (prompted : P → Call → P → Type 0) {A : Type 0} {part : Part A} {result : Result A Refusal}
     {conn conn_now : Connection} where

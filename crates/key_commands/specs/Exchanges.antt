@@ -13,8 +13,8 @@ use Rattle.session_options.specs.declared.rules.Rules.{Rules}
 use Rattle.sexp_keys.specs.Key.{Key}
 use Rattle.key_commands.specs.Events.{Event}
 use Rattle.key_commands.specs.Files.{Rewrites}
-use Rattle.key_commands.specs.Lines.{ok, grip_text, nonce_line, limit_line, text}
-use Rattle.key_commands.specs.Parts.{Part, ◌>>=◌, Returns, Refuses, needed, wanted, or_else, Changes, Closes, Writes, Finds, Draws, refusal_events, refusal_went}
+use Rattle.key_commands.specs.Lines.{ok, grip_text, nonce_line}
+use Rattle.key_commands.specs.Parts.{Part, ◌>>=◌, Returns, Refuses, needed, wanted, or_else, Changes, Closes, Finds, Draws, refusal_events, refusal_went}
 use Rattle.key_commands.specs.Passphrases.{OldPassphrase, NewPassphrase, VerifiesPassphrase, LooksForNonce}
 use Rattle.key_commands.specs.declared.refusal.Refusal.{Refusal}
 use Rattle.key_commands.specs.declared.refusal.Refusal.TheVariants.{Agent}
@@ -25,7 +25,7 @@ use Rattle.key_commands.specs.declared.request.KeyRequest.TheVariants.{HaveKey, 
 use Rattle.key_commands.specs.declared.went.KeyWent.{KeyWent}
 use Rattle.key_commands.specs.declared.went.KeyWent.TheVariants.{On}
 use Rattle.key_commands.specs.declared.wrap_keys.WrapKeys.{WrapKeys}
-use Rattle.key_commands.specs.KeyParts.{Tells, ReadsFile, Replaces, Removes, Protects, IsShort, KeepsNew, HasOne, TellsInfo, ListsGrips, WritesInfos, max_key_data, AsksKeyData, Unwraps, NamesKey, IsFree, LooksOver, WrapsKey, Consents}
+use Rattle.key_commands.specs.KeyParts.{Tells, ReadsFile, Replaces, Removes, Protects, IsShort, KeepsNew, HasOne, TellsInfo, ListsGrips, WritesInfos, ReceivesKey, NamesKey, IsFree, LooksOver, WrapsKey, Consents}
 
 -- what a request is answered where it isn't refused, and the wrapping keys after it
 pub record KeyReply : Type 0 where
@@ -45,7 +45,26 @@ abbrev pub with_wrap_key : Direction → List ℕ → WrapKeys → WrapKeys
 with_wrap_key Import key wraps = record { import = Some key; export = wraps.export }
 with_wrap_key Export key wraps = record { import = wraps.import; export = Some key }
 
+-- ---- IMPORT_KEY
+
+-- A key that came in is written to its file, protected by a passphrase, which is cached under a new nonce before.
+abbrev pub StoresKey : (count : ℕ) → Key → Grip → (pass : List ℕ) → Part (List ℕ)
+StoresKey count key grip pass = do
+  -- a salt of 8 bytes, an initialization vector of 12, and a nonce of 12
+  drawn ← Draws 32
+  file ← Protects key pass (take 8 drawn) (take 12 (drop 8 drawn)) count
+  cached ← Changes (Put (hex_text (drop 20 drawn)) Nonce Default pass)
+  replaced ← Replaces grip file
+  kept ← KeepsNew grip pass
+  Returns (drop 20 drawn)
+
 module _ (rules : Rules) (options : OptionValues) where
+  -- the passphrase that protects a key that comes in: what is cached under the nonce, or else a new one
+  abbrev pub FoundOrNew : Option (List ℕ) → Grip → Part (List ℕ)
+  FoundOrNew nonce grip = do
+    found ← LooksOver nonce
+    or_else found (NewPassphrase rules options grip)
+
   -- ---- PASSWD, once the key is open
 
   -- a new passphrase: what is cached under the nonce, or else as the client wants it
@@ -100,20 +119,12 @@ module _ (rules : Rules) (options : OptionValues) where
     unfoldable pub ImportKeyReplies : Bool → Option (List ℕ) → Part KeyReply
     ImportKeyReplies force nonce = do
       wrap ← needed code.Parameter wraps.import
-      told ← Writes (limit_line max_key_data)
-      wrapped ← AsksKeyData
-      key ← Unwraps wrap wrapped
+      key ← ReceivesKey wrap
       grip ← NamesKey key
       free ← IsFree force grip
-      found ← LooksOver nonce
-      pass ← or_else found (NewPassphrase rules options grip)
-      -- a salt of 8 bytes, an initialization vector of 12, and a nonce of 12
-      drawn ← Draws 32
-      file ← Protects key pass (take 8 drawn) (take 12 (drop 8 drawn)) options.s2k_count
-      cached ← Changes (Put (hex_text (drop 20 drawn)) Nonce Default pass)
-      replaced ← Replaces grip file
-      kept ← KeepsNew grip pass
-      Returns (reply wraps (nonce_line (hex_text (drop 20 drawn)) ++ ok))
+      pass ← FoundOrNew nonce grip
+      cache_nonce ← StoresKey options.s2k_count key grip pass
+      Returns (reply wraps (nonce_line (hex_text cache_nonce) ++ ok))
 
     unfoldable pub ExportKeyReplies : Grip → Option (List ℕ) → Part KeyReply
     ExportKeyReplies grip nonce = do

@@ -36,7 +36,7 @@ use Rattle.sexp_keys.specs.Lists.{grip_of, key_list_of}
 use Rattle.sexp_keys.specs.declared.fault.KeyFault.{KeyFault}
 use Rattle.key_commands.specs.Events.{Event, called, read, out_of_memory}
 use Rattle.key_commands.specs.Files.{FileSays}
-use Rattle.key_commands.specs.Lines.{IsDataAnswer, info_line, text, delete_description}
+use Rattle.key_commands.specs.Lines.{IsDataAnswer, info_line, limit_line, text, delete_description}
 use Rattle.key_commands.specs.Parts.{Part, ◌>>=◌, Returns, Refuses, wanted, unless, Seats, Changes, Peeks, Closes, Writes, Inquires, Finds, read_fault}
 use Rattle.key_commands.specs.Passphrases.{ask_nonce, put_key}
 use Rattle.key_commands.specs.Faults.{fault_code}
@@ -168,6 +168,13 @@ pub data Unwraps (wrap wrapped : List ℕ) (held : Option ℕ) : List Event → 
   is_key : {key : Key} → WrappedSays wrap wrapped (Ok key) → Unwraps wrap wrapped held [] (Ok key) held
   refused : {code : Code} → WrappedSays wrap wrapped (Err code) → Unwraps wrap wrapped held [] (Err (Agent code)) held
   no_memory : Unwraps wrap wrapped held (out_of_memory ∷ []) (Err (Agent code.NoMemory)) held
+
+-- the client is told the limit, and sends a key that is wrapped under this wrapping key
+abbrev pub ReceivesKey : (wrap : List ℕ) → Part Key
+ReceivesKey wrap = do
+  told ← Writes (limit_line max_key_data)
+  wrapped ← AsksKeyData
+  Unwraps wrap wrapped
 
 -- a key is named by the grip of its public list
 pub data NamesKey (key : Key) (held : Option ℕ) : List Event → Result Grip Refusal → Option ℕ → Type 0 where

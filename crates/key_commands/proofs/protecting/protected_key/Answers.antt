@@ -13,4 +13,6 @@ pub returns-in-Err-clause-protects : goal.returns-in-Err-clause-protects
 returns-in-Err-clause-protects c = record { events = out_of_memory ∷ []; alone = memory; does = λ held. part.no_memory }
 
 pub returns-in-Ok-clause-list : goal.returns-in-Ok-clause-list
-returns-in-Ok-clause-list c = ?
+returns-in-Ok-clause-list c =
+    let opens = c.in-Ok.ensures.opens in
+    rw c.from.ensures (opens.locked.key, opens.is_file)
