@@ -37,17 +37,18 @@ unfolding PasswdReplies
 returns-in_err-change_opened-clause-carries g c = λ wraps.
     let p = err_from_is_err_and c.from_residual-in_err-change_opened.result c.from_residual-in_err-change_opened.ensures.1 in
     let opened = rw c.requires.free at c.in_ok-opened.ensures.does in
+    let changed = rw c.as_slice.ensures at c.in_err-change_opened.ensures.does in
     rw (p.1, p.2)
     (stops_at (part_then g.D.Desk.turned g.P.Prompter.prompted
     (part_called g.D.Desk.turned g.P.Prompter.prompted c.args.conn.now c.args.desk.now c.args.prompter.now (g.R.Dice.draws c.args.dice.now) None c.requires.open refl c.in_ok-file.ensures.reads)
     (part_then g.D.Desk.turned g.P.Prompter.prompted (opened (g.K.Keys.keys c.read_file.new.keys) (g.R.Dice.draws c.args.dice.now))
-    (part_stops g.D.Desk.turned g.P.Prompter.prompted c.in_err-change_opened.ensures.does))))
+    (part_stops g.D.Desk.turned g.P.Prompter.prompted changed))))
 
 pub returns-clause-carries : goal.returns-clause-carries
 unfolding PasswdReplies
 returns-clause-carries g c = λ wraps.
     let opened = rw c.requires.free at c.in_ok-opened.ensures.does in
-    let changed = c.in_ok-change_opened.ensures.does in
+    let changed = rw c.as_slice.ensures at c.in_ok-change_opened.ensures.does in
     replies_ok
     (part_then g.D.Desk.turned g.P.Prompter.prompted
     (part_called g.D.Desk.turned g.P.Prompter.prompted c.args.conn.now c.args.desk.now c.args.prompter.now (g.R.Dice.draws c.args.dice.now) None c.requires.open refl c.in_ok-file.ensures.reads)
