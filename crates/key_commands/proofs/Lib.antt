@@ -1,12 +1,15 @@
 pub mod AtClient
+pub mod AtPrompt
 pub mod Carrying
 pub mod Deletions
 pub mod Doing
 pub mod Going
-pub mod ListedKeys
-pub mod AtPrompt
 pub mod Imports
 pub mod Joining
+pub mod KeyData
+pub mod KeyDraws
+pub mod KeyInfos
+pub mod ListedKeys
 pub mod Opening
 pub mod Partial
 pub mod Prompts
@@ -16,8 +19,5 @@ pub mod Requesting
 pub mod Seating
 pub mod Storing
 pub mod Unwrapping
-pub mod KeyData
-pub mod KeyDraws
-pub mod KeyInfos
 mod WorkedExamples
 mod WorkedExchanges

@@ -1,4 +1,4 @@
--- Private: what the bytes of a key's file say, and what is written over one: the one place that knows in which forms files are (GnuPG's notes on the
+-- What the bytes of a key's file say, and what is written over one: the one place that knows in which forms files are (GnuPG's notes on the
 -- format of private keys, agent/keyformat.txt).
 use Rattle.std.specs.Prelude.{ℕ, List, Result, Ok, Err}
 use Rattle.sexp_keys.specs.Key.{Key}

@@ -1,4 +1,3 @@
-use Rattle.agent_ask.specs.Further.{FurtherEnds}
 use Rattle.key_commands.proofs.Replying.{answers}
 use Rattle.key_commands.proofs.run.run_key.Goals as goal
 
