@@ -1,23 +1,24 @@
 -- Requests that have nothing to do with some ends of a session, with these beside.
-use Rattle.std.proofs.Common.{ℕ, Option, None, Result, Ok, Err, refl}
+use Rattle.std.proofs.Common.{ℕ, List, Option, None, Result, Ok, Err, refl}
 use Rattle.agent_ask.specs.Events.{Call}
 use Rattle.agent_ports.specs.KeyFiles.{KeyFiles}
 use Rattle.agent_ports.specs.Sides.{Side}
 use Rattle.agent_ports.specs.declared.grip.Grip.{Grip}
 use Rattle.assuan_server.specs.Connections.{Connection, IsOpen}
+use Rattle.assuan_server.specs.declared.errors.Code.{Code}
 use Rattle.cache_policy.specs.declared.mark.MarkStep.{MarkStep}
 use Rattle.cache_policy.specs.Turns.{Turn}
-use Rattle.std.proofs.Common.{List}
 use Rattle.session_options.specs.OptionValues.{OptionValues}
 use Rattle.session_options.specs.declared.rules.Rules.{Rules}
 use Rattle.key_commands.specs.Exchanges.{KeyReply, HaveKeyReplies}
 use Rattle.key_commands.specs.KeyParts.{HasOne}
-use Rattle.key_commands.specs.Parts.{Part, returns}
+use Rattle.key_commands.specs.Parts.{Part, Refuses, returns, refuses}
 use Rattle.key_commands.specs.Partial.{NoTurn, NoCall}
 use Rattle.key_commands.specs.Replies.{CarriesOut, comes_to, stops_at}
 use Rattle.key_commands.specs.States.{key_state}
 use Rattle.key_commands.specs.Steps.{DoesKeyCalls}
 use Rattle.key_commands.specs.declared.refusal.Refusal.{Refusal}
+use Rattle.key_commands.specs.declared.refusal.Refusal.TheVariants.{Agent}
 use Rattle.key_commands.specs.declared.reply.Reply.{Reply}
 use Rattle.key_commands.specs.declared.reply.Reply.TheVariants as replies
 use Rattle.key_commands.specs.declared.wrap_keys.WrapKeys.{WrapKeys}
@@ -55,3 +56,9 @@ module _ {D P : Type 0} (turned : D → MarkStep → Turn → D → Type 0) (pro
       has_some calls = comes_to (λ text is.
           part_then turned prompted (part_called turned prompted conn desk prompter dice None going refl calls)
           (rw is (part_still turned prompted conn (record { prompter = prompter; keys = now; dice = dice }) desk going refl returns)))
+
+  -- a line that is refused
+  pub refused_line : (wraps : WrapKeys) (conn : Connection) (desk : D) (prompter : P) (keys : KeyFiles) (dice : Side) → IsOpen conn → (why : Code)
+      → CarriesOut turned prompted (Refuses (Agent why)) wraps (key_state turned prompted conn desk prompter keys dice) (Err (Agent why)) wraps None
+      (key_state turned prompted conn desk prompter keys dice)
+  refused_line wraps conn desk prompter keys dice going why = stops_at (part_still turned prompted conn (record { prompter = prompter; keys = keys; dice = dice }) desk going refl refuses)

@@ -1,13 +1,16 @@
 pub mod AtClient
+pub mod AtPrompt
 pub mod Carrying
 pub mod Deletions
 pub mod Doing
 pub mod Going
-pub mod ListedKeys
-pub mod AtPrompt
 pub mod Imports
 pub mod Joining
+pub mod KeyData
+pub mod KeyDraws
 pub mod KeyFiles
+pub mod KeyInfos
+pub mod ListedKeys
 pub mod Opening
 pub mod Partial
 pub mod Prompts
@@ -17,9 +20,6 @@ pub mod Requesting
 pub mod Seating
 pub mod Storing
 pub mod Unwrapping
-pub mod KeyData
-pub mod KeyDraws
-pub mod KeyInfos
 mod WorkedExamples
 mod WorkedExchanges
 mod WorkedFiles

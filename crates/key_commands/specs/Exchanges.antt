@@ -1,4 +1,4 @@
--- Private: requests on keys and what is done for them, as the GnuPG manual has them ("Agent's Assuan protocol"). The codes, the texts and the order of
+-- Requests on keys and what is done for them, as the GnuPG manual has them ("Agent's Assuan protocol"). The codes, the texts and the order of
 -- what is done are this project's own.
 use Rattle.std.specs.Prelude.{◌++◌, ℕ, Bool, true, false, List, [], ◌∷◌, take, drop, Option, Some, None, Ok, Err}
 use Rattle.agent_ask.specs.SessionEvents.{Sent}
