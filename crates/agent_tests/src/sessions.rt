@@ -79,7 +79,7 @@ pub(crate) const KEYS: Row = Row {
 };
 
 /// What is sent, and what is answered. Presets are allowed.
-const ANSWERS: [(&str, &str); 49] = [
+const ANSWERS: [(&str, &str); 48] = [
     (
         "PRESET_PASSPHRASE id1 -1 736563726574\nGET_PASSPHRASE --no-ask --data id1\nBYE\nNOP\n",
         "OK\nD secret\nOK\nOK closing connection\n",
@@ -134,10 +134,9 @@ const ANSWERS: [(&str, &str); 49] = [
     ),
     ("GETINFO cmd_has_option GET_PASSPHRASE repeat\n", "OK\n"),
     ("GETINFO cmd_has_option CLEAR_PASSPHRASE mode\n", "OK\n"),
-    ("GETINFO cmd_has_option KEYINFO list\n", "OK\n"),
     (
-        "GETINFO cmd_has_option KEYINFO force\n",
-        "ERR 67108924 Not supported <GPG Agent>\n",
+        "GETINFO cmd_has_option KEYINFO list\nGETINFO cmd_has_option PASSWD passwd-nonce\nGETINFO cmd_has_option DELETE_KEY stub-only\n",
+        "OK\nOK\nERR 67108924 Not supported <GPG Agent>\n",
     ),
     (
         "GETINFO cmd_has_option GET_PASSPHRASE\n",
