@@ -24,8 +24,8 @@ use std::thread::Threads;
 /// The session that is served on standard input and output.
 const SESSION: SessionId = SessionId { pass: 0, count: 0 };
 
-/// The agent. It reads its words, which leave out the program's name, and serves a session on standard input and output, or as a daemon
-/// those of a listener.
+/// The agent. It reads its words, which leave out the program's name, settles the host at the folder that they say, and serves a session on
+/// standard input and output, or as a daemon those of a listener.
 ///
 /// Its answer is the status of the process: 0 at BYE, at KILLAGENT or at the end of the input, 1 where there is no memory for the words or the session,
 /// 2 for words that it doesn't take, 3 and 4 where a read or a write failed, 6 after 2^40 bytes, and 7 at a line of more than 1,000 bytes.
