@@ -38,6 +38,11 @@ impl<const N: usize> Drawn<N> {
     {
         Drawn { bytes: self.bytes }
     }
+
+    /// Overwrites the bytes where they lie.
+    pub(crate) fn clear(&mut self) {
+        wipe(&mut self.bytes);
+    }
 }
 
 impl<const N: usize> Drop for Drawn<N> {

@@ -38,6 +38,14 @@ impl WrapKeys {
         }
     }
 
+    /// Overwrites the keys where they lie, and forgets them.
+    pub fn clear(&mut self)
+        ensures { self.new ≡ record { import = None; export = None } }
+    {
+        forget(&mut self.import);
+        forget(&mut self.export);
+    }
+
     /// The key for one direction, where it was drawn.
     pub(crate) fn key(&self, way: Direction) -> Option<&Drawn<16>>
         ensures { option_copied result ≡ wrap_key way self.now }
@@ -57,6 +65,15 @@ impl WrapKeys {
             Direction::Export => self.export = Some(key),
         }
     }
+}
+
+fn forget(key: &mut Option<Drawn<16>>)
+    ensures { key.new ≡ None }
+{
+    if let Some(drawn) = key {
+        drawn.clear();
+    }
+    *key = None;
 }
 
 /// KEYWRAP_KEY: the session's wrapping key for one direction, which its first request draws.
