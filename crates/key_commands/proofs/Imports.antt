@@ -40,7 +40,8 @@ module _ {D P : Type 0} (turned : D → MarkStep → Turn → D → Type 0) (pro
   no_wrap has = rw has (stops_at (part_stops turned prompted (part_still turned prompted conn (ends prompter keys dice) desk going refl refuses)))
 
   module _ (wrap : List ℕ) (has : wraps.import ≡ Some wrap) (mid : Connection) where
-    pub none_received : (why : Refusal) → DoesAtClient (ReceivesKey wrap) conn (Err why) mid → CarriesOut turned prompted (ImportKeyReplies rules options wraps force nonce) wraps start (Err why) wraps None (key_state turned prompted mid desk prompter keys dice)
+    pub none_received : (why : Refusal) → DoesAtClient (ReceivesKey wrap) conn (Err why) mid → CarriesOut turned prompted (ImportKeyReplies rules options wraps force nonce) wraps start (Err why) wraps None
+        (key_state turned prompted mid desk prompter keys dice)
     unfolding ImportKeyReplies
     none_received why done =
         rw has (stops_at (part_then turned prompted (part_still turned prompted conn (ends prompter keys dice) desk going refl returns)
@@ -50,7 +51,8 @@ module _ {D P : Type 0} (turned : D → MarkStep → Turn → D → Type 0) (pro
       open_mid : IsOpen mid
       open_mid = open_after (received None)
 
-      pub none_named : (why : Refusal) → DoesAlone (NamesKey key) (Err why) → CarriesOut turned prompted (ImportKeyReplies rules options wraps force nonce) wraps start (Err why) wraps None (key_state turned prompted mid desk prompter keys dice)
+      pub none_named : (why : Refusal) → DoesAlone (NamesKey key) (Err why) → CarriesOut turned prompted (ImportKeyReplies rules options wraps force nonce) wraps start (Err why) wraps None
+          (key_state turned prompted mid desk prompter keys dice)
       unfolding ImportKeyReplies
       none_named why alone =
           rw has (stops_at (part_then turned prompted (part_still turned prompted conn (ends prompter keys dice) desk going refl returns)
@@ -58,7 +60,8 @@ module _ {D P : Type 0} (turned : D → MarkStep → Turn → D → Type 0) (pro
           (part_stops turned prompted (part_alone turned prompted mid (ends prompter keys dice) (NamesKey key) (Err why) desk None open_mid (names_on (alone.does None)) alone)))))
 
       module _ (grip : Grip) (named : DoesAlone (NamesKey key) (Ok grip)) (files : KeyFiles) where
-        pub none_free : (why : Refusal) → DoesKeyCalls (IsFree force grip) keys (Err why) files → CarriesOut turned prompted (ImportKeyReplies rules options wraps force nonce) wraps start (Err why) wraps None (key_state turned prompted mid desk prompter files dice)
+        pub none_free : (why : Refusal) → DoesKeyCalls (IsFree force grip) keys (Err why) files → CarriesOut turned prompted (ImportKeyReplies rules options wraps force nonce) wraps start (Err why) wraps None
+            (key_state turned prompted mid desk prompter files dice)
         unfolding ImportKeyReplies
         none_free why calls =
             rw has (stops_at (part_then turned prompted (part_still turned prompted conn (ends prompter keys dice) desk going refl returns)

@@ -58,7 +58,8 @@ module _ {D : Type 0} (turned : D → MarkStep → Turn → D → Type 0) (count
             (part_stops turned NoCall (part_called turned NoCall conn desk_mid tt thrown held going (replaces_on (calls.does None)) calls))))
 
         module _ (replaced : DoesKeyCalls (Replaces grip file) keys (Ok tt) now) (after : Option ℕ) (desk_now : D) where
-          pub none_kept : (why : Refusal) → DoesTurns turned (KeepsNew grip pass) held desk_mid (Err why) after desk_now → DoesPart turned NoCall (StoresKey count key grip pass) held (at desk keys dice) (Err why) after (at desk_now now thrown)
+          pub none_kept : (why : Refusal) → DoesTurns turned (KeepsNew grip pass) held desk_mid (Err why) after desk_now → DoesPart turned NoCall (StoresKey count key grip pass) held (at desk keys dice) (Err why) after
+              (at desk_now now thrown)
           none_kept why turns =
               part_then turned NoCall (part_drawn turned NoCall conn desk tt keys held going refl draws)
               (part_then turned NoCall (part_alone turned NoCall conn (ends keys thrown) (Protects key pass (take 8 drawn) (take 12 (drop 8 drawn)) count) (Ok file) desk held going refl protected)

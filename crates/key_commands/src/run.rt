@@ -97,12 +97,7 @@ fn carry_out<L: Link, D: Desk, P: Prompter, K: Keys, R: Dice>(
             alloc, *force, nonce, rules, options, wraps, held, conn, desk, prompter, keys, dice,
         ),
         KeyRequest::ExportKey { grip, nonce } => {
-            let asking = Asking {
-                alloc,
-                grip,
-                rules,
-                options,
-            };
+            let asking = Asking::of(alloc, grip, rules, options);
             let nonce = copied(nonce);
             export_key(&asking, nonce, wraps, held, conn, desk, prompter, keys)
         }
@@ -112,12 +107,7 @@ fn carry_out<L: Link, D: Desk, P: Prompter, K: Keys, R: Dice>(
             new_nonce,
             verify,
         } => {
-            let asking = Asking {
-                alloc,
-                grip,
-                rules,
-                options,
-            };
+            let asking = Asking::of(alloc, grip, rules, options);
             if *verify {
                 return verify_key(&asking, held, conn, desk, prompter, keys);
             }
