@@ -18,7 +18,7 @@ int64_t dogwood_expression(const uint8_t *text, size_t, uint8_t *out, size_t);
 #define SIZES 3
 #define RUNS 101
 /* The most that 64 KiB may take, to four times the time of 16 KiB, and an expression of 64 KiB, to libgcrypt's time. */
-#define GROWTH 1.5
+#define GROWTH 2.0
 #define BESIDE 2.0
 
 static const char small_key[] = "Key: (private-key (ecc (curve Ed25519) (q #40AA#) (d #BB#)))\n";
@@ -53,6 +53,7 @@ static void token(struct sample *s) { expression(s, "(", "a", ")"); }
 static void spaced_digits(struct sample *s) { expression(s, "(#", "4 1 ", "#)"); }
 static void escapes(struct sample *s) { expression(s, "(\"", "\\n\\101\\x41", "\")"); }
 static void small_atoms(struct sample *s) { expression(s, "(", "1:a", ")"); }
+static void small_texts(struct sample *s) { expression(s, "(", "\"abcd\"", ")"); }
 
 static void comments(struct sample *s) {
     size_t key_len = sizeof small_key - 1, end = s->size - key_len;
@@ -67,7 +68,13 @@ static const struct {
     const char *name;
     void (*make)(struct sample *);
 } kinds[] = {
-    {"lists, 64 deep", lists}, {"one token", token}, {"digits and blanks", spaced_digits}, {"escapes", escapes}, {"comment lines", comments}, {"small atoms", small_atoms},
+    {"lists, 64 deep", lists},
+    {"one token", token},
+    {"digits and blanks", spaced_digits},
+    {"escapes", escapes},
+    {"comment lines", comments},
+    {"small atoms", small_atoms},
+    {"small texts", small_texts},
 };
 
 static const struct sample *given;
