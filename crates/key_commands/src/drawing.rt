@@ -45,13 +45,6 @@ impl<const N: usize> Drawn<N> {
     }
 }
 
-impl<const N: usize> Drop for Drawn<N> {
-    fn drop(self) {
-        let Drawn { mut bytes } = self;
-        wipe(&mut bytes);
-    }
-}
-
 /// Draws `N` random bytes.
 pub(crate) fn draw<const N: usize, R: Dice>(dice: &mut R) -> Result<Drawn<N>, Refusal>
     ensures { DoesDrawing (Draws N) (R.draws dice.old) result (R.draws dice.new) }
@@ -61,5 +54,12 @@ pub(crate) fn draw<const N: usize, R: Dice>(dice: &mut R) -> Result<Drawn<N>, Re
         Ok(drawn)
     } else {
         Err(Refusal::Agent(Code::General))
+    }
+}
+
+impl<const N: usize> Drop for Drawn<N> {
+    fn drop(self) {
+        let Drawn { mut bytes } = self;
+        wipe(&mut bytes);
     }
 }
