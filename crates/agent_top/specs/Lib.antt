@@ -1,5 +1,6 @@
 pub mod Cache
 pub mod Daemon
+pub mod Faults
 pub mod Forms
 pub mod Options
 pub mod Settings

@@ -180,7 +180,7 @@ fn after_dashes(word: &str) -> Option<&str>
 
 impl From<clap::Error> for WordsFault {
     ghost use Rattle.clap.specs.Values.{kind_of};
-    ghost use Rattle.agent_top.specs.Options.{fault_by};
+    ghost use Rattle.agent_top.specs.Faults.{fault_by};
 
     ghost from_gives = { λ error fault. fault ≡ fault_by (kind_of error) };
 
