@@ -22,7 +22,7 @@ use std::sync::Wait;
 use std::thread::Threads;
 
 /// The session that is served on standard input and output.
-const SESSION: SessionId = SessionId { pass: 0, count: 0 };
+pub(crate) const SESSION: SessionId = SessionId { pass: 0, count: 0 };
 
 /// The agent. It reads its words, which leave out the program's name, and serves a session on standard input and output, or as a daemon
 /// those of a listener.
