@@ -1,6 +1,7 @@
 pub mod Cache
 pub mod Daemon
 pub mod Forms
+pub mod Load
 pub mod Options
 pub mod Settings
 pub mod Top
