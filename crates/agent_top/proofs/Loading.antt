@@ -1,5 +1,5 @@
 -- What sessions leave of a desk's run, and marks that are those of words.
-use Rattle.std.proofs.Common.{◌≡◌, ◌∙◌, ◌≤◌, ◌<◌, ◌+◌, ◌*◌, ℕ, zero, suc, List, [], ◌∷◌, length, map, Option, None, Some, refl, ap, ap₂, sym, subst, arith, max, min, ◌-◌, ◌%◌, ◌/◌, mod-lt, lit<, true, eqb-true}
+use Rattle.std.proofs.Common.{◌≡◌, ◌∙◌, ◌≤◌, ◌<◌, ◌+◌, ◌*◌, ℕ, zero, suc, List, [], ◌∷◌, length, map, Option, None, Some, refl, ap, ap₂, sym, subst, arith, ◌-◌, ◌%◌, ◌/◌, mod-lt, lit<, true, eqb-true}
 use Rattle.std.specs.Prelude.{nat_lt, ◌==◌, if◌then◌else◌}
 use Rattle.std.specs.Int.{w32, to_be_bytes}
 use Rattle.cache_policy.specs.declared.life.Life.TheVariants.{Seconds}

@@ -1,4 +1,4 @@
-use Rattle.std.proofs.Common.{◌≡◌, ap, arith}
+use Rattle.std.proofs.Common.{ap, arith}
 use Rattle.agent_top.proofs.Loading.{at_end, before_mark, before_none, next_left}
 use Rattle.agent_top.proofs.load.are_of_load.Goals as goal
 use Rattle.agent_top.proofs.load.are_of_load.Goals.{then-word-lt7+in-Some, else-word-lt7}

@@ -1,4 +1,4 @@
-use Rattle.std.proofs.Common.{◌∙◌, ap, refl}
+use Rattle.std.proofs.Common.{◌∙◌, ap}
 use Rattle.agent_top.specs.Load.{wrote, no_memory}
 use Rattle.agent_top.specs.Top.{exit_number}
 use Rattle.agent_top.proofs.load.run_load.Goals as goal

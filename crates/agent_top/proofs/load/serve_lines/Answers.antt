@@ -1,4 +1,3 @@
-use Rattle.pinentry_client.specs.Dialogues.{PinentryCall}
 use Rattle.agent_top.proofs.Loading.{session_keeps}
 use Rattle.agent_top.proofs.load.serve_lines.Goals as goal
 
