@@ -567,7 +567,7 @@ const PRESETS: &str =
     "GETINFO pid\nPRESET_PASSPHRASE id1 -1 736563726574\nGET_PASSPHRASE --no-ask --data id1\nBYE\nNOP\n";
 
 /// The words, what the client sends, the status, and a part of what it is answered, with the programs that were launched.
-const WORDS: [(&[&str], &str, u8, &str); 8] = [
+const WORDS: [(&[&str], &str, u8, &str); 9] = [
     (
         &["--server", "--allow-preset-passphrase"],
         PRESETS,
@@ -583,7 +583,13 @@ const WORDS: [(&[&str], &str, u8, &str); 8] = [
     (&["--server"], PRESETS, 0, "Not supported"),
     (&["--server"], PRESETS, 0, "D 17\n"),
     (&["--server", "--server"], PRESETS, 2, ""),
-    (&["--load=1"], PRESETS, 2, ""),
+    (
+        &["--load=1"],
+        PRESETS,
+        0,
+        "sessions 64 requests 12864 marks ",
+    ),
+    (&["--load=4294967296"], PRESETS, 2, ""),
     (
         &["--server"],
         "GET_PASSPHRASE id1 X X X\n",

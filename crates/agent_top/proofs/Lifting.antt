@@ -78,7 +78,7 @@ extended : (supply : session_lines.Supply) (before after : Outside seen_world) (
 extended supply before after events leads =
     extends at_desk TurnsSolo (λ b asked turn a turns. turns.is) before.desk after.desk (turns_in events) (turns_lead leads)
 
-first_legal : (limits : Limits) → IsLegalRun limits (first_history ∷ [])
+pub first_legal : (limits : Limits) → IsLegalRun limits (first_history ∷ [])
 first_legal limits = record {
   turns_over = tt;
   each = (record { replies = tt; moments = tt; base = refl; not_spent = inr refl; few = omega arith; held = tt }, tt);

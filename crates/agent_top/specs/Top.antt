@@ -127,3 +127,9 @@ abbrev pub IfDaemon : RunMode → Type 0 → Type 0
 IfDaemon Server P = ⊤
 IfDaemon Daemon P = P
 IfDaemon (Load number) P = ⊤
+
+-- what is said where a load is asked for
+abbrev pub IfLoad : RunMode → (ℕ → Type 0) → Type 0
+IfLoad Server P = ⊤
+IfLoad Daemon P = ⊤
+IfLoad (Load number) P = P number
