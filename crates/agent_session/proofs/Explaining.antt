@@ -23,7 +23,7 @@ use Rattle.key_commands.specs.Parts as parts
 use Rattle.key_commands.specs.Lines.{limit_line}
 use Rattle.key_commands.specs.declared.refusal.Refusal.{Refusal}
 use Rattle.key_commands.specs.declared.refusal.Refusal.TheVariants.{Agent, Pinentry, Client}
-use Rattle.agent_session.specs.Causes.{Has, StandIn, IsCaused, IsSaid, said, IsSent, sent, IsUnread, one, turned, by_stop, GivesNone, none_given}
+use Rattle.agent_session.specs.Causes.{Has, StandIn, IsCaused, IsSaid, said, IsSent, sent, IsUnread, IsDrawn, one, turned, by_stop, GivesNone, none_given}
 use Rattle.agent_session.specs.Completeness.{AnswersNothing, IsStatus}
 use Rattle.agent_session.specs.declared.kept.Kept.{Kept}
 use Rattle.agent_session.proofs.Standing.{has_first, has_second, stand_left, stand_right, each_append}
@@ -74,6 +74,21 @@ module _ (rules : Rules) (kept : Kept) (request : Request) (whole : List (Event 
 
     pub bind : Explains (part >>= next) Good
     bind = record { of = bind_of }
+
+  -- a part whatever value it comes to
+  module _ {A : Type 0} {part : Part A} (Good : A → Type 0) (explains : Explains part Good) where
+    any_value : (result : Result A Refusal) → IsExplained Good result → IsExplained Anything result
+    any_value (Ok value) good = tt
+    any_value (Err why) caused = caused
+
+    whatever_of : (before : Option ℕ) (events : List (Event FurtherEvent)) (result : Result A Refusal) (after : Option ℕ) → part before events result after → StandIn events whole
+        → Comes Anything events result
+    whatever_of before events result after does stands =
+        let comes : Comes Good events result = explains.of before events result after does stands in
+        record { silent = comes.silent; explained = any_value result comes.explained }
+
+    pub whatever : Explains part Anything
+    whatever = record { of = whatever_of }
 
   module _ {A : Type 0} (Good : A → Type 0) where
     returns_of : (value : A) → Good value → (before : Option ℕ) (events : List (Event FurtherEvent)) (result : Result A Refusal) (after : Option ℕ) → Returns value before events result after
@@ -215,9 +230,9 @@ module _ (rules : Rules) (kept : Kept) (request : Request) (whole : List (Event 
 
   module _ (count : ℕ) where
     draws_of : (before : Option ℕ) (events : List (Event FurtherEvent)) (result : Result (List ℕ) Refusal) (after : Option ℕ) → Draws count before events result after
-        → StandIn events whole → Comes Anything events result
-    draws_of before events result after (parts.drawn long) stands = record { silent = (tt, tt); explained = tt }
+        → StandIn events whole → Comes (IsDrawn whole count) events result
+    draws_of before events result after (parts.drawn long) stands = record { silent = (tt, tt); explained = record { long = long; has = has_first stands } }
     draws_of before events result after parts.faulted stands = record { silent = (tt, tt); explained = one (Further (Dice (NotDrawn count))) tt (has_first stands) }
 
-    pub draws : Explains (Draws count) Anything
+    pub draws : Explains (Draws count) (IsDrawn whole count)
     draws = record { of = draws_of }

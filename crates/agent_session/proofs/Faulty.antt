@@ -1,6 +1,7 @@
 -- No fault of a key is a want of memory.
-use Rattle.std.proofs.Common.{ℕ, Bool, true, false, List, [], ◌∷◌, Option, Some, None, sym, subst, inl, inr}
+use Rattle.std.proofs.Common.{ℕ, Bool, true, false, List, [], ◌∷◌, Option, Some, None, Err, sym, subst, inl, inr}
 use Rattle.std.specs.Prelude.{if◌then◌else◌}
+use Rattle.key_commands.specs.Files.{FileSays, canonical, no_canonical}
 use Rattle.secret_file.specs.Answers.{IsFileFault, IsLockedFault}
 use Rattle.sexp_canonical.specs.Tree.{Tree, leaf, branch, items}
 use Rattle.sexp_keys.specs.Faults.{form_fault, name_fault, algorithm_fault, first_fault, IsFirstFault}
@@ -43,9 +44,13 @@ pub first_fault_said : (tree : Tree) (fault : KeyFault) → IsFirstFault tree fa
 first_fault_said tree fault (inl is) = subst IsSaid is (first_said (form_fault (items tree)) (algorithm_fault (items tree)) (form_said (items tree)) (algorithm_said (items tree)))
 first_fault_said tree fault (inr other) = subst (λ f. IsSaid (Some f)) (sym other.2) bad
 
-pub file_fault_said : (file : List ℕ) (fault : KeyFault) → IsFileFault file fault → IsSaid (Some fault)
-file_fault_said file fault (inl unread) = subst (λ f. IsSaid (Some f)) (sym unread.1) no_expression
-file_fault_said file fault (inr read) = first_fault_said _ fault read.2
+canonical_fault_said : (bytes : List ℕ) (fault : KeyFault) → IsFileFault bytes fault → IsSaid (Some fault)
+canonical_fault_said bytes fault (inl unread) = subst (λ f. IsSaid (Some f)) (sym unread.1) no_expression
+canonical_fault_said bytes fault (inr read) = first_fault_said _ fault read.2
+
+pub file_fault_said : (file : List ℕ) (fault : KeyFault) → FileSays file (Err fault) → IsSaid (Some fault)
+file_fault_said file fault (canonical canon says) = canonical_fault_said _ fault says
+file_fault_said file _ (no_canonical canon) = no_expression
 
 pub locked_fault_said : (key : Key) (fault : KeyFault) → IsLockedFault key fault → IsSaid (Some fault)
 locked_fault_said key fault (inl clear) = subst (λ f. IsSaid (Some f)) (sym clear.1) bad

@@ -37,14 +37,14 @@ use Rattle.secret_file.specs.Opens.{LockedKey}
 use Rattle.agent_commands.specs.Events.{Event}
 use Rattle.agent_commands.specs.declared.request.Request.{Request}
 use Rattle.key_commands.specs.Faults.{fault_code}
-use Rattle.key_commands.specs.KeyParts.{Tells, tells, file_in, KeyFile, ReadsFile, change_fault, Replaces, Removes, Protects, KeepsNew, TellsInfo, ListsGrips, ReadsListed, WritesInfo, WritesInfos, max_key_data, AsksKeyData, NamesKey, LooksOver, WrapsKey, consent_refusal, PromptsConsent, Agrees}
+use Rattle.key_commands.specs.KeyParts.{ReadsFile, change_fault, Replaces, Removes, KeepsNew, consent_refusal, Agrees}
 use Rattle.key_commands.specs.KeyParts as parts
 use Rattle.key_commands.specs.Parts.{read_fault}
 use Rattle.key_commands.specs.Passphrases.{ask_nonce, LooksForNonce, TakesSeat, PromptsPin, pin_refusal, Locks, OpensBy, Tries, TriesFound, PromptsOld, PromptsNew}
 use Rattle.key_commands.specs.Passphrases as passphrases
 use Rattle.key_commands.specs.declared.refusal.Refusal.{Refusal}
 use Rattle.key_commands.specs.declared.refusal.Refusal.TheVariants.{Client}
-use Rattle.agent_session.specs.Causes.{Has, here, later, StandIn, IsCaused, IsSaid, said, IsSent, sent, IsUnread, IsUnremoved, LacksKeys, on_keys, HasOne, one, HasTurn, IsRead, read, IsReadLocked, OpensRead, opens, is_clear, IsFaulty, protection, key_data, KeyDataSays, IsBadKey, faulty, IsUnsupported, WantsMemory, IsBadPrompt, HasCall, GivesNone, GivesNoneFor, none_at_all, wrong, ByNonce}
+use Rattle.agent_session.specs.Causes.{Has, here, later, StandIn, IsCaused, IsSaid, said, IsSent, sent, IsUnread, IsUnremoved, LacksKeys, on_keys, HasOne, one, HasTurn, IsRead, read, IsReadOf, read_of, IsReadLocked, OpensRead, opens, is_clear, IsFaulty, protection, key_data, KeyDataSays, IsBadKey, faulty, IsUnsupported, WantsMemory, IsBadPrompt, HasCall, GivesNone, GivesNoneFor, none_at_all, wrong, ByNonce}
 use Rattle.agent_session.specs.Causes as causes
 use Rattle.agent_session.specs.Completeness.{AnswersNothing}
 use Rattle.agent_session.specs.declared.kept.Kept.{Kept}
@@ -286,16 +286,16 @@ module _ (rules : Rules) (kept : Kept) (request : Request) (whole : List (Event 
   read_caused grip key_read.NoMemory absent is stands = let same : code.NoMemory ≡ _ = cc in subst CausedHere same (one _ tt (has_first stands))
 
   module _ (grip : Grip) (lacks : IsUnread whole grip → LacksKeys whole (on_keys request)) where
-    reads_file_of : (before : Option ℕ) (events : List (Event FurtherEvent)) (result : Result KeyFile Refusal) (after : Option ℕ) → ReadsFile grip before events result after
-        → StandIn events whole → ComesHere (λ file. IsRead whole (Ok file.key)) events result
-    reads_file_of before events result after (parts.is_key is says) stands = record { silent = (tt, tt); explained = read is says (has_first stands) }
+    reads_file_of : (before : Option ℕ) (events : List (Event FurtherEvent)) (result : Result _ Refusal) (after : Option ℕ) → ReadsFile grip before events result after
+        → StandIn events whole → ComesHere (λ file. IsReadOf whole grip file.bytes × IsRead whole (Ok file.key)) events result
+    reads_file_of before events result after (parts.is_key is says) stands = record { silent = (tt, tt); explained = (read_of is (has_first stands), read is says (has_first stands)) }
     reads_file_of before events result after (parts.faulty {file} {fault} is says) stands =
         record { silent = (tt, tt); explained = fault_caused fault (file_fault_said file fault says) (λ why so. causes.file (read is says (has_first stands)) so) }
     reads_file_of before events result after (parts.no_memory is) stands = record { silent = (tt, (tt, tt)); explained = out_of_memory_second rules kept request whole stands }
     reads_file_of before events result after (parts.unread {answer} is) stands =
         record { silent = (tt, tt); explained = read_caused grip answer (λ absent. lacks (subst (λ a. Has (Further (Keys (Read grip a))) whole) absent (has_first stands))) is stands }
 
-    pub reads_file : ExplainsHere (ReadsFile grip) (λ file. IsRead whole (Ok file.key))
+    pub reads_file : ExplainsHere (ReadsFile grip) (λ file. IsReadOf whole grip file.bytes × IsRead whole (Ok file.key))
     reads_file = record { of = reads_file_of }
 
   module _ (grip : Grip) (lacks : IsUnremoved whole grip → LacksKeys whole (on_keys request)) where

@@ -1,8 +1,7 @@
 -- Requests on keys, each of whose refusals has its cause.
 use Rattle.std.specs.List.{AllByRecursion}
 use Rattle.std.proofs.Common.{◌≡◌, ◌≢◌, ◌==◌, ℕ, Bool, true, false, List, [], ◌∷◌, length, codes, Option, Some, None, Result, Ok, Err, refl, sym, subst, inl, inr, arith}
-use Rattle.std.specs.Prelude.{⊤, not, nat_le}
-use Rattle.std.proofs.lemmas.Bool.{leb-false}
+use Rattle.std.specs.Prelude.{⊤, not, take, drop}
 use Rattle.std.proofs.lemmas.Bool.Decides.{nat_tests}
 use Rattle.std.proofs.lemmas.List.{nil_from_length}
 use Rattle.agent_ask.specs.Further.{FurtherEvent, Keys, Read, Replaced}
@@ -17,15 +16,17 @@ use Rattle.assuan_server.specs.declared.errors.Origin.TheVariants.{Agent as OfAg
 use Rattle.cache_policy.specs.Turns.{Refused, Empty, Stopping}
 use Rattle.cache_policy.specs.declared.secret.TheConstants.{MAX_SECRET_LEN}
 use Rattle.secret_file.specs.Opens.{LockedKey}
+use Rattle.secret_file.specs.Protects.{ocb_protection, protected_file}
 use Rattle.session_options.specs.declared.options.PinMode.{PinMode}
 use Rattle.session_options.specs.declared.options.PinMode.TheVariants as mode
 use Rattle.session_options.specs.declared.rules.Rules.{Rules}
 use Rattle.sexp_keys.specs.Key.{Key}
-use Rattle.sexp_keys.specs.Lists.{key_list_of}
 use Rattle.agent_commands.specs.Events.{Event}
 use Rattle.agent_commands.specs.declared.request.Request.{Request}
-use Rattle.key_commands.specs.Exchanges.{KeyReply, HaveKeyReplies, KeyInfoReplies, ListKeysReplies, KeyWrapReplies, ImportKeyReplies, ExportKeyReplies, PasswdReplies, VerifyReplies, DeleteKeyReplies, Replies, wrap_key}
-use Rattle.key_commands.specs.KeyParts.{Tells, tells, Protects, HasOne as HasOneKey, TellsInfo, grips_in, ListsGrips, ReadsListed, WritesInfo, WritesInfos, max_key_data, AsksKeyData, Unwraps, NamesKey, IsFree, LooksOver, WrapsKey, Consents}
+use Rattle.key_commands.specs.Exchanges.{KeyReply, HaveKeyReplies, KeyInfoReplies, ListKeysReplies, KeyWrapReplies, ImportKeyReplies, ExportKeyReplies, PasswdReplies, VerifyReplies, DeleteKeyReplies, Replies, wrap_key, StoresKey, FoundOrNew, RenewsPassphrase, RewritesFile, ChangesOpened}
+use Rattle.key_commands.specs.Files.{Rewrites}
+use Rattle.key_commands.specs.Files as files
+use Rattle.key_commands.specs.KeyParts.{Tells, tells, Protects, IsShort, HasOne as HasOneKey, TellsInfo, ListsGrips, ReadsListed, WritesInfo, TellsListed, WritesInfos, max_key_data, AsksKeyData, Unwraps, ReceivesKey, NamesKey, IsFree, LooksOver, WrapsKey, Consents}
 use Rattle.key_commands.specs.KeyParts as parts
 use Rattle.key_commands.specs.Lines.{limit_line}
 use Rattle.key_commands.specs.Parts.{Part, Returns, unless, needed, or_else, wanted, read_fault}
@@ -37,11 +38,10 @@ use Rattle.key_commands.specs.declared.refusal.Refusal.TheVariants.{Agent}
 use Rattle.key_commands.specs.declared.request.Direction.{Direction}
 use Rattle.key_commands.specs.declared.request.KeyRequest.{KeyRequest}
 use Rattle.key_commands.specs.declared.request.KeyRequest.TheVariants as on
-use Rattle.key_commands.specs.declared.wrapping.TheConstants.{MAX_LIST_LEN}
-use Rattle.agent_session.specs.Causes.{Has, StandIn, IsCaused, IsSent, IsUnread, LacksKeys, on_keys, IsRefusedBy, one, IsRead, IsReadLocked, OpensRead, is_clear, key_data, KeyDataSays, data_says, faulty, long, by_mode, deletion, stays, empty, no_import, no_export, there, GivesNone, none_given, GivesNoneFor, ByNonce, HasNoEntry, exported, changed, verified, imported, renewed, IsUnprompted}
+use Rattle.agent_session.specs.Causes.{Has, StandIn, IsCaused, IsSent, IsUnread, LacksKeys, on_keys, IsRefusedBy, one, IsRead, IsReadOf, IsDrawn, IsListOf, protected, IsReadLocked, OpensRead, is_clear, key_data, KeyDataSays, data_says, faulty, long, long_file, by_mode, deletion, stays, empty, no_import, no_export, there, GivesNone, none_given, GivesNoneFor, ByNonce, HasNoEntry, exported, changed, verified, imported, renewed, IsUnprompted}
 use Rattle.agent_session.specs.Completeness.{IsStatus}
 use Rattle.agent_session.specs.declared.kept.Kept.{Kept}
-use Rattle.agent_session.proofs.Explaining.{Caused, Comes, Explains, Anything, IsFound, bind, returned, refused, is_needed, or_otherwise, is_wanted, seats, changes, peeks, closes_so, writes, inquires_of, asks_client, finds, draws, out_of_memory_first, out_of_memory_second, FoundBy, looks}
+use Rattle.agent_session.proofs.Explaining.{Caused, Comes, Explains, Anything, IsFound, bind, whatever, returned, refused, is_needed, or_otherwise, is_wanted, seats, changes, peeks, closes_so, writes, inquires_of, asks_client, finds, draws, out_of_memory_first, out_of_memory_second, FoundBy, looks}
 use Rattle.agent_session.proofs.Faulty.{first_fault_said}
 use Rattle.agent_session.proofs.KeyParts.{Either, fault_caused, looks_for_nonce, takes_seat, keeps_new, locks, tries, tries_found, prompts_old, prompts_new, agrees, reads_file, removes, replaces, FoundByNonce, nonce_none, none_opens, nonce_none_opens, NoneOpens}
 use Rattle.agent_session.proofs.Replying.{IsReply, reply_ok, reply_status, reply_nonce, reply_keys}
@@ -67,12 +67,15 @@ module _ (rules : Rules) (kept : Kept) (request : Request) (whole : List (Event 
   told bytes = record { of = tells_of bytes }
 
   module _ (key : Key) (pass salt iv : List ℕ) (count : ℕ) where
+    abbrev IsProtected : List ℕ → Type 0
+    IsProtected list = list ≡ protected_file key (ocb_protection key pass salt iv count None) None
+
     protects_of : (before : Option ℕ) (events : List (Event FurtherEvent)) (result : Result (List ℕ) Refusal) (after : Option ℕ) → Protects key pass salt iv count before events result after
-        → StandIn events whole → ComesHere Anything events result
-    protects_of before events result after parts.made stands = record { silent = tt; explained = tt }
+        → StandIn events whole → ComesHere IsProtected events result
+    protects_of before events result after parts.made stands = record { silent = tt; explained = refl }
     protects_of before events result after parts.no_memory stands = record { silent = (tt, tt); explained = out_of_memory_first rules kept request whole stands }
 
-    protects : ExplainsHere (Protects key pass salt iv count) Anything
+    protects : ExplainsHere (Protects key pass salt iv count) IsProtected
     protects = record { of = protects_of }
 
   names_key_of : (key : Key) (before : Option ℕ) (events : List (Event FurtherEvent)) (result : Result Grip Refusal) (after : Option ℕ) → NamesKey key before events result after → StandIn events whole
@@ -143,11 +146,12 @@ module _ (rules : Rules) (kept : Kept) (request : Request) (whole : List (Event 
   writes_info grip None = returned rules kept request whole Anything tt tt
   writes_info grip (Some key) = bind rules kept request whole IsStatus Anything (tells_info grip key) (λ line status. writes rules kept request whole line status)
 
+  tells_listed : (grip : Grip) → ExplainsHere (TellsListed grip) Anything
+  tells_listed grip = bind rules kept request whole Anything Anything (reads_listed grip) (λ key any. writes_info grip key)
+
   writes_infos : (grips : List Grip) → ExplainsHere (WritesInfos grips) Anything
   writes_infos [] = returned rules kept request whole Anything tt tt
-  writes_infos (grip ∷ more) =
-      bind rules kept request whole Anything Anything (reads_listed grip)
-      (λ key any. bind rules kept request whole Anything Anything (writes_info grip key) (λ written any. writes_infos more))
+  writes_infos (grip ∷ more) = bind rules kept request whole Anything Anything (tells_listed grip) (λ told any. writes_infos more)
 
   -- one of them is there, or all are absent
   has_more : (grip : Grip) (more : List Grip) (found : Bool) → IsFound rules kept request whole grip found → (IsUnread whole grip → ExplainsHere (HasOneKey more) Anything)
@@ -189,6 +193,11 @@ module _ (rules : Rules) (kept : Kept) (request : Request) (whole : List (Event 
 
     unwraps : ExplainsHere (Unwraps wrap wrapped) Anything
     unwraps = record { of = unwraps_of }
+
+  receives_key : (wrap : List ℕ) → kept.wraps.import ≡ Some wrap → ExplainsHere (ReceivesKey wrap) Anything
+  receives_key wrap drawn =
+      bind rules kept request whole Anything Anything (writes rules kept request whole (limit_line max_key_data) (_, refl))
+      (λ told any. bind rules kept request whole (IsSent whole (codes "KEYDATA") max_key_data) Anything asks_key_data (λ wrapped sent. unwraps wrap wrapped drawn sent))
 
   is_free : (force : Bool) (grip : Grip) {id : Option (List ℕ)} → on_keys request ≡ Some (on.ImportKey force id) → ExplainsHere (IsFree force grip) Anything
   is_free true grip asked = returned rules kept request whole Anything tt tt
@@ -262,7 +271,7 @@ module _ (rules : Rules) (kept : Kept) (request : Request) (whole : List (Event 
 
     -- ---- a new passphrase
 
-    client_new : kept.options.mode ≡ mode.Loopback → ExplainsHere (ClientNew rules kept.options grip) Anything
+    client_new : kept.options.mode ≡ mode.Loopback → ExplainsHere ClientNew Anything
     unfolding ClientNew
     client_new loopback =
         bind rules kept request whole (IsSent whole (codes "NEW_PASSPHRASE") MAX_SECRET_LEN) Anything (asks_client rules kept request whole (codes "NEW_PASSPHRASE") MAX_SECRET_LEN)
@@ -309,7 +318,7 @@ module _ (rules : Rules) (kept : Kept) (request : Request) (whole : List (Event 
   key_info : (grip : Grip) → on_keys request ≡ Some (on.KeyInfo grip) → Explains rules kept request whole (KeyInfoReplies rules kept.options kept.wraps grip) Replied
   unfolding KeyInfoReplies
   key_info grip asked =
-      bind rules kept request whole (λ file. IsRead whole (Ok file.key)) Replied (reads_file rules kept request whole grip (λ absent. subst (LacksKeys whole) (sym asked) absent))
+      bind rules kept request whole (λ file. IsReadOf whole grip file.bytes × IsRead whole (Ok file.key)) Replied (reads_file rules kept request whole grip (λ absent. subst (LacksKeys whole) (sym asked) absent))
       (λ file is_read. bind rules kept request whole IsStatus Replied (tells_info rules kept request whole grip file.key) (λ line status. replied _ (reply_status _ status)))
 
   list_keys : Explains rules kept request whole (ListKeysReplies rules kept.options kept.wraps) Replied
@@ -321,7 +330,7 @@ module _ (rules : Rules) (kept : Kept) (request : Request) (whole : List (Event 
   key_wrap : (way : Direction) → Explains rules kept request whole (KeyWrapReplies rules kept.options kept.wraps way) Replied
   unfolding KeyWrapReplies
   key_wrap way =
-      bind rules kept request whole Anything Replied (or_otherwise rules kept request whole Anything (wrap_key way kept.wraps) _ (λ some is. tt) (λ none. draws rules kept request whole 16))
+      bind rules kept request whole Anything Replied (or_otherwise rules kept request whole Anything (wrap_key way kept.wraps) _ (λ some is. tt) (λ none. whatever rules kept request whole (IsDrawn whole 16) (draws rules kept request whole 16)))
       (λ key any. bind rules kept request whole IsReply Replied (told rules kept request whole key) (λ text is_reply. replied _ is_reply))
 
   export_key : (grip : Grip) (nonce : Option (List ℕ)) → on_keys request ≡ Some (on.ExportKey grip nonce)
@@ -329,8 +338,8 @@ module _ (rules : Rules) (kept : Kept) (request : Request) (whole : List (Event 
   unfolding ExportKeyReplies
   export_key grip id asked =
       bind rules kept request whole Anything Replied (is_needed rules kept request whole Anything code.Parameter kept.wraps.export (λ none. no_export asked none) (λ some is. tt))
-      (λ wrap any. bind rules kept request whole (λ file. IsRead whole (Ok file.key)) Replied (reads_file rules kept request whole grip (λ absent. subst (LacksKeys whole) (sym asked) absent))
-      (λ file is_read. bind rules kept request whole (λ opened. OpensRead whole opened.key) Replied (old_passphrase rules kept request whole grip file.key.is_clear file.key id is_read (λ locked is_locked by_nonce by_key. exported _ asked is_locked by_nonce by_key))
+      (λ wrap any. bind rules kept request whole (λ file. IsReadOf whole grip file.bytes × IsRead whole (Ok file.key)) Replied (reads_file rules kept request whole grip (λ absent. subst (LacksKeys whole) (sym asked) absent))
+      (λ file is_read. bind rules kept request whole (λ opened. OpensRead whole opened.key) Replied (old_passphrase rules kept request whole grip file.key.is_clear file.key id is_read.1 (λ locked is_locked by_nonce by_key. exported _ asked is_locked by_nonce by_key))
       (λ opened opens. bind rules kept request whole Anything Replied (closes_so rules kept request whole opened.by)
       (λ closed any. bind rules kept request whole Anything Replied (wraps_key rules kept request whole wrap opened.key)
       (λ wrapped any. bind rules kept request whole IsReply Replied (told rules kept request whole wrapped) (λ text is_reply. replied _ is_reply))))))
@@ -339,8 +348,8 @@ module _ (rules : Rules) (kept : Kept) (request : Request) (whole : List (Event 
       → Explains rules kept request whole (VerifyReplies rules kept.options kept.wraps grip) Replied
   unfolding VerifyReplies
   verify grip asked =
-      bind rules kept request whole (λ file. IsRead whole (Ok file.key)) Replied (reads_file rules kept request whole grip (λ absent. subst (LacksKeys whole) (sym asked) absent))
-      (λ file is_read. bind rules kept request whole (λ opened. OpensRead whole opened.key) Replied (verifies_passphrase rules kept request whole grip file.key.is_clear file.key is_read (verified asked))
+      bind rules kept request whole (λ file. IsReadOf whole grip file.bytes × IsRead whole (Ok file.key)) Replied (reads_file rules kept request whole grip (λ absent. subst (LacksKeys whole) (sym asked) absent))
+      (λ file is_read. bind rules kept request whole (λ opened. OpensRead whole opened.key) Replied (verifies_passphrase rules kept request whole grip file.key.is_clear file.key is_read.1 (verified asked))
       (λ opened opens. bind rules kept request whole Anything Replied (closes_so rules kept request whole opened.by) (λ closed any. replied _ reply_ok)))
 
   delete_key : (grip : Grip) (force : Bool) → on_keys request ≡ Some (on.DeleteKey grip force) → Explains rules kept request whole (DeleteKeyReplies rules kept.options kept.wraps force grip) Replied
@@ -356,48 +365,93 @@ module _ (rules : Rules) (kept : Kept) (request : Request) (whole : List (Event 
       lacks true none so = absurd (cc none)
       lacks false none so = subst (LacksKeys whole) (sym asked) (inl so)
 
+  found_or_new : (grip : Grip) (force : Bool) (nonce : Option (List ℕ)) → on_keys request ≡ Some (on.ImportKey force nonce)
+      → Explains rules kept request whole (FoundOrNew rules kept.options nonce grip) Anything
+  found_or_new grip force id asked =
+      bind rules kept request whole (Overlooked rules kept request whole id) Anything (looks_over rules kept request whole id)
+      (λ found so. or_otherwise rules kept request whole Anything found _ (λ some is. tt)
+      (λ none. new_passphrase rules kept request whole grip kept.options.mode (imported asked (subst (Overlooked rules kept request whole id) none so))))
+
+  -- PASSWD of a key
+  module _ (grip : Grip) {old new : Option (List ℕ)} (asked : on_keys request ≡ Some (on.Passwd grip old new false)) where
+    renews : Explains rules kept request whole (RenewsPassphrase rules kept.options grip new) Anything
+    renews =
+        bind rules kept request whole (FoundByNonce rules kept request whole new) Anything (looks_for_nonce rules kept request whole new)
+        (λ found by. or_otherwise rules kept request whole Anything found _ (λ some is. tt)
+        (λ none. new_passphrase rules kept request whole grip kept.options.mode (renewed asked (nonce_none rules kept request whole new (subst (FoundByNonce rules kept request whole new) none by)))))
+
+    module _ (key : Key) (opens : OpensRead whole key) where
+      is_short_of : (before : Option ℕ) (events : List (Event FurtherEvent)) (result : Result (Unit {0}) Refusal) (after : Option ℕ) → IsShort key before events result after → StandIn events whole
+          → Comes rules kept request whole Anything events result
+      is_short_of before events result after (parts.short few) stands = record { silent = tt; explained = tt }
+      is_short_of before events result after (parts.long many) stands = record { silent = tt; explained = long asked opens many }
+      is_short_of before events result after parts.no_memory stands = record { silent = (tt, tt); explained = out_of_memory_first rules kept request whole stands }
+
+      is_short : Explains rules kept request whole (IsShort key) Anything
+      is_short = record { of = is_short_of }
+
+      module _ (file : List ℕ) (is_read : IsReadOf whole grip file) (pass : List ℕ) where
+        module _ (list : List ℕ) (is_list : IsListOf whole key pass kept.options.s2k_count list) where
+          rewrites_of : (before : Option ℕ) (events : List (Event FurtherEvent)) (result : Result (List ℕ) Refusal) (after : Option ℕ) → Rewrites file list before events result after
+              → StandIn events whole → Comes rules kept request whole Anything events result
+          rewrites_of before events result after (files.canonical_file is) stands = record { silent = tt; explained = tt }
+          rewrites_of before events result after (files.extended_file other with_list few) stands = record { silent = tt; explained = tt }
+          rewrites_of before events result after (files.too_long new_file other with_list many) stands =
+              record { silent = tt; explained = long_file pass asked is_read other opens is_list with_list many }
+          rewrites_of before events result after files.no_memory stands = record { silent = (tt, tt); explained = out_of_memory_first rules kept request whole stands }
+
+          rewrites : Explains rules kept request whole (Rewrites file list) Anything
+          rewrites = record { of = rewrites_of }
+
+  -- ---- key files that are replaced
+
   module _ (never_absent : (grip : Grip) (file : List ℕ) → Has (Further (Keys (Replaced grip file key_done.Absent))) whole → ⊥) where
+    stores_key : (count : ℕ) (key : Key) (grip : Grip) (pass : List ℕ) → Explains rules kept request whole (StoresKey count key grip pass) Anything
+    stores_key count key grip pass =
+        bind rules kept request whole (IsDrawn whole 32) Anything (draws rules kept request whole 32)
+        (λ drawn is_drawn. bind rules kept request whole (IsProtected rules kept request whole key pass (take 8 drawn) (take 12 (drop 8 drawn)) count) Anything
+        (protects rules kept request whole key pass (take 8 drawn) (take 12 (drop 8 drawn)) count)
+        (λ file is_protected. bind rules kept request whole Anything Anything (changes rules kept request whole _ refl)
+        (λ cached any. bind rules kept request whole Anything Anything (replaces rules kept request whole never_absent grip file)
+        (λ replaced any. bind rules kept request whole Anything Anything (keeps_new rules kept request whole grip pass)
+        (λ kept_so any. returned rules kept request whole Anything (drop 20 drawn) tt)))))
+
     import_key : (force : Bool) (nonce : Option (List ℕ)) → on_keys request ≡ Some (on.ImportKey force nonce)
         → Explains rules kept request whole (ImportKeyReplies rules kept.options kept.wraps force nonce) Replied
     unfolding ImportKeyReplies
     import_key force id asked =
         bind rules kept request whole (λ wrap. kept.wraps.import ≡ Some wrap) Replied (is_needed rules kept request whole (λ wrap. kept.wraps.import ≡ Some wrap) code.Parameter kept.wraps.import (λ none. no_import asked none) (λ some is. is))
-        (λ wrap drawn. bind rules kept request whole Anything Replied (writes rules kept request whole (limit_line max_key_data) (_, refl))
-        (λ told any. bind rules kept request whole (IsSent whole (codes "KEYDATA") max_key_data) Replied (asks_key_data rules kept request whole)
-        (λ wrapped sent. bind rules kept request whole Anything Replied (unwraps rules kept request whole wrap wrapped drawn sent)
+        (λ wrap drawn. bind rules kept request whole Anything Replied (receives_key rules kept request whole wrap drawn)
         (λ key any. bind rules kept request whole Anything Replied (names_key rules kept request whole key)
         (λ grip any. bind rules kept request whole Anything Replied (is_free rules kept request whole force grip asked)
-        (λ free any. bind rules kept request whole (Overlooked rules kept request whole id) Replied (looks_over rules kept request whole id)
-        (λ found so. bind rules kept request whole Anything Replied (or_otherwise rules kept request whole Anything found _ (λ some is. tt)
-        (λ none. new_passphrase rules kept request whole grip kept.options.mode (imported asked (subst (Overlooked rules kept request whole id) none so))))
-        (λ pass any. bind rules kept request whole Anything Replied (draws rules kept request whole 32)
-        (λ drawn_bytes any. bind rules kept request whole Anything Replied (protects rules kept request whole key pass _ _ kept.options.s2k_count)
-        (λ file any. bind rules kept request whole Anything Replied (changes rules kept request whole _ refl)
-        (λ cached any. bind rules kept request whole Anything Replied (replaces rules kept request whole never_absent grip file)
-        (λ replaced any. bind rules kept request whole Anything Replied (keeps_new rules kept request whole grip pass)
-        (λ kept_so any. replied _ (reply_nonce _))))))))))))))
+        (λ free any. bind rules kept request whole Anything Replied (found_or_new grip force id asked)
+        (λ pass any. bind rules kept request whole Anything Replied (stores_key kept.options.s2k_count key grip pass)
+        (λ cache_nonce any. replied _ (reply_nonce _)))))))
+
+    module _ (grip : Grip) {old new : Option (List ℕ)} (asked : on_keys request ≡ Some (on.Passwd grip old new false)) (file : List ℕ) (is_read : IsReadOf whole grip file) (key : Key)
+        (opens : OpensRead whole key) where
+      rewrites_file : (pass : List ℕ) → Explains rules kept request whole (RewritesFile rules kept.options grip file key pass) Anything
+      unfolding RewritesFile
+      rewrites_file pass =
+          bind rules kept request whole (IsDrawn whole 20) Anything (draws rules kept request whole 20)
+          (λ drawn is_drawn. bind rules kept request whole (IsProtected rules kept request whole key pass (take 8 drawn) (drop 8 drawn) kept.options.s2k_count) Anything
+          (protects rules kept request whole key pass (take 8 drawn) (drop 8 drawn) kept.options.s2k_count)
+          (λ list is_protected. bind rules kept request whole Anything Anything (rewrites grip asked key opens file is_read pass list (protected is_drawn is_protected))
+          (λ new_file any. bind rules kept request whole Anything Anything (replaces rules kept request whole never_absent grip new_file)
+          (λ replaced any. keeps_new rules kept request whole grip pass))))
+
+      changes_opened : Explains rules kept request whole (ChangesOpened rules kept.options grip new file key) Anything
+      changes_opened =
+          bind rules kept request whole Anything Anything (is_short grip asked key opens)
+          (λ short any. bind rules kept request whole Anything Anything (renews grip asked) (λ pass any. rewrites_file pass))
 
     passwd : (grip : Grip) (nonce new_nonce : Option (List ℕ)) → on_keys request ≡ Some (on.Passwd grip nonce new_nonce false)
         → Explains rules kept request whole (PasswdReplies rules kept.options kept.wraps grip nonce new_nonce) Replied
     unfolding PasswdReplies
     passwd grip id new_id asked =
-        bind rules kept request whole (λ file. IsRead whole (Ok file.key)) Replied (reads_file rules kept request whole grip (λ absent. subst (LacksKeys whole) (sym asked) absent))
-        (λ file is_read. bind rules kept request whole (λ opened. OpensRead whole opened.key) Replied (old_passphrase rules kept request whole grip file.key.is_clear file.key id is_read (λ locked is_locked by_nonce by_key. changed _ asked is_locked by_nonce by_key))
-        (λ opened opens. bind rules kept request whole Anything Replied (is_short opened.key opens)
-        (λ short any. bind rules kept request whole (FoundByNonce rules kept request whole new_id) Replied (looks_for_nonce rules kept request whole new_id)
-        (λ found by. bind rules kept request whole Anything Replied (or_otherwise rules kept request whole Anything found _ (λ some is. tt)
-        (λ none. new_passphrase rules kept request whole grip kept.options.mode (renewed asked (nonce_none rules kept request whole new_id (subst (FoundByNonce rules kept request whole new_id) none by)))))
-        (λ pass any. bind rules kept request whole Anything Replied (draws rules kept request whole 20)
-        (λ drawn any. bind rules kept request whole Anything Replied (protects rules kept request whole opened.key pass _ _ kept.options.s2k_count)
-        (λ list any. bind rules kept request whole Anything Replied (replaces rules kept request whole never_absent grip _)
-        (λ replaced any. bind rules kept request whole Anything Replied (keeps_new rules kept request whole grip pass) (λ kept_so any. replied _ reply_ok)))))))))
-      where
-        short_by : (key : Key) (fits : Bool) → nat_le (length (key_list_of key)) MAX_LIST_LEN ≡ fits → OpensRead whole key → Explains rules kept request whole (wanted code.BadSecKey fits) Anything
-        short_by key true is read_opens = returned rules kept request whole Anything tt tt
-        short_by key false is read_opens = refused rules kept request whole Anything (Agent code.BadSecKey) (long asked read_opens (leb-false (length (key_list_of key)) MAX_LIST_LEN is))
-
-        is_short : (key : Key) → OpensRead whole key → Explains rules kept request whole (wanted code.BadSecKey (nat_le (length (key_list_of key)) MAX_LIST_LEN)) Anything
-        is_short key read_opens = short_by key (nat_le (length (key_list_of key)) MAX_LIST_LEN) refl read_opens
+        bind rules kept request whole (λ file. IsReadOf whole grip file.bytes × IsRead whole (Ok file.key)) Replied (reads_file rules kept request whole grip (λ absent. subst (LacksKeys whole) (sym asked) absent))
+        (λ file is_read. bind rules kept request whole (λ opened. OpensRead whole opened.key) Replied (old_passphrase rules kept request whole grip file.key.is_clear file.key id is_read.1 (λ locked is_locked by_nonce by_key. changed _ asked is_locked by_nonce by_key))
+        (λ opened opens. bind rules kept request whole Anything Replied (changes_opened grip asked file.bytes is_read.0 opened.key opens) (λ changed_so any. replied _ reply_ok)))
 
     -- a request on keys, whose line may be refused
     module _ (line_caused : (why : Code) → IsRefusedBy request why → IsCaused whole rules kept request why OfAgent) where

@@ -1,10 +1,10 @@
 -- Why a request is answered by an error line: what must have happened in its exchange, for each code. The codes and their causes are this project's
 -- own.
 use Rattle.std.specs.List.{AllByRecursion}
-use Rattle.std.specs.Prelude.{◌≡◌, ◌<◌, ◌⊎◌, ◌++◌, ℕ, Bool, true, false, List, [], ◌∷◌, length, codes, Option, Some, None, Result, Ok, Err, ⊤}
+use Rattle.std.specs.Prelude.{◌≡◌, ◌<◌, ◌⊎◌, ◌++◌, ℕ, Bool, true, false, List, [], ◌∷◌, length, take, drop, codes, Option, Some, None, Result, Ok, Err, ⊤}
 use Rattle.arrayvec.specs.ArrayVec.{ArrayVec}
 use Rattle.agent_ask.specs.Events.{Call, GetPin, Confirm, Start, Called, OutOfMemory, PromptEvent}
-use Rattle.agent_ask.specs.Further.{FurtherEvent, KeyCall, Read, Listed, Replaced, Removed, NotDrawn, Prompt, Keys, Dice, NoMemory}
+use Rattle.agent_ask.specs.Further.{FurtherEvent, KeyCall, Read, Listed, Replaced, Removed, Drew, NotDrawn, Prompt, Keys, Dice, NoMemory}
 use Rattle.agent_ask.specs.Prompters.{is_failed}
 use Rattle.agent_ask.specs.Prompts.{AsksPin}
 use Rattle.agent_ask.specs.SessionEvents.{Inquiry, CacheTurn, Further, cache_turn}
@@ -31,7 +31,9 @@ use Rattle.cache_policy.specs.declared.mark.MarkStep.{MarkStep}
 use Rattle.cache_policy.specs.declared.mark.Way.{Way}
 use Rattle.cache_policy.specs.declared.secret.TheConstants.{MAX_SECRET_LEN}
 use Rattle.secret_file.specs.Answers.{IsLockedFault}
+use Rattle.key_lines.specs.Canon.{is_canonical}
 use Rattle.secret_file.specs.Opens.{LockedKey, IsLocked, OpensTo}
+use Rattle.secret_file.specs.Protects.{ocb_protection, protected_file}
 use Rattle.session_client.specs.Asking.{said_by}
 use Rattle.session_client.specs.declared.unheard.Gone.TheVariants as gone
 use Rattle.session_client.specs.declared.unheard.Unheard.{Unheard}
@@ -41,6 +43,7 @@ use Rattle.session_options.specs.declared.options.OptionAnswer.{OptionAnswer}
 use Rattle.session_options.specs.declared.options.OptionAnswer.TheVariants as option_answer
 use Rattle.session_options.specs.declared.options.PinMode.TheVariants as mode
 use Rattle.session_options.specs.declared.rules.Rules.{Rules}
+use Rattle.sexp_canonical.specs.Spelling.{most_bytes}
 use Rattle.sexp_keys.specs.Key.{Key}
 use Rattle.sexp_keys.specs.Lists.{key_list_of}
 use Rattle.sexp_keys.specs.declared.fault.KeyFault.{KeyFault}
@@ -51,7 +54,7 @@ use Rattle.agent_commands.specs.declared.request.CacheCommand.TheVariants.{SetOp
 use Rattle.agent_commands.specs.declared.request.Request.{Request}
 use Rattle.agent_commands.specs.declared.request.Request.TheVariants.{Cache, Key as OnKeys, Bad}
 use Rattle.key_commands.specs.Faults.{fault_code}
-use Rattle.key_commands.specs.Files.{FileSays}
+use Rattle.key_commands.specs.Files.{FileSays, IsWithList}
 use Rattle.key_commands.specs.KeyParts.{file_in, max_key_data}
 use Rattle.key_commands.specs.Passphrases.{OpensBy, ask_nonce, ask_key}
 use Rattle.key_commands.specs.Requests.{key_request_of}
@@ -188,6 +191,19 @@ module _ (events : List (Event FurtherEvent)) where
   pub data IsRead (says : Result Key KeyFault) : Type 0 where
     read : {grip : Grip} {answer : KeyRead} {file : List ℕ} → file_in answer ≡ Some file → FileSays file says → Has (Further (Keys (Read grip answer))) events → IsRead says
 
+  -- the file of this key was read, and has these bytes
+  pub data IsReadOf (grip : Grip) (file : List ℕ) : Type 0 where
+    read_of : {answer : KeyRead} → file_in answer ≡ Some file → Has (Further (Keys (Read grip answer))) events → IsReadOf grip file
+
+  -- so many random bytes were drawn
+  pub record IsDrawn (count : ℕ) (bytes : List ℕ) : Type 0 where
+    pub long : length bytes ≡ count
+    pub has : Has (Further (Dice (Drew bytes))) events
+
+  -- the list of a clear key once it is protected by this passphrase: with a salt of 8 bytes that were drawn, and an initialization vector of 12
+  pub data IsListOf (key : Key) (pass : List ℕ) (count : ℕ) (list : List ℕ) : Type 0 where
+    protected : {drawn : List ℕ} → IsDrawn 20 drawn → list ≡ protected_file key (ocb_protection key pass (take 8 drawn) (drop 8 drawn) count None) None → IsListOf key pass count list
+
   -- a key is locked so whose file was read
   pub record IsReadLocked (locked : LockedKey) : Type 0 where
     pub key : IsRead (Ok locked.key)
@@ -289,11 +305,13 @@ module _ (events : List (Event FurtherEvent)) where
       preset : {id : List ℕ} {life : _} {secret : Option (List ℕ)} → request ≡ Cache (PresetPassphrase id life secret) → rules.allow_preset ≡ false → IsUnsupported
       key : IsFaulty code.NotSupported → IsUnsupported
 
-    -- a key that isn't one, or whose list is too long to be written again
+    -- a key that isn't one, or whose list is too long to be written again, or the new file with it, which is in the extended format
     pub data IsBadKey : Type 0 where
       faulty : IsFaulty code.BadSecKey → IsBadKey
       long : {grip : Grip} {old new : Option (List ℕ)} {key : Key} → on_keys request ≡ Some (on.Passwd grip old new false) → OpensRead key
           → MAX_LIST_LEN < length (key_list_of key) → IsBadKey
+      long_file : {grip : Grip} {old new : Option (List ℕ)} {file list changed : List ℕ} {key : Key} (pass : List ℕ) → on_keys request ≡ Some (on.Passwd grip old new false) → IsReadOf grip file
+          → is_canonical file ≡ false → OpensRead key → IsListOf key pass kept.options.s2k_count list → IsWithList file list changed → most_bytes < length changed → IsBadKey
 
     -- a key's file is there, and isn't to be replaced
     pub data IsThere : Type 0 where
