@@ -20,7 +20,7 @@ use Rattle.agent_commands.specs.declared.went.Went.{Went}
 use Rattle.agent_commands.specs.declared.went.Went.TheVariants.{End}
 use Rattle.key_commands.specs.States.{KeyWorld}
 use Rattle.agent_session.specs.Causes.{HasOne, one, HasCall, called, WantsMemory, FailsAtKeysOrDice, IsUnprompted, is_broken, IsCaused}
-use Rattle.agent_session.specs.Completeness.{CausedExchange, FaultlessExchange, WholeTalk, WholeSession, IsFaultless, NoCountRose, AnswersAll, HasError}
+use Rattle.agent_session.specs.Completeness.{CausedExchange, FaultlessExchange, WholeTalk, WholeSession, IsFaultless, NoCountRose, AnswersAll}
 use Rattle.agent_session.specs.Completeness as whole
 use Rattle.agent_session.specs.Exchanges.{SessionExchange, kept_at_start}
 use Rattle.agent_session.specs.Sessions.{Surroundings, ServesRules}

@@ -21,7 +21,7 @@ use Rattle.session_options.specs.declared.rules.Rules.{Rules}
 use Rattle.agent_commands.specs.Answers.{ok}
 use Rattle.agent_commands.specs.Events.{Event}
 use Rattle.agent_commands.specs.Exchanges as exchanges
-use Rattle.agent_commands.specs.Exchanges.{Exchange, Interrupts, Looks, LooksFirst, Refuses, IsOneTurn, ComesOut, is_quiet, ask, put}
+use Rattle.agent_commands.specs.Exchanges.{Exchange, Interrupts, LooksFirst, Refuses, ComesOut, is_quiet, ask, put}
 use Rattle.agent_commands.specs.declared.request.CacheCommand.TheVariants.{PresetPassphrase}
 use Rattle.agent_commands.specs.declared.request.Request.{Request}
 use Rattle.agent_commands.specs.declared.request.Request.TheVariants.{Cache}

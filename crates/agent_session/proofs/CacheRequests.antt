@@ -47,7 +47,7 @@ use Rattle.agent_commands.specs.declared.request.Request.{Request}
 use Rattle.agent_commands.specs.declared.request.Request.TheVariants.{Cache}
 use Rattle.agent_commands.specs.declared.went.Went.{Went}
 use Rattle.agent_commands.specs.declared.went.Went.TheVariants.{On}
-use Rattle.agent_session.specs.Causes.{Has, here, StandIn, IsCaused, IsRefusedBy, IsSaid, said, one, turned, by_stop, by_client, by_mode, no_id, empty, option, preset, of_consent, confirmation, at_prompt, none_given, HasNoEntry, IsUnprompted, without_id, passphrase}
+use Rattle.agent_session.specs.Causes.{StandIn, IsCaused, IsRefusedBy, IsSaid, said, one, turned, by_stop, by_client, by_mode, no_id, empty, option, preset, of_consent, confirmation, none_given, HasNoEntry, IsUnprompted, without_id, passphrase}
 use Rattle.agent_session.specs.Causes as causes
 use Rattle.agent_session.specs.Completeness.{AnswersNothing}
 use Rattle.agent_session.specs.declared.kept.Kept.{Kept}

@@ -18,7 +18,7 @@ use Rattle.session_client.specs.declared.unheard.Unheard.TheVariants as unheard
 use Rattle.session_options.specs.declared.rules.Rules.{Rules}
 use Rattle.agent_commands.specs.Events.{Event}
 use Rattle.agent_commands.specs.declared.request.Request.{Request}
-use Rattle.key_commands.specs.Parts.{Part, ◌>>=◌, Follows, goes_on, stops, Returns, returns, Refuses, refuses, needed, or_else, unless, wanted, Interrupts, Asks, Seats, Changes, Peeks, Closes, Writes, Inquires, AsksClient, Finds, Draws, read_fault}
+use Rattle.key_commands.specs.Parts.{Part, ◌>>=◌, Follows, goes_on, stops, Returns, returns, Refuses, refuses, needed, or_else, unless, wanted, Interrupts, Asks, Seats, Changes, Peeks, Closes, Writes, Inquires, AsksClient, Finds, Draws}
 use Rattle.key_commands.specs.Parts as parts
 use Rattle.key_commands.specs.Lines.{limit_line}
 use Rattle.key_commands.specs.declared.refusal.Refusal.{Refusal}

@@ -40,16 +40,16 @@ use Rattle.key_commands.specs.Faults.{fault_code}
 use Rattle.key_commands.specs.KeyParts.{ReadsFile, change_fault, Replaces, Removes, KeepsNew, consent_refusal, Agrees}
 use Rattle.key_commands.specs.KeyParts as parts
 use Rattle.key_commands.specs.Parts.{read_fault}
-use Rattle.key_commands.specs.Passphrases.{ask_nonce, LooksForNonce, TakesSeat, PromptsPin, pin_refusal, Locks, OpensBy, Tries, TriesFound, PromptsOld, PromptsNew}
+use Rattle.key_commands.specs.Passphrases.{ask_nonce, LooksForNonce, TakesSeat, pin_refusal, Locks, OpensBy, Tries, TriesFound, PromptsOld, PromptsNew}
 use Rattle.key_commands.specs.Passphrases as passphrases
 use Rattle.key_commands.specs.declared.refusal.Refusal.{Refusal}
 use Rattle.key_commands.specs.declared.refusal.Refusal.TheVariants.{Client}
-use Rattle.agent_session.specs.Causes.{Has, here, later, StandIn, IsCaused, IsSaid, said, IsSent, sent, IsUnread, IsUnremoved, LacksKeys, on_keys, HasOne, one, HasTurn, IsRead, read, IsReadOf, read_of, IsReadLocked, OpensRead, opens, is_clear, IsFaulty, protection, key_data, KeyDataSays, IsBadKey, faulty, IsUnsupported, WantsMemory, IsBadPrompt, HasCall, GivesNone, GivesNoneFor, none_at_all, wrong, ByNonce}
+use Rattle.agent_session.specs.Causes.{Has, StandIn, IsSaid, said, IsUnread, IsUnremoved, LacksKeys, on_keys, one, IsRead, read, IsReadOf, read_of, IsReadLocked, OpensRead, opens, IsFaulty, protection, faulty, HasCall, GivesNone, GivesNoneFor, none_at_all, wrong, ByNonce}
 use Rattle.agent_session.specs.Causes as causes
 use Rattle.agent_session.specs.Completeness.{AnswersNothing}
 use Rattle.agent_session.specs.declared.kept.Kept.{Kept}
 use Rattle.agent_session.proofs.Explaining.{Caused, CausedRefusal, client_said, Comes, Explains, Anything, returned, FoundBy, found, found_none, looks, seats, changes, closes_of, out_of_memory_first, out_of_memory_second}
-use Rattle.agent_session.proofs.Faulty.{first_fault_said, file_fault_said, locked_fault_said}
+use Rattle.agent_session.proofs.Faulty.{file_fault_said, locked_fault_said}
 use Rattle.agent_session.proofs.Faulty as said
 use Rattle.agent_session.proofs.Prompted as prompted
 use Rattle.agent_session.proofs.Prompted.{PinShows, ConsentShows, HasCalled, HasHeard, pin_shows, consent_shows, shown_as, note_says}

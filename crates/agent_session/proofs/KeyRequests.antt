@@ -31,7 +31,7 @@ use Rattle.key_commands.specs.KeyParts as parts
 use Rattle.key_commands.specs.Lines.{limit_line}
 use Rattle.key_commands.specs.Parts.{Part, Returns, unless, needed, or_else, wanted, read_fault}
 use Rattle.key_commands.specs.Passphrases.{OpensBy, ClientOld, UncachedOld, OpensLocked, OldPassphrase, VerifiesPassphrase, ClientNew, NewPassphrase, ask_key, way_of}
-use Rattle.key_commands.specs.Wrapping.{WrappedSays, PlainSays, unwrapped}
+use Rattle.key_commands.specs.Wrapping.{WrappedSays}
 use Rattle.key_commands.specs.Wrapping as wrapping
 use Rattle.key_commands.specs.declared.refusal.Refusal.{Refusal}
 use Rattle.key_commands.specs.declared.refusal.Refusal.TheVariants.{Agent}

@@ -7,7 +7,7 @@ use Rattle.agent_ask.specs.Consents as consents
 use Rattle.agent_ask.specs.Events.{Call, GetPin, Confirm, Called, Notified, OutOfMemory, PromptEvent}
 use Rattle.agent_ask.specs.Further.{FurtherEvent, Prompt}
 use Rattle.agent_ask.specs.Prompters.{is_failed}
-use Rattle.agent_ask.specs.Prompts.{AsksPin, AsksBefore, Opens, Tries, IsTry, Repeats, pin_or_stop, typed, repeated, repeat_text}
+use Rattle.agent_ask.specs.Prompts.{AsksPin, AsksBefore, Tries, repeated, repeat_text}
 use Rattle.agent_ask.specs.Prompts as prompts
 use Rattle.agent_ask.specs.SessionEvents.{Further}
 use Rattle.agent_ask.specs.Tests.{PinTest}

@@ -23,7 +23,7 @@ use Rattle.agent_commands.specs.Exchanges.{ask, want}
 use Rattle.agent_commands.specs.Requests.{GetFields, get_passphrase}
 use Rattle.agent_commands.specs.declared.request.Request.{Request}
 use Rattle.agent_commands.specs.declared.request.Request.TheVariants.{Cache}
-use Rattle.agent_session.specs.Causes.{Has, here, later, IsCaused, IsCancelled, IsUnprompted, HasNoEntry, GivesNone, IsSaid, HasTurn, HasCall, HasOne, FailsAtKeysOrDice, is_broken, on_keys}
+use Rattle.agent_session.specs.Causes.{here, later, IsCaused, HasNoEntry, GivesNone, HasCall, is_broken}
 use Rattle.agent_session.specs.Causes as causes
 use Rattle.agent_session.specs.declared.kept.Kept.{Kept}
 use Rattle.agent_session.proofs.Standing.{each_has}
