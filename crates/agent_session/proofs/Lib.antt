@@ -1,4 +1,21 @@
+mod Answering
+mod AtOnce
 mod Beside
+mod CacheRequests
+mod Completing
+mod ErrorLines
+mod Explained
+mod Explaining
+mod Faulty
+mod KeyExplained
+mod KeyParts
+mod KeyRequests
+mod LineFaults
 mod Meeting
+mod Prompted
+mod Replying
 mod Serving
+mod Standing
 pub mod Turning
+mod Uncaused
+mod WorkedExamples

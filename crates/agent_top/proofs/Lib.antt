@@ -1,3 +1,4 @@
+mod EndingWell
 mod Ears
 mod Lifting
 mod Loading

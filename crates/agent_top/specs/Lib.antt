@@ -1,4 +1,5 @@
 pub mod Cache
+pub mod Completeness
 pub mod Daemon
 pub mod Faults
 pub mod Forms

@@ -2,12 +2,14 @@
 //! many on a socket.
 #![tactic(auto)]
 
+mod completeness;
 mod daemon;
 mod load;
 mod status;
 mod top;
 mod words;
 
+pub use completeness::{a_daemon_without_faults_ends_well, a_server_without_faults_ends_well};
 pub use daemon::run_daemon;
 pub use load::run_load;
 pub use status::Status;

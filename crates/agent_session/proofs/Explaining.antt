@@ -1,0 +1,238 @@
+-- Parts of a request on keys each of whose refusals has its cause among the events of the request.
+use Rattle.std.specs.List.{AllByRecursion}
+use Rattle.std.proofs.Common.{◌≡◌, ℕ, Bool, true, false, List, ◌∷◌, Option, Some, None, Result, Ok, Err, refl}
+use Rattle.std.specs.Prelude.{⊤}
+use Rattle.agent_ask.specs.Further.{FurtherEvent, Keys, Read, Dice, NotDrawn, NoMemory}
+use Rattle.agent_ask.specs.SessionEvents.{Further, cache_turn}
+use Rattle.agent_ports.specs.declared.grip.Grip.{Grip}
+use Rattle.agent_ports.specs.declared.keys.KeyRead.TheVariants as key_read
+use Rattle.assuan_server.specs.declared.errors.Code.{Code}
+use Rattle.assuan_server.specs.declared.errors.Code.TheVariants as code
+use Rattle.assuan_server.specs.declared.errors.Origin.TheVariants.{Agent as OfAgent, Pinentry as OfPinentry}
+use Rattle.cache_policy.specs.Turns.{Turn, Refused, closes, Given, Empty, Open}
+use Rattle.cache_policy.specs.declared.grant.Grant.{Grant}
+use Rattle.cache_policy.specs.declared.mark.MarkStep.{MarkStep}
+use Rattle.session_client.specs.declared.unheard.Gone.TheVariants as gone
+use Rattle.session_client.specs.declared.unheard.Unheard.{Unheard}
+use Rattle.session_client.specs.declared.unheard.Unheard.TheVariants as unheard
+use Rattle.session_options.specs.declared.rules.Rules.{Rules}
+use Rattle.agent_commands.specs.Events.{Event}
+use Rattle.agent_commands.specs.declared.request.Request.{Request}
+use Rattle.key_commands.specs.Parts.{Part, ◌>>=◌, Follows, goes_on, stops, Returns, returns, Refuses, refuses, needed, or_else, unless, wanted, Interrupts, Asks, Seats, Changes, Peeks, Closes, Writes, Inquires, AsksClient, Finds, Draws}
+use Rattle.key_commands.specs.Parts as parts
+use Rattle.key_commands.specs.Lines.{limit_line}
+use Rattle.key_commands.specs.declared.refusal.Refusal.{Refusal}
+use Rattle.key_commands.specs.declared.refusal.Refusal.TheVariants.{Agent, Pinentry, Client}
+use Rattle.agent_session.specs.Causes.{Has, StandIn, IsCaused, IsSaid, said, IsSent, sent, IsUnread, IsDrawn, one, turned, by_stop, GivesNone, none_given}
+use Rattle.agent_session.specs.Completeness.{AnswersNothing, IsStatus}
+use Rattle.agent_session.specs.declared.kept.Kept.{Kept}
+use Rattle.agent_session.proofs.Standing.{has_first, has_second, stand_left, stand_right, each_append}
+
+-- whatever value
+abbrev pub Anything : {A : Type 0} → A → Type 0
+Anything value = ⊤
+
+module _ (rules : Rules) (kept : Kept) (request : Request) (whole : List (Event FurtherEvent)) where
+  abbrev pub Caused : Code → Type 0
+  Caused why = IsCaused whole rules kept request why OfAgent
+
+  -- the client said this, or the text that it was to be sent couldn't be written
+  pub data ClientSays : Unheard → Type 0 where
+    cut : ClientSays (unheard.Gone gone.WriteFault)
+    client_said : {why : Unheard} → IsSaid whole why → ClientSays why
+
+  abbrev pub CausedRefusal : Refusal → Type 0
+  CausedRefusal (Agent why) = Caused why
+  CausedRefusal (Pinentry why) = IsCaused whole rules kept request why OfPinentry
+  CausedRefusal (Client why) = ClientSays why
+
+  -- a value that is good, or a refusal that has its cause
+  abbrev pub IsExplained : {A : Type 0} → (A → Type 0) → Result A Refusal → Type 0
+  IsExplained Good (Ok value) = Good value
+  IsExplained Good (Err why) = CausedRefusal why
+
+  pub record Comes {A : Type 0} (Good : A → Type 0) (events : List (Event FurtherEvent)) (result : Result A Refusal) : Type 0 where
+    pub silent : AllByRecursion AnswersNothing events
+    pub explained : IsExplained Good result
+
+  pub record Explains {A : Type 0} (part : Part A) (Good : A → Type 0) : Type 0 where
+    pub of : (before : Option ℕ) (events : List (Event FurtherEvent)) (result : Result A Refusal) (after : Option ℕ) → part before events result after → StandIn events whole
+        → Comes Good events result
+
+  -- a part, and then what follows on its value
+  module _ {A B : Type 0} {part : Part A} {next : A → Part B} (First : A → Type 0) (Good : B → Type 0) (first : Explains part First)
+      (then : (value : A) → First value → Explains (next value) Good) where
+    bind_of : (before : Option ℕ) (events : List (Event FurtherEvent)) (result : Result B Refusal) (after : Option ℕ) → Follows part next before events result after → StandIn events whole
+        → Comes Good events result
+    bind_of before events result after (goes_on {first = some} {events = more} {value} {mid} does next_does) stands =
+        let one : Comes First some (Ok value) = first.of before some (Ok value) mid does (stand_left some more stands) in
+        let two : Comes Good more result = (then value one.explained).of mid more result after next_does (stand_right some more stands) in
+        record { silent = each_append AnswersNothing some more one.silent two.silent; explained = two.explained }
+    bind_of before events result after (stops {refusal = why} does) stands =
+        let one : Comes First events (Err why) = first.of before events (Err why) after does stands in
+        record { silent = one.silent; explained = one.explained }
+
+    pub bind : Explains (part >>= next) Good
+    bind = record { of = bind_of }
+
+  -- a part whatever value it comes to
+  module _ {A : Type 0} {part : Part A} (Good : A → Type 0) (explains : Explains part Good) where
+    any_value : (result : Result A Refusal) → IsExplained Good result → IsExplained Anything result
+    any_value (Ok value) good = tt
+    any_value (Err why) caused = caused
+
+    whatever_of : (before : Option ℕ) (events : List (Event FurtherEvent)) (result : Result A Refusal) (after : Option ℕ) → part before events result after → StandIn events whole
+        → Comes Anything events result
+    whatever_of before events result after does stands =
+        let comes : Comes Good events result = explains.of before events result after does stands in
+        record { silent = comes.silent; explained = any_value result comes.explained }
+
+    pub whatever : Explains part Anything
+    whatever = record { of = whatever_of }
+
+  module _ {A : Type 0} (Good : A → Type 0) where
+    returns_of : (value : A) → Good value → (before : Option ℕ) (events : List (Event FurtherEvent)) (result : Result A Refusal) (after : Option ℕ) → Returns value before events result after
+        → StandIn events whole → Comes Good events result
+    returns_of value good before events result after returns stands = record { silent = tt; explained = good }
+
+    pub returned : (value : A) → Good value → Explains (Returns value) Good
+    returned value good = record { of = returns_of value good }
+
+    refuses_of : (why : Refusal) → CausedRefusal why → (before : Option ℕ) (events : List (Event FurtherEvent)) (result : Result A Refusal) (after : Option ℕ) → Refuses why before events result after
+        → StandIn events whole → Comes Good events result
+    refuses_of why caused before events result after refuses stands = record { silent = tt; explained = caused }
+
+    pub refused : (why : Refusal) → CausedRefusal why → Explains (Refuses why) Good
+    refused why caused = record { of = refuses_of why caused }
+
+    pub is_needed : (why : Code) (value : Option A) → (value ≡ None → Caused why) → ((some : A) → value ≡ Some some → Good some) → Explains (needed why value) Good
+    is_needed why None caused good = refused (Agent why) (caused refl)
+    is_needed why (Some value) caused good = returned value (good value refl)
+
+    pub or_otherwise : (value : Option A) (other : Part A) → ((some : A) → value ≡ Some some → Good some) → (value ≡ None → Explains other Good) → Explains (or_else value other) Good
+    or_otherwise None other good explains = explains refl
+    or_otherwise (Some value) other good explains = returned value (good value refl)
+
+  pub is_unless : (so : Bool) (other : Part (Unit {0})) → (so ≡ false → Explains other Anything) → Explains (unless so other) Anything
+  is_unless true other explains = returned Anything tt tt
+  is_unless false other explains = explains refl
+
+  pub is_wanted : (why : Code) (so : Bool) → (so ≡ false → Caused why) → Explains (wanted why so) (λ done. so ≡ true)
+  is_wanted why true caused = returned (λ done. true ≡ true) tt refl
+  is_wanted why false caused = refused (λ done. false ≡ true) (Agent why) (caused refl)
+
+  -- ---- wants of memory
+
+  pub out_of_memory_first : {more : List (Event FurtherEvent)} → StandIn (Further NoMemory ∷ more) whole → Caused code.NoMemory
+  out_of_memory_first stands = one (Further NoMemory) tt (has_first stands)
+
+  pub out_of_memory_second : {first : Event FurtherEvent} {more : List (Event FurtherEvent)} → StandIn (first ∷ Further NoMemory ∷ more) whole → Caused code.NoMemory
+  out_of_memory_second stands = one (Further NoMemory) tt (has_second stands)
+
+  -- ---- turns
+
+  pub interrupts : (step : MarkStep) → closes step ≡ None → {turn : Turn} {why : Code} {more : List (Event FurtherEvent)} → Interrupts turn why → StandIn (cache_turn step turn ∷ more) whole
+      → Caused why
+  interrupts step keeps parts.refused stands = one (cache_turn step Refused) refl (has_first stands)
+  interrupts step keeps parts.stopping stands = by_stop (turned step keeps (has_first stands))
+  interrupts step keeps parts.late stands = turned step keeps (has_first stands)
+
+  -- what the cache gave, or nothing
+  pub data FoundBy (step : MarkStep) : Option (List ℕ) → Type 0 where
+    found_none : GivesNone whole step → FoundBy step None
+    found : {grant : Grant} → Has (cache_turn step (Given grant)) whole → FoundBy step (Some grant.entry.secret)
+
+  module _ (step : MarkStep) (keeps : closes step ≡ None) where
+    looks_of : (before : Option ℕ) (events : List (Event FurtherEvent)) (result : Result (Option (List ℕ)) Refusal) (after : Option ℕ) → Asks step before events result after
+        → StandIn events whole → Comes (FoundBy step) events result
+    looks_of before events result after parts.given stands = record { silent = (tt, tt); explained = found (has_first stands) }
+    looks_of before events result after parts.empty stands = record { silent = (tt, tt); explained = found_none (none_given Empty tt (has_first stands)) }
+    looks_of before events result after (parts.opened {ticket}) stands = record { silent = (tt, tt); explained = found_none (none_given (Open ticket) tt (has_first stands)) }
+    looks_of before events result after (parts.interrupted why) stands = record { silent = (tt, tt); explained = interrupts step keeps why stands }
+
+    pub looks : Explains (Asks step) (FoundBy step)
+    looks = record { of = looks_of }
+
+    seats_of : (before : Option ℕ) (events : List (Event FurtherEvent)) (result : Result (Unit {0}) Refusal) (after : Option ℕ) → Seats step before events result after
+        → StandIn events whole → Comes Anything events result
+    seats_of before events result after parts.opened stands = record { silent = (tt, tt); explained = tt }
+    seats_of before events result after (parts.interrupted why) stands = record { silent = (tt, tt); explained = interrupts step keeps why stands }
+
+    pub seats : Explains (Seats step) Anything
+    seats = record { of = seats_of }
+
+    changes_of : (before : Option ℕ) (events : List (Event FurtherEvent)) (result : Result (Unit {0}) Refusal) (after : Option ℕ) → Changes step before events result after
+        → StandIn events whole → Comes Anything events result
+    changes_of before events result after parts.done stands = record { silent = (tt, tt); explained = tt }
+    changes_of before events result after (parts.interrupted why) stands = record { silent = (tt, tt); explained = interrupts step keeps why stands }
+
+    pub changes : Explains (Changes step) Anything
+    changes = record { of = changes_of }
+
+  module _ (grip : Grip) where
+    peeks_of : (before : Option ℕ) (events : List (Event FurtherEvent)) (result : Result Bool Refusal) (after : Option ℕ) → Peeks grip before events result after
+        → StandIn events whole → Comes Anything events result
+    peeks_of before events result after parts.peeked stands = record { silent = (tt, tt); explained = tt }
+    peeks_of before events result after (parts.interrupted why) stands = record { silent = (tt, tt); explained = interrupts _ refl why stands }
+
+    pub peeks : Explains (Peeks grip) Anything
+    peeks = record { of = peeks_of }
+
+  module _ (keep : Option (List ℕ)) where
+    pub closes_of : (before : Option ℕ) (events : List (Event FurtherEvent)) (result : Result (Unit {0}) Refusal) (after : Option ℕ) → Closes keep before events result after
+        → StandIn events whole → Comes Anything events result
+    closes_of before events result after parts.unheld stands = record { silent = tt; explained = tt }
+    closes_of before events result after (parts.closed turn) stands = record { silent = (tt, tt); explained = tt }
+
+    pub closes_so : Explains (Closes keep) Anything
+    closes_so = record { of = closes_of }
+
+  -- ---- the client
+
+  module _ (text : List ℕ) (status : IsStatus text) where
+    writes_of : (before : Option ℕ) (events : List (Event FurtherEvent)) (result : Result (Unit {0}) Refusal) (after : Option ℕ) → Writes text before events result after
+        → StandIn events whole → Comes Anything events result
+    writes_of before events result after parts.written stands = record { silent = (status, tt); explained = tt }
+    writes_of before events result after (parts.cut unsent is) stands = record { silent = (tt, tt); explained = cut }
+
+    pub writes : Explains (Writes text) Anything
+    writes = record { of = writes_of }
+
+  module _ (word : List ℕ) (limit : ℕ) where
+    pub inquires_of : (before : Option ℕ) (events : List (Event FurtherEvent)) (result : Result (List ℕ) Refusal) (after : Option ℕ) → Inquires word limit before events result after
+        → StandIn events whole → Comes (IsSent whole word limit) events result
+    inquires_of before events result after (parts.given is) stands = record { silent = (tt, tt); explained = sent is (has_first stands) }
+    inquires_of before events result after (parts.not_given is) stands = record { silent = (tt, tt); explained = client_said (said is (has_first stands)) }
+
+    inquires : Explains (Inquires word limit) (IsSent whole word limit)
+    inquires = record { of = inquires_of }
+
+    pub asks_client : Explains (AsksClient word limit) (IsSent whole word limit)
+    asks_client = bind Anything (IsSent whole word limit) (writes (limit_line limit) (_, refl)) (λ told good. inquires)
+
+  -- ---- the keys and the dice
+
+  -- whether a read found it
+  abbrev pub IsFound : Grip → Bool → Type 0
+  IsFound grip true = (file : _) × Has (Further (Keys (Read grip (key_read.Found file)))) whole
+  IsFound grip false = IsUnread whole grip
+
+  module _ (grip : Grip) where
+    finds_of : (before : Option ℕ) (events : List (Event FurtherEvent)) (result : Result Bool Refusal) (after : Option ℕ) → Finds grip before events result after
+        → StandIn events whole → Comes (IsFound grip) events result
+    finds_of before events result after (parts.found {file}) stands = record { silent = (tt, tt); explained = (file, has_first stands) }
+    finds_of before events result after parts.absent stands = record { silent = (tt, tt); explained = has_first stands }
+    finds_of before events result after parts.faulted stands = record { silent = (tt, tt); explained = one _ tt (has_first stands) }
+    finds_of before events result after parts.no_memory stands = record { silent = (tt, tt); explained = one _ tt (has_first stands) }
+
+    pub finds : Explains (Finds grip) (IsFound grip)
+    finds = record { of = finds_of }
+
+  module _ (count : ℕ) where
+    draws_of : (before : Option ℕ) (events : List (Event FurtherEvent)) (result : Result (List ℕ) Refusal) (after : Option ℕ) → Draws count before events result after
+        → StandIn events whole → Comes (IsDrawn whole count) events result
+    draws_of before events result after (parts.drawn long) stands = record { silent = (tt, tt); explained = record { long = long; has = has_first stands } }
+    draws_of before events result after parts.faulted stands = record { silent = (tt, tt); explained = one (Further (Dice (NotDrawn count))) tt (has_first stands) }
+
+    pub draws : Explains (Draws count) (IsDrawn whole count)
+    draws = record { of = draws_of }

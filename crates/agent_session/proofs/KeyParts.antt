@@ -1,0 +1,331 @@
+-- The parts of requests on keys, each of whose refusals has its cause.
+use Rattle.std.specs.List.{AllByRecursion}
+use Rattle.std.proofs.Common.{◌≡◌, ℕ, List, ◌∷◌, Option, Some, None, Result, Ok, refl, sym, subst, inl, inr}
+use Rattle.std.specs.Prelude.{⊤}
+use Rattle.std.specs.Option.{option_map}
+use Rattle.agent_ask.specs.Callers.{unheard_of}
+use Rattle.agent_ask.specs.Events.{OutOfMemory, PromptEvent, Called, Notified}
+use Rattle.agent_ask.specs.Further.{FurtherEvent, Keys, Read, Replaced, Removed, Prompt}
+use Rattle.agent_ask.specs.Prompts.{AsksPin}
+use Rattle.agent_ask.specs.SessionEvents.{Further}
+use Rattle.agent_ask.specs.UnderTickets.{AnyInSession}
+use Rattle.agent_ask.specs.UnderTickets as session
+use Rattle.agent_ask.specs.declared.ask.Asked.{Asked}
+use Rattle.agent_ask.specs.declared.ask.Asked.TheVariants as asked
+use Rattle.agent_ask.specs.declared.caller.Heard.{Heard}
+use Rattle.agent_ask.specs.declared.caller.Heard.TheVariants as heard_as
+use Rattle.agent_ask.specs.declared.consent.Agreed.{Agreed}
+use Rattle.agent_ask.specs.declared.consent.Agreed.TheVariants as agreed
+use Rattle.agent_ask.specs.declared.spec.AskPlan.{AskPlan}
+use Rattle.agent_ask.specs.declared.spec.PromptSpec.{PromptSpec}
+use Rattle.agent_ports.specs.declared.grip.Grip.{Grip}
+use Rattle.agent_ports.specs.declared.keys.KeyDone.{KeyDone}
+use Rattle.agent_ports.specs.declared.keys.KeyDone.TheVariants as key_done
+use Rattle.agent_ports.specs.declared.keys.KeyRead.{KeyRead}
+use Rattle.agent_ports.specs.declared.keys.KeyRead.TheVariants as key_read
+use Rattle.assuan_server.specs.Clients.{session_lines}
+use Rattle.assuan_server.specs.declared.errors.Code.{Code}
+use Rattle.assuan_server.specs.declared.errors.Code.TheVariants as code
+use Rattle.cache_policy.specs.declared.mark.MarkStep.{MarkStep}
+use Rattle.session_client.specs.declared.unheard.Unheard.{Unheard}
+use Rattle.session_client.specs.declared.unheard.Unheard.TheVariants as unheard
+use Rattle.session_options.specs.declared.rules.Rules.{Rules}
+use Rattle.sexp_keys.specs.Key.{Key}
+use Rattle.sexp_keys.specs.declared.fault.KeyFault.{KeyFault}
+use Rattle.sexp_keys.specs.declared.fault.KeyFault.TheVariants as faults
+use Rattle.secret_file.specs.Opens.{LockedKey}
+use Rattle.agent_commands.specs.Events.{Event}
+use Rattle.agent_commands.specs.declared.request.Request.{Request}
+use Rattle.key_commands.specs.Faults.{fault_code}
+use Rattle.key_commands.specs.KeyParts.{ReadsFile, change_fault, Replaces, Removes, KeepsNew, consent_refusal, Agrees}
+use Rattle.key_commands.specs.KeyParts as parts
+use Rattle.key_commands.specs.Parts.{read_fault}
+use Rattle.key_commands.specs.Passphrases.{ask_nonce, LooksForNonce, TakesSeat, pin_refusal, Locks, OpensBy, Tries, TriesFound, PromptsOld, PromptsNew}
+use Rattle.key_commands.specs.Passphrases as passphrases
+use Rattle.key_commands.specs.declared.refusal.Refusal.{Refusal}
+use Rattle.key_commands.specs.declared.refusal.Refusal.TheVariants.{Client}
+use Rattle.agent_session.specs.Causes.{Has, StandIn, IsSaid, said, IsUnread, IsUnremoved, LacksKeys, on_keys, one, IsRead, read, IsReadOf, read_of, IsReadLocked, OpensRead, opens, IsFaulty, protection, faulty, HasCall, GivesNone, GivesNoneFor, none_at_all, wrong, ByNonce}
+use Rattle.agent_session.specs.Causes as causes
+use Rattle.agent_session.specs.Completeness.{AnswersNothing}
+use Rattle.agent_session.specs.declared.kept.Kept.{Kept}
+use Rattle.agent_session.proofs.Explaining.{Caused, CausedRefusal, client_said, Comes, Explains, Anything, returned, FoundBy, found, found_none, looks, seats, changes, closes_of, out_of_memory_first, out_of_memory_second}
+use Rattle.agent_session.proofs.Faulty.{file_fault_said, locked_fault_said}
+use Rattle.agent_session.proofs.Faulty as said
+use Rattle.agent_session.proofs.Prompted as prompted
+use Rattle.agent_session.proofs.Prompted.{PinShows, ConsentShows, HasCalled, HasHeard, pin_shows, consent_shows, shown_as, note_says}
+use Rattle.agent_session.proofs.Standing.{has_first, has_in}
+
+-- nothing is answered by a prompt
+pub prompt_silent : {prompt : List PromptEvent} {shown : List (Event FurtherEvent)} → AnyInSession session_lines prompt shown → AllByRecursion AnswersNothing shown
+prompt_silent session.none = tt
+prompt_silent (session.called more) = (tt, prompt_silent more)
+prompt_silent (session.noted says more) = (tt, prompt_silent more)
+prompt_silent (session.out_of_memory more) = (tt, prompt_silent more)
+
+module _ (rules : Rules) (kept : Kept) (request : Request) (whole : List (Event FurtherEvent)) where
+  abbrev CausedHere : Code → Type 0
+  CausedHere = Caused rules kept request whole
+
+  abbrev CausedRefusalHere : Refusal → Type 0
+  CausedRefusalHere = CausedRefusal rules kept request whole
+
+  abbrev ComesHere : {A : Type 0} → (A → Type 0) → List (Event FurtherEvent) → Result A Refusal → Type 0
+  ComesHere = Comes rules kept request whole
+
+  abbrev ExplainsHere : {A : Type 0} → (Option ℕ → List (Event FurtherEvent) → Result A Refusal → Option ℕ → Type 0) → (A → Type 0) → Type 0
+  ExplainsHere = Explains rules kept request whole
+
+  -- ---- faults of keys
+
+  pub fault_caused : (fault : KeyFault) → said.IsSaid (Some fault) → ((why : Code) → fault_code fault ≡ why → IsFaulty whole rules kept request why) → CausedHere (fault_code fault)
+  fault_caused faults.InvSexp is by = by code.InvSexp refl
+  fault_caused faults.BadSecKey is by = faulty (by code.BadSecKey refl)
+  fault_caused faults.Shadowed is by = causes.key (by code.NotSupported refl)
+  fault_caused faults.NotSupported is by = causes.key (by code.NotSupported refl)
+  fault_caused faults.NoMemory is by = elim is [ ]
+
+  -- ---- prompts
+
+  -- what a prompt shows is among the events of the request
+  module _ {prompt : List PromptEvent} {shown : List (Event FurtherEvent)} (in_session : AnyInSession session_lines prompt shown) (stands : StandIn shown whole) where
+    pub has_call : {is : _} → HasCalled is prompt → HasCall whole is
+    has_call (prompted.called call so has) = causes.called call so (has_in stands (shown_as (Called call) in_session has))
+
+    pub heard_caused : (heard : Heard) (why : Unheard) → unheard_of heard ≡ Some why → HasHeard heard prompt → IsSaid whole why
+    heard_caused heard why is (prompted.noted pid has) = let noted = shown_as (Notified pid heard) in_session has in said (note_says noted.0 heard why noted.1 is) (has_in stands noted.2)
+
+    pub unopened_caused : prompted.Unopened prompt → CausedHere code.NoPinentry
+    unopened_caused (inl failed) = inr (inl (has_call failed))
+    unopened_caused (inr broken) = inr (inr (has_call broken))
+
+    abbrev IfRefused : Option Refusal → Type 0
+    IfRefused None = ⊤
+    IfRefused (Some why) = CausedRefusalHere why
+
+    heard_refused : (heard : Heard) → HasHeard heard prompt → IfRefused (option_map Client (unheard_of heard))
+    heard_refused heard_as.Fine has = tt
+    heard_refused (heard_as.Secret secret) has = tt
+    heard_refused heard_as.Cancelled has = client_said (heard_caused heard_as.Cancelled unheard.Cancelled refl has)
+    heard_refused heard_as.TooMuch has = client_said (heard_caused heard_as.TooMuch unheard.TooMuch refl has)
+    heard_refused heard_as.Unexpected has = client_said (heard_caused heard_as.Unexpected unheard.Unexpected refl has)
+    heard_refused (heard_as.Gone how) has = client_said (heard_caused (heard_as.Gone how) (unheard.Gone how) refl has)
+
+    pin_refused : (answer : Asked) → PinShows answer prompt → (answer ≡ asked.Bad → CausedHere code.BadPass) → IfRefused (pin_refusal answer)
+    pin_refused (asked.Pin pin) shows bad = tt
+    pin_refused asked.Cancelled shows bad = has_call shows
+    pin_refused asked.TimedOut shows bad = has_call shows
+    pin_refused asked.NoPinentry shows bad = unopened_caused shows
+    pin_refused asked.Bad shows bad = bad refl
+    pin_refused asked.NoMemory shows bad = one (Further (Prompt OutOfMemory)) tt (has_in stands (shown_as OutOfMemory in_session shows))
+    pin_refused (asked.Heard heard) shows bad = heard_refused heard shows
+
+    consent_refused : (answer : Agreed) → ConsentShows answer prompt → IfRefused (consent_refusal answer)
+    consent_refused agreed.Yes shows = tt
+    consent_refused agreed.No shows = has_call shows
+    consent_refused agreed.Cancelled shows = has_call shows
+    consent_refused agreed.TimedOut shows = has_call shows
+    consent_refused agreed.NoPinentry shows = unopened_caused shows
+    consent_refused (agreed.Heard heard) shows = heard_refused heard shows
+
+    pub pin_caused : (answer : Asked) (why : Refusal) → PinShows answer prompt → (answer ≡ asked.Bad → CausedHere code.BadPass) → pin_refusal answer ≡ Some why → CausedRefusalHere why
+    pin_caused answer why shows bad is = subst IfRefused is (pin_refused answer shows bad)
+
+    pub consent_caused : (answer : Agreed) (why : Refusal) → ConsentShows answer prompt → consent_refusal answer ≡ Some why → CausedRefusalHere why
+    consent_caused answer why shows is = subst IfRefused is (consent_refused answer shows)
+
+  -- ---- the cache
+
+  -- what is cached under a nonce, where there is one
+  abbrev pub FoundByNonce : Option (List ℕ) → Option (List ℕ) → Type 0
+  FoundByNonce None pass = pass ≡ None
+  FoundByNonce (Some nonce) pass = FoundBy rules kept request whole (ask_nonce nonce) pass
+
+  pub looks_for_nonce : (nonce : Option (List ℕ)) → ExplainsHere (LooksForNonce nonce) (FoundByNonce nonce)
+  looks_for_nonce None = returned rules kept request whole (FoundByNonce None) None refl
+  looks_for_nonce (Some nonce) = looks rules kept request whole (ask_nonce nonce) refl
+
+  none_by : (step : MarkStep) → FoundBy rules kept request whole step None → GivesNone whole step
+  none_by asked (found_none gives) = gives
+
+  -- nothing is
+  pub nonce_none : (nonce : Option (List ℕ)) → FoundByNonce nonce None → ByNonce whole (GivesNone whole) nonce
+  nonce_none None by = tt
+  nonce_none (Some nonce) by = none_by (ask_nonce nonce) by
+
+  pub none_opens : (step : MarkStep) (locked : LockedKey) (pass : Option (List ℕ)) → FoundBy rules kept request whole step pass → ((secret : List ℕ) → pass ≡ Some secret → ¬ OpensBy locked secret)
+      → GivesNoneFor whole locked step
+  none_opens asked locked pass (found_none gives) closed = none_at_all gives
+  none_opens asked locked pass (found has) closed = wrong has (closed _ refl)
+
+  pub nonce_none_opens : (nonce : Option (List ℕ)) (locked : LockedKey) (pass : Option (List ℕ)) → FoundByNonce nonce pass → ((secret : List ℕ) → pass ≡ Some secret → ¬ OpensBy locked secret)
+      → ByNonce whole (GivesNoneFor whole locked) nonce
+  nonce_none_opens None locked pass by closed = tt
+  nonce_none_opens (Some nonce) locked pass by closed = none_opens (ask_nonce nonce) locked pass by closed
+
+  module _ (grip : Grip) where
+    takes_seat_of : (before : Option ℕ) (events : List (Event FurtherEvent)) (result : Result (Unit {0}) Refusal) (after : Option ℕ) → TakesSeat grip before events result after
+        → StandIn events whole → ComesHere Anything events result
+    takes_seat_of None events result after does stands = (seats rules kept request whole _ refl).of None events result after does stands
+    takes_seat_of (Some ticket) events result after does stands = (returned rules kept request whole Anything tt tt).of (Some ticket) events result after does stands
+
+    pub takes_seat : ExplainsHere (TakesSeat grip) Anything
+    takes_seat = record { of = takes_seat_of }
+
+  module _ (grip : Grip) (pass : List ℕ) where
+    keeps_new_of : (before : Option ℕ) (events : List (Event FurtherEvent)) (result : Result (Unit {0}) Refusal) (after : Option ℕ) → KeepsNew grip pass before events result after
+        → StandIn events whole → ComesHere Anything events result
+    keeps_new_of None events result after does stands = (changes rules kept request whole _ refl).of None events result after does stands
+    keeps_new_of (Some ticket) events result after does stands = closes_of rules kept request whole (Some pass) (Some ticket) events result after does stands
+
+    pub keeps_new : ExplainsHere (KeepsNew grip pass) Anything
+    keeps_new = record { of = keeps_new_of }
+
+  -- ---- locked keys
+
+  module _ (key : Key) (is_read : IsRead whole (Ok key)) where
+    locks_of : (before : Option ℕ) (events : List (Event FurtherEvent)) (result : Result LockedKey Refusal) (after : Option ℕ) → Locks key before events result after
+        → StandIn events whole → ComesHere (IsReadLocked whole) events result
+    locks_of before events result after (passphrases.is_locked same locked) stands =
+        record { silent = tt; explained = record { key = subst (λ k. IsRead whole (Ok k)) (sym same) is_read; protection = locked } }
+    locks_of before events result after (passphrases.has_fault {fault} is) stands =
+        record { silent = tt; explained = fault_caused fault (locked_fault_said key fault is) (λ why so. protection is_read is so) }
+    locks_of before events result after passphrases.no_memory stands = record { silent = (tt, tt); explained = out_of_memory_first rules kept request whole stands }
+
+    pub locks : ExplainsHere (Locks key) (IsReadLocked whole)
+    locks = record { of = locks_of }
+
+  -- a value that is so, or there is none, and then this holds
+  abbrev pub Either : {A : Type 0} → (A → Type 0) → Type 0 → Option A → Type 0
+  Either Is Else (Some value) = Is value
+  Either Is Else None = Else
+
+  module _ (locked : LockedKey) (is_locked : IsReadLocked whole locked) where
+    module _ (pass : List ℕ) where
+      tries_of : (before : Option ℕ) (events : List (Event FurtherEvent)) (result : Result (Option _) Refusal) (after : Option ℕ) → Tries locked pass before events result after
+          → StandIn events whole → ComesHere (Either (λ opened. OpensRead whole opened.key) (¬ OpensBy locked pass)) events result
+      tries_of before events result after (passphrases.opens to) stands = record { silent = tt; explained = opens is_locked to }
+      tries_of before events result after (passphrases.stays closed) stands = record { silent = tt; explained = closed }
+      tries_of before events result after passphrases.no_memory stands = record { silent = (tt, tt); explained = out_of_memory_first rules kept request whole stands }
+
+      pub tries : ExplainsHere (Tries locked pass) (Either (λ opened. OpensRead whole opened.key) (¬ OpensBy locked pass))
+      tries = record { of = tries_of }
+
+    -- no passphrase was found, or one that doesn't open it
+    abbrev pub NoneOpens : Option (List ℕ) → Type 0
+    NoneOpens pass = (secret : List ℕ) → pass ≡ Some secret → ¬ OpensBy locked secret
+
+    module _ (pass : List ℕ) where
+      tried_of : (before : Option ℕ) (events : List (Event FurtherEvent)) (result : Result (Option _) Refusal) (after : Option ℕ) → Tries locked pass before events result after
+          → StandIn events whole → ComesHere (Either (λ opened. OpensRead whole opened.key) (NoneOpens (Some pass))) events result
+      tried_of before events result after (passphrases.opens to) stands = record { silent = tt; explained = opens is_locked to }
+      tried_of before events result after (passphrases.stays closed) stands =
+          record { silent = tt; explained = λ secret is. let same : pass ≡ secret = cc is in subst (λ p. ¬ OpensBy locked p) same closed }
+      tried_of before events result after passphrases.no_memory stands = record { silent = (tt, tt); explained = out_of_memory_first rules kept request whole stands }
+
+    -- one that was found is tried
+    pub tries_found : (pass : Option (List ℕ)) → ExplainsHere (TriesFound locked pass) (Either (λ opened. OpensRead whole opened.key) (NoneOpens pass))
+    tries_found None = returned rules kept request whole (Either (λ opened. OpensRead whole opened.key) (NoneOpens None)) None (λ secret is. absurd (cc is))
+    tries_found (Some pass) = record { of = tried_of pass }
+
+    -- ---- prompts for passphrases
+
+    bad_opening : {spec : PromptSpec} {plan : AskPlan} {prompt : List PromptEvent} {shown : List (Event FurtherEvent)} {answer : Asked} → AsksPin spec plan (OpensBy locked) prompt answer
+        → AnyInSession session_lines prompt shown → StandIn shown whole → answer ≡ asked.Bad → CausedHere code.BadPass
+    bad_opening {spec} {plan} {prompt} prompted_so in_session stands bad =
+        causes.at_prompt (causes.opening is_locked (subst (λ a. AsksPin spec plan (OpensBy locked) prompt a) bad prompted_so) in_session stands)
+
+    module _ (grip : Grip) where
+      prompts_old_of : (before : Option ℕ) (events : List (Event FurtherEvent)) (result : Result _ Refusal) (after : Option ℕ) → PromptsOld rules kept.options grip locked before events result after
+          → StandIn events whole → ComesHere (λ opened. OpensRead whole opened.key) events result
+      prompts_old_of before events result after (passphrases.opens_by spec is prompt to) stands =
+          record { silent = prompt_silent prompt.in_session; explained = opens is_locked to }
+      prompts_old_of before events result after (passphrases.refused {answer} {why} spec is prompt refusal) stands = record {
+        silent = prompt_silent prompt.in_session;
+        explained = pin_caused prompt.in_session stands answer why (pin_shows prompt.asks)
+            (λ bad. bad_opening prompt.asks prompt.in_session stands bad) refusal;
+      }
+
+      pub prompts_old : ExplainsHere (PromptsOld rules kept.options grip locked) (λ opened. OpensRead whole opened.key)
+      prompts_old = record { of = prompts_old_of }
+
+  pub bad_any : {spec : PromptSpec} {plan : AskPlan} {prompt : List PromptEvent} {shown : List (Event FurtherEvent)} {answer : Asked} → AsksPin spec plan (λ pin. ⊤) prompt answer
+      → AnyInSession session_lines prompt shown → StandIn shown whole → answer ≡ asked.Bad → CausedHere code.BadPass
+  bad_any {spec} {plan} {prompt} prompted_so in_session stands bad =
+      causes.at_prompt (causes.any (subst (λ a. AsksPin spec plan (λ pin. ⊤) prompt a) bad prompted_so) in_session stands)
+
+  module _ (grip : Grip) where
+    prompts_new_of : (before : Option ℕ) (events : List (Event FurtherEvent)) (result : Result (List ℕ) Refusal) (after : Option ℕ) → PromptsNew rules kept.options grip before events result after
+        → StandIn events whole → ComesHere Anything events result
+    prompts_new_of before events result after (passphrases.given spec is prompt) stands = record { silent = prompt_silent prompt.in_session; explained = tt }
+    prompts_new_of before events result after (passphrases.refused {answer} {why} spec is prompt refusal) stands = record {
+      silent = prompt_silent prompt.in_session;
+      explained = pin_caused prompt.in_session stands answer why (pin_shows prompt.asks)
+          (λ bad. bad_any prompt.asks prompt.in_session stands bad) refusal;
+    }
+
+    pub prompts_new : ExplainsHere (PromptsNew rules kept.options grip) Anything
+    prompts_new = record { of = prompts_new_of }
+
+    agrees_of : (before : Option ℕ) (events : List (Event FurtherEvent)) (result : Result (Unit {0}) Refusal) (after : Option ℕ) → Agrees rules kept.options grip before events result after
+        → StandIn events whole → ComesHere Anything events result
+    agrees_of before events result after (parts.consents spec is prompt) stands = record { silent = prompt_silent prompt.in_session; explained = tt }
+    agrees_of before events result after (parts.refused {answer} {why} spec is prompt refusal) stands =
+        record { silent = prompt_silent prompt.in_session; explained = consent_caused prompt.in_session stands answer why (consent_shows prompt.asks) refusal }
+
+    pub agrees : ExplainsHere (Agrees rules kept.options grip) Anything
+    agrees = record { of = agrees_of }
+
+  -- ---- key files
+
+  -- a read that gave no file
+  read_caused : (grip : Grip) (answer : KeyRead) {why : Code} {more : List (Event FurtherEvent)} → (answer ≡ key_read.Absent → CausedHere code.NoSecKey) → read_fault answer ≡ Some why
+      → StandIn (Further (Keys (Read grip answer)) ∷ more) whole → CausedHere why
+  read_caused grip (key_read.Found bytes) absent is stands = absurd (cc is)
+  read_caused grip key_read.Absent absent is stands = let same : code.NoSecKey ≡ _ = cc in subst CausedHere same (absent refl)
+  read_caused grip key_read.Failed absent is stands = let same : code.General ≡ _ = cc in subst CausedHere same (one _ tt (has_first stands))
+  read_caused grip key_read.NoMemory absent is stands = let same : code.NoMemory ≡ _ = cc in subst CausedHere same (one _ tt (has_first stands))
+
+  module _ (grip : Grip) (lacks : IsUnread whole grip → LacksKeys whole (on_keys request)) where
+    reads_file_of : (before : Option ℕ) (events : List (Event FurtherEvent)) (result : Result _ Refusal) (after : Option ℕ) → ReadsFile grip before events result after
+        → StandIn events whole → ComesHere (λ file. IsReadOf whole grip file.bytes × IsRead whole (Ok file.key)) events result
+    reads_file_of before events result after (parts.is_key is says) stands = record { silent = (tt, tt); explained = (read_of is (has_first stands), read is says (has_first stands)) }
+    reads_file_of before events result after (parts.faulty {file} {fault} is says) stands =
+        record { silent = (tt, tt); explained = fault_caused fault (file_fault_said file fault says) (λ why so. causes.file (read is says (has_first stands)) so) }
+    reads_file_of before events result after (parts.no_memory is) stands = record { silent = (tt, (tt, tt)); explained = out_of_memory_second rules kept request whole stands }
+    reads_file_of before events result after (parts.unread {answer} is) stands =
+        record { silent = (tt, tt); explained = read_caused grip answer (λ absent. lacks (subst (λ a. Has (Further (Keys (Read grip a))) whole) absent (has_first stands))) is stands }
+
+    pub reads_file : ExplainsHere (ReadsFile grip) (λ file. IsReadOf whole grip file.bytes × IsRead whole (Ok file.key))
+    reads_file = record { of = reads_file_of }
+
+  module _ (grip : Grip) (lacks : IsUnremoved whole grip → LacksKeys whole (on_keys request)) where
+    removal_caused : (answer : KeyDone) (why : Code) {more : List (Event FurtherEvent)} → change_fault answer ≡ Some why → StandIn (Further (Keys (Removed grip answer)) ∷ more) whole → CausedHere why
+    removal_caused key_done.Done why is stands = absurd (cc is)
+    removal_caused key_done.Absent why is stands = let same : code.NoSecKey ≡ why = cc in subst CausedHere same (lacks (has_first stands))
+    removal_caused key_done.Failed why is stands = let same : code.General ≡ why = cc in subst CausedHere same (one _ tt (has_first stands))
+    removal_caused key_done.NoMemory why is stands = let same : code.NoMemory ≡ why = cc in subst CausedHere same (one _ tt (has_first stands))
+
+    removes_of : (before : Option ℕ) (events : List (Event FurtherEvent)) (result : Result (Unit {0}) Refusal) (after : Option ℕ) → Removes grip before events result after
+        → StandIn events whole → ComesHere Anything events result
+    removes_of before events result after parts.done stands = record { silent = (tt, tt); explained = tt }
+    removes_of before events result after (parts.not_done {answer} {code = why} is) stands = record { silent = (tt, tt); explained = removal_caused answer why is stands }
+
+    pub removes : ExplainsHere (Removes grip) Anything
+    removes = record { of = removes_of }
+
+  -- a file that is replaced needn't be there
+  module _ (there : (grip : Grip) (file : List ℕ) → Has (Further (Keys (Replaced grip file key_done.Absent))) whole → ⊥) (grip : Grip) (file : List ℕ) where
+    replacement_caused : (answer : KeyDone) (why : Code) {more : List (Event FurtherEvent)} → change_fault answer ≡ Some why → StandIn (Further (Keys (Replaced grip file answer)) ∷ more) whole
+        → CausedHere why
+    replacement_caused key_done.Done why is stands = absurd (cc is)
+    replacement_caused key_done.Absent why is stands = absurd (there grip file (has_first stands))
+    replacement_caused key_done.Failed why is stands = let same : code.General ≡ why = cc in subst CausedHere same (one _ tt (has_first stands))
+    replacement_caused key_done.NoMemory why is stands = let same : code.NoMemory ≡ why = cc in subst CausedHere same (one _ tt (has_first stands))
+
+    replaces_of : (before : Option ℕ) (events : List (Event FurtherEvent)) (result : Result (Unit {0}) Refusal) (after : Option ℕ) → Replaces grip file before events result after
+        → StandIn events whole → ComesHere Anything events result
+    replaces_of before events result after parts.done stands = record { silent = (tt, tt); explained = tt }
+    replaces_of before events result after (parts.not_done {answer} {code = why} is) stands = record { silent = (tt, tt); explained = replacement_caused answer why is stands }
+
+    pub replaces : ExplainsHere (Replaces grip file) Anything
+    replaces = record { of = replaces_of }

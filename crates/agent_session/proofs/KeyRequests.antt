@@ -1,0 +1,468 @@
+-- Requests on keys, each of whose refusals has its cause.
+use Rattle.std.specs.List.{AllByRecursion}
+use Rattle.std.proofs.Common.{◌≡◌, ◌≢◌, ◌==◌, ℕ, Bool, true, false, List, [], ◌∷◌, length, codes, Option, Some, None, Result, Ok, Err, refl, sym, subst, inl, inr, arith}
+use Rattle.std.specs.Prelude.{⊤, not, take, drop}
+use Rattle.std.proofs.lemmas.Bool.Decides.{nat_tests}
+use Rattle.std.proofs.lemmas.List.{nil_from_length}
+use Rattle.agent_ask.specs.Further.{FurtherEvent, Keys, Read, Replaced}
+use Rattle.agent_ask.specs.SessionEvents.{Further, cache_turn}
+use Rattle.agent_ports.specs.declared.grip.Grip.{Grip}
+use Rattle.agent_ports.specs.declared.keys.KeyDone.TheVariants as key_done
+use Rattle.agent_ports.specs.declared.keys.KeyRead.{KeyRead}
+use Rattle.agent_ports.specs.declared.keys.KeyRead.TheVariants as key_read
+use Rattle.assuan_server.specs.declared.errors.Code.{Code}
+use Rattle.assuan_server.specs.declared.errors.Code.TheVariants as code
+use Rattle.assuan_server.specs.declared.errors.Origin.TheVariants.{Agent as OfAgent}
+use Rattle.cache_policy.specs.Turns.{Refused, Empty, Stopping}
+use Rattle.cache_policy.specs.declared.secret.TheConstants.{MAX_SECRET_LEN}
+use Rattle.secret_file.specs.Opens.{LockedKey}
+use Rattle.secret_file.specs.Protects.{ocb_protection, protected_file}
+use Rattle.session_options.specs.declared.options.PinMode.{PinMode}
+use Rattle.session_options.specs.declared.options.PinMode.TheVariants as mode
+use Rattle.session_options.specs.declared.rules.Rules.{Rules}
+use Rattle.sexp_keys.specs.Key.{Key}
+use Rattle.agent_commands.specs.Events.{Event}
+use Rattle.agent_commands.specs.declared.request.Request.{Request}
+use Rattle.key_commands.specs.Exchanges.{KeyReply, HaveKeyReplies, KeyInfoReplies, ListKeysReplies, KeyWrapReplies, ImportKeyReplies, ExportKeyReplies, PasswdReplies, VerifyReplies, DeleteKeyReplies, Replies, wrap_key, StoresKey, FoundOrNew, RenewsPassphrase, RewritesFile, ChangesOpened}
+use Rattle.key_commands.specs.Files.{Rewrites}
+use Rattle.key_commands.specs.Files as files
+use Rattle.key_commands.specs.KeyParts.{Tells, tells, Protects, IsShort, HasOne as HasOneKey, TellsInfo, ListsGrips, ReadsListed, WritesInfo, TellsListed, WritesInfos, max_key_data, AsksKeyData, Unwraps, ReceivesKey, NamesKey, IsFree, LooksOver, WrapsKey, Consents}
+use Rattle.key_commands.specs.KeyParts as parts
+use Rattle.key_commands.specs.Lines.{limit_line}
+use Rattle.key_commands.specs.Parts.{Part, Returns, unless, needed, or_else, wanted, read_fault}
+use Rattle.key_commands.specs.Passphrases.{OpensBy, ClientOld, UncachedOld, OpensLocked, OldPassphrase, VerifiesPassphrase, ClientNew, NewPassphrase, ask_key, way_of}
+use Rattle.key_commands.specs.Wrapping.{WrappedSays}
+use Rattle.key_commands.specs.Wrapping as wrapping
+use Rattle.key_commands.specs.declared.refusal.Refusal.{Refusal}
+use Rattle.key_commands.specs.declared.refusal.Refusal.TheVariants.{Agent}
+use Rattle.key_commands.specs.declared.request.Direction.{Direction}
+use Rattle.key_commands.specs.declared.request.KeyRequest.{KeyRequest}
+use Rattle.key_commands.specs.declared.request.KeyRequest.TheVariants as on
+use Rattle.agent_session.specs.Causes.{Has, StandIn, IsCaused, IsSent, IsUnread, LacksKeys, on_keys, IsRefusedBy, one, IsRead, IsReadOf, IsDrawn, IsListOf, protected, IsReadLocked, OpensRead, is_clear, key_data, KeyDataSays, data_says, faulty, long, long_file, by_mode, deletion, stays, empty, no_import, no_export, there, GivesNone, none_given, GivesNoneFor, ByNonce, HasNoEntry, exported, changed, verified, imported, renewed, IsUnprompted}
+use Rattle.agent_session.specs.Completeness.{IsStatus}
+use Rattle.agent_session.specs.declared.kept.Kept.{Kept}
+use Rattle.agent_session.proofs.Explaining.{Caused, Comes, Explains, Anything, IsFound, bind, whatever, returned, refused, is_needed, or_otherwise, is_wanted, seats, changes, peeks, closes_so, writes, inquires_of, asks_client, finds, draws, out_of_memory_first, out_of_memory_second, FoundBy, looks}
+use Rattle.agent_session.proofs.Faulty.{first_fault_said}
+use Rattle.agent_session.proofs.KeyParts.{Either, fault_caused, looks_for_nonce, takes_seat, keeps_new, locks, tries, tries_found, prompts_old, prompts_new, agrees, reads_file, removes, replaces, FoundByNonce, nonce_none, none_opens, nonce_none_opens, NoneOpens}
+use Rattle.agent_session.proofs.Replying.{IsReply, reply_ok, reply_status, reply_nonce, reply_keys}
+use Rattle.agent_session.proofs.Standing.{has_first}
+
+module _ (rules : Rules) (kept : Kept) (request : Request) (whole : List (Event FurtherEvent)) where
+  abbrev CausedHere : Code → Type 0
+  CausedHere = Caused rules kept request whole
+
+  abbrev ComesHere : {A : Type 0} → (A → Type 0) → List (Event FurtherEvent) → Result A Refusal → Type 0
+  ComesHere = Comes rules kept request whole
+
+  abbrev ExplainsHere : {A : Type 0} → (Option ℕ → List (Event FurtherEvent) → Result A Refusal → Option ℕ → Type 0) → (A → Type 0) → Type 0
+  ExplainsHere = Explains rules kept request whole
+
+  -- ---- parts that only want memory
+
+  tells_of : (bytes : List ℕ) (before : Option ℕ) (events : List (Event FurtherEvent)) (result : Result (List ℕ) Refusal) (after : Option ℕ) → Tells bytes before events result after → StandIn events whole
+      → ComesHere IsReply events result
+  tells_of bytes before events result after (tells answer) stands = record { silent = tt; explained = reply_keys answer }
+
+  told : (bytes : List ℕ) → ExplainsHere (Tells bytes) IsReply
+  told bytes = record { of = tells_of bytes }
+
+  module _ (key : Key) (pass salt iv : List ℕ) (count : ℕ) where
+    abbrev IsProtected : List ℕ → Type 0
+    IsProtected list = list ≡ protected_file key (ocb_protection key pass salt iv count None) None
+
+    protects_of : (before : Option ℕ) (events : List (Event FurtherEvent)) (result : Result (List ℕ) Refusal) (after : Option ℕ) → Protects key pass salt iv count before events result after
+        → StandIn events whole → ComesHere IsProtected events result
+    protects_of before events result after parts.made stands = record { silent = tt; explained = refl }
+    protects_of before events result after parts.no_memory stands = record { silent = (tt, tt); explained = out_of_memory_first rules kept request whole stands }
+
+    protects : ExplainsHere (Protects key pass salt iv count) IsProtected
+    protects = record { of = protects_of }
+
+  names_key_of : (key : Key) (before : Option ℕ) (events : List (Event FurtherEvent)) (result : Result Grip Refusal) (after : Option ℕ) → NamesKey key before events result after → StandIn events whole
+      → ComesHere Anything events result
+  names_key_of key before events result after (parts.named is) stands = record { silent = tt; explained = tt }
+  names_key_of key before events result after parts.no_memory stands = record { silent = (tt, tt); explained = out_of_memory_first rules kept request whole stands }
+
+  names_key : (key : Key) → ExplainsHere (NamesKey key) Anything
+  names_key key = record { of = names_key_of key }
+
+  wraps_key_of : (wrap : List ℕ) (key : Key) (before : Option ℕ) (events : List (Event FurtherEvent)) (result : Result (List ℕ) Refusal) (after : Option ℕ) → WrapsKey wrap key before events result after
+      → StandIn events whole → ComesHere Anything events result
+  wraps_key_of wrap key before events result after parts.is_wrapped stands = record { silent = tt; explained = tt }
+  wraps_key_of wrap key before events result after parts.no_memory stands = record { silent = (tt, tt); explained = out_of_memory_first rules kept request whole stands }
+
+  wraps_key : (wrap : List ℕ) (key : Key) → ExplainsHere (WrapsKey wrap key) Anything
+  wraps_key wrap key = record { of = wraps_key_of wrap key }
+
+  -- nothing was found under a nonce, or something
+  abbrev Overlooked : Option (List ℕ) → Option (List ℕ) → Type 0
+  Overlooked id None = ByNonce whole (GivesNone whole) id
+  Overlooked id (Some pass) = ⊤
+
+  looks_over_of : (nonce : Option (List ℕ)) (before : Option ℕ) (events : List (Event FurtherEvent)) (result : Result (Option (List ℕ)) Refusal) (after : Option ℕ) → LooksOver nonce before events result after
+      → StandIn events whole → ComesHere (Overlooked nonce) events result
+  looks_over_of id before events result after parts.no_nonce stands = record { silent = tt; explained = tt }
+  looks_over_of id before events result after parts.given stands = record { silent = (tt, tt); explained = tt }
+  looks_over_of id before events result after parts.empty stands = record { silent = (tt, tt); explained = none_given Empty tt (has_first stands) }
+  looks_over_of id before events result after parts.stopping stands = record { silent = (tt, tt); explained = none_given Stopping tt (has_first stands) }
+  looks_over_of id before events result after parts.no_memory stands = record { silent = (tt, tt); explained = one (cache_turn _ Refused) refl (has_first stands) }
+
+  looks_over : (nonce : Option (List ℕ)) → ExplainsHere (LooksOver nonce) (Overlooked nonce)
+  looks_over nonce = record { of = looks_over_of nonce }
+
+  -- ---- what is known of keys
+
+  tells_info : (grip : Grip) (key : Key) → ExplainsHere (TellsInfo grip key) IsStatus
+  tells_info grip key = bind rules kept request whole Anything IsStatus (peeks rules kept request whole grip) (λ cached any. returned rules kept request whole IsStatus _ (_, refl))
+
+  lists_of : (before : Option ℕ) (events : List (Event FurtherEvent)) (result : Result (List Grip) Refusal) (after : Option ℕ) → ListsGrips before events result after → StandIn events whole
+      → ComesHere Anything events result
+  lists_of before events result after (parts.listed is) stands = record { silent = (tt, tt); explained = tt }
+  lists_of before events result after parts.faulted stands = record { silent = (tt, tt); explained = one _ tt (has_first stands) }
+  lists_of before events result after parts.no_memory stands = record { silent = (tt, tt); explained = one _ tt (has_first stands) }
+
+  lists : ExplainsHere ListsGrips Anything
+  lists = record { of = lists_of }
+
+  unlisted_caused : (grip : Grip) (answer : KeyRead) {why : Code} {more : List (Event FurtherEvent)} → answer ≢ key_read.Absent → read_fault answer ≡ Some why
+      → StandIn (Further (Keys (Read grip answer)) ∷ more) whole → CausedHere why
+  unlisted_caused grip (key_read.Found bytes) other is stands = absurd (cc is)
+  unlisted_caused grip key_read.Absent other is stands = absurd (other refl)
+  unlisted_caused grip key_read.Failed other is stands = let same : code.General ≡ _ = cc in subst CausedHere same (one _ tt (has_first stands))
+  unlisted_caused grip key_read.NoMemory other is stands = let same : code.NoMemory ≡ _ = cc in subst CausedHere same (one _ tt (has_first stands))
+
+  reads_listed_of : (grip : Grip) (before : Option ℕ) (events : List (Event FurtherEvent)) (result : Result (Option Key) Refusal) (after : Option ℕ) → ReadsListed grip before events result after
+      → StandIn events whole → ComesHere Anything events result
+  reads_listed_of grip before events result after (parts.is_key is says) stands = record { silent = (tt, tt); explained = tt }
+  reads_listed_of grip before events result after (parts.faulty is says) stands = record { silent = (tt, tt); explained = tt }
+  reads_listed_of grip before events result after parts.absent stands = record { silent = (tt, tt); explained = tt }
+  reads_listed_of grip before events result after (parts.no_memory is) stands = record { silent = (tt, (tt, tt)); explained = out_of_memory_second rules kept request whole stands }
+  reads_listed_of grip before events result after (parts.unread {answer} other is) stands = record { silent = (tt, tt); explained = unlisted_caused grip answer other is stands }
+
+  reads_listed : (grip : Grip) → ExplainsHere (ReadsListed grip) Anything
+  reads_listed grip = record { of = reads_listed_of grip }
+
+  writes_info : (grip : Grip) (key : Option Key) → ExplainsHere (WritesInfo grip key) Anything
+  writes_info grip None = returned rules kept request whole Anything tt tt
+  writes_info grip (Some key) = bind rules kept request whole IsStatus Anything (tells_info grip key) (λ line status. writes rules kept request whole line status)
+
+  tells_listed : (grip : Grip) → ExplainsHere (TellsListed grip) Anything
+  tells_listed grip = bind rules kept request whole Anything Anything (reads_listed grip) (λ key any. writes_info grip key)
+
+  writes_infos : (grips : List Grip) → ExplainsHere (WritesInfos grips) Anything
+  writes_infos [] = returned rules kept request whole Anything tt tt
+  writes_infos (grip ∷ more) = bind rules kept request whole Anything Anything (tells_listed grip) (λ told any. writes_infos more)
+
+  -- one of them is there, or all are absent
+  has_more : (grip : Grip) (more : List Grip) (found : Bool) → IsFound rules kept request whole grip found → (IsUnread whole grip → ExplainsHere (HasOneKey more) Anything)
+      → ExplainsHere (unless found (HasOneKey more)) Anything
+  has_more grip more true so others = returned rules kept request whole Anything tt tt
+  has_more grip more false so others = others so
+
+  has_one : (grips : List Grip) → (AllByRecursion (IsUnread whole) grips → CausedHere code.NoSecKey) → ExplainsHere (HasOneKey grips) Anything
+  has_one [] lacks = refused rules kept request whole Anything (Agent code.NoSecKey) (lacks tt)
+  has_one (grip ∷ more) lacks =
+      bind rules kept request whole (IsFound rules kept request whole grip) Anything (finds rules kept request whole grip)
+      (λ found so. has_more grip more found so (λ absent. has_one more (λ each. lacks (absent, each))))
+
+  -- ---- wrapped keys
+
+  asks_key_data_of : (before : Option ℕ) (events : List (Event FurtherEvent)) (result : Result (List ℕ) Refusal) (after : Option ℕ) → AsksKeyData before events result after
+      → StandIn events whole → ComesHere (IsSent whole (codes "KEYDATA") max_key_data) events result
+  asks_key_data_of before events result after (parts.asked inquires) stands = inquires_of rules kept request whole (codes "KEYDATA") max_key_data before events result before inquires stands
+  asks_key_data_of before events result after (parts.no_memory at_end) stands = record { silent = (tt, (tt, tt)); explained = out_of_memory_second rules kept request whole stands }
+
+  asks_key_data : ExplainsHere AsksKeyData (IsSent whole (codes "KEYDATA") max_key_data)
+  asks_key_data = record { of = asks_key_data_of }
+
+  module _ (wrap wrapped : List ℕ) (drawn : kept.wraps.import ≡ Some wrap) (sent : IsSent whole (codes "KEYDATA") max_key_data wrapped) where
+    wrapped_caused : {why : Code} → WrappedSays wrap wrapped (Err why) → CausedHere why
+    wrapped_caused (wrapping.unchecked other) = data_says drawn sent (wrapping.unchecked other)
+    wrapped_caused (wrapping.checked are (wrapping.no_expression other)) = key_data (data_says drawn sent (wrapping.checked are (wrapping.no_expression other)))
+    wrapped_caused (wrapping.checked are (wrapping.no_key {fault} padded first)) =
+        fault_caused rules kept request whole fault (first_fault_said _ fault first)
+        (λ why so. key_data (subst (λ c. KeyDataSays whole rules kept request (Err c)) so (data_says drawn sent (wrapping.checked are (wrapping.no_key padded first)))))
+    wrapped_caused (wrapping.checked are (wrapping.protected padded is locked)) = faulty (key_data (data_says drawn sent (wrapping.checked are (wrapping.protected padded is locked))))
+    wrapped_caused (wrapping.checked are (wrapping.long padded is clear much)) = faulty (key_data (data_says drawn sent (wrapping.checked are (wrapping.long padded is clear much))))
+
+    unwraps_of : (before : Option ℕ) (events : List (Event FurtherEvent)) (result : Result Key Refusal) (after : Option ℕ) → Unwraps wrap wrapped before events result after → StandIn events whole
+        → ComesHere Anything events result
+    unwraps_of before events result after (parts.is_key says) stands = record { silent = tt; explained = tt }
+    unwraps_of before events result after (parts.refused says) stands = record { silent = tt; explained = wrapped_caused says }
+    unwraps_of before events result after parts.no_memory stands = record { silent = (tt, tt); explained = out_of_memory_first rules kept request whole stands }
+
+    unwraps : ExplainsHere (Unwraps wrap wrapped) Anything
+    unwraps = record { of = unwraps_of }
+
+  receives_key : (wrap : List ℕ) → kept.wraps.import ≡ Some wrap → ExplainsHere (ReceivesKey wrap) Anything
+  receives_key wrap drawn =
+      bind rules kept request whole Anything Anything (writes rules kept request whole (limit_line max_key_data) (_, refl))
+      (λ told any. bind rules kept request whole (IsSent whole (codes "KEYDATA") max_key_data) Anything asks_key_data (λ wrapped sent. unwraps wrap wrapped drawn sent))
+
+  is_free : (force : Bool) (grip : Grip) {id : Option (List ℕ)} → on_keys request ≡ Some (on.ImportKey force id) → ExplainsHere (IsFree force grip) Anything
+  is_free true grip asked = returned rules kept request whole Anything tt tt
+  is_free false grip asked = bind rules kept request whole (IsFound rules kept request whole grip) Anything (finds rules kept request whole grip) (λ found so. free found so)
+    where
+      free : (found : Bool) → IsFound rules kept request whole grip found → ExplainsHere (wanted code.FileExists (not found)) Anything
+      free true so = refused rules kept request whole Anything (Agent code.FileExists) (there asked so.1)
+      free false so = returned rules kept request whole Anything tt tt
+
+  -- ---- the old passphrase
+
+  module _ {A : Type 0} (Good : A → Type 0) (Else : Type 0) where
+    if_needed : (why : Code) (value : Option A) → Either rules kept request whole Good Else value → (Else → CausedHere why) → ExplainsHere (needed why value) Good
+    if_needed why None otherwise caused = refused rules kept request whole Good (Agent why) (caused otherwise)
+    if_needed why (Some value) good caused = returned rules kept request whole Good value good
+
+    or_else_so : (value : Option A) (other : Part A) → Either rules kept request whole Good Else value → (Else → ExplainsHere other Good) → ExplainsHere (or_else value other) Good
+    or_else_so None other otherwise explains = explains otherwise
+    or_else_so (Some value) other good explains = returned rules kept request whole Good value good
+
+  module _ (grip : Grip) (locked : LockedKey) (is_locked : IsReadLocked whole locked) where
+    client_old : kept.options.mode ≡ mode.Loopback → ExplainsHere (ClientOld rules kept.options grip locked) (λ opened. OpensRead whole opened.key)
+    unfolding ClientOld
+    client_old loopback =
+        bind rules kept request whole (IsSent whole (codes "PASSPHRASE") MAX_SECRET_LEN) (λ opened. OpensRead whole opened.key) (asks_client rules kept request whole (codes "PASSPHRASE") MAX_SECRET_LEN)
+        (λ pass sent. bind rules kept request whole (Either rules kept request whole (λ opened. OpensRead whole opened.key) (¬ OpensBy locked pass)) (λ opened. OpensRead whole opened.key)
+        (tries rules kept request whole locked is_locked pass)
+        (λ tried so. bind rules kept request whole (λ opened. OpensRead whole opened.key) (λ opened. OpensRead whole opened.key)
+        (if_needed (λ opened. OpensRead whole opened.key) (¬ OpensBy locked pass) code.BadPass tried so (λ closed. stays loopback is_locked sent closed))
+        (λ opened opens. bind rules kept request whole Anything (λ opened. OpensRead whole opened.key) (changes rules kept request whole _ refl)
+        (λ kept_so any. returned rules kept request whole (λ opened. OpensRead whole opened.key) opened opens))))
+
+    uncached_old : (way : PinMode) → kept.options.mode ≡ way → HasNoEntry whole request → ExplainsHere (UncachedOld rules kept.options grip way locked) (λ opened. OpensRead whole opened.key)
+    uncached_old mode.Ask is unmet =
+        bind rules kept request whole Anything (λ opened. OpensRead whole opened.key) (takes_seat rules kept request whole grip) (λ seated any. prompts_old rules kept request whole locked is_locked grip)
+    uncached_old mode.Cancel is unmet = refused rules kept request whole (λ opened. OpensRead whole opened.key) (Agent code.Cancelled) (by_mode is unmet)
+    uncached_old mode.Error is unmet = refused rules kept request whole (λ opened. OpensRead whole opened.key) (Agent code.NoPinentry) (inl (by_mode is unmet))
+    uncached_old mode.Loopback is unmet = client_old is
+
+    opens_locked : (nonce : Option (List ℕ)) → (ByNonce whole (GivesNoneFor whole locked) nonce → GivesNoneFor whole locked (ask_key grip (way_of kept.options.mode)) → HasNoEntry whole request)
+        → ExplainsHere (OpensLocked rules kept.options grip nonce locked) (λ opened. OpensRead whole opened.key)
+    unfolding OpensLocked
+    opens_locked nonce unmet =
+        bind rules kept request whole (FoundByNonce rules kept request whole nonce) (λ opened. OpensRead whole opened.key) (looks_for_nonce rules kept request whole nonce)
+        (λ by_nonce by. bind rules kept request whole (Either rules kept request whole (λ opened. OpensRead whole opened.key) (NoneOpens rules kept request whole locked is_locked by_nonce)) (λ opened. OpensRead whole opened.key)
+        (tries_found rules kept request whole locked is_locked by_nonce)
+        (λ first so. or_else_so (λ opened. OpensRead whole opened.key) (NoneOpens rules kept request whole locked is_locked by_nonce) first _ so
+        (λ first_closed. bind rules kept request whole (FoundBy rules kept request whole (ask_key grip (way_of kept.options.mode))) (λ opened. OpensRead whole opened.key) (looks rules kept request whole _ refl)
+        (λ cached given. bind rules kept request whole (Either rules kept request whole (λ opened. OpensRead whole opened.key) (NoneOpens rules kept request whole locked is_locked cached)) (λ opened. OpensRead whole opened.key)
+        (tries_found rules kept request whole locked is_locked cached)
+        (λ second so. or_else_so (λ opened. OpensRead whole opened.key) (NoneOpens rules kept request whole locked is_locked cached) second _ so
+        (λ second_closed. uncached_old kept.options.mode refl
+        (unmet (nonce_none_opens rules kept request whole nonce locked by_nonce by first_closed)
+        (none_opens rules kept request whole (ask_key grip (way_of kept.options.mode)) locked cached given second_closed))))))))
+
+  module _ (grip : Grip) where
+    old_passphrase : (clear : Bool) (key : Key) (id : Option (List ℕ)) → IsRead whole (Ok (record key { is_clear = clear }))
+        → ((locked : LockedKey) → IsReadLocked whole locked → ByNonce whole (GivesNoneFor whole locked) id → GivesNoneFor whole locked (ask_key grip (way_of kept.options.mode)) → HasNoEntry whole request)
+        → ExplainsHere (OldPassphrase rules kept.options grip id (record key { is_clear = clear })) (λ opened. OpensRead whole opened.key)
+    old_passphrase true key id is_read unmet = returned rules kept request whole (λ opened. OpensRead whole opened.key) _ (is_clear is_read refl)
+    old_passphrase false key id is_read unmet =
+        bind rules kept request whole (IsReadLocked whole) (λ opened. OpensRead whole opened.key) (locks rules kept request whole (record key { is_clear = false }) is_read)
+        (λ locked is_locked. opens_locked grip locked is_locked id (unmet locked is_locked))
+
+    verifies_passphrase : (clear : Bool) (key : Key) → IsRead whole (Ok (record key { is_clear = clear })) → HasNoEntry whole request
+        → ExplainsHere (VerifiesPassphrase rules kept.options grip (record key { is_clear = clear })) (λ opened. OpensRead whole opened.key)
+    verifies_passphrase true key is_read unmet = returned rules kept request whole (λ opened. OpensRead whole opened.key) _ (is_clear is_read refl)
+    verifies_passphrase false key is_read unmet =
+        bind rules kept request whole (IsReadLocked whole) (λ opened. OpensRead whole opened.key) (locks rules kept request whole (record key { is_clear = false }) is_read)
+        (λ locked is_locked. uncached_old grip locked is_locked kept.options.mode refl unmet)
+
+    -- ---- a new passphrase
+
+    client_new : kept.options.mode ≡ mode.Loopback → ExplainsHere ClientNew Anything
+    unfolding ClientNew
+    client_new loopback =
+        bind rules kept request whole (IsSent whole (codes "NEW_PASSPHRASE") MAX_SECRET_LEN) Anything (asks_client rules kept request whole (codes "NEW_PASSPHRASE") MAX_SECRET_LEN)
+        (λ pass sent. bind rules kept request whole (λ done. not (length pass == 0) ≡ true) Anything (is_wanted rules kept request whole code.BadPass (not (length pass == 0)) (λ none. empty loopback (subst (IsSent whole (codes "NEW_PASSPHRASE") MAX_SECRET_LEN) (is_empty pass none) sent)))
+        (λ some so. returned rules kept request whole Anything pass tt))
+      where
+        is_empty : (pass : List ℕ) → not (length pass == 0) ≡ false → pass ≡ []
+        is_empty pass none = nil_from_length pass (grind (arith, nat_tests, none))
+
+-- a request in each mode in which a client may want to be asked
+module _ (rules : Rules) (kept : Kept) (request : Request) (whole : List (Event FurtherEvent)) (grip : Grip) where
+  abbrev in_mode : PinMode → Kept
+  in_mode way = record kept { options = record kept.options { mode = way } }
+
+  new_passphrase : (way : PinMode) → HasNoEntry whole request → Explains rules (in_mode way) request whole (NewPassphrase rules (in_mode way).options grip) Anything
+  new_passphrase mode.Ask unmet =
+      bind rules (in_mode mode.Ask) request whole Anything Anything (takes_seat rules (in_mode mode.Ask) request whole grip) (λ seated any. prompts_new rules (in_mode mode.Ask) request whole grip)
+  new_passphrase mode.Cancel unmet = refused rules (in_mode mode.Cancel) request whole Anything (Agent code.Cancelled) (by_mode refl unmet)
+  new_passphrase mode.Error unmet = refused rules (in_mode mode.Error) request whole Anything (Agent code.NoPinentry) (inl (by_mode refl unmet))
+  new_passphrase mode.Loopback unmet = client_new rules (in_mode mode.Loopback) request whole grip refl
+
+  consents : (way : PinMode) (force : Bool) → on_keys request ≡ Some (on.DeleteKey grip force) → Explains rules (in_mode way) request whole (Consents rules (in_mode way).options force grip) Anything
+  consents way true asked = returned rules (in_mode way) request whole Anything tt tt
+  consents mode.Ask false asked =
+      bind rules (in_mode mode.Ask) request whole Anything Anything (seats rules (in_mode mode.Ask) request whole _ refl) (λ seated any. agrees rules (in_mode mode.Ask) request whole grip)
+  consents mode.Cancel false asked = refused rules (in_mode mode.Cancel) request whole Anything (Agent code.Cancelled) (by_mode refl (HasNoEntry.of_consent (deletion asked)))
+  consents mode.Error false asked = refused rules (in_mode mode.Error) request whole Anything (Agent code.NoPinentry) (inl (by_mode refl (HasNoEntry.of_consent (deletion asked))))
+  consents mode.Loopback false asked = refused rules (in_mode mode.Loopback) request whole Anything (Agent code.NoPinentry) (inl (IsUnprompted.of_consent (deletion asked) refl))
+
+-- ---- requests
+
+module _ (rules : Rules) (kept : Kept) (request : Request) (whole : List (Event FurtherEvent)) where
+  abbrev pub Replied : KeyReply → Type 0
+  Replied reply = IsReply reply.text
+
+  replied : (reply : KeyReply) → Replied reply → Explains rules kept request whole (Returns reply) Replied
+  replied reply text = returned rules kept request whole Replied reply text
+
+  have_key : (grips : List Grip) → on_keys request ≡ Some (on.HaveKey grips) → Explains rules kept request whole (HaveKeyReplies rules kept.options kept.wraps grips) Replied
+  unfolding HaveKeyReplies
+  have_key grips asked =
+      bind rules kept request whole Anything Replied (has_one rules kept request whole grips (λ each. subst (LacksKeys whole) (sym asked) each)) (λ one any. replied _ reply_ok)
+
+  key_info : (grip : Grip) → on_keys request ≡ Some (on.KeyInfo grip) → Explains rules kept request whole (KeyInfoReplies rules kept.options kept.wraps grip) Replied
+  unfolding KeyInfoReplies
+  key_info grip asked =
+      bind rules kept request whole (λ file. IsReadOf whole grip file.bytes × IsRead whole (Ok file.key)) Replied (reads_file rules kept request whole grip (λ absent. subst (LacksKeys whole) (sym asked) absent))
+      (λ file is_read. bind rules kept request whole IsStatus Replied (tells_info rules kept request whole grip file.key) (λ line status. replied _ (reply_status _ status)))
+
+  list_keys : Explains rules kept request whole (ListKeysReplies rules kept.options kept.wraps) Replied
+  unfolding ListKeysReplies
+  list_keys =
+      bind rules kept request whole Anything Replied (lists rules kept request whole)
+      (λ grips any. bind rules kept request whole Anything Replied (writes_infos rules kept request whole grips) (λ written any. replied _ reply_ok))
+
+  key_wrap : (way : Direction) → Explains rules kept request whole (KeyWrapReplies rules kept.options kept.wraps way) Replied
+  unfolding KeyWrapReplies
+  key_wrap way =
+      bind rules kept request whole Anything Replied (or_otherwise rules kept request whole Anything (wrap_key way kept.wraps) _ (λ some is. tt) (λ none. whatever rules kept request whole (IsDrawn whole 16) (draws rules kept request whole 16)))
+      (λ key any. bind rules kept request whole IsReply Replied (told rules kept request whole key) (λ text is_reply. replied _ is_reply))
+
+  export_key : (grip : Grip) (nonce : Option (List ℕ)) → on_keys request ≡ Some (on.ExportKey grip nonce)
+      → Explains rules kept request whole (ExportKeyReplies rules kept.options kept.wraps grip nonce) Replied
+  unfolding ExportKeyReplies
+  export_key grip id asked =
+      bind rules kept request whole Anything Replied (is_needed rules kept request whole Anything code.Parameter kept.wraps.export (λ none. no_export asked none) (λ some is. tt))
+      (λ wrap any. bind rules kept request whole (λ file. IsReadOf whole grip file.bytes × IsRead whole (Ok file.key)) Replied (reads_file rules kept request whole grip (λ absent. subst (LacksKeys whole) (sym asked) absent))
+      (λ file is_read. bind rules kept request whole (λ opened. OpensRead whole opened.key) Replied (old_passphrase rules kept request whole grip file.key.is_clear file.key id is_read.1 (λ locked is_locked by_nonce by_key. exported _ asked is_locked by_nonce by_key))
+      (λ opened opens. bind rules kept request whole Anything Replied (closes_so rules kept request whole opened.by)
+      (λ closed any. bind rules kept request whole Anything Replied (wraps_key rules kept request whole wrap opened.key)
+      (λ wrapped any. bind rules kept request whole IsReply Replied (told rules kept request whole wrapped) (λ text is_reply. replied _ is_reply))))))
+
+  verify : (grip : Grip) {old new : Option (List ℕ)} → on_keys request ≡ Some (on.Passwd grip old new true)
+      → Explains rules kept request whole (VerifyReplies rules kept.options kept.wraps grip) Replied
+  unfolding VerifyReplies
+  verify grip asked =
+      bind rules kept request whole (λ file. IsReadOf whole grip file.bytes × IsRead whole (Ok file.key)) Replied (reads_file rules kept request whole grip (λ absent. subst (LacksKeys whole) (sym asked) absent))
+      (λ file is_read. bind rules kept request whole (λ opened. OpensRead whole opened.key) Replied (verifies_passphrase rules kept request whole grip file.key.is_clear file.key is_read.1 (verified asked))
+      (λ opened opens. bind rules kept request whole Anything Replied (closes_so rules kept request whole opened.by) (λ closed any. replied _ reply_ok)))
+
+  delete_key : (grip : Grip) (force : Bool) → on_keys request ≡ Some (on.DeleteKey grip force) → Explains rules kept request whole (DeleteKeyReplies rules kept.options kept.wraps force grip) Replied
+  unfolding DeleteKeyReplies
+  delete_key grip force asked =
+      bind rules kept request whole (IsFound rules kept request whole grip) Replied (finds rules kept request whole grip)
+      (λ found so. bind rules kept request whole (λ done. found ≡ true) Replied (is_wanted rules kept request whole code.NoSecKey found (λ none. lacks found none so))
+      (λ some any. bind rules kept request whole Anything Replied (consents rules kept request whole grip kept.options.mode force asked)
+      (λ agreed any. bind rules kept request whole Anything Replied (removes rules kept request whole grip (λ absent. subst (LacksKeys whole) (sym asked) (inr absent)))
+      (λ removed any. bind rules kept request whole Anything Replied (changes rules kept request whole _ refl) (λ cleared any. replied _ reply_ok)))))
+    where
+      lacks : (found : Bool) → found ≡ false → IsFound rules kept request whole grip found → LacksKeys whole (on_keys request)
+      lacks true none so = absurd (cc none)
+      lacks false none so = subst (LacksKeys whole) (sym asked) (inl so)
+
+  found_or_new : (grip : Grip) (force : Bool) (nonce : Option (List ℕ)) → on_keys request ≡ Some (on.ImportKey force nonce)
+      → Explains rules kept request whole (FoundOrNew rules kept.options nonce grip) Anything
+  found_or_new grip force id asked =
+      bind rules kept request whole (Overlooked rules kept request whole id) Anything (looks_over rules kept request whole id)
+      (λ found so. or_otherwise rules kept request whole Anything found _ (λ some is. tt)
+      (λ none. new_passphrase rules kept request whole grip kept.options.mode (imported asked (subst (Overlooked rules kept request whole id) none so))))
+
+  -- PASSWD of a key
+  module _ (grip : Grip) {old new : Option (List ℕ)} (asked : on_keys request ≡ Some (on.Passwd grip old new false)) where
+    renews : Explains rules kept request whole (RenewsPassphrase rules kept.options grip new) Anything
+    renews =
+        bind rules kept request whole (FoundByNonce rules kept request whole new) Anything (looks_for_nonce rules kept request whole new)
+        (λ found by. or_otherwise rules kept request whole Anything found _ (λ some is. tt)
+        (λ none. new_passphrase rules kept request whole grip kept.options.mode (renewed asked (nonce_none rules kept request whole new (subst (FoundByNonce rules kept request whole new) none by)))))
+
+    module _ (key : Key) (opens : OpensRead whole key) where
+      is_short_of : (before : Option ℕ) (events : List (Event FurtherEvent)) (result : Result (Unit {0}) Refusal) (after : Option ℕ) → IsShort key before events result after → StandIn events whole
+          → Comes rules kept request whole Anything events result
+      is_short_of before events result after (parts.short few) stands = record { silent = tt; explained = tt }
+      is_short_of before events result after (parts.long many) stands = record { silent = tt; explained = long asked opens many }
+      is_short_of before events result after parts.no_memory stands = record { silent = (tt, tt); explained = out_of_memory_first rules kept request whole stands }
+
+      is_short : Explains rules kept request whole (IsShort key) Anything
+      is_short = record { of = is_short_of }
+
+      module _ (file : List ℕ) (is_read : IsReadOf whole grip file) (pass : List ℕ) where
+        module _ (list : List ℕ) (is_list : IsListOf whole key pass kept.options.s2k_count list) where
+          rewrites_of : (before : Option ℕ) (events : List (Event FurtherEvent)) (result : Result (List ℕ) Refusal) (after : Option ℕ) → Rewrites file list before events result after
+              → StandIn events whole → Comes rules kept request whole Anything events result
+          rewrites_of before events result after (files.canonical_file is) stands = record { silent = tt; explained = tt }
+          rewrites_of before events result after (files.extended_file other with_list few) stands = record { silent = tt; explained = tt }
+          rewrites_of before events result after (files.too_long new_file other with_list many) stands =
+              record { silent = tt; explained = long_file pass asked is_read other opens is_list with_list many }
+          rewrites_of before events result after files.no_memory stands = record { silent = (tt, tt); explained = out_of_memory_first rules kept request whole stands }
+
+          rewrites : Explains rules kept request whole (Rewrites file list) Anything
+          rewrites = record { of = rewrites_of }
+
+  -- ---- key files that are replaced
+
+  module _ (never_absent : (grip : Grip) (file : List ℕ) → Has (Further (Keys (Replaced grip file key_done.Absent))) whole → ⊥) where
+    stores_key : (count : ℕ) (key : Key) (grip : Grip) (pass : List ℕ) → Explains rules kept request whole (StoresKey count key grip pass) Anything
+    stores_key count key grip pass =
+        bind rules kept request whole (IsDrawn whole 32) Anything (draws rules kept request whole 32)
+        (λ drawn is_drawn. bind rules kept request whole (IsProtected rules kept request whole key pass (take 8 drawn) (take 12 (drop 8 drawn)) count) Anything
+        (protects rules kept request whole key pass (take 8 drawn) (take 12 (drop 8 drawn)) count)
+        (λ file is_protected. bind rules kept request whole Anything Anything (changes rules kept request whole _ refl)
+        (λ cached any. bind rules kept request whole Anything Anything (replaces rules kept request whole never_absent grip file)
+        (λ replaced any. bind rules kept request whole Anything Anything (keeps_new rules kept request whole grip pass)
+        (λ kept_so any. returned rules kept request whole Anything (drop 20 drawn) tt)))))
+
+    import_key : (force : Bool) (nonce : Option (List ℕ)) → on_keys request ≡ Some (on.ImportKey force nonce)
+        → Explains rules kept request whole (ImportKeyReplies rules kept.options kept.wraps force nonce) Replied
+    unfolding ImportKeyReplies
+    import_key force id asked =
+        bind rules kept request whole (λ wrap. kept.wraps.import ≡ Some wrap) Replied (is_needed rules kept request whole (λ wrap. kept.wraps.import ≡ Some wrap) code.Parameter kept.wraps.import (λ none. no_import asked none) (λ some is. is))
+        (λ wrap drawn. bind rules kept request whole Anything Replied (receives_key rules kept request whole wrap drawn)
+        (λ key any. bind rules kept request whole Anything Replied (names_key rules kept request whole key)
+        (λ grip any. bind rules kept request whole Anything Replied (is_free rules kept request whole force grip asked)
+        (λ free any. bind rules kept request whole Anything Replied (found_or_new grip force id asked)
+        (λ pass any. bind rules kept request whole Anything Replied (stores_key kept.options.s2k_count key grip pass)
+        (λ cache_nonce any. replied _ (reply_nonce _)))))))
+
+    module _ (grip : Grip) {old new : Option (List ℕ)} (asked : on_keys request ≡ Some (on.Passwd grip old new false)) (file : List ℕ) (is_read : IsReadOf whole grip file) (key : Key)
+        (opens : OpensRead whole key) where
+      rewrites_file : (pass : List ℕ) → Explains rules kept request whole (RewritesFile rules kept.options grip file key pass) Anything
+      unfolding RewritesFile
+      rewrites_file pass =
+          bind rules kept request whole (IsDrawn whole 20) Anything (draws rules kept request whole 20)
+          (λ drawn is_drawn. bind rules kept request whole (IsProtected rules kept request whole key pass (take 8 drawn) (drop 8 drawn) kept.options.s2k_count) Anything
+          (protects rules kept request whole key pass (take 8 drawn) (drop 8 drawn) kept.options.s2k_count)
+          (λ list is_protected. bind rules kept request whole Anything Anything (rewrites grip asked key opens file is_read pass list (protected is_drawn is_protected))
+          (λ new_file any. bind rules kept request whole Anything Anything (replaces rules kept request whole never_absent grip new_file)
+          (λ replaced any. keeps_new rules kept request whole grip pass))))
+
+      changes_opened : Explains rules kept request whole (ChangesOpened rules kept.options grip new file key) Anything
+      changes_opened =
+          bind rules kept request whole Anything Anything (is_short grip asked key opens)
+          (λ short any. bind rules kept request whole Anything Anything (renews grip asked) (λ pass any. rewrites_file pass))
+
+    passwd : (grip : Grip) (nonce new_nonce : Option (List ℕ)) → on_keys request ≡ Some (on.Passwd grip nonce new_nonce false)
+        → Explains rules kept request whole (PasswdReplies rules kept.options kept.wraps grip nonce new_nonce) Replied
+    unfolding PasswdReplies
+    passwd grip id new_id asked =
+        bind rules kept request whole (λ file. IsReadOf whole grip file.bytes × IsRead whole (Ok file.key)) Replied (reads_file rules kept request whole grip (λ absent. subst (LacksKeys whole) (sym asked) absent))
+        (λ file is_read. bind rules kept request whole (λ opened. OpensRead whole opened.key) Replied (old_passphrase rules kept request whole grip file.key.is_clear file.key id is_read.1 (λ locked is_locked by_nonce by_key. changed _ asked is_locked by_nonce by_key))
+        (λ opened opens. bind rules kept request whole Anything Replied (changes_opened grip asked file.bytes is_read.0 opened.key opens) (λ changed_so any. replied _ reply_ok)))
+
+    -- a request on keys, whose line may be refused
+    module _ (line_caused : (why : Code) → IsRefusedBy request why → IsCaused whole rules kept request why OfAgent) where
+      pub replies : (asked : KeyRequest) → on_keys request ≡ Some asked → Explains rules kept request whole (Replies rules kept.options kept.wraps asked) Replied
+      replies (on.HaveKey grips) is = have_key grips is
+      replies (on.KeyInfo grip) is = key_info grip is
+      replies on.ListKeys is = list_keys
+      replies (on.KeyWrap way) is = key_wrap way
+      replies (on.ImportKey force id) is = import_key force id is
+      replies (on.ExportKey grip id) is = export_key grip id is
+      replies (on.Passwd grip old new true) is = verify grip is
+      replies (on.Passwd grip old new false) is = passwd grip old new is
+      replies (on.DeleteKey grip force) is = delete_key grip force is
+      replies (on.Bad why) is = refused rules kept request whole Replied (Agent why) (line_caused why (inr is))

@@ -1,0 +1,37 @@
+-- A request none of whose errors has a cause is answered by OK.
+use Rattle.std.proofs.Common.{ℕ, List, sym, subst}
+use Rattle.agent_ask.specs.Further.{FurtherEvent}
+use Rattle.agent_ask.specs.SessionEvents.{Sent}
+use Rattle.assuan_server.specs.declared.errors.Code.{Code}
+use Rattle.assuan_server.specs.declared.errors.Origin.{Origin}
+use Rattle.session_options.specs.declared.rules.Rules.{Rules}
+use Rattle.agent_commands.specs.Events.{Event}
+use Rattle.agent_commands.specs.declared.went.SessionEnd.TheVariants.{Bye, Killed, Ended, TooLong, Spent, ReadFault, WriteFault}
+use Rattle.agent_commands.specs.declared.went.Went.{Went}
+use Rattle.agent_commands.specs.declared.went.Went.TheVariants.{On, End}
+use Rattle.agent_session.specs.Causes.{Has, here}
+use Rattle.agent_session.specs.Completeness.{AnswersAtLast, IsAnswer, done, error, IsAnsweredBy, HasError, CausedExchange, IsUncaused, HasOk, IsAnsweredOk}
+use Rattle.agent_session.specs.declared.kept.Kept.{Kept}
+use Rattle.agent_session.proofs.Standing.{has_right}
+
+module _ (events : List (Event FurtherEvent)) (never : (why : Code) (origin : Origin) → HasError why origin events → ⊥) where
+  ok_text : (text : List ℕ) → IsAnswer text → Has (Sent text) events → HasOk events
+  ok_text text (done ends) has = (text, has, ends)
+  ok_text text (error why origin is) has = absurd (never why origin (subst (λ (t : List ℕ). Has (Sent t) events) is has))
+
+  ok_at_last : AnswersAtLast events → HasOk events
+  ok_at_last answers = ok_text answers.text answers.answer (subst (λ e. Has (Sent answers.text) e) (sym answers.is) (has_right answers.before here))
+
+  ok_by : (went : Went) → IsAnsweredBy went events → IsAnsweredOk went events
+  ok_by On answers = ok_at_last answers
+  ok_by (End Bye) answers = ok_at_last answers
+  ok_by (End Killed) answers = ok_at_last answers
+  ok_by (End TooLong) answers = ok_at_last answers
+  ok_by (End Ended) answers = tt
+  ok_by (End Spent) answers = tt
+  ok_by (End ReadFault) answers = tt
+  ok_by (End WriteFault) answers = tt
+
+pub uncaused_ok : {rules : Rules} {before : Kept} {line : List ℕ} {events : List (Event FurtherEvent)} {after : Kept} {went : Went} → CausedExchange rules before line events after went
+    → IsUncaused rules before line events → IsAnsweredOk went events
+uncaused_ok {events} {went} caused never = ok_by events (λ why origin has. never why origin (caused.caused why origin has)) went caused.answered

@@ -1,0 +1,345 @@
+-- Why a request is answered by an error line: what must have happened in its exchange, for each code. The codes and their causes are this project's
+-- own.
+use Rattle.std.specs.List.{AllByRecursion}
+use Rattle.std.specs.Prelude.{◌≡◌, ◌<◌, ◌⊎◌, ◌++◌, ℕ, Bool, true, false, List, [], ◌∷◌, length, take, drop, codes, Option, Some, None, Result, Ok, Err, ⊤}
+use Rattle.arrayvec.specs.ArrayVec.{ArrayVec}
+use Rattle.agent_ask.specs.Events.{Call, GetPin, Confirm, Start, Called, OutOfMemory, PromptEvent}
+use Rattle.agent_ask.specs.Further.{FurtherEvent, KeyCall, Read, Listed, Replaced, Removed, Drew, NotDrawn, Prompt, Keys, Dice, NoMemory}
+use Rattle.agent_ask.specs.Prompters.{is_failed}
+use Rattle.agent_ask.specs.Prompts.{AsksPin}
+use Rattle.agent_ask.specs.SessionEvents.{Inquiry, CacheTurn, Further, cache_turn}
+use Rattle.agent_ask.specs.UnderTickets.{AnyInSession}
+use Rattle.agent_ask.specs.declared.ask.Asked.TheVariants as asked
+use Rattle.agent_ask.specs.declared.prompter.Consent.TheVariants as consent
+use Rattle.agent_ask.specs.declared.prompter.Opened.TheVariants as opened
+use Rattle.agent_ask.specs.declared.prompter.Outcome.TheVariants as outcome
+use Rattle.agent_ask.specs.declared.spec.AskPlan.{AskPlan}
+use Rattle.agent_ask.specs.declared.spec.PromptSpec.{PromptSpec}
+use Rattle.agent_ports.specs.declared.grip.Grip.{Grip}
+use Rattle.agent_ports.specs.declared.keys.KeyDone.TheVariants as key_done
+use Rattle.agent_ports.specs.declared.keys.KeyNames.TheVariants as key_names
+use Rattle.agent_ports.specs.declared.keys.KeyRead.{KeyRead}
+use Rattle.agent_ports.specs.declared.keys.KeyRead.TheVariants as key_read
+use Rattle.assuan_server.specs.Clients.{session_lines}
+use Rattle.assuan_server.specs.declared.errors.Code.{Code}
+use Rattle.assuan_server.specs.declared.errors.Code.TheVariants as code
+use Rattle.assuan_server.specs.declared.errors.Origin.{Origin}
+use Rattle.assuan_server.specs.declared.errors.Origin.TheVariants.{Agent, Pinentry}
+use Rattle.cache_policy.specs.Turns.{Turn, Given, Empty, Stopping, Late, Refused, closes}
+use Rattle.cache_policy.specs.declared.grant.Grant.{Grant}
+use Rattle.cache_policy.specs.declared.mark.MarkStep.{MarkStep}
+use Rattle.cache_policy.specs.declared.mark.Way.{Way}
+use Rattle.cache_policy.specs.declared.secret.TheConstants.{MAX_SECRET_LEN}
+use Rattle.secret_file.specs.Answers.{IsLockedFault}
+use Rattle.key_lines.specs.Canon.{is_canonical}
+use Rattle.secret_file.specs.Opens.{LockedKey, IsLocked, OpensTo}
+use Rattle.secret_file.specs.Protects.{ocb_protection, protected_file}
+use Rattle.session_client.specs.Asking.{said_by}
+use Rattle.session_client.specs.declared.unheard.Gone.TheVariants as gone
+use Rattle.session_client.specs.declared.unheard.Unheard.{Unheard}
+use Rattle.session_client.specs.declared.unheard.Unheard.TheVariants as unheard
+use Rattle.session_options.specs.OptionValues.{applied}
+use Rattle.session_options.specs.declared.options.OptionAnswer.{OptionAnswer}
+use Rattle.session_options.specs.declared.options.OptionAnswer.TheVariants as option_answer
+use Rattle.session_options.specs.declared.options.PinMode.TheVariants as mode
+use Rattle.session_options.specs.declared.rules.Rules.{Rules}
+use Rattle.sexp_canonical.specs.Spelling.{most_bytes}
+use Rattle.sexp_keys.specs.Key.{Key}
+use Rattle.sexp_keys.specs.Lists.{key_list_of}
+use Rattle.sexp_keys.specs.declared.fault.KeyFault.{KeyFault}
+use Rattle.agent_commands.specs.Events.{Event, Inquired}
+use Rattle.agent_commands.specs.Exchanges.{ask, is_quiet}
+use Rattle.agent_commands.specs.Requests.{GetFields, get_passphrase}
+use Rattle.agent_commands.specs.declared.request.CacheCommand.TheVariants.{SetOption, PresetPassphrase, GetConfirmation}
+use Rattle.agent_commands.specs.declared.request.Request.{Request}
+use Rattle.agent_commands.specs.declared.request.Request.TheVariants.{Cache, Key as OnKeys, Bad}
+use Rattle.key_commands.specs.Faults.{fault_code}
+use Rattle.key_commands.specs.Files.{FileSays, IsWithList}
+use Rattle.key_commands.specs.KeyParts.{file_in, max_key_data}
+use Rattle.key_commands.specs.Passphrases.{OpensBy, ask_nonce, ask_key}
+use Rattle.key_commands.specs.Requests.{key_request_of}
+use Rattle.key_commands.specs.Wrapping.{WrappedSays}
+use Rattle.key_commands.specs.declared.request.KeyRequest.{KeyRequest}
+use Rattle.key_commands.specs.declared.request.KeyRequest.TheVariants as on
+use Rattle.key_commands.specs.declared.wrapping.TheConstants.{MAX_LIST_LEN}
+use Rattle.agent_session.specs.declared.kept.Kept.{Kept}
+
+-- ---- events among others
+
+-- it is among these
+pub data Has {E : Type 0} (event : E) : List E → Type 0 where
+  here : {more : List E} → Has event (event ∷ more)
+  later : {first : E} {more : List E} → Has event more → Has event (first ∷ more)
+
+-- they stand among those, one after another
+pub record StandIn {E : Type 0} (part whole : List E) : Type 0 where
+  pub before : List E
+  pub after : List E
+  pub is : whole ≡ before ++ (part ++ after)
+
+-- ---- what single events say
+
+-- a call of the keys found no memory, or failed
+abbrev pub WantsMemoryAtKeys : KeyCall → Type 0
+WantsMemoryAtKeys (Read grip key_read.NoMemory) = ⊤
+WantsMemoryAtKeys (Listed key_names.NoMemory) = ⊤
+WantsMemoryAtKeys (Replaced grip file key_done.NoMemory) = ⊤
+WantsMemoryAtKeys (Removed grip key_done.NoMemory) = ⊤
+WantsMemoryAtKeys _ = ⊥
+
+abbrev pub FailsAtKeys : KeyCall → Type 0
+FailsAtKeys (Read grip key_read.Failed) = ⊤
+FailsAtKeys (Listed key_names.Failed) = ⊤
+FailsAtKeys (Replaced grip file key_done.Failed) = ⊤
+FailsAtKeys (Removed grip key_done.Failed) = ⊤
+FailsAtKeys _ = ⊥
+
+-- an event that is a want of memory: a turn that was refused, a test of a passphrase, a call of the keys, or work of the command's own
+abbrev pub WantsMemory : Event FurtherEvent → Type 0
+WantsMemory (CacheTurn taken) = taken.turn ≡ Refused
+WantsMemory (Further NoMemory) = ⊤
+WantsMemory (Further (Prompt OutOfMemory)) = ⊤
+WantsMemory (Further (Keys call)) = WantsMemoryAtKeys call
+WantsMemory _ = ⊥
+
+-- a call of the keys that failed, or a draw
+abbrev pub FailsAtKeysOrDice : Event FurtherEvent → Type 0
+FailsAtKeysOrDice (Further (Keys call)) = FailsAtKeys call
+FailsAtKeysOrDice (Further (Dice (NotDrawn count))) = ⊤
+FailsAtKeysOrDice _ = ⊥
+
+-- what the prompter answered to a question: the user cancelled it, didn't answer in time, or didn't agree; or the child broke the protocol
+abbrev pub is_cancelled : Call → Bool
+is_cancelled (GetPin error outcome.Cancelled) = true
+is_cancelled (Confirm consent.Cancelled) = true
+is_cancelled _ = false
+
+abbrev pub is_timed_out : Call → Bool
+is_timed_out (GetPin error outcome.TimedOut) = true
+is_timed_out (Confirm consent.TimedOut) = true
+is_timed_out _ = false
+
+abbrev pub is_disagreed : Call → Bool
+is_disagreed (Confirm consent.No) = true
+is_disagreed _ = false
+
+abbrev pub is_broken : Call → Bool
+is_broken (Start spec (opened.Broken breach)) = true
+is_broken (GetPin error (outcome.Broken breach)) = true
+is_broken (Confirm (consent.Broken breach)) = true
+is_broken _ = false
+
+-- a turn by which no entry was given
+abbrev pub IsNoGrant : Turn → Type 0
+IsNoGrant (Given grant) = ⊥
+IsNoGrant _ = ⊤
+
+-- ---- what a request asks for
+
+-- what it asks of the keys, where it does
+abbrev pub on_keys : Request → Option KeyRequest
+on_keys (OnKeys line) = Some (key_request_of line.items)
+on_keys _ = None
+
+-- its line is refused by this code, as a request or as one on keys
+abbrev pub IsRefusedBy : Request → Code → Type 0
+IsRefusedBy request why = (request ≡ Bad why) ⊎ (on_keys request ≡ Some (on.Bad why))
+
+-- it asks the user for consent
+pub data AsksForConsent (request : Request) : Type 0 where
+  confirmation : {description : ArrayVec ℕ} → request ≡ Cache (GetConfirmation description) → AsksForConsent request
+  deletion : {grip : Grip} → on_keys request ≡ Some (on.DeleteKey grip false) → AsksForConsent request
+
+module _ (events : List (Event FurtherEvent)) where
+  -- ---- what happened in an exchange with these events
+
+  -- some event is so
+  pub data HasOne (Is : Event FurtherEvent → Type 0) : Type 0 where
+    one : (event : Event FurtherEvent) → Is event → Has event events → HasOne Is
+
+  -- a call of the prompter was answered so
+  pub data HasCall (is : Call → Bool) : Type 0 where
+    called : (call : Call) → is call ≡ true → Has (Further (Prompt (Called call))) events → HasCall is
+
+  -- a turn came out so, but one that gives a ticket back
+  pub data HasTurn (turn : Turn) : Type 0 where
+    turned : (step : MarkStep) → closes step ≡ None → Has (cache_turn step turn) events → HasTurn turn
+
+  -- the cache was asked so, and gave no entry
+  pub data GivesNone (step : MarkStep) : Type 0 where
+    none_given : (turn : Turn) → IsNoGrant turn → Has (cache_turn step turn) events → GivesNone step
+
+  -- or none whose passphrase opens this key
+  pub data GivesNoneFor (locked : LockedKey) (step : MarkStep) : Type 0 where
+    none_at_all : GivesNone step → GivesNoneFor locked step
+    wrong : {grant : Grant} → Has (cache_turn step (Given grant)) events → ¬ OpensBy locked grant.entry.secret → GivesNoneFor locked step
+
+  -- the same of a question for what is cached under a nonce, where there is one
+  abbrev pub ByNonce : (MarkStep → Type 0) → Option (List ℕ) → Type 0
+  ByNonce IsSo None = ⊤
+  ByNonce IsSo (Some nonce) = IsSo (ask_nonce nonce)
+
+  -- the client said this in place of what an inquiry wanted
+  pub data IsSaid (why : Unheard) : Type 0 where
+    said : {word params : List ℕ} {limit : ℕ} {inquired : Inquired} → said_by session_lines inquired ≡ Err why → Has (Inquiry word params limit inquired) events → IsSaid why
+
+  -- the client gave these bytes, by an inquiry with this word
+  pub data IsSent (word : List ℕ) (limit : ℕ) (bytes : List ℕ) : Type 0 where
+    sent : {inquired : Inquired} → said_by session_lines inquired ≡ Ok bytes → Has (Inquiry word [] limit inquired) events → IsSent word limit bytes
+
+  -- a file was read that says this
+  pub data IsRead (says : Result Key KeyFault) : Type 0 where
+    read : {grip : Grip} {answer : KeyRead} {file : List ℕ} → file_in answer ≡ Some file → FileSays file says → Has (Further (Keys (Read grip answer))) events → IsRead says
+
+  -- the file of this key was read, and has these bytes
+  pub data IsReadOf (grip : Grip) (file : List ℕ) : Type 0 where
+    read_of : {answer : KeyRead} → file_in answer ≡ Some file → Has (Further (Keys (Read grip answer))) events → IsReadOf grip file
+
+  -- so many random bytes were drawn
+  pub record IsDrawn (count : ℕ) (bytes : List ℕ) : Type 0 where
+    pub long : length bytes ≡ count
+    pub has : Has (Further (Dice (Drew bytes))) events
+
+  -- the list of a clear key once it is protected by this passphrase: with a salt of 8 bytes that were drawn, and an initialization vector of 12
+  pub data IsListOf (key : Key) (pass : List ℕ) (count : ℕ) (list : List ℕ) : Type 0 where
+    protected : {drawn : List ℕ} → IsDrawn 20 drawn → list ≡ protected_file key (ocb_protection key pass (take 8 drawn) (drop 8 drawn) count None) None → IsListOf key pass count list
+
+  -- a key is locked so whose file was read
+  pub record IsReadLocked (locked : LockedKey) : Type 0 where
+    pub key : IsRead (Ok locked.key)
+    pub protection : IsLocked locked
+
+  -- a key was read that is clear, or that opens to this one
+  pub data OpensRead (key : Key) : Type 0 where
+    is_clear : IsRead (Ok key) → key.is_clear ≡ true → OpensRead key
+    opens : {locked : LockedKey} {pass : List ℕ} → IsReadLocked locked → OpensTo locked pass key → OpensRead key
+
+  -- no entry that is of use to the request was given: for its passphrase; for the old one of a key, or a new one; and consent is in no cache
+  pub data HasNoEntry (request : Request) : Type 0 where
+    without_id : (fields : GetFields) → request ≡ Cache (get_passphrase fields) → fields.id ≡ None → HasNoEntry request
+    passphrase : (fields : GetFields) (id : List ℕ) → request ≡ Cache (get_passphrase fields) → fields.id ≡ Some id → GivesNone (ask id) → HasNoEntry request
+    exported : {grip : Grip} {id : Option (List ℕ)} {locked : LockedKey} (way : Way) → on_keys request ≡ Some (on.ExportKey grip id) → IsReadLocked locked → ByNonce (GivesNoneFor locked) id
+        → GivesNoneFor locked (ask_key grip way) → HasNoEntry request
+    changed : {grip : Grip} {id new : Option (List ℕ)} {locked : LockedKey} (way : Way) → on_keys request ≡ Some (on.Passwd grip id new false) → IsReadLocked locked
+        → ByNonce (GivesNoneFor locked) id → GivesNoneFor locked (ask_key grip way) → HasNoEntry request
+    -- whatever is cached
+    verified : {grip : Grip} {old new : Option (List ℕ)} → on_keys request ≡ Some (on.Passwd grip old new true) → HasNoEntry request
+    imported : {force : Bool} {id : Option (List ℕ)} → on_keys request ≡ Some (on.ImportKey force id) → ByNonce GivesNone id → HasNoEntry request
+    renewed : {grip : Grip} {old id : Option (List ℕ)} → on_keys request ≡ Some (on.Passwd grip old id false) → ByNonce GivesNone id → HasNoEntry request
+    of_consent : AsksForConsent request → HasNoEntry request
+
+  -- a read, or a removal, said that no key of this grip is there
+  abbrev pub IsUnread : Grip → Type 0
+  IsUnread grip = Has (Further (Keys (Read grip key_read.Absent))) events
+
+  abbrev pub IsUnremoved : Grip → Type 0
+  IsUnremoved grip = Has (Further (Keys (Removed grip key_done.Absent))) events
+
+  -- of the keys that a request names none is there
+  abbrev pub LacksKeys : Option KeyRequest → Type 0
+  LacksKeys (Some (on.HaveKey grips)) = AllByRecursion IsUnread grips
+  LacksKeys (Some (on.KeyInfo grip)) = IsUnread grip
+  LacksKeys (Some (on.ExportKey grip id)) = IsUnread grip
+  LacksKeys (Some (on.Passwd grip old new verify)) = IsUnread grip
+  LacksKeys (Some (on.DeleteKey grip force)) = IsUnread grip ⊎ IsUnremoved grip
+  LacksKeys _ = ⊥
+
+  -- a prompt came to three tries that failed, at which every passphrase was right, or one that opens a key
+  pub data IsBadPrompt : Type 0 where
+    any : {spec : PromptSpec} {plan : AskPlan} {prompt : List PromptEvent} {shown : List (Event FurtherEvent)} → AsksPin spec plan (λ pin. ⊤) prompt asked.Bad
+        → AnyInSession session_lines prompt shown → StandIn shown events → IsBadPrompt
+    opening : {locked : LockedKey} {spec : PromptSpec} {plan : AskPlan} {prompt : List PromptEvent} {shown : List (Event FurtherEvent)} → IsReadLocked locked
+        → AsksPin spec plan (OpensBy locked) prompt asked.Bad → AnyInSession session_lines prompt shown → StandIn shown events → IsBadPrompt
+
+  module _ (rules : Rules) (kept : Kept) (request : Request) where
+    -- ---- the causes of each code
+
+    -- OPTION was answered so
+    pub data IsOption (answer : OptionAnswer) : Type 0 where
+      option : {text : ArrayVec ℕ} → request ≡ Cache (SetOption text) → (applied kept.options text.items).answer ≡ answer → IsOption answer
+
+    -- the bytes that the client sent for a key say this, under the wrapping key
+    pub data KeyDataSays (says : Result Key Code) : Type 0 where
+      data_says : {wrap wrapped : List ℕ} → kept.wraps.import ≡ Some wrap → IsSent (codes "KEYDATA") max_key_data wrapped → WrappedSays wrap wrapped says → KeyDataSays says
+
+    -- a file that was read has a fault, or its protection has, or the bytes that the client sent for a key
+    pub data IsFaulty (why : Code) : Type 0 where
+      file : {fault : KeyFault} → IsRead (Err fault) → fault_code fault ≡ why → IsFaulty why
+      protection : {key : Key} {fault : KeyFault} → IsRead (Ok key) → IsLockedFault key fault → fault_code fault ≡ why → IsFaulty why
+      key_data : KeyDataSays (Err why) → IsFaulty why
+
+    -- the request is for the cache alone, which has nothing under the id, or there is no id
+    pub data HasNoData : Type 0 where
+      no_id : (fields : GetFields) → request ≡ Cache (get_passphrase fields) → is_quiet fields.no_ask fields.texts ≡ true → fields.id ≡ None → HasNoData
+      empty : (fields : GetFields) (id : List ℕ) → request ≡ Cache (get_passphrase fields) → is_quiet fields.no_ask fields.texts ≡ true → fields.id ≡ Some id
+          → Has (cache_turn (ask id) Empty) events → HasNoData
+
+    -- the client wants no prompt, and no entry is of use; the client cancelled its inquiry; or the agent ends
+    pub data IsCancelled : Type 0 where
+      by_mode : kept.options.mode ≡ mode.Cancel → HasNoEntry request → IsCancelled
+      by_client : IsSaid unheard.Cancelled → IsCancelled
+      by_stop : HasTurn Stopping → IsCancelled
+
+    -- the client wants no prompt, and no entry is of use; or it wants none for consent
+    pub data IsUnprompted : Type 0 where
+      by_mode : kept.options.mode ≡ mode.Error → HasNoEntry request → IsUnprompted
+      of_consent : AsksForConsent request → kept.options.mode ≡ mode.Loopback → IsUnprompted
+
+    -- no passphrase was right: at a prompt; or the client was to give one by itself, and its own doesn't open the key, or is an empty new one
+    pub data HasBadPassphrase : Type 0 where
+      at_prompt : IsBadPrompt → HasBadPassphrase
+      stays : {locked : LockedKey} {pass : List ℕ} → kept.options.mode ≡ mode.Loopback → IsReadLocked locked → IsSent (codes "PASSPHRASE") MAX_SECRET_LEN pass → ¬ OpensBy locked pass → HasBadPassphrase
+      empty : kept.options.mode ≡ mode.Loopback → IsSent (codes "NEW_PASSPHRASE") MAX_SECRET_LEN [] → HasBadPassphrase
+
+    -- the line is out of form, or an option's value, or no wrapping key was drawn
+    pub data IsMalformed : Type 0 where
+      line : IsRefusedBy request code.Parameter → IsMalformed
+      option : IsOption option_answer.Parameter → IsMalformed
+      no_import : {force : Bool} {nonce : Option (List ℕ)} → on_keys request ≡ Some (on.ImportKey force nonce) → kept.wraps.import ≡ None → IsMalformed
+      no_export : {grip : Grip} {nonce : Option (List ℕ)} → on_keys request ≡ Some (on.ExportKey grip nonce) → kept.wraps.export ≡ None → IsMalformed
+
+    -- the line asks for what the agent doesn't have, or the rules don't allow it, or it is about a key of a kind that the agent doesn't have
+    pub data IsUnsupported : Type 0 where
+      line : IsRefusedBy request code.NotSupported → IsUnsupported
+      option : IsOption option_answer.NotSupported → IsUnsupported
+      preset : {id : List ℕ} {life : _} {secret : Option (List ℕ)} → request ≡ Cache (PresetPassphrase id life secret) → rules.allow_preset ≡ false → IsUnsupported
+      key : IsFaulty code.NotSupported → IsUnsupported
+
+    -- a key that isn't one, or whose list is too long to be written again, or the new file with it, which is in the extended format
+    pub data IsBadKey : Type 0 where
+      faulty : IsFaulty code.BadSecKey → IsBadKey
+      long : {grip : Grip} {old new : Option (List ℕ)} {key : Key} → on_keys request ≡ Some (on.Passwd grip old new false) → OpensRead key
+          → MAX_LIST_LEN < length (key_list_of key) → IsBadKey
+      long_file : {grip : Grip} {old new : Option (List ℕ)} {file list changed : List ℕ} {key : Key} (pass : List ℕ) → on_keys request ≡ Some (on.Passwd grip old new false) → IsReadOf grip file
+          → is_canonical file ≡ false → OpensRead key → IsListOf key pass kept.options.s2k_count list → IsWithList file list changed → most_bytes < length changed → IsBadKey
+
+    -- a key's file is there, and isn't to be replaced
+    pub data IsThere : Type 0 where
+      there : {grip : Grip} {file : _} {nonce : Option (List ℕ)} → on_keys request ≡ Some (on.ImportKey false nonce) → Has (Further (Keys (Read grip (key_read.Found file)))) events
+          → IsThere
+
+    -- an error line with this code and origin has its cause in this exchange
+    abbrev pub IsCaused : Code → Origin → Type 0
+    IsCaused code.Cancelled Pinentry = HasCall is_cancelled
+    IsCaused code.Timeout Pinentry = HasCall is_timed_out
+    IsCaused code.NotConfirmed Pinentry = HasCall is_disagreed
+    IsCaused code.General Agent = HasOne FailsAtKeysOrDice
+    IsCaused code.NoMemory Agent = HasOne WantsMemory
+    IsCaused code.NoData Agent = HasNoData
+    IsCaused code.Cancelled Agent = IsCancelled
+    IsCaused code.Timeout Agent = HasTurn Late
+    IsCaused code.NoPinentry Agent = IsUnprompted ⊎ (HasCall is_failed ⊎ HasCall is_broken)
+    IsCaused code.BadPass Agent = HasBadPassphrase
+    IsCaused code.NoSecKey Agent = LacksKeys (on_keys request)
+    IsCaused code.FileExists Agent = IsThere
+    IsCaused code.Checksum Agent = KeyDataSays (Err code.Checksum)
+    IsCaused code.InvSexp Agent = IsFaulty code.InvSexp
+    IsCaused code.BadSecKey Agent = IsBadKey
+    IsCaused code.NotSupported Agent = IsUnsupported
+    IsCaused code.UnknownCommand Agent = IsRefusedBy request code.UnknownCommand
+    IsCaused code.UnknownOption Agent = IsOption option_answer.Unknown
+    IsCaused code.Parameter Agent = IsMalformed
+    IsCaused code.TooMuch Agent = IsSaid unheard.TooMuch
+    IsCaused code.Unexpected Agent = IsSaid unheard.Unexpected
+    IsCaused code.LineTooLong Agent = IsSaid (unheard.Gone gone.TooLong)
+    IsCaused _ _ = ⊥
