@@ -1,0 +1,5 @@
+pub mod Doing
+pub mod Mapped
+mod Prompts
+mod Replying
+mod WorkedExamples
