@@ -7,8 +7,6 @@ use Rattle.agent_ask.proofs.Doing.{done_none, done_then, done_turned, done_furth
 use Rattle.agent_commands.specs.States.{EventsLead, ReaderAfter, FaultsRise}
 use Rattle.agent_commands.specs.declared.went.Went.{Went}
 use Rattle.agent_commands.specs.declared.went.Went.TheVariants.{On, End}
-use Rattle.agent_ports.specs.KeyFiles.{KeyFiles}
-use Rattle.agent_ports.specs.Sides.{Side}
 use Rattle.agent_ports.specs.TrustFiles.{TrustState}
 use Rattle.assuan_line.specs.Next.{Reader, held}
 use Rattle.assuan_server.specs.Connections.{Connection, IsOpen}
@@ -17,7 +15,7 @@ use Rattle.cache_policy.specs.declared.mark.MarkStep.TheVariants.{Close}
 use Rattle.cache_policy.specs.Turns.{Turn}
 use Rattle.key_commands.specs.Partial.{NoTurn}
 use Rattle.agent_origin.specs.OriginEvents.{Event, TrustCall, Session, Trust, called, out_of_memory}
-use Rattle.agent_origin.specs.Origins.{DoesTrust, OriginEnds, session, trust, origin_world, OriginState, origin_state}
+use Rattle.agent_origin.specs.Origins.{DoesTrust, OriginEnds, session, trust, origin_world, OriginState}
 use Rattle.agent_origin.specs.Parts.{Part, ◌>>=◌, goes_on, stops, UnderTicket, given_back}
 use Rattle.agent_origin.specs.States.{went_by, DoesPart, TrustLead, none, calls, wants_memory, DoesTrustCalls, DoesTurn}
 use Rattle.agent_origin.specs.declared.refusal.Refusal.{Refusal}

@@ -1,5 +1,6 @@
 pub mod Doing
 pub mod Mapped
+mod Trusting
 mod Prompts
 mod Replying
 mod WorkedExamples

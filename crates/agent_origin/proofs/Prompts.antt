@@ -1,5 +1,5 @@
 -- Prompts as parts of a request, and how they leave the connection.
-use Rattle.std.proofs.Common.{◌≡◌, ◌≤◌, ℕ, List, [], false, Option, Some, Result, Ok, Err, refl, subst}
+use Rattle.std.proofs.Common.{◌≡◌, ◌≤◌, ℕ, List, [], false, Some, Result, Ok, Err, refl, subst}
 use Rattle.std.specs.Option.{option_map}
 use Rattle.agent_ports.specs.Leads.{Leads}
 use Rattle.agent_ask.specs.Callers.{unheard_of, IsUnheardBy}
@@ -29,9 +29,9 @@ use Rattle.session_client.specs.declared.unheard.Unheard.TheVariants as unheard
 use Rattle.session_options.specs.OptionValues.{OptionValues}
 use Rattle.session_options.specs.declared.rules.Rules.{Rules}
 use Rattle.key_commands.specs.Partial.{NoTurn}
-use Rattle.agent_origin.specs.OriginEvents.{Event, Session, in_session}
+use Rattle.agent_origin.specs.OriginEvents.{Session, in_session}
 use Rattle.agent_origin.specs.Origins.{session, origin_world, OriginState, origin_state}
-use Rattle.agent_origin.specs.Parts.{Part, PromptsConsent, prompts, Agrees, consents, refused, text, refusal_went}
+use Rattle.agent_origin.specs.Parts.{Part, prompts, Agrees, consents, refused, text, refusal_went}
 use Rattle.agent_origin.specs.States.{went_by, DoesAtPrompter, IsAgreed, IsConsented}
 use Rattle.agent_origin.specs.declared.refusal.Refusal.{Refusal}
 use Rattle.agent_origin.specs.declared.refusal.Refusal.TheVariants.{Agent, Pinentry, Client}

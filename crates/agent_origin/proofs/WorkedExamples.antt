@@ -1,8 +1,8 @@
 -- The definitions on worked examples, each by computation.
-use Rattle.std.specs.Prelude.{◌≡◌, ℕ, List, [], ◌∷◌, ◌++◌, replicate, codes, true, false, Some, None, refl}
+use Rattle.std.specs.Prelude.{◌≡◌, ◌++◌, replicate, codes, true, false, refl}
 use Rattle.hex.proofs.OnLiterals.{hex_on_literals}
 use Rattle.percent_encoding.proofs.OnLiterals.{percent_encoding_on_literals}
-use Rattle.agent_commands.specs.Names.{command_named as cache_command_named, is_key_command}
+use Rattle.agent_commands.specs.Names.{command_named as cache_command_named}
 use Rattle.agent_commands.specs.Requests.{request_of}
 use Rattle.agent_ports.specs.declared.grip.Grip.{Grip}
 use Rattle.assuan_server.specs.declared.errors.Code.TheVariants.{UnknownCommand, Parameter}
@@ -10,7 +10,7 @@ use Rattle.agent_origin.specs.Doors.{rule_named, allowed}
 use Rattle.agent_origin.specs.Names.{command_named}
 use Rattle.agent_origin.specs.Requests.{trust_request_of}
 use Rattle.agent_origin.specs.declared.door.Door.TheVariants.{Home, Outer}
-use Rattle.agent_origin.specs.declared.request.TrustPurpose.TheVariants.{X509, OpenPgp}
+use Rattle.agent_origin.specs.declared.request.TrustPurpose.TheVariants.{X509}
 use Rattle.agent_origin.specs.declared.request.TrustRequest.TheVariants.{IsTrusted, MarkTrusted, Bad}
 
 -- ---- doors

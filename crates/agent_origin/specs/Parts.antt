@@ -1,6 +1,6 @@
 -- Private: the parts of a request on the trust list, one after another. A part is a relation between its events and what it comes to, which is a
 -- value or a refusal. This is the project's own.
-use Rattle.std.specs.Prelude.{◌≡◌, ◌≤◌, ◌<◌, ℕ, ◌++◌, List, [], ◌∷◌, Bool, true, false, length, Option, Some, None, Result, Ok, Err}
+use Rattle.std.specs.Prelude.{◌≡◌, ◌≤◌, ◌<◌, ℕ, ◌++◌, List, [], ◌∷◌, Bool, false, length, Option, Some, None, Result, Ok, Err}
 use Rattle.std.specs.Option.{option_map}
 use Rattle.agent_ask.specs.Callers.{unheard_of}
 use Rattle.agent_ask.specs.Consents.{AsksConsent}
@@ -8,7 +8,7 @@ use Rattle.agent_ask.specs.Events.{PromptEvent}
 use Rattle.agent_ask.specs.Failing.{said_last}
 use Rattle.agent_ask.specs.Further.{FurtherEvent}
 use Rattle.agent_ask.specs.Plans.{IsSpec}
-use Rattle.agent_ask.specs.SessionEvents.{Sent, cache_turn}
+use Rattle.agent_ask.specs.SessionEvents.{cache_turn}
 use Rattle.agent_ask.specs.UnderTickets.{AnyInSession}
 use Rattle.agent_ask.specs.declared.consent.Agreed.{Agreed}
 use Rattle.agent_ask.specs.declared.consent.Agreed.TheVariants as agreed
@@ -19,7 +19,6 @@ use Rattle.agent_commands.specs.Exchanges.{Interrupts}
 use Rattle.agent_commands.specs.declared.went.Went.{Went}
 use Rattle.agent_commands.specs.declared.went.Went.TheVariants.{On}
 use Rattle.agent_ports.specs.declared.grip.Grip.{Grip}
-use Rattle.agent_ports.specs.declared.trust.TrustDone.{TrustDone}
 use Rattle.agent_ports.specs.declared.trust.TrustDone.TheVariants as done
 use Rattle.agent_ports.specs.declared.trust.TrustRead.{TrustRead}
 use Rattle.agent_ports.specs.declared.trust.TrustRead.TheVariants as read

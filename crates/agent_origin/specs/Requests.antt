@@ -1,8 +1,7 @@
 -- What a line with a command on the trust list asks for, or the fault for which it is refused (GnuPG manual, "Agent's Assuan protocol"). Which
 -- fault a refusal has is this project's own.
-use Rattle.std.specs.Prelude.{ℕ, ◌==◌, nat_le, true, List, [], ◌∷◌, length, codes, Option, Some, None, Result, Ok, Err, if◌then◌else◌}
+use Rattle.std.specs.Prelude.{ℕ, nat_le, true, List, ◌∷◌, length, codes, Option, Some, None, Result, Ok, Err, if◌then◌else◌}
 use Rattle.std.specs.Str.{bytes_eq}
-use Rattle.agent_ports.specs.declared.grip.Grip.{Grip}
 use Rattle.arrayvec.specs.ArrayVec.{ArrayVec}
 use Rattle.assuan_escape.specs.Escapes.{unescaped}
 use Rattle.assuan_server.specs.declared.errors.Code.{Code}

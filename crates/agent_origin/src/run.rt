@@ -41,8 +41,8 @@ pub fn run_trust<L: Link, D: Desk, P: Prompter, T: TrustFile>(
     requires shut { IsShut (P.at prompter.old) }
     // Whatever the keys and the dice are: the request has nothing to do with them.
     ensures answers { (keys : KeyFiles) (dice : Side)
-        → AnswersRequest {w = origin_world D.turned P.prompted} (λ before events after went. TrustExchange rules.now options.now request.now events went) tt
-        (origin_state D.turned P.prompted conn.old desk.old prompter.old keys dice (T.trust trust.old)) result tt
+        → AnswersRequest {w = origin_world D.turned P.prompted} (λ before events after went. TrustExchange rules.now options.now request.now events went) (tt {0})
+        (origin_state D.turned P.prompted conn.old desk.old prompter.old keys dice (T.trust trust.old)) result (tt {0})
         (origin_state D.turned P.prompted conn.new desk.new prompter.new keys dice (T.trust trust.new)) }
     ensures free { (D.at desk.new).out ≡ None }
     ensures shut { IsShut (P.at prompter.new) }

@@ -34,9 +34,10 @@ pub(crate) fn trusted_now<T: TrustFile>(
     ensures { DoesTrustCalls (TrustedNow fingerprint.now) (T.trust trust.old) result (T.trust trust.new) }
 {
     let file = read_file(alloc, trust)?;
-    match trusted(&file, fingerprint) {
-        Some(true) => Ok(()),
-        Some(false) | None => Err(Refusal::Agent(Code::NotTrusted)),
+    if trusted(&file, fingerprint).unwrap_or(false) {
+        Ok(())
+    } else {
+        Err(Refusal::Agent(Code::NotTrusted))
     }
 }
 

@@ -9,7 +9,7 @@ pub returns-in-Found-clause-read : goal.returns-in-Found-clause-read
 returns-in-Found-clause-read g c = one_call (Read (Found c.in-Found.file)) c.in-Found.ensures refl (has_read refl)
 
 pub returns-in-Absent-clause-read : goal.returns-in-Absent-clause-read
-returns-in-Absent-clause-read g c = rw c.new.ensures (one_call (Read Absent) c.in-Absent.ensures refl (has_read refl))
+returns-in-Absent-clause-read g c = rw c.new.ensures.items (one_call (Read Absent) c.in-Absent.ensures refl (has_read refl))
 
 pub returns-in-Failed-clause-refused : goal.returns-in-Failed-clause-refused
 returns-in-Failed-clause-refused g c = one_call (Read Failed) c.in-Failed.ensures refl faulted
