@@ -4,3 +4,4 @@ mod Trusting
 mod Prompts
 mod Replying
 mod WorkedExamples
+mod WorkedExchanges

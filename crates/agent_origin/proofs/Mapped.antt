@@ -1,13 +1,19 @@
 -- What is done in one world, as another shows it: each of its turns is one there, and each further event is another one there.
-use Rattle.std.proofs.Common.{◌≡◌, List, [], ◌∷◌, refl, ap}
+use Rattle.std.proofs.Common.{◌≡◌, List, [], ◌∷◌, ◌++◌, refl, ap, ◌∙◌}
+use Rattle.std.proofs.lemmas.List.{map-append}
 use Rattle.agent_ask.specs.SessionEvents.{AnyEvent, Received, Sent, Cut, Inquiry, CacheTurn, Further}
 use Rattle.agent_ask.specs.States.{AnyState, AnyLead}
 use Rattle.agent_ask.specs.Worlds.{AnyWorld, Outside, Does, received, sent, cut, asked, not_asked, turned as turned_so, further}
+use Rattle.agent_commands.specs.Events.{Event}
+use Rattle.agent_commands.specs.Outside.{World}
+use Rattle.agent_commands.specs.States.{SessionState, AnswersRequest}
+use Rattle.agent_commands.specs.Talks.{WholeOrCut, whole, cut as cut_off}
+use Rattle.agent_commands.specs.declared.went.Went.{Went}
 use Rattle.agent_ports.specs.Leads.{Leads, none, one}
 use Rattle.cache_policy.specs.declared.mark.MarkStep.{MarkStep}
 use Rattle.cache_policy.specs.Turns.{Turn}
 use Rattle.session_client.specs.Lines.{Lines, Views}
-use Rattle.agent_origin.specs.OriginEvents.{events_as}
+use Rattle.agent_origin.specs.OriginEvents.{event_as, events_as}
 
 module _ {lines : Lines} (w x : AnyWorld lines) (desk : w.Desk → x.Desk) (ends : w.Ends → x.Ends) (event : w.Further → x.Further)
     (each_turn : (before after : w.Desk) (step : MarkStep) (turn : Turn) → w.turned before step turn after → x.turned (desk before) step turn (desk after))
@@ -49,3 +55,36 @@ shown_alike (Cut text ∷ more) = ap (λ (e : List (AnyEvent _ _ _)). Cut text �
 shown_alike (Inquiry word params limit inquired ∷ more) = ap (λ (e : List (AnyEvent _ _ _)). Inquiry word params limit inquired ∷ e) (shown_alike more)
 shown_alike (CacheTurn taken ∷ more) = ap (λ (e : List (AnyEvent _ _ _)). CacheTurn taken ∷ e) (shown_alike more)
 shown_alike (Further what ∷ more) = ap (λ (e : List (AnyEvent _ _ _)). Further what ∷ e) (shown_alike more)
+
+-- ---- requests
+
+-- an exchange that is one of another relation, where its events are shown otherwise
+pub exchange_as : {S T F G : Type 0} {exchange : S → List (Event F) → S → Went → Type 0} {other : T → List (Event G) → T → Went → Type 0} {before after : S} {from to : T} (event : F → G)
+    → ((events : List (Event F)) (went : Went) → exchange before events after went → other from (events_as event events) to went)
+    → {events : List (Event F)} {went : Went} → WholeOrCut exchange before events after went → WholeOrCut other from (events_as event events) to went
+exchange_as event same (whole exchanged) = whole (same _ _ exchanged)
+exchange_as event same (cut_off exchanged last) =
+    cut_off (same _ _ exchanged) (record {
+      before = events_as event last.before;
+      sent = last.sent;
+      unsent = last.unsent;
+      whole = ap (events_as event) last.whole ∙ map-append (event_as event) last.before (Sent (last.sent ++ last.unsent) ∷ []);
+      done_is = ap (events_as event) last.done_is ∙ map-append (event_as event) last.before (Cut last.sent ∷ []);
+    })
+
+-- a request that was answered in one world was answered in another
+module _ (w x : World) (desk : w.Desk → x.Desk) (ends : w.Ends → x.Ends) (event : w.Further → x.Further)
+    (each_turn : (before after : w.Desk) (step : MarkStep) (turn : Turn) → w.turned before step turn after → x.turned (desk before) step turn (desk after))
+    (each : (before after : w.Ends) (what : w.Further) → w.does before what after → x.does (ends before) (event what) (ends after)) where
+  pub answers_as : {S T : Type 0} {exchange : S → List (Event w.Further) → S → Went → Type 0} {other : T → List (Event x.Further) → T → Went → Type 0} {before after : S} {from to : T}
+      {start now : SessionState w} {went : Went}
+      → ((events : List (Event w.Further)) (went : Went) → exchange before events after went → other from (events_as event events) to went)
+      → AnswersRequest {w = w} exchange before start went after now
+      → AnswersRequest {w = x} other from (state_as w x desk ends event each_turn each start) went to (state_as w x desk ends event each_turn each now)
+  answers_as same done = record {
+    events = events_as event done.events;
+    exchanges = exchange_as event same done.exchanges;
+    done = done_as w x desk ends event each_turn each done.done;
+    fits = done.fits;
+    faults = record { read = done.faults.read; write = done.faults.write };
+  }
