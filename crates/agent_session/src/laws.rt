@@ -1,7 +1,9 @@
-ghost use Rattle.std.specs.Prelude.{List};
+ghost use Rattle.std.specs.Prelude.{◌≡◌, List, map};
 ghost use Rattle.cache_policy.specs.Extending.{ExtendsDesk};
 ghost use Rattle.agent_ask.specs.SessionEvents.{turns_in};
+ghost use Rattle.agent_commands.specs.Names.{key_commands};
 ghost use Rattle.agent_commands.specs.declared.went.SessionEnd.{SessionEnd as Ends};
+ghost use Rattle.key_commands.specs.Names.{commands as read_commands};
 ghost use Rattle.key_commands.specs.States.{KeyWorld};
 ghost use Rattle.session_options.specs.declared.rules.Rules.{Rules};
 ghost use Rattle.agent_session.specs.Sessions.{Surroundings, ServesRules};
@@ -17,3 +19,8 @@ pub fn a_session_extends_a_run<D: Desk, P: Prompter>()
 {
     turns_extend_a_run::<D>();
 }
+
+/// The commands on keys that HELP tells, and that are handed on, are those that are read, in their order.
+pub fn key_commands_are_read()
+    ensures { map (λ row. row.0) key_commands ≡ map (λ row. row.0) read_commands }
+{}

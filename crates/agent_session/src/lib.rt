@@ -6,5 +6,5 @@ mod laws;
 mod session;
 
 pub use kept::Kept;
-pub use laws::a_session_extends_a_run;
+pub use laws::{a_session_extends_a_run, key_commands_are_read};
 pub use session::serve_session;

@@ -21,9 +21,7 @@ use std::alloc::Global;
 use wiping::wipe_stack;
 
 /// Serves a session on a link: greets, and answers request after request until the session ends. No ticket of the session is out and no
-/// prompt is open when it returns.
-///
-/// Its wrapping keys are overwritten in the end.
+/// prompt is open when it returns. Its wrapping keys are overwritten in the end.
 pub fn serve_session<L: Link, D: Desk, P: Prompter, K: Keys, R: Dice>(
     alloc: Global,
     rules: &Rules,
@@ -49,7 +47,7 @@ pub fn serve_session<L: Link, D: Desk, P: Prompter, K: Keys, R: Dice>(
     end
 }
 
-/// Greets the client, and answers its requests.
+/// Greets the client, and answers its requests. The wrapping keys are overwritten where they lie.
 fn serve_conn<L: Link, D: Desk, P: Prompter, K: Keys, R: Dice>(
     alloc: Global,
     rules: &Rules,
@@ -69,16 +67,12 @@ fn serve_conn<L: Link, D: Desk, P: Prompter, K: Keys, R: Dice>(
     ensures shut { IsShut (P.at prompter.new) }
 {
     match conn.greet().whole() {
-        Ok(()) => serve_requests(
-            alloc,
-            rules,
-            &mut Kept::new(rules),
-            conn,
-            desk,
-            prompter,
-            keys,
-            dice,
-        ),
+        Ok(()) => {
+            let mut kept = Kept::new(rules);
+            let end = serve_requests(alloc, rules, &mut kept, conn, desk, prompter, keys, dice);
+            kept.wraps.clear();
+            end
+        }
         Err(WriteFault) => SessionEnd::WriteFault,
     }
 }

@@ -86,25 +86,25 @@ pub(crate) const KEY_SESSIONS: [Row; 28] = [
     // A key is exported only under a key that was drawn for that.
     Row {
         sent: "EXPORT_KEY 81594C58EF1286E89015A30A5CC2072D343B3307\nKEYWRAP_KEY\nKEYWRAP_KEY --import --export\nKEYWRAP_KEY --import\nEXPORT_KEY 81594C58EF1286E89015A30A5CC2072D343B3307\nKEYWRAP_KEY --export\nRESET\nKEYWRAP_KEY --import\nEXPORT_KEY 81594C58EF1286E89015A30A5CC2072D343B3307\n",
-        answered: "ERR 67109144 IPC parameter error <GPG Agent>\nERR 67109144 IPC parameter error <GPG Agent>\nERR 67109144 IPC parameter error <GPG Agent>\nD defghijklmnopqrs\nOK\nERR 67109144 IPC parameter error <GPG Agent>\nD wrapping key 020\nOK\nOK\nD defghijklmnopqrs\nOK\nD b%B8%9A%ACu%FD%D7%868R%B8%D3%94%CF%EC%93g.%D2Ra%F9<%A3%EA%CE_%DA%FF{%A7@gO%DFmg%8CJ4%AB%D6N%A3%8E%8B%A1i\nOK\n",
+        answered: "ERR 67109144 IPC parameter error <GPG Agent>\nERR 67109144 IPC parameter error <GPG Agent>\nERR 67109144 IPC parameter error <GPG Agent>\nD defghijklmnopqrs\nOK\nERR 67109144 IPC parameter error <GPG Agent>\nD wraps a key 2415\nOK\nOK\nD defghijklmnopqrs\nOK\nD %EE%8Fr%EDi=*?em%E4%D7%AFB;%B8G%D7%AC)%8B%85%D7%E14%CB%F3l&%D8GQ%FBcFg%BF%84%BFN%95%80%8D_.%AB%92%E0\nOK\n",
         files: &[(GRIP, CLEAR)],
         files_after: Some(&[(GRIP, CLEAR)]),
-        dice: b"defghijklmnopqrswrapping key 020",
+        dice: b"defghijklmnopqrswraps a key 2415",
         ..KEYS
     },
     // No bytes are drawn, and then some.
     Row {
         sent: "KEYWRAP_KEY --export\nKEYWRAP_KEY --export\nKEYWRAP_KEY --import\n",
-        answered: "ERR 67108865 General error <GPG Agent>\nD wrapping key 020\nOK\nERR 67108865 General error <GPG Agent>\n",
+        answered: "ERR 67108865 General error <GPG Agent>\nD wraps a key 2415\nOK\nERR 67108865 General error <GPG Agent>\n",
         files_after: Some(&[]),
-        dice: b"wrapping key 020",
+        dice: b"wraps a key 2415",
         draw_faults: &[0],
         ..KEYS
     },
     // Two wrong pins and the right one. It is kept.
     Row {
         sent: "KEYWRAP_KEY --export\nEXPORT_KEY 81594C58EF1286E89015A30A5CC2072D343B3307\nKEYINFO 81594C58EF1286E89015A30A5CC2072D343B3307\nEXPORT_KEY 81594C58EF1286E89015A30A5CC2072D343B3307\n",
-        answered: "D wrapping key 020\nOK\nD b%B8%9A%ACu%FD%D7%868R%B8%D3%94%CF%EC%93g.%D2Ra%F9<%A3%EA%CE_%DA%FF{%A7@gO%DFmg%8CJ4%AB%D6N%A3%8E%8B%A1i\nOK\nS KEYINFO 81594C58EF1286E89015A30A5CC2072D343B3307 D - - 1 P - - -\nOK\nD b%B8%9A%ACu%FD%D7%868R%B8%D3%94%CF%EC%93g.%D2Ra%F9<%A3%EA%CE_%DA%FF{%A7@gO%DFmg%8CJ4%AB%D6N%A3%8E%8B%A1i\nOK\n",
+        answered: "D wraps a key 2415\nOK\nD %EE%8Fr%EDi=*?em%E4%D7%AFB;%B8G%D7%AC)%8B%85%D7%E14%CB%F3l&%D8GQ%FBcFg%BF%84%BFN%95%80%8D_.%AB%92%E0\nOK\nS KEYINFO 81594C58EF1286E89015A30A5CC2072D343B3307 D - - 1 P - - -\nOK\nD %EE%8Fr%EDi=*?em%E4%D7%AFB;%B8G%D7%AC)%8B%85%D7%E14%CB%F3l&%D8GQ%FBcFg%BF%84%BFN%95%80%8D_.%AB%92%E0\nOK\n",
         files: &[(GRIP, BY_CBC)],
         files_after: Some(&[(GRIP, BY_CBC)]),
         children: &[(
@@ -115,13 +115,13 @@ pub(crate) const KEY_SESSIONS: [Row; 28] = [
             "D a\nOK\nOK\nD b\nOK\nOK\nD abcdefg1\nOK\n",
             "GETPIN\nSETERROR Bad passphrase (try 2 of 3)\nGETPIN\nSETERROR Bad passphrase (try 3 of 3)\nGETPIN\nBYE\n",
         )],
-        dice: b"wrapping key 020",
+        dice: b"wraps a key 2415",
         ..KEYS
     },
     // Three wrong pins are an end, and none is kept. The seat is free.
     Row {
         sent: "KEYWRAP_KEY --export\nEXPORT_KEY 81594C58EF1286E89015A30A5CC2072D343B3307\nKEYINFO 81594C58EF1286E89015A30A5CC2072D343B3307\nEXPORT_KEY 81594C58EF1286E89015A30A5CC2072D343B3307\n",
-        answered: "D wrapping key 020\nOK\nERR 67108875 Bad passphrase <GPG Agent>\nS KEYINFO 81594C58EF1286E89015A30A5CC2072D343B3307 D - - - P - - -\nOK\nD b%B8%9A%ACu%FD%D7%868R%B8%D3%94%CF%EC%93g.%D2Ra%F9<%A3%EA%CE_%DA%FF{%A7@gO%DFmg%8CJ4%AB%D6N%A3%8E%8B%A1i\nOK\n",
+        answered: "D wraps a key 2415\nOK\nERR 67108875 Bad passphrase <GPG Agent>\nS KEYINFO 81594C58EF1286E89015A30A5CC2072D343B3307 D - - - P - - -\nOK\nD %EE%8Fr%EDi=*?em%E4%D7%AFB;%B8G%D7%AC)%8B%85%D7%E14%CB%F3l&%D8GQ%FBcFg%BF%84%BFN%95%80%8D_.%AB%92%E0\nOK\n",
         files: &[(GRIP, BY_CBC)],
         files_after: Some(&[(GRIP, BY_CBC)]),
         children: &[
@@ -142,13 +142,13 @@ pub(crate) const KEY_SESSIONS: [Row; 28] = [
                 "GETPIN\nBYE\n",
             ),
         ],
-        dice: b"wrapping key 020",
+        dice: b"wraps a key 2415",
         ..KEYS
     },
     // A wrong passphrase in the cache is passed over, and the right one is kept in its place.
     Row {
         sent: "KEYWRAP_KEY --export\nPRESET_PASSPHRASE 81594C58EF1286E89015A30A5CC2072D343B3307 -1 61\nEXPORT_KEY 81594C58EF1286E89015A30A5CC2072D343B3307\nEXPORT_KEY 81594C58EF1286E89015A30A5CC2072D343B3307\n",
-        answered: "D wrapping key 020\nOK\nOK\nD b%B8%9A%ACu%FD%D7%868R%B8%D3%94%CF%EC%93g.%D2Ra%F9<%A3%EA%CE_%DA%FF{%A7@gO%DFmg%8CJ4%AB%D6N%A3%8E%8B%A1i\nOK\nD b%B8%9A%ACu%FD%D7%868R%B8%D3%94%CF%EC%93g.%D2Ra%F9<%A3%EA%CE_%DA%FF{%A7@gO%DFmg%8CJ4%AB%D6N%A3%8E%8B%A1i\nOK\n",
+        answered: "D wraps a key 2415\nOK\nOK\nD %EE%8Fr%EDi=*?em%E4%D7%AFB;%B8G%D7%AC)%8B%85%D7%E14%CB%F3l&%D8GQ%FBcFg%BF%84%BFN%95%80%8D_.%AB%92%E0\nOK\nD %EE%8Fr%EDi=*?em%E4%D7%AFB;%B8G%D7%AC)%8B%85%D7%E14%CB%F3l&%D8GQ%FBcFg%BF%84%BFN%95%80%8D_.%AB%92%E0\nOK\n",
         files: &[(GRIP, BY_CBC)],
         files_after: Some(&[(GRIP, BY_CBC)]),
         children: &[(
@@ -159,13 +159,13 @@ pub(crate) const KEY_SESSIONS: [Row; 28] = [
             "D abcdefg1\nOK\n",
             "GETPIN\nBYE\n",
         )],
-        dice: b"wrapping key 020",
+        dice: b"wraps a key 2415",
         ..KEYS
     },
     // The user cancels, or doesn't answer.
     Row {
         sent: "KEYWRAP_KEY --export\nEXPORT_KEY 81594C58EF1286E89015A30A5CC2072D343B3307\nEXPORT_KEY 81594C58EF1286E89015A30A5CC2072D343B3307\n",
-        answered: "D wrapping key 020\nOK\nERR 83886179 Operation cancelled <Pinentry>\nERR 83886142 Timeout <Pinentry>\n",
+        answered: "D wraps a key 2415\nOK\nERR 83886179 Operation cancelled <Pinentry>\nERR 83886142 Timeout <Pinentry>\n",
         files: &[(GRIP, BY_CBC)],
         files_after: Some(&[(GRIP, BY_CBC)]),
         children: &[
@@ -186,31 +186,31 @@ pub(crate) const KEY_SESSIONS: [Row; 28] = [
                 "GETPIN\nBYE\n",
             ),
         ],
-        dice: b"wrapping key 020",
+        dice: b"wraps a key 2415",
         ..KEYS
     },
     // Nobody is prompted in other modes.
     Row {
         sent: "KEYWRAP_KEY --export\nOPTION pinentry-mode=cancel\nEXPORT_KEY 81594C58EF1286E89015A30A5CC2072D343B3307\nPASSWD 81594C58EF1286E89015A30A5CC2072D343B3307\nPASSWD --verify 81594C58EF1286E89015A30A5CC2072D343B3307\nDELETE_KEY 81594C58EF1286E89015A30A5CC2072D343B3307\nOPTION pinentry-mode=error\nEXPORT_KEY 81594C58EF1286E89015A30A5CC2072D343B3307\nPASSWD 81594C58EF1286E89015A30A5CC2072D343B3307\nPASSWD --verify 81594C58EF1286E89015A30A5CC2072D343B3307\nDELETE_KEY 81594C58EF1286E89015A30A5CC2072D343B3307\nOPTION pinentry-mode=loopback\nDELETE_KEY 81594C58EF1286E89015A30A5CC2072D343B3307\n",
-        answered: "D wrapping key 020\nOK\nOK\nERR 67108963 Operation cancelled <GPG Agent>\nERR 67108963 Operation cancelled <GPG Agent>\nERR 67108963 Operation cancelled <GPG Agent>\nERR 67108963 Operation cancelled <GPG Agent>\nOK\nERR 67108950 No pinentry <GPG Agent>\nERR 67108950 No pinentry <GPG Agent>\nERR 67108950 No pinentry <GPG Agent>\nERR 67108950 No pinentry <GPG Agent>\nOK\nERR 67108950 No pinentry <GPG Agent>\n",
+        answered: "D wraps a key 2415\nOK\nOK\nERR 67108963 Operation cancelled <GPG Agent>\nERR 67108963 Operation cancelled <GPG Agent>\nERR 67108963 Operation cancelled <GPG Agent>\nERR 67108963 Operation cancelled <GPG Agent>\nOK\nERR 67108950 No pinentry <GPG Agent>\nERR 67108950 No pinentry <GPG Agent>\nERR 67108950 No pinentry <GPG Agent>\nERR 67108950 No pinentry <GPG Agent>\nOK\nERR 67108950 No pinentry <GPG Agent>\n",
         files: &[(GRIP, BY_CBC)],
         files_after: Some(&[(GRIP, BY_CBC)]),
-        dice: b"wrapping key 020",
+        dice: b"wraps a key 2415",
         ..KEYS
     },
     // The client gives the passphrase; one that opens the key is kept.
     Row {
         sent: "OPTION pinentry-mode=loopback\nKEYWRAP_KEY --export\nEXPORT_KEY 81594C58EF1286E89015A30A5CC2072D343B3307\nD a\nEND\nEXPORT_KEY 81594C58EF1286E89015A30A5CC2072D343B3307\nCAN\nEXPORT_KEY 81594C58EF1286E89015A30A5CC2072D343B3307\nD abcdefg1\nEND\nEXPORT_KEY 81594C58EF1286E89015A30A5CC2072D343B3307\n",
-        answered: "OK\nD wrapping key 020\nOK\nS INQUIRE_MAXLEN 255\nINQUIRE PASSPHRASE\nERR 67108875 Bad passphrase <GPG Agent>\nS INQUIRE_MAXLEN 255\nINQUIRE PASSPHRASE\nERR 67108963 Operation cancelled <GPG Agent>\nS INQUIRE_MAXLEN 255\nINQUIRE PASSPHRASE\nD b%B8%9A%ACu%FD%D7%868R%B8%D3%94%CF%EC%93g.%D2Ra%F9<%A3%EA%CE_%DA%FF{%A7@gO%DFmg%8CJ4%AB%D6N%A3%8E%8B%A1i\nOK\nD b%B8%9A%ACu%FD%D7%868R%B8%D3%94%CF%EC%93g.%D2Ra%F9<%A3%EA%CE_%DA%FF{%A7@gO%DFmg%8CJ4%AB%D6N%A3%8E%8B%A1i\nOK\n",
+        answered: "OK\nD wraps a key 2415\nOK\nS INQUIRE_MAXLEN 255\nINQUIRE PASSPHRASE\nERR 67108875 Bad passphrase <GPG Agent>\nS INQUIRE_MAXLEN 255\nINQUIRE PASSPHRASE\nERR 67108963 Operation cancelled <GPG Agent>\nS INQUIRE_MAXLEN 255\nINQUIRE PASSPHRASE\nD %EE%8Fr%EDi=*?em%E4%D7%AFB;%B8G%D7%AC)%8B%85%D7%E14%CB%F3l&%D8GQ%FBcFg%BF%84%BFN%95%80%8D_.%AB%92%E0\nOK\nD %EE%8Fr%EDi=*?em%E4%D7%AFB;%B8G%D7%AC)%8B%85%D7%E14%CB%F3l&%D8GQ%FBcFg%BF%84%BFN%95%80%8D_.%AB%92%E0\nOK\n",
         files: &[(GRIP, BY_CBC)],
         files_after: Some(&[(GRIP, BY_CBC)]),
-        dice: b"wrapping key 020",
+        dice: b"wraps a key 2415",
         ..KEYS
     },
     // A key comes in and is protected by a new passphrase, which is cached under the key and under the nonce.
     Row {
-        sent: "OPTION s2k-count=65536\nKEYWRAP_KEY --import\nIMPORT_KEY\nD %62%B8%9A%AC%75%FD%D7%86%38%52%B8%D3%94%CF%EC%93%67%2E%D2%52%61%F9%3C%A3%EA%CE%5F%DA%FF%7B%A7%40%67%4F%DF%6D%67%8C%4A%34%AB%D6%4E%A3%8E%8B%A1%69\nEND\nKEYINFO 81594C58EF1286E89015A30A5CC2072D343B3307\nPASSWD --cache-nonce=A0A1A2A3A4A5A6A7A8A9AAAB --passwd-nonce=A0A1A2A3A4A5A6A7A8A9AAAB 81594C58EF1286E89015A30A5CC2072D343B3307\nIMPORT_KEY\nD %62%B8%9A%AC%75%FD%D7%86%38%52%B8%D3%94%CF%EC%93%67%2E%D2%52%61%F9%3C%A3%EA%CE%5F%DA%FF%7B%A7%40%67%4F%DF%6D%67%8C%4A%34%AB%D6%4E%A3%8E%8B%A1%69\nEND\n",
-        answered: "OK\nD wrapping key 020\nOK\nS INQUIRE_MAXLEN 65544\nINQUIRE KEYDATA\nS CACHE_NONCE A0A1A2A3A4A5A6A7A8A9AAAB\nOK\nS KEYINFO 81594C58EF1286E89015A30A5CC2072D343B3307 D - - 1 P - - -\nOK\nOK\nS INQUIRE_MAXLEN 65544\nINQUIRE KEYDATA\nERR 67141667 File exists <GPG Agent>\n",
+        sent: "OPTION s2k-count=65536\nKEYWRAP_KEY --import\nIMPORT_KEY\nD %EE%8F%72%ED%69%3D%2A%3F%65%6D%E4%D7%AF%42%3B%B8%47%D7%AC%29%8B%85%D7%E1%34%CB%F3%6C%26%D8%47%51%FB%63%46%67%BF%84%BF%4E%95%80%8D%5F%2E%AB%92%E0\nEND\nKEYINFO 81594C58EF1286E89015A30A5CC2072D343B3307\nPASSWD --cache-nonce=A0A1A2A3A4A5A6A7A8A9AAAB --passwd-nonce=A0A1A2A3A4A5A6A7A8A9AAAB 81594C58EF1286E89015A30A5CC2072D343B3307\nIMPORT_KEY\nD %EE%8F%72%ED%69%3D%2A%3F%65%6D%E4%D7%AF%42%3B%B8%47%D7%AC%29%8B%85%D7%E1%34%CB%F3%6C%26%D8%47%51%FB%63%46%67%BF%84%BF%4E%95%80%8D%5F%2E%AB%92%E0\nEND\n",
+        answered: "OK\nD wraps a key 2415\nOK\nS INQUIRE_MAXLEN 65544\nINQUIRE KEYDATA\nS CACHE_NONCE A0A1A2A3A4A5A6A7A8A9AAAB\nOK\nS KEYINFO 81594C58EF1286E89015A30A5CC2072D343B3307 D - - 1 P - - -\nOK\nOK\nS INQUIRE_MAXLEN 65544\nINQUIRE KEYDATA\nERR 67141667 File exists <GPG Agent>\n",
         files_after: Some(&[(GRIP, BY_OCB)]),
         children: &[(
             (
@@ -220,13 +220,13 @@ pub(crate) const KEY_SESSIONS: [Row; 28] = [
             "D abcdefg1\nOK\nOK\nD abcdefg1\nOK\n",
             "GETPIN\nSETERROR Please repeat the passphrase\nGETPIN\nBYE\n",
         )],
-        dice: b"wrapping key 020 !\"#$%&'()*+,-./0123\xa0\xa1\xa2\xa3\xa4\xa5\xa6\xa7\xa8\xa9\xaa\xab !\"#$%&'()*+,-./0123",
+        dice: b"wraps a key 2415 !\"#$%&'()*+,-./0123\xa0\xa1\xa2\xa3\xa4\xa5\xa6\xa7\xa8\xa9\xaa\xab !\"#$%&'()*+,-./0123",
         ..KEYS
     },
     // By a nonce nobody is asked, and a file that is there is replaced where that is wanted.
     Row {
-        sent: "OPTION s2k-count=65536\nKEYWRAP_KEY --import\nIMPORT_KEY\nD %62%B8%9A%AC%75%FD%D7%86%38%52%B8%D3%94%CF%EC%93%67%2E%D2%52%61%F9%3C%A3%EA%CE%5F%DA%FF%7B%A7%40%67%4F%DF%6D%67%8C%4A%34%AB%D6%4E%A3%8E%8B%A1%69\nEND\nIMPORT_KEY --force A0A1A2A3A4A5A6A7A8A9AAAB\nD %62%B8%9A%AC%75%FD%D7%86%38%52%B8%D3%94%CF%EC%93%67%2E%D2%52%61%F9%3C%A3%EA%CE%5F%DA%FF%7B%A7%40%67%4F%DF%6D%67%8C%4A%34%AB%D6%4E%A3%8E%8B%A1%69\nEND\nIMPORT_KEY --force other\nD %62%B8%9A%AC%75%FD%D7%86%38%52%B8%D3%94%CF%EC%93%67%2E%D2%52%61%F9%3C%A3%EA%CE%5F%DA%FF%7B%A7%40%67%4F%DF%6D%67%8C%4A%34%AB%D6%4E%A3%8E%8B%A1%69\nEND\n",
-        answered: "OK\nD wrapping key 020\nOK\nS INQUIRE_MAXLEN 65544\nINQUIRE KEYDATA\nS CACHE_NONCE A0A1A2A3A4A5A6A7A8A9AAAB\nOK\nS INQUIRE_MAXLEN 65544\nINQUIRE KEYDATA\nS CACHE_NONCE ACADAEAFB0B1B2B3B4B5B6B7\nOK\nS INQUIRE_MAXLEN 65544\nINQUIRE KEYDATA\nERR 83886179 Operation cancelled <Pinentry>\n",
+        sent: "OPTION s2k-count=65536\nKEYWRAP_KEY --import\nIMPORT_KEY\nD %EE%8F%72%ED%69%3D%2A%3F%65%6D%E4%D7%AF%42%3B%B8%47%D7%AC%29%8B%85%D7%E1%34%CB%F3%6C%26%D8%47%51%FB%63%46%67%BF%84%BF%4E%95%80%8D%5F%2E%AB%92%E0\nEND\nIMPORT_KEY --force A0A1A2A3A4A5A6A7A8A9AAAB\nD %EE%8F%72%ED%69%3D%2A%3F%65%6D%E4%D7%AF%42%3B%B8%47%D7%AC%29%8B%85%D7%E1%34%CB%F3%6C%26%D8%47%51%FB%63%46%67%BF%84%BF%4E%95%80%8D%5F%2E%AB%92%E0\nEND\nIMPORT_KEY --force other\nD %EE%8F%72%ED%69%3D%2A%3F%65%6D%E4%D7%AF%42%3B%B8%47%D7%AC%29%8B%85%D7%E1%34%CB%F3%6C%26%D8%47%51%FB%63%46%67%BF%84%BF%4E%95%80%8D%5F%2E%AB%92%E0\nEND\n",
+        answered: "OK\nD wraps a key 2415\nOK\nS INQUIRE_MAXLEN 65544\nINQUIRE KEYDATA\nS CACHE_NONCE A0A1A2A3A4A5A6A7A8A9AAAB\nOK\nS INQUIRE_MAXLEN 65544\nINQUIRE KEYDATA\nS CACHE_NONCE ACADAEAFB0B1B2B3B4B5B6B7\nOK\nS INQUIRE_MAXLEN 65544\nINQUIRE KEYDATA\nERR 83886179 Operation cancelled <Pinentry>\n",
         files_after: Some(&[(GRIP, IN_AGAIN)]),
         children: &[
             (
@@ -246,13 +246,13 @@ pub(crate) const KEY_SESSIONS: [Row; 28] = [
                 "GETPIN\nBYE\n",
             ),
         ],
-        dice: b"wrapping key 020 !\"#$%&'()*+,-./0123\xa0\xa1\xa2\xa3\xa4\xa5\xa6\xa7\xa8\xa9\xaa\xab'&%$#\"! ()*+,-./0123\xac\xad\xae\xaf\xb0\xb1\xb2\xb3\xb4\xb5\xb6\xb7",
+        dice: b"wraps a key 2415 !\"#$%&'()*+,-./0123\xa0\xa1\xa2\xa3\xa4\xa5\xa6\xa7\xa8\xa9\xaa\xab'&%$#\"! ()*+,-./0123\xac\xad\xae\xaf\xb0\xb1\xb2\xb3\xb4\xb5\xb6\xb7",
         ..KEYS
     },
     // A passphrase that is too weak fails its try.
     Row {
-        sent: "OPTION s2k-count=65536\nKEYWRAP_KEY --import\nIMPORT_KEY\nD %62%B8%9A%AC%75%FD%D7%86%38%52%B8%D3%94%CF%EC%93%67%2E%D2%52%61%F9%3C%A3%EA%CE%5F%DA%FF%7B%A7%40%67%4F%DF%6D%67%8C%4A%34%AB%D6%4E%A3%8E%8B%A1%69\nEND\n",
-        answered: "OK\nD wrapping key 020\nOK\nS INQUIRE_MAXLEN 65544\nINQUIRE KEYDATA\nS CACHE_NONCE A0A1A2A3A4A5A6A7A8A9AAAB\nOK\n",
+        sent: "OPTION s2k-count=65536\nKEYWRAP_KEY --import\nIMPORT_KEY\nD %EE%8F%72%ED%69%3D%2A%3F%65%6D%E4%D7%AF%42%3B%B8%47%D7%AC%29%8B%85%D7%E1%34%CB%F3%6C%26%D8%47%51%FB%63%46%67%BF%84%BF%4E%95%80%8D%5F%2E%AB%92%E0\nEND\n",
+        answered: "OK\nD wraps a key 2415\nOK\nS INQUIRE_MAXLEN 65544\nINQUIRE KEYDATA\nS CACHE_NONCE A0A1A2A3A4A5A6A7A8A9AAAB\nOK\n",
         files_after: Some(&[(GRIP, BY_OCB)]),
         children: &[(
             (
@@ -262,21 +262,21 @@ pub(crate) const KEY_SESSIONS: [Row; 28] = [
             "D abcdefgh\nOK\nOK\nD abcdefg1\nOK\nOK\nD abcdefg1\nOK\n",
             "GETPIN\nSETERROR This passphrase is too weak (try 2 of 3)\nGETPIN\nSETERROR Please repeat the passphrase\nGETPIN\nBYE\n",
         )],
-        dice: b"wrapping key 020 !\"#$%&'()*+,-./0123\xa0\xa1\xa2\xa3\xa4\xa5\xa6\xa7\xa8\xa9\xaa\xab",
+        dice: b"wraps a key 2415 !\"#$%&'()*+,-./0123\xa0\xa1\xa2\xa3\xa4\xa5\xa6\xa7\xa8\xa9\xaa\xab",
         ..KEYS
     },
     // What comes in has to be a wrapped clear key.
     Row {
-        sent: "IMPORT_KEY\nKEYWRAP_KEY --import\nIMPORT_KEY aaaaaaaaaaaaaaaaaaaaaaaaaaaaaaaaaaaaaaaaaaaaaaaaaaa\nIMPORT_KEY\nD %62%B8%9A%AC%75%FD%D7%86%38%52%B8%D3%94%CF%EC%93%67%2E%D2%52%61%F9%3C%A3%EA%CE%5F%DA%FF%7B%A7%40%67%4F%DF%6D%67%8C%4A%34%AB%D6%4E%A3%8E%8B%A1%78\nEND\nIMPORT_KEY\nD a\nEND\nIMPORT_KEY\nD %E4%0A%29%9A%35%3E%43%63%1B%65%0D%70%29%7B%0B%FD%C6%6B%3F%80%06%92%F7%FC%75%C9%70%B1%E7%4B%34%21%58%DA%84%A1%2B%EB%0B%61%AD%59%4C%2A%C3%08%97%70\nEND\nIMPORT_KEY\nD %81%65%8D%30%E7%21%48%1B%66%39%A3%75%33%92%C4%A2%35%15%F7%D9%F2%44%80%79%50%B3%F7%E2%5F%F5%57%DE%4A%79%72%E5%26%B5%92%2D%54%34%CB%C3%24%96%45%FE%46%54%E2%0E%73%5A%D5%CE\nEND\nIMPORT_KEY\nD %59%3B%20%0C%0F%05%3C%EB%E7%F3%07%5E%92%3B%65%AD%E9%B9%49%54%AD%94%79%0C%9B%AD%76%F0%28%D7%F1%BB%C1%3E%E2%89%C3%89%94%47%1D%6B%16%27%99%01%FA%A3%97%58%9B%1C%DA%83%C1%4B%0C%9E%BF%FE%9E%1C%B3%9B%6A%53%A2%EB%C5%B3%44%30%7A%3A%D5%89%C4%05%CC%F0%7C%D6%51%0D%AE%C5%82%96%5B%54%A9%CA%0B%B1%24%F4%51%27%65%D0%29%55%2E%38%C1%F5%52%9C%AF%6D%2D%98%D0%23%30%F9%E8%91%E3%30%B3%2E%A1%E5%2B%4B%03%C7%54%14%7D%1C%DE%D0%C9%06%BA%40%B3%7A%34%C7%05%BA%5C%49%3E%C5%34%D3%91%13%D3%24%D5%8F%39%5D%9C%51%9E%7B%04%7B%59%30%74%CB%6A%DF%E0%C6%A4%DE%87%22%BB%90%6E%38%29%88%9D%15%31%9C%0E%10%5C%5A%8C%47%F0%E9%59%E7%72%62%B3%6A\nEND\nIMPORT_KEY\nCAN\nIMPORT_KEY\nNOP\n",
-        answered: "ERR 67109144 IPC parameter error <GPG Agent>\nD wrapping key 020\nOK\nERR 67109144 IPC parameter error <GPG Agent>\nS INQUIRE_MAXLEN 65544\nINQUIRE KEYDATA\nERR 67108874 Checksum error <GPG Agent>\nS INQUIRE_MAXLEN 65544\nINQUIRE KEYDATA\nERR 67108874 Checksum error <GPG Agent>\nS INQUIRE_MAXLEN 65544\nINQUIRE KEYDATA\nERR 67108947 Invalid S-expression <GPG Agent>\nS INQUIRE_MAXLEN 65544\nINQUIRE KEYDATA\nERR 67108947 Invalid S-expression <GPG Agent>\nS INQUIRE_MAXLEN 65544\nINQUIRE KEYDATA\nERR 67108871 Bad secret key <GPG Agent>\nS INQUIRE_MAXLEN 65544\nINQUIRE KEYDATA\nERR 67108963 Operation cancelled <GPG Agent>\nS INQUIRE_MAXLEN 65544\nINQUIRE KEYDATA\nERR 67109138 Unexpected IPC command <GPG Agent>\n",
+        sent: "IMPORT_KEY\nKEYWRAP_KEY --import\nIMPORT_KEY aaaaaaaaaaaaaaaaaaaaaaaaaaaaaaaaaaaaaaaaaaaaaaaaaaa\nIMPORT_KEY\nD %EE%8F%72%ED%69%3D%2A%3F%65%6D%E4%D7%AF%42%3B%B8%47%D7%AC%29%8B%85%D7%E1%34%CB%F3%6C%26%D8%47%51%FB%63%46%67%BF%84%BF%4E%95%80%8D%5F%2E%AB%92%78\nEND\nIMPORT_KEY\nD a\nEND\nIMPORT_KEY\nD %0A%28%EE%6A%55%14%1D%33%CC%E4%F7%62%27%88%72%F9%15%4F%91%EC%4E%05%32%3C%08%23%10%2E%46%7C%2B%85%A3%80%0E%5E%E5%45%B1%A7%1A%AB%00%6A%49%CF%F4%BB\nEND\nIMPORT_KEY\nD %73%D3%BF%90%9A%D3%7D%C0%2C%E6%B7%08%DA%4D%43%13%7D%64%01%33%A6%8E%35%77%86%A4%F0%15%CE%6E%EE%04%55%5D%07%34%83%25%39%DC%29%80%C3%2B%E9%56%3A%18%7B%97%97%03%6B%64%43%46\nEND\nIMPORT_KEY\nD %D3%D6%A4%AD%15%D0%12%25%79%93%32%F9%6D%DA%37%15%3B%9E%41%D0%03%6A%5C%AC%C4%98%3D%1E%4E%D5%BD%E5%4F%65%87%83%DA%3E%53%2F%2D%55%84%B5%39%C4%14%C5%B8%34%5B%C8%BE%57%1A%50%39%FC%B5%7C%6C%CD%14%31%F1%55%88%A2%BB%2B%08%CF%0B%8F%8B%E1%50%DE%7E%F6%86%6C%50%89%54%BE%B6%5F%1D%6E%4B%53%D5%B2%AF%70%9F%CA%80%D0%6B%A9%FA%D9%62%C8%B1%B3%98%67%6D%B9%AE%86%49%4F%AC%67%09%AD%FF%EC%EF%34%7C%03%2C%27%10%6F%DF%8F%A1%98%B6%8A%6E%A7%E4%E3%B0%0C%8C%E0%75%91%7B%43%CF%4E%71%9E%CB%36%D6%79%D3%75%0B%49%88%8D%77%F7%E8%B6%E3%51%87%5A%7F%5A%F0%A6%38%25%BF%70%B4%2B%C2%C3%C2%7D%A4%EC%D6%EB%16%AE%FF%74%44%4D%A5%52%7B%58%B4%00\nEND\nIMPORT_KEY\nCAN\nIMPORT_KEY\nNOP\n",
+        answered: "ERR 67109144 IPC parameter error <GPG Agent>\nD wraps a key 2415\nOK\nERR 67109144 IPC parameter error <GPG Agent>\nS INQUIRE_MAXLEN 65544\nINQUIRE KEYDATA\nERR 67108874 Checksum error <GPG Agent>\nS INQUIRE_MAXLEN 65544\nINQUIRE KEYDATA\nERR 67108874 Checksum error <GPG Agent>\nS INQUIRE_MAXLEN 65544\nINQUIRE KEYDATA\nERR 67108947 Invalid S-expression <GPG Agent>\nS INQUIRE_MAXLEN 65544\nINQUIRE KEYDATA\nERR 67108947 Invalid S-expression <GPG Agent>\nS INQUIRE_MAXLEN 65544\nINQUIRE KEYDATA\nERR 67108871 Bad secret key <GPG Agent>\nS INQUIRE_MAXLEN 65544\nINQUIRE KEYDATA\nERR 67108963 Operation cancelled <GPG Agent>\nS INQUIRE_MAXLEN 65544\nINQUIRE KEYDATA\nERR 67109138 Unexpected IPC command <GPG Agent>\n",
         files_after: Some(&[]),
-        dice: b"wrapping key 020",
+        dice: b"wraps a key 2415",
         ..KEYS
     },
     // Without bytes for a salt no file is written, and nothing is kept.
     Row {
-        sent: "OPTION s2k-count=65536\nKEYWRAP_KEY --import\nIMPORT_KEY\nD %62%B8%9A%AC%75%FD%D7%86%38%52%B8%D3%94%CF%EC%93%67%2E%D2%52%61%F9%3C%A3%EA%CE%5F%DA%FF%7B%A7%40%67%4F%DF%6D%67%8C%4A%34%AB%D6%4E%A3%8E%8B%A1%69\nEND\nHAVEKEY 81594C58EF1286E89015A30A5CC2072D343B3307\nGETINFO version\n",
-        answered: "OK\nD wrapping key 020\nOK\nS INQUIRE_MAXLEN 65544\nINQUIRE KEYDATA\nERR 67108865 General error <GPG Agent>\nERR 67108881 No secret key <GPG Agent>\nD 2.4.0\nOK\n",
+        sent: "OPTION s2k-count=65536\nKEYWRAP_KEY --import\nIMPORT_KEY\nD %EE%8F%72%ED%69%3D%2A%3F%65%6D%E4%D7%AF%42%3B%B8%47%D7%AC%29%8B%85%D7%E1%34%CB%F3%6C%26%D8%47%51%FB%63%46%67%BF%84%BF%4E%95%80%8D%5F%2E%AB%92%E0\nEND\nHAVEKEY 81594C58EF1286E89015A30A5CC2072D343B3307\nGETINFO version\n",
+        answered: "OK\nD wraps a key 2415\nOK\nS INQUIRE_MAXLEN 65544\nINQUIRE KEYDATA\nERR 67108865 General error <GPG Agent>\nERR 67108881 No secret key <GPG Agent>\nD 2.4.0\nOK\n",
         files_after: Some(&[]),
         children: &[(
             (
@@ -286,13 +286,13 @@ pub(crate) const KEY_SESSIONS: [Row; 28] = [
             "D abcdefg1\nOK\nOK\nD abcdefg1\nOK\n",
             "GETPIN\nSETERROR Please repeat the passphrase\nGETPIN\nBYE\n",
         )],
-        dice: b"wrapping key 020",
+        dice: b"wraps a key 2415",
         ..KEYS
     },
     // A file that can't be written: General error, the nonce stays, and the key's passphrase isn't kept.
     Row {
-        sent: "OPTION s2k-count=65536\nKEYWRAP_KEY --import\nIMPORT_KEY\nD %62%B8%9A%AC%75%FD%D7%86%38%52%B8%D3%94%CF%EC%93%67%2E%D2%52%61%F9%3C%A3%EA%CE%5F%DA%FF%7B%A7%40%67%4F%DF%6D%67%8C%4A%34%AB%D6%4E%A3%8E%8B%A1%69\nEND\nIMPORT_KEY A0A1A2A3A4A5A6A7A8A9AAAB\nD %62%B8%9A%AC%75%FD%D7%86%38%52%B8%D3%94%CF%EC%93%67%2E%D2%52%61%F9%3C%A3%EA%CE%5F%DA%FF%7B%A7%40%67%4F%DF%6D%67%8C%4A%34%AB%D6%4E%A3%8E%8B%A1%69\nEND\n",
-        answered: "OK\nD wrapping key 020\nOK\nS INQUIRE_MAXLEN 65544\nINQUIRE KEYDATA\nERR 67108865 General error <GPG Agent>\nS INQUIRE_MAXLEN 65544\nINQUIRE KEYDATA\nS CACHE_NONCE ABAAA9A8A7A6A5A4A3A2A1A0\nOK\n",
+        sent: "OPTION s2k-count=65536\nKEYWRAP_KEY --import\nIMPORT_KEY\nD %EE%8F%72%ED%69%3D%2A%3F%65%6D%E4%D7%AF%42%3B%B8%47%D7%AC%29%8B%85%D7%E1%34%CB%F3%6C%26%D8%47%51%FB%63%46%67%BF%84%BF%4E%95%80%8D%5F%2E%AB%92%E0\nEND\nIMPORT_KEY A0A1A2A3A4A5A6A7A8A9AAAB\nD %EE%8F%72%ED%69%3D%2A%3F%65%6D%E4%D7%AF%42%3B%B8%47%D7%AC%29%8B%85%D7%E1%34%CB%F3%6C%26%D8%47%51%FB%63%46%67%BF%84%BF%4E%95%80%8D%5F%2E%AB%92%E0\nEND\n",
+        answered: "OK\nD wraps a key 2415\nOK\nS INQUIRE_MAXLEN 65544\nINQUIRE KEYDATA\nERR 67108865 General error <GPG Agent>\nS INQUIRE_MAXLEN 65544\nINQUIRE KEYDATA\nS CACHE_NONCE ABAAA9A8A7A6A5A4A3A2A1A0\nOK\n",
         files_after: Some(&[(GRIP, IN_LATER)]),
         children: &[(
             (
@@ -302,7 +302,7 @@ pub(crate) const KEY_SESSIONS: [Row; 28] = [
             "D abcdefg1\nOK\nOK\nD abcdefg1\nOK\n",
             "GETPIN\nSETERROR Please repeat the passphrase\nGETPIN\nBYE\n",
         )],
-        dice: b"wrapping key 020 !\"#$%&'()*+,-./0123\xa0\xa1\xa2\xa3\xa4\xa5\xa6\xa7\xa8\xa9\xaa\xab'&%$#\"! 3210/.-,+*)(\xab\xaa\xa9\xa8\xa7\xa6\xa5\xa4\xa3\xa2\xa1\xa0",
+        dice: b"wraps a key 2415 !\"#$%&'()*+,-./0123\xa0\xa1\xa2\xa3\xa4\xa5\xa6\xa7\xa8\xa9\xaa\xab'&%$#\"! 3210/.-,+*)(\xab\xaa\xa9\xa8\xa7\xa6\xa5\xa4\xa3\xa2\xa1\xa0",
         key_faults: &[1],
         ..KEYS
     },
@@ -360,7 +360,7 @@ pub(crate) const KEY_SESSIONS: [Row; 28] = [
     // The old passphrase is cached, and the new one afterwards.
     Row {
         sent: "OPTION s2k-count=65536\nPRESET_PASSPHRASE 81594C58EF1286E89015A30A5CC2072D343B3307 -1 6162636465666731\nPASSWD 81594C58EF1286E89015A30A5CC2072D343B3307\nKEYWRAP_KEY --export\nEXPORT_KEY 81594C58EF1286E89015A30A5CC2072D343B3307\n",
-        answered: "OK\nOK\nOK\nD wrapping key 020\nOK\nD b%B8%9A%ACu%FD%D7%868R%B8%D3%94%CF%EC%93g.%D2Ra%F9<%A3%EA%CE_%DA%FF{%A7@gO%DFmg%8CJ4%AB%D6N%A3%8E%8B%A1i\nOK\n",
+        answered: "OK\nOK\nOK\nD wraps a key 2415\nOK\nD %EE%8Fr%EDi=*?em%E4%D7%AFB;%B8G%D7%AC)%8B%85%D7%E14%CB%F3l&%D8GQ%FBcFg%BF%84%BFN%95%80%8D_.%AB%92%E0\nOK\n",
         files: &[(GRIP, BY_CBC)],
         files_after: Some(&[(GRIP, CHANGED)]),
         children: &[(
@@ -371,7 +371,7 @@ pub(crate) const KEY_SESSIONS: [Row; 28] = [
             "D hijklmn2\nOK\nOK\nD hijklmn2\nOK\n",
             "GETPIN\nSETERROR Please repeat the passphrase\nGETPIN\nBYE\n",
         )],
-        dice: b" !\"#$%&'()*+,-./0123wrapping key 020",
+        dice: b" !\"#$%&'()*+,-./0123wraps a key 2415",
         ..KEYS
     },
     // A clear key gets a passphrase. Without one the file stays.
@@ -404,10 +404,10 @@ pub(crate) const KEY_SESSIONS: [Row; 28] = [
     // The client gives both; an empty new one is none.
     Row {
         sent: "OPTION s2k-count=65536\nOPTION pinentry-mode=loopback\nPASSWD 81594C58EF1286E89015A30A5CC2072D343B3307\nD abcdefg1\nEND\nEND\nPASSWD 81594C58EF1286E89015A30A5CC2072D343B3307\nD hijklmn2\nEND\nKEYWRAP_KEY --export\nEXPORT_KEY 81594C58EF1286E89015A30A5CC2072D343B3307\n",
-        answered: "OK\nOK\nS INQUIRE_MAXLEN 255\nINQUIRE PASSPHRASE\nS INQUIRE_MAXLEN 255\nINQUIRE NEW_PASSPHRASE\nERR 67108875 Bad passphrase <GPG Agent>\nS INQUIRE_MAXLEN 255\nINQUIRE NEW_PASSPHRASE\nOK\nD wrapping key 020\nOK\nD b%B8%9A%ACu%FD%D7%868R%B8%D3%94%CF%EC%93g.%D2Ra%F9<%A3%EA%CE_%DA%FF{%A7@gO%DFmg%8CJ4%AB%D6N%A3%8E%8B%A1i\nOK\n",
+        answered: "OK\nOK\nS INQUIRE_MAXLEN 255\nINQUIRE PASSPHRASE\nS INQUIRE_MAXLEN 255\nINQUIRE NEW_PASSPHRASE\nERR 67108875 Bad passphrase <GPG Agent>\nS INQUIRE_MAXLEN 255\nINQUIRE NEW_PASSPHRASE\nOK\nD wraps a key 2415\nOK\nD %EE%8Fr%EDi=*?em%E4%D7%AFB;%B8G%D7%AC)%8B%85%D7%E14%CB%F3l&%D8GQ%FBcFg%BF%84%BFN%95%80%8D_.%AB%92%E0\nOK\n",
         files: &[(GRIP, BY_CBC)],
         files_after: Some(&[(GRIP, CHANGED)]),
-        dice: b" !\"#$%&'()*+,-./0123wrapping key 020",
+        dice: b" !\"#$%&'()*+,-./0123wraps a key 2415",
         ..KEYS
     },
     // Where the new file can't be written, the old one stays, and the new passphrase isn't kept.
@@ -490,7 +490,7 @@ pub(crate) const KEY_SESSIONS: [Row; 28] = [
     // A key in GnuPG's extended format.
     Row {
         sent: "OPTION s2k-count=65536\nKEYINFO 81594C58EF1286E89015A30A5CC2072D343B3307\nKEYWRAP_KEY --export\nEXPORT_KEY 81594C58EF1286E89015A30A5CC2072D343B3307\nPASSWD 81594C58EF1286E89015A30A5CC2072D343B3307\nKEYINFO --list\nEXPORT_KEY 81594C58EF1286E89015A30A5CC2072D343B3307\n",
-        answered: "OK\nS KEYINFO 81594C58EF1286E89015A30A5CC2072D343B3307 D - - - C - - -\nOK\nD wrapping key 020\nOK\nD b%B8%9A%ACu%FD%D7%868R%B8%D3%94%CF%EC%93g.%D2Ra%F9<%A3%EA%CE_%DA%FF{%A7@gO%DFmg%8CJ4%AB%D6N%A3%8E%8B%A1i\nOK\nOK\nS KEYINFO 81594C58EF1286E89015A30A5CC2072D343B3307 D - - 1 P - - -\nOK\nD b%B8%9A%ACu%FD%D7%868R%B8%D3%94%CF%EC%93g.%D2Ra%F9<%A3%EA%CE_%DA%FF{%A7@gO%DFmg%8CJ4%AB%D6N%A3%8E%8B%A1i\nOK\n",
+        answered: "OK\nS KEYINFO 81594C58EF1286E89015A30A5CC2072D343B3307 D - - - C - - -\nOK\nD wraps a key 2415\nOK\nD %EE%8Fr%EDi=*?em%E4%D7%AFB;%B8G%D7%AC)%8B%85%D7%E14%CB%F3l&%D8GQ%FBcFg%BF%84%BFN%95%80%8D_.%AB%92%E0\nOK\nOK\nS KEYINFO 81594C58EF1286E89015A30A5CC2072D343B3307 D - - 1 P - - -\nOK\nD %EE%8Fr%EDi=*?em%E4%D7%AFB;%B8G%D7%AC)%8B%85%D7%E14%CB%F3l&%D8GQ%FBcFg%BF%84%BFN%95%80%8D_.%AB%92%E0\nOK\n",
         files: &[(GRIP, EXTENDED)],
         files_after: Some(&[(GRIP, EXTENDED_CHANGED)]),
         children: &[(
@@ -501,16 +501,16 @@ pub(crate) const KEY_SESSIONS: [Row; 28] = [
             "D hijklmn2\nOK\nOK\nD hijklmn2\nOK\n",
             "GETPIN\nSETERROR Please repeat the passphrase\nGETPIN\nBYE\n",
         )],
-        dice: b"wrapping key 020 !\"#$%&'()*+,-./0123",
+        dice: b"wraps a key 2415 !\"#$%&'()*+,-./0123",
         ..KEYS
     },
     // Without its key it is none.
     Row {
         sent: "KEYWRAP_KEY --export\nEXPORT_KEY 81594C58EF1286E89015A30A5CC2072D343B3307\nPASSWD 81594C58EF1286E89015A30A5CC2072D343B3307\nPASSWD --verify 81594C58EF1286E89015A30A5CC2072D343B3307\nHAVEKEY 81594C58EF1286E89015A30A5CC2072D343B3307\nDELETE_KEY --force 81594C58EF1286E89015A30A5CC2072D343B3307\n",
-        answered: "D wrapping key 020\nOK\nERR 67108947 Invalid S-expression <GPG Agent>\nERR 67108947 Invalid S-expression <GPG Agent>\nERR 67108947 Invalid S-expression <GPG Agent>\nOK\nOK\n",
+        answered: "D wraps a key 2415\nOK\nERR 67108947 Invalid S-expression <GPG Agent>\nERR 67108947 Invalid S-expression <GPG Agent>\nERR 67108947 Invalid S-expression <GPG Agent>\nOK\nOK\n",
         files: &[(GRIP, WITHOUT_KEY)],
         files_after: Some(&[]),
-        dice: b"wrapping key 020",
+        dice: b"wraps a key 2415",
         ..KEYS
     },
 ];
@@ -518,6 +518,6 @@ pub(crate) const KEY_SESSIONS: [Row; 28] = [
 /// A session with one key, and these random bytes.
 pub(crate) const WITH_A_KEY: Row = Row {
     files: &[(GRIP, CLEAR)],
-    dice: b"wrapping key 020a salt 8and an iv 12and a nonce.",
+    dice: b"wraps a key 2415a salt 8and an iv 12and a nonce.",
     ..KEYS
 };

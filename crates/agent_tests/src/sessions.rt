@@ -79,7 +79,7 @@ pub(crate) const KEYS: Row = Row {
 };
 
 /// What is sent, and what is answered. Presets are allowed.
-const ANSWERS: [(&str, &str); 49] = [
+const ANSWERS: [(&str, &str); 48] = [
     (
         "PRESET_PASSPHRASE id1 -1 736563726574\nGET_PASSPHRASE --no-ask --data id1\nBYE\nNOP\n",
         "OK\nD secret\nOK\nOK closing connection\n",
@@ -134,10 +134,9 @@ const ANSWERS: [(&str, &str); 49] = [
     ),
     ("GETINFO cmd_has_option GET_PASSPHRASE repeat\n", "OK\n"),
     ("GETINFO cmd_has_option CLEAR_PASSPHRASE mode\n", "OK\n"),
-    ("GETINFO cmd_has_option KEYINFO list\n", "OK\n"),
     (
-        "GETINFO cmd_has_option KEYINFO force\n",
-        "ERR 67108924 Not supported <GPG Agent>\n",
+        "GETINFO cmd_has_option KEYINFO list\nGETINFO cmd_has_option PASSWD passwd-nonce\nGETINFO cmd_has_option DELETE_KEY stub-only\n",
+        "OK\nOK\nERR 67108924 Not supported <GPG Agent>\n",
     ),
     (
         "GETINFO cmd_has_option GET_PASSPHRASE\n",
@@ -568,7 +567,7 @@ const PRESETS: &str =
     "GETINFO pid\nPRESET_PASSPHRASE id1 -1 736563726574\nGET_PASSPHRASE --no-ask --data id1\nBYE\nNOP\n";
 
 /// The words, what the client sends, the status, and a part of what it is answered, with the programs that were launched.
-const WORDS: [(&[&str], &str, u8, &str); 8] = [
+const WORDS: [(&[&str], &str, u8, &str); 9] = [
     (
         &["--server", "--allow-preset-passphrase"],
         PRESETS,
@@ -584,7 +583,13 @@ const WORDS: [(&[&str], &str, u8, &str); 8] = [
     (&["--server"], PRESETS, 0, "Not supported"),
     (&["--server"], PRESETS, 0, "D 17\n"),
     (&["--server", "--server"], PRESETS, 2, ""),
-    (&["--load=1"], PRESETS, 2, ""),
+    (
+        &["--load=1"],
+        PRESETS,
+        0,
+        "sessions 64 requests 12864 marks ",
+    ),
+    (&["--load=4294967296"], PRESETS, 2, ""),
     (
         &["--server"],
         "GET_PASSPHRASE id1 X X X\n",

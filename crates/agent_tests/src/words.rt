@@ -60,13 +60,16 @@ fn each_option_sets_its_field(rt: HostRuntime) -> Result<(), Fail> {
     Ok(())
 }
 
-const REFUSED: [&str; 38] = [
+const REFUSED: [&str; 41] = [
     "",
     "--workers=2",
     "--server --server",
     "--server --daemon",
     "--daemon --load 7",
-    "--load 7",
+    "--load",
+    "--load=",
+    "--load=x",
+    "--load 4294967296",
     "--server --extra-socket",
     "--daemon --extra-socket",
     "--server --extra-socket=x",

@@ -1,5 +1,6 @@
 mod Ears
 mod Lifting
+mod Loading
 mod Rounds
 mod Running
 mod OptionReading

@@ -78,7 +78,7 @@ extended : (supply : session_lines.Supply) (before after : Outside seen_world) (
 extended supply before after events leads =
     extends at_desk TurnsSolo (λ b asked turn a turns. turns.is) before.desk after.desk (turns_in events) (turns_lead leads)
 
-first_legal : (limits : Limits) → IsLegalRun limits (first_history ∷ [])
+pub first_legal : (limits : Limits) → IsLegalRun limits (first_history ∷ [])
 first_legal limits = record {
   turns_over = tt;
   each = (record { replies = tt; moments = tt; base = refl; not_spent = inr refl; few = omega arith; held = tt }, tt);
@@ -101,7 +101,7 @@ module _ {C La : Type 0} (readings : C → Readings) (launches : La → Launches
     (unused : at_pinentry launches pinentry ≡ no_child rules (launches pinentry.launcher))
     (served : ServesRules (SoloTurn readings) (PinentryCall launches) rules (surroundings (SoloTurn readings) (PinentryCall launches) input output desk pinentry files draws) end
     (surroundings (SoloTurn readings) (PinentryCall launches) input_now output_now desk_now pinentry_now files_now draws_now))
-    (shut : IsShut (at_prompter (at_pinentry launches pinentry_now))) where
+    (free : (seen readings desk_now).out ≡ None) (shut : IsShut (at_prompter (at_pinentry launches pinentry_now))) where
   lifted : Lifts readings launches (supply_of input.bytes) (ends_with input.bytes (surroundings (SoloTurn readings) (PinentryCall launches) input output desk pinentry files draws))
       (ends_with served.rest (surroundings (SoloTurn readings) (PinentryCall launches) input_now output_now desk_now pinentry_now files_now draws_now)) served.events
   lifted = lifts readings launches (supply_of input.bytes) served.leads
@@ -134,6 +134,7 @@ module _ {C La : Type 0} (readings : C → Readings) (launches : La → Launches
         end = end;
         number_is = is;
         desk = seen readings desk_now;
+        free = free;
         clock = refl;
         served = record {
           events = served.events;

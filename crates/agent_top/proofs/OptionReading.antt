@@ -21,7 +21,8 @@ use Rattle.clap.specs.Lexer.{long_of, long_of_rest, strip_byte}
 use Rattle.clap.specs.declared.error.kind.ErrorKind.{ErrorKind}
 use Rattle.agent_top.specs.declared.words.WordsFault.{WordsFault}
 use Rattle.agent_top.specs.declared.words.WordsFault.TheVariants.{Bad, NoMemory}
-use Rattle.agent_top.specs.Options.{IsRead, given_in, after_dashes, has_its_value, fault_by, command_of, rule_for, is_readable, are_readable, row_for, rows_for, is_plain}
+use Rattle.agent_top.specs.Faults.{fault_by}
+use Rattle.agent_top.specs.Options.{IsRead, given_in, after_dashes, has_its_value, command_of, rule_for, is_readable, are_readable, row_for, rows_for, is_plain}
 use Rattle.agent_top.specs.Settings.{Setting, settings, is_set, are_distinct, alone, is_value_of, is_equals, holds_equals, begins_with_dash}
 use Rattle.agent_top.specs.declared.words.forms.Form.{Form}
 use Rattle.agent_top.specs.declared.words.forms.Form.TheVariants.{Flag, Path, Number}

@@ -14,8 +14,9 @@ use Rattle.session_options.specs.declared.rules.RunMode.{RunMode}
 use Rattle.session_options.specs.declared.rules.RunMode.TheVariants.{Server, Daemon, Load}
 use Rattle.agent_top.proofs.Stopping.{stays_stopped}
 use Rattle.agent_serve.specs.Working.{HostViews}
+use Rattle.agent_top.specs.Load.{RunsLoad, no_memory as no_memory_for_load}
 use Rattle.agent_top.specs.Daemon.{RunsDaemon, no_memory as no_memory_for_it, IsFirstStopped}
-use Rattle.agent_top.specs.Top.{IfServer, IfDaemon, UsesParts, RunsServer, no_memory, machine, with_pid, exit_number}
+use Rattle.agent_top.specs.Top.{IfServer, IfDaemon, IfLoad, UsesParts, RunsServer, no_memory, machine, with_pid, exit_number}
 use Rattle.agent_top.specs.declared.status.Status.TheVariants as status
 
 pub if_server : (run : RunMode) {P : Type 0} → P → IfServer run P
@@ -51,6 +52,11 @@ if_daemon Server p = tt
 if_daemon Daemon p = p
 if_daemon (Load number) p = tt
 
+pub if_load : (run : RunMode) (P : ℕ → Type 0) → ((number : ℕ) → P number) → IfLoad run P
+if_load Server P p = tt
+if_load Daemon P p = tt
+if_load (Load number) P p = p number
+
 any_rules : (rules : Option Rules) {P : Rules → Type 0} → ((given : Rules) → P given) → IfSome rules P
 any_rules None p = tt
 any_rules (Some given) p = p given
@@ -62,6 +68,12 @@ settled_already views (Some parts) = record { launcher = refl; clock = refl; dic
 parts_of : {La C R K : Type 0} (parts : Option (Parts La C R K)) → IsSome parts → (had : Parts La C R K) × (parts ≡ Some had)
 parts_of None some = absurd (cc some)
 parts_of (Some had) some = (had, refl)
+
+-- where there was no memory for the words, a load didn't run
+pub no_words_for_load : {La C R K : Type 0} (views : Views La C R K) (rules : Option Rules) (number : ℕ) (input output : Side) (parts : Option (Parts La C R K)) → number ≡ exit_number status.NoMemory
+    → IfSome rules (λ given. IfLoad given.run (λ load. RunsLoad load output number output × (input ≡ input) × AreSettled views parts parts))
+no_words_for_load views rules number input output parts is =
+    any_rules rules (λ given. if_load given.run _ (λ load. (rw is no_memory_for_load, refl, settled_already views parts)))
 
 -- where there was no memory for the words, the server didn't run
 pub no_words_served : {La C R K : Type 0} (views : Views La C R K) (rules : Option Rules) (pid number : ℕ) (input output : Side) (parts : Option (Parts La C R K)) → IsSome parts → number ≡ exit_number status.NoMemory

@@ -29,7 +29,7 @@ empty_word = refl
 abbrev field : {X : Type 0} → (Rules → X) → List (List ℕ) → Option X
 field of words = option_map of (rules_of words)
 
--- the table reads the three, and two are built
+-- the table reads the three, and all are built
 server : option_map (λ r. r.run) (rules_from (settings (codes "--server" ∷ []))) ≡ Some Server
 unfolding form_of
 server = refl
@@ -54,9 +54,9 @@ daemon_is_built : field (λ r. r.run) (codes "--daemon" ∷ []) ≡ Some Daemon
 unfolding form_of
 daemon_is_built = refl
 
-load_is_not_built : rules_of (codes "--load=1" ∷ []) ≡ None
+load_is_built : field (λ r. r.run) (codes "--load=1" ∷ []) ≡ Some (Load 1)
 unfolding form_of
-load_is_not_built = refl
+load_is_built = refl
 
 extra_socket_is_not_built : rules_of (codes "--daemon" ∷ codes "--extra-socket" ∷ []) ≡ None
 unfolding form_of

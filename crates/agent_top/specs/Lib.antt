@@ -1,6 +1,8 @@
 pub mod Cache
 pub mod Daemon
+pub mod Faults
 pub mod Forms
+pub mod Load
 pub mod Options
 pub mod Settings
 pub mod Top

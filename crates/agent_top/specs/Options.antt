@@ -13,10 +13,6 @@ use Rattle.clap.specs.declared.builder.value_parser.Reading.TheVariants.{AsWritt
 use Rattle.clap.specs.declared.parser.matches.ValueSource.TheVariants.{CommandLine}
 use Rattle.agent_top.specs.Settings.{Setting, begins_with_dash, are_distinct}
 use Rattle.agent_top.specs.Forms.{forms, form_of, is_of_form}
-use Rattle.agent_top.specs.declared.words.WordsFault.{WordsFault}
-use Rattle.agent_top.specs.declared.words.WordsFault.TheVariants.{Bad, NoMemory}
-use Rattle.clap.specs.declared.error.kind.ErrorKind.{ErrorKind}
-use Rattle.clap.specs.declared.error.kind.ErrorKind.TheVariants.{OutOfMemory}
 use Rattle.agent_top.specs.declared.words.forms.Form.{Form}
 use Rattle.agent_top.specs.declared.words.forms.Form.TheVariants.{Flag, Path, Number}
 
@@ -115,7 +111,3 @@ takes form (Some value) = is_of_form form (Some value)
 
 abbrev pub takes_row : List Row → List ℕ × Form → Bool
 takes_row rows row = takes row.1 (first_of row.0 rows)
-
-abbrev pub fault_by : ErrorKind → WordsFault
-fault_by OutOfMemory = NoMemory
-fault_by _ = Bad

@@ -82,12 +82,13 @@ pub record ReplaysTurns (limits : Limits) (before : Readings) (turns : List Take
   pub replays : Replays limits session steps read run
 
 -- A session was served, and the number is that of its end. The cache began empty. Its run is legal, and has the marks of the session's
--- turns in their order, each at the moment that the clock's reading says. Its prompts were those of the rules' pinentry, and no child is
--- left. Its events lead the key files and the random bytes from what they were to what they are.
+-- turns in their order, each at the moment that the clock's reading says. Its prompts were those of the rules' pinentry, and no
+-- ticket and no child is left. Its events lead the key files and the random bytes from what they were to what they are.
 pub record RunsSession (rules : Rules) (before : Machine) (number : ℕ) (after : Machine) : Type 0 where
   pub end : SessionEnd
   pub number_is : number ≡ exit_number (status_of end)
   pub desk : AtSolo
+  pub free : desk.out ≡ None
   pub clock : desk.clock ≡ after.clock
   pub served : ServesRules TurnsSolo PinentryDoes rules (with_desk rules (fresh_desk (limits_of rules) before.clock) before) end (with_desk rules desk after)
   pub extended : IsExtended (limits_of rules) session (first_history ∷ []) (turns_in served.events) desk.run
@@ -126,3 +127,9 @@ abbrev pub IfDaemon : RunMode → Type 0 → Type 0
 IfDaemon Server P = ⊤
 IfDaemon Daemon P = P
 IfDaemon (Load number) P = ⊤
+
+-- what is said where a load is asked for
+abbrev pub IfLoad : RunMode → (ℕ → Type 0) → Type 0
+IfLoad Server P = ⊤
+IfLoad Daemon P = ⊤
+IfLoad (Load number) P = P number

@@ -64,11 +64,11 @@ is_daemon (Load number) = false
 abbrev pub if_extra_fits : Rules → Option Rules
 if_extra_fits rules = if rules.extra && not (is_daemon rules.run) then None else Some rules
 
--- a socket for restricted sessions and a load aren't built yet, and are refused so long
+-- a socket for restricted sessions isn't built yet, and is refused so long
 abbrev pub if_built_for : Rules → RunMode → Option Rules
 if_built_for rules Server = Some rules
 if_built_for rules Daemon = if rules.extra then None else Some rules
-if_built_for rules (Load number) = None
+if_built_for rules (Load number) = Some rules
 
 abbrev pub if_built : Rules → Option Rules
 if_built rules = if_built_for rules rules.run

@@ -21,7 +21,7 @@ use std::sync::Wait;
 use std::thread::Threads;
 
 /// More bytes than a summary has: its words, seven numbers of at most 20 digits, and a line feed.
-const SUMMARY_ROOM: usize = 256;
+pub(crate) const SUMMARY_ROOM: usize = 256;
 
 /// Serves the links of the host's listener until a session stops the agent, and writes a line that says what was done.
 ///
@@ -173,7 +173,7 @@ fn write_summary<S: Link>(stdio: &mut S, tally: &Tally) -> Sent
 }
 
 /// What was done, as a line.
-fn summary_line(tally: &Tally) -> ArrayVec<u8, SUMMARY_ROOM>
+pub(crate) fn summary_line(tally: &Tally) -> ArrayVec<u8, SUMMARY_ROOM>
     ensures { result.items ≡ summary_line tally.now }
 {
     let mut line = ArrayVec::new();

@@ -5,10 +5,12 @@ ghost use Rattle.agent_top.specs.Cache.{limits_of, fresh_desk};
 ghost use Rattle.agent_top.specs.Words.{rules_of};
 ghost use Rattle.agent_ports.specs.HostParts.{AreSettled};
 ghost use Rattle.agent_top.specs.Daemon.{RunsDaemon};
-ghost use Rattle.agent_top.specs.Top.{exit_number, machine, with_pid, IsRefusal, no_child, UsesParts, RunsServer, IfServer, IfDaemon};
+ghost use Rattle.agent_top.specs.Load.{RunsLoad};
+ghost use Rattle.agent_top.specs.Top.{exit_number, machine, with_pid, IsRefusal, no_child, UsesParts, RunsServer, IfServer, IfDaemon, IfLoad};
 
 use crate::Status;
 use crate::daemon::run_daemon;
+use crate::load::run_load;
 use crate::words::{WordsFault, read_words};
 use agent_core::{KnownCore, Solo};
 use agent_ports::{Clock, Dice, Host, Keys, Launcher, Link, SessionId};
@@ -22,14 +24,14 @@ use std::sync::Wait;
 use std::thread::Threads;
 
 /// The session that is served on standard input and output.
-const SESSION: SessionId = SessionId { pass: 0, count: 0 };
+pub(crate) const SESSION: SessionId = SessionId { pass: 0, count: 0 };
 
-/// The agent. It reads its words, which leave out the program's name, and serves a session on standard input and output, or as a daemon
-/// those of a listener.
+/// The agent. It reads its words, which leave out the program's name, settles the host at the folder that they say, and serves a session on
+/// standard input and output, or as a daemon those of a listener.
 ///
 /// Its answer is the status of the process: 0 at BYE, at KILLAGENT or at the end of the input, 1 where there is no memory for the words or the session,
 /// 2 for words that it doesn't take, 3 and 4 where a read or a write failed, 6 after 2^40 bytes, and 7 at a line of more than 1,000 bytes.
-/// With `--daemon` it is as `run_daemon` says.
+/// With `--daemon` it is as `run_daemon` says, and with `--load` as `run_load` does.
 pub fn run_agent<W: Threads + Wait + rt::Clock + Sync, S: Link, H: Host + Sync>(
     rt: &W,
     alloc: Global,
@@ -67,6 +69,10 @@ where
         (with_pid (H.process host.old) rules) (H.listens host.old) (S.output stdio.old) result (H.listens host.new) (S.output stdio.new)
         × (S.input stdio.new ≡ S.input stdio.old)
         × AreSettled (record { launches = H.Launcher.launches; readings = H.Clock.readings; draws = H.Dice.draws; keys = H.Keys.keys }) (H.server host.old) (H.server host.new))) }
+    // Words for a load: it was served, and its line was written, unless there was no memory. Nothing is read, and the host keeps its parts.
+    ensures load { IfSome (rules_of (map string_bytes words.now)) (λ rules. IfLoad rules.run (λ number. RunsLoad number (S.output stdio.old) result (S.output stdio.new)
+        × (S.input stdio.new ≡ S.input stdio.old)
+        × AreSettled (record { launches = H.Launcher.launches; readings = H.Clock.readings; draws = H.Dice.draws; keys = H.Keys.keys }) (H.server host.old) (H.server host.new))) }
     ensures process { H.process host.new ≡ H.process host.old }
 {
     match read_words(alloc, words) {
@@ -75,6 +81,9 @@ where
             host.settle(&rules.homedir);
             if rules.run == RunMode::Daemon {
                 return run_daemon(rt, alloc, &rules, stdio, host);
+            }
+            if let RunMode::Load(number) = rules.run {
+                return run_load(alloc, number, stdio);
             }
             run_server(alloc, &rules, stdio, host)
         }

@@ -49,7 +49,7 @@ impl fmt::Display for WordsFault {
 impl Error for WordsFault {}
 
 /// Reads the words of the command line, without the program's name, as the rules that they mean (GnuPG manual, "agent
-/// options"). `--extra-socket` and `--load` are refused, since they aren't built yet.
+/// options"). `--extra-socket` is refused, since it isn't built yet.
 pub fn read_words(alloc: Global, words: &[String]) -> Result<Rules, WordsFault>
     ensures rules { IfOk result (λ rules. rules_of (map string_bytes words.now) ≡ Some rules) }
     ensures bad { IfErr result (λ fault. fault ≡ WordsFault.Bad → rules_of (map string_bytes words.now) ≡ None) }
@@ -71,14 +71,14 @@ fn if_extra_fits(rules: Rules) -> Option<Rules>
     Some(rules)
 }
 
-/// The rules, where what they ask for is built. A socket for restricted sessions and a load aren't yet.
+/// The rules, where what they ask for is built. A socket for restricted sessions isn't yet.
 fn if_built(rules: Rules) -> Option<Rules>
     ensures { result ≡ if_built rules }
 {
     match rules.run {
         RunMode::Server => Some(rules),
         RunMode::Daemon => { if rules.extra { None } else { Some(rules) } }
-        RunMode::Load(_) => None,
+        RunMode::Load(_) => Some(rules),
     }
 }
 

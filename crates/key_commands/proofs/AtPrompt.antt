@@ -1,11 +1,9 @@
--- Parts that are one prompt for a passphrase, and how the session goes on after it.
-use Rattle.std.proofs.Common.{◌≡◌, ◌≢◌, ◌≤◌, ℕ, Bool, List, [], Option, Some, Ok, Err, IsSome, refl, ap, ◌∙◌, subst}
-use Rattle.std.specs.Option.{option_map}
-use Rattle.agent_ask.specs.Callers.{IsUnheardBy, unheard_of}
-use Rattle.agent_ask.specs.Clients.{Hears, LeftByHeard, LeftByPin}
+-- Prompts for a passphrase as parts of a request.
+use Rattle.std.proofs.Common.{◌≡◌, ◌≢◌, ℕ, Bool, List, [], Option, Some, Ok, Err, IsSome, refl, ap, ◌∙◌, subst}
+use Rattle.agent_ask.specs.Callers.{IsUnheardBy}
+use Rattle.agent_ask.specs.Clients.{Hears, LeftByPin}
 use Rattle.agent_ask.specs.Doing.{PromptEnds, DoesPrompt, HasEvents}
 use Rattle.agent_ask.specs.Events.{Call}
-use Rattle.agent_ask.specs.Further.{DoesFurther, prompt}
 use Rattle.agent_ask.specs.Plans.{IsSpec, plan_of}
 use Rattle.agent_ask.specs.Prompts.{AsksPinBy}
 use Rattle.agent_ask.specs.Tests.{PinTest, Tests, EndsAccepted}
@@ -16,81 +14,38 @@ use Rattle.agent_ask.specs.declared.caller.Heard.TheVariants.{Fine, Secret, Canc
 use Rattle.agent_ask.specs.declared.spec.AskPlan.{AskPlan}
 use Rattle.agent_ask.specs.declared.spec.PromptSpec.{PromptSpec}
 use Rattle.agent_ask.specs.declared.test.Tested.{Tested}
-use Rattle.agent_ask.proofs.Prompting.{shown}
 use Rattle.agent_ports.specs.Leads.{none, one}
 use Rattle.arrayvec.specs.ArrayVec.{ArrayVec}
-use Rattle.assuan_line.specs.Next.{held}
 use Rattle.assuan_server.specs.Clients.{connection_views, Wishes}
 use Rattle.assuan_server.specs.Connections.{Connection, IsOpen}
-use Rattle.cache_policy.specs.declared.mark.MarkStep.{MarkStep}
-use Rattle.cache_policy.specs.Turns.{Turn}
+use Rattle.assuan_server.specs.declared.errors.Code.TheVariants as code
 use Rattle.secret_file.specs.Opens.{LockedKey, OpensTo, FitsFile}
-use Rattle.session_client.specs.Asking.{LeftBy}
 use Rattle.session_options.specs.OptionValues.{OptionValues}
 use Rattle.session_options.specs.declared.rules.Rules.{Rules}
-use Rattle.session_client.specs.declared.unheard.Unheard.{Unheard}
-use Rattle.session_client.specs.declared.unheard.Unheard.TheVariants as unheard
 use Rattle.sexp_keys.specs.Key.{Key}
 use Rattle.key_commands.specs.Events.{Event}
 use Rattle.key_commands.specs.Lines.{text}
-use Rattle.key_commands.specs.Parts.{Part, refusal_went}
-use Rattle.key_commands.specs.Partial.{NoTurn, DoesAtPrompter}
+use Rattle.key_commands.specs.Parts.{Part}
+use Rattle.key_commands.specs.Partial.{DoesAtPrompter}
 use Rattle.key_commands.specs.Passphrases.{PromptsPin, pin_refusal}
-use Rattle.key_commands.specs.States.{ReaderAfter, FaultsRise, KeyState, key_state}
 use Rattle.key_commands.specs.Trials.{IsTrial, IsUsable}
 use Rattle.key_commands.specs.declared.refusal.Refusal.{Refusal}
-use Rattle.key_commands.specs.declared.refusal.Refusal.TheVariants.{Client}
-use Rattle.key_commands.specs.declared.went.KeyWent.TheVariants.{On}
-use Rattle.key_commands.proofs.AtClient.{reader_unheard, faults_unheard}
+use Rattle.key_commands.specs.declared.refusal.Refusal.TheVariants.{Agent, Pinentry}
+use Rattle.key_commands.proofs.Prompts.{IsLeft, part_prompted, left_open, left_unheard}
 use Rattle.key_commands.proofs.Opening.{usable_so}
 
--- ---- refusals
-
--- what the client said in place of a note, by which a request is refused
-record RefusedBy (why : Refusal) (start now : Connection) : Type 0 where
-  pub said : Unheard
-  pub is : why ≡ Client said
-  pub left : LeftBy connection_views {A = List ℕ} (Err said) start now
-
-refused_by : (start now : Connection) (heard : Heard) (why : Refusal) → option_map Client (unheard_of heard) ≡ Some why → LeftByHeard connection_views heard start now → RefusedBy why start now
-refused_by start now Fine why is left = cc is
-refused_by start now (Secret secret) why is left = cc is
-refused_by start now Cancelled why is left = record { said = unheard.Cancelled; is = cc is; left = left }
-refused_by start now TooMuch why is left = record { said = unheard.TooMuch; is = cc is; left = left }
-refused_by start now Unexpected why is left = record { said = unheard.Unexpected; is = cc is; left = left }
-refused_by start now (Gone how) why is left = record { said = unheard.Gone how; is = cc is; left = left }
-
--- how the session goes on
-pub record GoesOnBy {D P : Type 0} (turned : D → MarkStep → Turn → D → Type 0) (prompted : P → Call → P → Type 0) (why : Refusal) (start now : KeyState turned prompted) : Type 0 where
-  pub fits : ReaderAfter (refusal_went why) start.conn.reader now.conn.reader
-  pub faults : FaultsRise turned prompted (refusal_went why) start now
-
-same_in : {A : Type 0} {first second : A} → Some first ≡ Some second → first ≡ second
-same_in is = cc is
-
-module _ {D P : Type 0} (turned : D → MarkStep → Turn → D → Type 0) (prompted : P → Call → P → Type 0) (start now : KeyState turned prompted)
-    (fewer : IsOpen now.conn → held now.conn.reader ≤ held start.conn.reader) where
-  -- the client is still there
-  on_open : (told why : Refusal) → Some told ≡ Some why → refusal_went told ≡ On → IsOpen now.conn → GoesOnBy turned prompted why start now
-  on_open told why is on going =
-      let on_too : refusal_went why ≡ On = subst (λ (w : Refusal). refusal_went w ≡ On) (same_in is) on in
-      record { fits = rw on_too (going, fewer going); faults = rw on_too (record { read = λ e. absurd (cc e); write = λ e. absurd (cc e) }) }
-
-  pub by_heard : (heard : Heard) (why : Refusal) → option_map Client (unheard_of heard) ≡ Some why → LeftByHeard connection_views heard start.conn now.conn → GoesOnBy turned prompted why start now
-  by_heard heard why is left =
-      let by = refused_by start.conn now.conn heard why is left in
-      rw by.is (record { fits = reader_unheard start.conn now.conn fewer by.said by.left; faults = faults_unheard turned prompted start now by.said by.left })
-
-  pub by_pin : (answer : Asked) (why : Refusal) → pin_refusal answer ≡ Some why → LeftByPin connection_views answer start.conn now.conn → GoesOnBy turned prompted why start now
-  by_pin (asked.Pin pin) why is left = cc is
-  by_pin asked.Cancelled why is left = on_open _ why is refl left
-  by_pin asked.TimedOut why is left = on_open _ why is refl left
-  by_pin asked.NoPinentry why is left = on_open _ why is refl left
-  by_pin asked.Bad why is left = on_open _ why is refl left
-  by_pin asked.NoMemory why is left = on_open _ why is refl left
-  by_pin (asked.Heard heard) why is left = by_heard heard why is left
-
 -- ---- one prompt
+
+-- how the connection is left by a prompt whose answer refuses its request
+left_by_pin : (A : Type 0) (start now : Connection) (answer : Asked) (why : Refusal) → pin_refusal answer ≡ Some why → LeftByPin connection_views answer start now
+    → IsLeft {A = A} (Err why) start now
+left_by_pin A start now (asked.Pin pin) why is left = cc is
+left_by_pin A start now asked.Cancelled why is left = left_open A start now (Pinentry code.Cancelled) why is left
+left_by_pin A start now asked.TimedOut why is left = left_open A start now (Pinentry code.Timeout) why is left
+left_by_pin A start now asked.NoPinentry why is left = left_open A start now (Agent code.NoPinentry) why is left
+left_by_pin A start now asked.Bad why is left = left_open A start now (Agent code.BadPass) why is left
+left_by_pin A start now asked.NoMemory why is left = left_open A start now (Agent code.NoMemory) why is left
+left_by_pin A start now (asked.Heard heard) why is left = left_unheard A start now heard why is left
 
 module _ {P : Type 0} (prompted : P → Call → P → Type 0) {T : Type 0} {tested : T → List ℕ → Tested → T → Type 0} {before after : T} {spec : PromptSpec} {plan : AskPlan}
     {Rule : List ℕ → Type 0} {answer : Asked} {start now : PromptEnds P Connection}
@@ -99,32 +54,14 @@ module _ {P : Type 0} (prompted : P → Call → P → Type 0) {T : Type 0} {tes
   -- it came to a passphrase
   pub prompt_gave : {value : A} → IsOpen now.caller → ((events : List Event) → PromptsPin spec plan Rule events answer → part (Some ticket) events (Ok value) (Some ticket))
       → DoesAtPrompter part prompted (Some ticket) start.caller start.prompter (Ok value) now.caller now.prompter
-  prompt_gave going each files side =
-      let s =
-      shown connection_views NoTurn prompted (DoesFurther prompted) (λ prompter. record { prompter = prompter; keys = files; dice = side }) (λ before after event does. prompt does) tt asks.lead in
-      record {
-        events = s.events;
-        does = each s.events (record { prompt = asks.events; asks = asks.are.asks; in_session = s.in_session });
-        done = s.done;
-        fits = (going, s.fewer going);
-        faults = record { read = λ e. absurd (cc e); write = λ e. absurd (cc e) };
-      }
+  prompt_gave going each = part_prompted asks.lead (λ events shown. each events (record { prompt = asks.events; asks = asks.are.asks; in_session = shown })) going
 
   -- or the request is refused by its answer
   pub prompt_refused : {why : Refusal} → pin_refusal answer ≡ Some why → LeftByPin connection_views answer start.caller now.caller
       → ((events : List Event) → PromptsPin spec plan Rule events answer → part (Some ticket) events (Err why) (Some ticket))
       → DoesAtPrompter part prompted (Some ticket) start.caller start.prompter (Err why) now.caller now.prompter
-  prompt_refused {why} is left each files side =
-      let s =
-      shown connection_views NoTurn prompted (DoesFurther prompted) (λ prompter. record { prompter = prompter; keys = files; dice = side }) (λ before after event does. prompt does) tt asks.lead in
-      let goes = by_pin NoTurn prompted (key_state NoTurn prompted start.caller tt start.prompter files side) (key_state NoTurn prompted now.caller tt now.prompter files side) s.fewer answer why is left in
-      record {
-        events = s.events;
-        does = each s.events (record { prompt = asks.events; asks = asks.are.asks; in_session = s.in_session });
-        done = s.done;
-        fits = goes.fits;
-        faults = goes.faults;
-      }
+  prompt_refused {why} is left each =
+      part_prompted asks.lead (λ events shown. each events (record { prompt = asks.events; asks = asks.are.asks; in_session = shown })) (left_by_pin A start.caller now.caller answer why is left)
 
 -- a prompt that gave no passphrase refuses its request
 pub pin_refuses : (answer : Asked) → ((heard : Heard) → answer ≡ asked.Heard heard → IsUnheardBy heard) → ((pin : List ℕ) → answer ≢ asked.Pin pin) → IsSome (pin_refusal answer)

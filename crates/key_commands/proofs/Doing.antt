@@ -17,7 +17,7 @@ use Rattle.key_commands.specs.Events.{Event, called, out_of_memory}
 use Rattle.key_commands.specs.KeyParts.{change_fault}
 use Rattle.key_commands.specs.Parts.{Part, ◌>>=◌, goes_on, stops}
 use Rattle.key_commands.specs.States.{KeyWorld, KeyState, KeyLead, key_state, ReaderAfter, FaultsRise, went_by, DoesPart}
-use Rattle.key_commands.specs.Steps.{DoesTurn, DoesTurns, still, one, AreAlone, nothing, memory, DoesAlone, KeysLead, none, calls, wants_memory, DoesKeyCalls, DoesDrawing, IsChanged}
+use Rattle.key_commands.specs.Steps.{DoesTurn, DoesTurns, still, one, AreAlone, nothing, memory, DoesAlone, KeysLead, none, calls, wants_memory, DoesKeyCalls, DoesDrawing, DoesDrawings, no_draw, one_draw, IsChanged}
 use Rattle.key_commands.specs.declared.refusal.Refusal.{Refusal}
 use Rattle.key_commands.specs.declared.refusal.Refusal.TheVariants.{Agent}
 use Rattle.key_commands.specs.declared.went.KeyWent.{KeyWent}
@@ -174,3 +174,9 @@ module _ {D P : Type 0} (turned : D → MarkStep → Turn → D → Type 0) (pro
       fits = still_open (went_by result) on conn going;
       faults = no_fault (went_by result) on _ _;
     }
+
+    pub part_draws : {A : Type 0} {part : Part A} {result : Result A Refusal} (keys : KeyFiles) {dice now : Side} (ticket : Option ℕ) → IsOpen conn → went_by result ≡ On
+        → DoesDrawings part dice result now
+        → DoesPart turned prompted part ticket (key_state turned prompted conn desk prompter keys dice) result ticket (key_state turned prompted conn desk prompter keys now)
+    part_draws keys {dice} ticket going on (no_draw does) = part_still conn (record { prompter = prompter; keys = keys; dice = dice }) desk going on (does ticket)
+    part_draws keys ticket going on (one_draw done) = part_drawn keys ticket going on done

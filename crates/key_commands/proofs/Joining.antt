@@ -11,7 +11,7 @@ use Rattle.session_options.specs.OptionValues.{OptionValues}
 use Rattle.session_options.specs.declared.rules.Rules.{Rules}
 use Rattle.sexp_keys.specs.Key.{Key}
 use Rattle.key_commands.specs.Events.{Event}
-use Rattle.key_commands.specs.Parts.{Part, ◌>>=◌, Asks, given, empty, opened, interrupted, opened as seat_opened, interrupted as seat_interrupted, Changes, done, interrupted as change_interrupted, returns, refuses, wanted}
+use Rattle.key_commands.specs.Parts.{Part, ◌>>=◌, Asks, given, empty, opened, interrupted, opened as seat_opened, interrupted as seat_interrupted, returns, refuses, wanted}
 use Rattle.key_commands.specs.Partial.{LeavesKeys}
 use Rattle.key_commands.specs.Passphrases.{Locks, is_locked, has_fault, no_memory as no_lock_memory, Tries, opens, stays, no_memory, TriesFound, LooksForNonce, TakesSeat, old_by, verified_by}
 use Rattle.key_commands.specs.States.{went_by}
@@ -66,10 +66,6 @@ asks_on given = refl
 asks_on empty = refl
 asks_on opened = refl
 asks_on (interrupted by) = refl
-
-pub keeps_on : {step : MarkStep} {before after : Option ℕ} {events : List Event} {result : Result (Unit {0}) Refusal} → Changes step before events result after → went_by result ≡ On
-keeps_on done = refl
-keeps_on (change_interrupted by) = refl
 
 pub locks_on : {key : Key} {before after : Option ℕ} {events : List Event} {result : Result LockedKey Refusal} → Locks key before events result after → went_by result ≡ On
 locks_on (is_locked same locked) = refl

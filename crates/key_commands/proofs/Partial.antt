@@ -10,10 +10,14 @@ use Rattle.assuan_server.specs.Connections.{Connection, IsOpen}
 use Rattle.cache_policy.specs.declared.mark.MarkStep.{MarkStep}
 use Rattle.cache_policy.specs.Turns.{Turn}
 use Rattle.key_commands.specs.Events.{Event}
+use Rattle.key_commands.specs.Exchanges.{KeyReply}
 use Rattle.key_commands.specs.Parts.{Part}
 use Rattle.key_commands.specs.Partial.{NoTurn, NoCall, DoesAtPrompter, DoesAtDesk, DoesAtClient, LeavesKeys}
-use Rattle.key_commands.specs.States.{KeyWorld, KeyState, DoesPart}
+use Rattle.key_commands.specs.Replies.{CarriesOut, comes_to, stops_at}
+use Rattle.key_commands.specs.States.{KeyWorld, KeyState, DoesPart, key_state}
 use Rattle.key_commands.specs.declared.refusal.Refusal.{Refusal}
+use Rattle.key_commands.specs.declared.reply.Reply.{Reply}
+use Rattle.key_commands.specs.declared.wrap_keys.WrapKeys.{WrapKeys}
 
 -- Each turn of a desk is one of another desk that holds it, and each call of a prompter one of another prompter.
 module _ {E Q D P : Type 0} (part_turned : E → MarkStep → Turn → E → Type 0) (part_prompted : Q → Call → Q → Type 0)
@@ -62,6 +66,12 @@ module _ {E Q D P : Type 0} (part_turned : E → MarkStep → Turn → E → Typ
     faults = record { read = done.faults.read; write = done.faults.write };
   }
 
+  -- all of a request but its reply
+  pub carries_in : {part : Part KeyReply} {before after : WrapKeys} {held : Option ℕ} {answer : Result Reply Refusal} {start now : KeyState part_turned part_prompted}
+      → CarriesOut part_turned part_prompted part before start answer after held now → CarriesOut turned prompted part before (state_in start) answer after held (state_in now)
+  carries_in (comes_to each) = comes_to (λ text is. part_in (each text is))
+  carries_in (stops_at part) = stops_at (part_in part)
+
 module _ {D P : Type 0} (turned : D → MarkStep → Turn → D → Type 0) (prompted : P → Call → P → Type 0) {A : Type 0} {part : Part A} {result : Result A Refusal}
     {conn conn_now : Connection} where
   -- a part at the client alone, with a desk and a prompter beside
@@ -81,6 +91,14 @@ module _ {D P : Type 0} (turned : D → MarkStep → Turn → D → Type 0) (pro
       → LeavesKeys turned prompted part before conn desk prompter result after conn_now desk_now prompter
   beside_desk prompter done files side =
       part_in turned NoCall turned prompted (λ same. same) (λ none. prompter) (λ before after step turn does. does) (λ before after call never. absurd never) (done files side)
+
+-- a part of which no prompter is called, with one beside
+pub with_prompter : {D P A : Type 0} {turned : D → MarkStep → Turn → D → Type 0} (prompted : P → Call → P → Type 0) {part : Part A} {before after : Option ℕ} {result : Result A Refusal}
+    {start now : KeyState turned NoCall} (prompter : P) → DoesPart turned NoCall part before start result after now
+    → DoesPart turned prompted part before (key_state turned prompted start.conn start.desk prompter start.ends.keys start.ends.dice) result after
+    (key_state turned prompted now.conn now.desk prompter now.ends.keys now.ends.dice)
+with_prompter {turned} prompted prompter done =
+    part_in turned NoCall turned prompted (λ same. same) (λ none. prompter) (λ before after step turn does. does) (λ before after call never. absurd never) done
 
 -- a connection is open after a part that came to a value
 pub open_after : {D P A : Type 0} {turned : D → MarkStep → Turn → D → Type 0} {prompted : P → Call → P → Type 0} {part : Part A} {before after : Option ℕ} {value : A}

@@ -1,5 +1,5 @@
 -- What is done for requests on keys, on worked examples.
-use Rattle.std.specs.Prelude.{◌≡◌, ℕ, nat_le, true, false, List, [], ◌∷◌, ◌++◌, length, take, drop, replicate, codes, Some, None, Ok, refl}
+use Rattle.std.specs.Prelude.{◌≡◌, ◌≤◌, ℕ, true, false, List, [], ◌∷◌, ◌++◌, length, take, drop, replicate, codes, Some, None, Ok, refl}
 use Rattle.agent_ask.specs.Further.{Replaced}
 use Rattle.agent_ask.specs.SessionEvents.{Sent, cache_turn}
 use Rattle.agent_ports.specs.declared.grip.Grip.{Grip}
@@ -22,9 +22,9 @@ use Rattle.sexp_keys.specs.Key.{Key}
 use Rattle.sexp_keys.specs.Lists.{key_list_of}
 use Rattle.sexp_keys.specs.declared.algorithm.Algorithm.{Algorithm}
 use Rattle.key_commands.specs.Events.{called, read, drew, not_drawn}
-use Rattle.key_commands.specs.Exchanges.{Exchange, answered, refused, with_wrap_key, KeyInfoReplies, KeyWrapReplies, ExportKeyReplies, PasswdReplies, DeleteKeyReplies, reply}
+use Rattle.key_commands.specs.Exchanges.{Exchange, answered, refused, with_wrap_key, KeyInfoReplies, KeyWrapReplies, ExportKeyReplies, PasswdReplies, RewritesFile, DeleteKeyReplies, reply}
 use Rattle.key_commands.specs.Files.{FileSays, canonical_file}
-use Rattle.key_commands.specs.KeyParts.{is_key, file_in, tells, made, done as replaced}
+use Rattle.key_commands.specs.KeyParts.{is_key, file_in, tells, short, made, done as replaced}
 use Rattle.key_commands.specs.Lines.{ok, info_line, grip_text, IsDataAnswer}
 use Rattle.key_commands.specs.Parts.{goes_on, stops, returns, refuses, peeked, absent, unheld, drawn, given, done, faulted}
 use Rattle.key_commands.specs.Passphrases.{ask_nonce, put_key, is_locked, opens, OpensLocked}
@@ -83,21 +83,21 @@ module _ (rules : Rules) (options : OptionValues) (wraps : WrapKeys) (grip : Gri
       → let key : Key = record { algorithm = algorithm; is_clear = false; public = public; private = private; further = further } in
       let made_file : List ℕ = protected_file clear (ocb_protection clear second.entry.secret (take 8 drawn_bytes) (drop 8 drawn_bytes) options.s2k_count None) None in
       file_in answer ≡ Some file → FileSays file (Ok key) → is_canonical file ≡ true → locked.key ≡ key → IsLocked locked → OpensTo locked first.entry.secret clear
-      → nat_le (length (key_list_of clear)) MAX_LIST_LEN ≡ true → length drawn_bytes ≡ 20
+      → length (key_list_of clear) ≤ MAX_LIST_LEN → length drawn_bytes ≡ 20
       → Exchange rules options wraps (Passwd grip (Some old) (Some new) false)
       (read grip answer ∷ cache_turn (ask_nonce old) (Given first) ∷ cache_turn (ask_nonce new) (Given second) ∷ drew drawn_bytes ∷ called (Replaced grip made_file IsDone)
       ∷ cache_turn (put_key grip second.entry.secret) Done ∷ Sent ok ∷ []) wraps On
-  unfolding PasswdReplies OpensLocked
-  changed_by_nonces {old} {new} {drawn_bytes} {clear} {first} {second} answer is says in_form key_is locked_is opens_to short twenty =
+  unfolding PasswdReplies OpensLocked RewritesFile
+  changed_by_nonces {old} {new} {drawn_bytes} {clear} {first} {second} answer is says in_form key_is locked_is opens_to within twenty =
       answered (read grip answer ∷ cache_turn (ask_nonce old) (Given first) ∷ cache_turn (ask_nonce new) (Given second) ∷ drew drawn_bytes ∷ called (Replaced grip _ IsDone)
       ∷ cache_turn (put_key grip second.entry.secret) Done ∷ []) None (reply wraps ok)
       (goes_on (is_key is says)
       (goes_on {first = cache_turn (ask_nonce old) (Given first) ∷ []} (goes_on (is_locked key_is locked_is) (goes_on given (goes_on (opens opens_to) returns)))
-      (goes_on {first = []} {value = tt} {mid = None} (rw short returns)
-      (goes_on {first = cache_turn (ask_nonce new) (Given second) ∷ []} given
-      (goes_on returns
+      (goes_on
+      (goes_on {first = []} {value = tt} {mid = None} (short within)
+      (goes_on {first = cache_turn (ask_nonce new) (Given second) ∷ []} (goes_on given returns)
       (goes_on (drawn twenty)
       (goes_on made
       (goes_on (canonical_file in_form)
-      (goes_on replaced
-      (goes_on done returns)))))))))) unheld
+      (goes_on replaced done))))))
+      returns))) unheld

@@ -1,4 +1,4 @@
--- Private: what a session does for its requests on keys, over the lines that this project's server reads.
+-- What a session does for its requests on keys, over the lines that this project's server reads.
 use Rattle.std.specs.Prelude.{ℕ, List}
 use Rattle.agent_ask.specs.Further.{EventOf, KeyCall, Read, Keys, Dice, Drew, NotDrawn, NoMemory}
 use Rattle.agent_ask.specs.SessionEvents.{Further}

@@ -1,6 +1,6 @@
--- Private: requests on keys and what is done for them, as the GnuPG manual has them ("Agent's Assuan protocol"). The codes, the texts and the order of
+-- Requests on keys and what is done for them, as the GnuPG manual has them ("Agent's Assuan protocol"). The codes, the texts and the order of
 -- what is done are this project's own.
-use Rattle.std.specs.Prelude.{◌++◌, ℕ, nat_le, Bool, true, false, List, [], ◌∷◌, length, take, drop, Option, Some, None, Ok, Err}
+use Rattle.std.specs.Prelude.{◌++◌, ℕ, Bool, true, false, List, [], ◌∷◌, take, drop, Option, Some, None, Ok, Err}
 use Rattle.agent_ask.specs.SessionEvents.{Sent}
 use Rattle.agent_ports.specs.declared.grip.Grip.{Grip}
 use Rattle.assuan_server.specs.declared.errors.Code.TheVariants as code
@@ -10,11 +10,11 @@ use Rattle.cache_policy.specs.declared.mode.Mode.TheVariants.{Normal, Nonce}
 use Rattle.assuan_escape.specs.Escapes.{hex_text}
 use Rattle.session_options.specs.OptionValues.{OptionValues}
 use Rattle.session_options.specs.declared.rules.Rules.{Rules}
-use Rattle.sexp_keys.specs.Lists.{key_list_of}
+use Rattle.sexp_keys.specs.Key.{Key}
 use Rattle.key_commands.specs.Events.{Event}
 use Rattle.key_commands.specs.Files.{Rewrites}
-use Rattle.key_commands.specs.Lines.{ok, grip_text, nonce_line, limit_line, text}
-use Rattle.key_commands.specs.Parts.{Part, ◌>>=◌, Returns, Refuses, needed, wanted, or_else, Changes, Closes, Writes, Finds, Draws, refusal_events, refusal_went}
+use Rattle.key_commands.specs.Lines.{ok, grip_text, nonce_line}
+use Rattle.key_commands.specs.Parts.{Part, ◌>>=◌, Returns, Refuses, needed, wanted, or_else, Changes, Closes, Finds, Draws, refusal_events, refusal_went}
 use Rattle.key_commands.specs.Passphrases.{OldPassphrase, NewPassphrase, VerifiesPassphrase, LooksForNonce}
 use Rattle.key_commands.specs.declared.refusal.Refusal.{Refusal}
 use Rattle.key_commands.specs.declared.refusal.Refusal.TheVariants.{Agent}
@@ -24,9 +24,8 @@ use Rattle.key_commands.specs.declared.request.KeyRequest.{KeyRequest}
 use Rattle.key_commands.specs.declared.request.KeyRequest.TheVariants.{HaveKey, KeyInfo, ListKeys, KeyWrap, ImportKey, ExportKey, Passwd, DeleteKey, Bad}
 use Rattle.key_commands.specs.declared.went.KeyWent.{KeyWent}
 use Rattle.key_commands.specs.declared.went.KeyWent.TheVariants.{On}
-use Rattle.key_commands.specs.declared.wrapping.TheConstants.{MAX_LIST_LEN}
 use Rattle.key_commands.specs.declared.wrap_keys.WrapKeys.{WrapKeys}
-use Rattle.key_commands.specs.KeyParts.{Tells, ReadsFile, Replaces, Removes, Protects, KeepsNew, HasOne, TellsInfo, ListsGrips, WritesInfos, max_key_data, AsksKeyData, Unwraps, NamesKey, IsFree, LooksOver, WrapsKey, Consents}
+use Rattle.key_commands.specs.KeyParts.{Tells, ReadsFile, Replaces, Removes, Protects, IsShort, KeepsNew, HasOne, TellsInfo, ListsGrips, WritesInfos, ReceivesKey, NamesKey, IsFree, LooksOver, WrapsKey, Consents}
 
 -- what a request is answered where it isn't refused, and the wrapping keys after it
 pub record KeyReply : Type 0 where
@@ -46,7 +45,50 @@ abbrev pub with_wrap_key : Direction → List ℕ → WrapKeys → WrapKeys
 with_wrap_key Import key wraps = record { import = Some key; export = wraps.export }
 with_wrap_key Export key wraps = record { import = wraps.import; export = Some key }
 
+-- ---- IMPORT_KEY
+
+-- A key that came in is written to its file, protected by a passphrase, which is cached under a new nonce before.
+abbrev pub StoresKey : (count : ℕ) → Key → Grip → (pass : List ℕ) → Part (List ℕ)
+StoresKey count key grip pass = do
+  -- a salt of 8 bytes, an initialization vector of 12, and a nonce of 12
+  drawn ← Draws 32
+  file ← Protects key pass (take 8 drawn) (take 12 (drop 8 drawn)) count
+  cached ← Changes (Put (hex_text (drop 20 drawn)) Nonce Default pass)
+  replaced ← Replaces grip file
+  kept ← KeepsNew grip pass
+  Returns (drop 20 drawn)
+
 module _ (rules : Rules) (options : OptionValues) where
+  -- the passphrase that protects a key that comes in: what is cached under the nonce, or else a new one
+  abbrev pub FoundOrNew : Option (List ℕ) → Grip → Part (List ℕ)
+  FoundOrNew nonce grip = do
+    found ← LooksOver nonce
+    or_else found (NewPassphrase rules options grip)
+
+  -- ---- PASSWD, once the key is open
+
+  -- a new passphrase: what is cached under the nonce, or else as the client wants it
+  abbrev pub RenewsPassphrase : Grip → Option (List ℕ) → Part (List ℕ)
+  RenewsPassphrase grip nonce = do
+    found ← LooksForNonce nonce
+    or_else found (NewPassphrase rules options grip)
+
+  -- a clear key's file is protected by a passphrase, which is kept
+  unfoldable pub RewritesFile : Grip → (file : List ℕ) → Key → (pass : List ℕ) → Part (Unit {0})
+  RewritesFile grip file key pass = do
+    -- a salt of 8 bytes, and an initialization vector of 12
+    drawn ← Draws 20
+    list ← Protects key pass (take 8 drawn) (drop 8 drawn) options.s2k_count
+    new ← Rewrites file list
+    replaced ← Replaces grip new
+    KeepsNew grip pass
+
+  abbrev pub ChangesOpened : Grip → Option (List ℕ) → (file : List ℕ) → Key → Part (Unit {0})
+  ChangesOpened grip nonce file key = do
+    short ← IsShort key
+    pass ← RenewsPassphrase grip nonce
+    RewritesFile grip file key pass
+
   -- ---- what is done for each request
 
   module _ (wraps : WrapKeys) where
@@ -77,20 +119,12 @@ module _ (rules : Rules) (options : OptionValues) where
     unfoldable pub ImportKeyReplies : Bool → Option (List ℕ) → Part KeyReply
     ImportKeyReplies force nonce = do
       wrap ← needed code.Parameter wraps.import
-      told ← Writes (limit_line max_key_data)
-      wrapped ← AsksKeyData
-      key ← Unwraps wrap wrapped
+      key ← ReceivesKey wrap
       grip ← NamesKey key
       free ← IsFree force grip
-      found ← LooksOver nonce
-      pass ← or_else found (NewPassphrase rules options grip)
-      -- a salt of 8 bytes, an initialization vector of 12, and a nonce of 12
-      drawn ← Draws 32
-      file ← Protects key pass (take 8 drawn) (take 12 (drop 8 drawn)) options.s2k_count
-      cached ← Changes (Put (hex_text (drop 20 drawn)) Nonce Default pass)
-      replaced ← Replaces grip file
-      kept ← KeepsNew grip pass
-      Returns (reply wraps (nonce_line (hex_text (drop 20 drawn)) ++ ok))
+      pass ← FoundOrNew nonce grip
+      cache_nonce ← StoresKey options.s2k_count key grip pass
+      Returns (reply wraps (nonce_line (hex_text cache_nonce) ++ ok))
 
     unfoldable pub ExportKeyReplies : Grip → Option (List ℕ) → Part KeyReply
     ExportKeyReplies grip nonce = do
@@ -106,15 +140,7 @@ module _ (rules : Rules) (options : OptionValues) where
     PasswdReplies grip nonce new_nonce = do
       file ← ReadsFile grip
       opened ← OldPassphrase rules options grip nonce file.key
-      short ← wanted code.BadSecKey (nat_le (length (key_list_of opened.key)) MAX_LIST_LEN)
-      found ← LooksForNonce new_nonce
-      pass ← or_else found (NewPassphrase rules options grip)
-      -- a salt of 8 bytes, and an initialization vector of 12
-      drawn ← Draws 20
-      list ← Protects opened.key pass (take 8 drawn) (drop 8 drawn) options.s2k_count
-      new ← Rewrites file.bytes list
-      replaced ← Replaces grip new
-      kept ← KeepsNew grip pass
+      changed ← ChangesOpened grip new_nonce file.bytes opened.key
       Returns (reply wraps ok)
 
     -- PASSWD --verify

@@ -1,4 +1,4 @@
--- Private: how requests are refused whose key can't be used. The codes are this project's own.
+-- How requests are refused whose key can't be used. The codes are this project's own.
 use Rattle.assuan_server.specs.declared.errors.Code.{Code}
 use Rattle.assuan_server.specs.declared.errors.Code.TheVariants as code
 use Rattle.sexp_keys.specs.declared.fault.KeyFault.{KeyFault}

@@ -1,4 +1,4 @@
--- Private: what the bytes of a key's file say, and what is written over one: the one place that knows in which formats files are (GnuPG's notes on the
+-- What the bytes of a key's file say, and what is written over one: the one place that knows in which formats files are (GnuPG's notes on the
 -- format of private keys, agent/keyformat.txt).
 use Rattle.std.specs.Prelude.{◌≡◌, ◌≤◌, ◌<◌, ℕ, true, false, List, [], ◌∷◌, length, Option, Some, None, Result, Ok, Err}
 use Rattle.assuan_server.specs.declared.errors.Code.TheVariants as code

@@ -1,6 +1,6 @@
--- Private: the parts of requests on keys that are no passphrase's: what is done with key files and with wrapped keys, and how consent is asked for (GnuPG
+-- The parts of requests on keys that are no passphrase's: what is done with key files and with wrapped keys, and how consent is asked for (GnuPG
 -- manual, "Agent's Assuan protocol"). The codes, the texts and the order of what is done are this project's own.
-use Rattle.std.specs.Prelude.{◌≡◌, ◌≢◌, ℕ, Bool, true, false, List, [], ◌∷◌, codes, not, Option, Some, None, Result, Ok, Err}
+use Rattle.std.specs.Prelude.{◌≡◌, ◌≢◌, ◌≤◌, ◌<◌, length, ℕ, Bool, true, false, List, [], ◌∷◌, codes, not, Option, Some, None, Result, Ok, Err}
 use Rattle.std.specs.Option.{option_map}
 use Rattle.agent_ask.specs.Callers.{unheard_of}
 use Rattle.agent_ask.specs.Consents.{AsksConsent}
@@ -32,11 +32,11 @@ use Rattle.session_options.specs.declared.options.PinMode.{PinMode}
 use Rattle.session_options.specs.declared.options.PinMode.TheVariants as mode
 use Rattle.session_options.specs.declared.rules.Rules.{Rules}
 use Rattle.sexp_keys.specs.Key.{Key}
-use Rattle.sexp_keys.specs.Lists.{grip_of}
+use Rattle.sexp_keys.specs.Lists.{grip_of, key_list_of}
 use Rattle.sexp_keys.specs.declared.fault.KeyFault.{KeyFault}
 use Rattle.key_commands.specs.Events.{Event, called, read, out_of_memory}
 use Rattle.key_commands.specs.Files.{FileSays}
-use Rattle.key_commands.specs.Lines.{IsDataAnswer, info_line, text, delete_description}
+use Rattle.key_commands.specs.Lines.{IsDataAnswer, info_line, limit_line, text, delete_description}
 use Rattle.key_commands.specs.Parts.{Part, ◌>>=◌, Returns, Refuses, wanted, unless, Seats, Changes, Peeks, Closes, Writes, Inquires, Finds, read_fault}
 use Rattle.key_commands.specs.Passphrases.{ask_nonce, put_key}
 use Rattle.key_commands.specs.Faults.{fault_code}
@@ -44,6 +44,7 @@ use Rattle.key_commands.specs.Wrapping.{wrapped_key, WrappedSays}
 use Rattle.key_commands.specs.declared.key_calls.KeyFile.{KeyFile}
 use Rattle.key_commands.specs.declared.refusal.Refusal.{Refusal}
 use Rattle.key_commands.specs.declared.refusal.Refusal.TheVariants.{Agent, Pinentry, Client}
+use Rattle.key_commands.specs.declared.wrapping.TheConstants.{MAX_LIST_LEN}
 use Rattle.agent_ports.specs.declared.keys.KeyNames.{KeyNames}
 
 -- bytes are answered by data lines
@@ -90,6 +91,12 @@ pub data Protects (key : Key) (pass salt iv : List ℕ) (count : ℕ) (held : Op
   made : Protects key pass salt iv count held [] (Ok (protected_file key (ocb_protection key pass salt iv count None) None)) held
   no_memory : Protects key pass salt iv count held (out_of_memory ∷ []) (Err (Agent code.NoMemory)) held
 
+-- a clear key is short enough to be protected
+pub data IsShort (key : Key) (held : Option ℕ) : List Event → Result (Unit {0}) Refusal → Option ℕ → Type 0 where
+  short : length (key_list_of key) ≤ MAX_LIST_LEN → IsShort key held [] (Ok tt) held
+  long : MAX_LIST_LEN < length (key_list_of key) → IsShort key held [] (Err (Agent code.BadSecKey)) held
+  no_memory : IsShort key held (out_of_memory ∷ []) (Err (Agent code.NoMemory)) held
+
 -- a passphrase that was given for a key's new file is kept: by the ticket that the request holds, or else by a turn of its own
 abbrev pub KeepsNew : Grip → List ℕ → Part (Unit {0})
 KeepsNew grip pass None = Changes (put_key grip pass) None
@@ -132,12 +139,16 @@ WritesInfo grip (Some key) = do
   line ← TellsInfo grip key
   Writes line
 
+abbrev pub TellsListed : Grip → Part (Unit {0})
+TellsListed grip = do
+  key ← ReadsListed grip
+  WritesInfo grip key
+
 -- a line for each of these keys, each written before the next key is read
 abbrev pub WritesInfos : List Grip → Part (Unit {0})
 WritesInfos [] = Returns tt
 WritesInfos (grip ∷ more) = do
-  key ← ReadsListed grip
-  written ← WritesInfo grip key
+  told ← TellsListed grip
   WritesInfos more
 
 -- ---- IMPORT_KEY
@@ -157,6 +168,13 @@ pub data Unwraps (wrap wrapped : List ℕ) (held : Option ℕ) : List Event → 
   is_key : {key : Key} → WrappedSays wrap wrapped (Ok key) → Unwraps wrap wrapped held [] (Ok key) held
   refused : {code : Code} → WrappedSays wrap wrapped (Err code) → Unwraps wrap wrapped held [] (Err (Agent code)) held
   no_memory : Unwraps wrap wrapped held (out_of_memory ∷ []) (Err (Agent code.NoMemory)) held
+
+-- the client is told the limit, and sends a key that is wrapped under this wrapping key
+abbrev pub ReceivesKey : (wrap : List ℕ) → Part Key
+ReceivesKey wrap = do
+  told ← Writes (limit_line max_key_data)
+  wrapped ← AsksKeyData
+  Unwraps wrap wrapped
 
 -- a key is named by the grip of its public list
 pub data NamesKey (key : Key) (held : Option ℕ) : List Event → Result Grip Refusal → Option ℕ → Type 0 where

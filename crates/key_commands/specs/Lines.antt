@@ -1,4 +1,4 @@
--- Private: the lines that requests on keys are answered by (GnuPG manual, "Agent HAVEKEY", "Agent EXPORT"). The forms of the status lines are this
+-- The lines that requests on keys are answered by (GnuPG manual, "Agent HAVEKEY", "Agent EXPORT"). The forms of the status lines are this
 -- project's own.
 use Rattle.std.specs.Prelude.{◌≡◌, ℕ, Bool, List, [], ◌++◌, codes, decimal, if◌then◌else◌}
 use Rattle.assuan_escape.specs.Escapes.{hex_text}

@@ -1,4 +1,4 @@
--- Private: the parts of a request, one after another. A part is a relation between the ticket that the request holds before it, its events, what it
+-- The parts of a request, one after another. A part is a relation between the ticket that the request holds before it, its events, what it
 -- comes to, which is a value or a refusal, and the ticket that the request holds then. This is the project's own.
 use Rattle.std.specs.Prelude.{◌≡◌, ℕ, ◌++◌, List, [], ◌∷◌, Option, Some, None, Result, Ok, Err, Bool, true, false, length}
 use Rattle.std.specs.Option.{option_map}

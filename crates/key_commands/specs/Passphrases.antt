@@ -1,4 +1,4 @@
--- Private: how a request comes by the passphrase of a key, old or new (GnuPG manual, "Agent EXPORT", "Agent PASSWD"). Where it is looked for, in which order, and what
+-- How a request comes by the passphrase of a key, old or new (GnuPG manual, "Agent EXPORT", "Agent PASSWD"). Where it is looked for, in which order, and what
 -- is kept of it, is this project's own.
 use Rattle.std.specs.Prelude.{◌≡◌, ◌==◌, ℕ, Bool, true, false, List, [], ◌∷◌, length, codes, Option, Some, None, Result, Ok, Err, not, ⊤}
 use Rattle.std.specs.Option.{option_map}

@@ -23,6 +23,7 @@ use Rattle.key_commands.specs.declared.wrap_keys.WrapKeys.{WrapKeys}
 abbrev pub IsReply : Reply → List ℕ → Type 0
 IsReply replies.Ok text = text ≡ ok
 IsReply (replies.Info grip cached clear) text = text ≡ info_line grip cached clear ++ ok
+IsReply (replies.WrapKey key) text = IsDataAnswer key text
 IsReply (replies.Data bytes) text = IsDataAnswer bytes text
 IsReply (replies.Nonce nonce) text = text ≡ nonce_line (hex_text nonce) ++ ok
 

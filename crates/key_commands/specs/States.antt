@@ -1,4 +1,4 @@
--- Private: how a session stands at some state of its code before and after a request on keys, and how events lead from one to the other.
+-- How a session stands at some state of its code before and after a request on keys, and how events lead from one to the other.
 use Rattle.std.specs.Prelude.{◌≡◌, ◌≤◌, ℕ, List, Option, None, Result, Ok, Err}
 use Rattle.agent_ask.specs.Events.{Call}
 use Rattle.agent_ask.specs.Further.{further_world}

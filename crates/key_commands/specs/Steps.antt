@@ -12,8 +12,12 @@ use Rattle.agent_ports.specs.declared.keys.KeyDone.{KeyDone}
 use Rattle.agent_ports.specs.declared.keys.KeyDone.TheVariants.{Done}
 use Rattle.assuan_server.specs.declared.errors.Code.{Code}
 use Rattle.assuan_server.specs.declared.errors.Code.TheVariants as code
+use Rattle.assuan_server.specs.declared.inquiry.Inquired.{Inquired}
+use Rattle.assuan_server.specs.declared.inquiry.Inquired.TheVariants as inquired
 use Rattle.cache_policy.specs.declared.mark.MarkStep.{MarkStep}
 use Rattle.cache_policy.specs.Turns.{Turn}
+use Rattle.session_client.specs.declared.unheard.Gone.TheVariants as gone
+use Rattle.session_client.specs.declared.unheard.Unheard.TheVariants as unheard
 use Rattle.sexp_keys.specs.Key.{Key}
 use Rattle.sexp_keys.specs.declared.fault.KeyFault.{KeyFault}
 use Rattle.sexp_keys.specs.declared.fault.KeyFault.TheVariants as fault
@@ -21,7 +25,7 @@ use Rattle.key_commands.specs.Events.{Event, called, out_of_memory}
 use Rattle.key_commands.specs.KeyParts.{change_fault, consent_refusal}
 use Rattle.key_commands.specs.Parts.{Part}
 use Rattle.key_commands.specs.declared.refusal.Refusal.{Refusal}
-use Rattle.key_commands.specs.declared.refusal.Refusal.TheVariants.{Agent}
+use Rattle.key_commands.specs.declared.refusal.Refusal.TheVariants.{Agent, Client}
 
 -- these are zero bytes, and fewer than a block of the wrapping
 abbrev pub are_padding : List ℕ → Bool
@@ -70,6 +74,11 @@ pub record DoesDrawing {A : Type 0} (part : Part A) (before : Side) (result : Re
   pub draws : DoesDraw before draw after
   pub does : (held : Option ℕ) → part held (Further (Dice draw) ∷ []) result held
 
+-- one draw at most
+pub data DoesDrawings {A : Type 0} (part : Part A) (before : Side) (result : Result A Refusal) : Side → Type 0 where
+  no_draw : ((held : Option ℕ) → part held [] result held) → DoesDrawings part before result before
+  one_draw : {after : Side} → DoesDrawing part before result after → DoesDrawings part before result after
+
 -- a change of a key's file was done, or is refused by this answer
 abbrev pub IsChanged : KeyDone → Result (Unit {0}) Refusal → Type 0
 IsChanged done (Ok changed) = done ≡ Done
@@ -89,3 +98,16 @@ IsAgreed _ = ⊤
 abbrev pub IsConsented : Agreed → Result (Unit {0}) Refusal → Type 0
 IsConsented answer (Ok consented) = answer ≡ agreed.Yes
 IsConsented answer (Err why) = consent_refusal answer ≡ Some why
+
+-- the bytes of a key that the client gave, or how its request is refused
+abbrev pub key_data_of : Inquired → Result (List ℕ) Refusal
+key_data_of (inquired.Data bytes) = Ok bytes.items
+key_data_of inquired.NoMemory = Err (Agent code.NoMemory)
+key_data_of inquired.Cancelled = Err (Client unheard.Cancelled)
+key_data_of inquired.TooMuch = Err (Client unheard.TooMuch)
+key_data_of inquired.Unexpected = Err (Client unheard.Unexpected)
+key_data_of inquired.Ended = Err (Client (unheard.Gone gone.Ended))
+key_data_of inquired.TooLong = Err (Client (unheard.Gone gone.TooLong))
+key_data_of inquired.Spent = Err (Client (unheard.Gone gone.Spent))
+key_data_of inquired.ReadFault = Err (Client (unheard.Gone gone.ReadFault))
+key_data_of inquired.WriteFault = Err (Client (unheard.Gone gone.WriteFault))

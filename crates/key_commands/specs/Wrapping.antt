@@ -1,4 +1,4 @@
--- Private: keys that are wrapped under a session's wrapping key (RFC 3394), as EXPORT_KEY sends them and IMPORT_KEY takes them. That zero bytes fill the
+-- Keys that are wrapped under a session's wrapping key (RFC 3394), as EXPORT_KEY sends them and IMPORT_KEY takes them. That zero bytes fill the
 -- last block, the limits, and which fault comes first, are this project's own.
 use Rattle.std.specs.Prelude.{◌≡◌, ◌≤◌, ◌<◌, ◌-◌, ◌%◌, ℕ, true, false, List, ◌++◌, length, replicate, Result, Ok, Err, IsTrue}
 use Rattle.std.specs.List.{concat}

@@ -1,3 +1,5 @@
+ghost use Rattle.std.specs.Prelude.{◌≡◌};
+
 use agent_ports::Grip;
 use session_options::{Options, Rules};
 use std::alloc::Global;
@@ -9,4 +11,24 @@ pub(crate) struct Asking<'a> {
     pub(crate) grip: &'a Grip,
     pub(crate) rules: &'a Rules,
     pub(crate) options: &'a Options,
+}
+
+impl<'a> Asking<'a> {
+    pub(crate) fn of(
+        alloc: Global,
+        grip: &'a Grip,
+        rules: &'a Rules,
+        options: &'a Options,
+    ) -> Asking<'a>
+        ensures grip { result.grip.now ≡ grip.now }
+        ensures rules { result.rules.now ≡ rules.now }
+        ensures options { result.options.now ≡ options.now }
+    {
+        Asking {
+            alloc,
+            grip,
+            rules,
+            options,
+        }
+    }
 }

@@ -1,6 +1,6 @@
 //! Draws of random bytes, as parts of a request.
 
-ghost use Rattle.std.specs.Prelude.{◌≡◌, IfOk};
+ghost use Rattle.std.specs.Prelude.{◌≡◌};
 ghost use Rattle.key_commands.specs.Parts.{Draws};
 ghost use Rattle.key_commands.specs.Steps.{DoesDrawing};
 
@@ -31,12 +31,17 @@ impl<const N: usize> Drawn<N> {
     {
         &self.bytes
     }
-}
 
-impl<const N: usize> Drop for Drawn<N> {
-    fn drop(self) {
-        let Drawn { mut bytes } = self;
-        wipe(&mut bytes);
+    /// The same bytes once more.
+    pub(crate) fn copy(&self) -> Drawn<N>
+        ensures { result ≡ self.now }
+    {
+        Drawn { bytes: self.bytes }
+    }
+
+    /// Overwrites the bytes where they lie.
+    pub(crate) fn clear(&mut self) {
+        wipe(&mut self.bytes);
     }
 }
 
@@ -49,5 +54,12 @@ pub(crate) fn draw<const N: usize, R: Dice>(dice: &mut R) -> Result<Drawn<N>, Re
         Ok(drawn)
     } else {
         Err(Refusal::Agent(Code::General))
+    }
+}
+
+impl<const N: usize> Drop for Drawn<N> {
+    fn drop(self) {
+        let Drawn { mut bytes } = self;
+        wipe(&mut bytes);
     }
 }

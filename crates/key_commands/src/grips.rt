@@ -1,4 +1,4 @@
-ghost use Rattle.std.specs.Prelude.{◌≡◌, ◌==◌, ◌≤◌, ◌++◌, ◌∷◌, [], true, false, length};
+ghost use Rattle.std.specs.Prelude.{◌≡◌, ◌==◌, ◌≤◌, ◌++◌, ◌∷◌, [], true, false, length, map};
 ghost use Rattle.key_commands.specs.declared.grips.TheConstants.{MAX_GRIPS};
 
 use agent_ports::Grip;
@@ -43,6 +43,13 @@ impl Grips {
         ensures full { result ≡ false → length self.old ≡ MAX_GRIPS }
     {
         self.bytes.try_push(grip.0).is_ok()
+    }
+
+    /// The bytes of the grips.
+    pub(crate) fn bytes(&self) -> &[[u8; 20]]
+        ensures { self.now ≡ map (λ bytes. record { 0 = bytes }) result.now }
+    {
+        self.bytes.as_slice()
     }
 
     pub(crate) fn is_empty(&self) -> bool

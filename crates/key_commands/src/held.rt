@@ -18,6 +18,24 @@ impl Model for Held {
 }
 
 impl Held {
+    /// No ticket.
+    pub(crate) fn new() -> Held
+        ensures { result ≡ None }
+    {
+        Held { ticket: None }
+    }
+
+    /// Nothing is left to be given back.
+    pub(crate) fn end(self)
+        requires { self ≡ None }
+    {
+        let Held { ticket } = self;
+        match ticket {
+            None => {}
+            Some(_) => unreachable!(),
+        }
+    }
+
     /// Keeps a ticket, where none is held.
     pub(crate) fn put(&mut self, ticket: Ticket)
         requires { self.old ≡ None }

@@ -1,36 +1,46 @@
-//! The commands on the agent's key files: a line of the client read as a request, or refused by a code, what each request does, and the
-//! parts of doing it. No request is carried out yet.
+//! The commands on the agent's key files: a line of the client read as a request, or refused by a code, and carried out and answered over any
+//! link, any desk, any prompter, any keys and any dice.
 #![tactic(auto)]
 
 mod asking;
 mod consent;
+mod deleting;
 mod drawing;
+mod export;
 mod faults;
 mod files;
 mod grips;
 mod held;
+mod importing;
 mod inquiries;
 mod key_calls;
+mod listing;
 mod names;
 mod new;
 mod nonces;
 mod old;
 mod opened;
+mod passwd;
 mod prompting;
+mod protecting;
 mod read;
+mod receiving;
 mod refusal;
 mod reply;
 mod request;
+mod run;
 mod texts;
 mod turns;
 mod went;
 mod wrap_keys;
 mod wrapping;
 
+pub use drawing::Drawn;
 pub use grips::{Grips, MAX_GRIPS};
 pub use names::{KEY_COMMANDS, KeyCommandName, key_commands_are_as_defined};
 pub use read::read_key;
 pub use request::{Direction, KeyRequest};
+pub use run::run_key;
 pub use went::KeyWent;
 pub use wrap_keys::WrapKeys;
 pub use wrapping::MAX_LIST_LEN;

@@ -4,19 +4,21 @@ ghost use Rattle.std.specs.Prelude.{◌≡◌};
 ghost use Rattle.agent_ask.specs.Prompters.{IsShut};
 ghost use Rattle.assuan_server.specs.Connections.{IsOpen};
 ghost use Rattle.session_options.specs.declared.options.PinMode.TheVariants as pin_mode;
+ghost use Rattle.key_commands.specs.Exchanges.{RenewsPassphrase};
 ghost use Rattle.key_commands.specs.Partial.{DoesAtClient, LeavesKeys};
 ghost use Rattle.key_commands.specs.Passphrases.{ClientNew, NewPassphrase, new_by};
 
 use crate::asking::Asking;
 use crate::held::Held;
 use crate::inquiries::ask_client;
+use crate::nonces::look_for_nonce;
 use crate::prompting::prompt_new;
 use crate::refusal::Refusal;
 use crate::turns::take_seat;
 use agent_ask::Prompter;
 use agent_ports::Link;
 use assuan_server::{Code, Conn};
-use cache_policy::{Desk, Secret};
+use cache_policy::{CacheId, Desk, Secret};
 use session_options::PinMode;
 
 /// A new passphrase for a key, as the client wants it. The ticket of a prompt is held when it returns.
@@ -40,6 +42,29 @@ pub(crate) fn new_passphrase<L: Link, D: Desk, P: Prompter>(
         PinMode::Cancel => Err(Refusal::Agent(Code::Cancelled)),
         PinMode::Error => Err(Refusal::Agent(Code::NoPinentry)),
         PinMode::Loopback => new_by_client(conn),
+    }
+}
+
+/// A new passphrase for a key: what is cached under the nonce, or else as the client wants it.
+pub(crate) fn renewed_passphrase<L: Link, D: Desk, P: Prompter>(
+    asking: &Asking<'_>,
+    nonce: Option<CacheId>,
+    held: &mut Held,
+    conn: &mut Conn<'_, L>,
+    desk: &mut D,
+    prompter: &mut P,
+) -> Result<Secret, Refusal>
+    requires open { IsOpen conn.old }
+    requires out { (D.at desk.old).out ≡ held.old }
+    requires shut { IsShut (P.at prompter.old) }
+    ensures does { LeavesKeys D.turned P.prompted (RenewsPassphrase asking.now.rules.now asking.now.options.now asking.now.grip.now nonce)
+        held.old conn.old desk.old prompter.old result held.new conn.new desk.new prompter.new }
+    ensures out { (D.at desk.new).out ≡ held.new }
+    ensures shut { IsShut (P.at prompter.new) }
+{
+    match look_for_nonce(nonce, held, desk)? {
+        Some(pass) => Ok(pass),
+        None => new_passphrase(asking, held, conn, desk, prompter),
     }
 }
 

@@ -8,6 +8,7 @@ ghost use Rattle.key_commands.specs.Lines.{ok, nonce_line, IsDataAnswer};
 ghost use Rattle.key_commands.specs.Parts.{refusal_line, refusal_went};
 ghost use Rattle.key_commands.specs.Replies.{IsReply, WritesLine, RespondsTo, went_unless_cut};
 
+use crate::drawing::Drawn;
 use crate::refusal::Refusal;
 use crate::texts::write_info;
 use crate::went::KeyWent;
@@ -27,6 +28,8 @@ pub(crate) enum Reply {
         cached: bool,
         clear: bool,
     },
+    /// A wrapping key by data lines.
+    WrapKey(Drawn<16>),
     /// Bytes by data lines, which are overwritten.
     Data(Bytes),
     /// The nonce under which a passphrase was cached.
@@ -67,6 +70,7 @@ fn write_reply<L: Link>(reply: &Reply, conn: &mut Conn<'_, L>) -> Result<(), Wri
             write_info(conn, grip, *cached, *clear)?;
             conn.ok(b"").whole()
         }
+        Reply::WrapKey(key) => conn.last_data(key.bytes()).whole(),
         Reply::Data(bytes) => conn.last_data(bytes.as_slice()).whole(),
         Reply::Nonce(nonce) => {
             write_nonce(nonce, conn)?;

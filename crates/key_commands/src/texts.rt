@@ -2,6 +2,7 @@
 
 ghost use Rattle.std.specs.Prelude.{◌≡◌, ◌≤◌, ◌++◌, ℕ, List, length, false};
 ghost use Rattle.agent_ports.specs.declared.link.WriteFault.{WriteFault as Fault};
+ghost use Rattle.assuan_escape.specs.Escapes.{hex_text};
 ghost use Rattle.assuan_server.specs.Written.{WritesText, status_text};
 ghost use Rattle.assuan_text.specs.LineEnds.{has_lf};
 ghost use Rattle.key_commands.specs.Lines.{grip_text, info_text, info_line, old_description, new_description, delete_description};
@@ -17,6 +18,14 @@ pub(crate) fn key_id(grip: &Grip) -> CacheId
     ensures { result ≡ grip_text grip.now }
 {
     let digits = digits_of(grip);
+    CacheId::of(&digits).unwrap()
+}
+
+/// A nonce as a name in the cache: its uppercase hexadecimal digits.
+pub(crate) fn nonce_id(nonce: &[u8; 12]) -> CacheId
+    ensures { result ≡ hex_text nonce.now }
+{
+    let digits = upper_hex(nonce);
     CacheId::of(&digits).unwrap()
 }
 

@@ -1,7 +1,10 @@
 //! Turns at the desk, as parts of a request.
 
 ghost use Rattle.std.specs.Prelude.{◌≡◌, true, None, IsOk, IsSome};
-ghost use Rattle.cache_policy.specs.declared.mark.MarkStep.TheVariants.{Ask, Seat, Put};
+ghost use Rattle.assuan_escape.specs.Escapes.{hex_text};
+ghost use Rattle.cache_policy.specs.declared.life.Life.TheVariants.{Default};
+ghost use Rattle.cache_policy.specs.declared.mark.MarkStep.TheVariants.{Ask, Seat, Put, Clear};
+ghost use Rattle.cache_policy.specs.declared.mode.Mode.TheVariants.{Normal, Nonce};
 ghost use Rattle.cache_policy.specs.Turns.{asked_step, closes, opens};
 ghost use Rattle.key_commands.specs.Parts.{Asks, Changes, Closes, Peeks, Seats};
 ghost use Rattle.key_commands.specs.Passphrases.{TakesSeat, put_key};
@@ -10,7 +13,7 @@ ghost use Rattle.key_commands.specs.Steps.{DoesTurn, DoesTurns};
 
 use crate::held::Held;
 use crate::refusal::Refusal;
-use crate::texts::key_id;
+use crate::texts::{key_id, nonce_id};
 use agent_ask::give_back;
 use agent_ports::Grip;
 use assuan_server::Code;
@@ -112,6 +115,64 @@ pub(crate) fn keep_pass<D: Desk>(
     }
 }
 
+/// Keeps a passphrase under a nonce.
+pub(crate) fn keep_by_nonce<D: Desk>(
+    nonce: &[u8; 12],
+    pass: &Secret,
+    held: &Held,
+    desk: &mut D,
+) -> Result<(), Refusal>
+    requires out { (D.at desk.old).out ≡ held.now }
+    ensures turn { DoesTurn D.turned (Changes (Put (hex_text nonce.now) Nonce Default pass.now)) held.now desk.old result held.now desk.new }
+    ensures out { (D.at desk.new).out ≡ held.now }
+{
+    match desk.turn(Step::Put {
+        id: nonce_id(nonce),
+        mode: Mode::Nonce,
+        life: Life::Default,
+        secret: pass.copy(),
+    }) {
+        Ok(Reply::Done) => Ok(()),
+        Ok(Reply::Stopping) => Err(Refusal::Agent(Code::Cancelled)),
+        Ok(_) => unreachable!(),
+        Err(Refused { step }) => Err(without_memory(step)),
+    }
+}
+
+/// Whether a key's passphrase is cached. It isn't used, and lives no longer by this.
+pub(crate) fn peek<D: Desk>(grip: &Grip, held: &Held, desk: &mut D) -> Result<bool, Refusal>
+    requires out { (D.at desk.old).out ≡ held.now }
+    ensures turn { DoesTurn D.turned (Peeks grip.now) held.now desk.old result held.now desk.new }
+    ensures out { (D.at desk.new).out ≡ held.now }
+{
+    match desk.turn(Step::Peek {
+        id: key_id(grip),
+        mode: Mode::Normal,
+    }) {
+        Ok(Reply::Held(cached)) => Ok(cached),
+        Ok(Reply::Stopping) => Err(Refusal::Agent(Code::Cancelled)),
+        Ok(_) => unreachable!(),
+        Err(Refused { step }) => Err(without_memory(step)),
+    }
+}
+
+/// Removes a key's passphrase from the cache.
+pub(crate) fn clear_pass<D: Desk>(grip: &Grip, held: &Held, desk: &mut D) -> Result<(), Refusal>
+    requires out { (D.at desk.old).out ≡ held.now }
+    ensures turn { DoesTurn D.turned (Changes (Clear (grip_text grip.now) Normal)) held.now desk.old result held.now desk.new }
+    ensures out { (D.at desk.new).out ≡ held.now }
+{
+    match desk.turn(Step::Clear {
+        id: key_id(grip),
+        mode: Mode::Normal,
+    }) {
+        Ok(Reply::Done) => Ok(()),
+        Ok(Reply::Stopping) => Err(Refusal::Agent(Code::Cancelled)),
+        Ok(_) => unreachable!(),
+        Err(Refused { step }) => Err(without_memory(step)),
+    }
+}
+
 /// Gives a ticket that is held back, with the passphrase that is kept.
 pub(crate) fn close<D: Desk>(keep: Option<Secret>, held: &mut Held, desk: &mut D)
     requires out { (D.at desk.old).out ≡ held.old }
@@ -125,7 +186,7 @@ pub(crate) fn close<D: Desk>(keep: Option<Secret>, held: &mut Held, desk: &mut D
 }
 
 /// How a request is refused whose step found no memory. The step has no ticket.
-fn without_memory(step: Step) -> Refusal
+pub(crate) fn without_memory(step: Step) -> Refusal
     requires { closes (asked_step step) ≡ None }
     ensures { result ≡ Refusal.Agent Code.NoMemory }
 {

@@ -119,7 +119,7 @@ fn are_zeros(bytes: &[u8]) -> bool
 }
 
 /// How many bytes the whole list of a clear key has.
-fn list_len(alloc: Global, key: &KeyList) -> Result<usize, Code>
+pub(crate) fn list_len(alloc: Global, key: &KeyList) -> Result<usize, Code>
     requires { IsTrue key.now.is_clear }
     ensures len { IfOk result (λ len. len ≡ length (key_list_of key.now)) }
     ensures fault { IfErr result (λ code. code ≡ Code.NoMemory) }

@@ -9,3 +9,4 @@ pub mod WorkedExamples
 pub mod Following
 pub mod Spelled
 pub mod Stays
+pub mod AddsLast

@@ -92,10 +92,9 @@ fn take_sign(
 fn add(lists: &mut Vec<Vec<Sexp>>, tree: Sexp) -> Result<Option<Sexp>, AllocError>
     ensures { IfOk result (AddsTree (lists_of lists.old.items) (lists_of lists.new.items) (tree_of tree)) }
 {
-    let Some(mut items) = lists.pop() else {
+    let Some(items) = lists.last_mut() else {
         return Ok(Some(tree));
     };
     items.push(tree)?;
-    lists.push(items)?;
     Ok(None)
 }

@@ -1,9 +1,9 @@
 -- Where reading stands: the open lists, and the text up to there.
-use Rattle.std.proofs.Common.{◌≡◌, ℕ, ◌+◌, ◌<◌, ◌≤◌, max, true, false, eqb, List, [], ◌∷◌, ◌++◌, length, get_or, take, drop, Some, refl, sym, ap, subst, ◌∙◌, inl, inr, append_assoc, arith, length-append, length-drop}
+use Rattle.std.proofs.Common.{◌≡◌, ℕ, ◌+◌, ◌<◌, ◌≤◌, max, true, false, eqb, List, [], ◌∷◌, ◌++◌, length, get_or, take, drop, Some, refl, sym, ap, subst, ◌∙◌, inl, inr, append_assoc, arith, length-append, length-drop, drop-cons, suc, set}
 use Rattle.std.specs.Global.{Vec}
 use Rattle.std.specs.Vec.{vec_len}
 use Rattle.std.specs.List.{flat_map}
-use Rattle.std.proofs.lemmas.List.{map-append, append-nil, drop_all, length-map, nil_from_length}
+use Rattle.std.proofs.lemmas.List.{map-append, append-nil, take-append-drop, set_split, drop_all, length-map, nil_from_length}
 use Rattle.std.proofs.lemmas.List.Concat.{flat_map-cons}
 use Rattle.std.proofs.lemmas.Grind.{flat_map-append}
 use Rattle.std.proofs.lemmas.Bool.{eq-eqb, ne_eqb}
@@ -31,6 +31,14 @@ adds_item old new outer items more tree old-is new-is more-is = record {
   after = ap lists_of new-is ∙ map-append (λ (v : Vec Sexp). trees v.items) outer (more ∷ [])
       ∙ ap (λ (ts : List Tree). lists_of outer ++ ts ∷ []) (ap trees more-is ∙ map-append tree_of items.items (tree ∷ []));
 }
+
+pub adds_last : (old : List (Vec Sexp)) (i : ℕ) (items more : Vec Sexp) (tree : Sexp) → i + 1 ≡ length old → items ≡ get_or old i items → more.items ≡ items.items ++ tree ∷ [] → AddsItem old (set old i more) tree
+adds_last old i items more tree len at more-is =
+    let within : i < length old = omega arith in
+    let none : drop (suc i) old ≡ [] = drop_all (suc i) old (omega arith) in
+    let last : drop i old ≡ items ∷ [] = drop-cons old i items within ∙ ap (λ (v : Vec Sexp). v ∷ drop (suc i) old) (sym at) ∙ ap (λ (vs : List (Vec Sexp)). items ∷ vs) none in
+    adds_item old (set old i more) (take i old) items more tree (sym (take-append-drop i old) ∙ ap (λ (vs : List (Vec Sexp)). take i old ++ vs) last)
+    (set_split old i more within ∙ ap (λ (vs : List (Vec Sexp)). take i old ++ more ∷ vs) none) more-is
 
 opening-append : (xs ys : OpenLists) → opening (xs ++ ys) ≡ opening xs ++ opening ys
 opening-append [] ys = refl

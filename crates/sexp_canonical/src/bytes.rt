@@ -4,6 +4,9 @@ use std::alloc::{AllocError, Global};
 use std::marker::Model;
 use std::{hint, mem};
 
+/// The least room that bytes grow into, so that an atom read byte by byte is seldom moved, and overwritten, more than once.
+const MIN_CAPACITY: usize = 32;
+
 /// The bytes of an atom, or a text that is written. Contracts see them as a list.
 ///
 /// They are overwritten with zeros when they are dropped, and where they grow into a larger place, the old one is
@@ -40,7 +43,7 @@ impl Bytes {
         let len = self.0.len() + bytes.len();
         let capacity = self.0.capacity();
         if capacity < len {
-            self.move_to(len.max(capacity.saturating_mul(2)))?;
+            self.move_to(len.max(capacity.saturating_mul(2)).max(MIN_CAPACITY))?;
         }
         self.0.extend_from_slice(bytes)
     }

@@ -75,11 +75,10 @@ fn read_front(alloc: Global, text: &[u8]) -> Result<(Sexp, usize), SexpFault>
 fn add(lists: &mut Vec<Vec<Sexp>>, tree: Sexp) -> Result<Option<Sexp>, AllocError>
     ensures { IfOk result (Adds lists.old.items lists.new.items tree) }
 {
-    let Some(mut items) = lists.pop() else {
+    let Some(items) = lists.last_mut() else {
         return Ok(Some(tree));
     };
     items.push(tree)?;
-    lists.push(items)?;
     Ok(None)
 }
 

@@ -16,20 +16,6 @@ use clap::{Arg, ArgAction, ArgMatches, Command};
 use std::alloc::{AllocError, Global};
 use std::marker::Model;
 
-impl From<clap::Error> for WordsFault {
-    ghost use Rattle.clap.specs.Values.{kind_of};
-    ghost use Rattle.agent_top.specs.Options.{fault_by};
-
-    ghost from_gives = { λ error fault. fault ≡ fault_by (kind_of error) };
-
-    fn from(error: clap::Error) -> WordsFault {
-        match error.kind() {
-            ErrorKind::OutOfMemory => WordsFault::NoMemory,
-            _ => WordsFault::Bad,
-        }
-    }
-}
-
 /// The options that words gave, each once, and each with a value where it takes one.
 #[derive(Drop)]
 pub(crate) struct Given<'a> {
@@ -190,4 +176,18 @@ fn after_dashes(word: &str) -> Option<&str>
     ensures { option_map (λ rest. rest.now) result ≡ after_dashes word.now }
 {
     word.strip_prefix("--")
+}
+
+impl From<clap::Error> for WordsFault {
+    ghost use Rattle.clap.specs.Values.{kind_of};
+    ghost use Rattle.agent_top.specs.Faults.{fault_by};
+
+    ghost from_gives = { λ error fault. fault ≡ fault_by (kind_of error) };
+
+    fn from(error: clap::Error) -> WordsFault {
+        match error.kind() {
+            ErrorKind::OutOfMemory => WordsFault::NoMemory,
+            _ => WordsFault::Bad,
+        }
+    }
 }

@@ -1,8 +1,8 @@
-use Rattle.agent_top.proofs.Running.{if_server, uses_settled, no_words_served, no_words_for_daemon}
+use Rattle.agent_top.proofs.Running.{if_server, uses_settled, no_words_served, no_words_for_daemon, no_words_for_load}
 use Rattle.agent_top.proofs.top.run_agent.Goals as goal
 
-pub returns-else-eq-clause-served : goal.returns-else-eq-clause-served
-returns-else-eq-clause-served g c =
+pub returns-in_default-clause-served : goal.returns-in_default-clause-served
+returns-in_default-clause-served g c =
     rw c.in-Ok.ensures.rules (if_server _ (rw (c.with_pid-rules.ensures, c.pid.ensures)
     at (uses_settled (record { launches = g.H.Launcher.Launcher.launches; readings = g.H.Clock.Clock.readings; draws = g.H.Dice.Dice.draws; keys = g.H.Keys.Keys.keys }) _ _ _ _ _ _ _ _ _ c.requires c.settle.ensures.parts c.run_server.ensures.served)))
 
@@ -18,3 +18,8 @@ returns-in-Err-NoMemory-clause-daemon g c =
       output = g.H.Link.Sink.output;
       parts = record { launches = g.H.Launcher.Launcher.launches; readings = g.H.Clock.Clock.readings; draws = g.H.Dice.Dice.draws; keys = g.H.Keys.Keys.keys };
     }) _ _ _ _ _ _ _ c.number-in-Err-NoMemory.ensures
+
+pub returns-in-Err-NoMemory-clause-load : goal.returns-in-Err-NoMemory-clause-load
+returns-in-Err-NoMemory-clause-load g c =
+    no_words_for_load (record { launches = g.H.Launcher.Launcher.launches; readings = g.H.Clock.Clock.readings; draws = g.H.Dice.Dice.draws; keys = g.H.Keys.Keys.keys }) _ _ _ _ _
+    c.number-in-Err-NoMemory.ensures

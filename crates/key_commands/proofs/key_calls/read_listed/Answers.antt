@@ -3,7 +3,7 @@ use Rattle.agent_ask.specs.Further.{Read}
 use Rattle.agent_ports.specs.declared.keys.KeyRead.TheVariants.{Found, Absent, Failed, NoMemory}
 use Rattle.key_commands.specs.KeyParts.{is_key, absent, unread}
 use Rattle.key_commands.proofs.Doing.{one_call}
-use Rattle.key_commands.proofs.Listing.{unlisted_so}
+use Rattle.key_commands.proofs.ListedKeys.{unlisted_so}
 use Rattle.key_commands.proofs.key_calls.read_listed.Goals as goal
 
 pub returns-in-Absent : goal.returns-in-Absent

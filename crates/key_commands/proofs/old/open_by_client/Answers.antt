@@ -3,7 +3,8 @@ use Rattle.std.proofs.lemmas.Result.{err_from_is_err_and}
 use Rattle.key_commands.specs.Partial.{NoCall}
 use Rattle.key_commands.specs.Parts.{returns as is_returned, refuses}
 use Rattle.key_commands.specs.Passphrases.{ClientOld}
-use Rattle.key_commands.proofs.Joining.{leaves_then, leaves_stop, leaves_still, leaves_alone, leaves_turned, tries_on, keeps_on}
+use Rattle.key_commands.proofs.Going.{changes_on}
+use Rattle.key_commands.proofs.Joining.{leaves_then, leaves_stop, leaves_still, leaves_alone, leaves_turned, tries_on}
 use Rattle.key_commands.proofs.Partial.{open_after, beside_client}
 use Rattle.key_commands.proofs.old.open_by_client.Goals as goal
 
@@ -42,7 +43,7 @@ returns-in_err-keep_pass-clause-does g c =
     (leaves_then g.D.Desk.turned NoCall (beside_client g.D.Desk.turned NoCall c.args.held.now c.args.desk.now tt c.in_ok-pass.ensures)
     (leaves_then g.D.Desk.turned NoCall (leaves_alone g.D.Desk.turned NoCall going c.args.held.now c.args.desk.now (λ events. tries_on) tried)
     (leaves_then g.D.Desk.turned NoCall (leaves_still g.D.Desk.turned NoCall going c.args.desk.now refl is_returned)
-    (leaves_stop g.D.Desk.turned NoCall (leaves_turned g.D.Desk.turned NoCall going (λ events. keeps_on) c.in_err-keep_pass.ensures.turn)))))
+    (leaves_stop g.D.Desk.turned NoCall (leaves_turned g.D.Desk.turned NoCall going (λ events. changes_on) c.in_err-keep_pass.ensures.turn)))))
 
 pub returns-clause-does : goal.returns-clause-does
 unfolding ClientOld
@@ -52,5 +53,5 @@ returns-clause-does g c =
     leaves_then g.D.Desk.turned NoCall (beside_client g.D.Desk.turned NoCall c.args.held.now c.args.desk.now tt c.in_ok-pass.ensures)
     (leaves_then g.D.Desk.turned NoCall (leaves_alone g.D.Desk.turned NoCall going c.args.held.now c.args.desk.now (λ events. tries_on) tried)
     (leaves_then g.D.Desk.turned NoCall (leaves_still g.D.Desk.turned NoCall going c.args.desk.now refl is_returned)
-    (leaves_then g.D.Desk.turned NoCall (leaves_turned g.D.Desk.turned NoCall going (λ events. keeps_on) c.in_ok-keep_pass.ensures.turn)
+    (leaves_then g.D.Desk.turned NoCall (leaves_turned g.D.Desk.turned NoCall going (λ events. changes_on) c.in_ok-keep_pass.ensures.turn)
     (leaves_still g.D.Desk.turned NoCall going c.keep_pass.new.desk refl is_returned))))

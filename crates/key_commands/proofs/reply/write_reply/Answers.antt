@@ -21,7 +21,7 @@ returns-in_ok-write_info-in-Info g c =
 
 pub returns-in-Data : goal.returns-in-Data
 returns-in-Data g c =
-    let d = c.last_data.ensures in
+    let d = c.last_data-in-Data.ensures in
     (_, rw c.in-Data.is (record { pieces = d.0; are_data = rw c.as_slice.ensures at d.1; text_is = refl }), said c.whole-in-Data.ensures d.2)
 
 pub returns-in_err-write_nonce-in-Nonce : goal.returns-in_err-write_nonce-in-Nonce
@@ -34,3 +34,8 @@ pub returns-in_ok-write_nonce-in-Nonce : goal.returns-in_ok-write_nonce-in-Nonce
 returns-in_ok-write_nonce-in-Nonce g c =
     let line = nonce_line (hex_text c.in-Nonce.nonce) in
     (line ++ ok, rw c.in-Nonce.is refl, said_then line ok _ c.write_nonce.new.conn _ _ c.in_ok-write_nonce-in-Nonce.ensures (said c.whole-in-Nonce.ensures c.ok-in-Nonce.ensures))
+
+pub returns-in-WrapKey : goal.returns-in-WrapKey
+returns-in-WrapKey g c =
+    let d = c.last_data.ensures in
+    (_, rw c.in-WrapKey.is (record { pieces = d.0; are_data = rw c.bytes.ensures at d.1; text_is = refl }), said c.whole-in-WrapKey.ensures d.2)

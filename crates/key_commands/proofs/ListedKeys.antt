@@ -1,0 +1,88 @@
+-- Keys that are listed.
+use Rattle.std.proofs.Common.{◌≡◌, ◌⊎◌, ◌≤◌, ◌<◌, ◌+◌, ℕ, true, false, List, [], ◌∷◌, length, drop, get_or, map, Option, Some, Result, Ok, Err, inl, inr, ap, sym, ◌∙◌, subst, add-one}
+use Rattle.std.proofs.Math.Seq.{drop-cons}
+use Rattle.std.proofs.lemmas.List.{drop_all}
+use Rattle.agent_ask.specs.Events.{Call}
+use Rattle.agent_ask.specs.Further.{Read, DoesKeys}
+use Rattle.agent_ports.specs.KeyFiles.{KeyFiles}
+use Rattle.agent_ports.specs.declared.grip.Grip.{Grip}
+use Rattle.agent_ports.specs.declared.keys.KeyRead.{KeyRead}
+use Rattle.assuan_server.specs.declared.errors.Code.TheVariants.{NoSecKey}
+use Rattle.cache_policy.specs.declared.mark.MarkStep.{MarkStep}
+use Rattle.cache_policy.specs.Turns.{Turn}
+use Rattle.sexp_keys.specs.declared.fault.KeyFault.{KeyFault}
+use Rattle.sexp_keys.specs.declared.fault.KeyFault.TheVariants.{InvSexp, BadSecKey, Shadowed, NotSupported, NoMemory}
+use Rattle.key_commands.specs.Files.{FileSays}
+use Rattle.key_commands.specs.KeyParts.{file_in, ReadsListed, faulty, no_memory, HasOne, TellsListed, WritesInfos}
+use Rattle.key_commands.specs.Parts.{Finds, returns, refuses}
+use Rattle.key_commands.specs.States.{KeyState, DoesPart}
+use Rattle.key_commands.specs.Steps.{DoesKeyCalls, unlisted}
+use Rattle.key_commands.specs.declared.refusal.Refusal.{Refusal}
+use Rattle.key_commands.specs.declared.refusal.Refusal.TheVariants.{Agent}
+use Rattle.key_commands.proofs.Doing.{one_call, one_call_of_memory, calls_then, calls_stop, no_calls, part_then, part_stops}
+
+-- a listed key's file was read, and has this fault
+module _ {file : List ℕ} {start now : KeyFiles} (grip : Grip) (answer : KeyRead) (found : file_in answer ≡ Some file) (reads : DoesKeys start (Read grip answer) now) where
+  pub unlisted_so : (fault : KeyFault) → (fault ≡ NoMemory) ⊎ FileSays file (Err fault) → DoesKeyCalls (ReadsListed grip) start (unlisted fault) now
+  unlisted_so NoMemory why = one_call_of_memory (Read grip answer) reads (λ held. no_memory found)
+  unlisted_so InvSexp (inl memory) = cc memory
+  unlisted_so InvSexp (inr says) = one_call (Read grip answer) reads (λ held. faulty found says)
+  unlisted_so BadSecKey (inl memory) = cc memory
+  unlisted_so BadSecKey (inr says) = one_call (Read grip answer) reads (λ held. faulty found says)
+  unlisted_so Shadowed (inl memory) = cc memory
+  unlisted_so Shadowed (inr says) = one_call (Read grip answer) reads (λ held. faulty found says)
+  unlisted_so NotSupported (inl memory) = cc memory
+  unlisted_so NotSupported (inr says) = one_call (Read grip answer) reads (λ held. faulty found says)
+
+-- the grips of these bytes
+abbrev pub grips_of : List (List ℕ) → List Grip
+grips_of bytes = map (λ (b : List ℕ). record { 0 = b }) bytes
+
+-- the grips from some place on are the one there and the later ones
+module _ (items : List (List ℕ)) (i : ℕ) (within : i < length items) where
+  next_grip : grips_of (drop i items) ≡ record { 0 = get_or items i [] } ∷ grips_of (drop (i + 1) items)
+  next_grip = ap grips_of (drop-cons items i [] within ∙ ap (λ (k : ℕ). get_or items i [] ∷ drop k items) (sym (add-one i)))
+
+  -- the key there isn't there, and the later ones are looked for
+  pub seeks_on : {start mid now : KeyFiles} {result : Result (Unit {0}) Refusal} → DoesKeyCalls (Finds (record { 0 = get_or items i [] })) start (Ok false) mid
+      → DoesKeyCalls (HasOne (grips_of (drop (i + 1) items))) mid result now → DoesKeyCalls (HasOne (grips_of (drop i items))) start result now
+  seeks_on {start} {now} {result} one later = subst (λ (grips : List Grip). DoesKeyCalls (HasOne grips) start result now) (sym next_grip) (calls_then one later)
+
+  -- it is there
+  pub seeks_no_more : {start now : KeyFiles} → DoesKeyCalls (Finds (record { 0 = get_or items i [] })) start (Ok true) now
+      → DoesKeyCalls (HasOne (grips_of (drop i items))) start (Ok tt) now
+  seeks_no_more {start} {now} one = subst (λ (grips : List Grip). DoesKeyCalls (HasOne grips) start (Ok tt) now) (sym next_grip) (calls_then one (no_calls now (λ held. returns)))
+
+  -- it isn't known whether it is
+  pub seeks_in_vain : {start now : KeyFiles} {why : Refusal} → DoesKeyCalls (Finds (record { 0 = get_or items i [] })) start (Err why) now
+      → DoesKeyCalls (HasOne (grips_of (drop i items))) start (Err why) now
+  seeks_in_vain {start} {now} {why} one = subst (λ (grips : List Grip). DoesKeyCalls (HasOne grips) start (Err why) now) (sym next_grip) (calls_stop one)
+
+-- none is left
+pub seeks_none : (items : List (List ℕ)) (i : ℕ) → length items ≤ i → (keys : KeyFiles) → DoesKeyCalls (HasOne (grips_of (drop i items))) keys (Err (Agent NoSecKey)) keys
+seeks_none items i past keys =
+    subst (λ (left : List (List ℕ)). DoesKeyCalls (HasOne (grips_of left)) keys (Err (Agent NoSecKey)) keys) (sym (drop_all i items past)) (no_calls keys (λ held. refuses))
+
+module _ {D P : Type 0} (turned : D → MarkStep → Turn → D → Type 0) (prompted : P → Call → P → Type 0) (grips : List Grip) (i : ℕ) where
+  module _ (grip : Grip) (within : i < length grips) where
+    -- the keys from some place on are the one there and the later ones
+    next_key : drop i grips ≡ get_or grips i grip ∷ drop (i + 1) grips
+    next_key = drop-cons grips i grip within ∙ ap (λ (k : ℕ). get_or grips i grip ∷ drop k grips) (sym (add-one i))
+
+    -- the client was told of the key there, and then of the later ones
+    pub tells_on : {held mid after : Option ℕ} {start between now : KeyState turned prompted} {result : Result (Unit {0}) Refusal}
+        → DoesPart turned prompted (TellsListed (get_or grips i grip)) held start (Ok tt) mid between
+        → DoesPart turned prompted (WritesInfos (drop (i + 1) grips)) mid between result after now → DoesPart turned prompted (WritesInfos (drop i grips)) held start result after now
+    tells_on {held} {after} {start} {now} {result} one later =
+        subst (λ (left : List Grip). DoesPart turned prompted (WritesInfos left) held start result after now) (sym next_key) (part_then turned prompted one later)
+
+    -- it couldn't be
+    pub tells_in_vain : {held after : Option ℕ} {start now : KeyState turned prompted} {why : Refusal} → DoesPart turned prompted (TellsListed (get_or grips i grip)) held start (Err why) after now
+        → DoesPart turned prompted (WritesInfos (drop i grips)) held start (Err why) after now
+    tells_in_vain {held} {after} {start} {now} {why} one =
+        subst (λ (left : List Grip). DoesPart turned prompted (WritesInfos left) held start (Err why) after now) (sym next_key) (part_stops turned prompted one)
+
+  -- no key is left
+  pub tells_none : {held : Option ℕ} {now : KeyState turned prompted} → length grips ≤ i → DoesPart turned prompted (WritesInfos []) held now (Ok tt) held now
+      → DoesPart turned prompted (WritesInfos (drop i grips)) held now (Ok tt) held now
+  tells_none {held} {now} past returns_so = subst (λ (left : List Grip). DoesPart turned prompted (WritesInfos left) held now (Ok tt) held now) (sym (drop_all i grips past)) returns_so

@@ -1,0 +1,28 @@
+use Rattle.std.proofs.Common.{refl, None}
+use Rattle.std.proofs.lemmas.Result.{err_from_is_err_and}
+use Rattle.key_commands.specs.Parts.{returns}
+use Rattle.key_commands.specs.Partial.{NoCall}
+use Rattle.key_commands.proofs.Doing.{part_still}
+use Rattle.key_commands.proofs.ListedKeys.{tells_on, tells_in_vain, tells_none}
+use Rattle.key_commands.proofs.listing.write_infos.Goals as goal
+
+pub returns-in_err-tell_listed-clause-writes : goal.returns-in_err-tell_listed-clause-writes
+returns-in_err-tell_listed-clause-writes g c = λ side.
+    let p = err_from_is_err_and c.from_residual.result c.from_residual.ensures.1 in
+    rw (p.1, p.2)
+    (c.loop-grip.invariant.completes side _ _ _ (tells_in_vain g.D.Desk.turned NoCall c.args.grips.now c.loop-grip.grip-index _ c.loop-grip-test.true (c.in_err-tell_listed.ensures.tells side)))
+
+pub loop-grip-preserved : goal.loop-grip-preserved
+loop-grip-preserved g c = record {
+  going = (c.in_ok-tell_listed.ensures.tells (record { bytes = None; faults = 0 })).fits.0;
+  out = c.in_ok-tell_listed.ensures.out;
+  completes = λ side result after now later.
+      c.loop-grip.invariant.completes side result after now
+      (tells_on g.D.Desk.turned NoCall c.args.grips.now c.loop-grip.grip-index _ c.loop-grip-test.true (c.in_ok-tell_listed.ensures.tells side) later);
+}
+
+pub returns-clause-writes : goal.returns-clause-writes
+returns-clause-writes g c = λ side.
+    c.loop-grip.invariant.completes side _ _ _
+    (tells_none g.D.Desk.turned NoCall c.args.grips.now c.loop-grip.grip-index c.loop-grip-test.false
+    (part_still g.D.Desk.turned NoCall c.loop-grip.conn (record { prompter = tt; keys = g.K.Keys.keys c.loop-grip.keys; dice = side }) c.loop-grip.desk c.loop-grip.invariant.going refl returns))

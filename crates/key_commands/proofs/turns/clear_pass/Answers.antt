@@ -1,0 +1,31 @@
+use Rattle.cache_policy.specs.declared.mark.MarkStep.TheVariants.{Clear}
+use Rattle.cache_policy.specs.declared.mode.Mode.TheVariants.{Normal}
+use Rattle.cache_policy.specs.Turns.{Done, Stopping, Refused}
+use Rattle.key_commands.specs.Lines.{grip_text}
+use Rattle.key_commands.specs.Parts.{done, interrupted, stopping, refused}
+use Rattle.key_commands.proofs.turns.clear_pass.Goals as goal
+
+pub returns-in-Ok-Done-clause-turn : goal.returns-in-Ok-Done-clause-turn
+returns-in-Ok-Done-clause-turn g c = record {
+  step = Clear (grip_text c.args.grip.now) Normal;
+  turn = Done;
+  turned_so = rw (c.in-Ok-Done.field-0-is, c.key_id.ensures) at c.in-Ok-Done.ensures.turned;
+  does = done;
+}
+
+pub returns-in-Ok-Stopping-clause-turn : goal.returns-in-Ok-Stopping-clause-turn
+returns-in-Ok-Stopping-clause-turn g c = record {
+  step = Clear (grip_text c.args.grip.now) Normal;
+  turn = Stopping;
+  turned_so = rw (c.in-Ok-Stopping.field-0-is, c.key_id.ensures) at c.in-Ok-Stopping.ensures.turned;
+  does = interrupted stopping;
+}
+
+pub returns-in-Err-clause-turn : goal.returns-in-Err-clause-turn
+returns-in-Err-clause-turn g c =
+    rw c.without_memory.ensures (record {
+      step = Clear (grip_text c.args.grip.now) Normal;
+      turn = Refused;
+      turned_so = rw c.key_id.ensures at c.in-Err.ensures.turned;
+      does = interrupted refused;
+    })

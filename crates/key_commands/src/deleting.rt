@@ -1,0 +1,55 @@
+//! DELETE_KEY.
+
+ghost use Rattle.std.specs.Prelude.{◌≡◌, None, Ok};
+ghost use Rattle.agent_ask.specs.Prompters.{IsShut};
+ghost use Rattle.agent_ports.specs.Sides.{Side};
+ghost use Rattle.assuan_server.specs.Connections.{IsOpen};
+ghost use Rattle.key_commands.specs.Exchanges.{DeleteKeyReplies};
+ghost use Rattle.key_commands.specs.Replies.{CarriesOut};
+ghost use Rattle.key_commands.specs.States.{key_state};
+ghost use Rattle.key_commands.specs.declared.wrap_keys.WrapKeys.{WrapKeys as Wraps};
+
+use crate::consent::consent;
+use crate::held::Held;
+use crate::key_calls::{has_file, remove_file};
+use crate::refusal::Refusal;
+use crate::reply::Reply;
+use crate::turns::clear_pass;
+use agent_ask::Prompter;
+use agent_ports::{Grip, Keys, Link};
+use assuan_server::{Code, Conn};
+use cache_policy::Desk;
+use session_options::{Options, Rules};
+use std::alloc::Global;
+
+/// DELETE_KEY: removes a key's file, and its passphrase from the cache.
+pub(crate) fn delete_key<L: Link, D: Desk, P: Prompter, K: Keys>(
+    alloc: Global,
+    grip: &Grip,
+    force: bool,
+    rules: &Rules,
+    options: &Options,
+    held: &mut Held,
+    conn: &mut Conn<'_, L>,
+    desk: &mut D,
+    prompter: &mut P,
+    keys: &mut K,
+) -> Result<Reply, Refusal>
+    requires open { IsOpen conn.old }
+    requires none { held.old ≡ None }
+    requires out { (D.at desk.old).out ≡ held.old }
+    requires shut { IsShut (P.at prompter.old) }
+    ensures carries { (wraps : Wraps) (dice : Side) → CarriesOut D.turned P.prompted (DeleteKeyReplies rules.now options.now wraps force grip.now) wraps
+        (key_state D.turned P.prompted conn.old desk.old prompter.old (K.keys keys.old) dice) result wraps held.new
+        (key_state D.turned P.prompted conn.new desk.new prompter.new (K.keys keys.new) dice) }
+    ensures out { (D.at desk.new).out ≡ held.new }
+    ensures shut { IsShut (P.at prompter.new) }
+{
+    if !has_file(alloc, grip, keys)? {
+        return Err(Refusal::Agent(Code::NoSecKey));
+    }
+    consent(force, grip, rules, options, held, conn, desk, prompter)?;
+    remove_file(alloc, grip, keys)?;
+    clear_pass(grip, held, desk)?;
+    Ok(Reply::Ok)
+}

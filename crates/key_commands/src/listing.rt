@@ -1,0 +1,162 @@
+//! HAVEKEY and KEYINFO: which keys there are, and what is known of them.
+
+ghost use Rattle.std.specs.Prelude.{◌≡◌, None, Some};
+ghost use Rattle.agent_ports.specs.Sides.{Side};
+ghost use Rattle.assuan_server.specs.Connections.{Connection, IsOpen};
+ghost use Rattle.key_commands.specs.Exchanges.{KeyInfoReplies, ListKeysReplies};
+ghost use Rattle.key_commands.specs.KeyParts.{HasOne, TellsListed, WritesInfo, WritesInfos};
+ghost use Rattle.key_commands.specs.Lines.{info_line};
+ghost use Rattle.key_commands.specs.Parts.{Writes};
+ghost use Rattle.key_commands.specs.Partial.{NoCall, DoesAtDesk, DoesAtClient};
+ghost use Rattle.key_commands.specs.Replies.{CarriesOut};
+ghost use Rattle.key_commands.specs.States.{DoesPart, key_state};
+ghost use Rattle.key_commands.specs.Steps.{DoesKeyCalls};
+ghost use Rattle.key_commands.specs.declared.wrap_keys.WrapKeys.{WrapKeys};
+ghost use Rattle.session_options.specs.OptionValues.{OptionValues};
+ghost use Rattle.session_options.specs.declared.rules.Rules.{Rules as TheRules};
+
+use crate::grips::Grips;
+use crate::held::Held;
+use crate::key_calls::{has_file, list_grips, read_file, read_listed};
+use crate::refusal::Refusal;
+use crate::reply::Reply;
+use crate::texts::write_info;
+use crate::turns::peek;
+use agent_ports::{Grip, Keys, Link, WriteFault};
+use assuan_server::{Code, Conn};
+use cache_policy::Desk;
+use session_client::{Gone, Unheard};
+use sexp_keys::KeyList;
+use std::alloc::Global;
+
+/// HAVEKEY: whether one of these keys is there.
+pub(crate) fn has_one<K: Keys>(alloc: Global, grips: &Grips, keys: &mut K) -> Result<(), Refusal>
+    ensures { DoesKeyCalls (HasOne grips.now) (K.keys keys.old) result (K.keys keys.new) }
+{
+    for bytes in grips.bytes() {
+        if has_file(alloc, &Grip(*bytes), keys)? {
+            return Ok(());
+        }
+    }
+    Err(Refusal::Agent(Code::NoSecKey))
+}
+
+/// KEYINFO: what is known of a key.
+pub(crate) fn key_info<D: Desk, K: Keys>(
+    alloc: Global,
+    grip: &Grip,
+    held: &Held,
+    desk: &mut D,
+    keys: &mut K,
+) -> Result<Reply, Refusal>
+    requires none { held.now ≡ None }
+    requires out { (D.at desk.old).out ≡ held.now }
+    ensures tells { (rules : TheRules) (options : OptionValues) (wraps : WrapKeys) (conn : Connection) (dice : Side) → IsOpen conn
+        → CarriesOut D.turned NoCall (KeyInfoReplies rules options wraps grip.now) wraps (key_state D.turned NoCall conn desk.old tt (K.keys keys.old) dice)
+        result wraps None (key_state D.turned NoCall conn desk.new tt (K.keys keys.new) dice) }
+    ensures out { (D.at desk.new).out ≡ held.now }
+{
+    let file = read_file(alloc, grip, keys)?;
+    let cached = peek(grip, held, desk)?;
+    Ok(Reply::Info {
+        grip: *grip,
+        cached,
+        clear: file.key.is_clear(),
+    })
+}
+
+/// KEYINFO --list: writes what is known of each key that there is.
+pub(crate) fn list_keys<L: Link, D: Desk, K: Keys>(
+    alloc: Global,
+    held: &Held,
+    conn: &mut Conn<'_, L>,
+    desk: &mut D,
+    keys: &mut K,
+) -> Result<Reply, Refusal>
+    requires open { IsOpen conn.old }
+    requires none { held.now ≡ None }
+    requires out { (D.at desk.old).out ≡ held.now }
+    ensures tells { (rules : TheRules) (options : OptionValues) (wraps : WrapKeys) (dice : Side)
+        → CarriesOut D.turned NoCall (ListKeysReplies rules options wraps) wraps (key_state D.turned NoCall conn.old desk.old tt (K.keys keys.old) dice)
+        result wraps None (key_state D.turned NoCall conn.new desk.new tt (K.keys keys.new) dice) }
+    ensures out { (D.at desk.new).out ≡ held.now }
+{
+    let grips = list_grips(alloc, keys)?;
+    write_infos(alloc, &grips, held, conn, desk, keys)?;
+    Ok(Reply::Ok)
+}
+
+/// Writes a line for each of these keys.
+pub(crate) fn write_infos<L: Link, D: Desk, K: Keys>(
+    alloc: Global,
+    grips: &[Grip],
+    held: &Held,
+    conn: &mut Conn<'_, L>,
+    desk: &mut D,
+    keys: &mut K,
+) -> Result<(), Refusal>
+    requires open { IsOpen conn.old }
+    requires out { (D.at desk.old).out ≡ held.now }
+    ensures writes { (dice : Side) → DoesPart D.turned NoCall (WritesInfos grips.now) held.now (key_state D.turned NoCall conn.old desk.old tt (K.keys keys.old) dice)
+        result held.now (key_state D.turned NoCall conn.new desk.new tt (K.keys keys.new) dice) }
+    ensures out { (D.at desk.new).out ≡ held.now }
+{
+    for grip in grips {
+        tell_listed(alloc, grip, held, conn, desk, keys)?;
+    }
+    Ok(())
+}
+
+/// Writes the line of a listed key, unless it is passed over.
+fn tell_listed<L: Link, D: Desk, K: Keys>(
+    alloc: Global,
+    grip: &Grip,
+    held: &Held,
+    conn: &mut Conn<'_, L>,
+    desk: &mut D,
+    keys: &mut K,
+) -> Result<(), Refusal>
+    requires open { IsOpen conn.old }
+    requires out { (D.at desk.old).out ≡ held.now }
+    ensures tells { (dice : Side) → DoesPart D.turned NoCall (TellsListed grip.now) held.now (key_state D.turned NoCall conn.old desk.old tt (K.keys keys.old) dice)
+        result held.now (key_state D.turned NoCall conn.new desk.new tt (K.keys keys.new) dice) }
+    ensures out { (D.at desk.new).out ≡ held.now }
+{
+    match read_listed(alloc, grip, keys)? {
+        Some(key) => write_listed(grip, &key, held, conn, desk),
+        None => Ok(()),
+    }
+}
+
+/// Writes the line of a key that was listed and read.
+fn write_listed<L: Link, D: Desk>(
+    grip: &Grip,
+    key: &KeyList,
+    held: &Held,
+    conn: &mut Conn<'_, L>,
+    desk: &mut D,
+) -> Result<(), Refusal>
+    requires open { IsOpen conn.old }
+    requires out { (D.at desk.old).out ≡ held.now }
+    ensures writes { DoesAtDesk (WritesInfo grip.now (Some key.now)) D.turned held.now conn.old desk.old result held.now conn.new desk.new }
+    ensures out { (D.at desk.new).out ≡ held.now }
+{
+    let cached = peek(grip, held, desk)?;
+    tell_info(grip, cached, key.is_clear(), conn)
+}
+
+/// Tells the client what is known of a key.
+fn tell_info<L: Link>(
+    grip: &Grip,
+    cached: bool,
+    clear: bool,
+    conn: &mut Conn<'_, L>,
+) -> Result<(), Refusal>
+    requires { IsOpen conn.old }
+    ensures { DoesAtClient (Writes (info_line grip.now cached clear)) conn.old result conn.new }
+{
+    match write_info(conn, grip, cached, clear) {
+        Ok(()) => Ok(()),
+        Err(WriteFault) => Err(Refusal::Client(Unheard::Gone(Gone::WriteFault))),
+    }
+}

@@ -1,0 +1,91 @@
+//! A clear key's new file, and the passphrase that opens it.
+
+ghost use Rattle.std.specs.Prelude.{◌≡◌, ◌≤◌, length, take, drop, IfOk, OnOk, IsTrue};
+ghost use Rattle.agent_ports.specs.declared.keys.TheConstants.{MAX_KEY_FILE_LEN};
+ghost use Rattle.session_options.specs.Counts.{IsS2kCount};
+ghost use Rattle.sexp_keys.specs.Lists.{key_list_of};
+ghost use Rattle.key_commands.specs.Files.{IsSomeList};
+ghost use Rattle.key_commands.specs.KeyParts.{IsShort, Protects, KeepsNew};
+ghost use Rattle.key_commands.specs.Steps.{DoesAlone, DoesTurns};
+ghost use Rattle.key_commands.specs.Trials.{IsUsable};
+ghost use Rattle.key_commands.specs.declared.wrapping.TheConstants.{MAX_LIST_LEN};
+
+use crate::held::Held;
+use crate::refusal::Refusal;
+use crate::turns::{close, keep_pass};
+use crate::wrapping::{MAX_LIST_LEN, list_len};
+use agent_ports::Grip;
+use assuan_server::Code;
+use cache_policy::{Desk, Secret};
+use secret_file::protect;
+use sexp_canonical::Bytes;
+use sexp_keys::KeyList;
+use std::alloc::Global;
+
+/// Refuses a clear key that is too long to be protected.
+pub(crate) fn check_len(alloc: Global, key: &KeyList) -> Result<(), Refusal>
+    requires { IsTrue key.now.is_clear }
+    ensures short { DoesAlone (IsShort key.now) result }
+    ensures within { OnOk result (length (key_list_of key.now) ≤ MAX_LIST_LEN) }
+{
+    let len = match list_len(alloc, key) {
+        Ok(len) => len,
+        Err(code) => return Err(Refusal::Agent(code)),
+    };
+    if len > MAX_LIST_LEN {
+        return Err(Refusal::Agent(Code::BadSecKey));
+    }
+    Ok(())
+}
+
+/// The file of a clear key that is protected by a passphrase, with this salt, initialization vector and count.
+pub(crate) fn protected_key(
+    alloc: Global,
+    key: &KeyList,
+    pass: &Secret,
+    salt: &[u8; 8],
+    iv: &[u8; 12],
+    count: u64,
+) -> Result<Bytes, Refusal>
+    requires usable { IsUsable key.now }
+    requires short { length (key_list_of key.now) ≤ MAX_LIST_LEN }
+    requires count { IsS2kCount count }
+    ensures protects { DoesAlone (Protects key.now pass.now salt.now iv.now count) result }
+    ensures list { IfOk result IsSomeList }
+    ensures within { IfOk result (λ file. length file ≤ MAX_KEY_FILE_LEN) }
+{
+    match protect(alloc, key, pass.bytes(), salt, iv, count, None) {
+        Ok(file) => Ok(Bytes::from(file)),
+        Err(_) => Err(Refusal::Agent(Code::NoMemory)),
+    }
+}
+
+/// A salt and an initialization vector of random bytes.
+pub(crate) fn salt_and_iv(drawn: &[u8; 20]) -> ([u8; 8], [u8; 12])
+    ensures salt { result.0 ≡ take 8 drawn.now }
+    ensures iv { result.1 ≡ drop 8 drawn.now }
+{
+    let mut salt = [0; 8];
+    let mut iv = [0; 12];
+    salt.copy_from_slice(&drawn[..8]);
+    iv.copy_from_slice(&drawn[8..]);
+    (salt, iv)
+}
+
+/// Keeps the passphrase of a key's new file: by the ticket that is held, or else by a turn of its own.
+pub(crate) fn keep_new<D: Desk>(
+    grip: &Grip,
+    pass: &Secret,
+    held: &mut Held,
+    desk: &mut D,
+) -> Result<(), Refusal>
+    requires out { (D.at desk.old).out ≡ held.old }
+    ensures turn { DoesTurns D.turned (KeepsNew grip.now pass.now) held.old desk.old result held.new desk.new }
+    ensures out { (D.at desk.new).out ≡ held.new }
+{
+    if held.is_held() {
+        close(Some(pass.copy()), held, desk);
+        return Ok(());
+    }
+    keep_pass(grip, pass, held, desk)
+}
