@@ -1,6 +1,8 @@
 pub mod Doing
 pub mod Mapped
 mod Trusting
+mod Outer
+mod OuterTrust
 mod Prompts
 mod Replying
 mod WorkedExamples

@@ -1,4 +1,5 @@
 pub mod Doors
+pub mod OuterTurns
 pub mod Names
 pub mod Requests
 pub mod OriginEvents

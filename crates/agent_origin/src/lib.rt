@@ -4,6 +4,7 @@
 
 mod consent;
 mod door;
+mod laws;
 mod marking;
 mod names;
 mod read;
@@ -23,6 +24,7 @@ pub const MAX_NAME_LEN: usize = 900;
 pub type OwnerName = ArrayVec<u8, MAX_NAME_LEN>;
 
 pub use door::{Door, allowed, doors_are_as_defined};
+pub use laws::the_outer_door_leaves_the_cache;
 pub use names::{TRUST_COMMANDS, TrustCommandName, trust_commands_are_as_defined};
 pub use read::read_trust;
 pub use request::{TrustPurpose, TrustRequest};
