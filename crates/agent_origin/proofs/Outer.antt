@@ -191,13 +191,13 @@ both_found f first x rest others more true is = ap (option_map f) is
 both_found f first x rest others more false is = more is
 
 -- a table that begins with the same names
-found_mapped : {X Y : Type 0} (f : X → Y) (word : List ℕ) (rows : List (List ℕ × X)) (more : List (List ℕ × Y)) (x : X) → found_in_any_case word rows ≡ Some x
+pub found_mapped : {X Y : Type 0} (f : X → Y) (word : List ℕ) (rows : List (List ℕ × X)) (more : List (List ℕ × Y)) (x : X) → found_in_any_case word rows ≡ Some x
     → found_in_any_case word (map (λ row. (row.0, f row.1)) rows ++ more) ≡ Some (f x)
 found_mapped f word [] more x is = cc is
 found_mapped f word (row ∷ rows) more x is =
     both_found f row.1 x (found_in_any_case word rows) (found_in_any_case word (map (λ row. (row.0, f row.1)) rows ++ more)) (found_mapped f word rows more x) (str_eq_ignore_ascii_case row.0 word) is
 
-abbrev cache_rule : CommandName → Rule
+abbrev pub cache_rule : CommandName → Rule
 cache_rule name.SetOption = NotTheMode
 cache_rule name.GetInfo = AboutTheAgent
 cache_rule name.GetPassphrase = Uncached
@@ -259,7 +259,7 @@ passes_outer name.GetConfirmation line same is = confirmation_outer (arguments_o
 passes_outer name.ReloadAgent line same is = cc is
 passes_outer name.KillAgent line same is = cc is
 
-request_is : (line : List ℕ) (found : Option CommandName) → command_named (command_of line) ≡ found → request_of line ≡ request_by found line
+pub request_is : (line : List ℕ) (found : Option CommandName) → command_named (command_of line) ≡ found → request_of line ≡ request_by found line
 unfolding request_of
 request_is line found is = ap (λ (f : Option CommandName). request_by f line) is
 

@@ -1,4 +1,5 @@
 use Rattle.agent_origin.proofs.Outer.{line_leaves}
+use Rattle.agent_origin.proofs.OuterKeys.{key_leaves}
 use Rattle.agent_origin.proofs.OuterTrust.{trust_leaves}
 use Rattle.agent_origin.proofs.laws.the_outer_door_leaves_the_cache.Goals as goal
 
@@ -7,3 +8,6 @@ returns-clause-cache c = λ rules before after line events went allows exchanged
 
 pub returns-clause-trust : goal.returns-clause-trust
 returns-clause-trust c = λ rules options line events went allows exchanged. trust_leaves line allows exchanged
+
+pub returns-clause-keys : goal.returns-clause-keys
+returns-clause-keys c = λ rules options before after line handed events went allows key exchanged. key_leaves rules options before line allows handed key exchanged
