@@ -1,4 +1,4 @@
--- Private: the parts of a request on the trust list, one after another. A part is a relation between its events and what it comes to, which is a
+-- The parts of a request on the trust list, one after another. A part is a relation between its events and what it comes to, which is a
 -- value or a refusal. This is the project's own.
 use Rattle.std.specs.Prelude.{◌≡◌, ◌≤◌, ◌<◌, ℕ, ◌++◌, List, [], ◌∷◌, Bool, false, length, Option, Some, None, Result, Ok, Err}
 use Rattle.std.specs.Option.{option_map}
