@@ -1,0 +1,92 @@
+-- Lines with a command on the trust list that are allowed at the outer door, and what is done for them to the cache.
+use Rattle.std.proofs.Common.{◌≡◌, ℕ, Bool, true, false, cond, List, [], ◌∷◌, Option, None, Some, Result, Ok, Err, bytes_eq, refl, subst}
+use Rattle.std.specs.Prelude.{codes}
+use Rattle.std.specs.Str.{str_to_ascii_lowercase}
+use Rattle.agent_ask.specs.SessionEvents.{Sent}
+use Rattle.agent_commands.specs.Answers.{ok}
+use Rattle.agent_commands.specs.declared.went.Went.{Went}
+use Rattle.agent_ports.specs.declared.grip.Grip.{Grip}
+use Rattle.assuan_server.specs.declared.errors.Code.{Code}
+use Rattle.assuan_server.specs.declared.errors.Code.TheVariants as code
+use Rattle.assuan_text.specs.Words.{command_of}
+use Rattle.key_commands.specs.Requests.{◌>>=◌}
+use Rattle.session_options.specs.OptionValues.{OptionValues}
+use Rattle.session_options.specs.declared.rules.Rules.{Rules}
+use Rattle.trust_list.specs.Trust.{trust}
+use Rattle.agent_origin.specs.Doors.{rules, rule_named, passes_by, allowed}
+use Rattle.agent_origin.specs.Exchanges.{TrustExchange, answered, refused, Carried, TrustedNow, unless_said}
+use Rattle.agent_origin.specs.Names.{command_named}
+use Rattle.agent_origin.specs.OriginEvents.{Event}
+use Rattle.agent_origin.specs.OuterTurns.{LeavesCache}
+use Rattle.agent_origin.specs.Parts.{goes_on, stops, returns, Refuses, refuses, has_read, faulted, no_memory, refusal_line}
+use Rattle.agent_origin.specs.Requests.{either, request_by, trust_request_of}
+use Rattle.agent_origin.specs.declared.door.Door.TheVariants.{Outer}
+use Rattle.agent_origin.specs.declared.door.Rule.{Rule}
+use Rattle.agent_origin.specs.declared.door.Rule.TheVariants.{Never}
+use Rattle.agent_origin.specs.declared.names.TrustCommandName.{TrustCommandName}
+use Rattle.agent_origin.specs.declared.names.TrustCommandName.TheVariants as name
+use Rattle.agent_origin.specs.declared.refusal.Refusal.{Refusal}
+use Rattle.agent_origin.specs.declared.refusal.Refusal.TheVariants.{Agent}
+use Rattle.agent_origin.specs.declared.request.TrustRequest.{TrustRequest}
+use Rattle.agent_origin.specs.declared.request.TrustRequest.TheVariants.{IsTrusted, MarkTrusted, Bad}
+use Rattle.agent_origin.proofs.Outer.{leaves_then, said_leaves}
+use Rattle.std.proofs.lemmas.Slice.Eq.{bytes_eq-Decides}
+
+-- ---- MARKTRUSTED is never allowed
+
+-- the same table, by a word in small letters
+abbrev found_small : {X : Type 0} → List ℕ → List (List ℕ × X) → Option X
+found_small small [] = None
+found_small small (row ∷ rows) = cond (bytes_eq (str_to_ascii_lowercase row.0) small) (Some row.1) (found_small small rows)
+
+mark_by : (small : List ℕ) (first second : Bool) → bytes_eq (str_to_ascii_lowercase (codes "MARKTRUSTED")) small ≡ second
+    → cond first (Some name.IsTrusted) (cond second (Some name.MarkTrusted) None) ≡ Some name.MarkTrusted → found_small small rules ≡ Some Never
+mark_by small true second same is = cc is
+mark_by small false false same is = cc is
+mark_by small false true same is = subst (λ (s : List ℕ). found_small s rules ≡ Some Never) ((bytes_eq-Decides (str_to_ascii_lowercase (codes "MARKTRUSTED")) small).0 same) refl
+
+rule_of_mark : (word : List ℕ) → command_named word ≡ Some name.MarkTrusted → rule_named word ≡ Some Never
+unfolding command_named rule_named
+rule_of_mark word is = mark_by (str_to_ascii_lowercase word) (bytes_eq (str_to_ascii_lowercase (codes "ISTRUSTED")) (str_to_ascii_lowercase word)) _ refl is
+
+-- ---- ISTRUSTED takes no turn
+
+abbrev IsOuterTrust : TrustRequest → Type 0
+IsOuterTrust (MarkTrusted fingerprint purpose owner) = ⊥
+IsOuterTrust _ = Unit {0}
+
+said_so : (said : Option Bool) (events : List Event) (result : Result (Unit {0}) Refusal) → unless_said said (Refuses (Agent code.NotTrusted)) events result → LeavesCache events
+said_so (Some true) events result returns = tt
+said_so (Some false) events result refuses = tt
+said_so None events result refuses = tt
+
+now_leaves : (fingerprint : Grip) (events : List Event) (result : Result (Unit {0}) Refusal) → TrustedNow fingerprint events result → LeavesCache events
+unfolding TrustedNow
+now_leaves fingerprint events result (goes_on (has_read {file} is) said) = said_so (trust file fingerprint.0) _ _ said
+now_leaves fingerprint events result (stops faulted) = tt
+now_leaves fingerprint events result (stops no_memory) = tt
+
+module _ (agent : Rules) (options : OptionValues) where
+  carried_leaves : (request : TrustRequest) → IsOuterTrust request → (events : List Event) (result : Result (Unit {0}) Refusal) → Carried agent options request events result → LeavesCache events
+  carried_leaves (IsTrusted fingerprint) outer events result carried = now_leaves fingerprint events result carried
+  carried_leaves (MarkTrusted fingerprint purpose owner) outer events result carried = absurd outer
+  carried_leaves (Bad code) outer events result refuses = tt
+
+  request_leaves : (request : TrustRequest) → IsOuterTrust request → {events : List Event} {went : Went} → TrustExchange agent options request events went → LeavesCache events
+  request_leaves request outer (answered events carried) = leaves_then events (Sent ok ∷ []) (carried_leaves request outer events _ carried) tt
+  request_leaves request outer (refused events why carried) = leaves_then events _ (carried_leaves request outer events _ carried) (said_leaves _ _ _ (refusal_line why))
+
+is_trusted_outer : (read : Result Grip Code) → IsOuterTrust (either (read >>= λ fingerprint. Ok (IsTrusted fingerprint)))
+is_trusted_outer (Ok fingerprint) = tt
+is_trusted_outer (Err code) = tt
+
+named_outer : (line : List ℕ) (found : Option TrustCommandName) → command_named (command_of line) ≡ found → allowed Outer line ≡ true → IsOuterTrust (request_by found line)
+named_outer line None is allows = tt
+named_outer line (Some name.IsTrusted) is allows = is_trusted_outer _
+named_outer line (Some name.MarkTrusted) is allows =
+    cc (subst (λ (rule : Option Rule). passes_by rule line ≡ true) (rule_of_mark (command_of line) is) allows)
+
+pub trust_leaves : {agent : Rules} {options : OptionValues} (line : List ℕ) {events : List Event} {went : Went} → allowed Outer line ≡ true
+    → TrustExchange agent options (trust_request_of line) events went → LeavesCache events
+unfolding trust_request_of
+trust_leaves line allows exchanged = request_leaves _ _ (request_by (command_named (command_of line)) line) (named_outer line (command_named (command_of line)) refl allows) exchanged

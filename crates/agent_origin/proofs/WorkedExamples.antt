@@ -1,0 +1,111 @@
+-- The definitions on worked examples, each by computation.
+use Rattle.std.specs.Prelude.{◌≡◌, ◌++◌, replicate, codes, true, false, refl}
+use Rattle.hex.proofs.OnLiterals.{hex_on_literals}
+use Rattle.percent_encoding.proofs.OnLiterals.{percent_encoding_on_literals}
+use Rattle.agent_commands.specs.Names.{command_named as cache_command_named}
+use Rattle.agent_commands.specs.Requests.{request_of}
+use Rattle.agent_ports.specs.declared.grip.Grip.{Grip}
+use Rattle.assuan_server.specs.declared.errors.Code.TheVariants.{UnknownCommand, Parameter}
+use Rattle.agent_origin.specs.Doors.{rule_named, allowed}
+use Rattle.agent_origin.specs.Names.{command_named}
+use Rattle.agent_origin.specs.Requests.{trust_request_of}
+use Rattle.agent_origin.specs.declared.door.Door.TheVariants.{Home, Outer}
+use Rattle.agent_origin.specs.declared.request.TrustPurpose.TheVariants.{X509}
+use Rattle.agent_origin.specs.declared.request.TrustRequest.TheVariants.{IsTrusted, MarkTrusted, Bad}
+
+-- ---- doors
+
+reload : allowed Outer (codes "RELOADAGENT") ≡ false
+unfolding rule_named
+reload = refl
+
+reload_at_home : allowed Home (codes "RELOADAGENT") ≡ true
+reload_at_home = refl
+
+cached : allowed Outer (codes "GET_PASSPHRASE --no-ask id1") ≡ false
+unfolding rule_named request_of cache_command_named
+cached = refl
+
+uncached : allowed Outer (codes "get_passphrase X X X X") ≡ true
+unfolding rule_named request_of cache_command_named
+uncached = refl
+
+-- it isn't in form
+uncached_of_two_words : allowed Outer (codes "GET_PASSPHRASE X X") ≡ false
+unfolding rule_named request_of cache_command_named
+uncached_of_two_words = refl
+
+-- it isn't known
+foo : allowed Outer (codes "FOO") ≡ true
+unfolding rule_named
+foo = refl
+
+one_key : allowed Outer (codes "KEYINFO " ++ replicate 40 65) ≡ true
+unfolding rule_named
+one_key = refl
+
+all_keys : allowed Outer (codes "KEYINFO --list") ≡ false
+unfolding rule_named
+all_keys = refl
+
+-- `--list` stands behind the end of the options
+not_all_keys : allowed Outer (codes "KEYINFO -- --list") ≡ true
+unfolding rule_named
+not_all_keys = refl
+
+mode : allowed Outer (codes "OPTION --pinentry-mode=loopback") ≡ false
+unfolding rule_named
+mode = refl
+
+other_option : allowed Outer (codes "OPTION pinentry-mode2") ≡ true
+unfolding rule_named
+other_option = refl
+
+version : allowed Outer (codes "GETINFO version") ≡ true
+unfolding rule_named
+version = refl
+
+pid : allowed Outer (codes "GETINFO pid") ≡ false
+unfolding rule_named
+pid = refl
+
+mark : allowed Outer (codes "MARKTRUSTED") ≡ false
+unfolding rule_named
+mark = refl
+
+-- ---- requests
+
+abbrev fingerprint : Grip
+fingerprint = record { 0 = replicate 20 170 }
+
+is_trusted : trust_request_of (codes "istrusted " ++ replicate 40 65 ++ codes " more") ≡ IsTrusted fingerprint
+unfolding trust_request_of command_named hex_on_literals
+is_trusted = refl
+
+is_trusted_of_none : trust_request_of (codes "ISTRUSTED") ≡ Bad Parameter
+unfolding trust_request_of command_named
+is_trusted_of_none = refl
+
+is_trusted_of_39 : trust_request_of (codes "ISTRUSTED " ++ replicate 39 65) ≡ Bad Parameter
+unfolding trust_request_of command_named
+is_trusted_of_39 = refl
+
+mark_trusted : trust_request_of (codes "MARKTRUSTED " ++ replicate 40 97 ++ codes " S Root+CA more") ≡ MarkTrusted fingerprint X509 (record { items = codes "Root CA" })
+unfolding trust_request_of command_named hex_on_literals percent_encoding_on_literals
+mark_trusted = refl
+
+mark_of_star : trust_request_of (codes "MARKTRUSTED " ++ replicate 40 97 ++ codes " * Root") ≡ Bad Parameter
+unfolding trust_request_of command_named hex_on_literals
+mark_of_star = refl
+
+mark_without_name : trust_request_of (codes "MARKTRUSTED " ++ replicate 40 97 ++ codes " P") ≡ Bad Parameter
+unfolding trust_request_of command_named
+mark_without_name = refl
+
+mark_of_901 : trust_request_of (codes "MARKTRUSTED " ++ replicate 40 97 ++ codes " P " ++ replicate 901 97) ≡ Bad Parameter
+unfolding trust_request_of command_named hex_on_literals percent_encoding_on_literals
+mark_of_901 = refl
+
+other_command : trust_request_of (codes "HAVEKEY") ≡ Bad UnknownCommand
+unfolding trust_request_of command_named
+other_command = refl

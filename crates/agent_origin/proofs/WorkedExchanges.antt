@@ -1,0 +1,134 @@
+-- What is done for requests on the trust list, on worked examples.
+use Rattle.std.proofs.Common.{◌≡◌, ℕ, Bool, false, List, [], ◌∷◌, ◌++◌, replicate, Some, None, refl, lit≤}
+use Rattle.std.specs.Fmt.{digits}
+use Rattle.std.specs.Prelude.{codes}
+use Rattle.hex.specs.Hex.{encode_with}
+use Rattle.agent_ask.specs.Consents.{AsksConsent, agreed_of, asked}
+use Rattle.agent_ask.specs.Events.{Called, Start, Confirm, Shut}
+use Rattle.agent_ask.specs.Further.{Prompt}
+use Rattle.agent_ask.specs.Plans.{IsSpec}
+use Rattle.agent_ask.specs.Prompts.{quiet}
+use Rattle.agent_ask.specs.SessionEvents.{Sent, Further, cache_turn}
+use Rattle.agent_ask.specs.UnderTickets.{none, called as shown}
+use Rattle.agent_ask.specs.declared.prompter.Consent.{Consent}
+use Rattle.agent_ask.specs.declared.prompter.Consent.TheVariants.{Yes, No}
+use Rattle.agent_ask.specs.declared.prompter.Opened.TheVariants.{Pid}
+use Rattle.agent_ask.specs.declared.spec.PromptSpec.{PromptSpec}
+use Rattle.agent_commands.specs.Answers.{ok}
+use Rattle.agent_commands.specs.declared.went.Went.TheVariants.{On}
+use Rattle.agent_ports.specs.declared.grip.Grip.{Grip}
+use Rattle.agent_ports.specs.declared.trust.TrustDone.TheVariants.{Done as IsDone}
+use Rattle.agent_ports.specs.declared.trust.TrustRead.{TrustRead}
+use Rattle.agent_ports.specs.declared.trust.TrustRead.TheVariants.{Absent, Failed}
+use Rattle.cache_policy.specs.declared.mark.MarkStep.TheVariants.{Seat, Close}
+use Rattle.cache_policy.specs.Turns.{Open, Done}
+use Rattle.session_options.specs.OptionValues.{OptionValues}
+use Rattle.session_options.specs.declared.options.PinMode.TheVariants as mode
+use Rattle.session_options.specs.declared.rules.Rules.{Rules}
+use Rattle.trust_list.specs.Trust.{with_entry}
+use Rattle.agent_origin.specs.Exchanges.{trust_question, fingerprint_question, TrustExchange, answered, refused, TrustedNow, Stores, StoresUnsaid, Consented, Marked}
+use Rattle.agent_origin.specs.OriginEvents.{Event, Read, Replaced, Session, called}
+use Rattle.agent_origin.specs.Parts.{goes_on, stops, returns, refuses, opened, given_back, consents, refused as dissents, prompts, text, has_read, faulted, added, replaced, file_in}
+use Rattle.agent_origin.specs.declared.refusal.Refusal.TheVariants.{Agent, Pinentry}
+use Rattle.agent_origin.specs.declared.request.TrustPurpose.TheVariants.{X509}
+use Rattle.agent_origin.specs.declared.request.TrustRequest.{TrustRequest}
+use Rattle.agent_origin.specs.declared.request.TrustRequest.TheVariants.{IsTrusted, MarkTrusted}
+use Rattle.assuan_server.specs.Written.{failed, failed_at_pinentry}
+use Rattle.assuan_server.specs.declared.errors.Code.TheVariants.{General, NotTrusted, NotConfirmed, Forbidden}
+
+not_trusted_line : failed NotTrusted ≡ codes "ERR 67108962 Not trusted <GPG Agent>" ++ 10 ∷ []
+unfolding digits
+not_trusted_line = refl
+
+not_confirmed_line : failed_at_pinentry NotConfirmed ≡ codes "ERR 83886194 Not confirmed <Pinentry>" ++ 10 ∷ []
+unfolding digits
+not_confirmed_line = refl
+
+forbidden_line : failed Forbidden ≡ codes "ERR 67109115 Forbidden <GPG Agent>" ++ 10 ∷ []
+unfolding digits
+forbidden_line = refl
+
+-- the fingerprint of forty times `A`, and what is asked for a name
+abbrev certificate : Grip
+certificate = record { 0 = replicate 20 170 }
+
+abbrev name : List ℕ
+name = codes "Root CA"
+
+first_question : trust_question name ≡ codes "Trust Root CA?"
+first_question = refl
+
+second_question : fingerprint_question certificate name ≡ codes "Is AAAAAAAAAAAAAAAAAAAAAAAAAAAAAAAAAAAAAAAA the right fingerprint of Root CA?"
+unfolding encode_with
+second_question = refl
+
+abbrev file : List ℕ
+file = codes "AAAAAAAAAAAAAAAAAAAAAAAAAAAAAAAAAAAAAAAA S" ++ 10 ∷ []
+
+new_file : with_entry [] certificate.0 83 ≡ file
+unfolding encode_with
+new_file = refl
+
+-- one prompt that says this, and is answered so
+abbrev prompt : PromptSpec → Consent → List Event
+prompt spec consent =
+    Further (Session (Prompt (Called (Start spec (Pid 7))))) ∷ Further (Session (Prompt (Called (Confirm consent)))) ∷ Further (Session (Prompt (Called Shut))) ∷ []
+
+asks : (spec : PromptSpec) (notify : Bool) → notify ≡ false → (consent : Consent)
+    → AsksConsent spec notify (Called (Start spec (Pid 7)) ∷ Called (Confirm consent) ∷ Called Shut ∷ []) (agreed_of consent)
+asks spec notify is consent = record { before = Called (Start spec (Pid 7)) ∷ Called (Confirm consent) ∷ []; whole = refl; asks = asked consent (quiet is) }
+
+module _ (rules : Rules) (values : OptionValues) where
+  -- there is no file
+  nothing_trusted : TrustExchange rules values (IsTrusted certificate) (called (Read Absent) ∷ Sent (failed NotTrusted) ∷ []) On
+  unfolding TrustedNow encode_with
+  nothing_trusted = refused (called (Read Absent) ∷ []) (Agent NotTrusted) (goes_on (has_read refl) refuses)
+
+  -- there is one
+  trusted : (answer : TrustRead) → file_in answer ≡ Some file → TrustExchange rules values (IsTrusted certificate) (called (Read answer) ∷ Sent ok ∷ []) On
+  unfolding TrustedNow encode_with
+  trusted answer is = answered (called (Read answer) ∷ []) (goes_on (has_read is) returns)
+
+  unread : TrustExchange rules values (IsTrusted certificate) (called (Read Failed) ∷ Sent (failed General) ∷ []) On
+  unfolding TrustedNow
+  unread = refused (called (Read Failed) ∷ []) (Agent General) (stops faulted)
+
+  module _ (first second : PromptSpec) where
+    abbrev asking : OptionValues
+    asking = record values { mode = mode.Ask; notify = false }
+
+    abbrev mark : TrustRequest
+    mark = MarkTrusted certificate X509 (text name)
+
+    module _ (is_first : IsSpec rules asking (text (trust_question name)) (text []) false first) (is_second : IsSpec rules asking (text (fingerprint_question certificate name)) (text []) false second) where
+      -- both consents are given, and the file is made
+      marked : TrustExchange rules asking mark
+          (called (Read Absent) ∷ cache_turn (Seat None None) (Open 3)
+          ∷ (prompt first Yes ++ (prompt second Yes ++ (called (Read Absent) ∷ called (Replaced (with_entry [] certificate.0 83) IsDone) ∷ cache_turn (Close 3 None) Done ∷ Sent ok ∷ [])))) On
+      unfolding Marked Consented StoresUnsaid Stores encode_with
+      marked =
+          answered
+          (called (Read Absent) ∷ cache_turn (Seat None None) (Open 3)
+          ∷ (prompt first Yes ++ (prompt second Yes ++ (called (Read Absent) ∷ called (Replaced (with_entry [] certificate.0 83) IsDone) ∷ cache_turn (Close 3 None) Done ∷ []))))
+          (goes_on (has_read refl)
+          (goes_on opened
+          (given_back {events = prompt first Yes ++ (prompt second Yes ++ (called (Read Absent) ∷ called (Replaced (with_entry [] certificate.0 83) IsDone) ∷ []))} Done
+          (goes_on {first = prompt first Yes} (consents first is_first (prompts (asks first false refl Yes) (shown (shown (shown none)))))
+          (goes_on {first = prompt second Yes} (consents second is_second (prompts (asks second false refl Yes) (shown (shown (shown none)))))
+          (goes_on (has_read refl)
+          (goes_on {first = []} (added (lit≤ tt)) replaced)))))))
+
+      -- the second one isn't: no file is made, and the seat is free
+      unmarked : TrustExchange rules asking mark
+          (called (Read Absent) ∷ cache_turn (Seat None None) (Open 3)
+          ∷ (prompt first Yes ++ (prompt second No ++ (cache_turn (Close 3 None) Done ∷ Sent (failed_at_pinentry NotConfirmed) ∷ [])))) On
+      unfolding Marked Consented encode_with
+      unmarked =
+          refused
+          (called (Read Absent) ∷ cache_turn (Seat None None) (Open 3) ∷ (prompt first Yes ++ (prompt second No ++ (cache_turn (Close 3 None) Done ∷ []))))
+          (Pinentry NotConfirmed)
+          (goes_on (has_read refl)
+          (goes_on opened
+          (given_back {events = prompt first Yes ++ prompt second No} Done
+          (goes_on {first = prompt first Yes} (consents first is_first (prompts (asks first false refl Yes) (shown (shown (shown none)))))
+          (stops {first = prompt second No} (dissents second is_second (prompts (asks second false refl No) (shown (shown (shown none)))) refl))))))

@@ -1,0 +1,157 @@
+ghost use Rattle.std.specs.Prelude.{◌≡◌, ◌≤◌, length, map};
+ghost use Rattle.std.specs.List.{position_or_len};
+ghost use Rattle.assuan_text.specs.Words.{words};
+ghost use Rattle.session_options.specs.Text.{ends_name, name_of};
+ghost use Rattle.agent_commands.specs.Requests.{get_fields, request_of};
+ghost use Rattle.agent_origin.specs.Doors.{rules, rule_named, is_about_the_agent, leaves_cache, passes, allowed};
+ghost use Rattle.agent_origin.specs.declared.door.TheConstants.{RULES};
+
+use agent_commands::{CacheCommand, Request, read_request};
+use assuan_line::Line;
+use assuan_text::{
+    arguments, command_and_rest, found_in_any_case, has_option, is_blank, next_word,
+};
+
+/// The option that says how a session wants its prompts.
+const PINENTRY_MODE: &[u8] = b"pinentry-mode";
+
+/// What may precede it.
+const DASHES: &[u8] = b"--";
+
+/// What GETINFO may be asked for by anyone.
+const VERSION: &[u8] = b"version";
+
+const HAS_OPTION: &[u8] = b"cmd_has_option";
+
+/// By which of the agent's sockets a session came in.
+#[derive(Clone, Copy, Debug, PartialEq, Eq)]
+pub enum Door {
+    /// The user's own.
+    Home,
+    /// The one that is handed to other machines, whose sessions may use keys, and neither change what the agent keeps nor read it.
+    Outer,
+}
+
+/// What the line of a command has to be at the outer door.
+#[derive(Clone, Copy, Debug, PartialEq, Eq)]
+pub(crate) enum Rule {
+    Always,
+    /// An OPTION that isn't how the session wants its prompts.
+    NotTheMode,
+    /// A GETINFO of what the agent is and can do.
+    AboutTheAgent,
+    /// A GET_PASSPHRASE in form that leaves the cache out.
+    Uncached,
+    /// A KEYINFO of one key, not of all.
+    OneKey,
+    Never,
+}
+
+/// The commands that are known, each with its rule.
+const RULES: [(&[u8], Rule); 21] = [
+    (b"NOP", Rule::Always),
+    (b"RESET", Rule::Always),
+    (b"BYE", Rule::Always),
+    (b"HELP", Rule::Always),
+    (b"OPTION", Rule::NotTheMode),
+    (b"GETINFO", Rule::AboutTheAgent),
+    (b"GET_PASSPHRASE", Rule::Uncached),
+    (b"PRESET_PASSPHRASE", Rule::Never),
+    (b"CLEAR_PASSPHRASE", Rule::Never),
+    (b"GET_CONFIRMATION", Rule::Always),
+    (b"RELOADAGENT", Rule::Never),
+    (b"KILLAGENT", Rule::Never),
+    (b"HAVEKEY", Rule::Always),
+    (b"KEYINFO", Rule::OneKey),
+    (b"KEYWRAP_KEY", Rule::Never),
+    (b"IMPORT_KEY", Rule::Never),
+    (b"EXPORT_KEY", Rule::Never),
+    (b"PASSWD", Rule::Never),
+    (b"DELETE_KEY", Rule::Never),
+    (b"ISTRUSTED", Rule::Always),
+    (b"MARKTRUSTED", Rule::Never),
+];
+
+/// Whether a line is allowed to a session that came in by this door. One that begins with no known command is: it isn't forbidden, but
+/// answered as an unknown command.
+pub fn allowed(door: Door, line: &Line) -> bool
+    ensures { result ≡ allowed door line.now }
+{
+    if door == Door::Home {
+        return true;
+    }
+    let (word, _) = command_and_rest(line.bytes());
+    match rule_named(word) {
+        Some(rule) => passes(rule, line),
+        None => true,
+    }
+}
+
+/// A law: `RULES` has the commands and their rules as they are defined, in this order.
+pub fn doors_are_as_defined()
+    ensures { map (λ row. (row.0.now, row.1)) RULES ≡ rules }
+{}
+
+/// The rule of the command of this name, whatever the case of its letters.
+#[tactic(auto, unfolding(crate::specs::Doors::rule_named))]
+fn rule_named(word: &[u8]) -> Option<Rule>
+    ensures { result ≡ rule_named word.now }
+{
+    found_in_any_case(word, &RULES)
+}
+
+/// Whether a line with a command of this rule is allowed at the outer door.
+fn passes(rule: Rule, line: &Line) -> bool
+    ensures { result ≡ passes rule line.now }
+{
+    let (_, rest) = command_and_rest(line.bytes());
+    match rule {
+        Rule::Always => true,
+        Rule::NotTheMode => option_name(rest) != PINENTRY_MODE,
+        Rule::AboutTheAgent => is_about_the_agent(arguments(rest)),
+        Rule::Uncached => leaves_cache(&read_request(line)),
+        Rule::OneKey => !has_option(rest, b"--list"),
+        Rule::Never => false,
+    }
+}
+
+/// The name of an option, as the session's options read it: up to the first blank, tab or `=`, behind the dashes that may precede it.
+fn option_name(text: &[u8]) -> &[u8]
+    ensures { result.now ≡ name_of text.now }
+{
+    let text = text.strip_prefix(DASHES).unwrap_or(text);
+    text.split_at(name_len(text)).0
+}
+
+/// How many bytes stand before the first blank, tab or `=`.
+fn name_len(text: &[u8]) -> usize
+    ensures place { result ≡ position_or_len ends_name text.now }
+    ensures within { result ≤ length text.now }
+{
+    text.iter().take_while(|byte| !ends_name(**byte)).count()
+}
+
+fn ends_name(byte: u8) -> bool
+    ensures { result ≡ ends_name byte }
+{
+    is_blank(byte) || byte == b'='
+}
+
+/// Whether GETINFO is asked for what the agent is, or which options it has.
+fn is_about_the_agent(text: &[u8]) -> bool
+    ensures { result ≡ is_about_the_agent (words text.now) }
+{
+    match next_word(text) {
+        Some((what, _)) => what == VERSION || what == HAS_OPTION,
+        None => false,
+    }
+}
+
+fn leaves_cache(request: &Request) -> bool
+    ensures { result ≡ leaves_cache (get_fields request.now) }
+{
+    matches!(
+        request,
+        Request::Cache(CacheCommand::GetPassphrase { id: None, .. })
+    )
+}

@@ -1,0 +1,43 @@
+ghost use Rattle.std.specs.Prelude.{◌≡◌};
+ghost use Rattle.agent_origin.specs.Exchanges.{flag_of};
+
+use crate::OwnerName;
+use agent_ports::Grip;
+use assuan_server::Code;
+
+/// What a line with a command on the trust list asks for (GnuPG manual, "Agent's Assuan protocol").
+#[derive(Drop)]
+pub enum TrustRequest {
+    /// Whether the certificate of this fingerprint is trusted.
+    IsTrusted {
+        fingerprint: Grip,
+    },
+    /// The certificate is to be trusted.
+    MarkTrusted {
+        fingerprint: Grip,
+        purpose: TrustPurpose,
+        /// The name of its owner, which the user is shown.
+        name: OwnerName,
+    },
+    /// The line is refused.
+    Bad(Code),
+}
+
+/// What a certificate is trusted for.
+#[derive(Clone, Copy, Debug, PartialEq, Eq)]
+pub enum TrustPurpose {
+    X509,
+    OpenPgp,
+}
+
+impl TrustPurpose {
+    /// The flag of its entries in the trust list.
+    pub(crate) fn flag(self) -> u8
+        ensures { result ≡ flag_of self }
+    {
+        match self {
+            TrustPurpose::X509 => b'S',
+            TrustPurpose::OpenPgp => b'P',
+        }
+    }
+}

@@ -1,0 +1,92 @@
+//! A request on the trust list, carried out and answered.
+
+ghost use Rattle.std.specs.Prelude.{◌≡◌, None};
+ghost use Rattle.agent_ask.specs.Prompters.{IsShut};
+ghost use Rattle.agent_commands.specs.States.{AnswersRequest};
+ghost use Rattle.agent_ports.specs.KeyFiles.{KeyFiles};
+ghost use Rattle.agent_ports.specs.Sides.{Side};
+ghost use Rattle.assuan_server.specs.Connections.{IsOpen};
+ghost use Rattle.agent_origin.specs.Exchanges.{Carried, TrustExchange};
+ghost use Rattle.agent_origin.specs.Origins.{origin_state, origin_world};
+ghost use Rattle.agent_origin.specs.States.{LeavesKeys};
+
+use crate::TrustRequest;
+use crate::marking::{Marking, mark_trusted};
+use crate::refusal::Refusal;
+use crate::reply::respond;
+use crate::trust_calls::trusted_now;
+use agent_ask::Prompter;
+use agent_commands::Went;
+use agent_ports::{Link, TrustFile};
+use assuan_server::Conn;
+use cache_policy::Desk;
+use session_options::{Options, Rules};
+use std::alloc::Global;
+
+/// Does what a request asks for, answers it, and says how the session goes on. No ticket is out and no prompt is open when it returns.
+// Apart from the session's loop, as `read_request` is.
+#[inline(never)]
+pub fn run_trust<L: Link, D: Desk, P: Prompter, T: TrustFile>(
+    alloc: Global,
+    request: &TrustRequest,
+    rules: &Rules,
+    options: &Options,
+    conn: &mut Conn<'_, L>,
+    desk: &mut D,
+    prompter: &mut P,
+    trust: &mut T,
+) -> Went
+    requires open { IsOpen conn.old }
+    requires free { (D.at desk.old).out ≡ None }
+    requires shut { IsShut (P.at prompter.old) }
+    // Whatever the keys and the dice are: the request has nothing to do with them.
+    ensures answers { (keys : KeyFiles) (dice : Side)
+        → AnswersRequest {w = origin_world D.turned P.prompted} (λ before events after went. TrustExchange rules.now options.now request.now events went) (tt {0})
+        (origin_state D.turned P.prompted conn.old desk.old prompter.old keys dice (T.trust trust.old)) result (tt {0})
+        (origin_state D.turned P.prompted conn.new desk.new prompter.new keys dice (T.trust trust.new)) }
+    ensures free { (D.at desk.new).out ≡ None }
+    ensures shut { IsShut (P.at prompter.new) }
+{
+    let carried = carry_out(alloc, request, rules, options, conn, desk, prompter, trust);
+    respond(carried, conn)
+}
+
+/// Does what a request asks for, or says why it is refused.
+fn carry_out<L: Link, D: Desk, P: Prompter, T: TrustFile>(
+    alloc: Global,
+    request: &TrustRequest,
+    rules: &Rules,
+    options: &Options,
+    conn: &mut Conn<'_, L>,
+    desk: &mut D,
+    prompter: &mut P,
+    trust: &mut T,
+) -> Result<(), Refusal>
+    requires open { IsOpen conn.old }
+    requires free { (D.at desk.old).out ≡ None }
+    requires shut { IsShut (P.at prompter.old) }
+    ensures carries { LeavesKeys D.turned P.prompted (Carried rules.now options.now request.now)
+        conn.old desk.old prompter.old (T.trust trust.old) result conn.new desk.new prompter.new (T.trust trust.new) }
+    ensures free { (D.at desk.new).out ≡ None }
+    ensures shut { IsShut (P.at prompter.new) }
+{
+    match request {
+        TrustRequest::IsTrusted { fingerprint } => trusted_now(alloc, fingerprint, trust),
+        TrustRequest::MarkTrusted {
+            fingerprint,
+            purpose,
+            name,
+        } => {
+            let marking = Marking {
+                alloc,
+                rules,
+                options,
+                fingerprint,
+                purpose: *purpose,
+                name,
+            };
+            mark_trusted(&marking, conn, desk, prompter, trust)
+        }
+        TrustRequest::Bad(code) => Err(Refusal::Agent(*code)),
+    }
+}
