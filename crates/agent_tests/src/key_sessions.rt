@@ -37,8 +37,8 @@ const IN_LATER: &[u8] =
 
 const EMPTY: &[u8] = b"";
 
-/// What is sent and answered, with the key files before and behind it.
-pub(crate) const KEY_SESSIONS: [Row; 28] = [
+/// Keys are looked at, listed and deleted: what is sent and answered, with the key files before and behind it.
+pub(crate) const LISTS: &[Row] = &[
     // What is known of a clear key, and its end.
     Row {
         sent: "KEYINFO 81594C58EF1286E89015A30A5CC2072D343B3307\nHAVEKEY 0000000000000000000000000000000000000001 81594C58EF1286E89015A30A5CC2072D343B3307\nDELETE_KEY --force 81594c58ef1286e89015a30a5cc2072d343b3307\nDELETE_KEY --force 81594C58EF1286E89015A30A5CC2072D343B3307\nHAVEKEY 81594C58EF1286E89015A30A5CC2072D343B3307\nKEYINFO 81594C58EF1286E89015A30A5CC2072D343B3307\n",
@@ -83,6 +83,10 @@ pub(crate) const KEY_SESSIONS: [Row; 28] = [
         ]),
         ..KEYS
     },
+];
+
+/// Keys are exported: what is sent and answered, with the key files before and behind it.
+pub(crate) const EXPORTS: &[Row] = &[
     // A key is exported only under a key that was drawn for that.
     Row {
         sent: "EXPORT_KEY 81594C58EF1286E89015A30A5CC2072D343B3307\nKEYWRAP_KEY\nKEYWRAP_KEY --import --export\nKEYWRAP_KEY --import\nEXPORT_KEY 81594C58EF1286E89015A30A5CC2072D343B3307\nKEYWRAP_KEY --export\nRESET\nKEYWRAP_KEY --import\nEXPORT_KEY 81594C58EF1286E89015A30A5CC2072D343B3307\n",
@@ -207,6 +211,10 @@ pub(crate) const KEY_SESSIONS: [Row; 28] = [
         dice: b"wraps a key 2415",
         ..KEYS
     },
+];
+
+/// Keys come in: what is sent and answered, with the key files before and behind it.
+pub(crate) const IMPORTS: &[Row] = &[
     // A key comes in and is protected by a new passphrase, which is cached under the key and under the nonce.
     Row {
         sent: "OPTION s2k-count=65536\nKEYWRAP_KEY --import\nIMPORT_KEY\nD %EE%8F%72%ED%69%3D%2A%3F%65%6D%E4%D7%AF%42%3B%B8%47%D7%AC%29%8B%85%D7%E1%34%CB%F3%6C%26%D8%47%51%FB%63%46%67%BF%84%BF%4E%95%80%8D%5F%2E%AB%92%E0\nEND\nKEYINFO 81594C58EF1286E89015A30A5CC2072D343B3307\nPASSWD --cache-nonce=A0A1A2A3A4A5A6A7A8A9AAAB --passwd-nonce=A0A1A2A3A4A5A6A7A8A9AAAB 81594C58EF1286E89015A30A5CC2072D343B3307\nIMPORT_KEY\nD %EE%8F%72%ED%69%3D%2A%3F%65%6D%E4%D7%AF%42%3B%B8%47%D7%AC%29%8B%85%D7%E1%34%CB%F3%6C%26%D8%47%51%FB%63%46%67%BF%84%BF%4E%95%80%8D%5F%2E%AB%92%E0\nEND\n",
@@ -306,6 +314,10 @@ pub(crate) const KEY_SESSIONS: [Row; 28] = [
         key_faults: &[1],
         ..KEYS
     },
+];
+
+/// Passphrases are changed: what is sent and answered, with the key files before and behind it.
+pub(crate) const CHANGES: &[Row] = &[
     // The passphrase is changed, and the file is written anew by OCB. The new one opens it.
     Row {
         sent: "OPTION s2k-count=65536\nPASSWD 81594C58EF1286E89015A30A5CC2072D343B3307\nPASSWD --verify 81594C58EF1286E89015A30A5CC2072D343B3307\nHAVEKEY 81594C58EF1286E89015A30A5CC2072D343B3307\nDELETE_KEY 81594C58EF1286E89015A30A5CC2072D343B3307\nPASSWD --verify 81594C58EF1286E89015A30A5CC2072D343B3307\n",
@@ -438,6 +450,10 @@ pub(crate) const KEY_SESSIONS: [Row; 28] = [
         key_faults: &[1],
         ..KEYS
     },
+];
+
+/// Keys that can't be read, that the user lets go, and that aren't canonical: what is sent and answered, with the key files before and behind it.
+pub(crate) const OTHERS: &[Row] = &[
     // Keys that can't be read.
     Row {
         sent: "HAVEKEY 0000000000000000000000000000000000000001 81594C58EF1286E89015A30A5CC2072D343B3307\nKEYINFO 81594C58EF1286E89015A30A5CC2072D343B3307\nKEYINFO --list\nDELETE_KEY --force 81594C58EF1286E89015A30A5CC2072D343B3307\nKEYINFO 81594C58EF1286E89015A30A5CC2072D343B3307\n",

@@ -12,6 +12,8 @@ mod dialogues;
 #[cfg(test)]
 mod key_sessions;
 #[cfg(test)]
+mod load;
+#[cfg(test)]
 mod options;
 #[cfg(test)]
 mod pinentry;

@@ -1,7 +1,7 @@
 ghost use Rattle.std.specs.Prelude.{◌≤◌, IfOk, IsSome};
 
 use crate::dialogues::DIALOGUES;
-use crate::key_sessions::{KEY_SESSIONS, WITH_A_KEY};
+use crate::key_sessions::{CHANGES, EXPORTS, IMPORTS, LISTS, OTHERS, WITH_A_KEY};
 use crate::prompts::{Child, PIN, PROMPTS};
 use agent_ports::{
     Got, Grip, Host, KeyNames, KeyRead, Keys, Link, ListClock, ListDice, MAX_KEY_FILE_LEN, MapKeys,
@@ -236,7 +236,7 @@ const ANSWERS: [(&str, &str); 48] = [
 ];
 
 /// Sessions with other rules, clocks and faults.
-const SESSIONS: [Row; 16] = [
+const SESSIONS: &[Row] = &[
     // A line that is too long ends a session.
     Row {
         sent: "NOP{ *998}\nNOP\n",
@@ -513,11 +513,20 @@ fn wrong<W: Wait>(rt: &W, alloc: Global, row: &Row) -> Result<Option<String>, Al
     Ok(None)
 }
 
+/// The first of the rows that comes out otherwise.
+fn first_wrong<W: Wait>(rt: &W, alloc: Global, rows: &[Row]) -> Result<Option<String>, AllocError> {
+    for row in rows.iter() {
+        let wrong = wrong(rt, alloc, row)?;
+        if wrong.is_some() {
+            return Ok(wrong);
+        }
+    }
+    Ok(None)
+}
+
 #[test]
 fn sessions_go_as_their_rows_say(rt: HostRuntime) -> Result<(), Fail> {
-    for row in SESSIONS {
-        assert_eq!(rt; wrong(&rt, rt.alloc(), &row)?, None);
-    }
+    assert_eq!(rt; first_wrong(&rt, rt.alloc(), SESSIONS)?, None);
     Ok(())
 }
 
@@ -540,10 +549,32 @@ fn requests_are_answered_as_in_the_protocol(rt: HostRuntime) -> Result<(), Fail>
 }
 
 #[test]
-fn sessions_on_keys_go_as_their_rows_say(rt: HostRuntime) -> Result<(), Fail> {
-    for row in KEY_SESSIONS {
-        assert_eq!(rt; wrong(&rt, rt.alloc(), &row)?, None);
-    }
+fn keys_are_looked_at_and_listed(rt: HostRuntime) -> Result<(), Fail> {
+    assert_eq!(rt; first_wrong(&rt, rt.alloc(), LISTS)?, None);
+    Ok(())
+}
+
+#[test]
+fn keys_are_exported(rt: HostRuntime) -> Result<(), Fail> {
+    assert_eq!(rt; first_wrong(&rt, rt.alloc(), EXPORTS)?, None);
+    Ok(())
+}
+
+#[test]
+fn keys_come_in(rt: HostRuntime) -> Result<(), Fail> {
+    assert_eq!(rt; first_wrong(&rt, rt.alloc(), IMPORTS)?, None);
+    Ok(())
+}
+
+#[test]
+fn passphrases_are_changed(rt: HostRuntime) -> Result<(), Fail> {
+    assert_eq!(rt; first_wrong(&rt, rt.alloc(), CHANGES)?, None);
+    Ok(())
+}
+
+#[test]
+fn other_sessions_on_keys_go_as_their_rows_say(rt: HostRuntime) -> Result<(), Fail> {
+    assert_eq!(rt; first_wrong(&rt, rt.alloc(), OTHERS)?, None);
     Ok(())
 }
 
@@ -611,7 +642,7 @@ const PROMPTED: Row = Row {
 };
 
 /// The status of the agent with these words, and what is written and launched.
-fn with_words<W: Threads + Wait + rt::Clock + Sync>(
+pub(crate) fn with_words<W: Threads + Wait + rt::Clock + Sync>(
     rt: &W,
     alloc: Global,
     words: &[&'static str],
