@@ -4,10 +4,16 @@ ghost use Rattle.agent_ports.specs.Launches.{IsFresh};
 use agent_ports::{Got, Launcher, Link, Sent, Sink, Source};
 use std::alloc::Global;
 use std::process::{Child, Command, OpenProcess, Processes, Stdio};
-use std::str;
+use std::time::Duration;
+use std::{io, rt, str, thread};
 use std_link::StdLink;
 
-/// Starts programs without arguments, whose standard input and output are pipes. It doesn't show what they give and are written.
+/// How often a child that is to end is looked at, before it is killed. Each look is followed by a nap of twice the one before, of 1 microsecond at first: together
+/// they take a second, and an end is seen after at most twice the time that it took.
+const LOOKS: u32 = 20;
+
+/// Starts programs without arguments, whose standard input and output are pipes. It doesn't show what they give and are written. A child that is finished has a second
+/// to end by itself.
 #[derive(Drop)]
 pub struct PipeLauncher<'a, R> {
     rt: &'a R,
@@ -15,7 +21,7 @@ pub struct PipeLauncher<'a, R> {
     faults: u64,
 }
 
-impl<'a, R: Processes> PipeLauncher<'a, R> {
+impl<'a, R: rt::Clock + Processes> PipeLauncher<'a, R> {
     pub fn new(rt: &'a R, alloc: Global) -> Self
         ensures { (⟦<PipeLauncher<'a, R> as Launcher>⟧.launches result).faults ≡ 0 }
     {
@@ -27,7 +33,7 @@ impl<'a, R: Processes> PipeLauncher<'a, R> {
     }
 }
 
-/// A program that was started. It is handed to `finish`, which waits for its end.
+/// A program that was started. It is handed to `finish`, which sees to its end.
 pub struct PipedChild<P: OpenProcess> {
     process: Child<P>,
     pipes: StdLink<P::Stdout, P::Stdin>,
@@ -59,7 +65,7 @@ impl<P: OpenProcess> Link for PipedChild<P> {
     ghost input_beside = { λ _. refl };
 }
 
-impl<R: Processes> Launcher for PipeLauncher<'_, R> {
+impl<R: rt::Clock + Processes> Launcher for PipeLauncher<'_, R> {
     type Child = PipedChild<R::Started>;
 
     ghost launches = { λ l. record { coming = None; launched = None; finished = None; faults = l.faults } };
@@ -78,14 +84,18 @@ impl<R: Processes> Launcher for PipeLauncher<'_, R> {
         self.faults = self.faults.saturating_add(reads).saturating_add(writes);
         // A child that still reads, or writes, comes to the end of its pipes.
         drop(pipes);
-        if process.wait().is_err() {
+        if end(self.rt, &mut process).is_err() {
             self.faults = self.faults.saturating_add(1);
         }
     }
 }
 
 /// Starts the program, with pipes.
-fn start<R: Processes>(rt: &R, alloc: Global, program: &[u8]) -> Option<PipedChild<R::Started>>
+fn start<R: rt::Clock + Processes>(
+    rt: &R,
+    alloc: Global,
+    program: &[u8],
+) -> Option<PipedChild<R::Started>>
     ensures { IfSome result (λ child. IsFresh (⟦<PipedChild<R::Started> as Source>⟧.input child) (⟦<PipedChild<R::Started> as Sink>⟧.output child)) }
 {
     let path = str::from_utf8(program).ok()?;
@@ -98,18 +108,36 @@ fn start<R: Processes>(rt: &R, alloc: Global, program: &[u8]) -> Option<PipedChi
             process,
             pipes: StdLink::new(output, input),
         }),
-        // A child without pipes is waited for at once.
+        // A child without pipes is of no use.
         _ => {
-            let _ = process.wait();
+            let _ = end(rt, &mut process);
             None
         }
     }
 }
 
+/// Takes the end of a child whose pipes are closed. One that heeds neither, and is still there behind a second, is killed.
+fn end<P: OpenProcess>(rt: &impl rt::Clock, process: &mut Child<P>) -> io::Result<()> {
+    for look in 0..LOOKS {
+        if process.try_wait()?.is_some() {
+            return Ok(());
+        }
+        thread::sleep(rt, Duration::from_micros(1 << look));
+    }
+    process.kill()?;
+    process.wait()?;
+    Ok(())
+}
+
 #[cfg(test)]
 mod tests {
     use super::*;
+    use std::fs::OpenOptions;
+    use std::io::Write;
+    use std::os::unix::fs::OpenOptionsExt;
     use std::test::Fail;
+    use std::time::Instant;
+    use std::{env, fs, process};
 
     #[test]
     fn a_child_gives_what_it_was_written_up_to_its_end(rt: HostRuntime) -> Result<(), Fail> {
@@ -156,5 +184,61 @@ mod tests {
             assert!(rt; failed);
             assert_eq!(rt; launcher.faults, faults);
         }
+    }
+
+    /// A program of this test's own, which is a script of the shell. It is closed, so that it may be started.
+    fn script(rt: &HostRuntime, name: &str, lines: &str) -> Result<String, Fail> {
+        let temporary = env::temp_dir(rt)?;
+        let Some(temporary) = temporary.as_path().to_str() else {
+            return Err(Fail::new("no text"));
+        };
+        let number = process::id(rt.process());
+        let path = format!(in rt.alloc(); "{temporary}/{name}{number}")?;
+        let mut file = OpenOptions::new()
+            .write(true)
+            .create_new(true)
+            .mode(0o700)
+            .open(rt, &path)?;
+        file.write_all(b"#!/bin/sh\n")?;
+        file.write_all(lines.as_bytes())?;
+        Ok(path)
+    }
+
+    #[test]
+    fn a_child_that_heeds_nothing_is_killed_within_seconds(rt: HostRuntime) -> Result<(), Fail> {
+        // It reads nothing, and what is written for it goes nowhere.
+        let path = script(
+            &rt,
+            "stubborn",
+            "trap '' HUP INT PIPE TERM\nexec sleep 600\n",
+        )?;
+        let mut launcher = PipeLauncher::new(&rt, rt.alloc());
+        let start = Instant::now(&rt)?;
+        let Some(child) = launcher.launch(path.as_bytes()) else {
+            return Err(Fail::new("not started"));
+        };
+        launcher.finish(child);
+        let took = start.elapsed(&rt)?;
+        fs::remove_file(&rt, &path)?;
+        assert_eq!(rt; launcher.faults, 0);
+        assert!(rt; took >= Duration::from_secs(1) && took < Duration::from_secs(10));
+        Ok(())
+    }
+
+    #[test]
+    fn a_child_may_take_its_time_to_end(rt: HostRuntime) -> Result<(), Fail> {
+        // Once its input has ended it works on, and leaves a file when it is done.
+        let done = script(&rt, "done", "")?;
+        let lines = format!(in rt.alloc(); "cat\nsleep 0.3\nrm {done}\n")?;
+        let path = script(&rt, "slow", &lines)?;
+        let mut launcher = PipeLauncher::new(&rt, rt.alloc());
+        let Some(child) = launcher.launch(path.as_bytes()) else {
+            return Err(Fail::new("not started"));
+        };
+        launcher.finish(child);
+        fs::remove_file(&rt, &path)?;
+        assert_eq!(rt; launcher.faults, 0);
+        assert!(rt; !fs::exists(&rt, &done)?);
+        Ok(())
     }
 }

@@ -15,7 +15,7 @@ struct Row {
     workers: u32,
     /// What each client sends, and what it is answered, in the order in which their sessions end. Those that aren't taken have no answer.
     links: &'static [(&'static str, &'static str)],
-    /// The calls that fail, by their number from 0: for the listener, for a link, reads and writes of each link, and writes of the summary.
+    /// The calls that fail, by their number from 0: for the listener, for a link, reads and writes of the first link, and writes of the summary.
     listens: &'static [u64],
     nexts: &'static [u64],
     reads: &'static [u64],
@@ -51,7 +51,7 @@ const KILL: (&str, &str) = (
     "OK Pleased to meet you\nOK closing connection\n",
 );
 
-const ROWS: [Row; 12] = [
+const ROWS: [Row; 15] = [
     // A passphrase that one client presets is another's until it is forgotten. Behind KILLAGENT no link is taken.
     Row {
         links: &[
@@ -125,8 +125,46 @@ const ROWS: [Row; 12] = [
         ..PLAIN
     },
     Row {
-        links: &[("KILLAGENT\n", GREETING), ("NOP\n", GREETING)],
+        links: &[("KILLAGENT\n", GREETING), NOP],
         reads: &[0],
+        ..PLAIN
+    },
+    // A client's read fails while it is told of a prompt: its passphrase isn't asked, and the seat is free.
+    Row {
+        links: &[
+            (
+                "OPTION allow-pinentry-notify\nGET_PASSPHRASE id1 X X X\n",
+                "OK Pleased to meet you\nOK\nINQUIRE PINENTRY_LAUNCHED 9\n",
+            ),
+            (
+                "GET_PASSPHRASE --no-ask id1\nGET_PASSPHRASE --data id1 X X X\nKILLAGENT\n",
+                "OK Pleased to meet you\nERR 67108922 No data <GPG Agent>\nD pin\nOK\nOK closing connection\n",
+            ),
+        ],
+        reads: &[8],
+        status: 0,
+        summary: "marks 6 given 0 empty 1 opened 2 stored 1 cleared 0 flushed 0\n",
+        ..PLAIN
+    },
+    // A passphrase can't be written to its client once it is typed: it is kept, and given to the next one.
+    Row {
+        links: &[
+            ("GET_PASSPHRASE --data id1 X X X\n", GREETING),
+            (
+                "GET_PASSPHRASE --no-ask --data id1\nKILLAGENT\n",
+                "OK Pleased to meet you\nD pin\nOK\nOK closing connection\n",
+            ),
+        ],
+        writes: &[1],
+        status: 0,
+        summary: "marks 4 given 1 empty 0 opened 1 stored 1 cleared 0 flushed 0\n",
+        ..PLAIN
+    },
+    // No worker is given a link.
+    Row {
+        workers: 2,
+        links: &[("KILLAGENT\n", "")],
+        nexts: &[0, 1],
         ..PLAIN
     },
     // The summary can't be written.
@@ -155,8 +193,10 @@ const ROWS: [Row; 12] = [
 
 fn links_of(alloc: Global, row: &Row) -> Result<Vec<PlannedLink>, AllocError> {
     let mut links = Vec::new(alloc);
+    let (mut reads, mut writes) = (row.reads, row.writes);
     for (sent, _) in row.links.iter() {
-        links.push(planned(alloc, sent, row.reads, row.writes)?)?;
+        links.push(planned(alloc, sent, reads, writes)?)?;
+        (reads, writes) = (&[], &[]);
     }
     Ok(links)
 }

@@ -233,6 +233,25 @@ fn a_child_may_not_send_a_line_that_is_too_long(rt: HostRuntime) -> Result<(), F
 }
 
 #[test]
+fn a_child_may_not_send_too_many_comments(rt: HostRuntime) -> Result<(), Fail> {
+    let alloc = rt.alloc();
+    for (count, said) in [
+        (10_000u32, b"pin x".as_slice()),
+        (10_001, b"many"),
+        (10_002, b"many"),
+    ] {
+        let mut gives = Vec::from_slice(alloc, OPENED)?;
+        for _ in 0..count {
+            gives.extend_from_slice(b"# x\n")?;
+        }
+        gives.extend_from_slice(b"D x\nOK\n")?;
+        let played = play(alloc, &plain(), Asks::Pin(b""), &gives, &[])?;
+        assert_eq!(rt; played.said.as_slice(), said, "{count}");
+    }
+    Ok(())
+}
+
+#[test]
 fn a_child_that_ends_early_has_broken_the_prompt(rt: HostRuntime) -> Result<(), Fail> {
     let whole: &[u8] = b"OK\nD 7\nOK\nOK\nINQUIRE QUALITY ab\nD ab\nOK\n";
     for len in 0..whole.len() {

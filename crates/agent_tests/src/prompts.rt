@@ -9,7 +9,7 @@ pub(crate) const PIN: Opening = (
     "GETINFO pid\nSETKEYINFO --clear\nSETDESC Please enter the passphrase\nSETPROMPT Passphrase:\n",
 );
 
-const QUALITY: Opening = (
+pub(crate) const QUALITY: Opening = (
     "OK\n# a comment\nS STATUS x\nD 9\nOK\nERR 1\nOK\nOK\nOK\n",
     "GETINFO pid\nSETKEYINFO --clear\nSETDESC Please enter the passphrase\nSETPROMPT Passphrase:\nSETQUALITYBAR\n",
 );
@@ -31,7 +31,7 @@ const CONFIRM: Opening = (
 );
 
 /// The session of gpg.
-const AFTER_GPG: Opening = (
+pub(crate) const AFTER_GPG: Opening = (
     "OK Pleased to meet you\nOK\nOK\nOK\nOK\nD 4711\nOK\nOK\nOK\nOK\n",
     "OPTION ttyname=/dev/pts/1\nOPTION ttytype=xterm\nOPTION lc-ctype=C.UTF-8\nOPTION lc-messages=C.UTF-8\n\
     GETINFO pid\nSETKEYINFO --clear\nSETDESC Enter passphrase%0AFor backup\nSETPROMPT Passphrase:\n",

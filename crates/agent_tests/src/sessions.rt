@@ -355,7 +355,7 @@ const SESSIONS: &[Row] = &[
 ];
 
 /// A text with its repeated parts.
-fn text_of(alloc: Global, text: &str) -> Result<String, AllocError> {
+pub(crate) fn text_of(alloc: Global, text: &str) -> Result<String, AllocError> {
     let mut all = String::new(alloc);
     for part in text.split('{') {
         let (repeated, plain) = part.split_once('}').unwrap_or(("", part));
@@ -467,8 +467,19 @@ fn wanted(alloc: Global, row: &Row) -> Result<String, AllocError> {
 /// What comes of it.
 fn outcome<W: Wait>(rt: &W, alloc: Global, row: &Row, piece: usize) -> Result<String, AllocError> {
     let mut stdio = client(alloc, row, piece)?;
-    let mut host = machine(rt, alloc, planned(alloc, row, piece)?, row)?;
-    let status = serve(alloc, &rules_of(row), &mut stdio, &mut host);
+    served(rt, alloc, row, planned(alloc, row, piece)?, &mut stdio)
+}
+
+/// What comes of a row with these children and this client.
+pub(crate) fn served<W: Wait>(
+    rt: &W,
+    alloc: Global,
+    row: &Row,
+    children: Vec<PlannedChild>,
+    stdio: &mut MemLink,
+) -> Result<String, AllocError> {
+    let mut host = machine(rt, alloc, children, row)?;
+    let status = serve(alloc, &rules_of(row), stdio, &mut host);
     let answered = String::from_utf8_lossy(alloc, stdio.written())?;
     let mut parts = host.server_parts();
     let children = children_text(alloc, &parts.launcher)?;
