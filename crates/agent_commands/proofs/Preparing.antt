@@ -15,7 +15,7 @@ use Rattle.agent_commands.specs.States.{SessionState, ReaderAfter, FaultsRise}
 use Rattle.agent_commands.specs.Steps.{AsksNobody, IsText, CarriesOut, AnswersTurn, is_done, is_interrupted, TakesTurn}
 use Rattle.agent_commands.specs.declared.answer.Answer.{Answer}
 use Rattle.agent_commands.specs.declared.request.CacheCommand.{CacheCommand}
-use Rattle.agent_commands.specs.declared.request.CacheCommand.TheVariants.{Nop, Reset, Bye, Help, SetOption, GetInfo, GetPassphrase, PresetPassphrase, ClearPassphrase, GetConfirmation, ReloadAgent, KillAgent}
+use Rattle.agent_commands.specs.declared.request.CacheCommand.TheVariants.{Nop, Reset, Bye, Help, SetOption, GetInfo, GetPassphrase, PresetPassphrase, ClearPassphrase, GetConfirmation, ReloadAgent, KillAgent, SetKeyDesc}
 use Rattle.agent_commands.specs.declared.request.Texts.{Texts}
 use Rattle.arrayvec.specs.ArrayVec.{ArrayVec}
 use Rattle.cache_policy.specs.declared.life.Life.{Life}
@@ -119,3 +119,4 @@ asks_nobody (GetInfo what) get preset confirmation = tt
 asks_nobody (ClearPassphrase id mode) get preset confirmation = tt
 asks_nobody ReloadAgent get preset confirmation = tt
 asks_nobody KillAgent get preset confirmation = tt
+asks_nobody (SetKeyDesc text) get preset confirmation = tt

@@ -9,11 +9,11 @@ use Rattle.assuan_text.specs.Words.{command_of, rest_of, words}
 use Rattle.agent_commands.specs.Exchanges.{quiet_of, quiet_fields, is_quiet}
 use Rattle.agent_commands.specs.Fields.{cache_id, text, life, cleared_mode, given_passphrase}
 use Rattle.agent_commands.specs.Names.{command_named, is_key_command}
-use Rattle.agent_commands.specs.Requests.{◌>>=◌, needed, GetFields, get_passphrase, ReadsGet, BeginsRequest, preset_of, clear_of, confirmation_of, info_of, either, request_by, request_of}
+use Rattle.agent_commands.specs.Requests.{◌>>=◌, needed, GetFields, get_passphrase, ReadsGet, BeginsRequest, preset_of, clear_of, confirmation_of, description_of, info_of, either, request_by, request_of}
 use Rattle.agent_commands.specs.declared.names.CommandName.{CommandName}
 use Rattle.agent_commands.specs.declared.names.CommandName.TheVariants as name
 use Rattle.agent_commands.specs.declared.request.CacheCommand.{CacheCommand}
-use Rattle.agent_commands.specs.declared.request.CacheCommand.TheVariants.{Nop, Reset, Bye, Help, SetOption, GetInfo, GetPassphrase, PresetPassphrase, ClearPassphrase, GetConfirmation, ReloadAgent, KillAgent}
+use Rattle.agent_commands.specs.declared.request.CacheCommand.TheVariants.{Nop, Reset, Bye, Help, SetOption, GetInfo, GetPassphrase, PresetPassphrase, ClearPassphrase, GetConfirmation, ReloadAgent, KillAgent, SetKeyDesc}
 use Rattle.agent_commands.specs.declared.request.QuietRequest.{QuietRequest}
 use Rattle.agent_commands.specs.declared.request.Request.{Request}
 use Rattle.agent_commands.specs.declared.request.Request.TheVariants.{Cache, Key, Bad}
@@ -38,6 +38,10 @@ never_clear options (word ∷ more) =
 never_confirmation : (arguments : List (List ℕ)) → quiet_of (either (confirmation_of arguments)) ≡ None
 never_confirmation [] = refl
 never_confirmation (word ∷ more) = refl
+
+never_description : (words : List (List ℕ)) → quiet_of (either (description_of words)) ≡ None
+never_description [] = refl
+never_description (word ∷ more) = refl
 
 unnamed_so : (is_key : Bool) (line : List ℕ) → quiet_of (if is_key then Key (text line) else Bad UnknownCommand) ≡ None
 unnamed_so true line = refl
@@ -64,6 +68,7 @@ quiet_by (Some name.ClearPassphrase) line get is = rw is (never_clear (options_o
 quiet_by (Some name.GetConfirmation) line get is = rw is (never_confirmation (arguments_of (words (rest_of line))))
 quiet_by (Some name.ReloadAgent) line get is = rw is refl
 quiet_by (Some name.KillAgent) line get is = rw is refl
+quiet_by (Some name.SetKeyDesc) line get is = rw is (never_description (words (rest_of line)))
 
 pub quiet_begun : (line word rest : List ℕ) (command : Option CommandName) (get : Option GetFields) → BeginsRequest line word rest command get
     → quiet_of (request_of line) ≡ option_and_then quiet_fields get
@@ -99,3 +104,4 @@ module _ (P : Request → Type 0) (request : QuietRequest)
   of_quiet (Cache (GetConfirmation description)) is = absurd (cc is)
   of_quiet (Cache ReloadAgent) is = absurd (cc is)
   of_quiet (Cache KillAgent) is = absurd (cc is)
+  of_quiet (Cache (SetKeyDesc text)) is = absurd (cc is)

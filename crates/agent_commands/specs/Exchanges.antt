@@ -34,7 +34,7 @@ use Rattle.cache_policy.specs.declared.mode.Mode.{Mode}
 use Rattle.cache_policy.specs.declared.mode.Mode.TheVariants.{Any, User}
 use Rattle.cache_policy.specs.declared.secret.TheConstants.{MAX_SECRET_LEN}
 use Rattle.cache_policy.specs.Turns.{Turn, Given, Empty, Open, Done, Stopping, Late, Refused}
-use Rattle.session_options.specs.OptionValues.{OptionValues, at_start, applied}
+use Rattle.session_options.specs.OptionValues.{OptionValues, at_start, applied, with_description}
 use Rattle.session_options.specs.declared.options.OptionAnswer.{OptionAnswer}
 use Rattle.session_options.specs.declared.options.OptionAnswer.TheVariants.{Set, Unknown, Parameter, NotSupported}
 use Rattle.session_options.specs.declared.options.PinMode.{PinMode}
@@ -48,7 +48,7 @@ use Rattle.agent_ask.specs.SessionEvents.{Sent, Cut, Inquiry, cache_turn}
 use Rattle.agent_commands.specs.Prompting.{UnderTicket}
 use Rattle.agent_commands.specs.Requests.{GetFields, get_passphrase, get_fields, request_of}
 use Rattle.agent_commands.specs.declared.request.CacheCommand.{CacheCommand}
-use Rattle.agent_commands.specs.declared.request.CacheCommand.TheVariants.{Nop, Reset, Bye, Help, SetOption, GetInfo, PresetPassphrase, ClearPassphrase, GetConfirmation, ReloadAgent, KillAgent}
+use Rattle.agent_commands.specs.declared.request.CacheCommand.TheVariants.{Nop, Reset, Bye, Help, SetOption, GetInfo, PresetPassphrase, ClearPassphrase, GetConfirmation, ReloadAgent, KillAgent, SetKeyDesc}
 use Rattle.agent_commands.specs.declared.request.Info.{Info}
 use Rattle.agent_commands.specs.declared.request.QuietRequest.{QuietRequest}
 use Rattle.agent_commands.specs.declared.request.Request.{Request}
@@ -201,6 +201,7 @@ pub data Exchange (rules : Rules) (before : OptionValues) : Request → List (Ev
   help_given : Exchange rules before (Cache Help) (Sent help ∷ []) before On
   option_applied : {text : _}
       → Exchange rules before (Cache (SetOption text)) (Sent (option_text (applied before text.items).answer) ∷ []) (applied before text.items).after On
+  described : {text : ArrayVec ℕ} → Exchange rules before (Cache (SetKeyDesc text)) (Sent ok ∷ []) (with_description before text.items) On
   info : {what : Info} {text : List ℕ} → IsInfo rules what text → Exchange rules before (Cache (GetInfo what)) (Sent text ∷ []) before On
   -- a passphrase by the cache alone
   quiet : {fields : GetFields} {events : List (Event FurtherEvent)} {went : Went}

@@ -1,10 +1,10 @@
 -- The names that requests have (GnuPG manual, "Agent's Assuan protocol"; the commands of any Assuan server are those of the
 -- Assuan manual, "client requests").
 use Rattle.std.specs.Prelude.{ℕ, Bool, List, [], ◌∷◌, ◌++◌, codes, map, Option}
-use Rattle.std.specs.Option.{is_some}
+use Rattle.std.specs.Option.{is_some, option_or}
 use Rattle.assuan_text.specs.Rows.{found, found_in_any_case, has_pair}
 use Rattle.agent_commands.specs.declared.names.CommandName.{CommandName}
-use Rattle.agent_commands.specs.declared.names.CommandName.TheVariants.{Nop, Reset, Bye, Help, SetOption, GetInfo, GetPassphrase, PresetPassphrase, ClearPassphrase, GetConfirmation, ReloadAgent, KillAgent}
+use Rattle.agent_commands.specs.declared.names.CommandName.TheVariants.{Nop, Reset, Bye, Help, SetOption, GetInfo, GetPassphrase, PresetPassphrase, ClearPassphrase, GetConfirmation, ReloadAgent, KillAgent, SetKeyDesc}
 use Rattle.agent_commands.specs.declared.request.Info.{Info}
 use Rattle.agent_commands.specs.declared.request.Info.TheVariants.{Version, Pid, S2kCount}
 
@@ -24,9 +24,13 @@ commands =
     ∷ (codes "KILLAGENT", KillAgent)
     ∷ []
 
+-- those on the prompts of commands on keys
+abbrev pub prompt_commands : List (List ℕ × CommandName)
+prompt_commands = (codes "SETKEYDESC", SetKeyDesc) ∷ []
+
 -- the command of this name, whatever the case of its letters
 unfoldable pub command_named : List ℕ → Option CommandName
-command_named word = found_in_any_case word commands
+command_named word = option_or (found_in_any_case word commands) (found_in_any_case word prompt_commands)
 
 -- the commands on keys, which none of the above are
 abbrev pub key_commands : List (List ℕ × Unit {0})
@@ -42,7 +46,7 @@ key_commands =
 
 -- the names of all of them, in this order
 abbrev pub command_names : List (List ℕ)
-command_names = map (λ row. row.0) commands ++ map (λ row. row.0) key_commands
+command_names = map (λ row. row.0) commands ++ map (λ row. row.0) key_commands ++ map (λ row. row.0) prompt_commands
 
 unfoldable pub is_key_command : List ℕ → Bool
 is_key_command word = is_some (found_in_any_case word key_commands)

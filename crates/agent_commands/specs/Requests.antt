@@ -1,11 +1,12 @@
 -- What a line asks for, or the fault for which it is refused (GnuPG manual, "Agent's Assuan protocol"). Which fault a refusal has is
 -- this project's own.
-use Rattle.std.specs.Prelude.{◌≡◌, ◌≤◌, ℕ, Bool, List, [], ◌∷◌, length, codes, ok_or, Option, Some, None, Result, Ok, Err, if◌then◌else◌}
+use Rattle.std.specs.Prelude.{◌≡◌, ◌≤◌, ℕ, Bool, true, List, [], ◌∷◌, length, codes, ok_or, Option, Some, None, Result, Ok, Err, if◌then◌else◌}
 use Rattle.std.specs.Option.{option_map}
 use Rattle.std.specs.Str.{bytes_eq}
 use Rattle.assuan_text.specs.declared.TheConstants.{MAX_LINE_LEN}
 use Rattle.assuan_text.specs.Options.{options_of, arguments_of, has_option, last_option, last_value}
 use Rattle.assuan_text.specs.Words.{command_of, rest_of, words}
+use Rattle.assuan_escape.specs.Escapes.{unescaped}
 use Rattle.agent_commands.specs.Names.{command_named, is_key_command, info_named, is_listed}
 use Rattle.agent_commands.specs.Fields.{cache_id, unless_placeholder, text, text_or, texts, repeats, life, cleared_mode, given_passphrase}
 use Rattle.assuan_server.specs.declared.errors.Code.{Code}
@@ -16,7 +17,7 @@ use Rattle.agent_commands.specs.declared.request.Texts.{Texts}
 use Rattle.agent_commands.specs.declared.request.Info.{Info}
 use Rattle.agent_commands.specs.declared.request.Info.TheVariants.{Listed}
 use Rattle.agent_commands.specs.declared.request.CacheCommand.{CacheCommand}
-use Rattle.agent_commands.specs.declared.request.CacheCommand.TheVariants.{Nop, Reset, Bye, Help, SetOption, GetInfo, GetPassphrase, PresetPassphrase, ClearPassphrase, GetConfirmation, ReloadAgent, KillAgent}
+use Rattle.agent_commands.specs.declared.request.CacheCommand.TheVariants.{Nop, Reset, Bye, Help, SetOption, GetInfo, GetPassphrase, PresetPassphrase, ClearPassphrase, GetConfirmation, ReloadAgent, KillAgent, SetKeyDesc}
 use Rattle.agent_commands.specs.declared.request.Request.{Request}
 use Rattle.agent_commands.specs.declared.request.Request.TheVariants.{Cache, Key, Bad}
 
@@ -107,6 +108,11 @@ abbrev pub confirmation_of : List (List ℕ) → Result CacheCommand Code
 confirmation_of [] = Err Parameter
 confirmation_of (word ∷ more) = Ok (GetConfirmation (text_or (codes "Please confirm") word))
 
+-- SETKEYDESC TEXT, where a `+` is a blank; further words are passed over
+abbrev pub description_of : List (List ℕ) → Result CacheCommand Code
+description_of [] = Err Parameter
+description_of (word ∷ more) = Ok (SetKeyDesc (text (unescaped true word)))
+
 -- a command, and what comes after it. OPTION's text is kept as it is.
 abbrev pub asked_by : CommandName → List ℕ → Result CacheCommand Code
 asked_by name.Nop rest = Ok Nop
@@ -123,6 +129,7 @@ asked_by name.ClearPassphrase rest = clear_of (options_of (words rest)) (argumen
 asked_by name.GetConfirmation rest = confirmation_of (arguments_of (words rest))
 asked_by name.ReloadAgent rest = Ok ReloadAgent
 asked_by name.KillAgent rest = Ok KillAgent
+asked_by name.SetKeyDesc rest = description_of (words rest)
 
 abbrev pub either : Result CacheCommand Code → Request
 either (Ok command) = Cache command

@@ -18,6 +18,7 @@ ghost use Rattle.agent_commands.specs.declared.went.Went.TheVariants as went;
 use crate::answer::Answer;
 use crate::confirmation::get_confirmation;
 use crate::passphrase::{ask_cache, get_passphrase};
+use crate::read::text_of;
 use crate::response::{Response, write_response};
 use crate::{CacheCommand, Info, QuietRequest, SessionEnd, Went};
 use agent_ask::Prompter;
@@ -131,6 +132,10 @@ fn carry_alone<D: Desk>(
         CacheCommand::Bye => Answer::last(Response::Closing, SessionEnd::Bye),
         CacheCommand::Help => Answer::on(Response::Help),
         CacheCommand::SetOption { text } => Answer::on(option_response(options.set(text))),
+        CacheCommand::SetKeyDesc { text } => {
+            options.describe(text_of(text));
+            Answer::on(Response::Ok)
+        }
         CacheCommand::GetInfo(info) => Answer::on(info_response(*info, rules)),
         CacheCommand::ClearPassphrase { id, mode } => clear_passphrase(id, *mode, desk),
         CacheCommand::ReloadAgent => take_turn(Step::Flush, Answer::on(Response::Ok), desk),

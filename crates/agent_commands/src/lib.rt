@@ -18,7 +18,7 @@ mod went;
 pub use command::{run_cache, run_quiet};
 pub use fields::MAX_REPEAT;
 pub use line_request::LineRequest;
-pub use names::{COMMANDS, CommandName, KEY_COMMANDS, commands_are_as_defined};
+pub use names::{COMMANDS, CommandName, KEY_COMMANDS, PROMPT_COMMANDS, commands_are_as_defined};
 pub use read::{read_quiet, read_request};
 pub use request::{CacheCommand, Info, QuietRequest, Request, Texts};
 pub use went::{SessionEnd, Went};

@@ -1,6 +1,6 @@
 ghost use Rattle.std.specs.Prelude.{◌≡◌, map};
-ghost use Rattle.agent_commands.specs.declared.names.TheConstants.{COMMANDS, KEY_COMMANDS};
-ghost use Rattle.agent_commands.specs.Names.{commands, key_commands, command_named, is_key_command, info_named, is_listed};
+ghost use Rattle.agent_commands.specs.declared.names.TheConstants.{COMMANDS, KEY_COMMANDS, PROMPT_COMMANDS};
+ghost use Rattle.agent_commands.specs.Names.{commands, key_commands, prompt_commands, command_named, is_key_command, info_named, is_listed};
 
 use crate::Info;
 use assuan_text::{found, found_in_any_case, has_pair};
@@ -20,6 +20,7 @@ pub enum CommandName {
     GetConfirmation,
     ReloadAgent,
     KillAgent,
+    SetKeyDesc,
 }
 
 /// The commands on the cache by their names, in the order in which HELP tells them.
@@ -49,10 +50,14 @@ pub const KEY_COMMANDS: [(&[u8], ()); 7] = [
     (b"DELETE_KEY", ()),
 ];
 
-/// A law: `COMMANDS` and `KEY_COMMANDS` have the names as they are defined, in this order.
+/// The commands on the prompts of those on keys, which HELP tells behind these.
+pub const PROMPT_COMMANDS: [(&[u8], CommandName); 1] = [(b"SETKEYDESC", CommandName::SetKeyDesc)];
+
+/// A law: `COMMANDS`, `KEY_COMMANDS` and `PROMPT_COMMANDS` have the names as they are defined, in this order.
 pub fn commands_are_as_defined()
     ensures cache { map (λ row. (row.0.now, row.1)) COMMANDS ≡ commands }
     ensures keys { map (λ row. (row.0.now, row.1)) KEY_COMMANDS ≡ key_commands }
+    ensures prompts { map (λ row. (row.0.now, row.1)) PROMPT_COMMANDS ≡ prompt_commands }
 {}
 
 /// What GETINFO can be asked for by one word.
@@ -89,7 +94,7 @@ const LISTED: [(&[u8], &[u8]); 16] = [
 pub(crate) fn command_named(word: &[u8]) -> Option<CommandName>
     ensures { result ≡ command_named word.now }
 {
-    found_in_any_case(word, &COMMANDS)
+    found_in_any_case(word, &COMMANDS).or(found_in_any_case(word, &PROMPT_COMMANDS))
 }
 
 /// Whether a command on keys has this name, whatever the case of its letters.

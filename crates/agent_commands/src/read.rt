@@ -5,12 +5,13 @@ ghost use Rattle.assuan_text.specs.Words.{words};
 ghost use Rattle.agent_commands.specs.Exchanges.{quiet_of};
 ghost use Rattle.agent_commands.specs.Fields.{text};
 ghost use Rattle.agent_commands.specs.Names.{is_key_command};
-ghost use Rattle.agent_commands.specs.Requests.{request_of, asked_by, ReadsGet, info_of, listed_info, preset_of, clear_of, confirmation_of};
+ghost use Rattle.agent_commands.specs.Requests.{request_of, asked_by, ReadsGet, info_of, listed_info, preset_of, clear_of, confirmation_of, description_of};
 
 use crate::fields::{cache_id, cleared_mode, given_passphrase, life, text_or};
 use crate::get_line::GetLine;
 use crate::names::{CommandName, HAS_OPTION, info_named, is_key_command, is_listed};
 use crate::{CacheCommand, Info, LineRequest, QuietRequest, Request};
+use assuan_escape::unescape;
 use assuan_line::Line;
 use assuan_server::Code;
 use assuan_text::{Text, arguments, has_option, next_word};
@@ -72,10 +73,12 @@ pub(crate) fn read_command(
         CommandName::GetConfirmation => read_confirmation(rest),
         CommandName::ReloadAgent => Ok(CacheCommand::ReloadAgent),
         CommandName::KillAgent => Ok(CacheCommand::KillAgent),
+        CommandName::SetKeyDesc => read_description(rest),
     }
 }
 
-fn text_of(bytes: &[u8]) -> Text
+/// The bytes as a text.
+pub(crate) fn text_of(bytes: &[u8]) -> Text
     requires { length bytes.now ≤ MAX_LINE_LEN }
     ensures { result.items ≡ bytes.now }
 {
@@ -138,5 +141,16 @@ fn read_confirmation(text: &[u8]) -> Result<CacheCommand, Code>
     let (word, _) = next_word(arguments(text)).ok_or(Code::Parameter)?;
     Ok(CacheCommand::GetConfirmation {
         description: text_or(b"Please confirm", word),
+    })
+}
+
+/// What comes after SETKEYDESC.
+fn read_description(text: &[u8]) -> Result<CacheCommand, Code>
+    requires { length text.now ≤ MAX_LINE_LEN }
+    ensures { result ≡ description_of (words text.now) }
+{
+    let (word, _) = next_word(text).ok_or(Code::Parameter)?;
+    Ok(CacheCommand::SetKeyDesc {
+        text: unescape(word, true),
     })
 }

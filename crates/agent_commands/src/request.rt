@@ -57,6 +57,10 @@ pub enum CacheCommand {
     ReloadAgent,
     /// Ends the session, and opens no prompt any more.
     KillAgent,
+    /// Says what the prompts of the next command on keys say.
+    SetKeyDesc {
+        text: Text,
+    },
 }
 
 /// A GET_PASSPHRASE that asks the cache alone, without the texts that its line may have: no prompt shows them.

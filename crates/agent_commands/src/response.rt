@@ -7,7 +7,7 @@ ghost use Rattle.agent_commands.specs.Answers.{IsDataAnswer, IsPassphrase, comme
 ghost use Rattle.assuan_server.specs.Written.{WritesText};
 ghost use Rattle.agent_commands.specs.Steps.{IsText};
 
-use crate::{COMMANDS, KEY_COMMANDS};
+use crate::{COMMANDS, KEY_COMMANDS, PROMPT_COMMANDS};
 use agent_ports::{Link, WriteFault};
 use assuan_escape::upper_hex;
 use assuan_server::{Code, Conn, Origin};
@@ -100,6 +100,7 @@ fn write_help<L: Link>(conn: &mut Conn<'_, L>) -> Result<(), WriteFault>
 {
     write_names(conn, &COMMANDS)?;
     write_names(conn, &KEY_COMMANDS)?;
+    write_names(conn, &PROMPT_COMMANDS)?;
     conn.ok(b"").whole()
 }
 

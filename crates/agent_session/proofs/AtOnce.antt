@@ -94,6 +94,7 @@ module _ (rules : Rules) where
   cached_at_once request exchanges.bye fits calm = tt
   cached_at_once request exchanges.help_given fits calm = tt
   cached_at_once request exchanges.option_applied fits calm = tt
+  cached_at_once request exchanges.described fits calm = tt
   cached_at_once request (exchanges.info is) fits calm = tt
   cached_at_once request (exchanges.quiet {fields} quiet looks) fits calm = λ is_quiet. from_cache fields.plain fields.id looks fits calm
   cached_at_once request (exchanges.by_prompt {fields} spec asks texts_are mode_is is_spec by) fits calm = λ quiet. absurd (not_quiet fields.no_ask fields.texts asks texts_are quiet)

@@ -10,7 +10,7 @@ use Rattle.assuan_server.specs.Connections.{Connection}
 use Rattle.cache_policy.specs.declared.mark.MarkStep.{MarkStep}
 use Rattle.cache_policy.specs.Turns.{Turn}
 use Rattle.session_client.specs.declared.unheard.Gone.TheVariants as gone
-use Rattle.session_options.specs.OptionValues.{OptionValues}
+use Rattle.session_options.specs.OptionValues.{OptionValues, without_description}
 use Rattle.session_options.specs.declared.rules.Rules.{Rules}
 use Rattle.agent_commands.specs.Events.{Event}
 use Rattle.agent_commands.specs.Exchanges.{Exchange}
@@ -79,14 +79,14 @@ module _ {D P : Type 0} (turned : D → MarkStep → Turn → D → Type 0) (pro
   module _ (rules : Rules) (options : OptionValues) {line : ArrayVec ℕ} {before : WrapKeys} where
     exchanged_so : {events : List (Event FurtherEvent)} {after : WrapKeys} {went : KeyWent}
         → states.WholeOrCut turned prompted (KeyExchange rules options before (key_request_of line.items)) events after went
-        → WholeOrCut (λ kept. RequestExchange rules kept (Key line)) (kept_with options before) events (kept_with options after) (went_after_key went)
+        → WholeOrCut (λ kept. RequestExchange rules kept (Key line)) (kept_with options before) events (kept_with (without_description options) after) (went_after_key went)
     exchanged_so (states.whole exchanged) = whole (keys exchanged)
     exchanged_so (states.cut exchanged last) = cut (keys exchanged) last
 
     -- with the option values beside
     pub keyed_beside : {start now : KeyState turned prompted} {went : KeyWent} {after : WrapKeys}
         → AnswersKey turned prompted (KeyExchange rules options before (key_request_of line.items)) start went after now
-        → AnswersRequest {w = KeyWorld turned prompted} (λ kept. RequestExchange rules kept (Key line)) (kept_with options before) start (went_after_key went) (kept_with options after) now
+        → AnswersRequest {w = KeyWorld turned prompted} (λ kept. RequestExchange rules kept (Key line)) (kept_with options before) start (went_after_key went) (kept_with (without_description options) after) now
     keyed_beside {went} answered = record {
       events = answered.events;
       exchanges = exchanged_so answered.exchanges;

@@ -238,6 +238,7 @@ module _ (rules : Rules) (kept : Kept) (whole : List (Event FurtherEvent)) where
   cache_explained request line_caused exchanges.bye stands = only_reply rules kept whole request reply_closing tt
   cache_explained request line_caused exchanges.help_given stands = only_reply rules kept whole request reply_help tt
   cache_explained request line_caused (exchanges.option_applied {text}) stands = option_said rules kept whole request text refl (applied kept.options text.items).answer refl
+  cache_explained request line_caused exchanges.described stands = only_reply rules kept whole request reply_ok tt
   cache_explained request line_caused (exchanges.info {what} is) stands = only_reply rules kept whole request (info_reply rules kept whole request what is) tt
   cache_explained request line_caused (exchanges.quiet {fields} quiet looks) stands =
       looks_first rules kept whole request fields.plain fields.id (Refuses code.NoData) looks stands

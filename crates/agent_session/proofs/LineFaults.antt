@@ -92,6 +92,10 @@ confirmation_fits : (arguments : List (List ℕ)) → Fits (requests.confirmatio
 confirmation_fits [] = fault form
 confirmation_fits (word ∷ more) = fine tt
 
+description_fits : (words : List (List ℕ)) → Fits (requests.description_of words)
+description_fits [] = fault form
+description_fits (word ∷ more) = fine tt
+
 asked_fits : (command : CommandName) (rest : List ℕ) → Fits (requests.asked_by command rest)
 asked_fits name.Nop rest = fine tt
 asked_fits name.Reset rest = fine tt
@@ -105,6 +109,7 @@ asked_fits name.ClearPassphrase rest = clear_fits (options_of (words rest)) (arg
 asked_fits name.GetConfirmation rest = confirmation_fits (arguments_of (words rest))
 asked_fits name.ReloadAgent rest = fine tt
 asked_fits name.KillAgent rest = fine tt
+asked_fits name.SetKeyDesc rest = description_fits (words rest)
 
 -- a request that isn't refused, or is by one of them
 pub data FitsRequest : Request → Type 0 where

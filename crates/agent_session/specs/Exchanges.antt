@@ -15,7 +15,7 @@ use Rattle.key_commands.specs.Requests.{key_request_of}
 use Rattle.key_commands.specs.declared.went.KeyWent.{KeyWent}
 use Rattle.key_commands.specs.declared.went.KeyWent.TheVariants as key
 use Rattle.key_commands.specs.declared.wrap_keys.WrapKeys.{WrapKeys}
-use Rattle.session_options.specs.OptionValues.{OptionValues, at_start}
+use Rattle.session_options.specs.OptionValues.{OptionValues, at_start, without_description}
 use Rattle.session_options.specs.declared.rules.Rules.{Rules}
 use Rattle.agent_session.specs.declared.kept.Kept.{Kept}
 
@@ -29,13 +29,14 @@ went_after_key key.On = On
 went_after_key (key.Gone how) = End (end_of how)
 
 -- A request: what is kept before it, what the session does for it, what is kept after it, and how the session goes on. A request on the cache or
--- on the session, or one that is refused, leaves the wrapping keys; one on keys leaves the option values.
+-- on the session, or one that is refused, leaves the wrapping keys; one on keys, whatever it is answered,
+-- leaves the option values, but ends the description of its prompts.
 pub data RequestExchange (rules : Rules) (before : Kept) : Request → List (Event FurtherEvent) → Kept → Went → Type 0 where
   cache : {request : Request} {events : List (Event FurtherEvent)} {options : OptionValues} {went : Went} → Exchange rules before.options request events options went
       → RequestExchange rules before request events (record { options = options; wraps = before.wraps }) went
   keys : {line : ArrayVec ℕ} {events : List (Event FurtherEvent)} {wraps : WrapKeys} {went : KeyWent}
       → KeyExchange rules before.options before.wraps (key_request_of line.items) events wraps went
-      → RequestExchange rules before (Key line) events (record { options = before.options; wraps = wraps }) (went_after_key went)
+      → RequestExchange rules before (Key line) events (record { options = without_description before.options; wraps = wraps }) (went_after_key went)
 
 -- the exchange of a line
 abbrev pub SessionExchange : Rules → Kept → List ℕ → List (Event FurtherEvent) → Kept → Went → Type 0

@@ -194,6 +194,7 @@ fn answer_whole<L: Link, D: Desk, P: Prompter, K: Keys, R: Dice>(
                 keys,
                 dice,
             );
+            kept.options.end_description();
             went_after_key(went)
         }
         Request::Bad(code) => refuse(code, conn),

@@ -27,7 +27,7 @@ use Rattle.session_options.specs.OptionValues.{OptionValues}
 use Rattle.session_options.specs.declared.rules.Rules.{Rules}
 use Rattle.key_commands.specs.Events.{Event}
 use Rattle.key_commands.specs.KeyParts.{PromptsConsent, Agrees, consents, refused}
-use Rattle.key_commands.specs.Lines.{text, delete_description}
+use Rattle.key_commands.specs.Lines.{text, described, delete_description}
 use Rattle.key_commands.specs.Parts.{Part}
 use Rattle.key_commands.specs.Partial.{NoTurn, DoesAtPrompter}
 use Rattle.key_commands.specs.States.{ReaderAfter, FaultsRise, KeyState, key_state, went_by}
@@ -100,7 +100,7 @@ left_by_consent start now (agreed.Heard heard) (Err why) is left = left_unheard 
 
 -- a prompt for consent under a ticket, and how the request goes on
 module _ {rules : Rules} {options : OptionValues} {grip : Grip} {ticket : ℕ} {shown : List Event} where
-  pub agrees : (answer : Agreed) (result : Result (Unit {0}) Refusal) (spec : PromptSpec) → IsSpec rules options (text (delete_description grip)) (text []) false spec
+  pub agrees : (answer : Agreed) (result : Result (Unit {0}) Refusal) (spec : PromptSpec) → IsSpec rules options (text (described options.description (delete_description grip))) (text []) false spec
       → PromptsConsent spec options.notify shown answer → IsConsented answer result → Agrees rules options grip (Some ticket) shown result (Some ticket)
   agrees answer (Ok agreed) spec is prompts is_yes = consents spec is (subst (λ (a : Agreed). PromptsConsent spec options.notify shown a) is_yes prompts)
   agrees answer (Err why) spec is prompts why_is = refused spec is prompts why_is

@@ -36,7 +36,7 @@ use Rattle.sexp_keys.specs.Lists.{grip_of, key_list_of}
 use Rattle.sexp_keys.specs.declared.fault.KeyFault.{KeyFault}
 use Rattle.key_commands.specs.Events.{Event, called, read, out_of_memory}
 use Rattle.key_commands.specs.Files.{FileSays}
-use Rattle.key_commands.specs.Lines.{IsDataAnswer, info_line, limit_line, text, delete_description}
+use Rattle.key_commands.specs.Lines.{IsDataAnswer, info_line, limit_line, text, described, delete_description}
 use Rattle.key_commands.specs.Parts.{Part, ◌>>=◌, Returns, Refuses, wanted, unless, Seats, Changes, Peeks, Closes, Writes, Inquires, Finds, read_fault}
 use Rattle.key_commands.specs.Passphrases.{ask_nonce, put_key}
 use Rattle.key_commands.specs.Faults.{fault_code}
@@ -223,9 +223,9 @@ pub record PromptsConsent (spec : PromptSpec) (notify : Bool) (shown : List Even
 module _ (rules : Rules) (options : OptionValues) where
   -- one prompt for consent under the ticket that the request holds
   pub data Agrees (grip : Grip) : Option ℕ → List Event → Result (Unit {0}) Refusal → Option ℕ → Type 0 where
-    consents : {ticket : ℕ} {shown : List Event} (spec : PromptSpec) → IsSpec rules options (text (delete_description grip)) (text []) false spec
+    consents : {ticket : ℕ} {shown : List Event} (spec : PromptSpec) → IsSpec rules options (text (described options.description (delete_description grip))) (text []) false spec
         → PromptsConsent spec options.notify shown agreed.Yes → Agrees grip (Some ticket) shown (Ok tt) (Some ticket)
-    refused : {ticket : ℕ} {shown : List Event} {answer : Agreed} {why : Refusal} (spec : PromptSpec) → IsSpec rules options (text (delete_description grip)) (text []) false spec
+    refused : {ticket : ℕ} {shown : List Event} {answer : Agreed} {why : Refusal} (spec : PromptSpec) → IsSpec rules options (text (described options.description (delete_description grip))) (text []) false spec
         → PromptsConsent spec options.notify shown answer → consent_refusal answer ≡ Some why → Agrees grip (Some ticket) shown (Err why) (Some ticket)
 
   abbrev agrees_by : PinMode → Grip → Part (Unit {0})

@@ -1,6 +1,6 @@
 -- The lines that requests on keys are answered by (GnuPG manual, "Agent HAVEKEY", "Agent EXPORT"). The forms of the status lines are this
 -- project's own.
-use Rattle.std.specs.Prelude.{◌≡◌, ℕ, Bool, List, [], ◌++◌, codes, decimal, if◌then◌else◌}
+use Rattle.std.specs.Prelude.{◌≡◌, ℕ, Bool, List, [], ◌++◌, codes, decimal, Option, Some, None, if◌then◌else◌}
 use Rattle.assuan_escape.specs.Escapes.{hex_text}
 use Rattle.agent_ports.specs.declared.grip.Grip.{Grip}
 use Rattle.arrayvec.specs.ArrayVec.{ArrayVec}
@@ -41,7 +41,11 @@ limit_line limit = line_of (status_text (codes "INQUIRE_MAXLEN") (decimal limit)
 abbrev pub text : List ℕ → ArrayVec ℕ
 text bytes = record { items = bytes }
 
--- what prompts about a key say
+-- what prompts about a key say: what the client set for this request (SETKEYDESC of gpg-agent), or what they usually do
+abbrev pub described : Option (List ℕ) → List ℕ → List ℕ
+described None usual = usual
+described (Some own) usual = own
+
 abbrev pub old_description : Grip → List ℕ
 old_description grip = codes "Please enter the passphrase for key " ++ grip_text grip
 

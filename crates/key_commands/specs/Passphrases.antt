@@ -30,7 +30,7 @@ use Rattle.session_options.specs.declared.rules.Rules.{Rules}
 use Rattle.sexp_keys.specs.Key.{Key}
 use Rattle.sexp_keys.specs.declared.fault.KeyFault.{KeyFault}
 use Rattle.key_commands.specs.Events.{Event, out_of_memory}
-use Rattle.key_commands.specs.Lines.{grip_text, text, old_description, new_description, field_text}
+use Rattle.key_commands.specs.Lines.{grip_text, text, described, old_description, new_description, field_text}
 use Rattle.key_commands.specs.Parts.{Part, ◌>>=◌, Returns, Refuses, needed, wanted, or_else, Asks, Seats, Changes, AsksClient}
 use Rattle.key_commands.specs.Faults.{fault_code}
 use Rattle.key_commands.specs.declared.opened.OpenedKey.{OpenedKey}
@@ -124,11 +124,11 @@ module _ (rules : Rules) (options : OptionValues) (grip : Grip) where
   -- one prompt under the ticket that the request holds, at which a passphrase is right that opens the key
   pub data PromptsOld (locked : LockedKey) : Option ℕ → List Event → Result OpenedKey Refusal → Option ℕ → Type 0 where
     opens_by : {ticket : ℕ} {shown : List Event} {pin : List ℕ} {key : Key} (spec : PromptSpec)
-        → IsSpec rules options (text (old_description grip)) (text field_text) false spec
+        → IsSpec rules options (text (described options.description (old_description grip))) (text field_text) false spec
         → PromptsPin spec (plan_of rules options (text []) false 0) (OpensBy locked) shown (asked.Pin pin) → OpensTo locked pin key
         → PromptsOld locked (Some ticket) shown (Ok (opened_by key pin)) (Some ticket)
     refused : {ticket : ℕ} {shown : List Event} {answer : Asked} {why : Refusal} (spec : PromptSpec)
-        → IsSpec rules options (text (old_description grip)) (text field_text) false spec
+        → IsSpec rules options (text (described options.description (old_description grip))) (text field_text) false spec
         → PromptsPin spec (plan_of rules options (text []) false 0) (OpensBy locked) shown answer → pin_refusal answer ≡ Some why
         → PromptsOld locked (Some ticket) shown (Err why) (Some ticket)
 
@@ -189,11 +189,11 @@ module _ (rules : Rules) (options : OptionValues) (grip : Grip) where
 
   -- one prompt under the ticket that the request holds, for a passphrase that meets the check and is repeated once
   pub data PromptsNew : Option ℕ → List Event → Result (List ℕ) Refusal → Option ℕ → Type 0 where
-    given : {ticket : ℕ} {shown : List Event} {pin : List ℕ} (spec : PromptSpec) → IsSpec rules options (text (new_description grip)) (text field_text) true spec
+    given : {ticket : ℕ} {shown : List Event} {pin : List ℕ} (spec : PromptSpec) → IsSpec rules options (text (described options.description (new_description grip))) (text field_text) true spec
         → PromptsPin spec (plan_of rules options (text []) true 1) (λ pin. ⊤) shown (asked.Pin pin)
         → PromptsNew (Some ticket) shown (Ok pin) (Some ticket)
     refused : {ticket : ℕ} {shown : List Event} {answer : Asked} {why : Refusal} (spec : PromptSpec)
-        → IsSpec rules options (text (new_description grip)) (text field_text) true spec
+        → IsSpec rules options (text (described options.description (new_description grip))) (text field_text) true spec
         → PromptsPin spec (plan_of rules options (text []) true 1) (λ pin. ⊤) shown answer → pin_refusal answer ≡ Some why
         → PromptsNew (Some ticket) shown (Err why) (Some ticket)
 

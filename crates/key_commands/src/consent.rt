@@ -9,7 +9,7 @@ ghost use Rattle.key_commands.specs.Steps.{IsAgreed, IsConsented};
 
 use crate::held::Held;
 use crate::refusal::Refusal;
-use crate::texts::delete_description;
+use crate::texts::{delete_description, described};
 use crate::turns::seat;
 use agent_ask::{Agreed, Prompter, ask_leave, prompt_spec};
 use agent_ports::{Grip, Link};
@@ -69,7 +69,7 @@ fn ask_consent<L: Link, P: Prompter>(
     ensures shut { IsShut (P.at prompter.new) }
 {
     let spec = prompt_spec(
-        &delete_description(grip),
+        &described(options, delete_description(grip)),
         &Text::new(),
         false,
         rules,

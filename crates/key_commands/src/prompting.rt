@@ -12,7 +12,7 @@ use crate::asking::Asking;
 use crate::held::Held;
 use crate::opened::{OpenedKey, OpensKey};
 use crate::refusal::Refusal;
-use crate::texts::{new_description, old_description};
+use crate::texts::{described, new_description, old_description};
 use agent_ask::{AnyPin, Asked, Prompter, ask_plan, ask_user, prompt_spec};
 use agent_ports::Link;
 use assuan_server::{Code, Conn};
@@ -40,7 +40,7 @@ pub(crate) fn prompt_old<L: Link, P: Prompter>(
         unreachable!()
     };
     let spec = prompt_spec(
-        &old_description(asking.grip),
+        &described(asking.options, old_description(asking.grip)),
         &field_text(),
         false,
         asking.rules,
@@ -79,7 +79,7 @@ pub(crate) fn prompt_new<L: Link, P: Prompter>(
         unreachable!()
     };
     let spec = prompt_spec(
-        &new_description(asking.grip),
+        &described(asking.options, new_description(asking.grip)),
         &field_text(),
         true,
         asking.rules,

@@ -5,13 +5,14 @@ ghost use Rattle.agent_ports.specs.declared.link.WriteFault.{WriteFault as Fault
 ghost use Rattle.assuan_escape.specs.Escapes.{hex_text};
 ghost use Rattle.assuan_server.specs.Written.{WritesText, status_text};
 ghost use Rattle.assuan_text.specs.LineEnds.{has_lf};
-ghost use Rattle.key_commands.specs.Lines.{grip_text, info_text, info_line, old_description, new_description, delete_description};
+ghost use Rattle.key_commands.specs.Lines.{grip_text, info_text, info_line, described, old_description, new_description, delete_description};
 
 use agent_ports::{Grip, Link, WriteFault};
 use assuan_escape::upper_hex;
 use assuan_server::Conn;
 use assuan_text::Text;
 use cache_policy::CacheId;
+use session_options::Options;
 
 /// A key's name in the cache: its grip in uppercase hexadecimal digits.
 pub(crate) fn key_id(grip: &Grip) -> CacheId
@@ -38,7 +39,19 @@ fn digits_of(grip: &Grip) -> Text
     upper_hex(&grip.0)
 }
 
-/// What the prompt for a key's passphrase says.
+/// What a prompt about a key says: what the client set for this request, or what it usually does.
+pub(crate) fn described(options: &Options, usual: Text) -> Text
+    ensures { result.items ≡ described options.now.description usual.items }
+{
+    let Some(own) = options.description() else {
+        return usual;
+    };
+    let mut text = Text::new();
+    text.try_extend_from_slice(own).unwrap();
+    text
+}
+
+/// What the prompt for a key's passphrase usually says.
 pub(crate) fn old_description(grip: &Grip) -> Text
     ensures { result.items ≡ old_description grip.now }
 {
@@ -49,7 +62,7 @@ pub(crate) fn old_description(grip: &Grip) -> Text
     text
 }
 
-/// What the prompt for a new passphrase of a key says.
+/// What the prompt for a new passphrase of a key usually says.
 pub(crate) fn new_description(grip: &Grip) -> Text
     ensures { result.items ≡ new_description grip.now }
 {
@@ -60,7 +73,7 @@ pub(crate) fn new_description(grip: &Grip) -> Text
     text
 }
 
-/// What the prompt says that asks whether a key is deleted.
+/// What the prompt usually says that asks whether a key is deleted.
 pub(crate) fn delete_description(grip: &Grip) -> Text
     ensures { result.items ≡ delete_description grip.now }
 {

@@ -26,12 +26,14 @@ words_of env = record {
   lc_messages = env.lc_messages.items;
 }
 
--- the option values, and what the rules said of them
+-- the option values, what the prompts of the next request on keys say, where the client set it (SETKEYDESC of gpg-agent), and what the
+-- rules said
 pub record OptionValues : Type 0 where
   pub env : EnvWords
   pub notify : Bool
   pub mode : PinMode
   pub s2k_count : ℕ
+  pub description : Option (List ℕ)
   pub rules_count : ℕ
   pub allow_loopback : Bool
 
@@ -42,9 +44,17 @@ at_start rules_count allow_loopback = record {
   notify = false;
   mode = Ask;
   s2k_count = rules_count;
+  description = None;
   rules_count = rules_count;
   allow_loopback = allow_loopback;
 }
+
+-- with this description, and with none
+abbrev pub with_description : OptionValues → List ℕ → OptionValues
+with_description old description = record old { description = Some description }
+
+abbrev pub without_description : OptionValues → OptionValues
+without_description old = record old { description = None }
 
 -- what an option is answered, and the option values after it
 pub record Applied : Type 0 where

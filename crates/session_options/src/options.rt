@@ -9,7 +9,7 @@ use crate::names::OptionName;
 use crate::text::{name_and_value, word_of};
 use crate::values::{count_for, mode_of};
 use crate::{Env, Rules};
-use assuan_text::number_of;
+use assuan_text::{Text, number_of};
 use std::marker::Model;
 
 /// How a passphrase is come by (GnuPG manual, `--pinentry-mode`).
@@ -44,6 +44,7 @@ pub struct Options {
     notify: bool,
     mode: PinMode,
     s2k_count: u64,
+    description: Option<Text>,
     // What the rules said.
     rules_count: u64,
     allow_loopback: bool,
@@ -51,6 +52,7 @@ pub struct Options {
 
 impl Model for Options {
     ghost use Rattle.session_options.specs.OptionValues.{OptionValues, words_of};
+    ghost use Rattle.std.specs.Option.{option_map};
     ghost use Rattle.session_options.specs.Counts.{IsS2kCount};
 
     ghost Value = { OptionValues };
@@ -60,6 +62,7 @@ impl Model for Options {
       notify = o.notify;
       mode = o.mode;
       s2k_count = o.s2k_count;
+      description = option_map (λ text. text.items) o.description;
       rules_count = o.rules_count;
       allow_loopback = o.allow_loopback;
     } };
@@ -68,7 +71,8 @@ impl Model for Options {
 }
 
 impl Options {
-    ghost use Rattle.session_options.specs.OptionValues.{at_start, words_of, with_mode, with_count};
+    ghost use Rattle.session_options.specs.OptionValues.{at_start, words_of, with_description, without_description, with_mode, with_count};
+    ghost use Rattle.std.specs.Option.{option_map};
     ghost use Rattle.session_options.specs.Table.{mode_of, count_of};
 
     /// Those before any option.
@@ -80,6 +84,7 @@ impl Options {
             notify: false,
             mode: PinMode::Ask,
             s2k_count: rules.s2k_count,
+            description: None,
             rules_count: rules.s2k_count,
             allow_loopback: rules.allow_loopback,
         }
@@ -161,6 +166,28 @@ impl Options {
         self.notify = false;
         self.mode = PinMode::Ask;
         self.s2k_count = self.rules_count;
+        self.description = None;
+    }
+
+    /// Sets what the prompts of the next request on keys say.
+    pub fn describe(&mut self, text: Text)
+        ensures { self.new ≡ with_description self.old text.items }
+    {
+        self.description = Some(text);
+    }
+
+    /// What the prompts of the next request on keys say, where it is set.
+    pub fn description(&self) -> Option<&Text>
+        ensures { option_map (λ text. text.now.items) result ≡ self.now.description }
+    {
+        self.description.as_ref()
+    }
+
+    /// The prompts of the next request on keys say what they usually do.
+    pub fn end_description(&mut self)
+        ensures { self.new ≡ without_description self.old }
+    {
+        self.description = None;
     }
 
     pub fn env(&self) -> Env

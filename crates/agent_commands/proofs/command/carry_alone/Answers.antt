@@ -1,4 +1,4 @@
-use Rattle.agent_commands.specs.Exchanges.{Exchange, nop, reset, bye, help_given, option_applied, info, clear, reload, kill}
+use Rattle.agent_commands.specs.Exchanges.{Exchange, nop, reset, bye, help_given, option_applied, described, info, clear, reload, kill}
 use Rattle.agent_commands.specs.Outside.{world}
 use Rattle.agent_commands.specs.declared.request.Request.TheVariants.{Cache}
 use Rattle.agent_commands.specs.declared.response.Response.TheVariants.{Ok, Closing, Help}
@@ -30,6 +30,12 @@ returns-in-SetOption-clause-carries g c = λ conn going.
     prepared_on {w = world g.D.Desk.turned} (Exchange c.args.rules.now c.args.options.now (Cache c.args.command.now))
     _ c.on-in-SetOption.result c.option_response.result _ going c.on-in-SetOption.ensures
     (λ text is. rw (c.option_response.ensures text is, c.set.ensures.answer, c.set.ensures.after, c.deref.ensures.0, c.in-SetOption.is) option_applied)
+
+pub returns-in-SetKeyDesc-clause-carries : goal.returns-in-SetKeyDesc-clause-carries
+returns-in-SetKeyDesc-clause-carries g c = λ conn going.
+    prepared_on {w = world g.D.Desk.turned} (Exchange c.args.rules.now c.args.options.now (Cache c.args.command.now))
+    _ c.on-in-SetKeyDesc.result Ok _ going c.on-in-SetKeyDesc.ensures
+    (λ text is. rw (is, c.describe.ensures, c.text_of.ensures, c.deref-in-SetKeyDesc.ensures.0, c.in-SetKeyDesc.is) described)
 
 pub returns-in-GetInfo-clause-carries : goal.returns-in-GetInfo-clause-carries
 returns-in-GetInfo-clause-carries g c = λ conn going.

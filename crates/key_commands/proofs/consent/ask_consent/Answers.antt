@@ -1,6 +1,6 @@
 use Rattle.std.proofs.Common.{[], false, ap, ◌∙◌}
 use Rattle.agent_ask.specs.Plans.{IsSpec}
-use Rattle.key_commands.specs.Lines.{text, delete_description}
+use Rattle.key_commands.specs.Lines.{text, described, delete_description}
 use Rattle.key_commands.proofs.Prompts.{part_prompted, left_by_consent, is_agreed, agrees}
 use Rattle.key_commands.proofs.consent.ask_consent.Goals as goal
 
@@ -11,10 +11,10 @@ pub returns-clause-agrees : goal.returns-clause-agrees
 returns-clause-agrees g c =
     let asked = c.ask_leave.ensures.asked in
     let shows = c.prompt_spec-spec.ensures in
-    let spec_is : IsSpec c.args.rules.now c.args.options.now (text (delete_description c.args.grip.now)) (text []) false c.prompt_spec-spec.result =
+    let spec_is : IsSpec c.args.rules.now c.args.options.now (text (described c.args.options.now.description (delete_description c.args.grip.now))) (text []) false c.prompt_spec-spec.result =
     record {
       title = shows.title;
-      description_is = shows.description_is ∙ ap (λ i. record { items = i }) c.delete_description.ensures;
+      description_is = shows.description_is ∙ ap (λ i. record { items = i }) (rw c.delete_description.ensures at c.described.ensures);
       prompt_is = shows.prompt_is ∙ ap (λ i. record { items = i }) c.new.ensures;
       ok = shows.ok;
       cancel = shows.cancel;

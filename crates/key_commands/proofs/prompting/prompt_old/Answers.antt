@@ -14,7 +14,7 @@ unreachable-requires-in-None g c =
 pub returns-in-Some-into_opened-clause-prompts : goal.returns-in-Some-into_opened-clause-prompts
 returns-in-Some-into_opened-clause-prompts g c =
     let last = opened_last (λ test. test.locked.now) (λ test. test.opened) (c.in-Pin.ensures.accepted c.in-Pin.pin refl) in
-    let spec = spec_says c.old_description.ensures c.field_text.ensures c.prompt_spec-spec.ensures in
+    let spec = spec_says (rw c.old_description.ensures at c.described.ensures) c.field_text.ensures c.prompt_spec-spec.ensures in
     let plan = plan_says c.args.asking.now.rules.now c.args.asking.now.options.now false 0 c.ask_plan-plan.ensures c.new.ensures in
     rw (← c.ticket.ensures, c.in-Some.is)
     (prompt_gave g.P.Prompter.prompted c.in-Pin.ensures.asked c.in-Pin.ensures.left (λ events prompts. opens_by c.prompt_spec-spec.result spec (planned plan prompts) (opens_last last c.in-Some-into_opened.ensures).0))
@@ -26,7 +26,7 @@ returns-in-Some-into_opened-clause-usable g c =
 
 pub returns-in_default-ask_user-clause-prompts : goal.returns-in_default-ask_user-clause-prompts
 returns-in_default-ask_user-clause-prompts g c =
-    let spec = spec_says c.old_description.ensures c.field_text.ensures c.prompt_spec-spec.ensures in
+    let spec = spec_says (rw c.old_description.ensures at c.described.ensures) c.field_text.ensures c.prompt_spec-spec.ensures in
     let plan = plan_says c.args.asking.now.rules.now c.args.asking.now.options.now false 0 c.ask_plan-plan.ensures c.new.ensures in
     rw (← c.ticket.ensures, c.in-Some.is)
     (prompt_refused g.P.Prompter.prompted c.ask_user.ensures.asked c.pin_refusal.ensures c.ask_user.ensures.left
