@@ -1,7 +1,7 @@
 -- Lines that are allowed at the outer door, and what is done for them to the cache.
-use Rattle.std.proofs.Common.{◌≡◌, ℕ, Bool, true, false, cond, List, [], ◌∷◌, ◌++◌, map, drop, Option, None, Some, Result, Ok, Err, is_none, refl, ap, sym, subst}
+use Rattle.std.proofs.Common.{◌≡◌, ℕ, Bool, true, false, cond, List, [], ◌∷◌, ◌++◌, map, drop, Option, None, Some, Result, Ok, Err, is_none, refl, ap, sym, ◌∙◌, subst}
 use Rattle.std.specs.Prelude.{⊤}
-use Rattle.std.specs.Option.{option_map}
+use Rattle.std.specs.Option.{option_map, option_or}
 use Rattle.std.specs.Str.{str_eq_ignore_ascii_case}
 use Rattle.agent_ask.specs.Events.{PromptEvent}
 use Rattle.agent_ask.specs.Failing.{fails, said_last}
@@ -13,17 +13,17 @@ use Rattle.agent_ask.specs.declared.spec.AskPlan.{AskPlan}
 use Rattle.agent_ask.specs.declared.spec.PromptSpec.{PromptSpec}
 use Rattle.agent_ask.specs.UnderTickets.{EndsOnce, AnyInSession, none, called, noted, out_of_memory, Prompts, none as no_more, next, asked as asked_under}
 use Rattle.agent_commands.specs.Events.{Event}
-use Rattle.agent_commands.specs.Exchanges.{Exchange, LineExchange, Fails, no_id, LooksFirst, answered, goes_on, Refuses, EndsPin, EndsConsent, WantsPrompt, ByPrompt, WithoutPrompt, WithoutPassphrase}
+use Rattle.agent_commands.specs.Exchanges.{described, Exchange, LineExchange, Fails, no_id, LooksFirst, answered, goes_on, Refuses, EndsPin, EndsConsent, WantsPrompt, ByPrompt, WithoutPrompt, WithoutPassphrase}
 use Rattle.agent_commands.specs.Exchanges.{Keeps, unkept, IsOneTurn, preset, clear, reload, kill, no_data, limit_cut, with_data, without_data, pin, cancelled, timed_out, no_pinentry, bad, unheard, yes, no, opened, interrupted, prompted}
 use Rattle.agent_commands.specs.Exchanges.{refused, nop, reset, bye, help_given, option_applied, info, quiet, by_prompt, without_prompt, not_allowed, confirmation, unconfirmed, one_turn}
 use Rattle.agent_commands.specs.Fields.{text}
-use Rattle.agent_commands.specs.Names.{commands, command_named, is_key_command}
+use Rattle.agent_commands.specs.Names.{commands, prompt_commands, command_named, is_key_command}
 use Rattle.agent_commands.specs.Prompting.{UnderTicket}
 use Rattle.agent_commands.specs.Requests.{◌>>=◌, get_fields, request_of, request_by, either, info_of, confirmation_of}
 use Rattle.agent_commands.specs.declared.names.CommandName.{CommandName}
 use Rattle.agent_commands.specs.declared.names.CommandName.TheVariants as name
 use Rattle.agent_commands.specs.declared.request.CacheCommand.{CacheCommand}
-use Rattle.agent_commands.specs.declared.request.CacheCommand.TheVariants.{Nop, Reset, Bye, Help, SetOption, GetInfo, GetPassphrase, PresetPassphrase, ClearPassphrase, GetConfirmation, ReloadAgent, KillAgent}
+use Rattle.agent_commands.specs.declared.request.CacheCommand.TheVariants.{Nop, Reset, Bye, Help, SetOption, GetInfo, GetPassphrase, PresetPassphrase, ClearPassphrase, GetConfirmation, ReloadAgent, KillAgent, SetKeyDesc}
 use Rattle.agent_commands.specs.declared.request.Info.{Info}
 use Rattle.agent_commands.specs.declared.request.Request.{Request}
 use Rattle.agent_commands.specs.declared.request.Request.TheVariants.{Cache, Key, Bad}
@@ -155,6 +155,7 @@ IsOuterRequest (Cache (PresetPassphrase id life secret)) = ⊥
 IsOuterRequest (Cache (ClearPassphrase id mode)) = ⊥
 IsOuterRequest (Cache ReloadAgent) = ⊥
 IsOuterRequest (Cache KillAgent) = ⊥
+IsOuterRequest (Cache (SetKeyDesc text)) = ⊥
 IsOuterRequest _ = ⊤
 
 no_turn : {agent : Rules} {command : CacheCommand} {step : MarkStep} {text : List ℕ} {done : Went} → IsOneTurn agent command step text done → IsOuterRequest (Cache command) → ⊥
@@ -171,6 +172,7 @@ exchange_leaves outer reset = tt
 exchange_leaves outer bye = tt
 exchange_leaves outer help_given = tt
 exchange_leaves outer option_applied = tt
+exchange_leaves outer described = absurd outer
 exchange_leaves outer (info is) = tt
 exchange_leaves outer (quiet {fields} is looks) = looks_leave refuses_leave fields.id outer looks
 exchange_leaves outer (by_prompt {fields} spec asks has wants shows by) = prompted_leaves fields.id outer by
@@ -197,6 +199,17 @@ found_mapped f word [] more x is = cc is
 found_mapped f word (row ∷ rows) more x is =
     both_found f row.1 x (found_in_any_case word rows) (found_in_any_case word (map (λ row. (row.0, f row.1)) rows ++ more)) (found_mapped f word rows more x) (str_eq_ignore_ascii_case row.0 word) is
 
+appended : {X : Type 0} (first : X) (rest other all : Option X) → all ≡ option_or rest other → (found : Bool) → cond found (Some first) all ≡ option_or (cond found (Some first) rest) other
+appended first rest other all is true = refl
+appended first rest other all is false = is
+
+-- a table behind another
+pub found_joined : {X : Type 0} (word : List ℕ) (rows more : List (List ℕ × X))
+    → found_in_any_case word (rows ++ more) ≡ option_or (found_in_any_case word rows) (found_in_any_case word more)
+found_joined word [] more = refl
+found_joined word (row ∷ rows) more =
+    appended row.1 (found_in_any_case word rows) (found_in_any_case word more) (found_in_any_case word (rows ++ more)) (found_joined word rows more) (str_eq_ignore_ascii_case row.0 word)
+
 abbrev pub cache_rule : CommandName → Rule
 cache_rule name.SetOption = NotTheMode
 cache_rule name.GetInfo = AboutTheAgent
@@ -205,11 +218,12 @@ cache_rule name.PresetPassphrase = Never
 cache_rule name.ClearPassphrase = Never
 cache_rule name.ReloadAgent = Never
 cache_rule name.KillAgent = Never
+cache_rule name.SetKeyDesc = Never
 cache_rule _ = Always
 
 rule_of_cache : (word : List ℕ) (name : CommandName) → command_named word ≡ Some name → rule_named word ≡ Some (cache_rule name)
 unfolding command_named rule_named
-rule_of_cache word name is = found_mapped cache_rule word commands (drop 12 rules) name is
+rule_of_cache word name is = found_mapped cache_rule word (commands ++ prompt_commands) (drop 13 rules) name (found_joined word commands prompt_commands ∙ is)
 
 -- ---- lines
 
@@ -242,6 +256,7 @@ uncached_outer (Cache (ClearPassphrase id mode)) is = cc is
 uncached_outer (Cache (GetConfirmation description)) is = cc is
 uncached_outer (Cache ReloadAgent) is = cc is
 uncached_outer (Cache KillAgent) is = cc is
+uncached_outer (Cache (SetKeyDesc text)) is = cc is
 uncached_outer (Key line) is = cc is
 uncached_outer (Bad code) is = cc is
 
@@ -258,6 +273,7 @@ passes_outer name.ClearPassphrase line same is = cc is
 passes_outer name.GetConfirmation line same is = confirmation_outer (arguments_of (words (rest_of line)))
 passes_outer name.ReloadAgent line same is = cc is
 passes_outer name.KillAgent line same is = cc is
+passes_outer name.SetKeyDesc line same is = cc is
 
 pub request_is : (line : List ℕ) (found : Option CommandName) → command_named (command_of line) ≡ found → request_of line ≡ request_by found line
 unfolding request_of

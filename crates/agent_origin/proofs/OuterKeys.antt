@@ -5,7 +5,7 @@ use Rattle.std.specs.Str.{str_eq_ignore_ascii_case}
 use Rattle.agent_ask.specs.Further.{FurtherEvent}
 use Rattle.agent_ask.specs.SessionEvents.{Sent}
 use Rattle.agent_commands.specs.Events.{Event}
-use Rattle.agent_commands.specs.Names.{commands as cache_commands, command_named as cache_command_named}
+use Rattle.agent_commands.specs.Names.{commands as cache_commands, prompt_commands, command_named as cache_command_named}
 use Rattle.agent_commands.specs.Requests.{request_of, asked_by, either as of_cache}
 use Rattle.agent_commands.specs.declared.names.CommandName.{CommandName}
 use Rattle.agent_commands.specs.declared.request.CacheCommand.{CacheCommand}
@@ -35,7 +35,7 @@ use Rattle.agent_origin.specs.OuterTurns.{closes, peeks, LeavesCache}
 use Rattle.agent_origin.specs.declared.door.Door.TheVariants.{Outer}
 use Rattle.agent_origin.specs.declared.door.Rule.{Rule}
 use Rattle.agent_origin.specs.declared.door.Rule.TheVariants.{Always, OneKey, Never}
-use Rattle.agent_origin.proofs.Outer.{leaves_then, said_leaves, found_mapped, cache_rule, request_is}
+use Rattle.agent_origin.proofs.Outer.{leaves_then, said_leaves, found_mapped, found_joined, cache_rule, request_is}
 
 -- ---- what is done
 
@@ -132,7 +132,8 @@ key_rule _ = Never
 
 rule_of_key : (word : List ℕ) (name : KeyCommandName) → cache_command_named word ≡ None → command_named word ≡ Some name → rule_named word ≡ Some (key_rule name)
 unfolding cache_command_named command_named rule_named
-rule_of_key word name other is = found_behind cache_rule word cache_commands (drop 12 rules) other ∙ found_mapped key_rule word commands (drop 19 rules) name is
+rule_of_key word name other is = found_behind cache_rule word (cache_commands ++ prompt_commands) (drop 13 rules) (found_joined word cache_commands prompt_commands ∙ other)
+    ∙ found_mapped key_rule word commands (drop 20 rules) name is
 
 have_outer : (agent : Rules) (options : OptionValues) (wraps : WrapKeys) (read : Result (List Grip) Code) → IsOuterKey agent options wraps (either (read >>= λ grips. Ok (HaveKey grips)))
 have_outer agent options wraps (Ok grips) = tt

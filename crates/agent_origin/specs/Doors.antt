@@ -28,6 +28,7 @@ rules =
     ∷ (codes "GET_CONFIRMATION", Always)
     ∷ (codes "RELOADAGENT", Never)
     ∷ (codes "KILLAGENT", Never)
+    ∷ (codes "SETKEYDESC", Never)
     ∷ (codes "HAVEKEY", Always)
     ∷ (codes "KEYINFO", OneKey)
     ∷ (codes "KEYWRAP_KEY", Never)

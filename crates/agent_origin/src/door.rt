@@ -48,7 +48,7 @@ pub(crate) enum Rule {
 }
 
 /// The commands that are known, each with its rule.
-const RULES: [(&[u8], Rule); 21] = [
+const RULES: [(&[u8], Rule); 22] = [
     (b"NOP", Rule::Always),
     (b"RESET", Rule::Always),
     (b"BYE", Rule::Always),
@@ -61,6 +61,7 @@ const RULES: [(&[u8], Rule); 21] = [
     (b"GET_CONFIRMATION", Rule::Always),
     (b"RELOADAGENT", Rule::Never),
     (b"KILLAGENT", Rule::Never),
+    (b"SETKEYDESC", Rule::Never),
     (b"HAVEKEY", Rule::Always),
     (b"KEYINFO", Rule::OneKey),
     (b"KEYWRAP_KEY", Rule::Never),
