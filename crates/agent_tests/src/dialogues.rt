@@ -1,12 +1,12 @@
 //! The dialogues of docs/PROTOCOL.md: what the client sends, and what it is answered. Made by tools/dialogues.
 
-pub(crate) const DIALOGUES: [(&str, &str); 19] = [
+pub(crate) const DIALOGUES: [(&str, &str); 20] = [
     ("NOP\n", "OK\n"),
     ("OPTION s2k-count=65536\nRESET\n", "OK\nOK\n"),
     ("BYE\nNOP\n", "OK closing connection\n"),
     (
         "HELP\n",
-        "# NOP\n# RESET\n# BYE\n# HELP\n# OPTION\n# GETINFO\n# GET_PASSPHRASE\n# PRESET_PASSPHRASE\n# CLEAR_PASSPHRASE\n# GET_CONFIRMATION\n# RELOADAGENT\n# KILLAGENT\n# HAVEKEY\n# KEYINFO\n# KEYWRAP_KEY\n# IMPORT_KEY\n# EXPORT_KEY\n# PASSWD\n# DELETE_KEY\nOK\n",
+        "# NOP\n# RESET\n# BYE\n# HELP\n# OPTION\n# GETINFO\n# GET_PASSPHRASE\n# PRESET_PASSPHRASE\n# CLEAR_PASSPHRASE\n# GET_CONFIRMATION\n# RELOADAGENT\n# KILLAGENT\n# HAVEKEY\n# KEYINFO\n# KEYWRAP_KEY\n# IMPORT_KEY\n# EXPORT_KEY\n# PASSWD\n# DELETE_KEY\n# SETKEYDESC\nOK\n",
     ),
     (
         "OPTION --ttyname = /dev/pts/1\nOPTION s2k-count=65535\nOPTION foo=1\n",
@@ -64,5 +64,9 @@ pub(crate) const DIALOGUES: [(&str, &str); 19] = [
     (
         "DELETE_KEY --force 81594C58EF1286E89015A30A5CC2072D343B3307\nDELETE_KEY --force 81594C58EF1286E89015A30A5CC2072D343B3307\n",
         "OK\nERR 67108881 No secret key <GPG Agent>\n",
+    ),
+    (
+        "SETKEYDESC Please+unlock%0Athe+key\nSETKEYDESC\n",
+        "OK\nERR 67109144 IPC parameter error <GPG Agent>\n",
     ),
 ];

@@ -531,6 +531,112 @@ pub(crate) const OTHERS: &[Row] = &[
     },
 ];
 
+/// What SETKEYDESC set is what prompts say: what is sent and answered, with the key files before and behind it.
+pub(crate) const DESCRIPTIONS: &[Row] = &[
+    // A description is the one of both prompts of the next command on keys, and of no later one.
+    Row {
+        sent: "OPTION s2k-count=65536\nSETKEYDESC Unlock%0Ait+now\nPASSWD 81594C58EF1286E89015A30A5CC2072D343B3307\nPASSWD --verify 81594C58EF1286E89015A30A5CC2072D343B3307\n",
+        answered: "OK\nOK\nOK\nOK\n",
+        files: &[(GRIP, BY_CBC)],
+        files_after: Some(&[(GRIP, CHANGED)]),
+        children: &[
+            (
+                (
+                    "OK Pleased to meet you\nD 9\nOK\nOK\nOK\nOK\n",
+                    "GETINFO pid\nSETKEYINFO --clear\nSETDESC Unlock%0Ait now\nSETPROMPT Passphrase:\n",
+                ),
+                "D abcdefg1\nOK\n",
+                "GETPIN\nBYE\n",
+            ),
+            (
+                (
+                    "OK Pleased to meet you\nD 9\nOK\nOK\nOK\nOK\nOK\n",
+                    "GETINFO pid\nSETKEYINFO --clear\nSETDESC Unlock%0Ait now\nSETPROMPT Passphrase:\nSETQUALITYBAR\n",
+                ),
+                "D hijklmn2\nOK\nOK\nD hijklmn2\nOK\n",
+                "GETPIN\nSETERROR Please repeat the passphrase\nGETPIN\nBYE\n",
+            ),
+            (
+                (
+                    "OK Pleased to meet you\nD 9\nOK\nOK\nOK\nOK\n",
+                    "GETINFO pid\nSETKEYINFO --clear\nSETDESC Please enter the passphrase for key 81594C58EF1286E89015A30A5CC2072D343B3307\nSETPROMPT Passphrase:\n",
+                ),
+                "D hijklmn2\nOK\n",
+                "GETPIN\nBYE\n",
+            ),
+        ],
+        dice: b" !\"#$%&'()*+,-./0123",
+        ..KEYS
+    },
+    // The later of two counts. Commands on the cache leave it, and so does one without a text.
+    Row {
+        sent: "KEYWRAP_KEY --export\nSETKEYDESC Other\nSETKEYDESC Unlock%0Ait+now more\nSETKEYDESC\nSETKEYDESC  \nNOP\nGETINFO cmd_has_option SETKEYDESC x\nEXPORT_KEY 81594C58EF1286E89015A30A5CC2072D343B3307\n",
+        answered: "D wraps a key 2415\nOK\nOK\nOK\nERR 67109144 IPC parameter error <GPG Agent>\nERR 67109144 IPC parameter error <GPG Agent>\nOK\nERR 67108924 Not supported <GPG Agent>\nD %EE%8Fr%EDi=*?em%E4%D7%AFB;%B8G%D7%AC)%8B%85%D7%E14%CB%F3l&%D8GQ%FBcFg%BF%84%BFN%95%80%8D_.%AB%92%E0\nOK\n",
+        files: &[(GRIP, BY_CBC)],
+        files_after: Some(&[(GRIP, BY_CBC)]),
+        children: &[(
+            (
+                "OK Pleased to meet you\nD 9\nOK\nOK\nOK\nOK\n",
+                "GETINFO pid\nSETKEYINFO --clear\nSETDESC Unlock%0Ait now\nSETPROMPT Passphrase:\n",
+            ),
+            "D abcdefg1\nOK\n",
+            "GETPIN\nBYE\n",
+        )],
+        dice: b"wraps a key 2415",
+        ..KEYS
+    },
+    // It is the one of a question for consent.
+    Row {
+        sent: "SETKEYDESC Other\nSETKEYDESC Unlock%0Ait+now\nDELETE_KEY 81594C58EF1286E89015A30A5CC2072D343B3307\n",
+        answered: "OK\nOK\nOK\n",
+        files: &[(GRIP, BY_CBC)],
+        files_after: Some(&[]),
+        children: &[(
+            (
+                "OK\nD 9\nOK\nOK\nOK\n",
+                "GETINFO pid\nSETKEYINFO --clear\nSETDESC Unlock%0Ait now\n",
+            ),
+            "OK\n",
+            "CONFIRM\nBYE\n",
+        )],
+        ..KEYS
+    },
+    // RESET ends it, and so does a command on keys that is refused, or asks nobody.
+    Row {
+        sent: "SETKEYDESC Other\nRESET\nPASSWD --verify 81594C58EF1286E89015A30A5CC2072D343B3307\nSETKEYDESC Other\nEXPORT_KEY\nPASSWD --verify 81594C58EF1286E89015A30A5CC2072D343B3307\nSETKEYDESC Other\nHAVEKEY 81594C58EF1286E89015A30A5CC2072D343B3307\nPASSWD --verify 81594C58EF1286E89015A30A5CC2072D343B3307\n",
+        answered: "OK\nOK\nOK\nOK\nERR 67109144 IPC parameter error <GPG Agent>\nOK\nOK\nOK\nOK\n",
+        files: &[(GRIP, BY_CBC)],
+        files_after: Some(&[(GRIP, BY_CBC)]),
+        children: &[
+            (
+                (
+                    "OK Pleased to meet you\nD 9\nOK\nOK\nOK\nOK\n",
+                    "GETINFO pid\nSETKEYINFO --clear\nSETDESC Please enter the passphrase for key 81594C58EF1286E89015A30A5CC2072D343B3307\nSETPROMPT Passphrase:\n",
+                ),
+                "D abcdefg1\nOK\n",
+                "GETPIN\nBYE\n",
+            ),
+            (
+                (
+                    "OK Pleased to meet you\nD 9\nOK\nOK\nOK\nOK\n",
+                    "GETINFO pid\nSETKEYINFO --clear\nSETDESC Please enter the passphrase for key 81594C58EF1286E89015A30A5CC2072D343B3307\nSETPROMPT Passphrase:\n",
+                ),
+                "D abcdefg1\nOK\n",
+                "GETPIN\nBYE\n",
+            ),
+            (
+                (
+                    "OK Pleased to meet you\nD 9\nOK\nOK\nOK\nOK\n",
+                    "GETINFO pid\nSETKEYINFO --clear\nSETDESC Please enter the passphrase for key 81594C58EF1286E89015A30A5CC2072D343B3307\nSETPROMPT Passphrase:\n",
+                ),
+                "D abcdefg1\nOK\n",
+                "GETPIN\nBYE\n",
+            ),
+        ],
+        ..KEYS
+    },
+];
+
 /// A session with one key, and these random bytes.
 pub(crate) const WITH_A_KEY: Row = Row {
     files: &[(GRIP, CLEAR)],

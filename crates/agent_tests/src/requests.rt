@@ -73,6 +73,7 @@ fn told_command(alloc: Global, command: &CacheCommand) -> Result<String, AllocEr
         }
         CacheCommand::ReloadAgent => format!(in alloc; "reload"),
         CacheCommand::KillAgent => format!(in alloc; "kill"),
+        CacheCommand::SetKeyDesc { text: said } => format!(in alloc; "describe [{}]", text(said)),
     }
 }
 
@@ -121,7 +122,7 @@ fn first_wrong(alloc: Global, rows: &[(&str, &str)], quiet: bool) -> Result<Stri
     Ok(String::new(alloc))
 }
 
-const REFUSALS: [(&str, &str); 42] = [
+const REFUSALS: [(&str, &str); 44] = [
     ("", "refused UnknownCommand"),
     (" \t", "refused UnknownCommand"),
     ("# comment", "refused UnknownCommand"),
@@ -176,9 +177,11 @@ const REFUSALS: [(&str, &str); 42] = [
     ),
     ("GET_CONFIRMATION", "refused Parameter"),
     ("GET_CONFIRMATION --frob --", "refused Parameter"),
+    ("SETKEYDESC", "refused Parameter"),
+    ("SETKEYDESC \t", "refused Parameter"),
 ];
 
-const READ: [(&str, &str); 56] = [
+const READ: [(&str, &str); 60] = [
     ("nop", "nop"),
     (" \tReSeT and more", "reset"),
     ("BYE", "bye"),
@@ -285,6 +288,10 @@ const READ: [(&str, &str); 56] = [
     ("get_confirmation X", "confirm [Please confirm]"),
     ("GET_CONFIRMATION --frob -- --x%21 more", "confirm [--x!]"),
     ("GET_CONFIRMATION x", "confirm [x]"),
+    ("SETKEYDESC Unlock%21+now more", "describe [Unlock! now]"),
+    ("setkeydesc X", "describe [X]"),
+    ("SETKEYDESC --frob --", "describe [--frob]"),
+    ("SETKEYDESC +", "describe [ ]"),
     ("HAVEKEY", "key HAVEKEY"),
     ("keyinfo --list", "key keyinfo --list"),
     (" KEYWRAP_KEY --export", "key  KEYWRAP_KEY --export"),
