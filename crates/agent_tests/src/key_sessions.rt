@@ -38,7 +38,7 @@ const IN_LATER: &[u8] =
 const EMPTY: &[u8] = b"";
 
 /// What is sent and answered, with the key files before and behind it.
-pub(crate) const KEY_SESSIONS: [Row; 28] = [
+pub(crate) const FIRST_KEY_SESSIONS: &[Row] = &[
     // What is known of a clear key, and its end.
     Row {
         sent: "KEYINFO 81594C58EF1286E89015A30A5CC2072D343B3307\nHAVEKEY 0000000000000000000000000000000000000001 81594C58EF1286E89015A30A5CC2072D343B3307\nDELETE_KEY --force 81594c58ef1286e89015a30a5cc2072d343b3307\nDELETE_KEY --force 81594C58EF1286E89015A30A5CC2072D343B3307\nHAVEKEY 81594C58EF1286E89015A30A5CC2072D343B3307\nKEYINFO 81594C58EF1286E89015A30A5CC2072D343B3307\n",
@@ -145,6 +145,10 @@ pub(crate) const KEY_SESSIONS: [Row; 28] = [
         dice: b"wraps a key 2415",
         ..KEYS
     },
+];
+
+/// What is sent and answered, with the key files before and behind it.
+pub(crate) const SECOND_KEY_SESSIONS: &[Row] = &[
     // A wrong passphrase in the cache is passed over, and the right one is kept in its place.
     Row {
         sent: "KEYWRAP_KEY --export\nPRESET_PASSPHRASE 81594C58EF1286E89015A30A5CC2072D343B3307 -1 61\nEXPORT_KEY 81594C58EF1286E89015A30A5CC2072D343B3307\nEXPORT_KEY 81594C58EF1286E89015A30A5CC2072D343B3307\n",
@@ -265,6 +269,10 @@ pub(crate) const KEY_SESSIONS: [Row; 28] = [
         dice: b"wraps a key 2415 !\"#$%&'()*+,-./0123\xa0\xa1\xa2\xa3\xa4\xa5\xa6\xa7\xa8\xa9\xaa\xab",
         ..KEYS
     },
+];
+
+/// What is sent and answered, with the key files before and behind it.
+pub(crate) const THIRD_KEY_SESSIONS: &[Row] = &[
     // What comes in has to be a wrapped clear key.
     Row {
         sent: "IMPORT_KEY\nKEYWRAP_KEY --import\nIMPORT_KEY aaaaaaaaaaaaaaaaaaaaaaaaaaaaaaaaaaaaaaaaaaaaaaaaaaa\nIMPORT_KEY\nD %EE%8F%72%ED%69%3D%2A%3F%65%6D%E4%D7%AF%42%3B%B8%47%D7%AC%29%8B%85%D7%E1%34%CB%F3%6C%26%D8%47%51%FB%63%46%67%BF%84%BF%4E%95%80%8D%5F%2E%AB%92%78\nEND\nIMPORT_KEY\nD a\nEND\nIMPORT_KEY\nD %0A%28%EE%6A%55%14%1D%33%CC%E4%F7%62%27%88%72%F9%15%4F%91%EC%4E%05%32%3C%08%23%10%2E%46%7C%2B%85%A3%80%0E%5E%E5%45%B1%A7%1A%AB%00%6A%49%CF%F4%BB\nEND\nIMPORT_KEY\nD %73%D3%BF%90%9A%D3%7D%C0%2C%E6%B7%08%DA%4D%43%13%7D%64%01%33%A6%8E%35%77%86%A4%F0%15%CE%6E%EE%04%55%5D%07%34%83%25%39%DC%29%80%C3%2B%E9%56%3A%18%7B%97%97%03%6B%64%43%46\nEND\nIMPORT_KEY\nD %D3%D6%A4%AD%15%D0%12%25%79%93%32%F9%6D%DA%37%15%3B%9E%41%D0%03%6A%5C%AC%C4%98%3D%1E%4E%D5%BD%E5%4F%65%87%83%DA%3E%53%2F%2D%55%84%B5%39%C4%14%C5%B8%34%5B%C8%BE%57%1A%50%39%FC%B5%7C%6C%CD%14%31%F1%55%88%A2%BB%2B%08%CF%0B%8F%8B%E1%50%DE%7E%F6%86%6C%50%89%54%BE%B6%5F%1D%6E%4B%53%D5%B2%AF%70%9F%CA%80%D0%6B%A9%FA%D9%62%C8%B1%B3%98%67%6D%B9%AE%86%49%4F%AC%67%09%AD%FF%EC%EF%34%7C%03%2C%27%10%6F%DF%8F%A1%98%B6%8A%6E%A7%E4%E3%B0%0C%8C%E0%75%91%7B%43%CF%4E%71%9E%CB%36%D6%79%D3%75%0B%49%88%8D%77%F7%E8%B6%E3%51%87%5A%7F%5A%F0%A6%38%25%BF%70%B4%2B%C2%C3%C2%7D%A4%EC%D6%EB%16%AE%FF%74%44%4D%A5%52%7B%58%B4%00\nEND\nIMPORT_KEY\nCAN\nIMPORT_KEY\nNOP\n",
@@ -410,6 +418,10 @@ pub(crate) const KEY_SESSIONS: [Row; 28] = [
         dice: b" !\"#$%&'()*+,-./0123wraps a key 2415",
         ..KEYS
     },
+];
+
+/// What is sent and answered, with the key files before and behind it.
+pub(crate) const FOURTH_KEY_SESSIONS: &[Row] = &[
     // Where the new file can't be written, the old one stays, and the new passphrase isn't kept.
     Row {
         sent: "OPTION s2k-count=65536\nPASSWD 81594C58EF1286E89015A30A5CC2072D343B3307\nKEYINFO 81594C58EF1286E89015A30A5CC2072D343B3307\n",

@@ -1,7 +1,9 @@
 ghost use Rattle.std.specs.Prelude.{◌≤◌, IfOk, IsSome};
 
 use crate::dialogues::DIALOGUES;
-use crate::key_sessions::{KEY_SESSIONS, WITH_A_KEY};
+use crate::key_sessions::{
+    FIRST_KEY_SESSIONS, FOURTH_KEY_SESSIONS, SECOND_KEY_SESSIONS, THIRD_KEY_SESSIONS, WITH_A_KEY,
+};
 use crate::prompts::{Child, PIN, PROMPTS};
 use agent_ports::{
     Got, Grip, Host, KeyNames, KeyRead, Keys, Link, ListClock, ListDice, MAX_KEY_FILE_LEN, MapKeys,
@@ -236,7 +238,7 @@ const ANSWERS: [(&str, &str); 48] = [
 ];
 
 /// Sessions with other rules, clocks and faults.
-const SESSIONS: [Row; 16] = [
+const SESSIONS: &[Row] = &[
     // A line that is too long ends a session.
     Row {
         sent: "NOP{ *998}\nNOP\n",
@@ -524,11 +526,19 @@ fn wrong<W: Wait>(rt: &W, alloc: Global, row: &Row) -> Result<Option<String>, Al
     Ok(None)
 }
 
+/// What comes of the first row that isn't as it should be.
+fn first_wrong<W: Wait>(rt: &W, alloc: Global, rows: &[Row]) -> Result<Option<String>, AllocError> {
+    for row in rows.iter() {
+        if let Some(text) = wrong(rt, alloc, row)? {
+            return Ok(Some(text));
+        }
+    }
+    Ok(None)
+}
+
 #[test]
 fn sessions_go_as_their_rows_say(rt: HostRuntime) -> Result<(), Fail> {
-    for row in SESSIONS {
-        assert_eq!(rt; wrong(&rt, rt.alloc(), &row)?, None);
-    }
+    assert_eq!(rt; first_wrong(&rt, rt.alloc(), SESSIONS)?, None);
     Ok(())
 }
 
@@ -551,10 +561,26 @@ fn requests_are_answered_as_in_the_protocol(rt: HostRuntime) -> Result<(), Fail>
 }
 
 #[test]
-fn sessions_on_keys_go_as_their_rows_say(rt: HostRuntime) -> Result<(), Fail> {
-    for row in KEY_SESSIONS {
-        assert_eq!(rt; wrong(&rt, rt.alloc(), &row)?, None);
-    }
+fn sessions_on_keys_go_as_the_first_rows_say(rt: HostRuntime) -> Result<(), Fail> {
+    assert_eq!(rt; first_wrong(&rt, rt.alloc(), FIRST_KEY_SESSIONS)?, None);
+    Ok(())
+}
+
+#[test]
+fn sessions_on_keys_go_as_the_second_rows_say(rt: HostRuntime) -> Result<(), Fail> {
+    assert_eq!(rt; first_wrong(&rt, rt.alloc(), SECOND_KEY_SESSIONS)?, None);
+    Ok(())
+}
+
+#[test]
+fn sessions_on_keys_go_as_the_third_rows_say(rt: HostRuntime) -> Result<(), Fail> {
+    assert_eq!(rt; first_wrong(&rt, rt.alloc(), THIRD_KEY_SESSIONS)?, None);
+    Ok(())
+}
+
+#[test]
+fn sessions_on_keys_go_as_the_fourth_rows_say(rt: HostRuntime) -> Result<(), Fail> {
+    assert_eq!(rt; first_wrong(&rt, rt.alloc(), FOURTH_KEY_SESSIONS)?, None);
     Ok(())
 }
 
