@@ -71,8 +71,8 @@ chain_more f g s c now whole i h step e =
     ∙ ap (λ t. take (16 * i) s ++ t) (sym step)
     ∙ e)
 
-chain_all : (s whole rest : List ℕ) (i : ℕ) → length s ≤ 16 * i → rest ≡ [] → take (16 * i) s ++ rest ≡ whole → s ≡ whole
-chain_all s whole rest i h r e =
+chain_at_end : (s whole rest : List ℕ) (i : ℕ) → length s ≤ 16 * i → rest ≡ [] → take (16 * i) s ++ rest ≡ whole → s ≡ whole
+chain_at_end s whole rest i h r e =
     sym (append-nil s) ∙ ap₂ ◌++◌ (sym (take_all (16 * i) s h)) (sym r) ∙ e
 
 pub encrypt_more : (key before s c now whole : List ℕ) (i : ℕ) → IsPut s c now (16 * i)
@@ -93,12 +93,12 @@ decrypt_more key before s c now whole i h e =
     chain_more (cbc_decrypted key before) (cbc_decrypted key (take 16 (drop (16 * i) s))) s c now whole i h
     (cbc_decrypted-next key before (drop (16 * i) s) room ∙ ap (λ x. x ++ cbc_decrypted key (take 16 (drop (16 * i) s)) (drop 16 (drop (16 * i) s))) (sym e))
 
-pub encrypt_all : (key before s whole : List ℕ) (i : ℕ) → length s ≤ 16 * i
+pub encrypted_at_end : (key before s whole : List ℕ) (i : ℕ) → length s ≤ 16 * i
     → take (16 * i) s ++ cbc_encrypted key before (drop (16 * i) s) ≡ whole → s ≡ whole
-encrypt_all key before s whole i h =
-    chain_all s whole _ i h (cbc_encrypted-none key before (drop (16 * i) s) (omega (arith, length-drop (16 * i) s)))
+encrypted_at_end key before s whole i h =
+    chain_at_end s whole _ i h (cbc_encrypted-none key before (drop (16 * i) s) (omega (arith, length-drop (16 * i) s)))
 
-pub decrypt_all : (key before s whole : List ℕ) (i : ℕ) → length s ≤ 16 * i
+pub decrypted_at_end : (key before s whole : List ℕ) (i : ℕ) → length s ≤ 16 * i
     → take (16 * i) s ++ cbc_decrypted key before (drop (16 * i) s) ≡ whole → s ≡ whole
-decrypt_all key before s whole i h =
-    chain_all s whole _ i h (cbc_decrypted-none key before (drop (16 * i) s) (omega (arith, length-drop (16 * i) s)))
+decrypted_at_end key before s whole i h =
+    chain_at_end s whole _ i h (cbc_decrypted-none key before (drop (16 * i) s) (omega (arith, length-drop (16 * i) s)))

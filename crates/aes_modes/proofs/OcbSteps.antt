@@ -8,7 +8,7 @@ use Rattle.std.proofs.Math.Seq.{drop-cons}
 use Rattle.aes_block.specs.Aes.{IsBytes, xor_of, encrypted}
 use Rattle.aes_block.proofs.XorLemmas.{Added}
 use Rattle.aes_modes.specs.Cbc.{blocks_of}
-use Rattle.aes_modes.specs.Ocb.{zeros, l_star, l_mask, offset, offset_after, last_offset, rest_of, masked, masked_blocks, sum_from, hashed_blocks, padded, checksum, hash, l_dollar, first_offset, ocb_tag}
+use Rattle.aes_modes.specs.Ocb.{zeros, l_star, l_mask, offset, offset_after, last_offset, partial_block, masked, masked_blocks, sum_from, hashed_blocks, padded, checksum, hash, l_dollar, first_offset, ocb_tag}
 use Rattle.aes_modes.proofs.Chains.{IsPut, chain_more, blocks_of-next, blocks_of-none}
 
 pub offset_more : (key first now next mask : List ℕ) (i : ℕ) → now ≡ offset key first i → next ≡ xor_of now mask
@@ -21,10 +21,10 @@ offset_more key first now next mask i e n m =
 
 -- the blocks of s after the first i, masked, and what follows them
 abbrev pub masking : (List ℕ → List ℕ) → List ℕ → List ℕ → ℕ → List ℕ → List ℕ
-masking f key first i s = concat (masked_blocks f key first i (blocks_of s)) ++ rest_of s
+masking f key first i s = concat (masked_blocks f key first i (blocks_of s)) ++ partial_block s
 
-rest_of-next : (s : List ℕ) → 16 ≤ length s → rest_of s ≡ rest_of (drop 16 s)
-rest_of-next s h =
+partial_block-next : (s : List ℕ) → 16 ≤ length s → partial_block s ≡ partial_block (drop 16 s)
+partial_block-next s h =
     let e : 16 * (length s / 16) ≡ 16 + 16 * (length (drop 16 s) / 16) = omega (arith, length-drop 16 s) in
     ap (λ n. drop n s) e ∙ sym (drop-drop (16 * (length (drop 16 s) / 16)) 16 s)
 
@@ -34,14 +34,14 @@ masking-next : (f : List ℕ → List ℕ) (key first : List ℕ) (i : ℕ) (s :
 unfolding masked_blocks
 masking-next f key first i s h =
     let o = offset key first (i + 1) in
-    ap₂ (λ bs r. concat (masked_blocks f key first i bs) ++ r) (blocks_of-next s h) (rest_of-next s h)
-    ∙ append_assoc (xor_of (f (xor_of (take 16 s) o)) o) (concat (masked_blocks f key first (i + 1) (blocks_of (drop 16 s)))) (rest_of (drop 16 s))
+    ap₂ (λ bs r. concat (masked_blocks f key first i bs) ++ r) (blocks_of-next s h) (partial_block-next s h)
+    ∙ append_assoc (xor_of (f (xor_of (take 16 s) o)) o) (concat (masked_blocks f key first (i + 1) (blocks_of (drop 16 s)))) (partial_block (drop 16 s))
 
 masking-none : (f : List ℕ → List ℕ) (key first : List ℕ) (i : ℕ) (s : List ℕ) → length s < 16 → masking f key first i s ≡ s
 unfolding masked_blocks
 masking-none f key first i s h =
     let e : 16 * (length s / 16) ≡ 0 = omega arith in
-    ap (λ bs. concat (masked_blocks f key first i bs) ++ rest_of s) (blocks_of-none s h) ∙ ap (λ n. drop n s) e
+    ap (λ bs. concat (masked_blocks f key first i bs) ++ partial_block s) (blocks_of-none s h) ∙ ap (λ n. drop n s) e
 
 -- i blocks of before are masked in now, and o is the offset of the last of them
 pub record Masking (f : List ℕ → List ℕ) (key first o now before : List ℕ) (i : ℕ) : Type 0 where
@@ -69,9 +69,9 @@ mask_more f key first o s old mask next c now i h m l n e =
       old = m.old;
     }
 
-pub mask_all : (f : List ℕ → List ℕ) (key first o s old : List ℕ) (i : ℕ) → length s < 16 * i + 16 → Masking f key first o s old i
+pub masked_at_end : (f : List ℕ → List ℕ) (key first o s old : List ℕ) (i : ℕ) → length s < 16 * i + 16 → Masking f key first o s old i
     → s ≡ masking f key first 0 old
-mask_all f key first o s old i h m =
+masked_at_end f key first o s old i h m =
     sym (take-append-drop (16 * i) s)
     ∙ ap (λ t. take (16 * i) s ++ t) (sym (masking-none f key first i (drop (16 * i) s) (omega (arith, length-drop (16 * i) s))))
     ∙ m.done
@@ -87,8 +87,8 @@ xor_of_shorter (z ∷ zs) (x ∷ xs) [] h le each = absurd (omega arith)
 xor_of_shorter (z ∷ zs) (x ∷ xs) (y ∷ ys) h le each =
     ap₂ ◌∷◌ (each 0 (omega arith)) (xor_of_shorter zs xs ys (cc) (omega arith) (λ i lt. each (suc i) (omega arith)))
 
-pub added_all : (left right sum : List ℕ) (i : ℕ) → Added left right sum i → length sum ≤ i → length left ≤ length right → sum ≡ xor_of left right
-added_all left right sum i h all le =
+pub added_is_xor : (left right sum : List ℕ) (i : ℕ) → Added left right sum i → length sum ≤ i → length left ≤ length right → sum ≡ xor_of left right
+added_is_xor left right sum i h all le =
     xor_of_shorter sum left right h.len le (λ k lt. h.done k (omega (arith, h.len)))
 
 pub offset_after_none : (key before rest : List ℕ) → length rest ≡ 0 → before ≡ offset_after key before rest
@@ -102,20 +102,20 @@ offset_after_some key before [] h = absurd (omega arith)
 offset_after_some key before (x ∷ xs) h = refl
 
 pub rest_none : (key before s : List ℕ) → length s / 16 * 16 ≡ length s
-    → s ≡ take (16 * (length s / 16)) s ++ xor_of (rest_of s) (encrypted key (offset_after key before (rest_of s)))
+    → s ≡ take (16 * (length s / 16)) s ++ xor_of (partial_block s) (encrypted key (offset_after key before (partial_block s)))
 rest_none key before s h =
-    let none : rest_of s ≡ [] = drop_all (16 * (length s / 16)) s (omega arith) in
+    let none : partial_block s ≡ [] = drop_all (16 * (length s / 16)) s (omega arith) in
     sym
-    (ap₂ (λ t r. t ++ xor_of r (encrypted key (offset_after key before (rest_of s)))) (take_all (16 * (length s / 16)) s (omega arith)) none
+    (ap₂ (λ t r. t ++ xor_of r (encrypted key (offset_after key before (partial_block s)))) (take_all (16 * (length s / 16)) s (omega arith)) none
     ∙ append-nil s)
 
-pub no_rest_of : (s : List ℕ) → length s / 16 * 16 ≡ length s → length (rest_of s) ≡ 0
+pub no_rest_of : (s : List ℕ) → length s / 16 * 16 ≡ length s → length (partial_block s) ≡ 0
 no_rest_of s h = omega (arith, length-drop (16 * (length s / 16)) s)
 
 -- the rest is written after what is before it
 pub record Rest (key before s now end : List ℕ) : Type 0 where
-  pub bytes : now ≡ take (16 * (length s / 16)) s ++ xor_of (rest_of s) (encrypted key (offset_after key before (rest_of s)))
-  pub last : end ≡ offset_after key before (rest_of s)
+  pub bytes : now ≡ take (16 * (length s / 16)) s ++ xor_of (partial_block s) (encrypted key (offset_after key before (partial_block s)))
+  pub last : end ≡ offset_after key before (partial_block s)
 
 pub rest_some : (key before s part pad last : List ℕ) → let n = length s / 16 * 16 in ¬ (n ≡ length s)
     → part ≡ xor_of (take (length s - n) (drop n s)) pad → pad ≡ encrypted key last → last ≡ xor_of before (l_star key)
@@ -123,13 +123,13 @@ pub rest_some : (key before s part pad last : List ℕ) → let n = length s / 1
 rest_some key before s part pad last ne e p l =
     let n = length s / 16 * 16 in
     let there : n ≡ 16 * (length s / 16) = omega arith in
-    let tail : drop n s ≡ rest_of s = ap (λ k. drop k s) there in
+    let tail : drop n s ≡ partial_block s = ap (λ k. drop k s) there in
     let len : length (drop n s) ≡ length s - n = length-drop n s in
-    let some : 0 < length (rest_of s) = omega (arith, length-drop (16 * (length s / 16)) s) in
-    let end : last ≡ offset_after key before (rest_of s) = l ∙ offset_after_some key before (rest_of s) some in
-    let whole : take (length s - n) (drop n s) ≡ rest_of s = take_all (length s - n) (drop n s) (omega arith) ∙ tail in
+    let some : 0 < length (partial_block s) = omega (arith, length-drop (16 * (length s / 16)) s) in
+    let end : last ≡ offset_after key before (partial_block s) = l ∙ offset_after_some key before (partial_block s) some in
+    let whole : take (length s - n) (drop n s) ≡ partial_block s = take_all (length s - n) (drop n s) (omega arith) ∙ tail in
     let none : drop (length s - n) (drop n s) ≡ [] = drop_all (length s - n) (drop n s) (omega arith) in
-    let put : part ≡ xor_of (rest_of s) (encrypted key (offset_after key before (rest_of s))) = e ∙ ap₂ xor_of whole (p ∙ ap (encrypted key) end) in
+    let put : part ≡ xor_of (partial_block s) (encrypted key (offset_after key before (partial_block s))) = e ∙ ap₂ xor_of whole (p ∙ ap (encrypted key) end) in
     record {
       bytes = ap (λ t. take n s ++ (part ++ t)) none ∙ ap (λ t. take n s ++ t) (append-nil part) ∙ ap₂ (λ k t. take k s ++ t) there put;
       last = end;
@@ -145,9 +145,9 @@ offset_after-length key before (x ∷ xs) (y ∷ ys) h = refl
 pub last_offset-length : (key first a b : List ℕ) → length a ≡ length b → last_offset key first a ≡ last_offset key first b
 unfolding last_offset
 last_offset-length key first a b h =
-    let rests : length (rest_of a) ≡ length (rest_of b) = omega (arith, length-drop (16 * (length a / 16)) a, length-drop (16 * (length b / 16)) b) in
-    ap (λ n. offset_after key (offset key first (n / 16)) (rest_of a)) h
-    ∙ offset_after-length key (offset key first (length b / 16)) (rest_of a) (rest_of b) rests
+    let rests : length (partial_block a) ≡ length (partial_block b) = omega (arith, length-drop (16 * (length a / 16)) a, length-drop (16 * (length b / 16)) b) in
+    ap (λ n. offset_after key (offset key first (n / 16)) (partial_block a)) h
+    ∙ offset_after-length key (offset key first (length b / 16)) (partial_block a) (partial_block b) rests
 
 -- the blocks and then the rest
 pub record Masked (f : List ℕ → List ℕ) (key first s now end : List ℕ) : Type 0 where
@@ -162,10 +162,10 @@ masked_from f key first s between before now last same e o h =
     let front = concat (masked_blocks f key first 0 (blocks_of s)) in
     let n = 16 * (length s / 16) in
     let at : 16 * (length between / 16) ≡ n = ap (λ k. 16 * (k / 16)) same in
-    let len : length front ≡ n = omega (arith, ap length e, same, length-append front (rest_of s), length-drop n s) in
-    let rest : rest_of between ≡ rest_of s = ap₂ drop at e ∙ drop_at front (rest_of s) n len in
-    let blocks : take (16 * (length between / 16)) between ≡ front = ap₂ take at e ∙ take_at front (rest_of s) n len in
-    let end : last ≡ offset_after key (offset key first (length s / 16)) (rest_of s) = h.last ∙ ap₂ (offset_after key) o rest in
+    let len : length front ≡ n = omega (arith, ap length e, same, length-append front (partial_block s), length-drop n s) in
+    let rest : partial_block between ≡ partial_block s = ap₂ drop at e ∙ drop_at front (partial_block s) n len in
+    let blocks : take (16 * (length between / 16)) between ≡ front = ap₂ take at e ∙ take_at front (partial_block s) n len in
+    let end : last ≡ offset_after key (offset key first (length s / 16)) (partial_block s) = h.last ∙ ap₂ (offset_after key) o rest in
     record {
       bytes = h.bytes ∙ ap₂ ◌++◌ blocks (ap₂ (λ r p. xor_of r (encrypted key p)) rest (sym h.last ∙ end));
       last = end;
@@ -200,9 +200,9 @@ pub sum_more : (s next : List ℕ) (bs : List (List ℕ)) (whole : List ℕ) (i 
 unfolding sum_from
 sum_more s next bs whole i lt n h = ap (λ t. sum_from t (drop (i + 1) bs)) n ∙ ap (sum_from s) (sym (drop_next bs i lt)) ∙ h
 
-sum_all : (s whole : List ℕ) (bs : List (List ℕ)) (i : ℕ) → length bs ≤ i → sum_from s (drop i bs) ≡ whole → s ≡ whole
+sum_at_end : (s whole : List ℕ) (bs : List (List ℕ)) (i : ℕ) → length bs ≤ i → sum_from s (drop i bs) ≡ whole → s ≡ whole
 unfolding sum_from
-sum_all s whole bs i le h = ap (sum_from s) (sym (drop_all i bs le)) ∙ h
+sum_at_end s whole bs i le h = ap (sum_from s) (sym (drop_all i bs le)) ∙ h
 
 -- what is left of a sum once the whole blocks are added
 checksum_left : (plain : List ℕ) (bs : List (List ℕ)) (rest sum : List ℕ) (i : ℕ) → bs ≡ blocks_of plain → rest ≡ drop (length plain / 16 * 16) plain
@@ -210,8 +210,8 @@ checksum_left : (plain : List ℕ) (bs : List (List ℕ)) (rest sum : List ℕ) 
 unfolding checksum
 checksum_left plain bs rest sum i front back le h =
     let there : length plain / 16 * 16 ≡ 16 * (length plain / 16) = omega arith in
-    ap₂ (λ s r. sum_from s (padded r)) (sum_all sum (sum_from zeros bs) bs i le h ∙ ap (sum_from zeros) front) (back ∙ ap (λ n. drop n plain) there)
-    ∙ sym (sum_from-append zeros (blocks_of plain) (padded (rest_of plain)))
+    ap₂ (λ s r. sum_from s (padded r)) (sum_at_end sum (sum_from zeros bs) bs i le h ∙ ap (sum_from zeros) front) (back ∙ ap (λ n. drop n plain) there)
+    ∙ sym (sum_from-append zeros (blocks_of plain) (padded (partial_block plain)))
 
 no_rest : (rest : List ℕ) → length rest ≡ 0 → padded rest ≡ []
 unfolding padded
@@ -266,7 +266,7 @@ hash_left key assoc o sum rest bs i front back le h =
     let all : sum ≡ sum_from zeros (hashed_blocks key 0 (blocks_of assoc)) =
     ap (λ ds. sum_from sum (hashed_blocks key i ds)) (sym (drop_all i bs le)) ∙ h.left ∙ ap (λ ds. sum_from zeros (hashed_blocks key 0 ds)) front in
     ap₂ (λ s r. sum_from s (map f (padded r))) all (back ∙ ap (λ n. drop n assoc) there)
-    ∙ sym (sum_from-append zeros (hashed_blocks key 0 (blocks_of assoc)) (map f (padded (rest_of assoc))))
+    ∙ sym (sum_from-append zeros (hashed_blocks key 0 (blocks_of assoc)) (map f (padded (partial_block assoc))))
 
 pub hash_whole : (key assoc o sum rest : List ℕ) (bs : List (List ℕ)) (i : ℕ) → bs ≡ blocks_of assoc → rest ≡ drop (length assoc / 16 * 16) assoc
     → length bs ≤ i → Hashing key o sum bs i → length rest ≡ 0 → sum ≡ hash key assoc
@@ -281,7 +281,7 @@ pub hash_padded : (key assoc o sum rest pad last all : List ℕ) (bs : List (Lis
 unfolding sum_from last_offset
 hash_padded key assoc o sum rest pad last all bs i front back le at h some p l a =
     let there : length assoc / 16 * 16 ≡ 16 * (length assoc / 16) = omega arith in
-    let same : rest ≡ rest_of assoc = back ∙ ap (λ n. drop n assoc) there in
+    let same : rest ≡ partial_block assoc = back ∙ ap (λ n. drop n assoc) there in
     let end : last ≡ last_offset key zeros assoc =
     l ∙ ap (λ o. xor_of o (l_star key)) (h.offset ∙ ap (offset key zeros) at) ∙ offset_after_some key (offset key zeros (length assoc / 16)) rest some
     ∙ ap (offset_after key (offset key zeros (length assoc / 16))) same in

@@ -6,7 +6,7 @@ use Rattle.aes_block.specs.Aes.{IsBytes, xor_of, encrypted}
 use Rattle.aes_block.proofs.Blocks.{AreBlocks, IsBytes-append, IsBytes-drop}
 use Rattle.aes_block.proofs.Undone.{small_at, encrypted-bytes, xor_of-bytes}
 use Rattle.aes_modes.specs.Cbc.{blocks_of}
-use Rattle.aes_modes.specs.Ocb.{zeros, l_dollar, first_offset, offset, rest_of, padded, last_offset, sum_from, checksum, hashed_blocks, hash, ocb_tag}
+use Rattle.aes_modes.specs.Ocb.{zeros, l_dollar, first_offset, offset, partial_block, padded, last_offset, sum_from, checksum, hashed_blocks, hash, ocb_tag}
 use Rattle.aes_modes.proofs.OcbUndone.{small-zeros, zeros-bytes, double-bytes, first_offset-bytes, offset-bytes, offset_after-bytes, first_chunks-front}
 
 sum_from-bytes : (s : List ℕ) (bs : List (List ℕ)) → IsBytes 16 s → AreBlocks 16 bs → IsBytes 16 (sum_from s bs)
@@ -34,11 +34,11 @@ padded-blocks (x ∷ xs) fits h =
     let whole : n + (16 - n) ≡ 16 = omega arith in
     (subst (λ m. IsBytes m (rest ++ more)) whole (IsBytes-append n (16 - n) rest more h end), tt)
 
-rest-blocks : (s : List ℕ) → IsBytes (length s) s → AreBlocks 16 (padded (rest_of s))
+rest-blocks : (s : List ℕ) → IsBytes (length s) s → AreBlocks 16 (padded (partial_block s))
 rest-blocks s h =
     let n = 16 * (length s / 16) in
     let len = length-drop n s in
-    padded-blocks (rest_of s) (omega arith) (IsBytes-drop n (length s) (length (rest_of s)) s (omega arith) h)
+    padded-blocks (partial_block s) (omega arith) (IsBytes-drop n (length s) (length (partial_block s)) s (omega arith) h)
 
 whole-blocks : (s : List ℕ) → IsBytes (length s) s → AreBlocks 16 (blocks_of s)
 whole-blocks s h = first_chunks-front 16 (length s / 16) (length s) s (omega arith) h
@@ -53,13 +53,13 @@ hashed_blocks-blocks key i (b ∷ bs) h k =
 last_offset-bytes : (key first s : List ℕ) → IsBytes 16 key → IsBytes 16 first → IsBytes 16 (last_offset key first s)
 unfolding last_offset
 last_offset-bytes key first s h k =
-    offset_after-bytes key (offset key first (length s / 16)) (rest_of s) h (offset-bytes key first (length s / 16) k)
+    offset_after-bytes key (offset key first (length s / 16)) (partial_block s) h (offset-bytes key first (length s / 16) k)
 
 checksum-bytes : (plain : List ℕ) → IsBytes (length plain) plain → IsBytes 16 (checksum plain)
 unfolding checksum
 checksum-bytes plain h =
-    sum_from-bytes zeros (blocks_of plain ++ padded (rest_of plain)) zeros-bytes
-    (append-blocks (blocks_of plain) (padded (rest_of plain)) (whole-blocks plain h) (rest-blocks plain h))
+    sum_from-bytes zeros (blocks_of plain ++ padded (partial_block plain)) zeros-bytes
+    (append-blocks (blocks_of plain) (padded (partial_block plain)) (whole-blocks plain h) (rest-blocks plain h))
 
 hash-bytes : (key assoc : List ℕ) → IsBytes 16 key → IsBytes (length assoc) assoc → IsBytes 16 (hash key assoc)
 unfolding hash
@@ -67,10 +67,10 @@ hash-bytes key assoc h k =
     let last = last_offset key zeros assoc in
     let o = last_offset-bytes key zeros assoc h zeros-bytes in
     let f : List ℕ → List ℕ = λ b. encrypted key (xor_of b last) in
-    sum_from-bytes zeros (hashed_blocks key 0 (blocks_of assoc) ++ map f (padded (rest_of assoc))) zeros-bytes
-    (append-blocks (hashed_blocks key 0 (blocks_of assoc)) (map f (padded (rest_of assoc)))
+    sum_from-bytes zeros (hashed_blocks key 0 (blocks_of assoc) ++ map f (padded (partial_block assoc))) zeros-bytes
+    (append-blocks (hashed_blocks key 0 (blocks_of assoc)) (map f (padded (partial_block assoc)))
     (hashed_blocks-blocks key 0 (blocks_of assoc) h (whole-blocks assoc k))
-    (map-blocks f (padded (rest_of assoc)) (λ b p. encrypted-bytes key (xor_of b last) h (xor_of-bytes 16 b last p o)) (rest-blocks assoc k)))
+    (map-blocks f (padded (partial_block assoc)) (λ b p. encrypted-bytes key (xor_of b last) h (xor_of-bytes 16 b last p o)) (rest-blocks assoc k)))
 
 pub ocb_tag-bytes : (key nonce assoc plain : List ℕ) → IsBytes 16 key → IsBytes (length assoc) assoc → IsBytes (length plain) plain
     → IsBytes 16 (ocb_tag key nonce assoc plain)

@@ -14,7 +14,7 @@ use Rattle.aes_block.proofs.Undone.{Small, small_at, small-map, small-append, de
 use Rattle.aes_block.proofs.Restored.{encrypted-decrypted, decrypted-bytes}
 use Rattle.aes_modes.proofs.OcbSteps.{last_offset-length}
 use Rattle.aes_modes.specs.Cbc.{blocks_of}
-use Rattle.aes_modes.specs.Ocb.{zeros, eight_bits, block_from, double, l_star, l_dollar, l_mask, first_offset, offset, rest_of, offset_after, last_offset, masked_blocks, masked, ocb_encrypted, ocb_decrypted}
+use Rattle.aes_modes.specs.Ocb.{zeros, eight_bits, block_from, double, l_star, l_dollar, l_mask, first_offset, offset, partial_block, offset_after, last_offset, masked_blocks, masked, ocb_encrypted, ocb_decrypted}
 
 -- ---- offsets are blocks
 
@@ -162,9 +162,9 @@ record Parts (f : List ℕ → List ℕ) (key first s : List ℕ) : Type 0 where
   count : length (masked_blocks f key first 0 (blocks_of s)) ≡ length s / 16
   blocks : AreBlocks 16 (masked_blocks f key first 0 (blocks_of s))
   pad : IsBytes 16 (encrypted key (last_offset key first s))
-  rest : length (rest_of s) + 16 * (length s / 16) ≡ length s
-  short : length (rest_of s) < 16
-  last : length (xor_of (rest_of s) (encrypted key (last_offset key first s))) ≡ length (rest_of s)
+  rest : length (partial_block s) + 16 * (length s / 16) ≡ length s
+  short : length (partial_block s) < 16
+  last : length (xor_of (partial_block s) (encrypted key (last_offset key first s))) ≡ length (partial_block s)
 
 parts : (f g : List ℕ → List ℕ) (key first s : List ℕ) → Undoes f g → IsBytes 16 key → IsBytes 16 first → IsBytes (length s) s → Parts f key first s
 unfolding last_offset
@@ -175,9 +175,9 @@ parts f g key first s u h k b =
     let bs : AreBlocks 16 cs = masked_blocks-blocks f g key first 0 (blocks_of s) u k are in
     let count : length cs ≡ n = masked_blocks-length f key first 0 (blocks_of s) ∙ length-first_chunks 16 n s in
     let pad : IsBytes 16 (encrypted key (last_offset key first s)) =
-    encrypted-bytes key (last_offset key first s) h (offset_after-bytes key (offset key first n) (rest_of s) h (offset-bytes key first n k)) in
-    let rest : length (rest_of s) + 16 * n ≡ length s = omega (arith, length-drop (16 * n) s) in
-    let short : length (rest_of s) < 16 = omega arith in
+    encrypted-bytes key (last_offset key first s) h (offset_after-bytes key (offset key first n) (partial_block s) h (offset-bytes key first n k)) in
+    let rest : length (partial_block s) + 16 * n ≡ length s = omega (arith, length-drop (16 * n) s) in
+    let short : length (partial_block s) < 16 = omega arith in
     record {
       whole = length-concat 16 cs bs ∙ ap (λ m. 16 * m) count;
       count = count;
@@ -185,7 +185,7 @@ parts f g key first s u h k b =
       pad = pad;
       rest = rest;
       short = short;
-      last = length-xor_of_longer (rest_of s) (encrypted key (last_offset key first s)) (omega (arith, pad.len));
+      last = length-xor_of_longer (partial_block s) (encrypted key (last_offset key first s)) (omega (arith, pad.len));
     }
 
 pub masked-length : (f g : List ℕ → List ℕ) (key first s : List ℕ) → Undoes f g → IsBytes 16 key → IsBytes 16 first → IsBytes (length s) s
@@ -193,7 +193,7 @@ pub masked-length : (f g : List ℕ → List ℕ) (key first s : List ℕ) → U
 unfolding masked
 masked-length f g key first s u h k b =
     let p = parts f g key first s u h k b in
-    omega (arith, length-append (concat (masked_blocks f key first 0 (blocks_of s))) (xor_of (rest_of s) (encrypted key (last_offset key first s))), p.whole, p.last, p.rest)
+    omega (arith, length-append (concat (masked_blocks f key first 0 (blocks_of s))) (xor_of (partial_block s) (encrypted key (last_offset key first s))), p.whole, p.last, p.rest)
 
 masked-bytes : (f g : List ℕ → List ℕ) (key first s : List ℕ) → Undoes f g → IsBytes 16 key → IsBytes 16 first → IsBytes (length s) s
     → IsBytes (length s) (masked f key first s)
@@ -201,11 +201,11 @@ unfolding masked
 masked-bytes f g key first s u h k b =
     let p = parts f g key first s u h k b in
     let cs = masked_blocks f key first 0 (blocks_of s) in
-    let r = xor_of (rest_of s) (encrypted key (last_offset key first s)) in
-    let e : length s ≡ 16 * length cs + length (rest_of s) = omega (arith, p.count, p.rest) in
-    let tail = (IsBytes-drop (16 * (length s / 16)) (length s) (length (rest_of s)) s (omega (arith, p.rest)) b).small in
-    let small = small-xor_of_longer (rest_of s) (encrypted key (last_offset key first s)) tail p.pad.small in
-    let all = IsBytes-append (16 * length cs) (length (rest_of s)) (concat cs) r (concat-bytes cs p.blocks) (record { len = p.last; small = small }) in
+    let r = xor_of (partial_block s) (encrypted key (last_offset key first s)) in
+    let e : length s ≡ 16 * length cs + length (partial_block s) = omega (arith, p.count, p.rest) in
+    let tail = (IsBytes-drop (16 * (length s / 16)) (length s) (length (partial_block s)) s (omega (arith, p.rest)) b).small in
+    let small = small-xor_of_longer (partial_block s) (encrypted key (last_offset key first s)) tail p.pad.small in
+    let all = IsBytes-append (16 * length cs) (length (partial_block s)) (concat cs) r (concat-bytes cs p.blocks) (record { len = p.last; small = small }) in
     record { len = all.len ∙ sym e; small = all.small }
 
 masked-undone : (f g : List ℕ → List ℕ) (key first s : List ℕ) → Undoes f g → IsBytes 16 key → IsBytes 16 first → IsBytes (length s) s
@@ -215,18 +215,18 @@ masked-undone f g key first s u h k b =
     let p = parts f g key first s u h k b in
     let n = length s / 16 in
     let cs = masked_blocks f key first 0 (blocks_of s) in
-    let r = xor_of (rest_of s) (encrypted key (last_offset key first s)) in
+    let r = xor_of (partial_block s) (encrypted key (last_offset key first s)) in
     let t = concat cs ++ r in
     let len : length t ≡ length s = masked-length f g key first s u h k b in
     let count : length t / 16 ≡ n = ap (λ m. m / 16) len in
     let blocks : blocks_of t ≡ cs = ap (λ m. first_chunks 16 m t) (count ∙ sym p.count) ∙ first_chunks-append 16 cs r p.blocks in
-    let rest : rest_of t ≡ r = drop_at (concat cs) r (16 * (length t / 16)) (p.whole ∙ ap (λ m. 16 * m) (sym count)) in
+    let rest : partial_block t ≡ r = drop_at (concat cs) r (16 * (length t / 16)) (p.whole ∙ ap (λ m. 16 * m) (sym count)) in
     let last = last_offset-length key first t s len in
     ap₂ ◌++◌
     (ap (λ bs. concat (masked_blocks g key first 0 bs)) blocks
     ∙ ap concat (masked_blocks-undone f g key first 0 (blocks_of s) u k (first_chunks-front 16 n (length s) s (omega arith) b)))
     (ap₂ (λ x o. xor_of x (encrypted key o)) rest last
-    ∙ xor_of_longer-twice (rest_of s) (encrypted key (last_offset key first s)) (omega (arith, p.pad.len, p.short)))
+    ∙ xor_of_longer-twice (partial_block s) (encrypted key (last_offset key first s)) (omega (arith, p.pad.len, p.short)))
     ∙ first_chunks-rest 16 n s
 
 -- ---- encryption and decryption

@@ -55,8 +55,8 @@ offset key first zero = first
 offset key first (suc i) = xor_of (offset key first i) (l_mask key (trailing_zeros w64 (i + 1)))
 
 -- P_*, C_* and A_*: what follows the whole blocks
-abbrev pub rest_of : List ℕ → List ℕ
-rest_of s = drop (16 * (length s / 16)) s
+abbrev pub partial_block : List ℕ → List ℕ
+partial_block s = drop (16 * (length s / 16)) s
 
 -- such a rest with a bit 1 and zeros appended, as a block; no block where nothing is left
 unfoldable pub padded : List ℕ → List (List ℕ)
@@ -70,7 +70,7 @@ offset_after key before (x ∷ xs) = xor_of before (l_star key)
 
 -- the offset that bytes end with
 unfoldable pub last_offset : List ℕ → List ℕ → List ℕ → List ℕ
-last_offset key first s = offset_after key (offset key first (length s / 16)) (rest_of s)
+last_offset key first s = offset_after key (offset key first (length s / 16)) (partial_block s)
 
 -- the blocks after the first i: each is added its offset, enciphered or deciphered by f, and added its offset again
 unfoldable pub masked_blocks : (List ℕ → List ℕ) → List ℕ → List ℕ → ℕ → List (List ℕ) → List (List ℕ)
@@ -82,7 +82,7 @@ masked_blocks f key first i (b ∷ bs) =
 -- the blocks, and the rest added the encryption of its offset
 unfoldable pub masked : (List ℕ → List ℕ) → List ℕ → List ℕ → List ℕ → List ℕ
 masked f key first s =
-    concat (masked_blocks f key first 0 (blocks_of s)) ++ xor_of (rest_of s) (encrypted key (last_offset key first s))
+    concat (masked_blocks f key first 0 (blocks_of s)) ++ xor_of (partial_block s) (encrypted key (last_offset key first s))
 
 -- ---- sums
 
@@ -93,7 +93,7 @@ sum_from s (b ∷ bs) = sum_from (xor_of s b) bs
 
 -- Checksum_m, or Checksum_* where there is a rest (4.2)
 unfoldable pub checksum : List ℕ → List ℕ
-checksum plain = sum_from zeros (blocks_of plain ++ padded (rest_of plain))
+checksum plain = sum_from zeros (blocks_of plain ++ padded (partial_block plain))
 
 -- the blocks after the first i, each added its offset and enciphered
 unfoldable pub hashed_blocks : List ℕ → ℕ → List (List ℕ) → List (List ℕ)
@@ -104,7 +104,7 @@ hashed_blocks key i (b ∷ bs) = encrypted key (xor_of b (offset key zeros (i + 
 unfoldable pub hash : List ℕ → List ℕ → List ℕ
 hash key assoc =
     let last = last_offset key zeros assoc in
-    sum_from zeros (hashed_blocks key 0 (blocks_of assoc) ++ map (λ b. encrypted key (xor_of b last)) (padded (rest_of assoc)))
+    sum_from zeros (hashed_blocks key 0 (blocks_of assoc) ++ map (λ b. encrypted key (xor_of b last)) (padded (partial_block assoc)))
 
 -- ---- OCB-ENCRYPT and OCB-DECRYPT (4.2, 4.3)
 

@@ -4,7 +4,7 @@ ghost use Rattle.std.specs.Prelude.{◌≡◌, ◌↔◌, [], ◌∷◌, ℕ, �
 ghost use Rattle.std.specs.List.{concat};
 ghost use Rattle.aes_block.specs.Aes.{IsBytes, xor_of, encrypted};
 ghost use Rattle.aes_modes.specs.Cbc.{blocks_of};
-ghost use Rattle.aes_modes.specs.Ocb.{zeros, rest_of, padded, offset, offset_after, last_offset, masked_blocks, masked, checksum, hash, sum_from, hashed_blocks, ocb_encrypted, ocb_decrypted, ocb_tag, l_dollar};
+ghost use Rattle.aes_modes.specs.Ocb.{zeros, partial_block, padded, offset, offset_after, last_offset, masked_blocks, masked, checksum, hash, sum_from, hashed_blocks, ocb_encrypted, ocb_decrypted, ocb_tag, l_dollar};
 ghost use Rattle.aes_modes.specs.Masks.{masks_of, cipher_of};
 
 use crate::blocks::{BLOCK_LEN, block_at, put_block};
@@ -102,7 +102,7 @@ fn mask_blocks(
 ) -> [u8; 16]
     requires { masks.now ≡ masks_of cipher.now }
     ensures bytes { bytes.new ≡ concat (masked_blocks (cipher_of direction cipher.now) cipher.now first.now 0 (blocks_of bytes.old))
-        ++ rest_of bytes.old }
+        ++ partial_block bytes.old }
     ensures offset { result ≡ offset cipher.now first.now (length bytes.old / 16) }
     ensures old { IsBytes (length bytes.old) bytes.old }
 {
@@ -121,9 +121,9 @@ fn mask_blocks(
 
 fn mask_rest(cipher: &Aes128, masks: &Masks, before: &[u8; 16], bytes: &mut [u8]) -> [u8; 16]
     requires { masks.now ≡ masks_of cipher.now }
-    ensures bytes { let last = offset_after cipher.now before.now (rest_of bytes.old) in
-        bytes.new ≡ take (16 * (length bytes.old / 16)) bytes.old ++ xor_of (rest_of bytes.old) (encrypted cipher.now last) }
-    ensures last { result ≡ offset_after cipher.now before.now (rest_of bytes.old) }
+    ensures bytes { let last = offset_after cipher.now before.now (partial_block bytes.old) in
+        bytes.new ≡ take (16 * (length bytes.old / 16)) bytes.old ++ xor_of (partial_block bytes.old) (encrypted cipher.now last) }
+    ensures last { result ≡ offset_after cipher.now before.now (partial_block bytes.old) }
 {
     let start = bytes.len() / BLOCK_LEN * BLOCK_LEN;
     if start == bytes.len() {

@@ -9,7 +9,7 @@ use Rattle.agent_ask.specs.declared.prompter.Outcome.{Outcome}
 use Rattle.agent_ask.specs.declared.prompter.Outcome.TheVariants as outcome
 use Rattle.agent_ask.specs.declared.tries.Stop.TheVariants as stop
 
--- a passphrase, a client that didn't take note, and a want of memory
+-- a passphrase, a client that didn't take note, and being out of memory
 abbrev pub IsNoStop : Asked → Type 0
 IsNoStop (asked.Pin pin) = ⊤
 IsNoStop (asked.Heard heard) = ⊤

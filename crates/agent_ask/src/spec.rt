@@ -15,7 +15,7 @@ pub struct PromptSpec {
     pub quality: bool,
     /// The terminal and the locale of the client.
     pub env: Env,
-    /// After so many seconds the prompt is given up. 0 means never.
+    /// The seconds after which the prompt is given up. 0 means never.
     pub timeout: u32,
 }
 

@@ -122,7 +122,7 @@ fn meets_check(check: Option<(u8, u8)>, pin: &[u8]) -> bool
     }
 }
 
-/// Asks for the passphrase again so many times.
+/// Asks for the passphrase again, once for each repeat.
 fn ask_repeats<P: Prompter>(
     ticket: &Ticket,
     repeat: u8,

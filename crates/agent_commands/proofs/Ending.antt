@@ -38,15 +38,15 @@ use Rattle.agent_commands.specs.declared.went.Went.{Went}
 use Rattle.agent_commands.specs.declared.went.Went.TheVariants.{On}
 
 -- the client gave nothing
-pub fails_so : {F : Type 0} (why : Unheard) (more : List (Event F)) → Responds (answer_unheard why).response more → Fails why more (answer_unheard why).went
-fails_so unheard_as.Cancelled more is = rw (is.2, is.1) fails
-fails_so unheard_as.TooMuch more is = rw (is.2, is.1) fails
-fails_so unheard_as.Unexpected more is = rw (is.2, is.1) fails
-fails_so (unheard_as.Gone gone.TooLong) more is = rw (is.2, is.1) fails
-fails_so (unheard_as.Gone gone.Ended) more is = rw is fails
-fails_so (unheard_as.Gone gone.Spent) more is = rw is fails
-fails_so (unheard_as.Gone gone.ReadFault) more is = rw is fails
-fails_so (unheard_as.Gone gone.WriteFault) more is = rw is fails
+pub unheard_fails : {F : Type 0} (why : Unheard) (more : List (Event F)) → Responds (answer_unheard why).response more → Fails why more (answer_unheard why).went
+unheard_fails unheard_as.Cancelled more is = rw (is.2, is.1) fails
+unheard_fails unheard_as.TooMuch more is = rw (is.2, is.1) fails
+unheard_fails unheard_as.Unexpected more is = rw (is.2, is.1) fails
+unheard_fails (unheard_as.Gone gone.TooLong) more is = rw (is.2, is.1) fails
+unheard_fails (unheard_as.Gone gone.Ended) more is = rw is fails
+unheard_fails (unheard_as.Gone gone.Spent) more is = rw is fails
+unheard_fails (unheard_as.Gone gone.ReadFault) more is = rw is fails
+unheard_fails (unheard_as.Gone gone.WriteFault) more is = rw is fails
 
 -- what it said in place of what was wanted, by what it was heard to say
 pub record SaysWhy (heard : Heard) (start now : Connection) : Type 0 where
@@ -148,7 +148,7 @@ ends_pin plain asked.TimedOut not_pin more is = rw (is.2, is.1) timed_out
 ends_pin plain asked.NoPinentry not_pin more is = rw (is.2, is.1) no_pinentry
 ends_pin plain asked.Bad not_pin more is = rw (is.2, is.1) bad
 ends_pin plain (asked.Heard heard) not_pin more is =
-    let why = unheard_why heard not_pin in rw why.1 (unheard why.1 (fails_so why.0 more (rw why.1 at is)))
+    let why = unheard_why heard not_pin in rw why.1 (unheard why.1 (unheard_fails why.0 more (rw why.1 at is)))
 
 pub ends_consent : {F : Type 0} (answer : Agreed) → IsAgreed answer → (more : List (Event F)) → Responds (answer_to_consent answer).response more
     → EndsConsent answer None more (answer_to_consent answer).went
@@ -158,7 +158,7 @@ ends_consent agreed.Cancelled agrees more is = rw (is.2, is.1) cancelled
 ends_consent agreed.TimedOut agrees more is = rw (is.2, is.1) timed_out
 ends_consent agreed.NoPinentry agrees more is = rw (is.2, is.1) no_pinentry
 ends_consent (agreed.Heard heard) agrees more is =
-    let why = unheard_why heard agrees in rw why.1 (unheard why.1 (fails_so why.0 more (rw why.1 at is)))
+    let why = unheard_why heard agrees in rw why.1 (unheard why.1 (unheard_fails why.0 more (rw why.1 at is)))
 
 -- what was done under a ticket, which is given back then
 module _ {D P : Type 0} (turned : D → MarkStep → Turn → D → Type 0) (prompted : P → Call → P → Type 0) (desk : D) where
@@ -183,7 +183,7 @@ module _ {D P : Type 0} (turned : D → MarkStep → Turn → D → Type 0) (pro
         faults = faults;
       }
 
--- a prompt that gave no passphrase, and whose test never wants memory
+-- a prompt that gave no passphrase, and whose test is never out of memory
 pub has_no_pin : (answer : Asked) → ((heard : Heard) → answer ≡ asked.Heard heard → IsUnheardBy heard) → (answer ≢ asked.NoMemory) → ((secret : List ℕ) → answer ≢ asked.Pin secret) → HasNoPin answer
 has_no_pin (asked.Pin secret) by memory not_pin = not_pin secret refl
 has_no_pin asked.NoMemory by memory not_pin = memory refl

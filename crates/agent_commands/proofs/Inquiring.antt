@@ -27,7 +27,7 @@ use Rattle.agent_commands.specs.Steps.{Responds, Carries, AsksSecret, limit_cut 
 use Rattle.agent_commands.specs.declared.answer.Answer.{Answer}
 use Rattle.agent_commands.specs.declared.went.Went.{Went}
 use Rattle.agent_commands.specs.declared.went.Went.TheVariants.{On}
-use Rattle.agent_commands.proofs.Ending.{fails_so, fits_unheard, faults_unheard}
+use Rattle.agent_commands.proofs.Ending.{unheard_fails, fits_unheard, faults_unheard}
 
 -- what was done where the client gave no passphrase that it was asked for, and how that is answered
 pub record InquiresInVain {w : World} (start : SessionState w) (answer : Answer) (now : SessionState w) : Type 0 where
@@ -82,15 +82,15 @@ module _ (w : World) (desk : w.Desk) (ends : w.Ends) where
         let left = left_from why asks.inquires.left in
         record {
           events = Sent limit_line ∷ inquiry asks.inquired ∷ [];
-          without_passphrase = λ more is. no_data (sym asks.result_is) (fails_so why more is);
+          without_passphrase = λ more is. no_data (sym asks.result_is) (unheard_fails why more is);
           done = both;
           fits = fits_unheard start now fewer why left;
           faults = faults_unheard (at_conn start) (at_conn now) why left;
         }
 
-    inquired_so : (result : Result (List ℕ) Unheard) → AsksClient connection_views (codes "PASSPHRASE") MAX_SECRET_LEN result mid now
+    passphrase_is_inquired : (result : Result (List ℕ) Unheard) → AsksClient connection_views (codes "PASSPHRASE") MAX_SECRET_LEN result mid now
         → InquiresPassphrase {w = w} (at_conn start) (answer_said result) (at_conn now)
-    inquired_so result asks =
+    passphrase_is_inquired result asks =
         let both : EventsLead {w = w} (Sent limit_line ∷ inquiry asks.inquired ∷ []) (at_conn start) (at_conn now) =
         done_then (done_said desk ends (said_so told)) (done_inquired desk ends asks.inquired asks.inquires.done) in
         let fewer : now.reader.ended ≡ None → held now.reader ≤ held start.reader = λ is. omega (arith, asks.inquires.fewer is, ap held told.reader) in
@@ -109,12 +109,12 @@ module _ (w : World) (desk : w.Desk) (ends : w.Ends) where
         fits = tt;
         faults = record { read = λ e. absurd (cc e); write = λ e. cut.rose };
       }
-  asks_secret start now result (asked_for mid what told asks) = inquired_so start mid now (said refl told) what asks
+  asks_secret start now result (asked_for mid what told asks) = passphrase_is_inquired start mid now (said refl told) what asks
 
 -- the limit was told, and then the client was asked
-pub asked_so : {start mid now : Connection} → HasWritten limit_line start All mid → IsOpen start → (what : InquiredSecret) → HearsWish (codes "PASSPHRASE") mid what now
+pub asks_behind_limit : {start mid now : Connection} → HasWritten limit_line start All mid → IsOpen start → (what : InquiredSecret) → HearsWish (codes "PASSPHRASE") mid what now
     → (result : Result (List ℕ) Unheard) → secret_said what ≡ result → AsksSecret start (answer_said result) now
-asked_so {start} {mid} {now} told going what hears result is =
+asks_behind_limit {start} {mid} {now} told going what hears result is =
     asked_for mid result told
     (subst (λ r. AsksClient connection_views (codes "PASSPHRASE") MAX_SECRET_LEN r mid now) is (wished (ap (λ (r : Reader). r.ended) told.reader ∙ going) what hears))
 

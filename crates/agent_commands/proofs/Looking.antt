@@ -47,51 +47,51 @@ module _ {D : Type 0} (turned : D → MarkStep → Turn → D → Type 0) (conn 
 
   module _ (plain : Bool) (Otherwise : List (Event FurtherEvent) → Went → Type 0) where
     -- the look ended the request
-    answers_so : {id : Option (List ℕ)} {before after : D} (answer : Answer) (found : Option Answer) → found ≡ Some answer → LooksUp turned plain id before found after
+    found_is_answered : {id : Option (List ℕ)} {before after : D} (answer : Answer) (found : Option Answer) → found ≡ Some answer → LooksUp turned plain id before found after
         → Carries {w = world turned} (LooksFirst plain id Otherwise) (session_state turned conn before) answer (session_state turned conn after)
-    answers_so answer found is up_no_id = absurd (cc is)
-    answers_so answer found is (up_empty does) = absurd (cc is)
-    answers_so answer found is (up_given {id} {before} {after} grant does) =
+    found_is_answered answer found is up_no_id = absurd (cc is)
+    found_is_answered answer found is (up_empty does) = absurd (cc is)
+    found_is_answered answer found is (up_given {id} {before} {after} grant does) =
         subst (λ a. Carries {w = world turned} (LooksFirst plain (Some id) Otherwise) (session_state turned conn before) a (session_state turned conn after)) (some_same is)
         (turn_answered (LooksFirst plain (Some id) Otherwise) (Given grant plain) (ask id) (TurnGiven grant) before after does (λ text is. answered (given is)))
-    answers_so answer found is (up_interrupted {id} {before} {after} turn why does interrupts) =
+    found_is_answered answer found is (up_interrupted {id} {before} {after} turn why does interrupts) =
         subst (λ a. Carries {w = world turned} (LooksFirst plain (Some id) Otherwise) (session_state turned conn before) a (session_state turned conn after)) (some_same is)
         (turn_answered (LooksFirst plain (Some id) Otherwise) (Failed why) (ask id) turn before after does (λ text is. rw is (answered (interrupted interrupts))))
 
     pub look_answers : {id : Option (List ℕ)} {before after : D} {answer : Answer} → LooksUp turned plain id before (Some answer) after
         → Carries {w = world turned} (LooksFirst plain id Otherwise) (session_state turned conn before) answer (session_state turned conn after)
-    look_answers {answer} looks = answers_so answer (Some answer) refl looks
+    look_answers {answer} looks = found_is_answered answer (Some answer) refl looks
 
     -- it found nothing, and this was done then
-    then_so : {id : Option (List ℕ)} {before mid : D} {now : SessionState (world turned)} {answer : Answer} (found : Option Answer) → found ≡ None → LooksUp turned plain id before found mid
+    nothing_found_goes_on : {id : Option (List ℕ)} {before mid : D} {now : SessionState (world turned)} {answer : Answer} (found : Option Answer) → found ≡ None → LooksUp turned plain id before found mid
         → Carries {w = world turned} Otherwise (session_state turned conn mid) answer now
         → Carries {w = world turned} (LooksFirst plain id Otherwise) (session_state turned conn before) answer now
-    then_so found is (up_no_id {desk}) done = carry_after {w = world turned} [] (done_none (session_state turned conn desk)) (omega arith) (λ events otherwise. goes_on no_id otherwise) done
-    then_so found is (up_empty {id} {before} {after} does) done =
+    nothing_found_goes_on found is (up_no_id {desk}) done = carry_after {w = world turned} [] (done_none (session_state turned conn desk)) (omega arith) (λ events otherwise. goes_on no_id otherwise) done
+    nothing_found_goes_on found is (up_empty {id} {before} {after} does) done =
         carry_after {w = world turned} (cache_turn (ask id) Empty ∷ []) (done_turned (ask id) Empty conn before after tt does) (omega arith) (λ events otherwise. goes_on empty otherwise) done
-    then_so found is (up_given grant does) done = absurd (cc is)
-    then_so found is (up_interrupted turn why does interrupts) done = absurd (cc is)
+    nothing_found_goes_on found is (up_given grant does) done = absurd (cc is)
+    nothing_found_goes_on found is (up_interrupted turn why does interrupts) done = absurd (cc is)
 
     pub look_then : {id : Option (List ℕ)} {before mid : D} {now : SessionState (world turned)} {answer : Answer} → LooksUp turned plain id before None mid
         → Carries {w = world turned} Otherwise (session_state turned conn mid) answer now
         → Carries {w = world turned} (LooksFirst plain id Otherwise) (session_state turned conn before) answer now
-    look_then looks done = then_so None refl looks done
+    look_then looks done = nothing_found_goes_on None refl looks done
 
   -- what the client gave is kept
   module _ (plain : Bool) (secret : List ℕ) where
-    kept_so : (id : List ℕ) (turn : Turn) (answer : Answer) (before after : D) → turned before (Put id User Default secret) turn after
+    keeps_what_was_given : (id : List ℕ) (turn : Turn) (answer : Answer) (before after : D) → turned before (Put id User Default secret) turn after
         → AnswersTurn (record { response = Some (Passphrase secret plain); went = On }) turn answer
         → Carries {w = world turned} (Keeps plain secret (Some id)) (session_state turned conn before) answer (session_state turned conn after)
-    kept_so id turn answer before after does is_done =
+    keeps_what_was_given id turn answer before after does is_done =
         turn_answered (Keeps plain secret (Some id)) (Passphrase secret plain) (Put id User Default secret) Done before after does (λ text is. kept is)
-    kept_so id turn answer before after does (is_interrupted {code} why) =
+    keeps_what_was_given id turn answer before after does (is_interrupted {code} why) =
         turn_answered (Keeps plain secret (Some id)) (Failed code) (Put id User Default secret) turn before after does (λ text is. rw is (interrupted why))
 
     pub keeps : (id : Option (List ℕ)) {before after : D} {answer : Answer} → KeepsSecret turned plain secret id before answer after
         → Carries {w = world turned} (Keeps plain secret id) (session_state turned conn before) answer (session_state turned conn after)
     keeps None {before} is =
         rw (is.0, is.1) (carry_answer {w = world turned} (Keeps plain secret None) (Passphrase secret plain) {start = session_state turned conn before} going (λ text is. unkept is))
-    keeps (Some id) {before} {after} taken = kept_so id taken.turn _ before after taken.turned_so taken.answers
+    keeps (Some id) {before} {after} taken = keeps_what_was_given id taken.turn _ before after taken.turned_so taken.answers
 
 -- a passphrase where the client wants no prompt
 pub without_mode : {rules : Rules} {before : OptionValues} {fields : GetFields} {texts : Texts} {events : List (Event FurtherEvent)} {went : Went} → fields.no_ask ≡ false

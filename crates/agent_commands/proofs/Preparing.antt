@@ -85,22 +85,22 @@ module _ {D E : Type 0} (turned : D → MarkStep → Turn → D → Type 0) (doe
   abbrev at_desk : D → SessionState (world_with turned does)
   at_desk desk = record { conn = conn; desk = desk; ends = ends }
 
-  answered_so : (turn : Turn) (answer : Answer) → turned desk step turn desk_now → AnswersTurn (record { response = Some response; went = went }) turn answer
+  one_turn_is_answered : (turn : Turn) (answer : Answer) → turned desk step turn desk_now → AnswersTurn (record { response = Some response; went = went }) turn answer
       → CarriesOut {w = world_with turned does} (Exchange rules before (Cache command)) (at_desk desk) answer before (at_desk desk_now)
-  answered_so turn answer did is_done = record {
+  one_turn_is_answered turn answer did is_done = record {
     events = cache_turn step Done ∷ [];
     exchanges = responds (λ more. Exchange rules before (Cache command) (cache_turn step Done ∷ more) before went) response (λ said is. rw (says said is) (one_turn one done));
     done = done_turned {w = world_with turned does} step Done conn desk desk_now ends did;
     fits = reader_stays one conn.reader going;
     faults = no_fault one (at_desk desk) (at_desk desk_now);
   }
-  answered_so turn answer did (is_interrupted {code} why) =
+  one_turn_is_answered turn answer did (is_interrupted {code} why) =
       prepared_turned {w = world_with turned does} (Exchange rules before (Cache command)) before (record { response = Some (Failed code); went = On }) (Failed code)
       step turn conn desk desk_now ends going refl did (λ said is. rw is (one_turn one (interrupted why)))
 
   pub turn_taken : {answer : Answer} → TakesTurn turned step (record { response = Some response; went = went }) desk answer desk_now
       → CarriesOut {w = world_with turned does} (Exchange rules before (Cache command)) (at_desk desk) answer before (at_desk desk_now)
-  turn_taken taken = answered_so taken.turn _ taken.turned_so taken.answers
+  turn_taken taken = one_turn_is_answered taken.turn _ taken.turned_so taken.answers
 
 -- a command that is none of those that ask somebody
 pub asks_nobody : (command : CacheCommand)

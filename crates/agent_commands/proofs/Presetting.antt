@@ -45,14 +45,14 @@ module _ {D : Type 0} (turned : D → MarkStep → Turn → D → Type 0) (rules
     stored turn answer did (is_interrupted {code} why) = stored_as turn did (Failed code) (λ text is. rw is (interrupted why))
 
     -- what the client gave was stored
-    pub with_data_so : {answer : Answer} → TakesTurn turned (put id life secret) (record { response = Some Ok; went = On }) mid.desk answer desk
+    pub stores_what_was_given : {answer : Answer} → TakesTurn turned (put id life secret) (record { response = Some Ok; went = On }) mid.desk answer desk
         → CarriesOut {w = world turned} (Exchange rules before (Cache (PresetPassphrase id life None))) start answer before (record mid { desk = desk })
-    with_data_so taken = stored taken.turn _ taken.turned_so taken.answers
+    stores_what_was_given taken = stored taken.turn _ taken.turned_so taken.answers
 
   -- or it gave none
-  pub vain_so : (answer : Answer) (now : SessionState (world turned)) → InquiresInVain {w = world turned} start answer now
+  pub stores_nothing_in_vain : (answer : Answer) (now : SessionState (world turned)) → InquiresInVain {w = world turned} start answer now
       → CarriesOut {w = world turned} (Exchange rules before (Cache (PresetPassphrase id life None))) start answer before now
-  vain_so answer now vain = record {
+  stores_nothing_in_vain answer now vain = record {
     events = vain.events;
     exchanges = λ more is. without_data allowed (vain.without_passphrase more is);
     done = vain.done;

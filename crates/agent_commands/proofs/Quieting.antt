@@ -43,9 +43,9 @@ never_description : (words : List (List ℕ)) → quiet_of (either (description_
 never_description [] = refl
 never_description (word ∷ more) = refl
 
-unnamed_so : (is_key : Bool) (line : List ℕ) → quiet_of (if is_key then Key (text line) else Bad UnknownCommand) ≡ None
-unnamed_so true line = refl
-unnamed_so false line = refl
+unnamed_is_not_quiet : (is_key : Bool) (line : List ℕ) → quiet_of (if is_key then Key (text line) else Bad UnknownCommand) ≡ None
+unnamed_is_not_quiet true line = refl
+unnamed_is_not_quiet false line = refl
 
 -- but a GET_PASSPHRASE is, by its fields
 quiet_got : (get : Option GetFields) → quiet_of (either (needed (option_map get_passphrase get))) ≡ option_and_then quiet_fields get
@@ -55,7 +55,7 @@ quiet_got (Some fields) = refl
 -- so what is quiet of a line is what is quiet of the GET_PASSPHRASE that was read
 quiet_by : (command : Option CommandName) (line : List ℕ) (get : Option GetFields) → ReadsGet command (rest_of line) get
     → quiet_of (request_by command line) ≡ option_and_then quiet_fields get
-quiet_by None line get is = rw is (unnamed_so (is_key_command (command_of line)) line)
+quiet_by None line get is = rw is (unnamed_is_not_quiet (is_key_command (command_of line)) line)
 quiet_by (Some name.GetPassphrase) line get is = rw is (quiet_got get)
 quiet_by (Some name.Nop) line get is = rw is refl
 quiet_by (Some name.Reset) line get is = rw is refl

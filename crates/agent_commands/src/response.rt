@@ -3,7 +3,8 @@ ghost use Rattle.assuan_line.specs.Lines.{IsLine};
 ghost use Rattle.assuan_text.specs.LineEnds.{line_of};
 ghost use Rattle.assuan_escape.specs.Escapes.{hex_text};
 ghost use Rattle.assuan_server.specs.Written.{comment_text, ok_text};
-ghost use Rattle.agent_commands.specs.Answers.{IsDataAnswer, IsPassphrase, comments, help};
+ghost use Rattle.agent_commands.specs.Answers.{IsDataAnswer, IsPassphrase, comments, help_with};
+ghost use Rattle.agent_commands.specs.Names.{command_names};
 ghost use Rattle.assuan_server.specs.Written.{WritesText};
 ghost use Rattle.agent_commands.specs.Steps.{IsText};
 
@@ -17,6 +18,9 @@ use wiping::wipe;
 
 /// The version that GETINFO gives.
 const VERSION: &[u8] = b"2.4.0";
+
+/// No command beside those on the cache and on keys.
+const NO_COMMANDS: [(&[u8], ()); 0] = [];
 
 /// What a request is answered, once all else is done for it.
 #[derive(Drop)]
@@ -51,7 +55,7 @@ pub(crate) fn write_response<L: Link>(
     match response {
         Response::Ok => conn.ok(b"").whole(),
         Response::Closing => conn.ok(b"closing connection").whole(),
-        Response::Help => write_help(conn),
+        Response::Help => write_help(conn, &NO_COMMANDS),
         Response::Version => write_data(conn, VERSION),
         Response::Number(number) => write_data(conn, Buffer::new().format(*number).as_bytes()),
         Response::Given { grant, plain } => write_passphrase(conn, grant.secret(), *plain),
@@ -94,14 +98,26 @@ fn write_digits<L: Link>(conn: &mut Conn<'_, L>, secret: &Secret) -> Result<(), 
     sent.whole()
 }
 
-/// Writes a comment for each command, and that this is all.
-fn write_help<L: Link>(conn: &mut Conn<'_, L>) -> Result<(), WriteFault>
-    ensures { WritesText help conn.old result conn.new }
+/// Writes a comment for each command and, behind these, for each further one that a server has, and that this is all.
+pub fn write_help<L: Link, T>(
+    conn: &mut Conn<'_, L>,
+    further: &[(&[u8], T)],
+) -> Result<(), WriteFault>
+    requires { All (λ row. IsLine (comment_text row.0.now)) further.now }
+    ensures { WritesText (help_with (map (λ row. row.0.now) further.now)) conn.old result conn.new }
+{
+    write_commands(conn)?;
+    write_names(conn, further)?;
+    conn.ok(b"").whole()
+}
+
+/// Writes a comment for each command.
+fn write_commands<L: Link>(conn: &mut Conn<'_, L>) -> Result<(), WriteFault>
+    ensures { WritesText (comments command_names) conn.old result conn.new }
 {
     write_names(conn, &COMMANDS)?;
     write_names(conn, &KEY_COMMANDS)?;
-    write_names(conn, &PROMPT_COMMANDS)?;
-    conn.ok(b"").whole()
+    write_names(conn, &PROMPT_COMMANDS)
 }
 
 /// Writes a comment for each row of a table, with its name.

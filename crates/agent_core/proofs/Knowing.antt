@@ -3,7 +3,6 @@ use Rattle.std.specs.Prelude.{◌≡◌, ◌≢◌, ℕ, ◌+◌, ◌%◌, ◌<�
 use Rattle.std.proofs.Common.{ap, sym, ◌∙◌, subst, arith, length-append, inl, inr, Ok}
 use Rattle.std.specs.Option.{is_some, option_and_then}
 use Rattle.std.specs.Global.{Vec}
-use Rattle.std.specs.List.{AllByRecursion}
 use Rattle.std.proofs.lemmas.Bool.Decides.{nat_tests}
 use Rattle.agent_ports.specs.declared.session.SessionId.{SessionId}
 use Rattle.cache_policy.specs.declared.bounds.TheConstants.{MAX_MARKS, MAX_MOMENT}
@@ -26,7 +25,7 @@ use Rattle.cache_policy.specs.Runs.{last_base, is_spent, turn_over, next_history
 use Rattle.cache_policy.specs.Seat.{seat, is_open, under_of, unless_given_back}
 use Rattle.cache_policy.specs.Turns.{Turn, Given, Empty, Open, Stand, Done, Held, Refused, Stopping, Late, FitsReply, opens, closes, turn_of}
 use Rattle.cache_policy.specs.declared.wait.Wait.{Wait}
-use Rattle.cache_policy.proofs.GrowingRuns.{joined-run_with_mark, legal-run_with_mark, last-run_with_mark, spent-all}
+use Rattle.cache_policy.proofs.GrowingRuns.{joined-run_with_mark, legal-run_with_mark, last-run_with_mark, last_is_legal, spent-all}
 use Rattle.cache_policy.proofs.OneMore.{seat-with_mark}
 use Rattle.cache_policy.proofs.Growing.{seat-turn_over}
 use Rattle.agent_core.specs.declared.known_core.Start.{Start}
@@ -42,13 +41,6 @@ use Rattle.agent_core.proofs.Coming.{leaves-held, held-leaves, opens_keeps, need
 pub moment_at_end : (since : ℕ) (marks : List Mark) (mark : Mark) → fold (λ _ (m : Mark). m.moment) since (marks ++ mark ∷ []) ≡ mark.moment
 moment_at_end since [] mark = refl
 moment_at_end since (first ∷ later) mark = moment_at_end first.moment later mark
-
--- a legal run's last history is legal
-pub last_of_all : (limits : Limits) (run : List History) (history : History) → last_history run ≡ Some history
-    → AllByRecursion (IsLegal limits) run → IsLegal limits history
-last_of_all limits [] history last each = absurd (cc)
-last_of_all limits (first ∷ []) history last each = let same : first ≡ history = cc in subst (IsLegal limits) same each.0
-last_of_all limits (first ∷ next ∷ later) history last each = last_of_all limits (next ∷ later) history last each.1
 
 -- a history that isn't spent stays below the last base
 below_next : (history : History) → history.base < last_base → history.base % MAX_MARKS ≡ 0 → is_spent (next_history history) ≡ false → (next_history history).base < last_base
@@ -83,7 +75,7 @@ opens_fits Stop number fits = absurd fits
 
 module _ (core : AtCore) (run : List History) (keeps : KeepsRun core run) where
   pub legal_last : IsLegal core.limits keeps.last
-  legal_last = last_of_all core.limits run keeps.last keeps.last_is keeps.legal.each
+  legal_last = last_is_legal core.limits run keeps.last keeps.last_is keeps.legal.each
 
   -- all marks are made
   pub spent_run : core.base + core.count ≡ last_base → IsSpentRun run
@@ -278,15 +270,15 @@ count_next history mark =
           (λ all. absurd (some all), λ _. length-append history.marks (mark ∷ []))
     ] refl
 
-opened_so : (reply_is : MarkReply) (ticket : Ticket) (still : Option Ticket) → IsSome (if is_open reply_is then Some ticket else still)
+opens_or_was_open : (reply_is : MarkReply) (ticket : Ticket) (still : Option Ticket) → IsSome (if is_open reply_is then Some ticket else still)
     → (is_open reply_is ≡ true) ⊎ IsSome still
-opened_so reply.Open ticket still some = inl refl
-opened_so (reply.Given number) ticket still some = inr some
-opened_so reply.Empty ticket still some = inr some
-opened_so reply.Done ticket still some = inr some
-opened_so (reply.Held held) ticket still some = inr some
-opened_so reply.Stopping ticket still some = inr some
-opened_so reply.Late ticket still some = inr some
+opens_or_was_open reply.Open ticket still some = inl refl
+opens_or_was_open (reply.Given number) ticket still some = inr some
+opens_or_was_open reply.Empty ticket still some = inr some
+opens_or_was_open reply.Done ticket still some = inr some
+opens_or_was_open (reply.Held held) ticket still some = inr some
+opens_or_was_open reply.Stopping ticket still some = inr some
+opens_or_was_open reply.Late ticket still some = inr some
 
 module _ (before after : AtCore) (run : List History) (keeps : KeepsRun before run) (session : SessionId) (asked : MarkStep) (turn : Turn) (moment : ℕ)
     (more : is_spent (next_history keeps.last) ≡ false) (limits : after.limits ≡ before.limits)
@@ -333,7 +325,7 @@ module _ (before after : AtCore) (run : List History) (keeps : KeepsRun before r
             ∙ ap (λ (h : Option Ticket). if is_open is.reply_is then Some (record { ticket = next_number (next_history keeps.last); under = under_of asked })
             else option_and_then (unless_given_back asked) h) (seat_next keeps.last ∙ sym keeps.stands.seat_is)) in
             subst (λ (r : MarkReply). (is_open r ≡ true) ⊎ IsSome (option_and_then (unless_given_back asked) before.held)) made_reply
-            (opened_so is.reply_is (record { ticket = next_number (next_history keeps.last); under = under_of asked }) (option_and_then (unless_given_back asked) before.held)
+            (opens_or_was_open is.reply_is (record { ticket = next_number (next_history keeps.last); under = under_of asked }) (option_and_then (unless_given_back asked) before.held)
             (subst (λ (h : Option Ticket). IsSome h) seat_now some));
         last = keeps.last;
         last_is = keeps.last_is;

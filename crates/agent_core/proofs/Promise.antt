@@ -27,7 +27,7 @@ use Rattle.cache_policy.specs.Seat.{seat, stopped}
 use Rattle.cache_policy.specs.Turns.{Turn, Given, Empty, Open, Stand, Done, Held, Refused, Stopping, Late, FitsReply, FitsStep, asked_step, mark_step, wait_of, opens, closes, out_after, with_since, since_of, since_when}
 use Rattle.cache_policy.specs.Waits.{is_session, is_late}
 use Rattle.cache_policy.proofs.Lists.{all_append}
-use Rattle.cache_policy.proofs.GrowingRuns.{joined-run_with_mark, start-run_with_mark, last-run_with_mark}
+use Rattle.cache_policy.proofs.GrowingRuns.{joined-run_with_mark, start-run_with_mark, last-run_with_mark, last_is_legal}
 use Rattle.cache_policy.proofs.ReturnLemmas.{given_rightly}
 use Rattle.cache_policy.specs.declared.step.Step.{Step}
 use Rattle.agent_core.specs.declared.stepped.Stepped.{Stepped}
@@ -44,7 +44,7 @@ use Rattle.agent_core.specs.Foreigners.{ticket_of, close_of, told_step, foreign_
 use Rattle.agent_core.specs.Known.{run_seat, next_moment, TakesStep, marked, stood, refused, spent}
 use Rattle.agent_core.specs.Seating.{Seated, free as seat_free, own as seat_own, theirs as seat_theirs, over as seat_over}
 use Rattle.agent_core.specs.Solos.{AtSolo, at_desk, OwnStep, PlaysStep, played, passed_over, PlaysNext, next_list, at_end, close_held, ClosesHolder, Waits, again, goes as wait_goes, gives_back, TakesOwn, at_once, waiting, IsNotBelow, ReadingsNeverFall, NoneTriedBefore, IsTriedSince, IsRightly, TurnsSolo}
-use Rattle.agent_core.proofs.Knowing.{last_of_all, seat_next}
+use Rattle.agent_core.proofs.Knowing.{seat_next}
 use Rattle.agent_core.proofs.Seating.{stand_opens}
 use Rattle.agent_core.proofs.Taken.{opening_since, opening_taken, first_taken, with_again, since_with}
 
@@ -510,7 +510,7 @@ ends_given limits run session moment asked (Given grant) after legal (marked las
       mark = mark;
       last_is = now;
       rightly = given_rightly limits (with_mark (next_history last) mark) (next_history last).marks [] mark grant.entry.number
-          (last_of_all limits after (with_mark (next_history last) mark) now legal.each) refl shows.0;
+          (last_is_legal limits after (with_mark (next_history last) mark) now legal.each) refl shows.0;
     }
 ends_given limits run session moment asked Empty after legal takes = tt
 ends_given limits run session moment asked (Open number) after legal takes = tt
@@ -686,9 +686,9 @@ not_stood step_of (stepped.Stood opening wait) hands other = absurd (other openi
 not_stood step_of (stepped.Refused back) hands other = tt
 
 -- a whole turn
-pub turns_so : (asked : MarkStep) (before : AtSolo) (listed : Bool) (there : AtSolo) (turn : Turn) (after : AtSolo) → since_of asked ≡ None
+pub turns_by_own_step : (asked : MarkStep) (before : AtSolo) (listed : Bool) (there : AtSolo) (turn : Turn) (after : AtSolo) → since_of asked ≡ None
     → PlaysNext before listed there → TakesOwn asked there turn after → IsSettled turn → TurnsSolo before asked turn after
-turns_so asked before listed there turn after first next takes settled =
+turns_by_own_step asked before listed there turn after first next takes settled =
     let whole = ends_turn asked before listed there turn after first next takes in
     record {
       there = there;

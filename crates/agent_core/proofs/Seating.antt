@@ -19,7 +19,7 @@ use Rattle.cache_policy.specs.Runs.{last_base, turn_over, next_history, last_his
 use Rattle.cache_policy.specs.Seat.{seat, is_open, under_of, unless_given_back}
 use Rattle.cache_policy.specs.Turns.{Turn, Given, Empty, Open, Stand, Done, Held, Refused, Stopping, Late, FitsReply, opens, closes, out_after}
 use Rattle.cache_policy.specs.declared.wait.Wait.{Wait}
-use Rattle.cache_policy.proofs.GrowingRuns.{last-run_with_mark}
+use Rattle.cache_policy.proofs.GrowingRuns.{last-run_with_mark, last_is_legal}
 use Rattle.cache_policy.proofs.OneMore.{seat-with_mark}
 use Rattle.agent_core.specs.declared.holder.Holder.{Holder}
 use Rattle.agent_core.specs.Cores.{mark_of}
@@ -28,7 +28,7 @@ use Rattle.agent_core.specs.Known.{run_seat, IsOut, held as held_out, given_up, 
 use Rattle.agent_core.specs.Recording.{reply_of}
 use Rattle.agent_core.specs.Seating.{Seated, free, own, theirs, over}
 use Rattle.agent_core.proofs.Coming.{opens_free}
-use Rattle.agent_core.proofs.Knowing.{last_of_all, seat_next, shows_reply, closes_none}
+use Rattle.agent_core.proofs.Knowing.{seat_next, shows_reply, closes_none}
 
 -- a turn that gives no ticket
 abbrev pub IsNotOpen : Turn → Type 0
@@ -52,7 +52,7 @@ going_on limits run last legal last_is below is =
     let e : Some is.last ≡ Some last = sym is.last_is ∙ last_is in
     let same : is.last ≡ last = cc in
     let all : last.base + length last.marks ≡ last_base = subst (λ (h : History). h.base + length h.marks ≡ last_base) same is.all in
-    let each = last_of_all limits run last last_is legal.each in
+    let each = last_is_legal limits run last last_is legal.each in
     elim (length last.marks == MAX_MARKS) as (λ b. (length last.marks == MAX_MARKS) ≡ b → (if b then turn_over last else last).base < last_base → ⊥) [
       | true ↦ λ e below. let full : length last.marks ≡ MAX_MARKS = grind (arith, nat_tests) in omega (arith, full, all, below)
       | false ↦ λ e below. let some : length last.marks ≢ MAX_MARKS = grind (arith, nat_tests) in omega (arith, some, all, below, each.few, each.base)

@@ -94,7 +94,7 @@ impl<'a, C: Clock> Solo<'a, C> {
         Ok(Solo::over(KnownCore::new(alloc, limits)?, clock, session, script))
     }
 
-    /// The same over a core that has the memory already, so that it can't fail: without memory the clock then is with its owner still.
+    /// As `new`, over a core that already has its memory. It can't fail, so a caller without memory never lends its clock.
     pub fn over(
         known: KnownCore,
         clock: &'a mut C,

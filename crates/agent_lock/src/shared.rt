@@ -118,7 +118,7 @@ impl<M: Marks, G: Ledger, E: Ledger, O: Ledger> Shared<M, G, E, O> {
 }
 
 impl<M: Marks, G: Ledger, E: Ledger, O: Ledger> Locked<M, G, E, O> {
-    /// Closes what was taken out of the lock, with all its passes: what was done, by the journal and what was done before it.
+    /// Ends the core once all passes are back, and gives the totals of all its histories.
     pub fn close(self, passes: Vec<Pass<M, G, E, O>>) -> Tally
         requires { (vec_len passes ≡ M.parts) × (vec_len passes ≡ G.parts) × (vec_len passes ≡ E.parts) × (vec_len passes ≡ O.parts) }
         ensures tally { result ≡ tally_at self }

@@ -6,7 +6,7 @@ use Rattle.assuan_line.specs.Reading.{HasRead}
 use Rattle.assuan_line.specs.Skipping.{IsUndecided, Stops, ReadsOn}
 use Rattle.assuan_line.specs.declared.reader.Took.{Took}
 use Rattle.assuan_line.specs.declared.reader.Took.TheVariants as took
-use Rattle.assuan_line.proofs.ReadingOn.{read_so}
+use Rattle.assuan_line.proofs.ReadingOn.{read_says_less}
 use Rattle.assuan_client.specs.Answers.{Answers, ReadOn, IsStop, Says, ended_of, state_after}
 use Rattle.assuan_client.specs.Connections.{Connection}
 use Rattle.assuan_client.specs.Skipping.{Tally, with_lines, with_inquiry, skips_after, skips_behind, coded, IsBehind, nothing}
@@ -78,9 +78,9 @@ undecided_by : {Some Other : List ℕ → Type 0} {ahead rest left : List ℕ} �
 undecided_by each (inl none) = inl none
 undecided_by each (inr were) = inr (record { early = were.early; late = were.late; split = were.split; undecided = each _ were.undecided; few = were.few })
 
-undecided_so : {Some Other : List ℕ → Type 0} {P : List ℕ → Took → Reader → List ℕ → Type 0} {before after : Reader} {input input_after : Side} {t : Took}
+undecided_says_less : {Some Other : List ℕ → Type 0} {P : List ℕ → Took → Reader → List ℕ → Type 0} {before after : Reader} {input input_after : Side} {t : Took}
     → ((bytes : List ℕ) → Some bytes → Other bytes) → HasRead Some P before input t after input_after → HasRead Other P before input t after input_after
-undecided_so {before = before} {input = input} {input_after = input_after} each read = record {
+undecided_says_less {before = before} {input = input} {input_after = input_after} each read = record {
   known = read.known;
   budget = read.budget;
   needed = where_known input.bytes input_after.bytes _ _ read.needed (λ rest left. undecided_by each);
@@ -95,10 +95,10 @@ pub answered : (tally behind : Tally) (t : Took) (answer : Answer) (before after
     → HasRead (IsUndecided skips_behind (coded tally ∷ [])) (ReadsOn skips_behind (coded tally ∷ []) (IsBehind behind)) before.reader before.input t after.reader after.input
     → IsBy behind after.tally t answer → after.output ≡ before.output → after.state ≡ state_after answer → (state_after answer ≢ state.Asked → after.tally ≡ nothing) → ReadOn tally answer before after
 answered tally behind t answer before after read by output stands cleared =
-    let answers = read_so (λ bytes left on. answers_by tally behind after.tally t answer by bytes left after.reader on) read in
+    let answers = read_says_less (λ bytes left on. answers_by tally behind after.tally t answer by bytes left after.reader on) read in
     record {
       took = t;
-      read = undecided_so (λ bytes is. record { lines = is.lines; later = is.later; skipped = skipped_after tally is.skipped; undecided = is.undecided }) answers;
+      read = undecided_says_less (λ bytes is. record { lines = is.lines; later = is.later; skipped = skipped_after tally is.skipped; undecided = is.undecided }) answers;
       ended = read.ended ∙ by.ended;
       fault = λ is. read.fault (is_fault t (by.ended ∙ ap ended_of is));
       no_write = by.no_write;

@@ -28,8 +28,8 @@ put_failed (Err fault) is cut = record { went = cut.went; faults = cut.faults }
 
 module _ (bytes : List ℕ) (before now : Side) (rest : List ℕ) (putting : IsPutting bytes before now rest) where
   -- nothing is left
-  pub put_all : rest ≡ [] → (pieces : List (List ℕ)) × AreData bytes pieces × Writes (data_text pieces) before (Ok tt) now
-  put_all nothing = (
+  pub whole_once_none_is_left : rest ≡ [] → (pieces : List (List ℕ)) × AreData bytes pieces × Writes (data_text pieces) before (Ok tt) now
+  whole_once_none_is_left nothing = (
     putting.done,
     subst (λ (x : List (List ℕ)). AreData bytes x) (append-nil putting.done)
         (putting.completes [] (subst (λ (x : List ℕ). AreData x []) (sym nothing) (record { joined = refl; each = λ k d h. absurd (omega arith); full = tt }))),

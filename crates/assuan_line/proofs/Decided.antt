@@ -27,8 +27,8 @@ pub whole_before : (bytes : List ℕ) (end : ℕ) → position is_lf bytes ≡ S
 whole_before bytes end is =
     ap (λ (n : ℕ). has_lf (take n bytes)) (sym (some_there is_lf bytes end is).1) ∙ none_before is_lf bytes
 
-among_all : (bytes : List ℕ) → has_lf (take MAX_UNDECIDED bytes) ≡ true → has_lf bytes ≡ true
-among_all bytes some =
+has_lf_among_first : (bytes : List ℕ) → has_lf (take MAX_UNDECIDED bytes) ≡ true → has_lf bytes ≡ true
+has_lf_among_first bytes some =
     ap has_lf (sym (take-append-drop MAX_UNDECIDED bytes)) ∙ list_any-append is_lf (take MAX_UNDECIDED bytes) (drop MAX_UNDECIDED bytes)
     ∙ ap (λ (b : Bool). b || has_lf (drop MAX_UNDECIDED bytes)) some
 
@@ -75,7 +75,7 @@ next_of_none bytes is =
     let none = none_there is_lf bytes is in
     next_is bytes ∙ ap (λ (b : Bool). next_by b (leb MAX_UNDECIDED (length bytes)) (first_line bytes)) (absent (has_lf (take MAX_UNDECIDED bytes)) refl) where
       absent : (b : Bool) → has_lf (take MAX_UNDECIDED bytes) ≡ b → has_lf (take MAX_UNDECIDED bytes) ≡ false
-      absent true e = absurd (false≢true (sym (none_there is_lf bytes is) ∙ among_all bytes e))
+      absent true e = absurd (false≢true (sym (none_there is_lf bytes is) ∙ has_lf_among_first bytes e))
       absent false e = e
 
 -- bytes that decide: a line feed is among the first of them, or they are many
@@ -102,7 +102,7 @@ taken_stays bytes more among = elim (leb_tells MAX_UNDECIDED (length bytes)) [
   | inr few ↦
       let sum : MAX_UNDECIDED ≡ length bytes + (MAX_UNDECIDED - length bytes) = omega (arith, few.1) in
       ap (λ (n : ℕ). has_lf (take n (bytes ++ more))) sum ∙ ap has_lf (take-append-add bytes more (MAX_UNDECIDED - length bytes))
-      ∙ list_any-append is_lf bytes (take (MAX_UNDECIDED - length bytes) more) ∙ ap (λ (b : Bool). b || has_lf (take (MAX_UNDECIDED - length bytes) more)) (among_all bytes among)
+      ∙ list_any-append is_lf bytes (take (MAX_UNDECIDED - length bytes) more) ∙ ap (λ (b : Bool). b || has_lf (take (MAX_UNDECIDED - length bytes) more)) (has_lf_among_first bytes among)
 ]
 
 -- what the bytes tell by themselves they tell with any bytes behind them
@@ -111,7 +111,7 @@ unfolding next_by
 stays bytes more some = elim (decided bytes some).tells [ inl among ↦ with_lf among | inr many ↦ of_many many (has_lf (take MAX_UNDECIDED bytes)) refl ] where
   of_line : has_lf (take MAX_UNDECIDED bytes) ≡ true → has_lf (take MAX_UNDECIDED (bytes ++ more)) ≡ true → next_of (bytes ++ more) ≡ next_of bytes
   of_line among also =
-      let line : first_line (bytes ++ more) ≡ first_line bytes = first_line_stays bytes more (among_all bytes among) in
+      let line : first_line (bytes ++ more) ≡ first_line bytes = first_line_stays bytes more (has_lf_among_first bytes among) in
       next_is (bytes ++ more) ∙ ap (λ (b : Bool). next_by b (leb MAX_UNDECIDED (length (bytes ++ more))) (first_line (bytes ++ more))) also ∙ ap line_or_too_long line
       ∙ sym (next_is bytes ∙ ap (λ (b : Bool). next_by b (leb MAX_UNDECIDED (length bytes)) (first_line bytes)) among)
 

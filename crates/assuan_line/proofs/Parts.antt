@@ -95,8 +95,8 @@ rest_some bytes some =
     last (before_first is_lf bytes) h.first h.others _ _ h.parts (split_first is_lf bytes some)
 
 -- what the next line tells of the line feeds
-among_all : (bytes : List ℕ) → has_lf (take MAX_UNDECIDED bytes) ≡ true → has_lf bytes ≡ true
-among_all bytes some =
+has_lf_among_first : (bytes : List ℕ) → has_lf (take MAX_UNDECIDED bytes) ≡ true → has_lf bytes ≡ true
+has_lf_among_first bytes some =
     ap has_lf (sym (take-append-drop MAX_UNDECIDED bytes)) ∙ list_any-append is_lf (take MAX_UNDECIDED bytes) (drop MAX_UNDECIDED bytes)
     ∙ ap (λ (b : Bool). b || has_lf (drop MAX_UNDECIDED bytes)) some
 
@@ -106,7 +106,7 @@ line_tells bytes line is =
     elim (has_lf (take MAX_UNDECIDED bytes)) as (λ b. has_lf (take MAX_UNDECIDED bytes) ≡ b
     → cond b (cond (leb (length (first_line bytes)) 1000) (Line (first_line bytes)) TooLong) (cond (leb MAX_UNDECIDED (length bytes)) TooLong End) ≡ Line line
     → (has_lf bytes ≡ true) × (first_line bytes ≡ line)) [
-      | true ↦ λ some e. (among_all bytes some, of_line (leb (length (first_line bytes)) 1000) e)
+      | true ↦ λ some e. (has_lf_among_first bytes some, of_line (leb (length (first_line bytes)) 1000) e)
       | false ↦ λ none e. absurd (no_line (leb MAX_UNDECIDED (length bytes)) e)
     ] refl is where
       of_line : (b : Bool) → cond b (Line (first_line bytes)) TooLong ≡ Line line → first_line bytes ≡ line

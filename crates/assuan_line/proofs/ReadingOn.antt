@@ -164,10 +164,10 @@ module _ (skips : List (List ℕ) → List ℕ → Bool) where
     }
 
 -- what is said of the bytes says less
-pub read_so : {Undecided : List ℕ → Type 0} {P Q : List ℕ → Took → Reader → List ℕ → Type 0} {before after : Reader} {input input_after : Side} {took : Took}
+pub read_says_less : {Undecided : List ℕ → Type 0} {P Q : List ℕ → Took → Reader → List ℕ → Type 0} {before after : Reader} {input input_after : Side} {took : Took}
     → ((bytes left : List ℕ) → P bytes took after left → Q bytes took after left)
     → HasRead Undecided P before input took after input_after → HasRead Undecided Q before input took after input_after
-read_so {before = before} {input = input} {input_after = input_after} each read = record {
+read_says_less {before = before} {input = input} {input_after = input_after} each read = record {
   known = where_known input.bytes input_after.bytes _ _ read.known (λ rest left. each (before.ahead ++ rest) left);
   budget = read.budget;
   needed = read.needed;
@@ -202,11 +202,11 @@ on_none ReadFault P is p = absurd (cc is)
 
 module _ {Undecided : List ℕ → Type 0} {Reads : List ℕ → Took → Reader → List ℕ → Type 0} {before after : Reader} {input input_after : Side} {took : Took}
     (read : HasRead Undecided Reads before input took after input_after) where
-  pub spent_so : after.ended ≡ Some Spent → after.left ≡ 0
-  spent_so is = read.spent (ends_spent took (sym read.ended ∙ is))
+  pub spent_leaves_none : after.ended ≡ Some Spent → after.left ≡ 0
+  spent_leaves_none is = read.spent (ends_spent took (sym read.ended ∙ is))
 
-  pub fault_so : after.ended ≡ Some ReadFault → Rose input.faults input_after.faults
-  fault_so is = read.fault (ends_fault took (sym read.ended ∙ is))
+  pub fault_count_rose : after.ended ≡ Some ReadFault → Rose input.faults input_after.faults
+  fault_count_rose is = read.fault (ends_fault took (sym read.ended ∙ is))
 
-  pub fewer_so : after.ended ≡ None → held after < held before
-  fewer_so is = on_none took _ (sym read.ended ∙ is) read.progress
+  pub fewer_are_held : after.ended ≡ None → held after < held before
+  fewer_are_held is = on_none took _ (sym read.ended ∙ is) read.progress

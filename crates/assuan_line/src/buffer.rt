@@ -19,7 +19,7 @@ use wiping::{Wiped, wipe};
 /// The most bytes that a reader holds ahead of the lines that it gave.
 pub const MAX_AHEAD: usize = 4096;
 
-/// The bytes of the longest line and of its line end, CR LF: so many tell a line, or that it is too long.
+/// The bytes of the longest line and of its line end, CR LF. A reader that holds as many knows the line, or that it is too long.
 pub const MAX_UNDECIDED: usize = MAX_LINE_LEN + 2;
 
 /// The bytes that a reader took, and that belong to no line that it gave. They are overwritten when it is dropped.

@@ -8,7 +8,7 @@ use Rattle.agent_ports.specs.declared.link.WriteFault.{WriteFault}
 use Rattle.assuan_line.specs.Lines.{IsLine}
 use Rattle.assuan_line.specs.Next.{Reader, WereNeeded, held}
 use Rattle.assuan_line.specs.declared.reader.Took.{Took}
-use Rattle.assuan_line.proofs.ReadingOn.{fewer_so, fault_so}
+use Rattle.assuan_line.proofs.ReadingOn.{fewer_are_held, fault_count_rose}
 use Rattle.assuan_text.specs.Forms.{is_ignored}
 use Rattle.cache_policy.specs.declared.secret.TheConstants.{MAX_SECRET_LEN}
 use Rattle.session_client.specs.Asking.{Asked, NotAsked, LeavesInput, HasSaid, HasReceived, HasInquired, LeftBy, Inquires, TellsClient, AsksClient, without_data}
@@ -160,17 +160,17 @@ module _ (word params : List ℕ) (limit : ℕ) (start now : Connection) where
     }
 
   -- an outcome that the answer names
-  pub inquired_so : (going : IsOpen start) (what : Outcome) → Inquire limit (inquire_text word params) (λ outcome. what ≡ outcome) start now
+  pub inquiry_is_done : (going : IsOpen start) (what : Outcome) → Inquire limit (inquire_text word params) (λ outcome. what ≡ outcome) start now
       → Inquires connection_views word params limit (Asked what) (outcome_says what) start now
-  inquired_so going what inquire =
+  inquiry_is_done going what inquire =
       let ended : now.reader.ended ≡ ended_of what = inquire.gathered.read.ended ∙ inquire.ended what refl in
       record {
         done =
             has_inquired going what inquire.took inquire.gathered
             (known_as start.input.bytes now.input.bytes _ (λ rest left. Comes limit (start.reader.ahead ++ rest) inquire.took what now.reader left)
             (λ rest left read. subst (λ o. Comes limit (start.reader.ahead ++ rest) inquire.took o now.reader left) (sym read.2) read.1) inquire.gathered.read.known);
-        fewer = λ is. omega (arith, fewer_so inquire.gathered.read is);
-        left = left_by start now what ended (λ is. fault_so inquire.gathered.read (ended ∙ ap ended_of is));
+        fewer = λ is. omega (arith, fewer_are_held inquire.gathered.read is);
+        left = left_by start now what ended (λ is. fault_count_rose inquire.gathered.read (ended ∙ ap ended_of is));
       }
 
   -- bytes that the answer doesn't name
@@ -181,7 +181,7 @@ module _ (word params : List ℕ) (limit : ℕ) (start now : Connection) where
         known.0,
         record {
           done = has_inquired going (outcome.Data known.0) inquire.took inquire.gathered known.1;
-          fewer = λ is. omega (arith, fewer_so inquire.gathered.read is);
+          fewer = λ is. omega (arith, fewer_are_held inquire.gathered.read is);
           left = inquire.gathered.read.ended ∙ inquire.ended (outcome.Data []) tt;
         },
       )
@@ -191,7 +191,7 @@ module _ {pid : ℕ} {start now : Connection} (going : IsOpen start) where
   told_as : (what : Outcome) → Inquire MAX_NOTE_LEN (note_text pid) (λ outcome. what ≡ outcome) start now
       → TellsClient connection_views pid (without_data (outcome_says what)) start now
   told_as what inquire =
-      let inquires = inquired_so (codes "PINENTRY_LAUNCHED") (decimal pid) MAX_NOTE_LEN start now going what inquire in
+      let inquires = inquiry_is_done (codes "PINENTRY_LAUNCHED") (decimal pid) MAX_NOTE_LEN start now going what inquire in
       record {
         inquired = Asked what;
         result_is = refl;
@@ -219,7 +219,7 @@ module _ {pid : ℕ} {start now : Connection} (going : IsOpen start) where
 module _ {word : List ℕ} {start now : Connection} (going : IsOpen start) where
   wished_as : (what : Outcome) → Inquire MAX_SECRET_LEN (inquire_text word []) (λ outcome. what ≡ outcome) start now
       → AsksClient connection_views word MAX_SECRET_LEN (outcome_says what) start now
-  wished_as what inquire = record { inquired = Asked what; result_is = refl; inquires = inquired_so word [] MAX_SECRET_LEN start now going what inquire }
+  wished_as what inquire = record { inquired = Asked what; result_is = refl; inquires = inquiry_is_done word [] MAX_SECRET_LEN start now going what inquire }
 
   pub wished : (what : InquiredSecret) → HearsWish word start what now → AsksClient connection_views word MAX_SECRET_LEN (secret_said what) start now
   wished (inquired.Secret secret) hears = wished_as (outcome.Data secret) (hears.inquiry (λ e. cc e))

@@ -12,7 +12,7 @@ use Rattle.assuan_line.specs.Skipping.{IsUndecided, ReadsOn}
 use Rattle.assuan_text.specs.LineEnds.{line_of}
 use Rattle.assuan_line.specs.declared.reader.Took.{Took}
 use Rattle.assuan_line.specs.declared.reader.Took.TheVariants.{Line}
-use Rattle.assuan_line.proofs.ReadingOn.{read_so}
+use Rattle.assuan_line.proofs.ReadingOn.{read_says_less}
 use Rattle.assuan_server.specs.Asking.{Gather, Inquire}
 use Rattle.assuan_server.specs.Connections.{Connection}
 use Rattle.assuan_server.specs.Failures.{IsAnswer}
@@ -61,7 +61,7 @@ pub inquired : {limit : ℕ} {keeps : List ℕ → Type 0} {line : List ℕ} {be
 inquired {took = took} gather answer = record {
   took = took;
   gathered = record {
-    read = read_so (λ bytes left on.
+    read = read_says_less (λ bytes left on.
         let to = answer.answers (flat_map carried on.0) on.2 in
         (to.0, record { lines = on.0; reads = on.1; comes_to = to.1 }, to.2)) gather.read;
     written = gather.written;

@@ -4,6 +4,6 @@ use Rattle.assuan_server.specs.Asking.{Inquire}
 use Rattle.assuan_server.specs.Connections.{Connection, IsOpen}
 use Rattle.assuan_server.specs.Inquiries.{Outcome, ended_of}
 
-pub closed_so : {limit : ℕ} {line : List ℕ} {Says : Outcome → Type 0} {before after : Connection} (outcome : Outcome)
+pub ended_is_closed : {limit : ℕ} {line : List ℕ} {Says : Outcome → Type 0} {before after : Connection} (outcome : Outcome)
     → Says outcome → ended_of outcome ≡ None → Inquire limit line Says before after → IsOpen after
-closed_so outcome says closed inquire = inquire.gathered.read.ended ∙ inquire.ended outcome says ∙ closed
+ended_is_closed outcome says closed inquire = inquire.gathered.read.ended ∙ inquire.ended outcome says ∙ closed

@@ -45,8 +45,8 @@ writing_none bytes before = record {
 
 module _ (bytes : List ℕ) (before now : Connection) (rest : List ℕ) (sent : ℕ) (writing : IsWriting bytes before now rest sent) where
   -- nothing is left
-  pub written_all : rest ≡ [] → WritesData bytes before (Ok sent) now
-  written_all nothing = record {
+  pub written_once_none_is_left : rest ≡ [] → WritesData bytes before (Ok sent) now
+  written_once_none_is_left nothing = record {
     pieces = writing.done;
     are_data = subst (λ (x : List (List ℕ)). AreData bytes x) (append-nil writing.done)
         (writing.completes [] (subst (λ (x : List ℕ). AreData x []) (sym nothing) (record { joined = refl; each = λ k d h. absurd (omega arith); full = tt })));

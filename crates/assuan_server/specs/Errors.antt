@@ -31,29 +31,29 @@ code_of Parameter = 280
 code_of FileExists = 32803
 code_of NoMemory = 32854
 
-abbrev pub description_of : Code → List ℕ
-description_of General = codes "General error"
-description_of BadSecKey = codes "Bad secret key"
-description_of Checksum = codes "Checksum error"
-description_of BadPass = codes "Bad passphrase"
-description_of NoSecKey = codes "No secret key"
-description_of NoData = codes "No data"
-description_of NotSupported = codes "Not supported"
-description_of Timeout = codes "Timeout"
-description_of InvSexp = codes "Invalid S-expression"
-description_of NoPinentry = codes "No pinentry"
-description_of NotTrusted = codes "Not trusted"
-description_of Cancelled = codes "Operation cancelled"
-description_of NotConfirmed = codes "Not confirmed"
-description_of UnknownOption = codes "Unknown option"
-description_of Forbidden = codes "Forbidden"
-description_of LineTooLong = codes "Line passed to IPC too long"
-description_of TooMuch = codes "Too much data for IPC layer"
-description_of Unexpected = codes "Unexpected IPC command"
-description_of UnknownCommand = codes "Unknown IPC command"
-description_of Parameter = codes "IPC parameter error"
-description_of FileExists = codes "File exists"
-description_of NoMemory = codes "Cannot allocate memory"
+abbrev pub error_description : Code → List ℕ
+error_description General = codes "General error"
+error_description BadSecKey = codes "Bad secret key"
+error_description Checksum = codes "Checksum error"
+error_description BadPass = codes "Bad passphrase"
+error_description NoSecKey = codes "No secret key"
+error_description NoData = codes "No data"
+error_description NotSupported = codes "Not supported"
+error_description Timeout = codes "Timeout"
+error_description InvSexp = codes "Invalid S-expression"
+error_description NoPinentry = codes "No pinentry"
+error_description NotTrusted = codes "Not trusted"
+error_description Cancelled = codes "Operation cancelled"
+error_description NotConfirmed = codes "Not confirmed"
+error_description UnknownOption = codes "Unknown option"
+error_description Forbidden = codes "Forbidden"
+error_description LineTooLong = codes "Line passed to IPC too long"
+error_description TooMuch = codes "Too much data for IPC layer"
+error_description Unexpected = codes "Unexpected IPC command"
+error_description UnknownCommand = codes "Unknown IPC command"
+error_description Parameter = codes "IPC parameter error"
+error_description FileExists = codes "File exists"
+error_description NoMemory = codes "Cannot allocate memory"
 
 -- where an error comes from: its number there, and its name
 abbrev pub source_of : Origin → ℕ
@@ -70,4 +70,4 @@ error_number code origin = source_of origin * 16777216 + code_of code
 
 abbrev pub error_text : Code → Origin → List ℕ
 error_text code origin =
-    codes "ERR " ++ decimal (error_number code origin) ++ codes " " ++ description_of code ++ codes " <" ++ source_name origin ++ codes ">"
+    codes "ERR " ++ decimal (error_number code origin) ++ codes " " ++ error_description code ++ codes " <" ++ source_name origin ++ codes ">"

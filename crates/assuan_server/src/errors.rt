@@ -1,7 +1,7 @@
 ghost use Rattle.std.specs.Prelude.{◌≡◌, ◌≤◌, ◌<◌, ◌^◌, length, false};
 ghost use Rattle.assuan_text.specs.LineEnds.{has_lf};
 ghost use Rattle.assuan_line.specs.Lines.{IsLine};
-ghost use Rattle.assuan_server.specs.Errors.{code_of, description_of, source_of, source_name, error_number, error_text};
+ghost use Rattle.assuan_server.specs.Errors.{code_of, error_description, source_of, source_name, error_number, error_text};
 
 use assuan_text::Text;
 use itoa::Buffer;
@@ -73,7 +73,7 @@ pub enum Origin {
 }
 
 impl Code {
-    ghost use Rattle.assuan_server.specs.Errors.{code_of, description_of};
+    ghost use Rattle.assuan_server.specs.Errors.{code_of, error_description};
 
     fn number(self) -> u32
         ensures value { result ≡ code_of self }
@@ -106,7 +106,7 @@ impl Code {
     }
 
     fn text(self) -> &'static str
-        ensures text { result.now ≡ description_of self }
+        ensures text { result.now ≡ error_description self }
         ensures short { length result.now ≤ 40 }
         ensures one_line { has_lf result.now ≡ false }
     {

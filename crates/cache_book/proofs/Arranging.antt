@@ -135,9 +135,9 @@ module _ {A : Type 0} (before : A → A → Bool) where
   arranged-map f same (x ∷ xs) = ap (placed before (f x)) (arranged-map f same xs) ∙ placed-map f same x (arranged before xs)
 
 module _ {A : Type 0} (before : A → A → Bool) (order : IsOrder before) where
-  after_all : (x y : A) (ys : List A) → before x y ≡ true → AllByRecursion (λ z. before z y ≡ false) ys → AllByRecursion (λ z. before x z ≡ true) ys
-  after_all x y [] h up = tt
-  after_all x y (z ∷ zs) h up = (order.through x y z h up.0, after_all x y zs h up.1)
+  before_all_behind : (x y : A) (ys : List A) → before x y ≡ true → AllByRecursion (λ z. before z y ≡ false) ys → AllByRecursion (λ z. before x z ≡ true) ys
+  before_all_behind x y [] h up = tt
+  before_all_behind x y (z ∷ zs) h up = (order.through x y z h up.0, before_all_behind x y zs h up.1)
 
   none_before : (x : A) (ys : List A) → AllByRecursion (λ z. before x z ≡ true) ys → AllByRecursion (λ z. before z x ≡ false) ys
   none_before x [] h = tt
@@ -147,7 +147,7 @@ module _ {A : Type 0} (before : A → A → Bool) (order : IsOrder before) where
   up_placed x [] up = (tt, tt)
   up_placed x (y ∷ ys) up =
       elim (before x y) as (λ b. before x y ≡ b → EachPair (λ a b. before b a ≡ false) (cond b (x ∷ y ∷ ys) (y ∷ placed before x ys))) [
-        | true ↦ λ h. (none_before x (y ∷ ys) (h, after_all x y ys h up.0), up)
+        | true ↦ λ h. (none_before x (y ∷ ys) (h, before_all_behind x y ys h up.0), up)
         | false ↦ λ h. (all_placed before (λ z. before z y ≡ false) x ys h up.0, up_placed x ys up.1)
       ] refl
 
@@ -163,7 +163,7 @@ module _ {A : Type 0} (before : A → A → Bool) (order : IsOrder before) where
       elim (before x y) as (λ b. before x y ≡ b → filter test (cond b (x ∷ y ∷ ys) (y ∷ placed before x ys))
       ≡ cond (test x) (placed before x (filter test (y ∷ ys))) (filter test (y ∷ ys))) [
         | true ↦ λ h. ap (λ (l : List A). cond (test x) l (filter test (y ∷ ys)))
-            (sym (placed-front before x (filter test (y ∷ ys)) (all_filter (λ z. before x z ≡ true) test (y ∷ ys) (h, after_all x y ys h up.0))))
+            (sym (placed-front before x (filter test (y ∷ ys)) (all_filter (λ z. before x z ≡ true) test (y ∷ ys) (h, before_all_behind x y ys h up.0))))
         | false ↦ λ h. ap (λ (l : List A). cond (test y) (y ∷ l) l) (filter-placed test x ys up.1) ∙ further h
       ] refl
     where

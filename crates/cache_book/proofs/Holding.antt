@@ -58,12 +58,12 @@ all_later now front (one ∷ later) bound le = (behind one.0.moment front.0.mome
         (λ e same. omega arith) (λ e gt. omega arith)
 
 -- one of places that are all later is later
-among_all : (now : ℕ) (place : Place) (places : List (Reverse Place)) → AllByRecursion (λ one. now ≤ one.0.moment) places → is_among place places ≡ true → now ≤ place.moment
-among_all now place [] all h = cc
-among_all now place (one ∷ later) all h =
+later_among_later : (now : ℕ) (place : Place) (places : List (Reverse Place)) → AllByRecursion (λ one. now ≤ one.0.moment) places → is_among place places ≡ true → now ≤ place.moment
+later_among_later now place [] all h = cc
+later_among_later now place (one ∷ later) all h =
     elim (one.0.moment == place.moment) as (λ b. (one.0.moment == place.moment) ≡ b → now ≤ place.moment) [
       | true ↦ λ e. same one.0.moment place.moment e all.0
-      | false ↦ λ e. among_all now place later all.1 (sym (ap (λ b. (b && (one.0.hash == place.hash)) || is_among place later) e) ∙ h)
+      | false ↦ λ e. later_among_later now place later all.1 (sym (ap (λ b. (b && (one.0.hash == place.hash)) || is_among place later) e) ∙ h)
     ] refl
   where
     same : (m n : ℕ) → (m == n) ≡ true → now ≤ m → now ≤ n
@@ -118,7 +118,7 @@ module _ (places : List (Reverse Place)) where
   pub swept-none : (now : ℕ) → now < 2 ^ 64 → AllByRecursion (λ place. now ≤ place.0.moment) places → (list : List Slot) → HavePlaces places list → swept now list ≡ list
   swept-none now u64 all [] held = refl
   swept-none now u64 all (slot ∷ later) held =
-      ap (λ b. cond b (slot ∷ swept now later) (swept now later)) (sym (within_deadline now u64 slot) ∙ upto (deadline slot) (among_all now (place_of slot) places all held.0))
+      ap (λ b. cond b (slot ∷ swept now later) (swept now later)) (sym (within_deadline now u64 slot) ∙ upto (deadline slot) (later_among_later now (place_of slot) places all held.0))
       ∙ ap (λ (l : List Slot). slot ∷ l) (swept-none now u64 all later held.1)
     where
       upto : (d : ℕ) → now ≤ d → nat_le now d ≡ true
@@ -134,15 +134,15 @@ module _ (places : List (Reverse Place)) where
 
 -- the place of one slot more is added
 module _ (places more : List (Reverse Place)) (place : Place) (added : (other : Place) → is_among other more ≡ (is_place place other || is_among other places)) where
-  held_all : (list : List Slot) → HavePlaces places list → HavePlaces more list
-  held_all [] held = tt
-  held_all (slot ∷ later) held = (added (place_of slot) ∙ (held_or places place (slot ∷ []) (held.0, tt)).0, held_all later held.1)
+  held_with_more : (list : List Slot) → HavePlaces places list → HavePlaces more list
+  held_with_more [] held = tt
+  held_with_more (slot ∷ later) held = (added (place_of slot) ∙ (held_or places place (slot ∷ []) (held.0, tt)).0, held_with_more later held.1)
 
   held_further : (i : ℕ) (list : List Slot) (d : Slot) → i < length list → place ≡ place_of (get_or list i d) → HavePlaces places (take i list) → HavePlaces more (take (suc i) list)
   held_further zero [] d lt is held = absurd (omega arith)
   held_further zero (x ∷ xs) d lt is held = (added (place_of x) ∙ held_new places place x is, tt)
   held_further (suc i) [] d lt is held = absurd (omega arith)
-  held_further (suc i) (x ∷ xs) d lt is held = ((held_all (x ∷ []) (held.0, tt)).0, held_further i xs d (omega arith) is held.1)
+  held_further (suc i) (x ∷ xs) d lt is held = ((held_with_more (x ∷ []) (held.0, tt)).0, held_further i xs d (omega arith) is held.1)
 
   pub held_taken : (i : ℕ) (list : List Slot) (slot : Slot) → i < length list → slot ≡ get_or list i slot → place ≡ place_of slot → HavePlaces places (take i list) → HavePlaces more (take (i + 1) list)
   held_taken i list slot lt there is held =

@@ -8,7 +8,7 @@ use Rattle.cache_book.specs.declared.slot.Slot.{Slot}
 use Rattle.cache_book.specs.declared.deadlines.Place.{Place}
 use Rattle.cache_book.specs.Hashes.{id_hash}
 
--- the end of a ttl that is counted from the last use, or of the greatest age, whichever comes first
+-- the end of a ttl that is counted from the last use, or of the maximum age, whichever comes first
 abbrev pub lesser_end : Option ℕ → ℕ → ℕ → ℕ
 lesser_end None last oldest = oldest
 lesser_end (Some ttl) last oldest = min (last + ttl) oldest

@@ -86,7 +86,7 @@ impl Guide {
     }
 }
 
-/// The range of a hash among so many.
+/// The range of a hash, of this number of ranges.
 fn range_of(hash: u64, ranges: usize) -> usize {
     // The upper half of a hash says how far on among all it stands.
     ((hash >> 32).wrapping_mul(ranges as u64) >> 32) as usize

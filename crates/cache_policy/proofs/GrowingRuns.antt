@@ -116,11 +116,12 @@ all_grown limits (first ∷ []) history mark last each legal =
     ] (subst (λ (h : History). IsLegal limits (with_mark (next_history h) mark)) same legal)
 all_grown limits (first ∷ next ∷ later) history mark last each legal = (each.0, all_grown limits (next ∷ later) history mark last each.1 legal)
 
-last_of_all : (limits : Limits) (run : List History) (history : History) → last_history run ≡ Some history
+-- a legal run's last history is legal
+pub last_is_legal : (limits : Limits) (run : List History) (history : History) → last_history run ≡ Some history
     → AllByRecursion (IsLegal limits) run → IsLegal limits history
-last_of_all limits [] history last each = absurd (cc)
-last_of_all limits (first ∷ []) history last each = let same : first ≡ history = cc in subst (IsLegal limits) same each.0
-last_of_all limits (first ∷ next ∷ later) history last each = last_of_all limits (next ∷ later) history last each.1
+last_is_legal limits [] history last each = absurd (cc)
+last_is_legal limits (first ∷ []) history last each = let same : first ≡ history = cc in subst (IsLegal limits) same each.0
+last_is_legal limits (first ∷ next ∷ later) history last each = last_is_legal limits (next ∷ later) history last each.1
 
 -- A legal run with one mark more is legal, where the mark follows the policy of the next history, which isn't spent, and its moment
 -- doesn't fall.
@@ -129,7 +130,7 @@ pub legal-run_with_mark : (limits : Limits) (run : List History) (history : Hist
     → moment_before (joined run) ≤ mark.moment → mark.moment ≤ MAX_MOMENT → (next_history history).base < last_base
     → IsLegalRun limits (run_with_mark run mark)
 legal-run_with_mark limits run history mark legal last rules later within going =
-    let next = next_has_room limits history (last_of_all limits run history last legal.each) in
+    let next = next_has_room limits history (last_is_legal limits run history last legal.each) in
     record {
       turns_over = is_run-run_with_mark run mark legal.turns_over;
       each = all_grown limits run history mark last legal.each
@@ -193,7 +194,7 @@ legal-turned_over limits run history legal last full = (
     turns_over = turned_over_run run history legal.turns_over last full;
     each =
         all_append (IsLegal limits) run (turn_over history ∷ []) legal.each
-        (legal-turn_over limits history (last_of_all limits run history last legal.each) full, tt);
+        (legal-turn_over limits history (last_is_legal limits run history last legal.each) full, tt);
     moments = subst (NeverFall 0) (sym same) legal.moments;
   },
   same,

@@ -18,7 +18,7 @@ ttl_of limits mode Default = Some (default_ttl limits mode)
 ttl_of limits mode Endless = None
 ttl_of limits mode (Seconds seconds) = Some seconds
 
--- the greatest age, which holds for every entry
+-- the maximum age, which holds for every entry
 abbrev pub max_of : Limits → Mode → ℕ
 max_of limits Ssh = limits.max_ssh
 max_of limits _ = limits.max

@@ -1,4 +1,4 @@
--- Newest, gone, last use and live: which passphrase a request is given. A use starts the ttl again, and the greatest age
+-- Newest, gone, last use and live: which passphrase a request is given. A use starts the ttl again, and the maximum age
 -- never starts again (the GnuPG manual, `default-cache-ttl` and `max-cache-ttl`). That a newer entry hides an older one
 -- for good, and what clears what, is this project's own.
 use Rattle.std.specs.Prelude.{ℕ, ◌==◌, List, Bool, true, false, ◌&&◌, not, max, Option, Some, None, if◌then◌else◌, find, filter, fold, reverse}

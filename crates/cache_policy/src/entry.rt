@@ -15,7 +15,7 @@ pub struct Entry {
     pub entered: u64,
     /// How many seconds it may go unused, if that is limited.
     pub ttl: Option<u32>,
-    /// Its greatest age, in seconds.
+    /// Its maximum age, in seconds.
     pub max: u32,
 }
 
@@ -57,7 +57,7 @@ impl Entry {
         self.id == *id && self.mode.covers(mode)
     }
 
-    /// Whether `moment` is within both lifetimes: the ttl counted from `last`, and the greatest age.
+    /// Whether `moment` is within both lifetimes: the ttl counted from `last`, and the maximum age.
     /// The last second of each still is.
     pub fn within(&self, last: u64, moment: u64) -> bool
         ensures { result ≡ within self.now last moment }

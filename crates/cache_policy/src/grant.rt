@@ -16,7 +16,7 @@ pub struct Grant {
     pub moment: u64,
     // The entry has the id, in a mode that covers the asked one.
     pub ghost fits: { serves id mode entry ≡ true },
-    // Its ttl, counted from the last use, and its greatest age have not passed.
+    // Its ttl, counted from the last use, and its maximum age have not passed.
     pub ghost in_time: { within entry last moment ≡ true },
 }
 

@@ -10,13 +10,13 @@ pub const MAX_SECONDS: u32 = 2_147_483_647;
 pub enum Life {
     /// The limits' number for the mode.
     Default,
-    /// As long as its greatest age allows.
+    /// As long as its maximum age allows.
     Endless,
     /// So many seconds. 0 stores nothing.
     Seconds(u32),
 }
 
-/// The agent's lifetimes, in seconds. A ttl starts again at each use, a greatest age never.
+/// The agent's lifetimes, in seconds. A ttl starts again at each use, a maximum age never.
 #[derive(Clone, Copy, Debug, PartialEq, Eq, Hash)]
 pub struct Limits {
     /// `default-cache-ttl`.
@@ -44,7 +44,7 @@ impl Limits {
         }
     }
 
-    /// The greatest age of an entry, in seconds.
+    /// The maximum age of an entry, in seconds.
     pub fn max_of(&self, mode: Mode) -> u32
         ensures { result ≡ max_of self.now mode }
     {

@@ -57,7 +57,7 @@ fn passphrase(number: u64) -> Option<Secret> {
     Secret::of(bytes.get(..len)?)
 }
 
-/// A life: the ttl and the greatest age.
+/// A life: the ttl and the maximum age.
 #[derive(Clone, Copy)]
 struct Lives {
     ttl: Option<u32>,
@@ -473,7 +473,7 @@ fn first_wrong(alloc: Global, rows: &[Row]) -> Result<Option<usize>, Wrong> {
     Ok(None)
 }
 
-/// An entry that is used often enough ends with its greatest age.
+/// An entry that is used often enough ends with its maximum age.
 const OFTEN: [Row; 17] = [
     (0, Call::Put(K1, Mode::Any, USUAL), None),
     (500, Call::Ask(K1, Mode::User), Some(0)),

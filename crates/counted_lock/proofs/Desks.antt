@@ -37,13 +37,13 @@ use Rattle.counted_lock.specs.Logs.{marks_by}
 use Rattle.counted_lock.specs.Passes.{AtPass, mine}
 use Rattle.counted_lock.specs.Trying.{Tries, TriesAt, IsSinceFirst, IsTriedAt, Waited}
 use Rattle.counted_lock.specs.Turns.{AtCountedDesk, TurnsPass, CountedTurn}
-use Rattle.counted_lock.proofs.LogLemmas.{joined_log, start_log, spent_all}
+use Rattle.counted_lock.proofs.LogLemmas.{joined_log, start_log, spent_has_all_marks}
 use Rattle.counted_lock.proofs.Passing.{own_marks, added_none, added_one, marks_both}
 
 -- marks of other passes are of other sessions
-foreign_all : (session : SessionId) (marks : List Mark) → marks_by session.pass marks ≡ [] → AllByRecursion (λ mark. is_of session mark ≡ false) marks
-foreign_all session [] none = tt
-foreign_all session (m ∷ ms) none = go (nat_eq m.session.pass session.pass) refl (foreign_all session ms)
+marks_of_others_are_foreign : (session : SessionId) (marks : List Mark) → marks_by session.pass marks ≡ [] → AllByRecursion (λ mark. is_of session mark ≡ false) marks
+marks_of_others_are_foreign session [] none = tt
+marks_of_others_are_foreign session (m ∷ ms) none = go (nat_eq m.session.pass session.pass) refl (marks_of_others_are_foreign session ms)
   where
     go : (b : Bool) → nat_eq m.session.pass session.pass ≡ b → (marks_by session.pass ms ≡ [] → AllByRecursion (λ mark. is_of session mark ≡ false) ms) → AllByRecursion (λ mark. is_of session mark ≡ false) (m ∷ ms)
     go true is rest = let h : m ∷ marks_by session.pass ms ≡ [] = rw is at none in cc
@@ -211,7 +211,7 @@ module _ {C : Type 0} (readings : C → Readings) (start : AtCountedDesk C) (ask
           now = now;
           mine_is = t.tries.mine_is ∙ ap (λ (l : List Mark). l ++ t.tries.own) w.mine_is;
           makes = makes settled;
-          spent = λ none stops. spent_all after.pass.seen (is_spent_run start.pass.limits start.session (moment_before start.pass.seen) asked (run_of_log after.pass.seen) turn t.tries.own (makes settled) none stops);
+          spent = λ none stops. spent_has_all_marks after.pass.seen (is_spent_run start.pass.limits start.session (moment_before start.pass.seen) asked (run_of_log after.pass.seen) turn t.tries.own (makes settled) none stops);
           memory = t.memory;
           first_reading = first_of_tries w.taken t.tries.reading;
           later_readings = later_tries w.taken t.tries.reading;
@@ -232,7 +232,7 @@ module _ {C : Type 0} (readings : C → Readings) (start : AtCountedDesk C) (ask
         run = record {
           start = start_log after.pass.seen ∙ sym (start_log start.pass.seen);
           others = w.others ++ t.tries.others;
-          foreign = foreign_all start.session (w.others ++ t.tries.others) (subst (λ (k : ℕ). marks_by k (w.others ++ t.tries.others) ≡ []) (sym by) foreign);
+          foreign = marks_of_others_are_foreign start.session (w.others ++ t.tries.others) (subst (λ (k : ℕ). marks_by k (w.others ++ t.tries.others) ≡ []) (sym by) foreign);
           own = t.tries.own;
           makes = subst (λ (l : List Mark). MakesMarks start.pass.limits start.session (moment_before l) asked (run_of_log after.pass.seen) turn t.tries.own) (sym (joined_log start.pass.seen)) (makes settled);
           marks =
@@ -251,10 +251,10 @@ record Stood (limits : Limits) (found own : List Mark) (session : SessionId) (mo
   pub none : own ≡ []
   pub wait_is : wait ≡ wait_after session tried moment
 
-stood_so : (limits : Limits) (found own : List Mark) (session : SessionId) (moment : ℕ) (tried : MarkStep) (wait : Wait) → TakesStep limits (run_of_log found) session moment tried (Stand wait) (run_of_log (found ++ own))
+stands_without_mark : (limits : Limits) (found own : List Mark) (session : SessionId) (moment : ℕ) (tried : MarkStep) (wait : Wait) → TakesStep limits (run_of_log found) session moment tried (Stand wait) (run_of_log (found ++ own))
     → Stood limits found own session moment tried wait
-stood_so limits found own session moment tried wait (marked last answer last_is below rules shows is) = absurd shows
-stood_so limits found own session moment tried wait (stood last last_is more rules wait_is is) = record { none = added_none found own is; wait_is = wait_is }
+stands_without_mark limits found own session moment tried wait (marked last answer last_is below rules shows is) = absurd shows
+stands_without_mark limits found own session moment tried wait (stood last last_is more rules wait_is is) = record { none = added_none found own is; wait_is = wait_is }
 
 -- only a step that wants the prompt has to stand; it gives no ticket back, and its wait has the moment of its first try
 stand_out : (out : Option ℕ) (asked : MarkStep) (wait : Wait) → opens asked ≡ true → out_after out asked (Stand wait) ≡ out
@@ -292,7 +292,7 @@ module _ {C : Type 0} (readings : C → Readings) (start : AtCountedDesk C) (ask
   waits_on : (since now_since : Option ℕ) (mid after : AtCountedDesk C) (wait : Wait) (w : Waited readings start asked since mid) (t : TriesAt readings mid asked (with_since since asked) (Stand wait) after)
       → IfSome now_since (IsTriedAt (w.taken ++ t.tries.reading ∷ []) start.pass.seen asked) → Waited readings start asked now_since after
   waits_on since now_since mid after wait w t tried =
-      let none = (stood_so mid.pass.limits t.tries.found t.tries.own mid.session _ (with_since since asked) wait t.tries.takes).none in
+      let none = (stands_without_mark mid.pass.limits t.tries.found t.tries.own mid.session _ (with_since since asked) wait t.tries.takes).none in
       let seen_is = ap (λ (p : AtPass). p.seen) w.pass in
       let number_is = ap (λ (p : AtPass). p.number) w.pass in
       let after_seen : t.tries.found ++ t.tries.own ≡ start.pass.seen ++ (w.others ++ t.tries.others) =
@@ -316,7 +316,7 @@ module _ {C : Type 0} (readings : C → Readings) (start : AtCountedDesk C) (ask
       → (wait.session ≡ start.session) × Waited readings start asked (Some wait.since) after
   unfolding waited_none
   waits_first after wait t =
-      let so = stood_so start.pass.limits t.tries.found t.tries.own start.session _ (with_since None asked) wait t.tries.takes in
+      let so = stands_without_mark start.pass.limits t.tries.found t.tries.own start.session _ (with_since None asked) wait t.tries.takes in
       let since_is : wait.since ≡ moment_of (moment_before t.tries.found) t.tries.reading = ap (λ (v : Wait). v.since) so.wait_is ∙ first_since asked (moment_of (moment_before t.tries.found) t.tries.reading) in
       let found = later_moment start.pass.limits start.pass.seen t.tries.others
       (subst (IsLegalLog start.pass.limits) (ap (λ (l : List Mark). t.tries.found ++ l) so.none ∙ (append-nil t.tries.found ∙ t.tries.found_is)) t.tries.legal) in
@@ -334,7 +334,7 @@ module _ {C : Type 0} (readings : C → Readings) (start : AtCountedDesk C) (ask
       → TriesAt readings mid asked (with_since (Some first.since) asked) (Stand wait) after
       → (wait.session ≡ start.session) × Waited readings start asked (Some wait.since) after
   waits_again first mid after wait w t =
-      let so = stood_so mid.pass.limits t.tries.found t.tries.own mid.session _ (with_since (Some first.since) asked) wait t.tries.takes in
+      let so = stands_without_mark mid.pass.limits t.tries.found t.tries.own mid.session _ (with_since (Some first.since) asked) wait t.tries.takes in
       let since_is : wait.since ≡ first.since = ap (λ (v : Wait). v.since) so.wait_is ∙ later_since first.since asked _ (stand_opens asked wait t.fits) in (
         ap (λ (v : Wait). v.session) so.wait_is ∙ w.session,
         subst (λ (n : ℕ). Waited readings start asked (Some n) after) (sym since_is) (waits_on (Some first.since) (Some first.since) mid after wait w t
@@ -342,15 +342,15 @@ module _ {C : Type 0} (readings : C → Readings) (start : AtCountedDesk C) (ask
       )
 
 -- a try, at the desk
-refused_so : (answer : Result Reply HandedBack) (P : Type 0) → OnErr answer P → turn_of answer ≡ Refused → P
-refused_so (Ok reply) P on is = absurd (not_refused reply is)
-refused_so (Err back) P on is = on
+on_refusal : (answer : Result Reply HandedBack) (P : Type 0) → OnErr answer P → turn_of answer ≡ Refused → P
+on_refusal (Ok reply) P on is = absurd (not_refused reply is)
+on_refusal (Err back) P on is = on
 
 pub tried_at : {C : Type 0} (readings : C → Readings) (before : AtCountedDesk C) (pass : AtPass) (out : Option ℕ) (clock : C) (asked tried : MarkStep) (answer : Result Reply HandedBack)
     → Tries before.session (readings before.clock) (readings clock) tried before.pass (turn_of answer) pass → FitsReply asked (turn_of answer) → OnErr answer (MayWantMemory asked)
     → out ≡ out_after before.out asked (turn_of answer) → TriesAt readings before asked tried (turn_of answer) (record { pass = pass; session = before.session; out = out; clock = clock })
 tried_at readings before pass out clock asked tried answer tries fits memory out_is =
-    record { tries = tries; fits = fits; memory = refused_so answer (MayWantMemory asked) memory; session = refl; out = out_is }
+    record { tries = tries; fits = fits; memory = on_refusal answer (MayWantMemory asked) memory; session = refl; out = out_is }
 
 -- the first try hands no wait in
 first_try : {C : Type 0} (readings : C → Readings) (before : AtCountedDesk C) (asked_of : Step) (turn : Turn) (after : AtCountedDesk C) → wait_of asked_of ≡ None

@@ -10,11 +10,11 @@ use Rattle.cache_policy.specs.Replay.{first_history}
 use Rattle.cache_policy.specs.Runs.{last_base, IsRun, run_with_mark, last_history, joined, start_of_run, moment_before, moment_of}
 use Rattle.cache_policy.specs.Seat.{stopped}
 use Rattle.cache_policy.specs.Desks.{IsSpentRun}
-use Rattle.cache_policy.proofs.GrowingRuns.{is_run-run_with_mark, joined-run_with_mark, start-run_with_mark}
+use Rattle.cache_policy.proofs.GrowingRuns.{is_run-run_with_mark, joined-run_with_mark, last_is_legal, start-run_with_mark}
 use Rattle.agent_core.specs.Cores.{AtCore, StandsFor}
 use Rattle.agent_core.specs.Recording.{KeepsRun}
 use Rattle.agent_core.proofs.Counting.{first_base, numbers}
-use Rattle.agent_core.proofs.Knowing.{last_of_all, moment_is}
+use Rattle.agent_core.proofs.Knowing.{moment_is}
 use Rattle.counted_lock.specs.Logs.{run_from, run_of_log, IsLegalLog, is_stopped}
 
 pub log_more : (run : List History) (marks : List Mark) (mark : Mark) → run_from run (marks ++ mark ∷ []) ≡ run_with_mark (run_from run marks) mark
@@ -55,7 +55,7 @@ few_marks limits marks legal =
     let all = numbers (run_of_log marks) legal.last (is_run_log marks) legal.last_is in
     let none = base_of_start (run_of_log marks) (start_log marks) in
     let same = ap (λ (l : List Mark). length l) (joined_log marks) in
-    let last = last_of_all limits (run_of_log marks) legal.last legal.last_is legal.legal.each in
+    let last = last_is_legal limits (run_of_log marks) legal.last legal.last_is legal.legal.each in
     let few = last.few in let below = legal.below in
     omega (arith, all, none, same, few, below)
 
@@ -74,8 +74,8 @@ keeps_first core zero stands = record {
 }
 
 -- as many marks as the last one's number: a spent run has them all
-pub spent_all : (log : List Mark) → IsSpentRun (run_of_log log) → length log ≡ last_base
-spent_all log is =
+pub spent_has_all_marks : (log : List Mark) → IsSpentRun (run_of_log log) → length log ≡ last_base
+spent_has_all_marks log is =
     let all = numbers (run_of_log log) is.last (is_run_log log) is.last_is in
     let none = base_of_start (run_of_log log) (start_log log) in
     let same = ap (λ (l : List Mark). length l) (joined_log log) in

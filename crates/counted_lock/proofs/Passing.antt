@@ -311,8 +311,8 @@ gathers m u m' p ps all idle own_is is before about log f g =
     let r = fit_apart about log m.0.claims (claim_of p ∷ []) (subst (AllFit about log) claims f) in
     before about log r.0 (fit_last about log ps p g r.1.0)
 
-pub gathers_all : (m u m' : Sat) → IsIdle u → m' ≡ (doing m.0.stage (m.0.claims ++ u.0.claims), m.1) → length m'.0.claims ≡ length m.0.claims + 1
-gathers_all m u m' idle is =
+pub gathers_one_more : (m u m' : Sat) → IsIdle u → m' ≡ (doing m.0.stage (m.0.claims ++ u.0.claims), m.1) → length m'.0.claims ≡ length m.0.claims + 1
+gathers_one_more m u m' idle is =
     ap (λ (z : Sat). length z.0.claims) is ∙ (length-append m.0.claims u.0.claims ∙ ap (λ (cs : List Claim). length m.0.claims + length cs) (ap (λ (z : Sat). z.0.claims) idle))
 
 -- the first pass

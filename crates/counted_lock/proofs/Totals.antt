@@ -136,12 +136,12 @@ below_at (suc n) j = go (nat_eq j n) refl (below_at n j)
     go false is h = let a = at_one_is j n false is in
         (λ l. let b = h.0 (grind (arith, nat_tests)) in omega (arith, a, b), λ l. let b = h.1 (omega (arith, l)) in omega (arith, a, b))
 
-times_all : (about : About) (log : List Mark) (cs : List Claim) → AllFit about log cs → below about.passes (λ k. times k cs) ≡ length cs
-times_all about log [] f = below_zero about.passes
-times_all about log (c ∷ cs) f =
-    let h = times_all about log cs f.1 in let one = (below_at about.passes c.number).0 f.0.inside in let both = below_both about.passes (at_one c.number) (λ k. times k cs) in
+times_add_up : (about : About) (log : List Mark) (cs : List Claim) → AllFit about log cs → below about.passes (λ k. times k cs) ≡ length cs
+times_add_up about log [] f = below_zero about.passes
+times_add_up about log (c ∷ cs) f =
+    let h = times_add_up about log cs f.1 in let one = (below_at about.passes c.number).0 f.0.inside in let both = below_both about.passes (at_one c.number) (λ k. times k cs) in
     omega (arith, h, one, both)
 
 -- as many claims as there are passes, of which no two are of one pass: each has one
 pub times_each : (about : About) (log : List Mark) (cs : List Claim) → AllFit about log cs → ((k : ℕ) → times k cs ≤ 1) → length cs ≡ about.passes → (k : ℕ) → k < about.passes → times k cs ≡ 1
-times_each about log cs f most many = below_ones about.passes (λ k. times k cs) most (times_all about log cs f ∙ many)
+times_each about log cs f most many = below_ones about.passes (λ k. times k cs) most (times_add_up about log cs f ∙ many)

@@ -17,7 +17,7 @@ const NAP_MICROS: u64 = 200;
 /// The first pause between the tries of a step that has to stand, and the longest, in milliseconds.
 const FIRST_PAUSE: u64 = 1;
 
-const LONGEST_PAUSE: u64 = 50;
+const MAX_PAUSE: u64 = 50;
 
 /// The patience of a thread whose number isn't served yet. One that sleeps when its number comes holds all behind it, so it begins late to.
 #[derive(Drop)]
@@ -75,6 +75,6 @@ impl Pauses {
 
     pub(crate) fn sleep<T: Clock>(&mut self, rt: &T) {
         thread::sleep(rt, Duration::from_millis(self.next));
-        self.next = self.next.saturating_mul(2).min(LONGEST_PAUSE);
+        self.next = self.next.saturating_mul(2).min(MAX_PAUSE);
     }
 }

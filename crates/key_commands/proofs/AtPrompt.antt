@@ -32,7 +32,7 @@ use Rattle.key_commands.specs.Trials.{IsTrial, IsUsable}
 use Rattle.key_commands.specs.declared.refusal.Refusal.{Refusal}
 use Rattle.key_commands.specs.declared.refusal.Refusal.TheVariants.{Agent, Pinentry}
 use Rattle.key_commands.proofs.Prompts.{IsLeft, part_prompted, left_open, left_unheard}
-use Rattle.key_commands.proofs.Opening.{usable_so}
+use Rattle.key_commands.proofs.Opening.{opened_is_usable}
 
 -- ---- one prompt
 
@@ -123,4 +123,4 @@ module _ {T : Type 0} (locked_of : T → LockedKey) (opened_of : T → Option Ke
 pub opens_last : {locked : LockedKey} {pin : List ℕ} {opened : Option Key} {key : Key} → OpenedLast locked pin opened → Some key ≡ opened → OpensTo locked pin key × IsUsable key
 opens_last {locked} {pin} {key} last is =
     let same : last.key ≡ key = cc (last.is, is) in
-    let opens = subst (λ (k : Key). OpensTo locked pin k) same last.opens in (opens, usable_so opens (subst FitsFile same last.fits))
+    let opens = subst (λ (k : Key). OpensTo locked pin k) same last.opens in (opens, opened_is_usable opens (subst FitsFile same last.fits))

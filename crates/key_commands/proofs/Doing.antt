@@ -128,7 +128,7 @@ module _ {D P : Type 0} (turned : D → MarkStep → Turn → D → Type 0) (pro
     part_turns {desk} going on (still does) = part_still desk going on does
     part_turns going on (one done) = part_turned going on done
 
-    -- nothing but to want memory
+    -- nothing, or being out of memory
     module _ {A : Type 0} (part : Part A) (result : Result A Refusal) (desk : D) (ticket : Option ℕ) (going : IsOpen conn) (on : went_by result ≡ On) where
       alone_by : (events : List Event) → AreAlone events → part ticket events result ticket → DoesPart turned prompted part ticket (at_desk desk) result ticket (at_desk desk)
       alone_by events nothing does = part_still desk going on does

@@ -42,7 +42,7 @@ module _ {D P : Type 0} (turned : D → MarkStep → Turn → D → Type 0) (pro
     pub leaves_still : {before after : Option ℕ} (desk : D) → went_by result ≡ On → part before [] result after → LeavesKeys turned prompted part before conn desk prompter result after conn desk prompter
     leaves_still desk on does files side = part_still turned prompted conn (record { prompter = prompter; keys = files; dice = side }) desk going on does
 
-    -- nothing but to want memory
+    -- nothing, or being out of memory
     pub leaves_alone : (held : Option ℕ) (desk : D) → ((events : List Event) → part held events result held → went_by result ≡ On) → DoesAlone part result
         → LeavesKeys turned prompted part held conn desk prompter result held conn desk prompter
     leaves_alone held desk on alone files side =

@@ -15,7 +15,7 @@ use Rattle.assuan_server.specs.declared.errors.Code.{Code}
 use Rattle.assuan_server.specs.declared.errors.Code.TheVariants as code
 use Rattle.assuan_server.specs.declared.inquiry.Inquired.{Inquired}
 use Rattle.assuan_server.specs.declared.inquiry.Inquired.TheVariants as inquired
-use Rattle.assuan_server.proofs.Clients.{inquired_so, not_inquired}
+use Rattle.assuan_server.proofs.Clients.{inquiry_is_done, not_inquired}
 use Rattle.secret_file.proofs.Within.{file_fits}
 use Rattle.session_client.specs.Asking.{Asked, AsksClient, LeftBy}
 use Rattle.sexp_keys.specs.Key.{Key}
@@ -81,13 +81,13 @@ module _ (start now : Connection) where
 
 module _ {start now : Connection} (going : IsOpen start) where
   named : (what : Outcome) → Inquire max_key_data (inquire_text word []) (λ other. what ≡ other) start now → AsksClient connection_views word max_key_data (outcome_says what) start now
-  named what inquire = record { inquired = Asked what; result_is = refl; inquires = inquired_so word [] max_key_data start now going what inquire }
+  named what inquire = record { inquired = Asked what; result_is = refl; inquires = inquiry_is_done word [] max_key_data start now going what inquire }
 
   -- there was no memory for the bytes
   without_bytes : Inquire max_key_data (inquire_text word []) IsAtEnd start now → DoesAtClient AsksKeyData start (key_data_of inquired.NoMemory) now
   without_bytes inquire ticket files side =
       let end = some_end start.input.bytes now.input.bytes (λ rest left o. Comes max_key_data (start.reader.ahead ++ rest) inquire.took o now.reader left) inquire.gathered.read.known in
-      let asks = inquired_so word [] max_key_data start now going end.0 (as_named end.0 end.1 inquire end.2) in
+      let asks = inquiry_is_done word [] max_key_data start now going end.0 (as_named end.0 end.1 inquire end.2) in
       let stays : IsOpen now = open_at_end start now end.0 end.1 asks.left in
       record {
         events = Inquiry word [] max_key_data (Asked end.0) ∷ out_of_memory ∷ [];
@@ -130,8 +130,8 @@ module _ {wrap wrapped : List ℕ} where
   not_unwrapped why (inr says) = record { events = []; alone = nothing; does = λ held. refused says }
 
 -- the grip of a key
-pub named_so : (key : Key) (grip : Grip) → grip.0 ≡ grip_of key → DoesAlone (NamesKey key) (Ok grip)
-named_so key grip is = record { events = []; alone = nothing; does = λ held. grip_named is }
+pub names_its_grip : (key : Key) (grip : Grip) → grip.0 ≡ grip_of key → DoesAlone (NamesKey key) (Ok grip)
+names_its_grip key grip is = record { events = []; alone = nothing; does = λ held. grip_named is }
 
 pub not_named : (key : Key) → DoesAlone (NamesKey key) (Err (Agent code.NoMemory))
 not_named key = record { events = out_of_memory ∷ []; alone = memory_wanted; does = λ held. no_name_memory }

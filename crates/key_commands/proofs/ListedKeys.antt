@@ -23,16 +23,16 @@ use Rattle.key_commands.proofs.Doing.{one_call, one_call_of_memory, calls_then, 
 
 -- a listed key's file was read, and has this fault
 module _ {file : List ℕ} {start now : KeyFiles} (grip : Grip) (answer : KeyRead) (found : file_in answer ≡ Some file) (reads : DoesKeys start (Read grip answer) now) where
-  pub unlisted_so : (fault : KeyFault) → (fault ≡ NoMemory) ⊎ FileSays file (Err fault) → DoesKeyCalls (ReadsListed grip) start (unlisted fault) now
-  unlisted_so NoMemory why = one_call_of_memory (Read grip answer) reads (λ held. no_memory found)
-  unlisted_so InvSexp (inl memory) = cc memory
-  unlisted_so InvSexp (inr says) = one_call (Read grip answer) reads (λ held. faulty found says)
-  unlisted_so BadSecKey (inl memory) = cc memory
-  unlisted_so BadSecKey (inr says) = one_call (Read grip answer) reads (λ held. faulty found says)
-  unlisted_so Shadowed (inl memory) = cc memory
-  unlisted_so Shadowed (inr says) = one_call (Read grip answer) reads (λ held. faulty found says)
-  unlisted_so NotSupported (inl memory) = cc memory
-  unlisted_so NotSupported (inr says) = one_call (Read grip answer) reads (λ held. faulty found says)
+  pub fault_is_unlisted : (fault : KeyFault) → (fault ≡ NoMemory) ⊎ FileSays file (Err fault) → DoesKeyCalls (ReadsListed grip) start (unlisted fault) now
+  fault_is_unlisted NoMemory why = one_call_of_memory (Read grip answer) reads (λ held. no_memory found)
+  fault_is_unlisted InvSexp (inl memory) = cc memory
+  fault_is_unlisted InvSexp (inr says) = one_call (Read grip answer) reads (λ held. faulty found says)
+  fault_is_unlisted BadSecKey (inl memory) = cc memory
+  fault_is_unlisted BadSecKey (inr says) = one_call (Read grip answer) reads (λ held. faulty found says)
+  fault_is_unlisted Shadowed (inl memory) = cc memory
+  fault_is_unlisted Shadowed (inr says) = one_call (Read grip answer) reads (λ held. faulty found says)
+  fault_is_unlisted NotSupported (inl memory) = cc memory
+  fault_is_unlisted NotSupported (inr says) = one_call (Read grip answer) reads (λ held. faulty found says)
 
 -- the grips of these bytes
 abbrev pub grips_of : List (List ℕ) → List Grip

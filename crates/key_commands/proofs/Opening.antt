@@ -8,16 +8,16 @@ use Rattle.key_commands.specs.Passphrases.{OpensBy}
 use Rattle.key_commands.specs.Trials.{IsUsable}
 
 module _ (locked : LockedKey) (pass : List ℕ) where
-  pub opens_so : (key : Key) → (Opens key ≡ NoMemory) ⊎ AnswersOpening locked pass (Opens key) → OpensTo locked pass key
-  opens_so key (inl memory) = cc memory
-  opens_so key (inr (inl found)) = let same : found.0 ≡ key = cc found.2 in rw (← same) found.1
-  opens_so key (inr (inr none)) = cc none.1
+  pub opens_to_its_key : (key : Key) → (Opens key ≡ NoMemory) ⊎ AnswersOpening locked pass (Opens key) → OpensTo locked pass key
+  opens_to_its_key key (inl memory) = cc memory
+  opens_to_its_key key (inr (inl found)) = let same : found.0 ≡ key = cc found.2 in rw (← same) found.1
+  opens_to_its_key key (inr (inr none)) = cc none.1
 
-  pub stays_so : (BadPassphrase ≡ NoMemory) ⊎ AnswersOpening locked pass BadPassphrase → ¬ OpensBy locked pass
-  stays_so (inl memory) = cc memory
-  stays_so (inr (inl found)) = cc found.2
-  stays_so (inr (inr none)) = λ by. none.0 by.0 by.1
+  pub stays_locked : (BadPassphrase ≡ NoMemory) ⊎ AnswersOpening locked pass BadPassphrase → ¬ OpensBy locked pass
+  stays_locked (inl memory) = cc memory
+  stays_locked (inr (inl found)) = cc found.2
+  stays_locked (inr (inr none)) = λ by. none.0 by.0 by.1
 
 -- a key that was opened is clear
-pub usable_so : {locked : LockedKey} {pass : List ℕ} {key : Key} → OpensTo locked pass key → FitsFile key → IsUsable key
-usable_so opens fits = record { clear = rw opens.clear refl; fits = fits }
+pub opened_is_usable : {locked : LockedKey} {pass : List ℕ} {key : Key} → OpensTo locked pass key → FitsFile key → IsUsable key
+opened_is_usable opens fits = record { clear = rw opens.clear refl; fits = fits }

@@ -36,8 +36,8 @@ padding_true : (count : ℕ) → count ≤ 7 → are_padding (replicate count 0)
 padding_true count few = and_from _ _ (lt-ltb (length (replicate count 0)) 8 (rw (zeros_len count) (omega arith))) (all_zero count)
 
 -- the expression is read at the front of the bytes
-reads_so : (bytes expression : List ℕ) (zeros : ℕ) (tree : Sexp) → bytes ≡ expression ++ replicate zeros 0 → IsReadable expression tree → Reads bytes (Ok (tree, length expression))
-reads_so bytes expression zeros tree parts read = (
+reads_at_front : (bytes expression : List ℕ) (zeros : ℕ) (tree : Sexp) → bytes ≡ expression ++ replicate zeros 0 → IsReadable expression tree → Reads bytes (Ok (tree, length expression))
+reads_at_front bytes expression zeros tree parts read = (
   omega (arith, ap length parts, length-append expression (replicate zeros 0)),
   subst (λ (text : List ℕ). IsReadable text tree) (sym (ap (take (length expression)) parts ∙ take-append_seam expression (replicate zeros 0))) read,
 )
@@ -48,7 +48,7 @@ module _ (bytes : List ℕ) (result : Result (Sexp × ℕ) SexpFault)
   -- nothing was read
   pub none_read : (fault : SexpFault) → result ≡ Err fault → fault ≢ NoMemory → (tree : Sexp) → ArePadded bytes tree → ⊥
   none_read fault is not tree p =
-      elim (only (Ok (tree, length p.expression)) (reads_so bytes p.expression p.zeros tree p.parts p.read)) [
+      elim (only (Ok (tree, length p.expression)) (reads_at_front bytes p.expression p.zeros tree p.parts p.read)) [
         | inl memory ↦ not (cc (is, memory))
         | inr other ↦ cc (is, other)
       ]
@@ -56,7 +56,7 @@ module _ (bytes : List ℕ) (result : Result (Sexp × ℕ) SexpFault)
   -- an expression was read, and no padding is behind it
   pub other_read : (read : Sexp) (len : ℕ) → result ≡ Ok (read, len) → are_padding (drop len bytes) ≡ false → (tree : Sexp) → ArePadded bytes tree → ⊥
   other_read read len is not tree p =
-      elim (only (Ok (tree, length p.expression)) (reads_so bytes p.expression p.zeros tree p.parts p.read)) [
+      elim (only (Ok (tree, length p.expression)) (reads_at_front bytes p.expression p.zeros tree p.parts p.read)) [
         | inl memory ↦ cc (is, memory)
         | inr same ↦
             let pair : (read, len) ≡ (tree, length p.expression) = cc (is, same) in

@@ -102,7 +102,7 @@ pub data Locks (key : Key) (held : Option ℕ) : List Event → Result LockedKey
 abbrev pub OpensBy : LockedKey → List ℕ → Type 0
 OpensBy locked pass = (key : Key) × OpensTo locked pass key
 
--- A passphrase is tried on it: the clear key, or none. No want of memory is taken for a passphrase that doesn't open it.
+-- A passphrase is tried on it: the clear key, or none. Being out of memory is never taken for a passphrase that doesn't open it.
 pub data Tries (locked : LockedKey) (pass : List ℕ) (held : Option ℕ) : List Event → Result (Option OpenedKey) Refusal → Option ℕ → Type 0 where
   opens : {key : Key} → OpensTo locked pass key → Tries locked pass held [] (Ok (Some (opened_by key pass))) held
   stays : ¬ OpensBy locked pass → Tries locked pass held [] (Ok None) held

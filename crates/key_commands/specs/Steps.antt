@@ -45,12 +45,12 @@ pub data DoesTurns {D : Type 0} (turned : D → MarkStep → Turn → D → Type
   still : part before [] result after → DoesTurns turned part before desk result after desk
   one : {now : D} → DoesTurn turned part before desk result after now → DoesTurns turned part before desk result after now
 
--- events that are none, or a want of memory
+-- no events, or that there was no memory
 pub data AreAlone : List Event → Type 0 where
   nothing : AreAlone []
   memory : AreAlone (out_of_memory ∷ [])
 
--- a part in which nothing is done but to want memory, whatever ticket is held
+-- a part in which nothing is done, but that there may be no memory, whatever ticket is held
 pub record DoesAlone {A : Type 0} (part : Part A) (result : Result A Refusal) : Type 0 where
   pub events : List Event
   pub alone : AreAlone events

@@ -3,7 +3,7 @@ use Rattle.std.proofs.Common.{◌≡◌, suc, ◌+◌, ◌-◌, ℕ, Bool, true,
 use Rattle.std.specs.Prelude.{not, ◌||◌}
 use Rattle.std.specs.List.{flat_map, join_with_byte, list_any, position_or_len, prefix_len, take_while}
 use Rattle.std.proofs.lemmas.List.{length-append}
-use Rattle.key_lines.specs.Lines.{text_of}
+use Rattle.key_lines.specs.Lines.{line_text}
 use Rattle.key_lines.specs.KeyItem.{is_more}
 
 step : (test : List ℕ → Bool) (x y : List ℕ) (xs ys : List (List ℕ)) → list_any test (x ∷ xs) ≡ false → (test x ≡ false) × (list_any test xs ≡ false)
@@ -32,11 +32,11 @@ drop-front (x ∷ xs) ys = drop-front xs ys
 
 -- what lines that go on add to a value
 abbrev pub joined : List (List ℕ) → List ℕ
-joined lines = flat_map (λ line. 32 ∷ text_of line) lines
+joined lines = flat_map (λ line. 32 ∷ line_text line) lines
 
-pub join-is : (value : List ℕ) (lines : List (List ℕ)) → join_with_byte 32 (value ∷ map text_of lines) ≡ value ++ joined lines
+pub join-is : (value : List ℕ) (lines : List (List ℕ)) → join_with_byte 32 (value ∷ map line_text lines) ≡ value ++ joined lines
 join-is value [] = sym (append-nil value)
-join-is value (line ∷ lines) = ap (λ (rest : List ℕ). value ++ 32 ∷ rest) (join-is (text_of line) lines)
+join-is value (line ∷ lines) = ap (λ (rest : List ℕ). value ++ 32 ∷ rest) (join-is (line_text line) lines)
 
 -- a line that goes on is the first of those that do
 pub more-step : (line : List ℕ) (lines : List (List ℕ)) → is_more line ≡ true → take_while is_more (line ∷ lines) ≡ line ∷ take_while is_more lines
@@ -63,8 +63,8 @@ take-bytes file front rest e =
     ap (λ n. take n file) long ∙ ap (λ (t : List ℕ). take (length front) t) e ∙ front-of front rest
 
 -- one line more of a value
-pub add-line : (value text line : List ℕ) (lines : List (List ℕ)) → text ≡ text_of line → ((value ++ 32 ∷ []) ++ text) ++ joined lines ≡ value ++ joined (line ∷ lines)
+pub add-line : (value text line : List ℕ) (lines : List (List ℕ)) → text ≡ line_text line → ((value ++ 32 ∷ []) ++ text) ++ joined lines ≡ value ++ joined (line ∷ lines)
 add-line value text line lines is =
     ap (λ (t : List ℕ). ((value ++ 32 ∷ []) ++ t) ++ joined lines) is
-    ∙ append_assoc (value ++ 32 ∷ []) (text_of line) (joined lines)
-    ∙ append_assoc value (32 ∷ []) (text_of line ++ joined lines)
+    ∙ append_assoc (value ++ 32 ∷ []) (line_text line) (joined lines)
+    ∙ append_assoc value (32 ∷ []) (line_text line ++ joined lines)

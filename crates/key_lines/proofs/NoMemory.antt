@@ -3,7 +3,7 @@ use Rattle.std.proofs.Common.{◌≡◌, inl, inr, ℕ, List, length, Some, None
 use Rattle.std.specs.Prelude.{◌==◌}
 use Rattle.std.proofs.lemmas.Bool.{cond_both}
 use Rattle.sexp_canonical.specs.Spelling.{most_depth}
-use Rattle.sexp_advanced.specs.Bytes.{is_blank, without_front}
+use Rattle.sexp_advanced.specs.Bytes.{is_space_byte, without_front}
 use Rattle.sexp_advanced.specs.Signs.{Found, sign, broken_atom, ended, no_item}
 use Rattle.sexp_advanced.specs.Reading.{fault_of, place_of}
 use Rattle.sexp_advanced.specs.declared.signs.Sign.TheVariants.{Open, Close, Atom}
@@ -19,5 +19,5 @@ never place lists_open ended = λ e. absurd cc
 never place lists_open no_item = λ e. absurd cc
 
 pub no-memory : (value : List ℕ) → IsTextFault value NoMemory → ⊥
-no-memory value (inl h) = never (place_of value (without_front is_blank h.rest)) (length h.lists) h.found h.is
+no-memory value (inl h) = never (place_of value (without_front is_space_byte h.rest)) (length h.lists) h.found h.is
 no-memory value (inr h) = let e = h.is in absurd (cc e)

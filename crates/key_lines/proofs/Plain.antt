@@ -13,8 +13,8 @@ use Rattle.sexp_canonical.specs.View.{tree_of}
 use Rattle.sexp_canonical.specs.declared.tree.Sexp.{Sexp}
 use Rattle.sexp_advanced.specs.Bytes.{is_token_start, is_token_byte, is_token_mark}
 use Rattle.sexp_advanced.specs.Writing.{advanced, advanced_of, row_text, spaced_row, hex_glyph, hex_pairs, is_token, are_token_bytes}
-use Rattle.key_lines.specs.Lines.{last_byte, without_last, without_cr, text_of}
-use Rattle.key_lines.specs.Items.{form_of, form_of_text, value_in}
+use Rattle.key_lines.specs.Lines.{last_byte, without_last, without_cr, line_text}
+use Rattle.key_lines.specs.Items.{line_form, form_of_text, value_in}
 use Rattle.key_lines.specs.declared.forms.LineForm.TheVariants.{Key}
 
 -- neither LF nor CR
@@ -120,7 +120,7 @@ plain-last bytes some plain =
 no_cr : (byte : ℕ) → is_plain byte ≡ true → (byte == 13) ≡ false
 no_cr byte plain = isnt (byte == 13) (λ e. let at : is_plain byte ≡ is_plain 13 = ap is_plain (eqb-true byte 13 e) in let f : true ≡ false = sym plain ∙ at in absurd (cc f))
 
-pub text-of-line : (text : List ℕ) → 0 < length text → are_plain text ≡ true → text_of (text ++ 10 ∷ []) ≡ text
+pub text-of-line : (text : List ℕ) → 0 < length text → are_plain text ≡ true → line_text (text ++ 10 ∷ []) ≡ text
 text-of-line text some plain =
     let line = text ++ 10 ∷ [] in
     let long : length line - 1 ≡ length text = omega (arith, length-append text (10 ∷ [])) in
@@ -130,11 +130,11 @@ text-of-line text some plain =
     ∙ ap without_cr rest
     ∙ ap (λ b. if b then without_last text else text) (no_cr (last_byte text) (plain-last text some plain))
 
-pub text-of-key : (tree : Sexp) → text_of (key_line tree) ≡ key_text tree
+pub text-of-key : (tree : Sexp) → line_text (key_line tree) ≡ key_text tree
 text-of-key tree = text-of-line (key_text tree) (omega arith) (text-plain tree)
 
-pub form-of-key : (tree : Sexp) → form_of (key_line tree) ≡ Key
+pub form-of-key : (tree : Sexp) → line_form (key_line tree) ≡ Key
 form-of-key tree = ap form_of_text (text-of-key tree)
 
-pub value-of-key : (tree : Sexp) → value_in (text_of (key_line tree)) ≡ 32 ∷ advanced_of tree
+pub value-of-key : (tree : Sexp) → value_in (line_text (key_line tree)) ≡ 32 ∷ advanced_of tree
 value-of-key tree = ap value_in (text-of-key tree)

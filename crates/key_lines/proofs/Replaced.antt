@@ -9,12 +9,12 @@ use Rattle.sexp_canonical.specs.Spelling.{most_bytes, spelling_of}
 use Rattle.sexp_canonical.specs.Tree.{Tree, leaf, branch}
 use Rattle.sexp_canonical.specs.View.{tree_of}
 use Rattle.sexp_canonical.specs.declared.tree.Sexp.{Sexp}
-use Rattle.sexp_advanced.specs.Bytes.{is_blank as is_between}
+use Rattle.sexp_advanced.specs.Bytes.{is_space_byte as is_between}
 use Rattle.sexp_advanced.specs.Reading.{Reads, signs, Begins}
 use Rattle.sexp_advanced.specs.Writing.{advanced_of}
-use Rattle.key_lines.specs.Lines.{lines_of, text_of}
-use Rattle.key_lines.specs.Items.{form_of, is_key, goes_on, value_in}
-use Rattle.key_lines.specs.Faults.{first_fault, line_fault}
+use Rattle.key_lines.specs.Lines.{lines_of, line_text}
+use Rattle.key_lines.specs.Items.{line_form, is_key, goes_on, value_in}
+use Rattle.key_lines.specs.Faults.{first_line_fault, line_fault}
 use Rattle.key_lines.specs.KeyItem.{is_key_line, is_more, has_key, from_key, key_value, before_key, after_key, after_item, value_of}
 use Rattle.key_lines.specs.KeyText.{IsKeyText}
 use Rattle.key_lines.specs.KeyFile.{KeyFile, IsKeyFile, with_key}
@@ -73,17 +73,17 @@ first-of test (x ∷ xs) some =
 
 -- ---- the lines that go on
 
-taken-go-on : (lines : List (List ℕ)) → list_all goes_on (map form_of (take (prefix_len is_more lines) lines)) ≡ true
+taken-go-on : (lines : List (List ℕ)) → list_all goes_on (map line_form (take (prefix_len is_more lines) lines)) ≡ true
 taken-go-on [] = refl
 taken-go-on (line ∷ lines) =
-    elim (is_more line) as (λ b. is_more line ≡ b → list_all goes_on (map form_of (take (prefix_len is_more (line ∷ lines)) (line ∷ lines))) ≡ true) [
+    elim (is_more line) as (λ b. is_more line ≡ b → list_all goes_on (map line_form (take (prefix_len is_more (line ∷ lines)) (line ∷ lines))) ≡ true) [
       | true ↦ λ e.
           let one : 1 + prefix_len is_more lines ≡ suc (prefix_len is_more lines) = omega arith in
           let at : prefix_len is_more (line ∷ lines) ≡ suc (prefix_len is_more lines) = ap (λ b. cond b (1 + prefix_len is_more lines) 0) e ∙ one in
-          ap (λ n. list_all goes_on (map form_of (take n (line ∷ lines)))) at
-          ∙ ap (λ b. b && list_all goes_on (map form_of (take (prefix_len is_more lines) lines))) e
+          ap (λ n. list_all goes_on (map line_form (take n (line ∷ lines)))) at
+          ∙ ap (λ b. b && list_all goes_on (map line_form (take (prefix_len is_more lines) lines))) e
           ∙ taken-go-on lines
-      | false ↦ λ e. ap (λ n. list_all goes_on (map form_of (take (cond n (1 + prefix_len is_more lines) 0) (line ∷ lines)))) e
+      | false ↦ λ e. ap (λ n. list_all goes_on (map line_form (take (cond n (1 + prefix_len is_more lines) 0) (line ∷ lines)))) e
     ] refl
 
 rest-stops : (lines : List (List ℕ)) → prefix_len is_more (drop (prefix_len is_more lines) lines) ≡ 0
@@ -136,7 +136,7 @@ record HasLines (file new : List ℕ) (tree : Sexp) : Type 0 where
   lines : lines_of new ≡ passed ++ key_line tree ∷ rest
   none : list_any is_key_line passed ≡ false
   stops : prefix_len is_more rest ≡ 0
-  formed : first_fault [] (map form_of passed ++ Key ∷ map form_of rest) ≡ None
+  formed : first_line_fault [] (map line_form passed ++ Key ∷ map line_form rest) ≡ None
   before : before_key file ≡ concat passed
   after : after_key file ≡ concat rest
 
@@ -147,8 +147,8 @@ only_key Item e = absurd cc
 only_key Key e = refl
 only_key NoForm e = absurd cc
 
-key-form : (line : List ℕ) → is_key_line line ≡ true → form_of line ≡ Key
-key-form line e = only_key (form_of line) e
+key-form : (line : List ℕ) → is_key_line line ≡ true → line_form line ≡ Key
+key-form line e = only_key (line_form line) e
 
 new-lines : (file : List ℕ) (tree : Sexp) → line_fault file ≡ None → has_key file ≡ true → HasLines file (before_key file ++ (key_line tree ++ after_key file)) tree
 new-lines file tree formed has =
@@ -172,12 +172,12 @@ new-lines file tree formed has =
           (line-first (key_line tree) (after_key file) line ∙ ap (λ (ls : List (List ℕ)). key_line tree ∷ ls) (ap lines_of after ∙ last));
       none = i.none;
       stops = rest-stops i.rest;
-      formed = well-without (map form_of passed) (map form_of more) (map form_of rest) (taken-go-on i.rest)
-          (sym (ap (λ (ls : List (List ℕ)). first_fault [] (map form_of ls)) (i.parts ∙ ap (λ (ls : List (List ℕ)). passed ++ i.first ∷ ls) cut)
-          ∙ ap (λ (fs : List LineForm). first_fault [] fs)
-          (map-append form_of passed (i.first ∷ (more ++ rest))
-          ∙ ap (λ (f : LineForm). map form_of passed ++ f ∷ map form_of (more ++ rest)) (key-form i.first i.passes)
-          ∙ ap (λ (fs : List LineForm). map form_of passed ++ Key ∷ fs) (map-append form_of more rest)))
+      formed = well-without (map line_form passed) (map line_form more) (map line_form rest) (taken-go-on i.rest)
+          (sym (ap (λ (ls : List (List ℕ)). first_line_fault [] (map line_form ls)) (i.parts ∙ ap (λ (ls : List (List ℕ)). passed ++ i.first ∷ ls) cut)
+          ∙ ap (λ (fs : List LineForm). first_line_fault [] fs)
+          (map-append line_form passed (i.first ∷ (more ++ rest))
+          ∙ ap (λ (f : LineForm). map line_form passed ++ f ∷ map line_form (more ++ rest)) (key-form i.first i.passes)
+          ∙ ap (λ (fs : List LineForm). map line_form passed ++ Key ∷ fs) (map-append line_form more rest)))
           ∙ formed);
       before = refl;
       after = after;
@@ -193,12 +193,12 @@ has-key file new tree h again short =
     let from : from_key new ≡ line ∷ h.rest =
     ap (λ n. drop n (lines_of new)) place ∙ ap (λ (ls : List (List ℕ)). drop (length h.passed) ls) h.lines ∙ drop-front h.passed (line ∷ h.rest) in
     let value : key_value new ≡ 32 ∷ advanced_of tree =
-    ap value_of from ∙ ap (λ n. join_with_byte 32 (value_in (text_of line) ∷ map text_of (take n h.rest))) h.stops ∙ value-of-key tree in
+    ap value_of from ∙ ap (λ n. join_with_byte 32 (value_in (line_text line) ∷ map line_text (take n h.rest))) h.stops ∙ value-of-key tree in
     record {
       item = record {
-        formed = ap (λ (ls : List (List ℕ)). first_fault [] (map form_of ls)) h.lines
-            ∙ ap (λ (fs : List LineForm). first_fault [] fs)
-            (map-append form_of h.passed (line ∷ h.rest) ∙ ap (λ (f : LineForm). map form_of h.passed ++ f ∷ map form_of h.rest) (form-of-key tree))
+        formed = ap (λ (ls : List (List ℕ)). first_line_fault [] (map line_form ls)) h.lines
+            ∙ ap (λ (fs : List LineForm). first_line_fault [] fs)
+            (map-append line_form h.passed (line ∷ h.rest) ∙ ap (λ (f : LineForm). map line_form h.passed ++ f ∷ map line_form h.rest) (form-of-key tree))
             ∙ h.formed;
         has = ap (λ (ls : List (List ℕ)). list_any is_key_line ls) h.lines ∙ list_any-append is_key_line h.passed (line ∷ h.rest)
             ∙ ap (λ b. b || list_any is_key_line (line ∷ h.rest)) h.none ∙ ap (λ b. b || list_any is_key_line h.rest) is;

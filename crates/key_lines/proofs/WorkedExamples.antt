@@ -6,14 +6,14 @@ use Rattle.sexp_canonical.specs.Tree.{Tree, leaf, list_of}
 use Rattle.sexp_canonical.specs.View.{tree_of}
 use Rattle.sexp_canonical.specs.Spelling.{numeral, most_bytes, spelling_of}
 use Rattle.sexp_canonical.specs.declared.tree.Sexp.{Sexp}
-use Rattle.sexp_advanced.specs.Bytes.{is_blank as is_between, hex_value, is_token_byte, is_token_start, is_token_mark, class_of}
+use Rattle.sexp_advanced.specs.Bytes.{is_space_byte as is_between, hex_value, is_token_byte, is_token_start, is_token_mark, class_of}
 use Rattle.sexp_advanced.specs.Pieces.{quoted_piece, escape, pair, pair_here, low_digit}
 use Rattle.sexp_advanced.specs.Signs.{sign, IsDelimited}
 use Rattle.sexp_advanced.specs.Reading.{signs, Begins}
 use Rattle.sexp_advanced.specs.declared.pieces.Form.TheVariants.{Hexadecimal, Quoted}
 use Rattle.sexp_advanced.specs.declared.signs.Sign.TheVariants.{Atom}
-use Rattle.key_lines.specs.Lines.{lines_of, text_of}
-use Rattle.key_lines.specs.Items.{form_of}
+use Rattle.key_lines.specs.Lines.{lines_of, line_text}
+use Rattle.key_lines.specs.Items.{line_form}
 use Rattle.key_lines.specs.Faults.{line_fault}
 use Rattle.key_lines.specs.KeyItem.{has_key, key_value, before_key, after_key}
 use Rattle.key_lines.specs.KeyFile.{IsKeyFile, with_key}
@@ -61,13 +61,13 @@ no_lines : lines_of [] ≡ []
 no_lines = refl
 
 -- one CR before the LF is of the line's end, and no other
-cr_lf : text_of (codes "a" ++ cr ++ lf) ≡ codes "a"
+cr_lf : line_text (codes "a" ++ cr ++ lf) ≡ codes "a"
 cr_lf = refl
 
-two_cr : text_of (codes "a" ++ cr ++ cr ++ lf) ≡ codes "a" ++ cr
+two_cr : line_text (codes "a" ++ cr ++ cr ++ lf) ≡ codes "a" ++ cr
 two_cr = refl
 
-cr_at_the_end : text_of (codes "a" ++ cr) ≡ codes "a" ++ cr
+cr_at_the_end : line_text (codes "a" ++ cr) ≡ codes "a" ++ cr
 cr_at_the_end = refl
 
 cr_alone : line_fault (cr ++ cr ++ lf) ≡ Some (BadLine 0)
@@ -81,13 +81,13 @@ one_lf_has_no_key : has_key lf ≡ false
 one_lf_has_no_key = refl
 
 -- blank lines and comments, which end an item
-blanks : form_of (codes " " ++ tab ++ cr ++ lf) ≡ Comment
+blanks : line_form (codes " " ++ tab ++ cr ++ lf) ≡ Comment
 blanks = refl
 
-comment : form_of (codes "#Key: a" ++ lf) ≡ Comment
+comment : line_form (codes "#Key: a" ++ lf) ≡ Comment
 comment = refl
 
-no_comment : form_of (codes " #a" ++ lf) ≡ GoesOn
+no_comment : line_form (codes " #a" ++ lf) ≡ GoesOn
 no_comment = refl
 
 comment_ends_the_item : line_fault (codes "Key: (a" ++ lf ++ codes "# c" ++ lf ++ codes " b)" ++ lf) ≡ Some (BadLine 2)
@@ -101,16 +101,16 @@ bad_line_first : line_fault (codes "KEY: a" ++ lf ++ codes "?" ++ lf ++ codes "K
 bad_line_first = refl
 
 -- a name has at most 60 bytes, and begins with a letter
-long_name : form_of (repeat 60 (codes "a") ++ codes ": b") ≡ Item
+long_name : line_form (repeat 60 (codes "a") ++ codes ": b") ≡ Item
 long_name = refl
 
-longer_name : form_of (repeat 61 (codes "a") ++ codes ": b") ≡ NoForm
+longer_name : line_form (repeat 61 (codes "a") ++ codes ": b") ≡ NoForm
 longer_name = refl
 
-digit_first : form_of (codes "1a: b") ≡ NoForm
+digit_first : line_form (codes "1a: b") ≡ NoForm
 digit_first = refl
 
-blank_before_the_colon : form_of (codes "Key : a") ≡ NoForm
+blank_before_the_colon : line_form (codes "Key : a") ≡ NoForm
 blank_before_the_colon = refl
 
 -- what follows the item stays, and so does what is before it

@@ -6,7 +6,7 @@ use Rattle.std.specs.List.{list_any, list_all, before_first, after_first}
 use Rattle.std.specs.Str.{str_eq_ignore_ascii_case}
 use Rattle.assuan_text.specs.Blanks.{is_blank}
 use Rattle.assuan_text.specs.Forms.{is_idle}
-use Rattle.key_lines.specs.Lines.{lines_of, text_of}
+use Rattle.key_lines.specs.Lines.{lines_of, line_text}
 use Rattle.key_lines.specs.declared.forms.LineForm.{LineForm}
 use Rattle.key_lines.specs.declared.forms.LineForm.TheVariants.{Comment, GoesOn, Item, Key, NoForm}
 
@@ -45,12 +45,12 @@ form_of_text text =
     else (if begins_item text then (if names_key text then Key else Item)
     else NoForm))
 
-abbrev pub form_of : List ℕ → LineForm
-form_of line = form_of_text (text_of line)
+abbrev pub line_form : List ℕ → LineForm
+line_form line = form_of_text (line_text line)
 
 -- what each line of a file is
 abbrev pub forms_of : List ℕ → List LineForm
-forms_of file = map form_of (lines_of file)
+forms_of file = map line_form (lines_of file)
 
 abbrev pub is_comment : LineForm → Bool
 is_comment Comment = true

@@ -1,14 +1,14 @@
 -- The item of a key file that has the key: its first line, and the lines that go on with it.
 use Rattle.std.specs.Prelude.{ℕ, Bool, List, [], ◌∷◌, map, drop}
 use Rattle.std.specs.List.{list_any, before_first, position_or_len, prefix_len, take_while, concat, join_with_byte}
-use Rattle.key_lines.specs.Lines.{lines_of, text_of}
-use Rattle.key_lines.specs.Items.{form_of, is_key, goes_on, value_in}
+use Rattle.key_lines.specs.Lines.{lines_of, line_text}
+use Rattle.key_lines.specs.Items.{line_form, is_key, goes_on, value_in}
 
 abbrev pub is_key_line : List ℕ → Bool
-is_key_line line = is_key (form_of line)
+is_key_line line = is_key (line_form line)
 
 abbrev pub is_more : List ℕ → Bool
-is_more line = goes_on (form_of line)
+is_more line = goes_on (line_form line)
 
 -- a file has a Key item
 abbrev pub has_key : List ℕ → Bool
@@ -21,7 +21,7 @@ from_key file = drop (position_or_len is_key_line (lines_of file)) (lines_of fil
 -- the value of an item: what stands behind the colon and on the lines that go on with it, joined by one blank each
 abbrev pub value_of : List (List ℕ) → List ℕ
 value_of [] = []
-value_of (line ∷ more) = join_with_byte 32 (value_in (text_of line) ∷ map text_of (take_while is_more more))
+value_of (line ∷ more) = join_with_byte 32 (value_in (line_text line) ∷ map line_text (take_while is_more more))
 
 -- what comes after an item
 abbrev pub after_item : List (List ℕ) → List (List ℕ)

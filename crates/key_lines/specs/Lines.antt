@@ -21,5 +21,5 @@ abbrev pub without_cr : List ℕ → List ℕ
 without_cr bytes = if last_byte bytes == 13 then without_last bytes else bytes
 
 -- the text of a line: all but the LF that ends it, and one CR before that
-abbrev pub text_of : List ℕ → List ℕ
-text_of line = if is_lf (last_byte line) then without_cr (without_last line) else line
+abbrev pub line_text : List ℕ → List ℕ
+line_text line = if is_lf (last_byte line) then without_cr (without_last line) else line

@@ -1,12 +1,12 @@
 ghost use Rattle.std.specs.Prelude.{◌≡◌, ◌||◌, not, Some, None, IfErr, OnOk, List, length};
 ghost use Rattle.std.specs.List.{list_any};
 ghost use Rattle.key_lines.specs.Items.{is_comment, is_key};
-ghost use Rattle.key_lines.specs.Faults.{line_fault, fault_of, is_in_item};
+ghost use Rattle.key_lines.specs.Faults.{line_fault, form_fault, is_in_item};
 ghost use Rattle.key_lines.specs.KeyFile.{IsFault};
 ghost use Rattle.key_lines.specs.declared.forms.LineForm.{LineForm};
 
 use crate::fault::LinesFault;
-use crate::forms::{LineForm, form_of};
+use crate::forms::{LineForm, line_form};
 use crate::lines::next_line;
 
 /// Whether each line has its form, and at most one begins a `Key`. The fault is that of the first line that has one.
@@ -19,7 +19,7 @@ pub(crate) fn check_lines(file: &[u8]) -> Result<(), LinesFault>
     let mut in_item = false;
     let mut has_key = false;
     while let Some((line, after)) = next_line(rest) {
-        let form = form_of(line);
+        let form = line_form(line);
         match form {
             LineForm::GoesOn if !in_item => return Err(LinesFault::BadLine(number)),
             LineForm::Key if has_key => return Err(LinesFault::TwoKeys(number)),

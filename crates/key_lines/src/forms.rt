@@ -2,9 +2,9 @@ ghost use Rattle.std.specs.Prelude.{◌≡◌, true, false, slice_index, MatchOp
 ghost use Rattle.std.specs.Char.{is_ascii_alphabetic};
 ghost use Rattle.std.specs.List.{list_all};
 ghost use Rattle.assuan_text.specs.Blanks.{is_blank};
-ghost use Rattle.key_lines.specs.Items.{is_name_byte, is_name, begins_item, name_in, names_key, value_in, form_of, form_of_text, is_key, goes_on};
+ghost use Rattle.key_lines.specs.Items.{is_name_byte, is_name, begins_item, name_in, names_key, value_in, line_form, form_of_text, is_key, goes_on};
 
-use crate::lines::{len_before, text_of};
+use crate::lines::{len_before, line_text};
 use assuan_text::{is_blank, is_idle};
 
 /// The longest name of an item, in bytes.
@@ -42,10 +42,10 @@ impl LineForm {
 }
 
 /// What the line is, by its text.
-pub(crate) fn form_of(line: &[u8]) -> LineForm
-    ensures { result ≡ form_of line.now }
+pub(crate) fn line_form(line: &[u8]) -> LineForm
+    ensures { result ≡ line_form line.now }
 {
-    form_of_text(text_of(line))
+    form_of_text(line_text(line))
 }
 
 fn form_of_text(text: &[u8]) -> LineForm

@@ -3,8 +3,8 @@ ghost use Rattle.std.specs.List.{concat};
 ghost use Rattle.key_lines.specs.Lines.{lines_of};
 ghost use Rattle.key_lines.specs.KeyItem.{has_key, before_key, from_key, value_of, after_item};
 
-use crate::forms::{form_of, value_in};
-use crate::lines::{next_line, text_of};
+use crate::forms::{line_form, value_in};
+use crate::lines::{line_text, next_line};
 use sexp_canonical::Bytes;
 use std::alloc::{AllocError, Global};
 
@@ -15,7 +15,7 @@ pub(crate) fn cut_at_key(file: &[u8]) -> Option<(&[u8], &[u8])>
 {
     let mut rest = file;
     while let Some((line, after)) = next_line(rest) {
-        if form_of(line).is_key() {
+        if line_form(line).is_key() {
             return Some((&file[..file.len() - rest.len()], rest));
         }
         rest = after;
@@ -32,14 +32,14 @@ pub(crate) fn item_at(alloc: Global, bytes: &[u8]) -> Result<(Bytes, &[u8]), All
     let Some((line, after)) = next_line(bytes) else {
         return Ok((value, bytes));
     };
-    value.extend_from_slice(value_in(text_of(line)))?;
+    value.extend_from_slice(value_in(line_text(line)))?;
     let mut rest = after;
     while let Some((line, after)) = next_line(rest) {
-        if !form_of(line).goes_on() {
+        if !line_form(line).goes_on() {
             return Ok((value, rest));
         }
         value.extend_from_slice(b" ")?;
-        value.extend_from_slice(text_of(line))?;
+        value.extend_from_slice(line_text(line))?;
         rest = after;
     }
     Ok((value, rest))

@@ -1,7 +1,7 @@
 ghost use Rattle.std.specs.Prelude.{◌≡◌, ◌==◌, ◌+◌, ◌<◌, ◌≤◌, [], ◌∷◌, ◌++◌, length, MatchOption, min};
 ghost use Rattle.std.specs.List.{position_or_len};
 ghost use Rattle.assuan_text.specs.LineEnds.{is_lf};
-ghost use Rattle.key_lines.specs.Lines.{lines_of, without_cr, text_of};
+ghost use Rattle.key_lines.specs.Lines.{lines_of, without_cr, line_text};
 
 /// The first line, with its end, and what comes after it.
 pub(crate) fn next_line(bytes: &[u8]) -> Option<(&[u8], &[u8])>
@@ -31,8 +31,8 @@ pub(crate) fn len_before(mark: u8, bytes: &[u8]) -> usize
 }
 
 /// The text of a line: all but its end.
-pub(crate) fn text_of(line: &[u8]) -> &[u8]
-    ensures { result.now ≡ text_of line.now }
+pub(crate) fn line_text(line: &[u8]) -> &[u8]
+    ensures { result.now ≡ line_text line.now }
 {
     match line {
         [text @ .., b'\n'] => without_cr(text),

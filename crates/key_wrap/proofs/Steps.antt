@@ -58,10 +58,10 @@ wrap_more key check next t i now r whole lt n e h =
     ∙ ap (wrapping key check (t + i) (take i now)) (sym (drop_next now i lt))
     ∙ h)
 
-pub wrap_all : (key check : List ℕ) (t i : ℕ) (now : List (List ℕ)) (whole : Registers) → length now ≤ i
+pub wrapped_at_end : (key check : List ℕ) (t i : ℕ) (now : List (List ℕ)) (whole : Registers) → length now ≤ i
     → wrapping key check t (take i now) (drop i now) ≡ whole → record { check = check; blocks = now } ≡ whole
 unfolding wrap_pass
-wrap_all key check t i now whole le h =
+wrapped_at_end key check t i now whole le h =
     let f : List (List ℕ) → Registers = λ bs. record { check = check; blocks = bs } in
     ap f (sym (append-nil now) ∙ ap (λ d. d ++ []) (sym (take_all i now le)))
     ∙ ap (wrapping key check t (take i now)) (sym (drop_all i now le))

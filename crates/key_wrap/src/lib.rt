@@ -1,4 +1,7 @@
 //! The key wrap of RFC 3394 with AES-128 and the default initial value.
+//!
+//! Begin with [`wrap`] and [`unwrap`]. Each is exactly the standard's, what was wrapped comes back ([`unwrapping_undoes_wrapping`]), and a
+//! wrong length and a wrong check are told apart ([`WrapFault`]). The definitions stand in `specs/KeyWrap`.
 #![tactic(auto)]
 
 ghost use Rattle.std.specs.Prelude.{◌≡◌, ◌≢◌, ◌⊎◌, ℕ, ◌+◌, ◌*◌, ◌/◌, ◌-◌, ◌%◌, ◌≤◌, ◌↔◌, List, true, false, length, IfOk, MatchResult, IsTrue};

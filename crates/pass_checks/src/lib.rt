@@ -1,5 +1,7 @@
 //! How good a passphrase is: the check of a new one, and the number that a pinentry's quality bar shows. The rules are those of
 //! gpg-agent's options `--min-passphrase-len` and `--min-passphrase-nonalpha`; the number is this project's own.
+//!
+//! Begin with [`meets`] and [`quality`]. Both are exactly what their clauses say, which need no definitions.
 #![tactic(auto)]
 
 ghost use Rattle.std.specs.Prelude.{◌≡◌, ◌≤◌, ◌*◌, ◌↔◌, IsTrue, not, length, count_by, min, pos};

@@ -1,46 +1,46 @@
--- A text repeated without end.
+-- A text copies_of without end.
 use Rattle.std.proofs.Common.{◌≡◌, ℕ, zero, suc, ◌+◌, ◌-◌, ◌*◌, ◌/◌, ◌%◌, ◌<◌, ◌≤◌, List, [], ◌∷◌, ◌++◌, length, get_or, slice_index, take, refl, ap, ap₂, ◌∙◌, sym, arith, append_assoc, add-zero}
 use native.Mathlib.Nat.{div-add-mod', mul-mod_left, mul_assoc, mul-add-mod_self_left}
 use Rattle.std.proofs.lemmas.List.FromFn.{take-map-range_with_len, map-range_with_len_more, fill_by_all, length-map-range_with_len}
 use Rattle.std.proofs.lemmas.List.{append-nil, length-append}
-use Rattle.s2k_derive.specs.S2k.{repeated}
+use Rattle.s2k_derive.specs.S2k.{copies_of}
 
 -- one place
 abbrev pub at : List ℕ → ℕ → ℕ
 at text i = slice_index text (i % length text)
 
-pub take-repeated : (text : List ℕ) (m n : ℕ) → n ≤ m → take n (repeated text m) ≡ repeated text n
-unfolding repeated
+pub take-repeated : (text : List ℕ) (m n : ℕ) → n ≤ m → take n (copies_of text m) ≡ copies_of text n
+unfolding copies_of
 take-repeated text m n h = take-map-range_with_len (at text) 0 m n h
 
-repeated-suc : (text : List ℕ) (n : ℕ) → repeated text (n + 1) ≡ repeated text n ++ at text n ∷ []
-unfolding repeated
-repeated-suc text n = map-range_with_len_more (at text) 0 n n (omega arith)
+copies_of-suc : (text : List ℕ) (n : ℕ) → copies_of text (n + 1) ≡ copies_of text n ++ at text n ∷ []
+unfolding copies_of
+copies_of-suc text n = map-range_with_len_more (at text) 0 n n (omega arith)
 
-pub repeated-zero : (text : List ℕ) → repeated text 0 ≡ []
-unfolding repeated
-repeated-zero text = refl
+pub copies_of-zero : (text : List ℕ) → copies_of text 0 ≡ []
+unfolding copies_of
+copies_of-zero text = refl
 
-pub length-repeated : (text : List ℕ) (n : ℕ) → length (repeated text n) ≡ n
-unfolding repeated
+pub length-repeated : (text : List ℕ) (n : ℕ) → length (copies_of text n) ≡ n
+unfolding copies_of
 length-repeated text n = length-map-range_with_len (at text) 0 n
 
 -- whole copies, and what follows
-pub repeated-add : (text : List ℕ) (a n : ℕ) → ((i : ℕ) → (a + i) % length text ≡ i % length text)
-    → repeated text (a + n) ≡ repeated text a ++ repeated text n
-repeated-add text a zero h = ap (repeated text) (add-zero a) ∙ sym (append-nil (repeated text a)) ∙ ap (λ t. repeated text a ++ t) (sym (repeated-zero text))
-repeated-add text a (suc n) h =
+pub copies_of-add : (text : List ℕ) (a n : ℕ) → ((i : ℕ) → (a + i) % length text ≡ i % length text)
+    → copies_of text (a + n) ≡ copies_of text a ++ copies_of text n
+copies_of-add text a zero h = ap (copies_of text) (add-zero a) ∙ sym (append-nil (copies_of text a)) ∙ ap (λ t. copies_of text a ++ t) (sym (copies_of-zero text))
+copies_of-add text a (suc n) h =
     let e : a + suc n ≡ a + n + 1 = omega arith in
     let f : suc n ≡ n + 1 = omega arith in
-    ap (repeated text) e
-    ∙ repeated-suc text (a + n)
-    ∙ ap₂ (λ t b. t ++ b ∷ []) (repeated-add text a n h) (ap (slice_index text) (h n))
-    ∙ append_assoc (repeated text a) (repeated text n) (at text n ∷ [])
-    ∙ ap (λ t. repeated text a ++ t) (sym (repeated-suc text n) ∙ ap (repeated text) (sym f))
+    ap (copies_of text) e
+    ∙ copies_of-suc text (a + n)
+    ∙ ap₂ (λ t b. t ++ b ∷ []) (copies_of-add text a n h) (ap (slice_index text) (h n))
+    ∙ append_assoc (copies_of text a) (copies_of text n) (at text n ∷ [])
+    ∙ ap (λ t. copies_of text a ++ t) (sym (copies_of-suc text n) ∙ ap (copies_of text) (sym f))
 
 -- what the loop has written
-pub written : (text s : List ℕ) (n : ℕ) → length s ≡ n → ((k : ℕ) → k < n → get_or s k 0 ≡ at text k) → s ≡ repeated text n
-unfolding repeated
+pub written : (text s : List ℕ) (n : ℕ) → length s ≡ n → ((k : ℕ) → k < n → get_or s k 0 ≡ at text k) → s ≡ copies_of text n
+unfolding copies_of
 written text s n h each = fill_by_all (at text) s n 0 h each
 
 -- ---- what is fed to the hash
@@ -52,48 +52,48 @@ whole size len =
     rw e (mul-mod_left (size / len) len)
 
 repeated_more : (text : List ℕ) (p k n : ℕ) → p % length text ≡ 0
-    → repeated text (p * k + n) ≡ repeated text (p * k) ++ repeated text n
+    → copies_of text (p * k + n) ≡ copies_of text (p * k) ++ copies_of text n
 repeated_more text p k n h =
     let len = length text in
     let q = p / len in
     let e : p ≡ len * q = omega (arith, div-add-mod' p len) in
     let f : p * k ≡ len * (q * k) = ap (λ x. x * k) e ∙ mul_assoc len q k in
-    repeated-add text (p * k) n (λ i. ap (λ x. (x + i) % len) f ∙ mul-add-mod_self_left len (q * k) i)
+    copies_of-add text (p * k) n (λ i. ap (λ x. (x + i) % len) f ∙ mul-add-mod_self_left len (q * k) i)
 
 -- a piece is the text over and over, and it ends with a whole copy of it
 pub record IsPiece (text piece : List ℕ) : Type 0 where
-  pub same : piece ≡ repeated text (length piece)
+  pub same : piece ≡ copies_of text (length piece)
   pub ends : length piece % length text ≡ 0
 
-pub piece_of : (text : List ℕ) (size : ℕ) → IsPiece text (take (size - size % length text) (repeated text size))
+pub piece_of : (text : List ℕ) (size : ℕ) → IsPiece text (take (size - size % length text) (copies_of text size))
 piece_of text size =
     let n = size - size % length text in
     let less : n ≤ size = omega arith in
     let e = take-repeated text size n less in
     let long = ap length e ∙ length-repeated text n in
-    record { same = e ∙ ap (repeated text) (sym long); ends = ap (λ k. k % length text) long ∙ whole size (length text) }
+    record { same = e ∙ ap (copies_of text) (sym long); ends = ap (λ k. k % length text) long ∙ whole size (length text) }
 
 pub piece_more : (text piece : List ℕ) (k : ℕ) → IsPiece text piece
-    → repeated text (length piece * k) ++ piece ≡ repeated text (length piece * (k + 1))
+    → copies_of text (length piece * k) ++ piece ≡ copies_of text (length piece * (k + 1))
 piece_more text piece k h =
     let e : length piece * (k + 1) ≡ length piece * k + length piece = omega arith in
-    ap (λ t. repeated text (length piece * k) ++ t) h.same
+    ap (λ t. copies_of text (length piece * k) ++ t) h.same
     ∙ sym (repeated_more text (length piece) k (length piece) h.ends)
-    ∙ ap (repeated text) (sym e)
+    ∙ ap (copies_of text) (sym e)
 
 -- the last piece makes the total up
 pub piece_last : (text piece : List ℕ) (total k : ℕ) → IsPiece text piece → 0 < length piece → k ≡ total / length piece
-    → repeated text (length piece * k) ++ take (total % length piece) piece ≡ repeated text total
+    → copies_of text (length piece * k) ++ take (total % length piece) piece ≡ copies_of text total
 piece_last text piece total k h pos e =
     let p = length piece in
     let part : total % p ≤ p = omega arith in
     let sum : p * k + total % p ≡ total = ap (λ x. p * x + total % p) e ∙ omega (arith, div-add-mod' total p) in
-    ap (λ t. repeated text (p * k) ++ t) (ap (take (total % p)) h.same ∙ take-repeated text p (total % p) part)
+    ap (λ t. copies_of text (p * k) ++ t) (ap (take (total % p)) h.same ∙ take-repeated text p (total % p) part)
     ∙ sym (repeated_more text p k (total % p) h.ends)
-    ∙ ap (repeated text) sum
+    ∙ ap (copies_of text) sum
 
 -- the piece that is cut from the copies of a salt and a passphrase
-pub piece_cut : (pass salt copies : List ℕ) → length salt ≡ 8 → copies ≡ repeated (salt ++ pass) 2048
+pub piece_cut : (pass salt copies : List ℕ) → length salt ≡ 8 → copies ≡ copies_of (salt ++ pass) 2048
     → IsPiece (salt ++ pass) (take (2048 - 2048 % (8 + length pass)) copies)
 piece_cut pass salt copies h e =
     let long : length (salt ++ pass) ≡ 8 + length pass = length-append salt pass ∙ ap (λ n. n + length pass) h in

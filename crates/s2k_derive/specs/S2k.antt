@@ -4,16 +4,16 @@ use Rattle.std.specs.List.{range_with_len}
 use Rattle.sha1.specs.Sha1.{sha1}
 use Rattle.s2k_derive.specs.declared.TheConstants.{MIN_COUNT, MAX_COUNT}
 
--- the first n bytes of a text repeated without end: at place i stands byte i modulo its length
-unfoldable pub repeated : List ℕ → ℕ → List ℕ
-repeated text n = map (λ i. slice_index text (i % length text)) (range_with_len 0 n)
+-- the first n bytes of a text copies_of without end: at place i stands byte i modulo its length
+unfoldable pub copies_of : List ℕ → ℕ → List ℕ
+copies_of text n = map (λ i. slice_index text (i % length text)) (range_with_len 0 n)
 
 -- the key: the whole copies and the part of one that make up the count are hashed, or one copy,
 -- where the count is less
 abbrev pub derived_key : List ℕ → List ℕ → ℕ → List ℕ
 derived_key pass salt count =
     let copy = salt ++ pass in
-    take 16 (sha1 (repeated copy (max count (length copy))))
+    take 16 (sha1 (copies_of copy (max count (length copy))))
 
 -- how many bytes a count stands for: one octet is coded, and any other number is itself
 abbrev pub octets : ℕ → ℕ

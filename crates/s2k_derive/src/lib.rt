@@ -1,9 +1,13 @@
 //! The key that a passphrase gives: iterated and salted S2K (RFC 4880, 3.7.1.3) with SHA-1.
+//!
+//! Begin with [`derive`]: exactly the standard's 16 bytes for a passphrase, a salt and a count of bytes to hash; [`count_of`] is the count
+//! that a written number means. No call takes memory. The pieces that are hashed are overwritten, and what the hasher keeps of its last 64
+//! bytes isn't. The definitions stand in `specs/S2k`.
 #![tactic(auto)]
 
 ghost use Rattle.std.specs.Prelude.{◌≡◌, ◌+◌, ◌<◌, ◌≤◌, ◌++◌, length, slice_index, SomeIff};
 ghost use Rattle.sha1.specs.Sha1.{sha1};
-ghost use Rattle.s2k_derive.specs.S2k.{repeated, derived_key, octets, IsAccepted};
+ghost use Rattle.s2k_derive.specs.S2k.{copies_of, derived_key, octets, IsAccepted};
 ghost use Rattle.s2k_derive.specs.declared.TheConstants.{MAX_PASSPHRASE_LEN, MAX_COUNT, PIECE_LEN};
 
 use sha1::Sha1;
@@ -59,7 +63,7 @@ pub fn derive(pass: &[u8], salt: &[u8; 8], count: u64) -> [u8; 16]
 // Salt and passphrase over and over, as far as there is room.
 fn write_copies(copies: &mut [u8; PIECE_LEN], pass: &[u8], salt: &[u8; 8])
     requires { length pass.now ≤ MAX_PASSPHRASE_LEN }
-    ensures { copies.new ≡ repeated (salt.now ++ pass.now) PIECE_LEN }
+    ensures { copies.new ≡ copies_of (salt.now ++ pass.now) PIECE_LEN }
 {
     let copy_len = SALT_LEN + pass.len();
     for (i, byte) in copies.iter_mut().enumerate() {

@@ -94,15 +94,15 @@ flat_named : (a : Algorithm) (name : List ℕ) (t : Tree) → is_named a name t 
 flat_named a name t e =
     flat t (and_second (is_parameter_len a (length (items t))) (list_all is_atom (items t)) (and_first (is_parameter a t) (has_name name t) e))
 
-flat_all : (a : Algorithm) (names : List (List ℕ)) (ts : List Tree) → pointwise (is_named a) names ts ≡ true → depths (row ts) ≤ 1
-flat_all a [] [] e = omega arith
-flat_all a [] (t ∷ ts) e = absurd cc
-flat_all a (n ∷ ns) [] e = absurd cc
-flat_all a (n ∷ ns) (t ∷ ts) e =
-    omega (arith, flat_named a n t (and_first (is_named a n t) (pointwise (is_named a) ns ts) e), flat_all a ns ts (and_second (is_named a n t) (pointwise (is_named a) ns ts) e))
+named_are_flat : (a : Algorithm) (names : List (List ℕ)) (ts : List Tree) → pointwise (is_named a) names ts ≡ true → depths (row ts) ≤ 1
+named_are_flat a [] [] e = omega arith
+named_are_flat a [] (t ∷ ts) e = absurd cc
+named_are_flat a (n ∷ ns) [] e = absurd cc
+named_are_flat a (n ∷ ns) (t ∷ ts) e =
+    omega (arith, flat_named a n t (and_first (is_named a n t) (pointwise (is_named a) ns ts) e), named_are_flat a ns ts (and_second (is_named a n t) (pointwise (is_named a) ns ts) e))
 
 pub flat_secret : (a : Algorithm) (secret : List Tree) → are_secret a secret ≡ true → depths (row secret) ≤ 1
-flat_secret a secret e = flat_all a (secret_names a) secret e
+flat_secret a secret e = named_are_flat a (secret_names a) secret e
 
 pub shallow : (a : Algorithm) (secret : List Tree) (digest : List ℕ) → are_secret a secret ≡ true → depth (secret_tree secret (hash_tree digest)) ≤ most_depth
 shallow a secret digest e = omega (arith, flat_secret a secret e)

@@ -6,7 +6,7 @@ use Rattle.std.specs.List.{prefix_len, position_or_len, list_any, list_all}
 use Rattle.std.proofs.lemmas.Bool.{or_parts, and_parts, ne_eqb}
 use Rattle.std.proofs.Math.Seq.{take-append_seam, drop-append_seam}
 use Rattle.assuan_text.specs.Blanks.{is_blank, without_blanks}
-use Rattle.session_options.specs.Text.{ends_name, without, name_of, after_name, value_of}
+use Rattle.session_options.specs.Text.{ends_name, without, name_of, after_name, option_value}
 use Rattle.session_options.specs.OptionValues.{OptionValues, applied_as, applied}
 
 -- what may come behind a name: nothing, or what begins with an end of names
@@ -52,8 +52,8 @@ applied_parts old text name rest value bare whole ended is =
     ap (λ (t : List ℕ). drop (position_or_len ends_name t) t) bare
     ∙ ap (λ (k : ℕ). drop k (name ++ rest)) place
     ∙ drop-append_seam name rest in
-    let is_value : value_of text ≡ value = ap (λ (r : List ℕ). without_blanks (without (codes "=") (without_blanks r))) is_rest ∙ is in
-    ap (λ (x : List ℕ). applied_as old x (value_of text)) is_name ∙ ap (applied_as old name) is_value
+    let is_value : option_value text ≡ value = ap (λ (r : List ℕ). without_blanks (without (codes "=") (without_blanks r))) is_rest ∙ is in
+    ap (λ (x : List ℕ). applied_as old x (option_value text)) is_name ∙ ap (applied_as old name) is_value
 
 -- blanks, the mark and blanks before a value fall away
 pub marked : (before after value : List ℕ) → list_all is_blank before ≡ true → list_all is_blank after ≡ true → is_blank (get_or value 0 0) ≡ false

@@ -16,8 +16,8 @@ use Rattle.session_options.specs.declared.rules.TheConstants.{
 }
 use Rattle.session_options.specs.declared.rules.RunMode.TheVariants.{Server}
 
-abbrev word : List ℕ → ArrayVec ℕ
-word bytes = record { items = bytes }
+abbrev path : List ℕ → ArrayVec ℕ
+path bytes = record { items = bytes }
 
 abbrev pub default_rules : Rules
 default_rules = record {
@@ -34,8 +34,8 @@ default_rules = record {
   allow_loopback = true;
   extra = false;
   s2k_count = DEFAULT_S2K_COUNT;
-  pinentry = word (codes "/usr/bin/pinentry");
-  homedir = word (codes ".");
+  pinentry = path (codes "/usr/bin/pinentry");
+  homedir = path (codes ".");
   run = Server;
   count_in_range = record { least = lit≤ tt; greatest = lit≤ tt };
   workers_in_range = record { least = lit≤ tt; greatest = lit≤ tt };

@@ -1,7 +1,7 @@
 -- The option values of a session, and what an option makes of them (GnuPG manual, "Agent OPTION"). What is refused is this
 -- project's own.
 use Rattle.std.specs.Prelude.{ℕ, Bool, true, false, List, [], Option, Some, None, if◌then◌else◌}
-use Rattle.session_options.specs.Text.{name_of, value_of, can_be_kept}
+use Rattle.session_options.specs.Text.{name_of, option_value, can_be_kept}
 use Rattle.session_options.specs.Table.{named, mode_of, count_of}
 use Rattle.session_options.specs.declared.env.Env.{Env}
 use Rattle.session_options.specs.declared.names.OptionName.{OptionName}
@@ -104,4 +104,4 @@ applied_as old name value = valued old value (named name)
 
 -- the text of an option
 unfoldable pub applied : OptionValues → List ℕ → Applied
-applied old text = applied_as old (name_of text) (value_of text)
+applied old text = applied_as old (name_of text) (option_value text)

@@ -23,8 +23,8 @@ abbrev pub after_name : List ℕ → List ℕ
 after_name text =
     drop (position_or_len ends_name (without (codes "--") text)) (without (codes "--") text)
 
-abbrev pub value_of : List ℕ → List ℕ
-value_of text = without_blanks (without (codes "=") (without_blanks (after_name text)))
+abbrev pub option_value : List ℕ → List ℕ
+option_value text = without_blanks (without (codes "=") (without_blanks (after_name text)))
 
 -- a carriage return, or a line feed
 abbrev pub ends_line : ℕ → Bool

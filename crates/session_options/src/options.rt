@@ -158,7 +158,7 @@ impl Options {
         OptionAnswer::Set
     }
 
-    /// Those before any option once more.
+    /// Sets every option back to what it was when the session began.
     pub fn reset(&mut self)
         ensures { self.new ≡ at_start self.old.rules_count self.old.allow_loopback }
     {

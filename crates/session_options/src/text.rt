@@ -1,7 +1,7 @@
 ghost use Rattle.std.specs.Prelude.{◌≡◌, ◌≤◌, ◌↔◌, true, false, length, IsSome, IfSome};
 ghost use Rattle.std.specs.List.{position_or_len};
 ghost use Rattle.assuan_text.specs.Blanks.{without_blanks};
-ghost use Rattle.session_options.specs.Text.{ends_name, without, name_of, value_of, ends_line, has_line_end, can_be_kept};
+ghost use Rattle.session_options.specs.Text.{ends_name, without, name_of, option_value, ends_line, has_line_end, can_be_kept};
 
 use crate::Word;
 use assuan_text::{is_blank, without_blanks};
@@ -9,7 +9,7 @@ use assuan_text::{is_blank, without_blanks};
 /// An option's name, and its value.
 pub(crate) fn name_and_value(text: &[u8]) -> (&[u8], &[u8])
     ensures name { result.0.now ≡ name_of text.now }
-    ensures value { result.1.now ≡ value_of text.now }
+    ensures value { result.1.now ≡ option_value text.now }
 {
     let text = without(b"--", text);
     let (name, rest) = text.split_at(name_len(text));

@@ -8,7 +8,7 @@ use Rattle.sexp_canonical.specs.Tree.{Tree, Row, leaf, branch, end, item}
 use Rattle.sexp_canonical.specs.View.{tree_of}
 use Rattle.sexp_canonical.specs.Spelling.{most_depth, depth}
 use Rattle.sexp_canonical.specs.declared.tree.Sexp.{Sexp}
-use Rattle.sexp_advanced.specs.Bytes.{is_blank, is_token_mark, is_token_start, is_token_byte, hex_value, class_of, front_of, without_front}
+use Rattle.sexp_advanced.specs.Bytes.{is_space_byte, is_token_mark, is_token_start, is_token_byte, hex_value, class_of, front_of, without_front}
 use Rattle.sexp_advanced.specs.Pieces.{byte, low_digit, pair_here, pair}
 use Rattle.sexp_advanced.specs.Signs.{sign, Spells, IsDelimited, IsOf, IsAt}
 use Rattle.sexp_advanced.specs.Reading.{signs, row_signs, Begins, Reads}
@@ -43,9 +43,9 @@ pub not_true : (t : Bool) → (t ≡ true → ⊥) → t ≡ false
 not_true true h = absurd (h refl)
 not_true false h = refl
 
-start_no_blank : (b : ℕ) → is_token_start b ≡ true → is_blank b ≡ false
-unfolding is_token_start is_token_mark is_blank
-start_no_blank b e = not_true (is_blank b) (λ blank.
+start_no_blank : (b : ℕ) → is_token_start b ≡ true → is_space_byte b ≡ false
+unfolding is_token_start is_token_mark is_space_byte
+start_no_blank b e = not_true (is_space_byte b) (λ blank.
     elim (or_true _ _ blank) [
       | inr cr ↦ tells is_token_start b 13 e refl (eqb-true b 13 cr)
       | inl more ↦ elim (or_true _ _ more) [
@@ -105,8 +105,8 @@ token_again [] x h e = absurd cc
 token_again (b ∷ bytes) x h e =
     let parts = and_true (is_token_start b) (are_token_bytes bytes) h in
     let whole : are_token_bytes (b ∷ bytes) ≡ true = let g = start_goes b parts.0 in rw g parts.1 in
-    let blank : is_blank b ≡ false = start_no_blank b parts.0 in
-    let front : without_front is_blank (b ∷ (bytes ++ x)) ≡ b ∷ (bytes ++ x) = rw blank refl in
+    let blank : is_space_byte b ≡ false = start_no_blank b parts.0 in
+    let front : without_front is_space_byte (b ∷ (bytes ++ x)) ≡ b ∷ (bytes ++ x) = rw blank refl in
     let is : sign (Atom (b ∷ bytes)) x ≡ sign (Atom (front_of is_token_byte (b ∷ (bytes ++ x)))) (without_front is_token_byte (b ∷ (bytes ++ x))) =
     λ i. sign (Atom (sym (front_whole (b ∷ bytes) x whole e) i)) (sym (rest_whole (b ∷ bytes) x whole e) i) in
     let here : IsAt (b ∷ (bytes ++ x)) (sign (Atom (b ∷ bytes)) x) =
@@ -116,10 +116,10 @@ token_again (b ∷ bytes) x h e =
 -- ---- hexadecimal
 
 abbrev IsGlyph : ℕ → Type 0
-IsGlyph n = (hex_value (hex_glyph n) ≡ Some n) × (is_blank (hex_glyph n) ≡ false) × (eqb (hex_glyph n) 35 ≡ false)
+IsGlyph n = (hex_value (hex_glyph n) ≡ Some n) × (is_space_byte (hex_glyph n) ≡ false) × (eqb (hex_glyph n) 35 ≡ false)
 
 glyphs_below : (n : ℕ) → n < 16 → IsGlyph n
-unfolding hex_value is_blank
+unfolding hex_value is_space_byte
 glyphs_below zero h = (refl, refl, refl)
 glyphs_below (suc zero) h = (refl, refl, refl)
 glyphs_below (suc (suc zero)) h = (refl, refl, refl)
@@ -154,7 +154,7 @@ pair_again b rest h =
     let high = glyphs_below (b / 16) (omega arith) in
     let low = glyphs_below (b % 16) (omega arith) in
     let whole : 16 * (b / 16) + b % 16 ≡ b = omega arith in
-    let front : without_front is_blank (hex_glyph (b % 16) ∷ rest) ≡ hex_glyph (b % 16) ∷ rest = let blank = low.1 in rw blank refl in
+    let front : without_front is_space_byte (hex_glyph (b % 16) ∷ rest) ≡ hex_glyph (b % 16) ∷ rest = let blank = low.1 in rw blank refl in
     let value = high.0 in
     let blank = high.1 in
     let mark = high.2 in
@@ -165,7 +165,7 @@ pairs_again [] x h = refl
 pairs_again (b ∷ bytes) x h = (hex_pairs bytes ++ 35 ∷ x, pair_again b (hex_pairs bytes ++ 35 ∷ x) h.0, pairs_again bytes x h.1)
 
 hex_again : (bytes x : List ℕ) → AreOctets bytes → Begins ((35 ∷ hex_pairs bytes ++ 35 ∷ []) ++ x) (Atom bytes ∷ []) x
-unfolding is_blank class_of pair pair_here
+unfolding is_space_byte class_of pair pair_here
 hex_again bytes x h =
     let text : hex_pairs bytes ++ 35 ∷ x ≡ (hex_pairs bytes ++ 35 ∷ []) ++ x = sym (append_assoc (hex_pairs bytes) (35 ∷ []) x) in
     let here : IsDelimited InHexadecimal (hex_pairs bytes ++ 35 ∷ x) (sign (Atom bytes) x) = record { bytes = bytes; at = 35 ∷ x; spelled = pairs_again bytes x h; is = refl } in
@@ -181,7 +181,7 @@ leaf_again bytes x h e = by_test bytes x h e (is_token bytes) refl
 -- ---- lists
 
 blank_before : (text rest : List ℕ) (xs : List Sign) → (xs ≡ [] → ⊥) → Begins text xs rest → Begins (32 ∷ text) xs rest
-unfolding is_blank
+unfolding is_space_byte
 blank_before text rest [] some h = absurd (some refl)
 blank_before text rest (x ∷ xs) some h = h
 
@@ -201,7 +201,7 @@ first_from t r y h g =
     subst (λ (s : List ℕ). Begins s (signs t ++ row_signs r) y) parts (begins_more (advanced t ++ (spaced_row r ++ y)) (spaced_row r ++ y) y (signs t) (row_signs r) h g)
 
 mutual
-  unfolding is_blank class_of is_token_byte is_token_start is_token_mark
+  unfolding is_space_byte class_of is_token_byte is_token_start is_token_mark
 
   pub tree_again : (t : Tree) (x : List ℕ) → IsOfOctets t → EndsToken x → Begins (advanced t ++ x) (signs t) x
   tree_again (leaf bytes) x h e = leaf_again bytes x h e
@@ -226,16 +226,16 @@ pub drop_front : (xs ys : List ℕ) → drop (length xs) (xs ++ ys) ≡ ys
 drop_front [] ys = refl
 drop_front (x ∷ xs) ys = drop_front xs ys
 
-front_by_test : (t : Bool) (b : ℕ) (blanks text : List ℕ) → is_blank b ≡ t → (without_front is_blank blanks ≡ [] → without_front is_blank (blanks ++ text) ≡ without_front is_blank text)
-    → without_front is_blank (b ∷ blanks) ≡ [] → without_front is_blank (b ∷ (blanks ++ text)) ≡ without_front is_blank text
+front_by_test : (t : Bool) (b : ℕ) (blanks text : List ℕ) → is_space_byte b ≡ t → (without_front is_space_byte blanks ≡ [] → without_front is_space_byte (blanks ++ text) ≡ without_front is_space_byte text)
+    → without_front is_space_byte (b ∷ blanks) ≡ [] → without_front is_space_byte (b ∷ (blanks ++ text)) ≡ without_front is_space_byte text
 front_by_test true b blanks text e again h = rw e (again (rw e at h))
 front_by_test false b blanks text e again h = let none : b ∷ blanks ≡ [] = (rw e at h) in absurd cc
 
-pub blanks_front : (blanks text : List ℕ) → without_front is_blank blanks ≡ [] → without_front is_blank (blanks ++ text) ≡ without_front is_blank text
+pub blanks_front : (blanks text : List ℕ) → without_front is_space_byte blanks ≡ [] → without_front is_space_byte (blanks ++ text) ≡ without_front is_space_byte text
 blanks_front [] text h = refl
-blanks_front (b ∷ blanks) text h = front_by_test (is_blank b) b blanks text refl (blanks_front blanks text) h
+blanks_front (b ∷ blanks) text h = front_by_test (is_space_byte b) b blanks text refl (blanks_front blanks text) h
 
-blanks_before : (blanks text rest : List ℕ) (xs : List Sign) → (xs ≡ [] → ⊥) → without_front is_blank blanks ≡ [] → Begins text xs rest → Begins (blanks ++ text) xs rest
+blanks_before : (blanks text rest : List ℕ) (xs : List Sign) → (xs ≡ [] → ⊥) → without_front is_space_byte blanks ≡ [] → Begins text xs rest → Begins (blanks ++ text) xs rest
 blanks_before blanks text rest [] some h g = absurd (some refl)
 blanks_before blanks text rest (x ∷ xs) some h g = (g.0, subst (λ (t : List ℕ). IsAt t (sign x g.0)) (sym (blanks_front blanks text h)) g.1, g.2)
 
@@ -243,7 +243,7 @@ not_none : (t : Tree) → signs t ≡ [] → ⊥
 not_none (leaf bytes) e = cc
 not_none (branch r) e = cc
 
-pub written_again : (tree : Sexp) (blanks more : List ℕ) → without_front is_blank blanks ≡ [] → IsOfOctets (tree_of tree) → depth (tree_of tree) ≤ most_depth → EndsToken more
+pub written_again : (tree : Sexp) (blanks more : List ℕ) → without_front is_space_byte blanks ≡ [] → IsOfOctets (tree_of tree) → depth (tree_of tree) ≤ most_depth → EndsToken more
     → Reads (blanks ++ (advanced_of tree ++ more)) (Ok (tree, length (blanks ++ advanced_of tree)))
 written_again tree blanks more before octets shallow ends =
     let parts : (blanks ++ advanced_of tree) ++ more ≡ blanks ++ (advanced_of tree ++ more) = append_assoc blanks (advanced_of tree) more in

@@ -2,7 +2,7 @@
 use Rattle.std.proofs.Common.{◌≡◌, ℕ, ◌+◌, ◌-◌, ◌*◌, ◌<◌, ◌≤◌, ◌⊎◌, inl, inr, Bool, true, false, cond, ◌==◌, ◌||◌, List, [], ◌∷◌, length, take, drop, Option, Some, None, refl, sym, ap, subst, arith}
 use Rattle.std.proofs.Common.{add-one}
 use Rattle.std.specs.Int.{is_in_range}
-use Rattle.sexp_advanced.specs.Bytes.{is_blank, hex_value, front_of, without_front}
+use Rattle.sexp_advanced.specs.Bytes.{is_space_byte, hex_value, front_of, without_front}
 use Rattle.sexp_advanced.specs.Pieces.{Piece, byte, close, broken, cut, low_digit, pair_here, pair, hex_escape, third_octal, second_octal, letter, escape, quoted_piece, piece_at}
 use Rattle.sexp_advanced.specs.declared.pieces.Form.{Form}
 use Rattle.sexp_advanced.specs.declared.pieces.Form.TheVariants.{Hexadecimal, Quoted}
@@ -83,11 +83,11 @@ unfolding pair_here
 pair_here-behind [] = tt
 pair_here-behind (b ∷ more) =
     either (b ∷ more) _ (close more) _ (inl refl)
-    (known (b ∷ more) (hex_value b) (λ high. low_digit high (without_front is_blank more)) (λ high. low_digit-more high b (without_front is_blank more) more (without_front-end is_blank more)))
+    (known (b ∷ more) (hex_value b) (λ high. low_digit high (without_front is_space_byte more)) (λ high. low_digit-more high b (without_front is_space_byte more) more (without_front-end is_space_byte more)))
 
 pair-behind : (text : List ℕ) → LiesBehind text (pair text)
 unfolding pair
-pair-behind text = lies_more (pair text) (without_front is_blank text) text (pair_here-behind (without_front is_blank text)) (without_front-end is_blank text)
+pair-behind text = lies_more (pair text) (without_front is_space_byte text) text (pair_here-behind (without_front is_space_byte text)) (without_front-end is_space_byte text)
 
 pub hex_escape-behind : (text : List ℕ) → LiesBehind text (hex_escape text)
 unfolding hex_escape

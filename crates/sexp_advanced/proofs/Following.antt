@@ -9,7 +9,7 @@ use Rattle.sexp_canonical.specs.Reading.{Reads as ReadsCanonical}
 use Rattle.sexp_canonical.specs.declared.tree.Sexp.{Sexp}
 use Rattle.sexp_canonical.specs.declared.tree.Sexp.TheVariants.{Atom as Atomic, List as Listed}
 use Rattle.sexp_canonical.specs.declared.fault.SexpFault.{SexpFault}
-use Rattle.sexp_advanced.specs.Bytes.{is_blank, is_token_byte, hex_value, class_of, front_of, without_front}
+use Rattle.sexp_advanced.specs.Bytes.{is_space_byte, is_token_byte, hex_value, class_of, front_of, without_front}
 use Rattle.sexp_advanced.specs.Pieces.{Piece, byte, close, broken, cut, low_digit, pair_here, pair, hex_escape, is_octal, third_octal, second_octal, letter, escape, quoted_piece, piece_at}
 use Rattle.sexp_advanced.specs.Signs.{sign, no_item, Spells, outcome, IsDelimited, verbatim, verbatim_tree, IsVerbatim, IsOf, IsAt}
 use Rattle.sexp_advanced.specs.Reading.{signs, Begins, IsExpression}
@@ -92,15 +92,15 @@ module _ (y z : List ℕ) where
 
   -- a piece behind blanks
   behind_blanks : (f : List ℕ → Piece) → ((text : List ℕ) → LiesBehind text (f text)) → ((v : List ℕ) → Before (f (v ++ y)) → Swaps (f (v ++ y)) (f (v ++ z)))
-      → (v : List ℕ) → Before (f (without_front is_blank (v ++ y))) → Swaps (f (without_front is_blank (v ++ y))) (f (without_front is_blank (v ++ z)))
+      → (v : List ℕ) → Before (f (without_front is_space_byte (v ++ y))) → Swaps (f (without_front is_space_byte (v ++ y))) (f (without_front is_space_byte (v ++ z)))
   behind_blanks f lies swaps v before =
-      elim (front_swaps is_blank v) [
+      elim (front_swaps is_space_byte v) [
         | inl w ↦
             let there = swaps w.0 (subst (λ (t : List ℕ). Before (f t)) w.1 before) in
             subst (λ (t : List ℕ × List ℕ). Swaps (f t.0) (f t.1)) (λ i. (sym w.1 i, sym w.2 i)) there
         | inr e ↦
-            let text = without_front is_blank (v ++ y) in
-            none_before (f text) (f (without_front is_blank (v ++ z))) (lies_more (f text) text y (lies text) e) before
+            let text = without_front is_space_byte (v ++ y) in
+            none_before (f text) (f (without_front is_space_byte (v ++ z))) (lies_more (f text) text y (lies text) e) before
       ]
 
   low_digit-swaps : (high : ℕ) (v : List ℕ) → Before (low_digit high (v ++ y)) → Swaps (low_digit high (v ++ y)) (low_digit high (v ++ z))
@@ -112,10 +112,10 @@ module _ (y z : List ℕ) where
   unfolding pair_here
   pair_here-swaps [] h = none_before (pair_here y) (pair_here z) (pair_here-behind y) h
   pair_here-swaps (c ∷ v) h =
-      let first : Piece = elim (hex_value c) [ Some high ↦ low_digit high (without_front is_blank (v ++ y)) | None ↦ broken ] in
-      let second : Piece = elim (hex_value c) [ Some high ↦ low_digit high (without_front is_blank (v ++ z)) | None ↦ broken ] in
+      let first : Piece = elim (hex_value c) [ Some high ↦ low_digit high (without_front is_space_byte (v ++ y)) | None ↦ broken ] in
+      let second : Piece = elim (hex_value c) [ Some high ↦ low_digit high (without_front is_space_byte (v ++ z)) | None ↦ broken ] in
       swaps_either (c == 35) (close (v ++ y)) first (close (v ++ z)) second (λ g. (v, refl, refl))
-      (swaps_known (hex_value c) (λ high. low_digit high (without_front is_blank (v ++ y))) (λ high. low_digit high (without_front is_blank (v ++ z)))
+      (swaps_known (hex_value c) (λ high. low_digit high (without_front is_space_byte (v ++ y))) (λ high. low_digit high (without_front is_space_byte (v ++ z)))
       (λ high. behind_blanks (low_digit high) (low_digit-behind high) (low_digit-swaps high) v)) h
 
   hex_escape-swaps : (v : List ℕ) → Before (hex_escape (v ++ y)) → Swaps (hex_escape (v ++ y)) (hex_escape (v ++ z))
@@ -272,7 +272,7 @@ module _ (y z : List ℕ) where
   begins_swaps same [] v h = let l = ap length h in ap (λ (u : List ℕ). u ++ z) (no_length v (omega (arith, length-append v y)))
   begins_swaps same (x ∷ xs) v h =
       let less = end_shorter y h.0 (begins_end h.0 xs y h.2) in
-      elim (front_swaps is_blank v) [
+      elim (front_swaps is_space_byte v) [
         | inl w ↦
             let there = at_swaps same w.0 x h.0 (subst (λ (t : List ℕ). IsAt t (sign x h.0)) w.1 h.1) less in (
               there.0 ++ z,
@@ -280,8 +280,8 @@ module _ (y z : List ℕ) where
               begins_swaps same xs there.0 (subst (λ (t : List ℕ). Begins t xs y) there.1 h.2),
             )
         | inr e ↦
-            let shorter = behind_shorter h.0 (without_front is_blank (v ++ y)) (sign_behind (without_front is_blank (v ++ y)) x h.0 h.1) in
-            let within = end_shorter (without_front is_blank (v ++ y)) y e in
+            let shorter = behind_shorter h.0 (without_front is_space_byte (v ++ y)) (sign_behind (without_front is_space_byte (v ++ y)) x h.0 h.1) in
+            let within = end_shorter (without_front is_space_byte (v ++ y)) y e in
             absurd (omega arith)
       ]
 

@@ -12,7 +12,7 @@ use Rattle.sexp_canonical.specs.Spelling.{most_depth, depth, depths, spelling, s
 use Rattle.sexp_canonical.specs.Reading.{OpenLists, open_depth}
 use Rattle.sexp_canonical.specs.declared.tree.Sexp.{Sexp}
 use Rattle.sexp_canonical.proofs.Trees.{one_spelling, tree_of_injective}
-use Rattle.sexp_advanced.specs.Bytes.{is_blank, without_front}
+use Rattle.sexp_advanced.specs.Bytes.{is_space_byte, without_front}
 use Rattle.sexp_advanced.specs.Signs.{Found, sign, IsAt}
 use Rattle.sexp_advanced.specs.Reading.{signs, row_signs, opening, Begins, IsExpression, IsFirstFault, Reads, sign_fault, fault_of, place_of}
 use Rattle.sexp_advanced.specs.declared.signs.Sign.{Sign}
@@ -121,7 +121,7 @@ one_way : (text : List ℕ) (xs ys : List Sign) (x y : List ℕ) → Begins text
 one_way text [] ys x y h k = inl (ys, refl, subst (λ (t : List ℕ). Begins t ys y) h k)
 one_way text (s ∷ xs) [] x y h k = inr (s ∷ xs, refl, subst (λ (t : List ℕ). Begins t (s ∷ xs) x) k h)
 one_way text (s ∷ xs) (r ∷ ys) x y h k =
-    let same : sign s h.0 ≡ sign r k.0 = one_here (without_front is_blank text) (sign s h.0) (sign r k.0) h.1 k.1 in
+    let same : sign s h.0 ≡ sign r k.0 = one_here (without_front is_space_byte text) (sign s h.0) (sign r k.0) h.1 k.1 in
     let head : s ≡ r = cc in
     let rest : k.0 ≡ h.0 = cc in
     elim (one_way h.0 xs ys x y h.2 (subst (λ (t : List ℕ). Begins t ys y) rest k.2)) [
@@ -212,13 +212,13 @@ done-astray : (xs : List Sign) → done xs ≡ astray → ⊥
 done-astray xs e = cc
 
 -- a fault stands where no way goes on
-stopped : (text rest last : List ℕ) (lists : OpenLists) (found : Found) (fault : AdvFault) (zs whole : List Sign) → IsAt (without_front is_blank rest) found
-    → fault_of (place_of text (without_front is_blank rest)) (length lists) found ≡ Some fault → whole ≡ opening lists ++ zs → Begins rest zs last
+stopped : (text rest last : List ℕ) (lists : OpenLists) (found : Found) (fault : AdvFault) (zs whole : List Sign) → IsAt (without_front is_space_byte rest) found
+    → fault_of (place_of text (without_front is_space_byte rest)) (length lists) found ≡ Some fault → whole ≡ opening lists ++ zs → Begins rest zs last
     → (run 0 whole ≡ astray → ⊥) → deepest 0 whole ≤ most_depth → zs ≡ []
 stopped text rest last lists found fault [] whole at is parts goes well shallow = refl
 stopped text rest last lists found fault (s ∷ zs) whole at is parts goes well shallow =
-    let place = place_of text (without_front is_blank rest) in
-    let same = one_here (without_front is_blank rest) found (sign s goes.0) at goes.1 in
+    let place = place_of text (without_front is_space_byte rest) in
+    let same = one_here (without_front is_space_byte rest) found (sign s goes.0) at goes.1 in
     absurd (no_way_on lists s zs whole place fault parts (ap (fault_of place (length lists)) (sym same) ∙ is) well shallow)
 
 -- ---- no fault where an expression is
@@ -249,9 +249,9 @@ same_fault bytes f g a b zs parts goes =
     let counts : going (length b.lists) ≡ going (length a.lists) = sym (run-open b.lists) ∙ ap (run 0) same-signs ∙ run-open a.lists in
     let count : length b.lists ≡ length a.lists = cc in
     let found : b.found ≡ a.found =
-    one_here (without_front is_blank a.rest) b.found a.found (subst (λ (t : List ℕ). IsAt (without_front is_blank t) b.found) (sym rest) b.stands) a.stands in
-    let moved : fault_of (place_of bytes (without_front is_blank b.rest)) (length b.lists) b.found ≡ fault_of (place_of bytes (without_front is_blank a.rest)) (length a.lists) a.found =
-    λ i. fault_of (place_of bytes (without_front is_blank (sym rest i))) (count i) (found i) in
+    one_here (without_front is_space_byte a.rest) b.found a.found (subst (λ (t : List ℕ). IsAt (without_front is_space_byte t) b.found) (sym rest) b.stands) a.stands in
+    let moved : fault_of (place_of bytes (without_front is_space_byte b.rest)) (length b.lists) b.found ≡ fault_of (place_of bytes (without_front is_space_byte a.rest)) (length a.lists) a.found =
+    λ i. fault_of (place_of bytes (without_front is_space_byte (sym rest i))) (count i) (found i) in
     let both : some_fault f ≡ some_fault g = sym a.is ∙ sym moved ∙ b.is in
     cc
 

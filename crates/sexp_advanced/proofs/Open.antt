@@ -9,7 +9,7 @@ use Rattle.sexp_canonical.specs.View.{tree_of}
 use Rattle.sexp_canonical.specs.Spelling.{most_depth, depth, depths}
 use Rattle.sexp_canonical.specs.Reading.{OpenLists, open_depth}
 use Rattle.sexp_canonical.specs.declared.tree.Sexp.{Sexp}
-use Rattle.sexp_advanced.specs.Bytes.{is_blank, without_front}
+use Rattle.sexp_advanced.specs.Bytes.{is_space_byte, without_front}
 use Rattle.sexp_advanced.specs.Signs.{sign, IsAt}
 use Rattle.sexp_advanced.specs.Reading.{signs, row_signs, opening, Begins, IsExpression, IsFirstFault, sign_fault, place_of}
 use Rattle.sexp_advanced.specs.Steps.{HasNoSign, AddsTree, Adds}
@@ -25,7 +25,7 @@ pub begins_more : (text mid rest : List ℕ) (xs ys : List Sign) → Begins text
 begins_more text mid rest [] ys h g = subst (λ (t : List ℕ). Begins t ys rest) (sym h) g
 begins_more text mid rest (x ∷ xs) ys h g = (h.0, h.1, begins_more h.0 mid rest xs ys h.2 g)
 
-begins_one : (text mid rest : List ℕ) (xs : List Sign) (s : Sign) → Begins text xs mid → IsAt (without_front is_blank mid) (sign s rest) → Begins text (xs ++ s ∷ []) rest
+begins_one : (text mid rest : List ℕ) (xs : List Sign) (s : Sign) → Begins text xs mid → IsAt (without_front is_space_byte mid) (sign s rest) → Begins text (xs ++ s ∷ []) rest
 begins_one text mid rest xs s h at = begins_more text mid rest xs (s ∷ []) h (rest, at, refl)
 
 end_more : (a b c : List ℕ) → IsEnd a b → IsBehind b c → IsEnd a c
@@ -39,7 +39,7 @@ end_end a b c h (inr g) = end_more a b c h g
 pub begins_end : (text : List ℕ) (xs : List Sign) (rest : List ℕ) → Begins text xs rest → IsEnd rest text
 begins_end text [] rest h = inl (sym h)
 begins_end text (x ∷ xs) rest h =
-    end_end rest (without_front is_blank text) text (end_more rest h.0 (without_front is_blank text) (begins_end h.0 xs rest h.2) (sign_behind (without_front is_blank text) x h.0 h.1)) (without_front-end is_blank text)
+    end_end rest (without_front is_space_byte text) text (end_more rest h.0 (without_front is_space_byte text) (begins_end h.0 xs rest h.2) (sign_behind (without_front is_space_byte text) x h.0 h.1)) (without_front-end is_space_byte text)
 
 pub end_shorter : (rest text : List ℕ) → IsEnd rest text → length rest ≤ length text
 end_shorter rest text (inl e) = let l = ap length e in omega arith
@@ -127,14 +127,14 @@ at_front text = record { shallow = omega arith; begins = refl }
 pub rest_shorter : (text : List ℕ) (lists : OpenLists) (rest : List ℕ) → IsOpenAt text lists rest → length rest ≤ length text
 rest_shorter text lists rest at = end_shorter rest text (begins_end text (opening lists) rest at.begins)
 
-atom_finished : (text : List ℕ) (lists : OpenLists) (rest more bytes : List ℕ) → IsOpenAt text lists rest → IsAt (without_front is_blank rest) (sign (Atom bytes) more) → IsFinished text lists (leaf bytes) more
+atom_finished : (text : List ℕ) (lists : OpenLists) (rest more bytes : List ℕ) → IsOpenAt text lists rest → IsAt (without_front is_space_byte rest) (sign (Atom bytes) more) → IsFinished text lists (leaf bytes) more
 atom_finished text lists rest more bytes at here = record {
   shallow = at.shallow;
   fits = let s = at.shallow in omega (arith, length-le-open_depth lists);
   begins = begins_one text rest more (opening lists) (Atom bytes) at.begins here;
 }
 
-list_finished : (text : List ℕ) (outer : OpenLists) (items : List Tree) (rest more : List ℕ) → IsOpenAt text (outer ++ items ∷ []) rest → IsAt (without_front is_blank rest) (sign Close more)
+list_finished : (text : List ℕ) (outer : OpenLists) (items : List Tree) (rest more : List ℕ) → IsOpenAt text (outer ++ items ∷ []) rest → IsAt (without_front is_space_byte rest) (sign Close more)
     → IsFinished text outer (list_of items) more
 list_finished text outer items rest more at here = record {
   shallow = let s = at.shallow in omega (arith, deeper-outer outer items);
@@ -142,7 +142,7 @@ list_finished text outer items rest more at here = record {
   begins = subst (λ (xs : List Sign). Begins text xs more) (closed-list outer items) (begins_one text rest more (opening (outer ++ items ∷ [])) Close at.begins here);
 }
 
-list_opened : (text : List ℕ) (lists : OpenLists) (rest more : List ℕ) → IsOpenAt text lists rest → IsAt (without_front is_blank rest) (sign Open more) → (length lists ≡ most_depth → ⊥) → IsOpenAt text (lists ++ [] ∷ []) more
+list_opened : (text : List ℕ) (lists : OpenLists) (rest more : List ℕ) → IsOpenAt text lists rest → IsAt (without_front is_space_byte rest) (sign Open more) → (length lists ≡ most_depth → ⊥) → IsOpenAt text (lists ++ [] ∷ []) more
 list_opened text lists rest more at here room = record {
   shallow = let s = at.shallow in let l = length-le-open_depth lists in let less : length lists < most_depth = omega arith in omega (arith, deeper-new lists);
   begins = subst (λ (xs : List Sign). Begins text xs more) (sym (opening-last lists [])) (begins_one text rest more (opening lists) Open at.begins here);
@@ -179,7 +179,7 @@ tree_added text old new t more (Some whole) done (none, same) =
       spelled = subst (Begins text (signs (tree_of whole))) (sym (end_drop more text end)) begins;
     }
 
-pub sign_taken : (text : List ℕ) (old new : OpenLists) (rest more : List ℕ) (s : Sign) (r : Option Sexp) → IsOpenAt text old rest → IsAt (without_front is_blank rest) (sign s more) → Adds old new s r → IsTaken text new more r
+pub sign_taken : (text : List ℕ) (old new : OpenLists) (rest more : List ℕ) (s : Sign) (r : Option Sexp) → IsOpenAt text old rest → IsAt (without_front is_space_byte rest) (sign s more) → Adds old new s r → IsTaken text new more r
 sign_taken text old new rest more Open None at here (room, new-is) = subst (λ (ls : OpenLists). IsOpenAt text ls more) (sym new-is) (list_opened text old rest more at here room)
 sign_taken text old new rest more Open (Some whole) at here adds = absurd adds
 sign_taken text old new rest more Close r at here adds =
@@ -189,22 +189,22 @@ sign_taken text old new rest more (Atom bytes) r at here adds = tree_added text 
 
 -- ---- faults
 
-pub sign_refused : (text : List ℕ) (lists : OpenLists) (rest more : List ℕ) (s : Sign) (fault : AdvFault) → IsOpenAt text lists rest → IsAt (without_front is_blank rest) (sign s more)
-    → sign_fault (place_of text (without_front is_blank rest)) (length lists) s ≡ Some fault → IsFirstFault text fault
+pub sign_refused : (text : List ℕ) (lists : OpenLists) (rest more : List ℕ) (s : Sign) (fault : AdvFault) → IsOpenAt text lists rest → IsAt (without_front is_space_byte rest) (sign s more)
+    → sign_fault (place_of text (without_front is_space_byte rest)) (length lists) s ≡ Some fault → IsFirstFault text fault
 sign_refused text lists rest more s fault at here is = record { lists = lists; shallow = at.shallow; rest = rest; begins = at.begins; found = sign s more; stands = here; is = is }
 
 pub no_sign_here : (text : List ℕ) (lists : OpenLists) (rest : List ℕ) (fault : AdvFault) → IsOpenAt text lists rest
-    → HasNoSign (IsAt (without_front is_blank rest)) (place_of text (without_front is_blank rest)) fault → IsFirstFault text fault
+    → HasNoSign (IsAt (without_front is_space_byte rest)) (place_of text (without_front is_space_byte rest)) fault → IsFirstFault text fault
 no_sign_here text lists rest fault at h = record { lists = lists; shallow = at.shallow; rest = rest; begins = at.begins; found = h.found; stands = h.stands; is = h.is (length lists) }
 
 -- ---- the steps of the loop
 
-pub item_shorter : (text item : List ℕ) (lists : OpenLists) (rest : List ℕ) → IsOpenAt text lists rest → item ≡ without_front is_blank rest → length item ≤ length text
-item_shorter text item lists rest at e = let l = ap length e in omega (arith, rest_shorter text lists rest at, without_front-le is_blank rest)
+pub item_shorter : (text item : List ℕ) (lists : OpenLists) (rest : List ℕ) → IsOpenAt text lists rest → item ≡ without_front is_space_byte rest → length item ≤ length text
+item_shorter text item lists rest at e = let l = ap length e in omega (arith, rest_shorter text lists rest at, without_front-le is_space_byte rest)
 
-pub more_shorter : (item rest more : List ℕ) (s : Sign) → item ≡ without_front is_blank rest → IsAt item (sign s more) → length more < length rest
-more_shorter item rest more s e here = let l = ap length e in omega (arith, behind_shorter more item (sign_behind item s more here), without_front-le is_blank rest)
+pub more_shorter : (item rest more : List ℕ) (s : Sign) → item ≡ without_front is_space_byte rest → IsAt item (sign s more) → length more < length rest
+more_shorter item rest more s e here = let l = ap length e in omega (arith, behind_shorter more item (sign_behind item s more here), without_front-le is_space_byte rest)
 
-pub taken_here : (text item : List ℕ) (old new : OpenLists) (rest more : List ℕ) (s : Sign) (r : Option Sexp) → IsOpenAt text old rest → item ≡ without_front is_blank rest → IsAt item (sign s more) → Adds old new s r
+pub taken_here : (text item : List ℕ) (old new : OpenLists) (rest more : List ℕ) (s : Sign) (r : Option Sexp) → IsOpenAt text old rest → item ≡ without_front is_space_byte rest → IsAt item (sign s more) → Adds old new s r
     → IsTaken text new more r
 taken_here text item old new rest more s r at e here adds = sign_taken text old new rest more s r at (subst (λ (t : List ℕ). IsAt t (sign s more)) e here) adds

@@ -2,7 +2,7 @@
 use Rattle.std.proofs.Common.{◌≡◌, ℕ, ◌+◌, ◌-◌, ◌*◌, ◌<◌, ◌≤◌, ◌⊎◌, inl, inr, ◌↔◌, Bool, true, false, cond, eqb, leb, ◌==◌, ◌||◌, List, [], ◌∷◌, ◌++◌, Option, Some, None, refl, sym, ap, subst, ◌∙◌, append_assoc, arith}
 use Rattle.std.specs.Int.{is_in_range}
 use Rattle.std.proofs.lemmas.Bool.{eqb-true, eq-eqb, ne_eqb, leb-true, le-leb, cases_lt}
-use Rattle.sexp_advanced.specs.Bytes.{is_blank, hex_value, without_front}
+use Rattle.sexp_advanced.specs.Bytes.{is_space_byte, hex_value, without_front}
 use Rattle.sexp_advanced.specs.Pieces.{Piece, byte, close, broken, low_digit, pair_here, pair, hex_escape, is_octal, third_octal, second_octal, letter, escape, quoted_piece, piece_at}
 use Rattle.sexp_advanced.specs.Signs.{sign, Spells, outcome, IsDelimited}
 use Rattle.sexp_advanced.specs.Grammar.{AreBlanks, IsPair, IsSpelling, IsClosed, IsSpelled}
@@ -43,23 +43,23 @@ in_range low high b h g = rw (le-leb low b h, le-leb b high g) refl
 record Split (text : List ℕ) : Type 0 where
   blanks : List ℕ
   are : AreBlanks blanks
-  parts : text ≡ blanks ++ without_front is_blank text
+  parts : text ≡ blanks ++ without_front is_space_byte text
 
-split_by_test : (b : ℕ) (more : List ℕ) (t : Bool) → is_blank b ≡ t → Split more → Split (b ∷ more)
+split_by_test : (b : ℕ) (more : List ℕ) (t : Bool) → is_space_byte b ≡ t → Split more → Split (b ∷ more)
 split_by_test b more true e h = record { blanks = b ∷ h.blanks; are = (e, h.are); parts = ap (λ (s : List ℕ). b ∷ s) h.parts ∙ rw e refl }
 split_by_test b more false e h = record { blanks = []; are = tt; parts = rw e refl }
 
 split : (text : List ℕ) → Split text
 split [] = record { blanks = []; are = tt; parts = refl }
-split (b ∷ more) = split_by_test b more (is_blank b) refl (split more)
+split (b ∷ more) = split_by_test b more (is_space_byte b) refl (split more)
 
-all_blanks : (blanks : List ℕ) → AreBlanks blanks → without_front is_blank blanks ≡ []
+all_blanks : (blanks : List ℕ) → AreBlanks blanks → without_front is_space_byte blanks ≡ []
 all_blanks [] h = refl
 all_blanks (b ∷ blanks) h = let first = h.0 in rw first (all_blanks blanks h.1)
 
-hex_no_blank : (b v : ℕ) → hex_value b ≡ Some v → is_blank b ≡ false
-unfolding hex_value is_blank
-hex_no_blank b v e = not_true (is_blank b) (λ blank.
+hex_no_blank : (b v : ℕ) → hex_value b ≡ Some v → is_space_byte b ≡ false
+unfolding hex_value is_space_byte
+hex_no_blank b v e = not_true (is_space_byte b) (λ blank.
     elim (or_true _ _ blank) [
       | inr cr ↦ at_one hex_value b 13 v e refl (eqb-true b 13 cr)
       | inl more ↦ elim (or_true _ _ more) [
@@ -111,39 +111,39 @@ record PairHere (text : List ℕ) (b : ℕ) (more : List ℕ) : Type 0 where
   behind : List ℕ
   parts : text ≡ high ∷ behind
   high_is : hex_value high ≡ Some value
-  low : LowDigit value (without_front is_blank behind) b more
+  low : LowDigit value (without_front is_space_byte behind) b more
 
 pair_here_is : (text : List ℕ) (b : ℕ) (more : List ℕ) → pair_here text ≡ byte b more → PairHere text b more
 unfolding pair_here
 pair_here_is [] b more e = absurd cc
 pair_here_is (c ∷ text) b more e =
-    elim (chosen (c == 35) (close text) (elim (hex_value c) [ Some high ↦ low_digit high (without_front is_blank text) | None ↦ broken ]) (byte b more) e) [
+    elim (chosen (c == 35) (close text) (elim (hex_value c) [ Some high ↦ low_digit high (without_front is_space_byte text) | None ↦ broken ]) (byte b more) e) [
       | inl shut ↦ absurd (let f = shut.1 in cc)
       | inr on ↦
-          let found = looked_up (hex_value c) (λ high. low_digit high (without_front is_blank text)) (byte b more) (no_byte_is_broken b more) on.1 in
-          record { high = c; value = found.0; behind = text; parts = refl; high_is = found.1; low = low_digit_is found.0 (without_front is_blank text) b more found.2 }
+          let found = looked_up (hex_value c) (λ high. low_digit high (without_front is_space_byte text)) (byte b more) (no_byte_is_broken b more) on.1 in
+          record { high = c; value = found.0; behind = text; parts = refl; high_is = found.1; low = low_digit_is found.0 (without_front is_space_byte text) b more found.2 }
     ]
 
 pair_here_closes : (text rest : List ℕ) → pair_here text ≡ close rest → text ≡ 35 ∷ rest
 unfolding pair_here
 pair_here_closes [] rest e = absurd cc
 pair_here_closes (c ∷ text) rest e =
-    elim (chosen (c == 35) (close text) (elim (hex_value c) [ Some high ↦ low_digit high (without_front is_blank text) | None ↦ broken ]) (close rest) e) [
+    elim (chosen (c == 35) (close text) (elim (hex_value c) [ Some high ↦ low_digit high (without_front is_space_byte text) | None ↦ broken ]) (close rest) e) [
       | inl shut ↦
           let same = shut.1 in
           let mark : c ≡ 35 = eqb-true c 35 shut.0 in
           let behind : text ≡ rest = cc in
           λ i. mark i ∷ behind i
       | inr on ↦
-          let found = looked_up (hex_value c) (λ high. low_digit high (without_front is_blank text)) (close rest) (no_close_is_broken rest) on.1 in
-          absurd (low_digit_no_close found.0 (without_front is_blank text) rest found.2)
+          let found = looked_up (hex_value c) (λ high. low_digit high (without_front is_space_byte text)) (close rest) (no_close_is_broken rest) on.1 in
+          absurd (low_digit_no_close found.0 (without_front is_space_byte text) rest found.2)
     ]
 
 pair_spelled : (text : List ℕ) (b : ℕ) (more : List ℕ) → pair text ≡ byte b more → (spelling : List ℕ) × IsPair spelling b × (text ≡ spelling ++ more)
 unfolding pair
 pair_spelled text b more e =
     let front = split text in
-    let here = pair_here_is (without_front is_blank text) b more e in
+    let here = pair_here_is (without_front is_space_byte text) b more e in
     let between = split here.behind in
     let tail : here.behind ≡ between.blanks ++ here.low.low ∷ more = between.parts ∙ ap (λ (s : List ℕ). between.blanks ++ s) here.low.parts in
     let spelling = front.blanks ++ here.high ∷ (between.blanks ++ here.low.low ∷ []) in (
@@ -174,9 +174,9 @@ pair_from spelling b more h =
     ap (λ (s : List ℕ). s ++ more) h.parts ∙ append_assoc h.before (h.high ∷ (h.between ++ h.low ∷ [])) more ∙ ap (λ (s : List ℕ). h.before ++ h.high ∷ s) (append_assoc h.between (h.low ∷ []) more) in
     let high_stays = hex_no_blank h.high h.high_value h.high_is in
     let low_stays = hex_no_blank h.low h.low_value h.low_is in
-    let front : without_front is_blank (spelling ++ more) ≡ h.high ∷ tail =
-    ap (without_front is_blank) text ∙ blanks_front h.before (h.high ∷ tail) (all_blanks h.before h.blanks_before) ∙ rw high_stays refl in
-    let second : without_front is_blank tail ≡ h.low ∷ more = blanks_front h.between (h.low ∷ more) (all_blanks h.between h.blanks_between) ∙ rw low_stays refl in
+    let front : without_front is_space_byte (spelling ++ more) ≡ h.high ∷ tail =
+    ap (without_front is_space_byte) text ∙ blanks_front h.before (h.high ∷ tail) (all_blanks h.before h.blanks_before) ∙ rw high_stays refl in
+    let second : without_front is_space_byte tail ≡ h.low ∷ more = blanks_front h.between (h.low ∷ more) (all_blanks h.between h.blanks_between) ∙ rw low_stays refl in
     let mark = hex_no_mark h.high h.high_value h.high_is in
     let value = h.high_is in
     ap pair_here front ∙ rw mark (rw value (ap (low_digit h.high_value) second ∙ low_digit_again h.high_value h.low h.low_value more h.low_is ∙ ap (λ (n : ℕ). byte n more) (sym h.is)))
@@ -185,11 +185,11 @@ pair_closes : (text rest : List ℕ) → pair text ≡ close rest → IsClosed H
 unfolding pair
 pair_closes text rest e =
     let front = split text in
-    (front.blanks, front.are, front.parts ∙ ap (λ (s : List ℕ). front.blanks ++ s) (pair_here_closes (without_front is_blank text) rest e))
+    (front.blanks, front.are, front.parts ∙ ap (λ (s : List ℕ). front.blanks ++ s) (pair_here_closes (without_front is_space_byte text) rest e))
 
 pair_closed : (text rest : List ℕ) → IsClosed Hexadecimal text rest → pair text ≡ close rest
-unfolding pair pair_here is_blank
-pair_closed text rest h = ap pair_here (ap (without_front is_blank) h.2 ∙ blanks_front h.0 (35 ∷ rest) (all_blanks h.0 h.1))
+unfolding pair pair_here is_space_byte
+pair_closed text rest h = ap pair_here (ap (without_front is_space_byte) h.2 ∙ blanks_front h.0 (35 ∷ rest) (all_blanks h.0 h.1))
 
 -- ---- quoted texts
 

@@ -10,7 +10,7 @@ use Rattle.sexp_canonical.specs.declared.tree.Sexp.{Sexp}
 use Rattle.sexp_canonical.specs.declared.tree.Sexp.TheVariants.{Atom as Atomic, List as Listed}
 use Rattle.sexp_canonical.specs.declared.fault.SexpFault.{SexpFault}
 use Rattle.sexp_canonical.specs.declared.fault.SexpFault.TheVariants.{Short as CanonicalShort, BadByte as CanonicalBadByte, BadLength as CanonicalBadLength, Deep as CanonicalDeep, NoMemory as CanonicalNoMemory}
-use Rattle.sexp_advanced.specs.Bytes.{is_blank, hex_value, class_of, without_front}
+use Rattle.sexp_advanced.specs.Bytes.{is_space_byte, hex_value, class_of, without_front}
 use Rattle.sexp_advanced.specs.Pieces.{Piece, byte, close, broken, cut, low_digit, pair_here, pair, hex_escape, is_octal, third_octal, second_octal, letter, escape, quoted_piece, piece_at}
 use Rattle.sexp_advanced.specs.Signs.{Found, sign, broken_atom, ended, no_item, Spells, outcome, IsDelimited, verbatim, verbatim_tree, verbatim_fault, IsVerbatim, IsOf, IsAt}
 use Rattle.sexp_advanced.specs.Reading.{opening, Begins, IsFirstFault, fault_of, place_of}
@@ -66,10 +66,10 @@ module _ (x : List ℕ) where
   close_whole : (v : List ℕ) (p : Piece) → close v ≡ broken → p ≡ broken
   close_whole v p e = absurd cc
 
-  behind_blanks : (f : List ℕ → Piece) → (f [] ≡ broken → ⊥) → ((v : List ℕ) → f v ≡ broken → f (v ++ x) ≡ broken) → (v u : List ℕ) → without_front is_blank v ≡ u → f u ≡ broken
-      → f (without_front is_blank (v ++ x)) ≡ broken
+  behind_blanks : (f : List ℕ → Piece) → (f [] ≡ broken → ⊥) → ((v : List ℕ) → f v ≡ broken → f (v ++ x) ≡ broken) → (v u : List ℕ) → without_front is_space_byte v ≡ u → f u ≡ broken
+      → f (without_front is_space_byte (v ++ x)) ≡ broken
   behind_blanks f whole stays v [] e h = absurd (whole h)
-  behind_blanks f whole stays v (c ∷ u) e h = ap f (front_more is_blank v c u e) ∙ stays (c ∷ u) h
+  behind_blanks f whole stays v (c ∷ u) e h = ap f (front_more is_space_byte v c u e) ∙ stays (c ∷ u) h
 
   low_digit-stays : (high : ℕ) (v : List ℕ) → low_digit high v ≡ broken → low_digit high (v ++ x) ≡ broken
   unfolding low_digit
@@ -88,11 +88,11 @@ module _ (x : List ℕ) where
   unfolding pair_here
   pair_here-stays [] e = absurd cc
   pair_here-stays (c ∷ v) e =
-      let first : Piece = elim (hex_value c) [ Some high ↦ low_digit high (without_front is_blank v) | None ↦ broken ] in
-      let second : Piece = elim (hex_value c) [ Some high ↦ low_digit high (without_front is_blank (v ++ x)) | None ↦ broken ] in
+      let first : Piece = elim (hex_value c) [ Some high ↦ low_digit high (without_front is_space_byte v) | None ↦ broken ] in
+      let second : Piece = elim (hex_value c) [ Some high ↦ low_digit high (without_front is_space_byte (v ++ x)) | None ↦ broken ] in
       either_stays (c == 35) (close v) first (close (v ++ x)) second (close_whole v (close (v ++ x)))
-      (known_stays (hex_value c) (λ high. low_digit high (without_front is_blank v)) (λ high. low_digit high (without_front is_blank (v ++ x)))
-      (λ high. behind_blanks (low_digit high) (low_digit-whole high) (low_digit-stays high) v (without_front is_blank v) refl)) e
+      (known_stays (hex_value c) (λ high. low_digit high (without_front is_space_byte v)) (λ high. low_digit high (without_front is_space_byte (v ++ x)))
+      (λ high. behind_blanks (low_digit high) (low_digit-whole high) (low_digit-stays high) v (without_front is_space_byte v) refl)) e
 
   hex_escape-stays : (v : List ℕ) → hex_escape v ≡ broken → hex_escape (v ++ x) ≡ broken
   unfolding hex_escape
@@ -137,7 +137,7 @@ module _ (x : List ℕ) where
 
   piece_at-stays : (form : Form) (v : List ℕ) → piece_at form v ≡ broken → piece_at form (v ++ x) ≡ broken
   unfolding pair
-  piece_at-stays InHexadecimal v e = behind_blanks pair_here pair_here-whole pair_here-stays v (without_front is_blank v) refl e
+  piece_at-stays InHexadecimal v e = behind_blanks pair_here pair_here-whole pair_here-stays v (without_front is_space_byte v) refl e
   piece_at-stays InQuotes v e = quoted_piece-stays v e
 
   -- ---- atoms
@@ -288,24 +288,24 @@ module _ (x : List ℕ) (place n : ℕ) (fault : AdvFault) (other : fault ≡ Sh
   of_still Token b w found h e = absurd (none_is fault (ap (fault_of place n) (sym h) ∙ e))
   of_still Nothing b w found h e = (no_item, refl, ap (fault_of place n) (sym h) ∙ e)
 
-  at_still : (u v : List ℕ) (found : Found) → without_front is_blank v ≡ u → IsAt u found → fault_of place n found ≡ Some fault
-      → (b : ℕ) × (w : List ℕ) × (without_front is_blank v ≡ b ∷ w) × Still (without_front is_blank (v ++ x)) place n fault
+  at_still : (u v : List ℕ) (found : Found) → without_front is_space_byte v ≡ u → IsAt u found → fault_of place n found ≡ Some fault
+      → (b : ℕ) × (w : List ℕ) × (without_front is_space_byte v ≡ b ∷ w) × Still (without_front is_space_byte (v ++ x)) place n fault
   at_still [] v found e at is = absurd (short_is (ap (fault_of place n) (sym at) ∙ is))
   at_still (b ∷ w) v found e at is =
       let next = of_still (class_of b) b w found at is in
-      (b, w, e, subst (λ (t : List ℕ). Still t place n fault) (sym (front_more x is_blank v b w e)) next)
+      (b, w, e, subst (λ (t : List ℕ). Still t place n fault) (sym (front_more x is_space_byte v b w e)) next)
 
-still_ends : (rest x : List ℕ) (b : ℕ) (w : List ℕ) → without_front is_blank rest ≡ b ∷ w → EndsToken rest → EndsToken (rest ++ x)
+still_ends : (rest x : List ℕ) (b : ℕ) (w : List ℕ) → without_front is_space_byte rest ≡ b ∷ w → EndsToken rest → EndsToken (rest ++ x)
 still_ends [] x b w e h = absurd cc
 still_ends (c ∷ rest) x b w e h = h
 
 pub first_fault_stays : (text x : List ℕ) (fault : AdvFault) → (fault ≡ Short → ⊥) → IsFirstFault text fault → IsFirstFault (text ++ x) fault
 first_fault_stays text x fault other h =
-    let place = place_of text (without_front is_blank h.rest) in
-    let there = at_still x place (length h.lists) fault other (without_front is_blank h.rest) h.rest h.found refl h.stands h.is in
+    let place = place_of text (without_front is_space_byte h.rest) in
+    let there = at_still x place (length h.lists) fault other (without_front is_space_byte h.rest) h.rest h.found refl h.stands h.is in
     let front = end_front h.rest text (begins_end text (opening h.lists) h.rest h.begins) in
-    let longer = front_more x is_blank h.rest there.0 there.1 there.2 in
-    let same : place_of (text ++ x) (without_front is_blank (h.rest ++ x)) ≡ place =
+    let longer = front_more x is_space_byte h.rest there.0 there.1 there.2 in
+    let same : place_of (text ++ x) (without_front is_space_byte (h.rest ++ x)) ≡ place =
     omega (arith, ap length longer, ap length there.2, length-append text x, length-append there.1 x) in
     let whole : front.0 ++ (h.rest ++ x) ≡ text ++ x = sym (append_assoc front.0 h.rest x) ∙ ap (λ (s : List ℕ). s ++ x) (sym front.1) in
     record {

@@ -5,7 +5,7 @@ use Rattle.sexp_canonical.specs.Spelling.{numeral}
 use Rattle.sexp_canonical.specs.Reading.{OpenLists, length_fault}
 use Rattle.sexp_canonical.specs.declared.tree.Sexp.TheVariants.{Atom as Atomic, List as Listed}
 use Rattle.sexp_canonical.specs.declared.fault.SexpFault.TheVariants.{BadLength as CanonicalBadLength}
-use Rattle.sexp_advanced.specs.Bytes.{is_blank, is_token_mark, is_token_start, is_token_byte, hex_value, class_of}
+use Rattle.sexp_advanced.specs.Bytes.{is_space_byte, is_token_mark, is_token_start, is_token_byte, hex_value, class_of}
 use Rattle.sexp_advanced.specs.Pieces.{byte, close, broken, cut, low_digit, pair_here, pair, hex_escape, third_octal, second_octal, letter, escape, quoted_piece, piece_at}
 use Rattle.sexp_advanced.specs.Signs.{sign, broken_atom, ended, no_item}
 use Rattle.sexp_advanced.specs.Reading.{opening, Begins, Reads}
@@ -52,12 +52,12 @@ cuts = (refl, refl, refl, refl, refl, refl)
 
 -- ` d)`: a blank, and a token that ends before `)`
 a_token : Reads (32 ∷ 100 ∷ 45 ∷ 48 ∷ 41 ∷ []) (Ok (Atomic (100 ∷ 45 ∷ 48 ∷ []), 4))
-unfolding is_blank class_of is_token_mark is_token_start is_token_byte
+unfolding is_space_byte class_of is_token_mark is_token_start is_token_byte
 a_token = record { within = omega arith; shallow = omega arith; spelled = (41 ∷ [], refl, refl) }
 
 -- `# 4 4#`: blanks between the two digits of a pair too
 blanks_in_hexadecimal : Reads (35 ∷ 32 ∷ 52 ∷ 32 ∷ 52 ∷ 35 ∷ []) (Ok (Atomic (68 ∷ []), 6))
-unfolding is_blank class_of pair pair_here low_digit hex_value
+unfolding is_space_byte class_of pair pair_here low_digit hex_value
 blanks_in_hexadecimal = record {
   within = omega arith;
   shallow = omega arith;
@@ -66,7 +66,7 @@ blanks_in_hexadecimal = record {
 
 -- `("Q"2:a b)`: a quoted text, and a canonical atom beside it without a blank
 a_list : Reads (40 ∷ 34 ∷ 81 ∷ 34 ∷ 50 ∷ 58 ∷ 97 ∷ 32 ∷ 41 ∷ []) (Ok (Listed (leaf (81 ∷ []) ∷ leaf (97 ∷ 32 ∷ []) ∷ []), 9))
-unfolding is_blank class_of quoted_piece numeral
+unfolding is_space_byte class_of quoted_piece numeral
 a_list = record {
   within = omega arith;
   shallow = omega arith;
@@ -98,12 +98,12 @@ nothing_there = record { lists = []; shallow = omega arith; rest = []; begins = 
 
 -- ` )`
 an_end_too_many : Reads (32 ∷ 41 ∷ []) (Err (BadByte 1))
-unfolding is_blank class_of
+unfolding is_space_byte class_of
 an_end_too_many = record { lists = []; shallow = omega arith; rest = 32 ∷ 41 ∷ []; begins = refl; found = sign Close []; stands = refl; is = refl }
 
 -- `(a [`: the place of the byte
 no_display_hint : Reads (40 ∷ 97 ∷ 32 ∷ 91 ∷ []) (Err (BadByte 3))
-unfolding is_blank class_of is_token_mark is_token_start is_token_byte
+unfolding is_space_byte class_of is_token_mark is_token_start is_token_byte
 no_display_hint = record {
   lists = (leaf (97 ∷ []) ∷ []) ∷ [];
   shallow = omega arith;
@@ -116,7 +116,7 @@ no_display_hint = record {
 
 -- `(#4`: cut off; ` #4#`: an odd count of digits, with the place of the first `#`
 cut_in_hexadecimal : Reads (40 ∷ 35 ∷ 52 ∷ []) (Err Short)
-unfolding is_blank class_of pair pair_here low_digit hex_value
+unfolding is_space_byte class_of pair pair_here low_digit hex_value
 cut_in_hexadecimal = record {
   lists = [] ∷ [];
   shallow = omega arith;
@@ -128,7 +128,7 @@ cut_in_hexadecimal = record {
 }
 
 an_odd_digit : Reads (32 ∷ 35 ∷ 52 ∷ 35 ∷ []) (Err (BadAtom 1))
-unfolding is_blank class_of pair pair_here low_digit hex_value
+unfolding is_space_byte class_of pair pair_here low_digit hex_value
 an_odd_digit = record {
   lists = [];
   shallow = omega arith;
@@ -141,7 +141,7 @@ an_odd_digit = record {
 
 -- `"a` and LF: the place of the quote
 a_bare_line_feed : Reads (34 ∷ 97 ∷ 10 ∷ []) (Err (BadAtom 0))
-unfolding is_blank class_of quoted_piece
+unfolding is_space_byte class_of quoted_piece
 a_bare_line_feed = record {
   lists = [];
   shallow = omega arith;
@@ -154,7 +154,7 @@ a_bare_line_feed = record {
 
 -- `03:`: a canonical length with a zero in front
 a_leading_zero : Reads (48 ∷ 51 ∷ 58 ∷ []) (Err (BadAtom 0))
-unfolding is_blank class_of numeral length_fault
+unfolding is_space_byte class_of numeral length_fault
 a_leading_zero = record {
   lists = [];
   shallow = omega arith;
@@ -181,7 +181,7 @@ no_lists : ℕ → OpenLists
 no_lists n = replicate n []
 
 opened : (n : ℕ) (rest : List ℕ) → Begins (replicate n 40 ++ rest) (opening (no_lists n)) rest
-unfolding is_blank class_of no_lists
+unfolding is_space_byte class_of no_lists
 opened zero rest = refl
 opened (suc n) rest = (replicate n 40 ++ rest, refl, opened n rest)
 
@@ -190,5 +190,5 @@ unfolding no_lists
 as_deep_as_may_be = record { lists = no_lists 64; shallow = omega arith; rest = []; begins = opened 64 []; found = ended; stands = refl; is = refl }
 
 one_too_many : Reads (replicate 65 40) (Err (Deep 64))
-unfolding is_blank class_of no_lists
+unfolding is_space_byte class_of no_lists
 one_too_many = record { lists = no_lists 64; shallow = omega arith; rest = 40 ∷ []; begins = opened 64 (40 ∷ []); found = sign Open []; stands = refl; is = refl }

@@ -5,8 +5,8 @@ use Rattle.sexp_advanced.specs.declared.bytes.Class.{Class}
 use Rattle.sexp_advanced.specs.declared.bytes.Class.TheVariants.{Opens, Closes, Hexadecimal, Quoted, Verbatim, Token, Nothing}
 
 -- space, tab, LF and CR, which stand between items and within hexadecimal atoms
-unfoldable pub is_blank : ℕ → Bool
-is_blank b = ((b == 32 || b == 9) || b == 10) || b == 13
+unfoldable pub is_space_byte : ℕ → Bool
+is_space_byte b = ((b == 32 || b == 9) || b == 10) || b == 13
 
 -- one of `-./_:*+=`
 unfoldable pub is_token_mark : ℕ → Bool

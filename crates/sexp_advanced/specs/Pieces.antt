@@ -1,7 +1,7 @@
 -- What stands at a place within a hexadecimal atom or a quoted text, by the bytes from there on.
 use Rattle.std.specs.Prelude.{ℕ, ◌+◌, ◌*◌, ◌-◌, Bool, List, [], ◌∷◌, ◌||◌, ◌==◌, if◌then◌else◌, Option, Some, None}
 use Rattle.std.specs.Int.{is_in_range}
-use Rattle.sexp_advanced.specs.Bytes.{is_blank, hex_value, without_front}
+use Rattle.sexp_advanced.specs.Bytes.{is_space_byte, hex_value, without_front}
 use Rattle.sexp_advanced.specs.declared.pieces.Piece.{Piece as Seen}
 use Rattle.sexp_advanced.specs.declared.pieces.Piece.TheVariants.{Byte, Close, Broken, Cut}
 use Rattle.sexp_advanced.specs.declared.pieces.Form.{Form}
@@ -24,10 +24,10 @@ unfoldable pub pair_here : List ℕ → Piece
 pair_here [] = cut
 pair_here (b ∷ more) =
     if b == 35 then close more
-    else elim (hex_value b) [ Some high ↦ low_digit high (without_front is_blank more) | None ↦ broken ]
+    else elim (hex_value b) [ Some high ↦ low_digit high (without_front is_space_byte more) | None ↦ broken ]
 
 unfoldable pub pair : List ℕ → Piece
-pair text = pair_here (without_front is_blank text)
+pair text = pair_here (without_front is_space_byte text)
 
 -- the two digits of an escape `\x`, side by side
 unfoldable pub hex_escape : List ℕ → Piece

@@ -7,7 +7,7 @@ use Rattle.sexp_canonical.specs.View.{tree_of}
 use Rattle.sexp_canonical.specs.Spelling.{most_depth, depth}
 use Rattle.sexp_canonical.specs.Reading.{OpenLists, open_depth}
 use Rattle.sexp_canonical.specs.declared.tree.Sexp.{Sexp}
-use Rattle.sexp_advanced.specs.Bytes.{is_blank, without_front}
+use Rattle.sexp_advanced.specs.Bytes.{is_space_byte, without_front}
 use Rattle.sexp_advanced.specs.Signs.{Found, sign, broken_atom, ended, no_item, IsAt}
 use Rattle.sexp_advanced.specs.declared.signs.Sign.{Sign}
 use Rattle.sexp_advanced.specs.declared.signs.Sign.TheVariants.{Open, Close, Atom}
@@ -27,7 +27,7 @@ abbrev mutual
 -- the text begins with these signs, each after any blanks, up to a rest
 abbrev pub Begins : List ℕ → List Sign → List ℕ → Type 0
 Begins text [] rest = text ≡ rest
-Begins text (s ∷ others) rest = (more : List ℕ) × IsAt (without_front is_blank text) (sign s more) × Begins more others rest
+Begins text (s ∷ others) rest = (more : List ℕ) × IsAt (without_front is_space_byte text) (sign s more) × Begins more others rest
 
 -- the first n bytes are blanks, where there are any, and the expression, within the limit
 pub record IsExpression (bytes : List ℕ) (tree : Sexp) (n : ℕ) : Type 0 where
@@ -64,8 +64,8 @@ pub record IsFirstFault (text : List ℕ) (fault : AdvFault) : Type 0 where
   pub rest : List ℕ
   pub begins : Begins text (opening lists) rest
   pub found : Found
-  pub stands : IsAt (without_front is_blank rest) found
-  pub is : fault_of (place_of text (without_front is_blank rest)) (length lists) found ≡ Some fault
+  pub stands : IsAt (without_front is_space_byte rest) found
+  pub is : fault_of (place_of text (without_front is_space_byte rest)) (length lists) found ≡ Some fault
 
 abbrev pub Reads : List ℕ → Result (Sexp × ℕ) AdvFault → Type 0
 Reads bytes (Ok read) = IsExpression bytes read.0 read.1

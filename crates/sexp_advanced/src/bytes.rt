@@ -1,5 +1,5 @@
 ghost use Rattle.std.specs.Prelude.{◌≡◌, ◌<◌, IfSome};
-ghost use Rattle.sexp_advanced.specs.Bytes.{is_blank, is_token_mark, is_token_start, is_token_byte, hex_value, without_front, class_of};
+ghost use Rattle.sexp_advanced.specs.Bytes.{is_space_byte, is_token_mark, is_token_start, is_token_byte, hex_value, without_front, class_of};
 ghost use Rattle.sexp_advanced.specs.declared.bytes.Class.{Class};
 
 /// What a byte begins, where an item may begin.
@@ -15,9 +15,9 @@ pub enum Class {
 }
 
 /// Space, tab, LF or CR.
-#[tactic(auto, unfolding(crate::specs::Bytes::is_blank))]
-pub fn is_blank(byte: u8) -> bool
-    ensures { result ≡ is_blank byte }
+#[tactic(auto, unfolding(crate::specs::Bytes::is_space_byte))]
+pub fn is_space_byte(byte: u8) -> bool
+    ensures { result ≡ is_space_byte byte }
 {
     byte == b' ' || byte == b'\t' || byte == b'\n' || byte == b'\r'
 }
@@ -88,11 +88,11 @@ pub fn class_of(byte: u8) -> Class
 
 /// The text without the blanks at its front.
 pub fn after_blanks(text: &[u8]) -> &[u8]
-    ensures { result.now ≡ without_front is_blank text.now }
+    ensures { result.now ≡ without_front is_space_byte text.now }
 {
     let mut rest = text;
     while let Some((byte, others)) = rest.split_first() {
-        if !is_blank(*byte) {
+        if !is_space_byte(*byte) {
             return rest;
         }
         rest = others;

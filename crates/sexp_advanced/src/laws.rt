@@ -2,7 +2,7 @@ ghost use Rattle.std.specs.Prelude.{◌≡◌, ◌↔◌, ◌≤◌, [], ◌++�
 ghost use Rattle.sexp_canonical.specs.View.{tree_of};
 ghost use Rattle.sexp_canonical.specs.Spelling.{most_depth, depth};
 ghost use Rattle.sexp_canonical.specs.declared.tree.Sexp.{Sexp};
-ghost use Rattle.sexp_advanced.specs.Bytes.{is_blank, without_front};
+ghost use Rattle.sexp_advanced.specs.Bytes.{is_space_byte, without_front};
 ghost use Rattle.sexp_advanced.specs.Reading.{Reads, IsExpression, IsFirstFault};
 ghost use Rattle.sexp_advanced.specs.Writing.{advanced_of, EndsToken};
 ghost use Rattle.sexp_advanced.specs.Octets.{IsOfOctets};
@@ -21,7 +21,7 @@ pub fn one_answer()
 /// What is written reads as the same expression, whatever blanks stand before it, and whatever stands behind it that
 /// doesn't go on a token: wherever at most 64 lists are open at one place, and atoms hold bytes, as each in memory does.
 pub fn written_is_read()
-    ensures { (tree : Sexp) (blanks more : List ℕ) → without_front is_blank blanks ≡ [] → IsOfOctets (tree_of tree) → depth (tree_of tree) ≤ most_depth
+    ensures { (tree : Sexp) (blanks more : List ℕ) → without_front is_space_byte blanks ≡ [] → IsOfOctets (tree_of tree) → depth (tree_of tree) ≤ most_depth
         → EndsToken more → Reads (blanks ++ (advanced_of tree ++ more)) (Ok (tree, length (blanks ++ advanced_of tree))) }
 {}
 

@@ -2,7 +2,7 @@ ghost use Rattle.std.specs.Prelude.{◌≡◌, ◌⊎◌, ◌≤◌, [], ◌++�
 ghost use Rattle.sexp_canonical.specs.View.{tree_of};
 ghost use Rattle.sexp_canonical.specs.Spelling.{most_depth, depth};
 ghost use Rattle.sexp_canonical.specs.declared.tree.Sexp.{Sexp};
-ghost use Rattle.sexp_advanced.specs.Bytes.{is_blank, without_front};
+ghost use Rattle.sexp_advanced.specs.Bytes.{is_space_byte, without_front};
 ghost use Rattle.sexp_advanced.specs.Writing.{advanced_of, EndsToken};
 ghost use Rattle.sexp_advanced.specs.Octets.{IsOfOctets};
 ghost use Rattle.sexp_advanced.specs.Reading.{Reads, IsExpression, IsFirstFault, sign_fault};
@@ -35,7 +35,7 @@ pub fn read_advanced(alloc: Global, bytes: &[u8]) -> Result<(Sexp, usize), AdvFa
         → (result ≡ Err AdvFault.NoMemory) ⊎ (result ≡ answer) }
 
     // What is written within the limit is read, with any blanks before it, and anything behind it that doesn't go on a token.
-    ensures again { (tree : Sexp) (blanks more : List ℕ) → without_front is_blank blanks ≡ [] → IsOfOctets (tree_of tree) → depth (tree_of tree) ≤ most_depth
+    ensures again { (tree : Sexp) (blanks more : List ℕ) → without_front is_space_byte blanks ≡ [] → IsOfOctets (tree_of tree) → depth (tree_of tree) ≤ most_depth
         → EndsToken more → bytes.now ≡ blanks ++ (advanced_of tree ++ more)
         → (result ≡ Err AdvFault.NoMemory) ⊎ (result ≡ Ok (tree, length (blanks ++ advanced_of tree))) }
 {

@@ -1,5 +1,9 @@
 //! Canonical S-expressions, the form in which libgcrypt and GnuPG's agent write keys: the canonical representation of
 //! Rivest's "S-Expressions" (1997), without display hints.
+//!
+//! Begin with [`read`]: a tree and a length exactly where the bytes begin with its spelling, within [`MAX_BYTES`] bytes and [`MAX_DEPTH`]
+//! open lists, else the first fault from the left with its place. [`write`] gives the spelling of every tree. Definitions begin in
+//! `specs/Spelling` and `specs/Reading`.
 #![tactic(auto)]
 
 mod bytes;

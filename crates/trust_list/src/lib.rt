@@ -1,5 +1,9 @@
 //! The list of the root certificates that the user trusts, the agent's file `trustlist.txt` (GnuPG manual, "Agent
 //! Configuration"): what it says of a fingerprint, and a new entry at its end.
+//!
+//! Begin with [`trusted`]: the first entry for a fingerprint decides ([`first_entry_decides`]). [`add_trust`] gives exactly the file with
+//! a new entry at its end, by which no other fingerprint is judged otherwise ([`adding_decides`]). Definitions begin in `specs/Trust`, how
+//! an entry is written in `specs/Written`.
 #![tactic(auto)]
 
 mod adding;

@@ -1,7 +1,8 @@
 //! Buffers whose bytes are overwritten with zeros when they are dropped, and calls that overwrite bytes and the stack.
 //!
-//! A move leaves the bytes where they were, as in Rust, and `drop` is given its value by a move: `Wiped::clear` and `wipe`
-//! overwrite them where they lie. No proof says that wiped bytes are gone from the machine.
+//! Begin with [`Wiped`], or with [`wipe`] for bytes of one's own. `wipe` leaves zeros, and `Wiped::clear` overwrites what it removes where
+//! it lies. A move leaves a copy, as in Rust, and `drop` is given its value by a move. No proof says that wiped bytes are gone from the
+//! machine, nor what [`wipe_stack`] overwrites. The clauses speak of lists of bytes, without definitions of their own.
 #![tactic(auto)]
 
 mod buffer;

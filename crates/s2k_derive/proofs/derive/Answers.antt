@@ -2,14 +2,14 @@ use Rattle.std.proofs.Common.{◌≡◌, ℕ, List, ◌+◌, ◌-◌, ◌%◌, �
 use native.Mathlib.Nat.{mul-zero}
 use Rattle.std.proofs.lemmas.List.{length-append, length-take}
 use Rattle.sha1.specs.Sha1.{Holds, sha1}
-use Rattle.s2k_derive.specs.S2k.{repeated}
-use Rattle.s2k_derive.proofs.Repeats.{repeated-zero, length-repeated, piece_cut, piece_more, piece_last}
+use Rattle.s2k_derive.specs.S2k.{copies_of}
+use Rattle.s2k_derive.proofs.Repeats.{copies_of-zero, length-repeated, piece_cut, piece_more, piece_last}
 use Rattle.s2k_derive.proofs.derive.Goals as goal
 
 pub pieces-init : goal.pieces-init
 pieces-init c =
     let text = c.args.salt.now ++ c.args.pass.now in
-    subst (λ (m : List ℕ). Holds c.new-hasher.result m) (sym (ap (repeated text) (mul-zero _) ∙ repeated-zero text)) c.new-hasher.ensures
+    subst (λ (m : List ℕ). Holds c.new-hasher.result m) (sym (ap (copies_of text) (mul-zero _) ∙ copies_of-zero text)) c.new-hasher.ensures
 
 pub pieces-preserved : goal.pieces-preserved
 pieces-preserved c =
@@ -26,4 +26,4 @@ returns c =
     let all = piece_last _ _ c.max-total.result c.pieces.counter cut pos (omega arith) in
     let long : length text ≡ 8 + length c.args.pass.now = length-append _ _ ∙ ap (λ n. n + length c.args.pass.now) c.told-salt in
     let digest = c.finalize-digest.ensures _ (c.update-2.ensures _ c.pieces.invariant) in
-    c.copy_from_slice.ensures.after ∙ ap (take 16) (digest ∙ ap sha1 (all ∙ ap (repeated text) (c.max-total.ensures ∙ ap (max c.args.count) (sym long))))
+    c.copy_from_slice.ensures.after ∙ ap (take 16) (digest ∙ ap sha1 (all ∙ ap (copies_of text) (c.max-total.ensures ∙ ap (max c.args.count) (sym long))))

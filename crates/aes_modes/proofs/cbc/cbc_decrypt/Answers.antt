@@ -1,6 +1,6 @@
 use Rattle.std.proofs.Common.{refl, ◌∙◌, ◌%◌, ap, arith}
 use Rattle.aes_modes.specs.Cbc.{cbc_decrypted}
-use Rattle.aes_modes.proofs.Chains.{decrypt_more, decrypt_all}
+use Rattle.aes_modes.proofs.Chains.{decrypt_more, decrypted_at_end}
 use Rattle.aes_modes.proofs.Undone.{cbc_decrypted-cbc_encrypted}
 use Rattle.aes_modes.proofs.cbc.cbc_decrypt.Goals as goal
 
@@ -13,7 +13,7 @@ loop-i-preserved c =
     c.loop-i.invariant)
 
 pub returns-clause-value : goal.returns-clause-value
-returns-clause-value c = decrypt_all c.args.key.now c.loop-i.previous c.loop-i.bytes _ c.loop-i.i (omega arith) c.loop-i.invariant
+returns-clause-value c = decrypted_at_end c.args.key.now c.loop-i.previous c.loop-i.bytes _ c.loop-i.i (omega arith) c.loop-i.invariant
 
 pub returns-clause-undoes : goal.returns-clause-undoes
 returns-clause-undoes c plain h e =

@@ -1,5 +1,5 @@
 use Rattle.std.proofs.Common.{arith}
-use Rattle.aes_modes.proofs.Chains.{encrypt_more, encrypt_all}
+use Rattle.aes_modes.proofs.Chains.{encrypt_more, encrypted_at_end}
 use Rattle.aes_modes.proofs.cbc.cbc_encrypt.Goals as goal
 
 pub loop-i-preserved : goal.loop-i-preserved
@@ -10,4 +10,4 @@ loop-i-preserved c =
     c.loop-i.invariant
 
 pub returns : goal.returns
-returns c = encrypt_all c.args.key.now c.loop-i.previous c.loop-i.bytes _ c.loop-i.i (omega arith) c.loop-i.invariant
+returns c = encrypted_at_end c.args.key.now c.loop-i.previous c.loop-i.bytes _ c.loop-i.i (omega arith) c.loop-i.invariant

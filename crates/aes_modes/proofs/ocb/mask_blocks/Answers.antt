@@ -1,7 +1,7 @@
 use Rattle.std.proofs.Common.{◌≡◌, ◌/◌, ◌∙◌, ap, arith, length, rules}
 use Rattle.aes_modes.specs.Ocb.{offset}
 use Rattle.aes_modes.specs.Masks.{cipher_of}
-use Rattle.aes_modes.proofs.OcbSteps.{mask_none, mask_more, mask_all}
+use Rattle.aes_modes.proofs.OcbSteps.{mask_none, mask_more, masked_at_end}
 use Rattle.aes_modes.proofs.ocb.mask_blocks.Goals as goal
 use Rattle.aes_modes.proofs.ocb.mask_blocks.Goals.{in-Encrypt, in-Decrypt}
 
@@ -22,7 +22,7 @@ pub returns : goal.returns
 returns c =
     let i : c.loop-i.i ≡ length c.args.bytes.now / 16 = omega arith in
     record {
-      bytes = mask_all _ c.args.cipher.now c.args.first.now c.loop-i.offset c.loop-i.bytes c.args.bytes.now c.loop-i.i (omega arith) c.loop-i.invariant;
+      bytes = masked_at_end _ c.args.cipher.now c.args.first.now c.loop-i.offset c.loop-i.bytes c.args.bytes.now c.loop-i.i (omega arith) c.loop-i.invariant;
       offset = c.loop-i.invariant.offset ∙ ap (offset c.args.cipher.now c.args.first.now) i;
       old = c.loop-i.invariant.old;
     }

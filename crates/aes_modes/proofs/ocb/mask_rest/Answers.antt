@@ -1,13 +1,13 @@
 use Rattle.std.proofs.Common.{ap, ◌∙◌}
 use Rattle.aes_block.specs.Aes.{xor_of}
-use Rattle.aes_modes.specs.Ocb.{rest_of}
+use Rattle.aes_modes.specs.Ocb.{partial_block}
 use Rattle.aes_modes.proofs.OcbSteps.{rest_none, no_rest_of, offset_after_none, rest_some}
 use Rattle.aes_modes.proofs.ocb.mask_rest.Goals as goal
 
 pub returns-then-start-bytes : goal.returns-then-start-bytes
 returns-then-start-bytes c = record {
   bytes = rest_none c.args.cipher.now c.args.before.now c.args.bytes.now c.if-start-bytes.true;
-  last = offset_after_none c.args.cipher.now c.args.before.now (rest_of c.args.bytes.now) (no_rest_of c.args.bytes.now c.if-start-bytes.true);
+  last = offset_after_none c.args.cipher.now c.args.before.now (partial_block c.args.bytes.now) (no_rest_of c.args.bytes.now c.if-start-bytes.true);
 }
 
 pub returns : goal.returns

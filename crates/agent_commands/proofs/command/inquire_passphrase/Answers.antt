@@ -5,7 +5,7 @@ use Rattle.assuan_server.specs.Written.{status_text}
 use Rattle.assuan_server.proofs.NoteLines.{limit_is_line}
 use Rattle.cache_policy.specs.declared.secret.TheConstants.{MAX_SECRET_LEN}
 use Rattle.agent_commands.specs.Steps.{limit_cut}
-use Rattle.agent_commands.proofs.Inquiring.{asked_so}
+use Rattle.agent_commands.proofs.Inquiring.{asks_behind_limit}
 use Rattle.agent_commands.proofs.command.inquire_passphrase.Goals as goal
 
 pub status-requires : goal.status-requires
@@ -21,12 +21,12 @@ returns-in-Failed g c =
 pub returns-in-Ok : goal.returns-in-Ok
 returns-in-Ok g c =
     let text = c.as_bytes.ensures.value ∙ c.format.ensures.text in
-    asked_so (rw text at c.in-All.ensures) c.requires c.inquire_secret.result (record { inquiry = c.inquire_secret.ensures.inquiry; cut = c.inquire_secret.ensures.cut })
+    asks_behind_limit (rw text at c.in-All.ensures) c.requires c.inquire_secret.result (record { inquiry = c.inquire_secret.ensures.inquiry; cut = c.inquire_secret.ensures.cut })
     (Ok c.in-Ok.secret) (sym c.said.ensures ∙ c.in-Ok.is)
 
 pub returns-in-Err : goal.returns-in-Err
 returns-in-Err g c =
     let text = c.as_bytes.ensures.value ∙ c.format.ensures.text in
     rw c.unheard.ensures
-    (asked_so (rw text at c.in-All.ensures) c.requires c.inquire_secret.result (record { inquiry = c.inquire_secret.ensures.inquiry; cut = c.inquire_secret.ensures.cut })
+    (asks_behind_limit (rw text at c.in-All.ensures) c.requires c.inquire_secret.result (record { inquiry = c.inquire_secret.ensures.inquiry; cut = c.inquire_secret.ensures.cut })
     (Err c.in-Err.why) (sym c.said.ensures ∙ c.in-Err.is))

@@ -1,7 +1,7 @@
 use Rattle.std.proofs.Common.{◌≡◌, ◌∙◌, length, sym, refl}
 use Rattle.std.proofs.lemmas.Bool.{eqb-true}
 use Rattle.std.proofs.lemmas.List.{nil_from_length}
-use Rattle.assuan_client.proofs.Sending.{put_failed, putting_none, putting_more, put_all, put_cut}
+use Rattle.assuan_client.proofs.Sending.{put_failed, putting_none, putting_more, whole_once_none_is_left, put_cut}
 use Rattle.assuan_client.proofs.data.send_data.Goals as goal
 
 pub loop-rest-init : goal.loop-rest-init
@@ -29,4 +29,4 @@ loop-rest-preserved g c =
 pub returns-clause-put : goal.returns-clause-put
 returns-clause-put g c =
     let none : length c.loop-rest.rest.now ≡ 0 = eqb-true (length c.loop-rest.rest.now) 0 (sym c.is_empty.ensures ∙ c.loop-rest-test.false) in
-    put_all c.args.bytes.now (g.K.Sink.output c.args.sink.now) (g.K.Sink.output c.loop-rest.sink) c.loop-rest.rest.now c.loop-rest.invariant.putting (nil_from_length c.loop-rest.rest.now none)
+    whole_once_none_is_left c.args.bytes.now (g.K.Sink.output c.args.sink.now) (g.K.Sink.output c.loop-rest.sink) c.loop-rest.rest.now c.loop-rest.invariant.putting (nil_from_length c.loop-rest.rest.now none)

@@ -4,7 +4,7 @@ use Rattle.counted_lock.specs.Claims.{Sat}
 use Rattle.counted_lock.specs.Passes.{AtPass, AreOf, numbered}
 use Rattle.counted_lock.specs.Keeping.{PassesFit}
 use Rattle.counted_lock.proofs.Keeps.{joins}
-use Rattle.counted_lock.proofs.Passing.{of_last, gathers, gathers_all, gathers_first, numbers_first, numbers_more}
+use Rattle.counted_lock.proofs.Passing.{of_last, gathers, gathers_one_more, gathers_first, numbers_first, numbers_more}
 use Rattle.counted_lock.proofs.counted.gather.Goals as goal
 
 pub loop-pass-init : goal.loop-pass-init
@@ -43,7 +43,7 @@ loop-pass-preserved c =
       theirs = both.0;
       idle = ap (λ (z : Sat). z.0.stage) more ∙ c.loop-pass.invariant.idle;
       empty = ap (λ (z : Sat). z.1) more ∙ c.loop-pass.invariant.empty;
-      all = let a = gathers_all _ _ _ c.into_seat.ensures.idle more in let b = ap (λ (l : List AtPass). length l) items in
+      all = let a = gathers_one_more _ _ _ c.into_seat.ensures.idle more in let b = ap (λ (l : List AtPass). length l) items in
           let d = length-append c.pop-in-loop-pass.new.self.items (c.in-Some-pop.pass ∷ []) in let e = c.loop-pass.invariant.all in omega (arith, a, b, d, e);
       numbers = λ k. let a = numbers_more _ _ _ c.in-Some-pop.pass c.pop-in-loop-pass.new.self.items c.into_seat.ensures.idle c.into_seat.ensures.own more k in
           let b = ap (λ (l : List AtPass). length (numbered k l)) items in let d = c.loop-pass.invariant.numbers k in omega (arith, a, b, d);

@@ -3,7 +3,7 @@ use Rattle.agent_ask.specs.Further.{Read}
 use Rattle.agent_ports.specs.declared.keys.KeyRead.TheVariants.{Found, Absent, Failed, NoMemory}
 use Rattle.key_commands.specs.KeyParts.{is_key, absent, unread}
 use Rattle.key_commands.proofs.Doing.{one_call}
-use Rattle.key_commands.proofs.ListedKeys.{unlisted_so}
+use Rattle.key_commands.proofs.ListedKeys.{fault_is_unlisted}
 use Rattle.key_commands.proofs.key_calls.read_listed.Goals as goal
 
 pub returns-in-Absent : goal.returns-in-Absent
@@ -23,4 +23,4 @@ returns-in-Ok g c =
 pub returns : goal.returns
 returns g c =
     let bytes = c.as_slice.ensures ∙ c.from-bytes.ensures in
-    rw c.unlisted.ensures (unlisted_so c.args.grip.now (Found c.in-Found.file) refl c.in-Found.ensures c.in-Err.fault (rw bytes at c.in-Err.ensures.fault))
+    rw c.unlisted.ensures (fault_is_unlisted c.args.grip.now (Found c.in-Found.file) refl c.in-Found.ensures c.in-Err.fault (rw bytes at c.in-Err.ensures.fault))

@@ -2,17 +2,17 @@ use Rattle.std.proofs.Common.{[], ◌∷◌, refl}
 use Rattle.key_commands.specs.Events.{out_of_memory}
 use Rattle.key_commands.specs.Passphrases.{opens, stays, no_memory}
 use Rattle.key_commands.specs.Steps.{nothing, memory}
-use Rattle.key_commands.proofs.Opening.{opens_so, stays_so, usable_so}
+use Rattle.key_commands.proofs.Opening.{opens_to_its_key, stays_locked, opened_is_usable}
 use Rattle.key_commands.proofs.opened.try_pass.Goals as goal
 
 pub returns-in-Key-clause-tries : goal.returns-in-Key-clause-tries
 returns-in-Key-clause-tries c =
-    let opened = opens_so c.args.locked.now c.args.pass c.in-Key.key (rw c.bytes.ensures.value at c.in-Key.ensures.answer) in
+    let opened = opens_to_its_key c.args.locked.now c.args.pass c.in-Key.key (rw c.bytes.ensures.value at c.in-Key.ensures.answer) in
     record { events = []; alone = nothing; does = λ held. opens opened }
 
 pub returns-in-BadPassphrase-clause-tries : goal.returns-in-BadPassphrase-clause-tries
 returns-in-BadPassphrase-clause-tries c =
-    let stayed = stays_so c.args.locked.now c.args.pass (rw c.bytes.ensures.value at c.in-BadPassphrase.ensures.answer) in
+    let stayed = stays_locked c.args.locked.now c.args.pass (rw c.bytes.ensures.value at c.in-BadPassphrase.ensures.answer) in
     record { events = []; alone = nothing; does = λ held. stays stayed }
 
 pub returns-in-NoMemory-clause-tries : goal.returns-in-NoMemory-clause-tries
@@ -20,4 +20,4 @@ returns-in-NoMemory-clause-tries c = record { events = out_of_memory ∷ []; alo
 
 pub returns-in-Key-clause-usable : goal.returns-in-Key-clause-usable
 returns-in-Key-clause-usable c =
-    usable_so (opens_so c.args.locked.now c.args.pass c.in-Key.key (rw c.bytes.ensures.value at c.in-Key.ensures.answer)) (c.in-Key.ensures.fits c.in-Key.key refl)
+    opened_is_usable (opens_to_its_key c.args.locked.now c.args.pass c.in-Key.key (rw c.bytes.ensures.value at c.in-Key.ensures.answer)) (c.in-Key.ensures.fits c.in-Key.key refl)

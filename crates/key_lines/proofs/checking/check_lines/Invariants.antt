@@ -1,8 +1,8 @@
 use Rattle.std.proofs.Common.{◌≡◌, ◌+◌, ◌≤◌, List, length, map}
 use Rattle.std.specs.List.{list_any}
 use Rattle.key_lines.specs.Lines.{lines_of}
-use Rattle.key_lines.specs.Items.{form_of, is_key}
-use Rattle.key_lines.specs.Faults.{first_fault, is_in_item, line_fault}
+use Rattle.key_lines.specs.Items.{line_form, is_key}
+use Rattle.key_lines.specs.Faults.{first_line_fault, is_in_item, line_fault}
 use Rattle.key_lines.specs.declared.forms.LineForm.{LineForm}
 use Rattle.key_lines.proofs.checking.check_lines.Given as goal
 
@@ -11,7 +11,7 @@ abbrev pub invariant-loop-line : goal.invariant-loop-line
 invariant-loop-line l =
     record {
       before : List LineForm;
-      fault : first_fault before (map form_of (lines_of l.rest)) ≡ line_fault l.fn.file;
+      fault : first_line_fault before (map line_form (lines_of l.rest)) ≡ line_fault l.fn.file;
       numbered : l.number ≡ length before;
       in_item : l.in_item ≡ is_in_item before;
       has_key : l.has_key ≡ list_any is_key before;

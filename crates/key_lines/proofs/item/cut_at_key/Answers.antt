@@ -32,7 +32,7 @@ pub returns-then-is_key : goal.returns-then-is_key
 returns-then-is_key c =
     let i = c.loop-line.invariant in
     let is = cut c.args.file.now c.loop-line.rest.now c.in-Some.line.now c.in-Some.after.now i.passed i.lines i.bytes i.none c.in-Some.ensures.lines
-    (sym (c.is_key.ensures ∙ ap is_key c.form_of.ensures) ∙ c.if-is_key.true) in
+    (sym (c.is_key.ensures ∙ ap is_key c.line_form.ensures) ∙ c.if-is_key.true) in
     (is.has, is.before-is, is.rest-is)
 
 pub loop-line-preserved : goal.loop-line-preserved
@@ -40,7 +40,7 @@ loop-line-preserved c =
     let i = c.loop-line.invariant in
     let line = c.in-Some.line.now in
     let after = c.in-Some.after.now in
-    let other : is_key_line line ≡ false = sym (c.is_key.ensures ∙ ap is_key c.form_of.ensures) ∙ c.if-is_key.false in
+    let other : is_key_line line ≡ false = sym (c.is_key.ensures ∙ ap is_key c.line_form.ensures) ∙ c.if-is_key.false in
     record {
       passed = i.passed ++ line ∷ [];
       lines = i.lines ∙ ap (λ (ls : List (List ℕ)). i.passed ++ ls) c.in-Some.ensures.lines ∙ sym (append_assoc i.passed (line ∷ []) (lines_of after));

@@ -1,6 +1,6 @@
 use Rattle.std.proofs.Common.{◌≡◌, true, false, ◌++◌, [], ◌∷◌, ℕ, List, drop, ap, sym, ◌∙◌}
 use Rattle.std.specs.List.{concat, prefix_len, take_while}
-use Rattle.key_lines.specs.Lines.{lines_of, text_of}
+use Rattle.key_lines.specs.Lines.{lines_of, line_text}
 use Rattle.key_lines.specs.Items.{goes_on, value_in}
 use Rattle.key_lines.specs.KeyItem.{is_more, value_of, after_item}
 use Rattle.key_lines.proofs.LineLemmas.{concat-lines}
@@ -14,9 +14,9 @@ loop-line-init c =
     let more = take_while is_more (lines_of after) in
     let is = c.in-Some.ensures.lines in
     let added : c.extend_from_slice.new.self ≡ c.value_in.result.now = c.in_ok-extend_from_slice.ensures.ok ∙ ap (λ (t : List ℕ). t ++ c.value_in.result.now) c.new-value.ensures in
-    let value : c.extend_from_slice.new.self ≡ value_in (text_of line) = added ∙ c.value_in.ensures ∙ ap value_in c.text_of.ensures in
+    let value : c.extend_from_slice.new.self ≡ value_in (line_text line) = added ∙ c.value_in.ensures ∙ ap value_in c.line_text.ensures in
     record {
-      value = ap (λ (t : List ℕ). t ++ joined more) value ∙ sym (ap value_of is ∙ join-is (value_in (text_of line)) more);
+      value = ap (λ (t : List ℕ). t ++ joined more) value ∙ sym (ap value_of is ∙ join-is (value_in (line_text line)) more);
       after = sym (ap (λ (ls : List (List ℕ)). concat (after_item ls)) is);
     }
 
@@ -25,7 +25,7 @@ returns-then-not-goes_on-clause-after c =
     let rest = c.loop-line.rest.now in
     let line = c.in-Some-next_line.line.now in
     let lines = lines_of c.in-Some-next_line.after.now in
-    let other : is_more line ≡ false = sym (c.goes_on.ensures ∙ ap goes_on c.form_of.ensures) ∙ c.if-not-goes_on.true in
+    let other : is_more line ≡ false = sym (c.goes_on.ensures ∙ ap goes_on c.line_form.ensures) ∙ c.if-not-goes_on.true in
     let none : prefix_len is_more (lines_of rest) ≡ 0 = ap (prefix_len is_more) c.in-Some-next_line.ensures.lines ∙ more-stops line lines other in
     sym (ap (λ n. concat (drop n (lines_of rest))) none ∙ concat-lines rest) ∙ c.loop-line.invariant.after
 
@@ -37,15 +37,15 @@ loop-line-preserved c =
     let after = c.in-Some-next_line.after.now in
     let more = take_while is_more (lines_of after) in
     let is = c.in-Some-next_line.ensures.lines in
-    let goes : is_more line ≡ true = sym (c.goes_on.ensures ∙ ap goes_on c.form_of.ensures) ∙ c.if-not-goes_on.false in
-    let text = c.text_of-in-Some-next_line.result.now in
+    let goes : is_more line ≡ true = sym (c.goes_on.ensures ∙ ap goes_on c.line_form.ensures) ∙ c.if-not-goes_on.false in
+    let text = c.line_text-in-Some-next_line.result.now in
     let new = c.extend_from_slice-in-Some-next_line-2.new.self in
     let added : new ≡ (c.loop-line.value ++ 32 ∷ []) ++ text =
     c.in_ok-extend_from_slice-3.ensures.ok ∙ ap (λ (t : List ℕ). t ++ text) c.in_ok-extend_from_slice-2.ensures.ok in
     let lines : take_while is_more (lines_of rest) ≡ line ∷ more = ap (take_while is_more) is ∙ more-step line (lines_of after) goes in
     record {
       value = ap (λ (t : List ℕ). t ++ joined more) added
-          ∙ add-line c.loop-line.value text line more c.text_of-in-Some-next_line.ensures
+          ∙ add-line c.loop-line.value text line more c.line_text-in-Some-next_line.ensures
           ∙ sym (ap (λ (ls : List (List ℕ)). c.loop-line.value ++ joined ls) lines)
           ∙ i.value;
       after = sym (ap (λ (ls : List (List ℕ)). concat (drop (prefix_len is_more ls) ls)) is ∙ ap concat (rest-step line (lines_of after) goes)) ∙ i.after;

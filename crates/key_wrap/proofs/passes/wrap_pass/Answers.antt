@@ -1,5 +1,5 @@
 use Rattle.std.proofs.Common.{arith}
-use Rattle.key_wrap.proofs.Steps.{wrap_more, wrap_all}
+use Rattle.key_wrap.proofs.Steps.{wrap_more, wrapped_at_end}
 use Rattle.key_wrap.proofs.passes.wrap_pass.Goals as goal
 
 pub loop-i-preserved : goal.loop-i-preserved
@@ -10,4 +10,4 @@ loop-i-preserved c =
     c.loop-i.invariant
 
 pub returns : goal.returns
-returns c = wrap_all c.args.cipher.now c.loop-i.check _ c.loop-i.i c.loop-i.blocks _ (omega arith) c.loop-i.invariant
+returns c = wrapped_at_end c.args.cipher.now c.loop-i.check _ c.loop-i.i c.loop-i.blocks _ (omega arith) c.loop-i.invariant

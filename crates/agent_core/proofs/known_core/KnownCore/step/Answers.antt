@@ -46,13 +46,13 @@ returns-then-is_err-clause-fits c =
     (sym (c.needs_room-needs.ensures keeps.last (legal_last c.self.inside.core (run_of c.self.inside.histories.items) keeps) keeps.stands) ∙ needs)
 
 -- what is known of the core before the step
-keeps_so : (c : goal.After-stood) → KeepsRun c.self.inside.core (run_of c.self.inside.histories.items)
-keeps_so c = c.self.invariant.records.keeps
+kept_run_before : (c : goal.After-stood) → KeepsRun c.self.inside.core (run_of c.self.inside.histories.items)
+kept_run_before c = c.self.invariant.records.keeps
 
 -- a step that has to stand
-stands_so : (c : goal.After-stood) → Stands c.self.inside.core c.step.new.self (run_of c.self.inside.histories.items) c.args.session
+step_stands : (c : goal.After-stood) → Stands c.self.inside.core c.step.new.self (run_of c.self.inside.histories.items) c.args.session
     (moment_of c.self.inside.core.moment c.args.reading) (mark_step c.args.session c.args.step) c.in-Stand.wait
-stands_so c =
+step_stands c =
     let keeps = c.self.invariant.records.keeps in
     let step : IsStep c.self.inside.core keeps.last c.args.session (moment_of c.self.inside.core.moment c.args.reading) (mark_step c.args.session c.args.step) (turn_of (Ok c.in-Ok.reply)) c.step.new.self =
     c.in-Ok.ensures.step keeps.last (legal_last c.self.inside.core (run_of c.self.inside.histories.items) keeps) keeps.stands in
@@ -62,7 +62,7 @@ stands_so c =
 
 pub invariant_of-self-in-Stand : goal.invariant_of-self-in-Stand
 invariant_of-self-in-Stand c =
-    let stands = stands_so c in
+    let stands = step_stands c in
     record {
       records = records_stay c.self.inside.core c.step.new.self c.self.inside.histories c.room_for.new.histories c.self.inside.next c.room_for.new.next
           c.self.invariant.records c.room_for.ensures.items c.room_for.ensures.room c.room_for.ensures.kept
@@ -76,12 +76,12 @@ pub returns-in-Stand-clause-takes : goal.returns-in-Stand-clause-takes
 returns-in-Stand-clause-takes c =
     rw (sym c.self.view_is, c.room_for.ensures.items, c.stood.ensures.turn)
     (subst (λ (m : ℕ). TakesStep c.self.inside.core.limits (run_of c.self.inside.histories.items) c.args.session m (mark_step c.args.session c.args.step) (Stand c.in-Stand.wait) (run_of c.self.inside.histories.items))
-    (moment_is c.self.inside.core (run_of c.self.inside.histories.items) c.args.reading c.self.invariant.records.keeps) (stands_so c).takes)
+    (moment_is c.self.inside.core (run_of c.self.inside.histories.items) c.args.reading c.self.invariant.records.keeps) (step_stands c).takes)
 
 -- the room that the step needs is there
-room_so : (c : goal.After-add-arg-in_default-1) → HasRoomFor c.self.inside.core c.self.inside.histories c.self.inside.next c.room_for.new.next
+room_is_there : (c : goal.After-add-arg-in_default-1) → HasRoomFor c.self.inside.core c.self.inside.histories c.self.inside.next c.room_for.new.next
     (moment_of c.self.inside.core.moment c.args.reading) (mark_step c.args.session c.args.step)
-room_so c =
+room_is_there c =
     let keeps = c.self.invariant.records.keeps in
     let more : c.self.inside.core.base + c.self.inside.core.count ≢ last_base = search rules in
     let room : c.needs_room-needs.result ≡ true → IsSome c.room_for.new.next = search rules in
@@ -95,7 +95,7 @@ room_so c =
 
 pub add-requires : goal.add-requires
 add-requires c =
-    let has = room_so c in
+    let has = room_is_there c in
     rw c.start_after-start.ensures
     (can_add c.self.inside.core c.room_for.new.histories c.room_for.new.next
     (subst (λ (l : List HistoryInMemory). KeepsRun c.self.inside.core (run_of l)) (sym c.room_for.ensures.items) c.self.invariant.records.keeps)
@@ -104,10 +104,10 @@ add-requires c =
     has.records has.more has.own has.kept has.room))
 
 -- a step that makes its mark
-marks_so : (c : goal.After-add) → Marks c.self.inside.core c.step.new.self (run_of c.self.inside.histories.items) c.args.session
+step_marks : (c : goal.After-add) → Marks c.self.inside.core c.step.new.self (run_of c.self.inside.histories.items) c.args.session
     (moment_of c.self.inside.core.moment c.args.reading) (mark_step c.args.session c.args.step) (turn_of (Ok c.in-Ok.reply))
     c.mark_of-mark.result
-marks_so c =
+step_marks c =
     let keeps = c.self.invariant.records.keeps in
     let more : c.self.inside.core.base + c.self.inside.core.count ≢ last_base = search rules in
     let gone = going c.self.inside.core (run_of c.self.inside.histories.items) keeps more in
@@ -121,15 +121,15 @@ marks_so c =
     ∙ ap (λ (s : MarkStep). mark_of c.args.session s (reply_of (turn_of (Ok c.in-Ok.reply))) c.step.new.self.moment) c.mark_step_of-asked.ensures)
 
 -- the run has it
-items_so : (c : goal.After-add) → (run_of c.add.new.histories.items) ≡ run_with_mark (run_of c.self.inside.histories.items)
+run_has_mark : (c : goal.After-add) → (run_of c.add.new.histories.items) ≡ run_with_mark (run_of c.self.inside.histories.items)
     c.mark_of-mark.result
-items_so c =
+run_has_mark c =
     added_later c.self.inside.core (run_of c.self.inside.histories.items) (run_of c.room_for.new.histories.items) (run_of c.add.new.histories.items) c.start_after-start.result _
     c.self.invariant.records.keeps c.start_after-start.ensures (ap run_of c.room_for.ensures.items) c.add.ensures.run
 
 -- and the tally counts it
-tally_so : (c : goal.After-add) → Tallied c.step.new.self.limits (run_of c.add.new.histories.items) c.counted-self-inside.result
-tally_so c =
+tally_counts_mark : (c : goal.After-add) → Tallied c.step.new.self.limits (run_of c.add.new.histories.items) c.counted-self-inside.result
+tally_counts_mark c =
     let keeps = c.self.invariant.records.keeps in
     let mark : Mark = c.mark_of-mark.result in
     let now : c.stores-stores.result ≡ stores c.self.inside.core.limits (seat (next_history keeps.last)) mark.step =
@@ -137,7 +137,7 @@ tally_so c =
     ∙ (ap (λ (h : Option Ticket). stores c.self.inside.core.limits h c.mark_step_of-asked.result) (keeps.stands.seat_is ∙ sym (seat_next keeps.last))
     ∙ ap (λ (m : Mark). stores c.self.inside.core.limits (seat (next_history keeps.last)) m.step) (sym c.mark_of-mark.ensures)) in
     tally_stays c.self.inside.core.limits c.step.new.self.limits (run_with_mark (run_of c.self.inside.histories.items) mark) (run_of c.add.new.histories.items)
-    c.counted-self-inside.result c.in-Ok.ensures.limits (items_so c)
+    c.counted-self-inside.result c.in-Ok.ensures.limits (run_has_mark c)
     (subst (λ (t : Tally). Tallied c.self.inside.core.limits (run_with_mark (run_of c.self.inside.histories.items) mark) t) (sym c.counted-self-inside.ensures)
     (tally_counted c.self.inside.core.limits (run_of c.self.inside.histories.items) keeps.last mark c.self.inside.tally c.stores-stores.result keeps.legal.turns_over
     keeps.last_is c.self.invariant.tally_is now))
@@ -162,18 +162,18 @@ invariant_of-self-in_default c =
             own = subst (λ (k : AtKnown). IfSome (closes (mark_step c.args.session c.args.step)) (IsOut k.run)) (sym c.self.view_is) c.requires.own;
             kept = c.room_for.ensures.kept;
             room = λ needs. room (c.needs_room-needs.ensures keeps.last (legal_last c.self.inside.core (run_of c.self.inside.histories.items) keeps) keeps.stands ∙ needs);
-          }) (marks_so c) (items_so c) c.add.ensures.last c.add.ensures.room
+          }) (step_marks c) (run_has_mark c) c.add.ensures.last c.add.ensures.room
           (λ none. c.add.ensures.kept (c.start_after-start.ensures ∙ none));
-      tally_is = tally_so c;
+      tally_is = tally_counts_mark c;
     }
 
 pub returns-in_default-clause-takes : goal.returns-in_default-clause-takes
 returns-in_default-clause-takes c =
-    rw (sym c.self.view_is, items_so c)
+    rw (sym c.self.view_is, run_has_mark c)
     (subst (λ (m : ℕ). TakesStep c.self.inside.core.limits (run_of c.self.inside.histories.items) c.args.session m (mark_step c.args.session c.args.step) (turn_of (Ok c.in-Ok.reply))
     (run_with_mark (run_of c.self.inside.histories.items)
     c.mark_of-mark.result))
-    (moment_is c.self.inside.core (run_of c.self.inside.histories.items) c.args.reading c.self.invariant.records.keeps) (marks_so c).takes)
+    (moment_is c.self.inside.core (run_of c.self.inside.histories.items) c.args.reading c.self.invariant.records.keeps) (step_marks c).takes)
 
 pub returns-in_default-clause-fits : goal.returns-in_default-clause-fits
 returns-in_default-clause-fits c = fits_taken c.args.session c.args.step (turn_of (Ok c.in-Ok.reply)) c.in-Ok.ensures.fits
@@ -183,7 +183,7 @@ returns-in_default-clause-back c = not_stand c.in-Ok.reply c.in_default.not-Stan
 
 pub returns-in_default-clause-legal : goal.returns-in_default-clause-legal
 returns-in_default-clause-legal c =
-    subst (IsLegalRun c.step.new.self.limits) (sym (items_so c)) (marks_so c).keeps.legal
+    subst (IsLegalRun c.step.new.self.limits) (sym (run_has_mark c)) (step_marks c).keeps.legal
 
 pub returns-in-Err-clause-takes : goal.returns-in-Err-clause-takes
 returns-in-Err-clause-takes c =

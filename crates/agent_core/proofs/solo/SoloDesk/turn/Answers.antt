@@ -5,7 +5,7 @@ use Rattle.cache_policy.specs.Turns.{Stand, asked_step, closes, with_since, turn
 use Rattle.agent_core.specs.Openings.{opening_step}
 use Rattle.agent_core.specs.Solos.{seen, Waits, at_once, waiting}
 use Rattle.agent_core.specs.Stepped.{IsSettled}
-use Rattle.agent_core.proofs.Promise.{goes_next, goes_wait, stands_held, stood_opens, stood_own, own_first, own_turn, turns_so, not_stood}
+use Rattle.agent_core.proofs.Promise.{goes_next, goes_wait, stands_held, stood_opens, stood_own, own_first, own_turn, turns_by_own_step, not_stood}
 use Rattle.agent_core.proofs.Taken.{asked_first, first_asked}
 use Rattle.agent_core.proofs.solo.SoloDesk.turn.Goals as goal
 
@@ -40,7 +40,7 @@ returns-in-Stood-clause-turned g c =
     let step = own_first _ _ c.args.step (Stand c.in-Stood.wait) c.in-Stood.ensures.step c.requires.first in
     let asked : opening_step c.in-Stood.opening None ≡ c.args.step = c.in-Stood.ensures.back ∙ first_asked c.args.step c.requires.first in
     record {
-      turns = turns_so (asked_step c.args.step) _ c.play_next.result _ _ _ (asked_first c.args.step) c.play_next.ensures.next
+      turns = turns_by_own_step (asked_step c.args.step) _ c.play_next.result _ _ _ (asked_first c.args.step) c.play_next.ensures.next
           (waiting step
           (subst (λ (s : Step). Waits (with_since (Some c.in-Stood.wait.since) (asked_step s)) (seen g.C.Clock.readings c.attempt.new.self) (turn_of c.wait.result)
           (seen g.C.Clock.readings c.wait.new.self)) asked c.wait.ensures.waits)) c.wait.ensures.settled;
@@ -56,7 +56,7 @@ returns-in_default g c =
     let settled = subst IsSettled (sym c.settled.ensures.turn) (not_stood c.args.step c.attempt.result c.attempt.ensures.back c.in_default.not-Stood) in
     record {
       turned = record {
-        turns = turns_so (asked_step c.args.step) _ c.play_next.result _ _ _ (asked_first c.args.step) c.play_next.ensures.next
+        turns = turns_by_own_step (asked_step c.args.step) _ c.play_next.result _ _ _ (asked_first c.args.step) c.play_next.ensures.next
             (at_once (own_turn _ _ _ _ _ (sym c.settled.ensures.turn) (own_first _ _ c.args.step _ c.attempt.ensures.step c.requires.first))) settled;
         lent = c.attempt.ensures.lent ∙ c.play_next.ensures.lent;
       };

@@ -2,7 +2,7 @@ use Rattle.std.proofs.Common.{◌≡◌, ◌∙◌, length, take, ap, sym, List,
 use Rattle.std.proofs.lemmas.Bool.{eqb-true}
 use Rattle.std.proofs.lemmas.List.{nil_from_length}
 use Rattle.assuan_escape.specs.DataLines.{data_line}
-use Rattle.assuan_server.proofs.Writing.{written_alone, writing_more, written_all, written_cut}
+use Rattle.assuan_server.proofs.Writing.{written_alone, writing_more, written_once_none_is_left, written_cut}
 use Rattle.assuan_server.proofs.conn.Conn.data_lines.Goals as goal
 
 pub returns-in-Failed : goal.returns-in-Failed
@@ -23,4 +23,4 @@ loop-rest-preserved g c =
 pub returns : goal.returns
 returns g c =
     let none : length c.loop-rest.rest.now ≡ 0 = eqb-true (length c.loop-rest.rest.now) 0 (sym c.is_empty.ensures ∙ c.loop-rest-test.false) in
-    written_all c.args.bytes.now c.args.self.now c.loop-rest.self c.loop-rest.rest.now c.loop-rest.sent c.loop-rest.invariant (nil_from_length c.loop-rest.rest.now none)
+    written_once_none_is_left c.args.bytes.now c.args.self.now c.loop-rest.self c.loop-rest.rest.now c.loop-rest.sent c.loop-rest.invariant (nil_from_length c.loop-rest.rest.now none)
