@@ -50,7 +50,7 @@ impl FaultPlan {
         self.raise_by(1);
     }
 
-    /// Counts so many faults.
+    /// Counts this many faults.
     pub(crate) fn raise_by(&mut self, faults: u64)
         ensures rose { RoseBy faults self.old.faults self.new.faults }
         ensures never_falls { self.old.faults ≤ self.new.faults }

@@ -23,7 +23,7 @@ struct Place {
 }
 
 impl Place {
-    /// What the link was written that stands so many places before this one.
+    /// What was written to the link this number of places before this one.
     fn written(&self, back: usize) -> Option<&[u8]>
         ensures { option_map (λ bytes. bytes.now) result ≡ option_map (λ child. child.written) (slice_get (latest_of self.now) back) }
     {
@@ -132,7 +132,7 @@ impl MemLauncher {
         }
     }
 
-    /// The program that was launched behind so many others.
+    /// The program of the launch of this number, counted from 0.
     pub fn launched(&self, others: usize) -> Option<&[u8]>
         ensures { IfSome (⟦<MemLauncher as Launcher>⟧.launches self.now).launched (λ programs.
             option_map (λ program. program.now) result ≡ slice_get programs others) }
@@ -170,7 +170,7 @@ impl MemLauncher {
         Some(MemChild { place })
     }
 
-    /// What the child was written that was finished so many before the last one.
+    /// What was written to the finished child of this number, counted from 0 at the last one.
     pub fn written(&self, back: usize) -> Option<&[u8]>
         ensures { IfSome (⟦<MemLauncher as Launcher>⟧.launches self.now).finished (λ finished.
             option_map (λ bytes. bytes.now) result ≡ option_map (λ child. child.written) (slice_get (reverse finished) back)) }

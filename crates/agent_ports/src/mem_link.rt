@@ -7,7 +7,7 @@ use crate::fault_plan::FaultPlan;
 use crate::{Got, Link, Sent, Sink, Source};
 use std::alloc::Global;
 
-/// Gives the bytes of a list, at most so many a read.
+/// Gives the bytes of a list, a limited number a read.
 #[derive(Debug, Drop)]
 pub struct MemSource {
     bytes: Vec<u8>,

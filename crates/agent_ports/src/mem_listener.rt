@@ -80,7 +80,7 @@ impl ListedLinks {
         self.coming.len()
     }
 
-    /// What the link was written whose session ended behind so many others.
+    /// What was written to the ended link of this number, counted from 0 in the order in which the sessions ended.
     pub fn written(&self, others: usize) -> Option<&[u8]>
         ensures { option_map (λ bytes. bytes.now) result ≡ slice_get (ended_texts self.now) others }
     {

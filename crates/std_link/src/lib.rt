@@ -1,8 +1,12 @@
 //! Any reader and writer of std as a link, as a program's standard input and output, and any stream that is both, as a socket. Neither
 //! shows what it holds.
+//!
+//! Begin with [`StdLink::new`] or [`StreamLink::new`]. The loops are proved over any reader and writer: what they take is what they give,
+//! which is nothing only at the end, and a write appends its bytes, or a prefix where it failed. Each fault is counted. The definitions
+//! are those of `agent_ports` (`specs/Sides`, `specs/Writing`).
 #![tactic(auto)]
 
-mod standing;
+mod link_state;
 mod stdio;
 mod stream;
 

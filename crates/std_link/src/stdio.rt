@@ -1,6 +1,6 @@
 ghost use Rattle.std.specs.Prelude.{◌≡◌, None, refl};
 
-use crate::standing::Standing;
+use crate::link_state::LinkState;
 use agent_ports::{Got, Link, Sent, Sink, Source};
 use std::io::{Read, Write};
 
@@ -9,7 +9,7 @@ use std::io::{Read, Write};
 pub struct StdLink<R, W> {
     reader: R,
     writer: W,
-    standing: Standing,
+    state: LinkState,
 }
 
 impl<R: Read, W: Write> StdLink<R, W> {
@@ -21,7 +21,7 @@ impl<R: Read, W: Write> StdLink<R, W> {
         StdLink {
             reader,
             writer,
-            standing: Standing::new(),
+            state: LinkState::new(),
         }
     }
 
@@ -30,27 +30,27 @@ impl<R: Read, W: Write> StdLink<R, W> {
         ensures reads { result.0 ≡ (⟦<StdLink<R, W> as Source>⟧.input self.now).faults }
         ensures writes { result.1 ≡ (⟦<StdLink<R, W> as Sink>⟧.output self.now).faults }
     {
-        (self.standing.read_faults, self.standing.write_faults)
+        (self.state.read_faults, self.state.write_faults)
     }
 }
 
 impl<R: Read, W: Write> Source for StdLink<R, W> {
-    ghost input = { λ l. record { bytes = None; faults = l.standing.read_faults } };
+    ghost input = { λ l. record { bytes = None; faults = l.state.read_faults } };
 
-    ghost beside_input = { λ l. record { bytes = None; faults = l.standing.write_faults } };
+    ghost beside_input = { λ l. record { bytes = None; faults = l.state.write_faults } };
 
     fn read(&mut self, buf: &mut [u8]) -> Got {
-        self.standing.read(&mut self.reader, buf)
+        self.state.read(&mut self.reader, buf)
     }
 }
 
 impl<R: Read, W: Write> Sink for StdLink<R, W> {
-    ghost output = { λ l. record { bytes = None; faults = l.standing.write_faults } };
+    ghost output = { λ l. record { bytes = None; faults = l.state.write_faults } };
 
-    ghost beside_output = { λ l. record { bytes = None; faults = l.standing.read_faults } };
+    ghost beside_output = { λ l. record { bytes = None; faults = l.state.read_faults } };
 
     fn put(&mut self, bytes: &[u8]) -> Sent {
-        self.standing.put(&mut self.writer, bytes)
+        self.state.put(&mut self.writer, bytes)
     }
 }
 

@@ -1,6 +1,6 @@
 ghost use Rattle.std.specs.Prelude.{◌≡◌, None, refl};
 
-use crate::standing::Standing;
+use crate::link_state::LinkState;
 use agent_ports::{Got, Link, Sent, Sink, Source};
 use std::io::{Read, Write};
 
@@ -8,7 +8,7 @@ use std::io::{Read, Write};
 #[derive(Drop)]
 pub struct StreamLink<S> {
     stream: S,
-    standing: Standing,
+    state: LinkState,
 }
 
 impl<S: Read + Write> StreamLink<S> {
@@ -19,28 +19,28 @@ impl<S: Read + Write> StreamLink<S> {
     {
         StreamLink {
             stream,
-            standing: Standing::new(),
+            state: LinkState::new(),
         }
     }
 }
 
 impl<S: Read + Write> Source for StreamLink<S> {
-    ghost input = { λ l. record { bytes = None; faults = l.standing.read_faults } };
+    ghost input = { λ l. record { bytes = None; faults = l.state.read_faults } };
 
-    ghost beside_input = { λ l. record { bytes = None; faults = l.standing.write_faults } };
+    ghost beside_input = { λ l. record { bytes = None; faults = l.state.write_faults } };
 
     fn read(&mut self, buf: &mut [u8]) -> Got {
-        self.standing.read(&mut self.stream, buf)
+        self.state.read(&mut self.stream, buf)
     }
 }
 
 impl<S: Read + Write> Sink for StreamLink<S> {
-    ghost output = { λ l. record { bytes = None; faults = l.standing.write_faults } };
+    ghost output = { λ l. record { bytes = None; faults = l.state.write_faults } };
 
-    ghost beside_output = { λ l. record { bytes = None; faults = l.standing.read_faults } };
+    ghost beside_output = { λ l. record { bytes = None; faults = l.state.read_faults } };
 
     fn put(&mut self, bytes: &[u8]) -> Sent {
-        self.standing.put(&mut self.stream, bytes)
+        self.state.put(&mut self.stream, bytes)
     }
 }
 

@@ -2,7 +2,7 @@ ghost use Rattle.std.specs.Prelude.{◌≡◌};
 ghost use Rattle.agent_ports.specs.Listening.{NothingFailed};
 
 use crate::accepting::{Accepted, accept_next};
-use crate::path::{Bound, FileId, bind_at, socket_path};
+use crate::path::{Bound, FileId, SocketName, bind_at, socket_path};
 use agent_ports::{Ear, Link, Listener, Next, Sink, Source};
 use std::alloc::Global;
 use std::fs::Files;
@@ -49,10 +49,10 @@ pub struct SocketListener<'a, R: Files> {
 }
 
 impl<'a, R: Files + Net> SocketListener<'a, R> {
-    /// Listens at the socket of this folder, which is made for its owner alone where it isn't there. Whatever had the socket's name is
-    /// removed. It fails where the path is too long for a socket (108 bytes on Linux), and then nothing was made or removed.
-    pub fn bind(rt: &'a R, alloc: Global, folder: &str) -> io::Result<Self> {
-        let path = socket_path(alloc, folder)?;
+    /// Listens at the socket of this name in this folder, which is made for its owner alone where it isn't there. Whatever had the socket's
+    /// name is removed. It fails where the path is too long for a socket (108 bytes on Linux), and then nothing was made or removed.
+    pub fn bind(rt: &'a R, alloc: Global, folder: &str, name: SocketName) -> io::Result<Self> {
+        let path = socket_path(alloc, folder, name)?;
         Ok(SocketListener {
             rt,
             bound: bind_at(rt, alloc, folder, &path)?,

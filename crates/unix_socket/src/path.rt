@@ -7,8 +7,23 @@ use std::os::unix::fs::{DirBuilderExt, MetadataExt, PermissionsExt};
 use std::os::unix::net::{SocketAddr, UnixListener, UnixStream};
 use std::{fs, io};
 
-/// The socket's name in its folder, as GnuPG's programs look for it (GnuPG manual, "Agent Configuration").
-pub const SOCKET_NAME: &str = "S.gpg-agent";
+/// Which of an agent's sockets in its folder, by the name under which GnuPG's programs look for it (GnuPG manual, "Agent Options").
+#[derive(Clone, Copy, Debug, PartialEq, Eq)]
+pub enum SocketName {
+    /// `S.gpg-agent`, for the clients of this machine.
+    Standard,
+    /// `S.gpg-agent.extra`, which is forwarded to other machines (`--extra-socket`).
+    Extra,
+}
+
+impl SocketName {
+    fn as_str(self) -> &'static str {
+        match self {
+            SocketName::Standard => "S.gpg-agent",
+            SocketName::Extra => "S.gpg-agent.extra",
+        }
+    }
+}
 
 /// How many names are tried for a fresh folder. One is taken only by a start that was killed between two calls.
 const MAX_FRESH_NAMES: u32 = 1000;
@@ -36,9 +51,9 @@ impl FileId {
     }
 }
 
-/// The path of the socket in this folder. It fails where the path is longer than a socket's may be, before anything is made.
-pub(crate) fn socket_path(alloc: Global, folder: &str) -> io::Result<String> {
-    let path = format!(in alloc; "{folder}/{SOCKET_NAME}")?;
+/// The path of the socket of this name in this folder. It fails where the path is longer than a socket's may be, before anything is made.
+pub(crate) fn socket_path(alloc: Global, folder: &str, name: SocketName) -> io::Result<String> {
+    let path = format!(in alloc; "{folder}/{}", name.as_str())?;
     SocketAddr::from_pathname(&path)?;
     Ok(path)
 }

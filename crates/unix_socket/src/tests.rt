@@ -1,3 +1,4 @@
+use crate::SocketName::{Extra, Standard};
 use crate::accepting::AcceptFault;
 use crate::{SocketEar, SocketListener};
 use agent_ports::{Ear, Got, Listener, Next, Sent, Sink, Source};
@@ -22,7 +23,7 @@ fn own_path(rt: &HostRuntime, name: &str) -> Result<String, Fail> {
 fn a_client_gets_its_answers_over_the_owners_socket(rt: HostRuntime) -> Result<(), Fail> {
     let folder = own_path(&rt, "us_one")?;
     let socket = format!(in rt.alloc(); "{folder}/S.gpg-agent")?;
-    let listener = SocketListener::bind(&rt, rt.alloc(), &folder)?;
+    let listener = SocketListener::bind(&rt, rt.alloc(), &folder, Standard)?;
     let modes = (
         fs::metadata(&rt, &folder)?.mode() & 0o777,
         fs::symlink_metadata(&rt, &socket)?.mode() & 0o777,
@@ -70,7 +71,7 @@ fn last_of<L: Listener<Ear = SocketEar>>(listener: &L) -> (bool, bool) {
 fn a_stop_wakes_all_workers_and_no_queued_client_is_taken(rt: HostRuntime) -> Result<(), Fail> {
     let folder = own_path(&rt, "us_two")?;
     let socket = format!(in rt.alloc(); "{folder}/S.gpg-agent")?;
-    let listener = SocketListener::bind(&rt, rt.alloc(), &folder)?;
+    let listener = SocketListener::bind(&rt, rt.alloc(), &folder, Standard)?;
     let (first, (second, ())) = thread::join(
         &rt,
         || last_of(&listener),
@@ -78,7 +79,7 @@ fn a_stop_wakes_all_workers_and_no_queued_client_is_taken(rt: HostRuntime) -> Re
     );
     assert_eq!(rt; (first, second), ((true, false), (true, false)));
     drop(listener);
-    let listener = SocketListener::bind(&rt, rt.alloc(), &folder)?;
+    let listener = SocketListener::bind(&rt, rt.alloc(), &folder, Standard)?;
     let client = UnixStream::connect(&rt, &socket)?;
     listener.stop();
     assert_eq!(rt; last_of(&listener), (true, false));
@@ -93,19 +94,19 @@ fn a_path_too_long_makes_nothing_and_an_old_file_gives_way(rt: HostRuntime) -> R
     let folder = own_path(&rt, "us_three")?;
     let socket = format!(in rt.alloc(); "{folder}/S.gpg-agent")?;
     let long = format!(in rt.alloc(); "{folder}{}", "x".repeat(rt.alloc(), 100)?)?;
-    assert!(rt; SocketListener::bind(&rt, rt.alloc(), &long).is_err());
+    assert!(rt; SocketListener::bind(&rt, rt.alloc(), &long, Standard).is_err());
     assert!(rt; !fs::exists(&rt, &long)?);
     // A file where the folder should be is left as it is.
     fs::write(&rt, &folder, b"old")?;
-    assert!(rt; SocketListener::bind(&rt, rt.alloc(), &folder).is_err());
+    assert!(rt; SocketListener::bind(&rt, rt.alloc(), &folder, Standard).is_err());
     assert_eq!(rt; fs::metadata(&rt, &folder)?.len(), 3);
     fs::remove_file(&rt, &folder)?;
     DirBuilder::new().mode(0o755).create(&rt, &folder)?;
     fs::write(&rt, &socket, b"old")?;
-    let first = SocketListener::bind(&rt, rt.alloc(), &folder)?;
+    let first = SocketListener::bind(&rt, rt.alloc(), &folder, Standard)?;
     drop(UnixStream::connect(&rt, &socket)?);
     // Another one takes its place, and keeps it where the first one ends.
-    let second = SocketListener::bind(&rt, rt.alloc(), &folder)?;
+    let second = SocketListener::bind(&rt, rt.alloc(), &folder, Standard)?;
     drop(first);
     drop(UnixStream::connect(&rt, &socket)?);
     drop(second);
@@ -138,4 +139,42 @@ fn an_accept_is_tried_again_unless_the_descriptor_is_wrong(rt: HostRuntime) {
     // The client's address isn't one.
     let odd = io::Error::from(ErrorKind::InvalidInput);
     assert_eq!(rt; AcceptFault::of(&odd), AcceptFault::Passing);
+}
+
+#[test]
+fn both_sockets_stand_in_one_folder(rt: HostRuntime) -> Result<(), Fail> {
+    let folder = own_path(&rt, "us_four")?;
+    let extra = format!(in rt.alloc(); "{folder}/S.gpg-agent.extra")?;
+    let standard = SocketListener::bind(&rt, rt.alloc(), &folder, Standard)?;
+    fs::write(&rt, &extra, b"old")?;
+    let restricted = SocketListener::bind(&rt, rt.alloc(), &folder, Extra)?;
+    assert_eq!(rt; fs::symlink_metadata(&rt, &extra)?.mode() & 0o777, 0o600);
+    let mut client = UnixStream::connect(&rt, &extra)?;
+    client.write_all(b"NOP\n")?;
+    let mut ear = restricted.ear();
+    let Next::Link(mut link) = restricted.next(&mut ear) else {
+        return Err(Fail::new("no link"));
+    };
+    assert_eq!(rt; link.read(&mut [0u8; 8]), Got::Bytes(4));
+    restricted.done(link);
+    // The end of one removes its own name alone.
+    drop(restricted);
+    assert!(rt; !fs::exists(&rt, &extra)?);
+    drop(UnixStream::connect(&rt, &format!(in rt.alloc(); "{folder}/S.gpg-agent")?)?);
+    drop(standard);
+    fs::remove_dir(&rt, &folder)?;
+    Ok(())
+}
+
+#[test]
+fn the_longer_name_has_the_shorter_folder(rt: HostRuntime) -> Result<(), Fail> {
+    let folder = own_path(&rt, "us_five")?;
+    // A socket's path has at most 107 bytes, and one of these names 11, the other one 17.
+    let more = 95usize.saturating_sub(folder.len());
+    let folder = format!(in rt.alloc(); "{folder}{}", "x".repeat(rt.alloc(), more)?)?;
+    assert!(rt; SocketListener::bind(&rt, rt.alloc(), &folder, Extra).is_err());
+    assert!(rt; !fs::exists(&rt, &folder)?);
+    drop(SocketListener::bind(&rt, rt.alloc(), &folder, Standard)?);
+    fs::remove_dir(&rt, &folder)?;
+    Ok(())
 }

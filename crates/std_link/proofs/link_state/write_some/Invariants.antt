@@ -1,6 +1,6 @@
 use Rattle.std.proofs.Common.{◌≤◌, length, take}
 use Rattle.std.specs.Io.KnownBytes.{Appends}
-use Rattle.std_link.proofs.standing.write_some.Given as goal
+use Rattle.std_link.proofs.link_state.write_some.Given as goal
 
 -- what was sent is what the writer took
 abbrev pub invariant-loop : goal.invariant-loop

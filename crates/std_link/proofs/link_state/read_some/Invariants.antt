@@ -1,5 +1,5 @@
 use Rattle.std.specs.Io.KnownBytes.{Keeps}
-use Rattle.std_link.proofs.standing.read_some.Given as goal
+use Rattle.std_link.proofs.link_state.read_some.Given as goal
 
 -- an interrupted read took nothing
 abbrev pub invariant-loop : goal.invariant-loop

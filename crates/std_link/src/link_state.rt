@@ -8,17 +8,17 @@ use std::io::{ErrorKind, Read, Write};
 
 /// How a link stands beside what it reads and writes: whether all was read, and how many of its calls failed.
 #[derive(Drop)]
-pub(crate) struct Standing {
+pub(crate) struct LinkState {
     pub(crate) ended: bool,
     pub(crate) read_faults: u64,
     pub(crate) write_faults: u64,
 }
 
-impl Standing {
+impl LinkState {
     pub(crate) fn new() -> Self
         ensures { result ≡ record { ended = false; read_faults = 0; write_faults = 0 } }
     {
-        Standing {
+        LinkState {
             ended: false,
             read_faults: 0,
             write_faults: 0,
