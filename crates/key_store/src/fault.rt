@@ -1,8 +1,9 @@
 //! Why a call on the files came to nothing.
 
-ghost use Rattle.std.specs.Prelude.{◌≡◌, ◌↔◌};
+ghost use Rattle.std.specs.Prelude.{◌≡◌, ◌↔◌, ◌≤◌};
 ghost use Rattle.std.specs.IoError.{error_kind};
 ghost use Rattle.std.specs.declared.io.ErrorKind.TheVariants as kind;
+ghost use Rattle.agent_ports.specs.Counts.{Rose};
 ghost use Rattle.key_store.specs.declared.fault.Fault.TheVariants.{Absent, NoMemory};
 
 use std::alloc::AllocError;
@@ -36,4 +37,12 @@ impl From<io::Error> for Fault {
             _ => Fault::Failed,
         }
     }
+}
+
+/// Counts a call that failed.
+pub(crate) fn count_fault(faults: &mut u64)
+    ensures rose { Rose faults.old faults.new }
+    ensures never_falls { faults.old ≤ faults.new }
+{
+    *faults = faults.saturating_add(1);
 }

@@ -1,11 +1,9 @@
-//! One file, read and written whole.
+//! One file, read and replaced whole.
 
 ghost use Rattle.std.specs.Prelude.{◌≤◌, length, IfOk, IsTrue};
 ghost use Rattle.std.specs.Io.KnownBytes.{Consumes, IsAtEnd};
-ghost use Rattle.agent_ports.specs.declared.keys.TheConstants.{MAX_KEY_FILE_LEN};
 
 use crate::fault::Fault;
-use agent_ports::MAX_KEY_FILE_LEN;
 use std::alloc::Global;
 use std::fs::{File, OpenOptions};
 use std::io::{ErrorKind, Read, Write};
@@ -14,16 +12,17 @@ use std::rt::Files;
 use std::{fs, io};
 use wiping::wipe;
 
-/// Reads a regular file of at most `MAX_KEY_FILE_LEN` bytes, with one allocation. Anything else that has this name is a fault,
+/// Reads a regular file of at most so many bytes, with one allocation. Anything else that has this name is a fault,
 /// and so is a file whose length changes meanwhile. A file of another kind isn't opened, since that may wait.
 pub(crate) fn read_file<R: Files<File = File>>(
     rt: &R,
     alloc: Global,
     path: &str,
+    max_len: usize,
 ) -> Result<Vec<u8>, Fault>
-    ensures { IfOk result (λ bytes. length bytes.items ≤ MAX_KEY_FILE_LEN) }
+    ensures { IfOk result (λ bytes. length bytes.items ≤ max_len) }
 {
-    let len = file_len(rt, path)?;
+    let len = file_len(rt, path, max_len)?;
     let mut file = File::open(rt, path)?;
     let mut bytes = vec![in alloc; 0u8; len]?;
     if is_whole(&mut file, &mut bytes) {
@@ -34,15 +33,15 @@ pub(crate) fn read_file<R: Files<File = File>>(
 }
 
 // The length of a regular file that isn't too long.
-fn file_len<R: Files<File = File>>(rt: &R, path: &str) -> Result<usize, Fault>
-    ensures { IfOk result (λ len. len ≤ MAX_KEY_FILE_LEN) }
+fn file_len<R: Files<File = File>>(rt: &R, path: &str, max_len: usize) -> Result<usize, Fault>
+    ensures { IfOk result (λ len. len ≤ max_len) }
 {
     let metadata = match fs::metadata(rt, path) {
         Ok(metadata) => metadata,
         Err(error) => return Err(missing(rt, path, error)),
     };
     match usize::try_from(metadata.len()) {
-        Ok(len) if metadata.is_file() && len <= MAX_KEY_FILE_LEN => Ok(len),
+        Ok(len) if metadata.is_file() && len <= max_len => Ok(len),
         _ => Err(Fault::Failed),
     }
 }
@@ -66,12 +65,46 @@ fn is_whole<R: Read>(reader: &mut R, buf: &mut [u8]) -> bool
     matches!(reader.read(&mut [0]), Ok(0))
 }
 
-/// Writes a file that isn't there yet, which only its owner may read, and syncs it.
-pub(crate) fn write_new_file<R: Files<File = File>>(
+/// Makes these bytes the file at the path, as a whole, under the folder's lock: they are written and synced under the other name in that
+/// folder, which is then renamed. Where it fails the file is as it was.
+pub(crate) fn replace_file<R: Files<File = File>>(
     rt: &R,
+    folder: &str,
     path: &str,
+    new_path: &str,
     bytes: &[u8],
 ) -> io::Result<()> {
+    let folder = lock_folder(rt, folder)?;
+    // What a crash left.
+    remove_leftover(rt, new_path)?;
+    if let Err(error) = put_in_place(rt, path, new_path, bytes) {
+        let _ = fs::remove_file(rt, new_path);
+        return Err(error);
+    }
+    // The file is in its place, whether or not the system can sync a folder.
+    let _ = folder.sync_all();
+    Ok(())
+}
+
+/// The folder, locked until it is dropped: changes in it come one after another, whichever program makes them by this crate.
+pub(crate) fn lock_folder<R: Files<File = File>>(rt: &R, folder: &str) -> io::Result<File> {
+    let folder = File::open(rt, folder)?;
+    folder.lock()?;
+    Ok(folder)
+}
+
+fn put_in_place<R: Files<File = File>>(
+    rt: &R,
+    path: &str,
+    new_path: &str,
+    bytes: &[u8],
+) -> io::Result<()> {
+    write_new_file(rt, new_path, bytes)?;
+    fs::rename(rt, new_path, path)
+}
+
+// Writes a file that isn't there yet, which only its owner may read, and syncs it.
+fn write_new_file<R: Files<File = File>>(rt: &R, path: &str, bytes: &[u8]) -> io::Result<()> {
     let mut file = OpenOptions::new()
         .write(true)
         .create_new(true)

@@ -1,13 +1,12 @@
 ghost use Rattle.std.specs.Prelude.{◌≡◌, ◌≤◌, length, None, IfOk};
 ghost use Rattle.std.specs.List.Sorted.{IsStrictlySortedBy};
 ghost use Rattle.agent_ports.specs.KeyFiles.{grip_cmp};
-ghost use Rattle.agent_ports.specs.Counts.{Rose};
 ghost use Rattle.agent_ports.specs.declared.keys.TheConstants.{MAX_KEY_FILE_LEN};
 
-use crate::fault::Fault;
-use crate::files::{read_file, remove_leftover, write_new_file};
-use crate::names::{KEY_ENDING, NEW_ENDING, folder_path, grip_of_name, key_path};
-use agent_ports::{Grip, KeyDone, KeyNames, KeyRead, Keys};
+use crate::fault::{Fault, count_fault};
+use crate::files::{lock_folder, read_file, remove_leftover, replace_file};
+use crate::names::{KEY_ENDING, NEW_KEY_ENDING, folder_path, grip_of_name, key_path};
+use agent_ports::{Grip, KeyDone, KeyNames, KeyRead, Keys, MAX_KEY_FILE_LEN};
 use std::alloc::{AllocError, Global};
 use std::collections::BTreeSet;
 use std::fs::{DirBuilder, File};
@@ -16,8 +15,7 @@ use std::os::unix::fs::DirBuilderExt;
 use std::rt::Files;
 use std::{fs, io};
 
-/// The keys of a home directory. Changes hold the folder's lock, so that they come one after another, whichever program makes
-/// them by this crate; a read needs none.
+/// The keys of a home directory. Changes hold the lock of the keys' folder; a read needs none.
 #[derive(Drop)]
 pub struct FolderKeys<'a, R> {
     rt: &'a R,
@@ -41,7 +39,7 @@ impl<'a, R: Files<File = File>> FolderKeys<'a, R> {
         ensures { IfOk result (λ bytes. length bytes.items ≤ MAX_KEY_FILE_LEN) }
     {
         let path = key_path(alloc, self.folder.as_str(), grip, KEY_ENDING)?;
-        read_file(self.rt, alloc, path.as_str())
+        read_file(self.rt, alloc, path.as_str(), MAX_KEY_FILE_LEN)
     }
 
     fn list_grips(&self, alloc: Global) -> Result<Vec<Grip>, Fault>
@@ -65,33 +63,21 @@ impl<'a, R: Files<File = File>> FolderKeys<'a, R> {
 
     fn replace_key(&self, alloc: Global, grip: &Grip, file: &[u8]) -> Result<(), Fault> {
         let path = key_path(alloc, self.folder.as_str(), grip, KEY_ENDING)?;
-        let new_path = key_path(alloc, self.folder.as_str(), grip, NEW_ENDING)?;
+        let new_path = key_path(alloc, self.folder.as_str(), grip, NEW_KEY_ENDING)?;
         self.make_folder()?;
-        let folder = self.lock_folder()?;
-        // What a crash left.
-        remove_leftover(self.rt, new_path.as_str())?;
-        if let Err(error) = self.put_in_place(new_path.as_str(), path.as_str(), file) {
-            let _ = fs::remove_file(self.rt, new_path.as_str());
-            return Err(error.into());
-        }
-        // The file is in its place, whether or not the system can sync a folder.
-        let _ = folder.sync_all();
+        let folder = self.folder.as_str();
+        replace_file(self.rt, folder, path.as_str(), new_path.as_str(), file)?;
         Ok(())
     }
 
     fn remove_key(&self, alloc: Global, grip: &Grip) -> Result<(), Fault> {
         let path = key_path(alloc, self.folder.as_str(), grip, KEY_ENDING)?;
-        let new_path = key_path(alloc, self.folder.as_str(), grip, NEW_ENDING)?;
-        let folder = self.lock_folder()?;
+        let new_path = key_path(alloc, self.folder.as_str(), grip, NEW_KEY_ENDING)?;
+        let folder = lock_folder(self.rt, self.folder.as_str())?;
         remove_leftover(self.rt, new_path.as_str())?;
         fs::remove_file(self.rt, path.as_str())?;
         let _ = folder.sync_all();
         Ok(())
-    }
-
-    fn put_in_place(&self, new_path: &str, path: &str, file: &[u8]) -> io::Result<()> {
-        write_new_file(self.rt, new_path, file)?;
-        fs::rename(self.rt, new_path, path)
     }
 
     fn make_folder(&self) -> io::Result<()> {
@@ -102,20 +88,6 @@ impl<'a, R: Files<File = File>> FolderKeys<'a, R> {
             Err(error) if error.kind() != ErrorKind::AlreadyExists => Err(error),
             _ => Ok(()),
         }
-    }
-
-    // The folder, locked until it is dropped.
-    fn lock_folder(&self) -> io::Result<File> {
-        let folder = File::open(self.rt, self.folder.as_str())?;
-        folder.lock()?;
-        Ok(folder)
-    }
-
-    fn count_fault(&mut self)
-        ensures rose { Rose self.old.faults self.new.faults }
-        ensures never_falls { self.old.faults ≤ self.new.faults }
-    {
-        self.faults = self.faults.saturating_add(1);
     }
 }
 
@@ -128,7 +100,7 @@ impl<R: Files<File = File>> Keys for FolderKeys<'_, R> {
             Err(Fault::Absent) => KeyRead::Absent,
             Err(Fault::NoMemory) => KeyRead::NoMemory,
             Err(Fault::Failed) => {
-                self.count_fault();
+                count_fault(&mut self.faults);
                 KeyRead::Failed
             }
         }
@@ -141,7 +113,7 @@ impl<R: Files<File = File>> Keys for FolderKeys<'_, R> {
             Err(Fault::Absent) => KeyNames::Names(Vec::new(alloc)),
             Err(Fault::NoMemory) => KeyNames::NoMemory,
             Err(Fault::Failed) => {
-                self.count_fault();
+                count_fault(&mut self.faults);
                 KeyNames::Failed
             }
         }
@@ -153,7 +125,7 @@ impl<R: Files<File = File>> Keys for FolderKeys<'_, R> {
             Err(Fault::NoMemory) => KeyDone::NoMemory,
             // Also where the home directory isn't there.
             Err(Fault::Absent | Fault::Failed) => {
-                self.count_fault();
+                count_fault(&mut self.faults);
                 KeyDone::Failed
             }
         }
@@ -165,7 +137,7 @@ impl<R: Files<File = File>> Keys for FolderKeys<'_, R> {
             Err(Fault::Absent) => KeyDone::Absent,
             Err(Fault::NoMemory) => KeyDone::NoMemory,
             Err(Fault::Failed) => {
-                self.count_fault();
+                count_fault(&mut self.faults);
                 KeyDone::Failed
             }
         }

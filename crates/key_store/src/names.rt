@@ -11,7 +11,13 @@ use std::alloc::{AllocError, Global};
 pub(crate) const KEY_ENDING: &str = ".key";
 
 /// What a file ends in that is to become a key's. It is no name of a key.
-pub(crate) const NEW_ENDING: &str = ".key.new";
+pub(crate) const NEW_KEY_ENDING: &str = ".key.new";
+
+/// The trust list's file (GnuPG manual, "Agent Configuration").
+pub(crate) const TRUST_NAME: &str = "trustlist.txt";
+
+/// The file that is to become the trust list's.
+pub(crate) const NEW_TRUST_NAME: &str = "trustlist.txt.new";
 
 /// The grip of a key's file: 40 hexadecimal digits of either case, and the ending.
 pub(crate) fn grip_of_name(name: &str) -> Option<Grip>
@@ -26,8 +32,16 @@ pub(crate) fn grip_of_name(name: &str) -> Option<Grip>
 pub(crate) fn folder_path(alloc: Global, homedir: &str) -> Result<String, AllocError>
     ensures { IfOk result (λ path. string_bytes path ≡ homedir.now ++ codes "/private-keys-v1.d") }
 {
-    let mut path = String::from_str(alloc, homedir)?;
-    path.push_str("/private-keys-v1.d")?;
+    path_in(alloc, homedir, "private-keys-v1.d")
+}
+
+/// What has this name in a folder.
+pub(crate) fn path_in(alloc: Global, folder: &str, name: &str) -> Result<String, AllocError>
+    ensures { IfOk result (λ path. string_bytes path ≡ folder.now ++ codes "/" ++ name.now) }
+{
+    let mut path = String::from_str(alloc, folder)?;
+    path.push_str("/")?;
+    path.push_str(name)?;
     Ok(path)
 }
 
@@ -41,9 +55,7 @@ pub(crate) fn key_path(
     ensures { IfOk result (λ path. string_bytes path ≡ folder.now ++ codes "/" ++ encode_upper grip.now.0 ++ ending.now) }
 {
     let digits = hex::encode_upper(alloc, &grip.0)?;
-    let mut path = String::from_str(alloc, folder)?;
-    path.push_str("/")?;
-    path.push_str(digits.as_str())?;
+    let mut path = path_in(alloc, folder, digits.as_str())?;
     path.push_str(ending)?;
     Ok(path)
 }

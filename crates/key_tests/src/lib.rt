@@ -22,4 +22,6 @@ mod lists;
 #[cfg(test)]
 mod modes;
 #[cfg(test)]
+mod trust;
+#[cfg(test)]
 mod wrapping;

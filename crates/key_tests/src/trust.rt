@@ -1,0 +1,110 @@
+use agent_ports::{TrustDone, TrustFile, TrustRead};
+use key_store::FolderTrust;
+use std::alloc::{AllocError, Global};
+use std::fs;
+use std::os::unix::fs::{MetadataExt, symlink};
+use std::test::Fail;
+
+#[derive(Clone, Copy)]
+enum Asked<'a> {
+    Read,
+    Replace(&'a [u8]),
+}
+
+use Asked::{Read, Replace};
+
+// What a call answers, as text: a short file's bytes, or how many there are.
+fn answer<T: TrustFile>(alloc: Global, trust: &mut T, asked: Asked) -> Result<String, AllocError> {
+    match asked {
+        Read => match trust.read(alloc) {
+            TrustRead::Found(file) if file.len() > 9 => format!(in alloc; "{} bytes", file.len()),
+            TrustRead::Found(file) => Ok(String::from_utf8(file).unwrap_or(String::new(alloc))),
+            TrustRead::Absent => String::from_str(alloc, "absent"),
+            TrustRead::Failed => String::from_str(alloc, "failed"),
+            TrustRead::NoMemory => String::from_str(alloc, "no memory"),
+        },
+        Replace(file) => {
+            let done = trust.replace(alloc, file);
+            format!(in alloc; "{done:?}")
+        }
+    }
+}
+
+// The first row that is answered otherwise.
+fn first_wrong<T: TrustFile>(
+    alloc: Global,
+    trust: &mut T,
+    rows: &[(Asked, &str)],
+) -> Result<Option<String>, AllocError> {
+    for (i, (asked, want)) in rows.iter().enumerate() {
+        let got = answer(alloc, trust, *asked)?;
+        if got.as_str() != *want {
+            return Ok(Some(format!(in alloc; "{i}: {got}")?));
+        }
+    }
+    Ok(None)
+}
+
+#[test]
+fn a_list_that_is_made_and_replaced(rt: HostRuntime) -> Result<(), Fail> {
+    let alloc = rt.alloc();
+    let _ = fs::remove_dir_all(&rt, "trusting");
+    let mut trust = FolderTrust::new(&rt, alloc, "trusting")?;
+    let no_home = [(Read, "absent"), (Replace(b"one\n"), "Failed")];
+    assert_eq!(rt; first_wrong(alloc, &mut trust, &no_home)?, None);
+    fs::create_dir(&rt, "trusting")?;
+    // What a crash left, and a longest file.
+    fs::write(&rt, "trusting/trustlist.txt.new", b"left")?;
+    let long = vec![in alloc; b'x'; 65_536]?;
+    let longer = vec![in alloc; b'x'; 65_537]?;
+    let rows = [
+        (Read, "absent"),
+        (Replace(b"one\n"), "Done"),
+        (Read, "one\n"),
+        (Replace(b"no end"), "Done"),
+        (Read, "no end"),
+        (Replace(&longer), "Failed"),
+        (Read, "no end"),
+        (Replace(&long), "Done"),
+        (Read, "65536 bytes"),
+        (Replace(b""), "Done"),
+        (Read, ""),
+    ];
+    assert_eq!(rt; first_wrong(alloc, &mut trust, &rows)?, None);
+    let mode = fs::metadata(&rt, "trusting/trustlist.txt")?.mode() & 0o777;
+    assert_eq!(rt; mode, 0o600);
+    assert!(rt; !fs::exists(&rt, "trusting/trustlist.txt.new")?);
+    fs::remove_dir_all(&rt, "trusting")?;
+    Ok(())
+}
+
+#[test]
+fn what_else_has_the_name_of_the_list(rt: HostRuntime) -> Result<(), Fail> {
+    let alloc = rt.alloc();
+    let _ = fs::remove_dir_all(&rt, "distrusting");
+    fs::create_dir_all(&rt, "distrusting/trustlist.txt")?;
+    let mut trust = FolderTrust::new(&rt, alloc, "distrusting")?;
+    // A folder is neither read nor replaced.
+    let folder = [(Read, "failed"), (Replace(b"one\n"), "Failed")];
+    assert_eq!(rt; first_wrong(alloc, &mut trust, &folder)?, None);
+    assert!(rt; !fs::exists(&rt, "distrusting/trustlist.txt.new")?);
+    fs::remove_dir(&rt, "distrusting/trustlist.txt")?;
+    // A link is followed, and one that leads nowhere is a fault. A new list takes the link's place.
+    symlink(&rt, "elsewhere", "distrusting/trustlist.txt")?;
+    assert_eq!(rt; first_wrong(alloc, &mut trust, &[(Read, "failed")])?, None);
+    fs::write(&rt, "distrusting/elsewhere", b"there\n")?;
+    let link = [
+        (Read, "there\n"),
+        (Replace(b"here\n"), "Done"),
+        (Read, "here\n"),
+    ];
+    assert_eq!(rt; first_wrong(alloc, &mut trust, &link)?, None);
+    let linked = fs::read(&rt, "distrusting/elsewhere")?;
+    assert_eq!(rt; linked.as_slice(), b"there\n".as_slice());
+    // A longer file isn't cut.
+    let longer = vec![in alloc; b'x'; 65_537]?;
+    fs::write(&rt, "distrusting/trustlist.txt", &longer)?;
+    assert_eq!(rt; first_wrong(alloc, &mut trust, &[(Read, "failed")])?, None);
+    fs::remove_dir_all(&rt, "distrusting")?;
+    Ok(())
+}
