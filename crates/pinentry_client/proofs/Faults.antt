@@ -43,9 +43,9 @@ grew_then : (failed : Bool) (before mid after : ℕ) → RoseBy 0 before mid →
 grew_then true before mid after first second = omega (arith, first, second)
 grew_then false before mid after first second = omega (arith, first, second)
 
-grew_at_all : (failed : Bool) (before after : ℕ) → RoseBy (cond failed 1 0) before after → RoseBy 0 before after
-grew_at_all true before after grew = omega (arith, grew)
-grew_at_all false before after grew = grew
+grew_never_falls : (failed : Bool) (before after : ℕ) → RoseBy (cond failed 1 0) before after → RoseBy 0 before after
+grew_never_falls true before after grew = omega (arith, grew)
+grew_never_falls false before after grew = grew
 
 read_grew : (failed : Bool) (input output input_after output_after : ℕ) → input ≤ input_after → output_after ≡ output → (failed ≡ true → Rose input input_after)
     → RoseBy (cond failed 1 0) (input + output) (input_after + output_after)
@@ -157,7 +157,7 @@ sets_grew (Sets.stopped tells) = told_grew tells
 pub start_grew : {spec : PromptSpec} {before after : Connection} {end : Result ℕ Trouble} → StartTalk spec before end after → Grew (fails_by end) before after
 start_grew {before} {after} {end} (greets {mid} said has is sets) =
     grew_then (fails_by end) (faults before) (faults mid) (faults after)
-    (grew_at_all (is_fault said) (faults before) (faults mid) (answered_grew said has)) (sets_grew sets)
+    (grew_never_falls (is_fault said) (faults before) (faults mid) (answered_grew said has)) (sets_grew sets)
 start_grew {before} {after} (StartTalk.stopped {trouble} said has is) =
     weaker (is_fault said) (is_failure trouble) (faults before) (faults after)
     (λ failed. greeted_fails said (rw is failed)) (answered_grew said has)

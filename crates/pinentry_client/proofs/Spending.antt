@@ -64,9 +64,9 @@ spent_took took.End is = cc is
 spent_took took.Spent is = refl
 spent_took took.ReadFault is = cc is
 
-answered_all : {tally : Tally} {said : Answer} {rest : List ℕ} {before after : Connection} → before.input.bytes ≡ Some rest → ReadOn tally said before after
+answered_takes_all : {tally : Tally} {said : Answer} {rest : List ℕ} {before after : Connection} → before.input.bytes ≡ Some rest → ReadOn tally said before after
     → TookAll (said ≡ spent_answer) rest before after
-answered_all {rest} {before} {after} is has =
+answered_takes_all {rest} {before} {after} is has =
     let known = both_known before.input.bytes after.input.bytes (λ bytes left. length bytes + after.reader.left ≡ length left + before.reader.left)
     (λ bytes left. length bytes + after.reader.left ≡ length left + before.reader.left) rest is has.read.budget has.read.budget in
     record {
@@ -74,14 +74,14 @@ answered_all {rest} {before} {after} is has =
       spent = λ spent. has.read.spent (spent_took has.took (sym has.read.ended ∙ has.ended ∙ ap ended_of spent));
     }
 
-written_all : {text : List ℕ} {tally : Tally} (said : Answer) {rest : List ℕ} {before after : Connection} → said ≢ answer.WriteFault → before.input.bytes ≡ Some rest
+written_takes_all : {text : List ℕ} {tally : Tally} (said : Answer) {rest : List ℕ} {before after : Connection} → said ≢ answer.WriteFault → before.input.bytes ≡ Some rest
     → Command text tally said before after → TookAll (said ≡ spent_answer) rest before after
-written_all said not is has =
-    let whole = answered_all is (has.answered not).answered in
+written_takes_all said not is has =
+    let whole = answered_takes_all is (has.answered not).answered in
     record { took = record { left = whole.took.left; known = whole.took.known; budget = whole.took.budget }; spent = whole.spent }
 
-cut_all : {text : List ℕ} {P : Type 0} {rest : List ℕ} {before after : Connection} → ¬ P → before.input.bytes ≡ Some rest → IsUnanswered text before after → TookAll P rest before after
-cut_all {rest} {before} {after} never is cut = record {
+cut_takes_all : {text : List ℕ} {P : Type 0} {rest : List ℕ} {before after : Connection} → ¬ P → before.input.bytes ≡ Some rest → IsUnanswered text before after → TookAll P rest before after
+cut_takes_all {rest} {before} {after} never is cut = record {
   took = record {
     left = rest;
     known = ap (λ (s : Side). s.bytes) cut.input ∙ is;
@@ -90,15 +90,15 @@ cut_all {rest} {before} {after} never is cut = record {
   spent = λ p. absurd (never p);
 }
 
-exchanged_all : {text : List ℕ} {tally : Tally} (said : Answer) {rest : List ℕ} {before after : Connection} → before.input.bytes ≡ Some rest
+exchanged_takes_all : {text : List ℕ} {tally : Tally} (said : Answer) {rest : List ℕ} {before after : Connection} → before.input.bytes ≡ Some rest
     → Command text tally said before after → TookAll (said ≡ spent_answer) rest before after
-exchanged_all answer.WriteFault is has = cut_all (λ same. cc same) is (has.unanswered refl)
-exchanged_all answer.Ok is has = written_all answer.Ok (λ same. absurd (cc same)) is has
-exchanged_all (answer.Got bytes) is has = written_all (answer.Got bytes) (λ same. absurd (cc same)) is has
-exchanged_all (answer.Err number) is has = written_all (answer.Err number) (λ same. absurd (cc same)) is has
-exchanged_all (answer.Asked word text) is has = written_all (answer.Asked word text) (λ same. absurd (cc same)) is has
-exchanged_all (answer.Broken why) is has = written_all (answer.Broken why) (λ same. absurd (cc same)) is has
-exchanged_all answer.ReadFault is has = written_all answer.ReadFault (λ same. absurd (cc same)) is has
+exchanged_takes_all answer.WriteFault is has = cut_takes_all (λ same. cc same) is (has.unanswered refl)
+exchanged_takes_all answer.Ok is has = written_takes_all answer.Ok (λ same. absurd (cc same)) is has
+exchanged_takes_all (answer.Got bytes) is has = written_takes_all (answer.Got bytes) (λ same. absurd (cc same)) is has
+exchanged_takes_all (answer.Err number) is has = written_takes_all (answer.Err number) (λ same. absurd (cc same)) is has
+exchanged_takes_all (answer.Asked word text) is has = written_takes_all (answer.Asked word text) (λ same. absurd (cc same)) is has
+exchanged_takes_all (answer.Broken why) is has = written_takes_all (answer.Broken why) (λ same. absurd (cc same)) is has
+exchanged_takes_all answer.ReadFault is has = written_takes_all answer.ReadFault (λ same. absurd (cc same)) is has
 
 process_never : (within : Bool) (number : ℕ) → (let end : Result ℕ Trouble = cond within (Ok number) (Err (Broken breach.Data)) in end) ≡ Err (Broken breach.Spent) → ⊥
 process_never true number is = cc is
@@ -139,41 +139,41 @@ greeted_spent (answer.Broken why) is = cc is
 greeted_spent answer.ReadFault is = cc is
 greeted_spent answer.WriteFault is = cc is
 
-told_all : {spec : PromptSpec} {which : Setting} {pid : ℕ} {end : Result ℕ Trouble} {rest : List ℕ} {before after : Connection} → before.input.bytes ≡ Some rest
+told_takes_all : {spec : PromptSpec} {which : Setting} {pid : ℕ} {end : Result ℕ Trouble} {rest : List ℕ} {before after : Connection} → before.input.bytes ≡ Some rest
     → TellsSetting spec which pid before end after → TookAll (end ≡ Err (Broken breach.Spent)) rest before after
-told_all {before} is (unsent absent) = record { took = took_none before is; spent = λ same. absurd (cc same) }
-told_all {which} {pid} is (sent line said sends does) = all_as (applied_spent which pid said) (exchanged_all said is does)
+told_takes_all {before} is (unsent absent) = record { took = took_none before is; spent = λ same. absurd (cc same) }
+told_takes_all {which} {pid} is (sent line said sends does) = all_as (applied_spent which pid said) (exchanged_takes_all said is does)
 
-sets_all : {spec : PromptSpec} {settings : List Setting} {pid : ℕ} {end : Result ℕ Trouble} {rest : List ℕ} {before after : Connection} → before.input.bytes ≡ Some rest
+sets_take_all : {spec : PromptSpec} {settings : List Setting} {pid : ℕ} {end : Result ℕ Trouble} {rest : List ℕ} {before after : Connection} → before.input.bytes ≡ Some rest
     → Sets spec settings pid before end after → TookAll (end ≡ Err (Broken breach.Spent)) rest before after
-sets_all {before} is done = record { took = took_none before is; spent = λ same. absurd (cc same) }
-sets_all is (next tells more) = let first = told_all is tells in all_then first.took (sets_all first.took.known more)
-sets_all is (Sets.stopped tells) = told_all is tells
+sets_take_all {before} is done = record { took = took_none before is; spent = λ same. absurd (cc same) }
+sets_take_all is (next tells more) = let first = told_takes_all is tells in all_then first.took (sets_take_all first.took.known more)
+sets_take_all is (Sets.stopped tells) = told_takes_all is tells
 
 retyped : {trouble : Trouble} → (let end : Result ℕ Trouble = Err trouble in end) ≡ Err (Broken breach.Spent)
     → (let end : Result (Unit {0}) Trouble = Err trouble in end) ≡ Err (Broken breach.Spent)
 retyped {trouble} same = let is : trouble ≡ Broken breach.Spent = cc same in ap (λ (t : Trouble). Err t) is
 
-start_all : {spec : PromptSpec} {end : Result ℕ Trouble} {rest : List ℕ} {before after : Connection} → before.input.bytes ≡ Some rest
+start_takes_all : {spec : PromptSpec} {end : Result ℕ Trouble} {rest : List ℕ} {before after : Connection} → before.input.bytes ≡ Some rest
     → StartTalk spec before end after → TookAll (end ≡ Err (Broken breach.Spent)) rest before after
-start_all is (greets said has well sets) = let first = answered_all is has in all_then first.took (sets_all first.took.known sets)
-start_all is (StartTalk.stopped said has stops) = all_as (λ same. greeted_spent said (stops ∙ retyped same)) (answered_all is has)
+start_takes_all is (greets said has well sets) = let first = answered_takes_all is has in all_then first.took (sets_take_all first.took.known sets)
+start_takes_all is (StartTalk.stopped said has stops) = all_as (λ same. greeted_spent said (stops ∙ retyped same)) (answered_takes_all is has)
 
-replied_all : (rated : Bool) (text : List ℕ) (said : Answer) {rest : List ℕ} (before after : Connection) → before.input.bytes ≡ Some rest
+replied_takes_all : (rated : Bool) (text : List ℕ) (said : Answer) {rest : List ℕ} (before after : Connection) → before.input.bytes ≡ Some rest
     → Replies rated text said before after → TookAll (said ≡ spent_answer) rest before after
-replied_all true text said before after is (pieces, are, does) = exchanged_all said is does
-replied_all false text said before after is does = exchanged_all said is does
+replied_takes_all true text said before after is (pieces, are, does) = exchanged_takes_all said is does
+replied_takes_all false text said before after is does = exchanged_takes_all said is does
 
-settled_all : {rates : Bool} {said final : Answer} {rest : List ℕ} (start : Connection) {before after : Connection} → TookAll (said ≡ spent_answer) rest start before
+settled_takes_all : {rates : Bool} {said final : Answer} {rest : List ℕ} (start : Connection) {before after : Connection} → TookAll (said ≡ spent_answer) rest start before
     → Settles rates said before final after → TookAll (final ≡ spent_answer) rest start after
-settled_all start all (answered last) = all
-settled_all {rates} start {before} all (inquired {word} {text} {said = reply} {mid} replies more) =
-    settled_all start (all_then all.took (replied_all (rates && bytes_eq word (codes "QUALITY")) text reply before mid all.took.known replies)) more
+settled_takes_all start all (answered last) = all
+settled_takes_all {rates} start {before} all (inquired {word} {text} {said = reply} {mid} replies more) =
+    settled_takes_all start (all_then all.took (replied_takes_all (rates && bytes_eq word (codes "QUALITY")) text reply before mid all.took.known replies)) more
 
-error_all : {error : List ℕ} {end : Result (Unit {0}) Trouble} {rest : List ℕ} {before after : Connection} → before.input.bytes ≡ Some rest → ErrorTalk error before end after
+error_takes_all : {error : List ℕ} {end : Result (Unit {0}) Trouble} {rest : List ℕ} {before after : Connection} → before.input.bytes ≡ Some rest → ErrorTalk error before end after
     → TookAll (end ≡ Err (Broken breach.Spent)) rest before after
-error_all {before} is (none empty) = record { took = took_none before is; spent = λ same. absurd (cc same) }
-error_all is (shown line said some sends does) = all_as (accepted_spent said) (exchanged_all said is does)
+error_takes_all {before} is (none empty) = record { took = took_none before is; spent = λ same. absurd (cc same) }
+error_takes_all is (shown line said some sends does) = all_as (accepted_spent said) (exchanged_takes_all said is does)
 
 by_three : (number : ℕ) (first second third : Bool)
     → (cond first outcome.Cancelled (cond second outcome.Cancelled (cond third outcome.TimedOut (outcome.Broken (breach.Code number))))) ≡ outcome.Broken breach.Spent → ⊥
@@ -195,12 +195,12 @@ trouble_spent : (trouble : Trouble) → outcome_by trouble ≡ outcome.Broken br
 trouble_spent Failed is = cc is
 trouble_spent (Broken why) is = cc is
 
-pub pin_all : {error : List ℕ} {what : Outcome} {rest : List ℕ} {before after : Connection} → before.input.bytes ≡ Some rest → PinTalk error before what after
+pub pin_takes_all : {error : List ℕ} {what : Outcome} {rest : List ℕ} {before after : Connection} → before.input.bytes ≡ Some rest → PinTalk error before what after
     → TookAll (what ≡ outcome.Broken breach.Spent) rest before after
-pin_all {before} is (PinTalk.asked said final shows does settles) =
-    let first = error_all is shows in
-    all_as (pin_spent final) (settled_all before (all_then first.took (exchanged_all said first.took.known does)) settles)
-pin_all is (PinTalk.stopped trouble shows) = all_as (trouble_spent trouble) (error_all is shows)
+pin_takes_all {before} is (PinTalk.asked said final shows does settles) =
+    let first = error_takes_all is shows in
+    all_as (pin_spent final) (settled_takes_all before (all_then first.took (exchanged_takes_all said first.took.known does)) settles)
+pin_takes_all is (PinTalk.stopped trouble shows) = all_as (trouble_spent trouble) (error_takes_all is shows)
 
 by_four : (number : ℕ) (first second third fourth : Bool)
     → (cond first consent.Cancelled (cond second consent.Cancelled (cond third consent.TimedOut (cond fourth consent.No (consent.Broken (breach.Code number)))))) ≡ consent.Broken breach.Spent
@@ -220,9 +220,9 @@ consent_spent (answer.Broken why) is = cc is
 consent_spent answer.ReadFault is = cc is
 consent_spent answer.WriteFault is = cc is
 
-pub consent_all : {what : Consent} {rest : List ℕ} {before after : Connection} → before.input.bytes ≡ Some rest → ConsentTalk before what after
+pub consent_takes_all : {what : Consent} {rest : List ℕ} {before after : Connection} → before.input.bytes ≡ Some rest → ConsentTalk before what after
     → TookAll (what ≡ consent.Broken breach.Spent) rest before after
-consent_all {before} is (ConsentTalk.asked said final does settles) = all_as (consent_spent final) (settled_all before (exchanged_all said is does) settles)
+consent_takes_all {before} is (ConsentTalk.asked said final does settles) = all_as (consent_spent final) (settled_takes_all before (exchanged_takes_all said is does) settles)
 
 -- of the questions to a child: what is left of its bytes, and how many more may be taken
 record Left (rest : List ℕ) (conn : Connection) (ready : Bool) (calls : List Call) (input : Side) : Type 0 where
@@ -252,7 +252,7 @@ here_or_later (later has) first later_on = later_on has
 left_of : {conn : Connection} {ready : Bool} {calls : List Call} {input output : Side} {rest : List ℕ} → conn.input.bytes ≡ Some rest → Questions conn ready calls input output
     → Left rest conn ready calls input
 left_of {conn} {ready} {rest} is (Questions.pin {error} {outcome = what} talk more) =
-    let first = pin_all is talk in
+    let first = pin_takes_all is talk in
     let behind = left_of first.took.known more in
     record {
       left = behind.left;
@@ -264,7 +264,7 @@ left_of {conn} {ready} {rest} is (Questions.pin {error} {outcome = what} talk mo
           (λ spent. let came = spent_pin error what spent in behind.idle (ap stays_ready came) ∙ first.spent came) behind.spent;
     }
 left_of {conn} {ready} {rest} is (Questions.consent {consent = what} talk more) =
-    let first = consent_all is talk in
+    let first = consent_takes_all is talk in
     let behind = left_of first.took.known more in
     record {
       left = behind.left;
@@ -287,7 +287,7 @@ left_of {conn} {rest} is (Questions.shut says) = record {
 pub all_taken : (calls : List Call) (given : List ℕ) (left written : Option (List ℕ)) → Dialogue calls (Some given) left written → HasSpent calls
     → (rest : List ℕ) × (left ≡ Some rest) × (length given ≡ length rest + BUDGET)
 all_taken calls given left written talk has =
-    let first = start_all talk.given_are talk.starts in
+    let first = start_takes_all talk.given_are talk.starts in
     let behind = left_of first.took.known talk.asks in
     let none_left : behind.remaining ≡ 0 =
     here_or_later (subst HasSpent talk.calls_are has)

@@ -2,13 +2,20 @@
 
 ghost use Rattle.std.specs.Prelude.{◌≡◌, ◌+◌, ℕ, List, length, Option, Some};
 ghost use Rattle.agent_ask.specs.Events.{Call};
+ghost use Rattle.agent_ask.specs.Prompters.{IsCall};
 ghost use Rattle.agent_ports.specs.Leads.{Leads};
-ghost use Rattle.pinentry_client.specs.Dialogues.{PinentryCall};
-ghost use Rattle.pinentry_client.specs.States.{PinentryState};
+ghost use Rattle.pinentry_client.specs.Dialogues.{PinentryCall, PinentryDoes};
+ghost use Rattle.pinentry_client.specs.States.{AtPinentry, PinentryState, at_prompter};
 ghost use Rattle.pinentry_client.specs.Whole.{IsOnePrompt, HasItsChild, Dialogue, AskAlike, HasSpent};
 ghost use Rattle.assuan_line.specs.declared.reader.TheConstants.{BUDGET};
 
 use agent_ports::Launcher;
+
+/// Each call keeps a prompter's promise by what it does to the launcher and the child alone. So a call that failed raised their count, which
+/// without a child is the launcher's.
+pub fn a_pinentry_is_a_prompter()
+    ensures { (before : AtPinentry) (call : Call) (after : AtPinentry) → PinentryDoes before call after → IsCall (at_prompter before) call (at_prompter after) }
+{}
 
 /// The calls of one prompt are a dialogue with one child, which runs the pinentry's program, is the next that the launcher starts, and
 /// then the last that it has finished. Where it couldn't be started, there is no child.

@@ -35,7 +35,7 @@ impl<'a, La: Launcher> Model for Pinentry<'a, La> {
 }
 
 impl<'a, La: Launcher> Pinentry<'a, La> {
-    /// Children of this program, by this launcher.
+    /// Prompts by `program`, started anew for each prompt.
     pub fn new(alloc: Global, launcher: &'a mut La, program: Word) -> Self
         ensures program { result.program ≡ program.items }
         ensures launcher { result.launcher ≡ launcher.old }
