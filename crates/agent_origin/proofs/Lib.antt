@@ -4,7 +4,16 @@ mod Trusting
 mod Outer
 mod OuterKeys
 mod OuterTrust
+pub mod OuterSessions
+pub mod OuterRuns
+mod NewTrustFiles
 mod Prompts
 mod Replying
 mod WorkedExamples
 mod WorkedExchanges
+mod AtDoor
+pub mod Beside
+mod Meeting
+mod Served
+mod Serving
+pub mod Turning

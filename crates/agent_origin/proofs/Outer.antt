@@ -6,7 +6,7 @@ use Rattle.std.specs.Str.{str_eq_ignore_ascii_case}
 use Rattle.agent_ask.specs.Events.{PromptEvent}
 use Rattle.agent_ask.specs.Failing.{fails, said_last}
 use Rattle.agent_ask.specs.Further.{FurtherEvent}
-use Rattle.agent_ask.specs.SessionEvents.{AnyEvent, Received, Sent, Cut, Inquiry, CacheTurn, Further, turns_in}
+use Rattle.agent_ask.specs.SessionEvents.{AnyEvent, Received, Sent, Cut, Inquiry, CacheTurn, Further, cache_turn, turns_in}
 use Rattle.agent_ask.specs.declared.ask.Asked.{Asked as Answer}
 use Rattle.agent_ask.specs.declared.consent.Agreed.{Agreed}
 use Rattle.agent_ask.specs.declared.spec.AskPlan.{AskPlan}
@@ -36,25 +36,28 @@ use Rattle.assuan_text.specs.Words.{command_of, rest_of, words}
 use Rattle.arrayvec.specs.ArrayVec.{ArrayVec}
 use Rattle.assuan_server.specs.declared.errors.Code.TheVariants.{UnknownCommand}
 use Rattle.cache_policy.specs.declared.mark.MarkStep.{MarkStep}
-use Rattle.cache_policy.specs.declared.mark.MarkStep.TheVariants.{Seat}
+use Rattle.cache_policy.specs.declared.mark.MarkStep.TheVariants.{Seat, Close}
 use Rattle.session_options.specs.declared.options.PinMode.{PinMode}
 use Rattle.cache_policy.specs.Extending.{Taken}
+use Rattle.cache_policy.specs.Turns.{Open}
 use Rattle.session_client.specs.declared.unheard.Unheard.{Unheard}
 use Rattle.session_options.specs.OptionValues.{OptionValues}
 use Rattle.session_options.specs.declared.rules.Rules.{Rules}
 use Rattle.agent_origin.specs.Doors.{rules, rule_named, leaves_cache, passes, passes_by, allowed}
-use Rattle.agent_origin.specs.OuterTurns.{seats, closes, AreOuterTurns, LeavesCache}
+use Rattle.agent_origin.specs.OuterTurns.{AreOuterTurns, no_turns, peeks, unseated, seated, LeavesCache}
 use Rattle.agent_origin.specs.declared.door.Door.TheVariants.{Outer}
 use Rattle.agent_origin.specs.declared.door.Rule.{Rule}
 use Rattle.agent_origin.specs.declared.door.Rule.TheVariants.{Always, NotTheMode, AboutTheAgent, Uncached, Never}
 
 -- ---- events
 
-are_outer_then : (first second : List Taken) → AreOuterTurns first → AreOuterTurns second → AreOuterTurns (first ++ second)
-are_outer_then [] second before after = after
-are_outer_then (taken ∷ more) second before after = (before.0, are_outer_then more second before.1 after)
+are_outer_then : {first second : List Taken} → AreOuterTurns first → AreOuterTurns second → AreOuterTurns (first ++ second)
+are_outer_then no_turns after = after
+are_outer_then (peeks before) after = peeks (are_outer_then before after)
+are_outer_then (unseated by before) after = unseated by (are_outer_then before after)
+are_outer_then (seated before) after = seated (are_outer_then before after)
 
-turns_then : {T O F : Type 0} (first second : List (AnyEvent T O F)) → turns_in (first ++ second) ≡ turns_in first ++ turns_in second
+pub turns_then : {T O F : Type 0} (first second : List (AnyEvent T O F)) → turns_in (first ++ second) ≡ turns_in first ++ turns_in second
 turns_then [] second = refl
 turns_then (Received took ∷ more) second = turns_then more second
 turns_then (Sent text ∷ more) second = turns_then more second
@@ -64,47 +67,52 @@ turns_then (CacheTurn taken ∷ more) second = ap (λ (t : List Taken). taken �
 turns_then (Further what ∷ more) second = turns_then more second
 
 pub leaves_then : {T O F : Type 0} (first second : List (AnyEvent T O F)) → LeavesCache first → LeavesCache second → LeavesCache (first ++ second)
-leaves_then first second before after = subst AreOuterTurns (sym (turns_then first second)) (are_outer_then (turns_in first) (turns_in second) before after)
+leaves_then first second before after = subst AreOuterTurns (sym (turns_then first second)) (are_outer_then before after)
 
 -- a prompt takes no turn
-pub prompt_leaves : {prompt : List PromptEvent} {events : List (Event FurtherEvent)} → AnyInSession session_lines prompt events → LeavesCache events
-prompt_leaves none = tt
-prompt_leaves (called more) = prompt_leaves more
-prompt_leaves (noted says more) = prompt_leaves more
-prompt_leaves (out_of_memory more) = prompt_leaves more
+pub prompt_still : {prompt : List PromptEvent} {events : List (Event FurtherEvent)} → AnyInSession session_lines prompt events → turns_in events ≡ []
+prompt_still none = refl
+prompt_still (called more) = prompt_still more
+prompt_still (noted says more) = prompt_still more
+prompt_still (out_of_memory more) = prompt_still more
 
-prompts_leave : {A : Type 0} {Asks : List A → List PromptEvent → A → Type 0} {before after : List A} {events : List (Event FurtherEvent)} → Prompts session_lines Asks before events after → LeavesCache events
-prompts_leave no_more = tt
-prompts_leave (next {shown} {more} asks in_session later) = leaves_then shown more (prompt_leaves in_session) (prompts_leave later)
+prompts_still : {A : Type 0} {Asks : List A → List PromptEvent → A → Type 0} {before after : List A} {events : List (Event FurtherEvent)} → Prompts session_lines Asks before events after → turns_in events ≡ []
+prompts_still no_more = refl
+prompts_still (next {shown} {more} asks in_session later) =
+    turns_then shown more ∙ ap (λ (t : List Taken). t ++ turns_in more) (prompt_still in_session) ∙ prompts_still later
 
 -- ---- exchanges
 
 pub said_leaves : (T O F : Type 0) (line : Option (List ℕ)) → LeavesCache (said_last {T = T} {O = O} {F = F} line)
-said_leaves T O F None = tt
-said_leaves T O F (Some line) = tt
+said_leaves T O F None = no_turns
+said_leaves T O F (Some line) = no_turns
 
 fails_leave : {F : Type 0} {why : Unheard} {events : List (Event F)} {went : Went} → Fails why events went → LeavesCache events
 fails_leave {why} fails = said_leaves _ _ _ (session_lines.refusal why)
 
 unsaid_leaves : {F : Type 0} {events : List (Event F)} {went : Went} → WithoutPassphrase events went → LeavesCache events
 unsaid_leaves (no_data is client_fails) = fails_leave client_fails
-unsaid_leaves (limit_cut unsent split) = tt
+unsaid_leaves (limit_cut unsent split) = no_turns
 
 pin_leaves : {F : Type 0} {plain : Bool} {answer : Answer} {keep : Option (List ℕ)} {events : List (Event F)} {went : Went} → EndsPin plain answer keep events went → LeavesCache events
-pin_leaves (pin is) = tt
-pin_leaves cancelled = tt
-pin_leaves timed_out = tt
-pin_leaves no_pinentry = tt
-pin_leaves bad = tt
+pin_leaves (pin is) = no_turns
+pin_leaves cancelled = no_turns
+pin_leaves timed_out = no_turns
+pin_leaves no_pinentry = no_turns
+pin_leaves bad = no_turns
 pin_leaves (unheard is client_fails) = fails_leave client_fails
 
 consent_leaves : {F : Type 0} {answer : Agreed} {keep : Option (List ℕ)} {events : List (Event F)} {went : Went} → EndsConsent answer keep events went → LeavesCache events
-consent_leaves yes = tt
-consent_leaves no = tt
-consent_leaves cancelled = tt
-consent_leaves timed_out = tt
-consent_leaves no_pinentry = tt
+consent_leaves yes = no_turns
+consent_leaves no = no_turns
+consent_leaves cancelled = no_turns
+consent_leaves timed_out = no_turns
+consent_leaves no_pinentry = no_turns
 consent_leaves (unheard is client_fails) = fails_leave client_fails
+
+-- behind the turn by which the seat was had
+abbrev GivesBack : {F : Type 0} → ℕ → List (Event F) → Type 0
+GivesBack ticket events = AreOuterTurns (record { asked = Seat None None; turn = Open ticket } ∷ turns_in events)
 
 module _ {A : Type 0} {Ends : A → Option (List ℕ) → List (Event FurtherEvent) → Went → Type 0}
     (each : (answer : A) (keep : Option (List ℕ)) (events : List (Event FurtherEvent)) (went : Went) → Ends answer keep events went → LeavesCache events) where
@@ -113,14 +121,17 @@ module _ {A : Type 0} {Ends : A → Option (List ℕ) → List (Event FurtherEve
   ends_leave (answer ∷ []) keep events went ends = each answer keep events went ends
   ends_leave (answer ∷ second ∷ more) keep events went ends = absurd ends
 
-  under_leaves : {Asks : List PromptEvent → A → Type 0} {ticket : ℕ} {events : List (Event FurtherEvent)} {went : Went} → UnderTicket Asks Ends ticket events went → LeavesCache events
-  under_leaves {went} (asked_under {shown} {events} {answers} {keep} turn prompts ends) =
-      leaves_then shown _ (prompts_leave prompts) (closes, ends_leave answers keep events went ends)
+  under_leaves : {Asks : List PromptEvent → A → Type 0} (ticket : ℕ) (events : List (Event FurtherEvent)) (went : Went) → UnderTicket Asks Ends ticket events went → GivesBack ticket events
+  under_leaves ticket all went (asked_under {shown} {events} {answers} {keep} turn prompts ends) =
+      let close : Taken = record { asked = Close ticket keep; turn = turn } in
+      subst (λ (t : List Taken). AreOuterTurns (record { asked = Seat None None; turn = Open ticket } ∷ t))
+      (sym (turns_then shown (cache_turn (Close ticket keep) turn ∷ events) ∙ ap (λ (t : List Taken). t ++ close ∷ turns_in events) (prompts_still prompts)))
+      (seated (ends_leave answers keep events went ends))
 
-wants_leave : {F : Type 0} {Under : ℕ → List (Event F) → Went → Type 0} → ((ticket : ℕ) (events : List (Event F)) (went : Went) → Under ticket events went → LeavesCache events)
+wants_leave : {F : Type 0} {Under : ℕ → List (Event F) → Went → Type 0} → ((ticket : ℕ) (events : List (Event F)) (went : Went) → Under ticket events went → GivesBack ticket events)
     → {events : List (Event F)} {went : Went} → WantsPrompt (Seat None None) Under events went → LeavesCache events
-wants_leave each (opened under) = (seats, each _ _ _ under)
-wants_leave each (interrupted by) = (seats, tt)
+wants_leave each (opened under) = each _ _ _ under
+wants_leave each (interrupted by) = unseated by no_turns
 
 looks_leave : {F : Type 0} {plain : Bool} {Otherwise : List (Event F) → Went → Type 0} → ((events : List (Event F)) (went : Went) → Otherwise events went → LeavesCache events)
     → (id : Option (List ℕ)) → id ≡ None → {events : List (Event F)} {went : Went} → LooksFirst plain id Otherwise events went → LeavesCache events
@@ -129,22 +140,22 @@ looks_leave each None is (answered looks) = elim looks [ ]
 looks_leave each None is (goes_on no_id otherwise) = each _ _ otherwise
 
 refuses_leave : {F : Type 0} {code : Code} (events : List (Event F)) (went : Went) → Refuses code events went → LeavesCache events
-refuses_leave events went refused = tt
+refuses_leave events went refused = no_turns
 
 keeps_leave : {F : Type 0} {plain : Bool} {secret : List ℕ} (id : Option (List ℕ)) → id ≡ None → {events : List (Event F)} {went : Went} → Keeps plain secret id events went → LeavesCache events
 keeps_leave (Some id) is keeps = cc is
-keeps_leave None is (unkept text) = tt
+keeps_leave None is (unkept text) = no_turns
 
 unprompted_leaves : {F : Type 0} {plain : Bool} (id : Option (List ℕ)) {mode : PinMode} → id ≡ None → {events : List (Event F)} {went : Went} → WithoutPrompt plain id mode events went → LeavesCache events
-unprompted_leaves id is cancelled = tt
-unprompted_leaves id is no_pinentry = tt
+unprompted_leaves id is cancelled = no_turns
+unprompted_leaves id is no_pinentry = no_turns
 unprompted_leaves id is (with_data keeps) = keeps_leave id is keeps
 unprompted_leaves id is (without_data unsaid) = unsaid_leaves unsaid
 
 prompted_leaves : {spec : PromptSpec} {plan : AskPlan} {plain : Bool} (id : Option (List ℕ)) → id ≡ None → {events : List (Event FurtherEvent)} {went : Went} → ByPrompt spec plan plain id events went
     → LeavesCache events
 prompted_leaves (Some id) is by = cc is
-prompted_leaves None is (prompted wants) = wants_leave (λ ticket events went under. under_leaves (λ answer keep events went ends. pin_leaves ends) under) wants
+prompted_leaves None is (prompted wants) = wants_leave (under_leaves (λ answer keep events went ends. pin_leaves ends)) wants
 
 -- ---- requests
 
@@ -166,14 +177,14 @@ no_turn kill outer = outer
 
 exchange_leaves : {agent : Rules} {before after : OptionValues} {request : Request} {events : List (Event FurtherEvent)} {went : Went} → IsOuterRequest request → Exchange agent before request events after went
     → LeavesCache events
-exchange_leaves outer refused = tt
-exchange_leaves outer nop = tt
-exchange_leaves outer reset = tt
-exchange_leaves outer bye = tt
-exchange_leaves outer help_given = tt
-exchange_leaves outer option_applied = tt
+exchange_leaves outer refused = no_turns
+exchange_leaves outer nop = no_turns
+exchange_leaves outer reset = no_turns
+exchange_leaves outer bye = no_turns
+exchange_leaves outer help_given = no_turns
+exchange_leaves outer option_applied = no_turns
 exchange_leaves outer described = absurd outer
-exchange_leaves outer (info is) = tt
+exchange_leaves outer (info is) = no_turns
 exchange_leaves outer (quiet {fields} is looks) = looks_leave refuses_leave fields.id outer looks
 exchange_leaves outer (by_prompt {fields} spec asks has wants shows by) = prompted_leaves fields.id outer by
 exchange_leaves outer (without_prompt {fields} asks has wants looks) =
@@ -181,8 +192,8 @@ exchange_leaves outer (without_prompt {fields} asks has wants looks) =
 exchange_leaves outer (not_allowed is) = absurd outer
 exchange_leaves outer (with_data is comes) = absurd outer
 exchange_leaves outer (without_data is unsaid) = absurd outer
-exchange_leaves outer (confirmation spec wants shows asks) = wants_leave (λ ticket events went under. under_leaves (λ answer keep events went ends. consent_leaves ends) under) asks
-exchange_leaves outer (unconfirmed is) = tt
+exchange_leaves outer (confirmation spec wants shows asks) = wants_leave (under_leaves (λ answer keep events went ends. consent_leaves ends)) asks
+exchange_leaves outer (unconfirmed is) = no_turns
 exchange_leaves outer (one_turn is comes) = absurd (no_turn is outer)
 
 -- ---- the tables

@@ -1,18 +1,20 @@
 -- Lines with a command on keys that are allowed at the outer door, and what is done for them to the cache.
-use Rattle.std.proofs.Common.{◌≡◌, ℕ, Bool, true, false, not, cond, List, [], ◌∷◌, ◌++◌, map, drop, Option, None, Some, Result, Ok, Err, refl, sym, ◌∙◌, subst}
+use Rattle.std.proofs.Common.{◌≡◌, ℕ, Bool, true, false, not, cond, List, [], ◌∷◌, ◌++◌, map, drop, Option, None, Some, Result, Ok, Err, refl, ap, sym, ◌∙◌, subst}
 use Rattle.std.specs.Prelude.{codes}
 use Rattle.std.specs.Str.{str_eq_ignore_ascii_case}
 use Rattle.agent_ask.specs.Further.{FurtherEvent}
 use Rattle.agent_ask.specs.SessionEvents.{Sent}
 use Rattle.agent_commands.specs.Events.{Event}
-use Rattle.agent_commands.specs.Names.{commands as cache_commands, prompt_commands, command_named as cache_command_named}
+use Rattle.agent_commands.specs.Fields.{text}
+use Rattle.agent_commands.specs.Names.{commands as cache_commands, prompt_commands, command_named as cache_command_named, is_key_command}
 use Rattle.agent_commands.specs.Requests.{request_of, asked_by, either as of_cache}
 use Rattle.agent_commands.specs.declared.names.CommandName.{CommandName}
 use Rattle.agent_commands.specs.declared.request.CacheCommand.{CacheCommand}
-use Rattle.agent_commands.specs.declared.request.Request.TheVariants.{Key}
+use Rattle.agent_commands.specs.declared.request.Request.TheVariants.{Key, Bad as BadLine}
 use Rattle.agent_ports.specs.declared.grip.Grip.{Grip}
 use Rattle.arrayvec.specs.ArrayVec.{ArrayVec}
 use Rattle.assuan_server.specs.declared.errors.Code.{Code}
+use Rattle.assuan_server.specs.declared.errors.Code.TheVariants.{UnknownCommand}
 use Rattle.assuan_text.specs.Options.{options_of, arguments_of, has_option}
 use Rattle.assuan_text.specs.Rows.{found_in_any_case}
 use Rattle.assuan_text.specs.Words.{command_of, rest_of, words}
@@ -31,7 +33,7 @@ use Rattle.key_commands.specs.declared.wrap_keys.WrapKeys.{WrapKeys}
 use Rattle.session_options.specs.OptionValues.{OptionValues}
 use Rattle.session_options.specs.declared.rules.Rules.{Rules}
 use Rattle.agent_origin.specs.Doors.{rules, rule_named, passes, passes_by, allowed}
-use Rattle.agent_origin.specs.OuterTurns.{closes, peeks, LeavesCache}
+use Rattle.agent_origin.specs.OuterTurns.{no_turns, peeks, LeavesCache}
 use Rattle.agent_origin.specs.declared.door.Door.TheVariants.{Outer}
 use Rattle.agent_origin.specs.declared.door.Rule.{Rule}
 use Rattle.agent_origin.specs.declared.door.Rule.TheVariants.{Always, OneKey, Never}
@@ -39,39 +41,49 @@ use Rattle.agent_origin.proofs.Outer.{leaves_then, said_leaves, found_mapped, fo
 
 -- ---- what is done
 
-finds_leave : (grip : Grip) (held after : Option ℕ) (events : List (Event FurtherEvent)) (result : Result Bool Refusal) → Finds grip held events result after → LeavesCache events
-finds_leave grip held after events result found = tt
-finds_leave grip held after events result absent = tt
-finds_leave grip held after events result faulted = tt
-finds_leave grip held after events result no_memory = tt
+-- it leaves the cache, and the request holds the ticket that it held before, if any
+abbrev Leaves : Option ℕ → Option ℕ → List (Event FurtherEvent) → Type 0
+Leaves held after events = LeavesCache events × (after ≡ held)
 
-one_leaves : (grips : List Grip) (held after : Option ℕ) (events : List (Event FurtherEvent)) (result : Result (Unit {0}) Refusal) → HasOne grips held events result after → LeavesCache events
-one_leaves [] held after events result refuses = tt
-one_leaves (grip ∷ more) held after events result (goes_on {first} {events = others} {value = true} {mid} finds returns) = leaves_then first [] (finds_leave grip held mid first _ finds) tt
+finds_leave : (grip : Grip) (held after : Option ℕ) (events : List (Event FurtherEvent)) (result : Result Bool Refusal) → Finds grip held events result after → Leaves held after events
+finds_leave grip held after events result found = (no_turns, refl)
+finds_leave grip held after events result absent = (no_turns, refl)
+finds_leave grip held after events result faulted = (no_turns, refl)
+finds_leave grip held after events result no_memory = (no_turns, refl)
+
+one_leaves : (grips : List Grip) (held after : Option ℕ) (events : List (Event FurtherEvent)) (result : Result (Unit {0}) Refusal) → HasOne grips held events result after → Leaves held after events
+one_leaves [] held after events result refuses = (no_turns, refl)
+one_leaves (grip ∷ more) held after events result (goes_on {first} {events = others} {value = true} {mid} finds returns) =
+    let one = finds_leave grip held mid first _ finds in
+    (leaves_then first [] one.0 no_turns, one.1)
 one_leaves (grip ∷ more) held after events result (goes_on {first} {events = others} {value = false} {mid} finds later) =
-    leaves_then first others (finds_leave grip held mid first _ finds) (one_leaves more mid after others result later)
+    let one = finds_leave grip held mid first _ finds in
+    let rest = one_leaves more mid after others result later in
+    (leaves_then first others one.0 rest.0, rest.1 ∙ one.1)
 one_leaves (grip ∷ more) held after events result (stops finds) = finds_leave grip held after events _ finds
 
-closes_leave : (held after : Option ℕ) (back : List (Event FurtherEvent)) (result : Result (Unit {0}) Refusal) → Closes None held back result after → LeavesCache back
-closes_leave held after back result unheld = tt
-closes_leave held after back result (closed turn) = (closes, tt)
+closes_leave : (held after : Option ℕ) (back : List (Event FurtherEvent)) (result : Result (Unit {0}) Refusal) → held ≡ None → Closes None held back result after → LeavesCache back
+closes_leave held after back result is unheld = no_turns
+closes_leave held after back result is (closed turn) = cc is
 
 module _ (agent : Rules) (options : OptionValues) (wraps : WrapKeys) where
   have_leaves : (grips : List Grip) (held after : Option ℕ) (events : List (Event FurtherEvent)) (result : Result KeyReply Refusal) → HaveKeyReplies agent options wraps grips held events result after
-      → LeavesCache events
+      → Leaves held after events
   unfolding HaveKeyReplies
-  have_leaves grips held after events result (goes_on {first} {mid} one returns) = leaves_then first [] (one_leaves grips held mid first _ one) tt
+  have_leaves grips held after events result (goes_on {first} {mid} one returns) =
+      let leaves = one_leaves grips held mid first _ one in
+      (leaves_then first [] leaves.0 no_turns, leaves.1)
   have_leaves grips held after events result (stops one) = one_leaves grips held after events _ one
 
   info_leaves : (grip : Grip) (held after : Option ℕ) (events : List (Event FurtherEvent)) (result : Result KeyReply Refusal) → KeyInfoReplies agent options wraps grip held events result after
-      → LeavesCache events
+      → Leaves held after events
   unfolding KeyInfoReplies
-  info_leaves grip held after events result (goes_on (is_key file says) (goes_on (goes_on peeked returns) returns)) = (peeks, tt)
-  info_leaves grip held after events result (goes_on (is_key file says) (stops (stops (interrupted by)))) = (peeks, tt)
+  info_leaves grip held after events result (goes_on (is_key file says) (goes_on (goes_on peeked returns) returns)) = (peeks no_turns, refl)
+  info_leaves grip held after events result (goes_on (is_key file says) (stops (stops (interrupted by)))) = (peeks no_turns, refl)
   info_leaves grip held after events result (goes_on (is_key file says) (stops (goes_on asks never))) = elim never [ ]
-  info_leaves grip held after events result (stops (faulty file says)) = tt
-  info_leaves grip held after events result (stops (no_key_memory file)) = tt
-  info_leaves grip held after events result (stops (unread is)) = tt
+  info_leaves grip held after events result (stops (faulty file says)) = (no_turns, refl)
+  info_leaves grip held after events result (stops (no_key_memory file)) = (no_turns, refl)
+  info_leaves grip held after events result (stops (unread is)) = (no_turns, refl)
 
   abbrev IsOuterKey : KeyRequest → Type 0
   IsOuterKey (HaveKey grips) = Unit {0}
@@ -80,10 +92,10 @@ module _ (agent : Rules) (options : OptionValues) (wraps : WrapKeys) where
   IsOuterKey _ = ⊥
 
   replies_leave : (request : KeyRequest) → IsOuterKey request → (held after : Option ℕ) (events : List (Event FurtherEvent)) (result : Result KeyReply Refusal)
-      → Replies agent options wraps request held events result after → LeavesCache events
+      → Replies agent options wraps request held events result after → Leaves held after events
   replies_leave (HaveKey grips) outer held after events result does = have_leaves grips held after events result does
   replies_leave (KeyInfo grip) outer held after events result does = info_leaves grip held after events result does
-  replies_leave (Bad code) outer held after events result refuses = tt
+  replies_leave (Bad code) outer held after events result refuses = (no_turns, refl)
   replies_leave ListKeys outer held after events result does = absurd outer
   replies_leave (KeyWrap way) outer held after events result does = absurd outer
   replies_leave (ImportKey force nonce) outer held after events result does = absurd outer
@@ -94,9 +106,11 @@ module _ (agent : Rules) (options : OptionValues) (wraps : WrapKeys) where
   exchange_leaves : (request : KeyRequest) → IsOuterKey request → {events : List (Event FurtherEvent)} {after : WrapKeys} {went : KeyWent} → Exchange agent options wraps request events after went
       → LeavesCache events
   exchange_leaves request outer (answered events held reply {back} does gives) =
-      leaves_then events _ (replies_leave request outer None held events _ does) (leaves_then back (Sent reply.text ∷ []) (closes_leave held None back _ gives) tt)
+      let leaves = replies_leave request outer None held events _ does in
+      leaves_then events _ leaves.0 (leaves_then back (Sent reply.text ∷ []) (closes_leave held None back _ leaves.1 gives) no_turns)
   exchange_leaves request outer (refused events held why {back} does gives) =
-      leaves_then events _ (replies_leave request outer None held events _ does) (leaves_then back _ (closes_leave held None back _ gives) (said_leaves _ _ _ (refusal_line why)))
+      let leaves = replies_leave request outer None held events _ does in
+      leaves_then events _ leaves.0 (leaves_then back _ (closes_leave held None back _ leaves.1 gives) (said_leaves _ _ _ (refusal_line why)))
 
 -- ---- lines
 
@@ -111,6 +125,16 @@ other_by line handed (Some name) is key = absurd (not_handed_on (asked_by name (
 
 other_command : (line : List ℕ) (handed : ArrayVec ℕ) → request_of line ≡ Key handed → cache_command_named (command_of line) ≡ None
 other_command line handed key = other_by line handed (cache_command_named (command_of line)) refl key
+
+-- and it is handed on as it is
+handed_if : (line : List ℕ) (handed : ArrayVec ℕ) (known : Bool) → cond known (Key (text line)) (BadLine UnknownCommand) ≡ Key handed → handed.items ≡ line
+handed_if line handed true is = let same : text line ≡ handed = cc in sym (ap (λ (h : ArrayVec ℕ). h.items) same)
+handed_if line handed false is = cc is
+
+pub handed_line : (line : List ℕ) (handed : ArrayVec ℕ) → request_of line ≡ Key handed → handed.items ≡ line
+handed_line line handed key =
+    let other = other_command line handed key in
+    handed_if line handed (is_key_command (command_of line)) (sym (request_is line None other) ∙ key)
 
 -- a table that begins with other names
 neither_found : {X Y : Type 0} (f : X → Y) (first : X) (rest : Option X) (others behind : Option Y) → (rest ≡ None → others ≡ behind) → (is : Bool) → cond is (Some first) rest ≡ None

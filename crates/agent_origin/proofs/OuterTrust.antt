@@ -17,7 +17,7 @@ use Rattle.agent_origin.specs.Doors.{rules, rule_named, passes_by, allowed}
 use Rattle.agent_origin.specs.Exchanges.{TrustExchange, answered, refused, Carried, TrustedNow, unless_said}
 use Rattle.agent_origin.specs.Names.{command_named}
 use Rattle.agent_origin.specs.OriginEvents.{Event}
-use Rattle.agent_origin.specs.OuterTurns.{LeavesCache}
+use Rattle.agent_origin.specs.OuterTurns.{no_turns, LeavesCache}
 use Rattle.agent_origin.specs.Parts.{goes_on, stops, returns, Refuses, refuses, has_read, faulted, no_memory, refusal_line}
 use Rattle.agent_origin.specs.Requests.{either, request_by, trust_request_of}
 use Rattle.agent_origin.specs.declared.door.Door.TheVariants.{Outer}
@@ -51,29 +51,29 @@ rule_of_mark word is = mark_by (str_to_ascii_lowercase word) (bytes_eq (str_to_a
 
 -- ---- ISTRUSTED takes no turn
 
-abbrev IsOuterTrust : TrustRequest → Type 0
+abbrev pub IsOuterTrust : TrustRequest → Type 0
 IsOuterTrust (MarkTrusted fingerprint purpose owner) = ⊥
 IsOuterTrust _ = Unit {0}
 
 said_so : (said : Option Bool) (events : List Event) (result : Result (Unit {0}) Refusal) → unless_said said (Refuses (Agent code.NotTrusted)) events result → LeavesCache events
-said_so (Some true) events result returns = tt
-said_so (Some false) events result refuses = tt
-said_so None events result refuses = tt
+said_so (Some true) events result returns = no_turns
+said_so (Some false) events result refuses = no_turns
+said_so None events result refuses = no_turns
 
 now_leaves : (fingerprint : Grip) (events : List Event) (result : Result (Unit {0}) Refusal) → TrustedNow fingerprint events result → LeavesCache events
 unfolding TrustedNow
 now_leaves fingerprint events result (goes_on (has_read {file} is) said) = said_so (trust file fingerprint.0) _ _ said
-now_leaves fingerprint events result (stops faulted) = tt
-now_leaves fingerprint events result (stops no_memory) = tt
+now_leaves fingerprint events result (stops faulted) = no_turns
+now_leaves fingerprint events result (stops no_memory) = no_turns
 
 module _ (agent : Rules) (options : OptionValues) where
   carried_leaves : (request : TrustRequest) → IsOuterTrust request → (events : List Event) (result : Result (Unit {0}) Refusal) → Carried agent options request events result → LeavesCache events
   carried_leaves (IsTrusted fingerprint) outer events result carried = now_leaves fingerprint events result carried
   carried_leaves (MarkTrusted fingerprint purpose owner) outer events result carried = absurd outer
-  carried_leaves (Bad code) outer events result refuses = tt
+  carried_leaves (Bad code) outer events result refuses = no_turns
 
   request_leaves : (request : TrustRequest) → IsOuterTrust request → {events : List Event} {went : Went} → TrustExchange agent options request events went → LeavesCache events
-  request_leaves request outer (answered events carried) = leaves_then events (Sent ok ∷ []) (carried_leaves request outer events _ carried) tt
+  request_leaves request outer (answered events carried) = leaves_then events (Sent ok ∷ []) (carried_leaves request outer events _ carried) no_turns
   request_leaves request outer (refused events why carried) = leaves_then events _ (carried_leaves request outer events _ carried) (said_leaves _ _ _ (refusal_line why))
 
 is_trusted_outer : (read : Result Grip Code) → IsOuterTrust (either (read >>= λ fingerprint. Ok (IsTrusted fingerprint)))
@@ -86,7 +86,10 @@ named_outer line (Some name.IsTrusted) is allows = is_trusted_outer _
 named_outer line (Some name.MarkTrusted) is allows =
     cc (subst (λ (rule : Option Rule). passes_by rule line ≡ true) (rule_of_mark (command_of line) is) allows)
 
+pub trust_outer : (line : List ℕ) → allowed Outer line ≡ true → IsOuterTrust (trust_request_of line)
+unfolding trust_request_of
+trust_outer line allows = named_outer line (command_named (command_of line)) refl allows
+
 pub trust_leaves : {agent : Rules} {options : OptionValues} (line : List ℕ) {events : List Event} {went : Went} → allowed Outer line ≡ true
     → TrustExchange agent options (trust_request_of line) events went → LeavesCache events
-unfolding trust_request_of
-trust_leaves line allows exchanged = request_leaves _ _ (request_by (command_named (command_of line)) line) (named_outer line (command_named (command_of line)) refl allows) exchanged
+trust_leaves line allows exchanged = request_leaves _ _ (trust_request_of line) (trust_outer line allows) exchanged

@@ -1,9 +1,16 @@
 pub mod Doors
 pub mod OuterTurns
+pub mod OuterRuns
 pub mod Names
 pub mod Requests
 pub mod OriginEvents
 pub mod Origins
 pub mod Parts
 pub mod Exchanges
+pub mod NewTrustFiles
 pub mod States
+pub mod DoorSessions
+pub mod Services
+pub mod Serving
+pub mod SessionExchanges
+pub mod Sessions

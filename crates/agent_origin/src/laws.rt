@@ -1,23 +1,38 @@
-ghost use Rattle.std.specs.Prelude.{◌≡◌, ℕ, List, true};
+ghost use Rattle.std.specs.Prelude.{◌≡◌, ℕ, List, [], ◌∷◌, ◌++◌, true, false};
 ghost use Rattle.agent_ask.specs.Further.{FurtherEvent};
+ghost use Rattle.agent_ask.specs.SessionEvents.{Sent, turns_in};
 ghost use Rattle.agent_commands.specs.Events.{Event as SessionEvent};
 ghost use Rattle.agent_commands.specs.Exchanges.{LineExchange};
 ghost use Rattle.agent_commands.specs.Requests.{request_of};
 ghost use Rattle.agent_commands.specs.declared.request.Request.TheVariants.{Key};
+ghost use Rattle.agent_commands.specs.declared.went.SessionEnd.{SessionEnd as Ends};
 ghost use Rattle.agent_commands.specs.declared.went.Went.{Went as Goes};
+ghost use Rattle.agent_commands.specs.declared.went.Went.TheVariants.{On};
 ghost use Rattle.arrayvec.specs.ArrayVec.{ArrayVec};
+ghost use Rattle.assuan_server.specs.Written.{failed};
+ghost use Rattle.assuan_server.specs.declared.errors.Code.TheVariants.{Forbidden};
 ghost use Rattle.key_commands.specs.Exchanges.{Exchange as KeyExchange};
 ghost use Rattle.key_commands.specs.Requests.{key_request_of};
 ghost use Rattle.key_commands.specs.declared.went.KeyWent.{KeyWent};
 ghost use Rattle.key_commands.specs.declared.wrap_keys.WrapKeys.{WrapKeys};
 ghost use Rattle.session_options.specs.OptionValues.{OptionValues};
 ghost use Rattle.session_options.specs.declared.rules.Rules.{Rules};
+ghost use Rattle.agent_origin.specs.DoorSessions.{DoorExchange, ServesDoor};
 ghost use Rattle.agent_origin.specs.Doors.{allowed};
 ghost use Rattle.agent_origin.specs.Exchanges.{TrustExchange};
+ghost use Rattle.agent_origin.specs.NewTrustFiles.{replaced, HasConsents, HasConsentsIn};
 ghost use Rattle.agent_origin.specs.OriginEvents.{Event};
-ghost use Rattle.agent_origin.specs.OuterTurns.{LeavesCache};
+ghost use Rattle.agent_origin.specs.Origins.{origin_world};
+ghost use Rattle.agent_origin.specs.OuterRuns.{LeavesDesk};
+ghost use Rattle.agent_origin.specs.OuterTurns.{LeavesCache, GiveNothing};
 ghost use Rattle.agent_origin.specs.Requests.{trust_request_of};
-ghost use Rattle.agent_origin.specs.declared.door.Door.TheVariants.{Outer};
+ghost use Rattle.agent_origin.specs.Sessions.{Surroundings};
+ghost use Rattle.agent_origin.specs.declared.door.Door.{Door as By};
+ghost use Rattle.agent_origin.specs.declared.door.Door.TheVariants.{Home, Outer};
+ghost use Rattle.agent_origin.specs.declared.kept.Kept.{Kept};
+
+use agent_ask::Prompter;
+use cache_policy::Desk;
 
 /// A law: what is done for a line that is allowed at the outer door takes the seat for a prompt of which nothing is kept, gives it back, or
 /// looks whether a passphrase is cached. It stores and forgets nothing, and is given no passphrase of the cache.
@@ -28,4 +43,37 @@ pub fn the_outer_door_leaves_the_cache()
         → allowed Outer line ≡ true → request_of line ≡ Key handed → KeyExchange rules options before (key_request_of line) events after went → LeavesCache events }
     ensures trust { (rules : Rules) (options : OptionValues) (line : List ℕ) (events : List Event) (went : Goes)
         → allowed Outer line ≡ true → TrustExchange rules options (trust_request_of line) events went → LeavesCache events }
+{}
+
+/// A law: so does a whole session that came in by the outer door.
+pub fn an_outer_session_leaves_the_cache<D: Desk, P: Prompter>()
+    ensures leaves { (rules : Rules) (before after : Surroundings (origin_world D.turned P.prompted)) (end : Ends)
+        → (served : ServesDoor D.turned P.prompted Outer rules before end after) → LeavesCache served.events }
+    ensures ungiven { (rules : Rules) (before after : Surroundings (origin_world D.turned P.prompted)) (end : Ends)
+        → (served : ServesDoor D.turned P.prompted Outer rules before end after) → GiveNothing (turns_in served.events) }
+{}
+
+/// A law: what that means to its desk's run, where it is known. The session's own marks are those of its turns. Each takes the seat for a prompt
+/// of which nothing is kept, gives its ticket back, or looks whether a passphrase is cached; none was given one, and in a legal run none stores
+/// an entry. So it clears and forgets nothing either.
+pub fn an_outer_session_leaves_the_run<D: Desk, P: Prompter>()
+    ensures { (rules : Rules) (before after : Surroundings (origin_world D.turned P.prompted)) (end : Ends)
+        → (served : ServesDoor D.turned P.prompted Outer rules before end after) → LeavesDesk (D.at before.desk) (turns_in served.events) (D.at after.desk) }
+{}
+
+/// A law: a line that isn't allowed at its session's door is answered by the one error, nothing else is done or kept, and the session goes on.
+pub fn a_forbidden_line_does_nothing()
+    ensures { (door : By) (rules : Rules) (before after : Kept) (line : List ℕ) (events : List Event) (went : Goes) → allowed door line ≡ false
+        → DoorExchange door rules before line events after went → (events ≡ Sent (failed Forbidden) ∷ []) × (after ≡ before) × (went ≡ On) }
+{}
+
+/// A law: a new trust file stands in a MARKTRUSTED of a session that came in by the user's own door, behind two consents and a read of the file that
+/// was there.
+pub fn a_new_trust_file_has_two_consents<D: Desk, P: Prompter>()
+    ensures exchange { (door : By) (rules : Rules) (prior then : Kept) (line : List ℕ) (events before later : List Event) (file : List ℕ) (went : Goes)
+        → DoorExchange door rules prior line events then went → events ≡ before ++ replaced file ∷ later
+        → HasConsents rules prior.options (trust_request_of line) before file later × (door ≡ Home) }
+    ensures session { (door : By) (rules : Rules) (start now : Surroundings (origin_world D.turned P.prompted)) (end : Ends) (before later : List Event) (file : List ℕ)
+        → (served : ServesDoor D.turned P.prompted door rules start end now) → served.events ≡ before ++ replaced file ∷ later
+        → HasConsentsIn rules before file later × (door ≡ Home) }
 {}

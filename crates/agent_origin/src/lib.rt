@@ -1,9 +1,17 @@
-//! What a session may do by the door it came in, and the commands on the agent's trust list: a line of the client read as a request, or
-//! refused by a code, and carried out and answered over any link, any desk, any prompter and any trust file.
+//! Sessions from bytes to bytes: their frame, over whatever answers their requests, and those that came in by a door, with the commands on the
+//! agent's trust list.
+//!
+//! Begin with [`serve_door`]: a session's events lead its link, desk, prompter, keys, dice and trust file from before to after, exactly. [`allowed`]
+//! is one table of commands with their rules; a session at the outer door leaves the cache as it is ([`an_outer_session_leaves_the_run`]).
+//! [`read_trust`] and [`run_trust`] read a request on the trust list and answer it, and a new list has two consents
+//! ([`a_new_trust_file_has_two_consents`]). Definitions begin in `specs/Sessions` and `specs/DoorSessions`.
 #![tactic(auto)]
 
+mod answering;
 mod consent;
 mod door;
+mod door_session;
+mod kept;
 mod laws;
 mod marking;
 mod names;
@@ -12,6 +20,7 @@ mod refusal;
 mod reply;
 mod request;
 mod run;
+mod service;
 mod texts;
 mod trust_calls;
 
@@ -23,9 +32,17 @@ pub const MAX_NAME_LEN: usize = 900;
 /// The name of a certificate's owner.
 pub type OwnerName = ArrayVec<u8, MAX_NAME_LEN>;
 
+pub use answering::answer;
 pub use door::{Door, allowed, doors_are_as_defined};
-pub use laws::the_outer_door_leaves_the_cache;
+pub use door_session::serve_door;
+pub use kept::Kept;
+pub use laws::{
+    a_forbidden_line_does_nothing, a_new_trust_file_has_two_consents,
+    an_outer_session_leaves_the_cache, an_outer_session_leaves_the_run,
+    the_outer_door_leaves_the_cache,
+};
 pub use names::{TRUST_COMMANDS, TrustCommandName, trust_commands_are_as_defined};
 pub use read::read_trust;
 pub use request::{TrustPurpose, TrustRequest};
 pub use run::run_trust;
+pub use service::{Answers, serve};

@@ -1,0 +1,96 @@
+-- Requests on the cache with the keys and the dice beside, and requests on keys with the option values beside.
+use Rattle.std.proofs.Common.{ℕ, List, refl}
+use Rattle.arrayvec.specs.ArrayVec.{ArrayVec}
+use Rattle.agent_ask.specs.Events.{Call}
+use Rattle.agent_ask.specs.Further.{FurtherEvent, FurtherEnds, DoesFurther, prompt}
+use Rattle.agent_ports.specs.KeyFiles.{KeyFiles}
+use Rattle.agent_ports.specs.Sides.{Side}
+use Rattle.assuan_line.specs.Next.{Reader}
+use Rattle.assuan_server.specs.Connections.{Connection}
+use Rattle.cache_policy.specs.declared.mark.MarkStep.{MarkStep}
+use Rattle.cache_policy.specs.Turns.{Turn}
+use Rattle.session_client.specs.declared.unheard.Gone.TheVariants as gone
+use Rattle.session_options.specs.OptionValues.{OptionValues, without_description}
+use Rattle.session_options.specs.declared.rules.Rules.{Rules}
+use Rattle.agent_commands.specs.Events.{Event}
+use Rattle.agent_commands.specs.Exchanges.{Exchange}
+use Rattle.agent_commands.specs.Outside.{world, prompt_world, DoesPrompts, prompts}
+use Rattle.agent_commands.specs.States.{session_state, prompt_state, AnswersRequest, ReaderAfter, FaultsRise}
+use Rattle.agent_commands.specs.Talks.{WholeOrCut, whole, cut}
+use Rattle.agent_commands.specs.declared.request.Request.{Request}
+use Rattle.agent_commands.specs.declared.request.Request.TheVariants.{Key}
+use Rattle.agent_commands.specs.declared.went.Went.{Went}
+use Rattle.agent_commands.proofs.Beside.{answers_beside}
+use Rattle.key_commands.specs.Exchanges.{Exchange as KeyExchange}
+use Rattle.key_commands.specs.Requests.{key_request_of}
+use Rattle.key_commands.specs.States.{KeyWorld, KeyState, key_state, AnswersKey}
+use Rattle.key_commands.specs.States as states
+use Rattle.key_commands.specs.declared.went.KeyWent.{KeyWent}
+use Rattle.key_commands.specs.declared.went.KeyWent.TheVariants as key
+use Rattle.key_commands.specs.declared.wrap_keys.WrapKeys.{WrapKeys}
+use Rattle.agent_origin.specs.SessionExchanges.{RequestExchange, cache, keys, went_after_key}
+use Rattle.agent_origin.specs.declared.kept.Kept.{Kept}
+
+abbrev kept_with : OptionValues → WrapKeys → Kept
+kept_with options wraps = record { options = options; wraps = wraps }
+
+module _ {D P : Type 0} (turned : D → MarkStep → Turn → D → Type 0) (prompted : P → Call → P → Type 0) where
+  abbrev ends : KeyFiles → Side → P → FurtherEnds P
+  ends files dice prompter = record { prompter = prompter; keys = files; dice = dice }
+
+  each : (files : KeyFiles) (dice : Side) (prompter prompter_now : P) (what : FurtherEvent) → DoesPrompts prompted prompter what prompter_now
+      → DoesFurther prompted (ends files dice prompter) what (ends files dice prompter_now)
+  each files dice prompter prompter_now _ (prompts does) = prompt does
+
+  module _ (rules : Rules) (files : KeyFiles) (dice : Side) (wraps : WrapKeys) (request : Request) {before after : OptionValues} {conn now : Connection} {desk desk_now : D} {went : Went} where
+    -- by the prompter, with the keys and the dice beside
+    pub cached_beside : {prompter prompter_now : P}
+        → AnswersRequest {w = prompt_world turned prompted} (λ options. Exchange rules options request) before (prompt_state turned prompted conn desk prompter) went after
+        (prompt_state turned prompted now desk_now prompter_now)
+        → AnswersRequest {w = KeyWorld turned prompted} (λ kept. RequestExchange rules kept request) (kept_with before wraps) (key_state turned prompted conn desk prompter files dice) went
+        (kept_with after wraps) (key_state turned prompted now desk_now prompter_now files dice)
+    cached_beside = answers_beside turned (DoesPrompts prompted) (DoesFurther prompted) (ends files dice) (each files dice) (λ events then exchanged. cache exchanged)
+
+    -- by the cache alone, with the prompter beside too
+    pub quiet_beside : (prompter : P)
+        → AnswersRequest {w = world turned} (λ options. Exchange rules options request) before (session_state turned conn desk) went after (session_state turned now desk_now)
+        → AnswersRequest {w = KeyWorld turned prompted} (λ kept. RequestExchange rules kept request) (kept_with before wraps) (key_state turned prompted conn desk prompter files dice) went
+        (kept_with after wraps) (key_state turned prompted now desk_now prompter files dice)
+    quiet_beside prompter =
+        answers_beside turned (λ prior what later. ⊥) (DoesFurther prompted) (λ none. ends files dice prompter) (λ prior later what never. absurd never) (λ events then exchanged. cache exchanged)
+
+  key_reader_fits : (went : KeyWent) (first now : Reader) → states.ReaderAfter went first now → ReaderAfter (went_after_key went) first now
+  key_reader_fits key.On first now fits = fits
+  key_reader_fits (key.Gone gone.Ended) first now fits = fits
+  key_reader_fits (key.Gone gone.TooLong) first now fits = fits
+  key_reader_fits (key.Gone gone.Spent) first now fits = fits
+  key_reader_fits (key.Gone gone.ReadFault) first now fits = fits
+  key_reader_fits (key.Gone gone.WriteFault) first now fits = fits
+
+  key_faults_rise : (went : KeyWent) {start now : KeyState turned prompted} → states.FaultsRise turned prompted went start now
+      → FaultsRise {w = KeyWorld turned prompted} (went_after_key went) start now
+  key_faults_rise key.On faults = record { read = λ e. absurd (cc e); write = λ e. absurd (cc e) }
+  key_faults_rise (key.Gone gone.Ended) faults = record { read = λ e. absurd (cc e); write = λ e. absurd (cc e) }
+  key_faults_rise (key.Gone gone.TooLong) faults = record { read = λ e. absurd (cc e); write = λ e. absurd (cc e) }
+  key_faults_rise (key.Gone gone.Spent) faults = record { read = λ e. absurd (cc e); write = λ e. absurd (cc e) }
+  key_faults_rise (key.Gone gone.ReadFault) faults = record { read = λ e. faults.read refl; write = λ e. absurd (cc e) }
+  key_faults_rise (key.Gone gone.WriteFault) faults = record { read = λ e. absurd (cc e); write = λ e. faults.write refl }
+
+  module _ (rules : Rules) (options : OptionValues) {line : ArrayVec ℕ} {before : WrapKeys} where
+    key_exchange_beside : {events : List (Event FurtherEvent)} {after : WrapKeys} {went : KeyWent}
+        → states.WholeOrCut turned prompted (KeyExchange rules options before (key_request_of line.items)) events after went
+        → WholeOrCut (λ kept. RequestExchange rules kept (Key line)) (kept_with options before) events (kept_with (without_description options) after) (went_after_key went)
+    key_exchange_beside (states.whole exchanged) = whole (keys exchanged)
+    key_exchange_beside (states.cut exchanged last) = cut (keys exchanged) last
+
+    -- with the option values beside
+    pub keyed_beside : {start now : KeyState turned prompted} {went : KeyWent} {after : WrapKeys}
+        → AnswersKey turned prompted (KeyExchange rules options before (key_request_of line.items)) start went after now
+        → AnswersRequest {w = KeyWorld turned prompted} (λ kept. RequestExchange rules kept (Key line)) (kept_with options before) start (went_after_key went) (kept_with (without_description options) after) now
+    keyed_beside {went} answered = record {
+      events = answered.events;
+      exchanges = key_exchange_beside answered.exchanges;
+      done = answered.done;
+      fits = key_reader_fits went _ _ answered.fits;
+      faults = key_faults_rise went answered.faults;
+    }

@@ -1,0 +1,27 @@
+use Rattle.std.proofs.Common.{◌∙◌, sym, subst}
+use Rattle.agent_commands.specs.Exchanges.{refused}
+use Rattle.agent_commands.specs.States.{AnswersRequest}
+use Rattle.key_commands.specs.States.{KeyWorld, key_state}
+use Rattle.agent_origin.specs.SessionExchanges.{RequestExchange, cache}
+use Rattle.agent_origin.proofs.Beside.{cached_beside, keyed_beside}
+use Rattle.agent_origin.proofs.Serving.{refusal_answers}
+use Rattle.agent_origin.proofs.answering.answer_whole.Goals as goal
+
+pub returns-in-Cache-clause-answers : goal.returns-in-Cache-clause-answers
+returns-in-Cache-clause-answers g c =
+    subst (λ r. AnswersRequest {w = KeyWorld g.D.Desk.turned g.P.Prompter.prompted} (λ before. RequestExchange c.args.rules.now before r) c.args.kept.now
+    (key_state g.D.Desk.turned g.P.Prompter.prompted c.args.conn.now c.args.desk.now c.args.prompter.now (g.K.Keys.keys c.args.keys.now) (g.R.Dice.draws c.args.dice.now)) c.run_cache.result
+    (record c.args.kept.now { options = c.run_cache.new.options })
+    (key_state g.D.Desk.turned g.P.Prompter.prompted c.run_cache.new.conn c.run_cache.new.desk c.run_cache.new.prompter (g.K.Keys.keys c.args.keys.now) (g.R.Dice.draws c.args.dice.now)))
+    (sym c.in-Cache.is ∙ c.whole.ensures)
+    (cached_beside g.D.Desk.turned g.P.Prompter.prompted c.args.rules.now (g.K.Keys.keys c.args.keys.now) (g.R.Dice.draws c.args.dice.now) c.args.kept.now.wraps _ c.run_cache.ensures.answers)
+
+pub returns-in-Key-clause-answers : goal.returns-in-Key-clause-answers
+returns-in-Key-clause-answers g c =
+    rw (c.went_after_key.ensures, c.end_description.ensures, sym c.whole.ensures ∙ c.in-Key.is)
+    (keyed_beside g.D.Desk.turned g.P.Prompter.prompted c.args.rules.now c.args.kept.now.options (rw (c.read_key-request.ensures, c.deref.ensures.0) at c.run_key-went.ensures.answers))
+
+pub returns-in-Bad-clause-answers : goal.returns-in-Bad-clause-answers
+returns-in-Bad-clause-answers g c =
+    refusal_answers {w = KeyWorld g.D.Desk.turned g.P.Prompter.prompted} (λ kept. RequestExchange c.args.rules.now kept c.args.request.now) c.args.kept.now _ _
+    (rw (sym c.whole.ensures ∙ c.in-Bad.is) (cache refused)) c.requires.open c.refuse.ensures

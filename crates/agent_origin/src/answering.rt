@@ -1,0 +1,125 @@
+//! A request of any session, answered.
+
+ghost use Rattle.std.specs.Prelude.{◌≡◌, None};
+ghost use Rattle.agent_ask.specs.Prompters.{IsShut};
+ghost use Rattle.assuan_server.specs.Connections.{IsOpen};
+ghost use Rattle.agent_commands.specs.States.{AnswersRequest};
+ghost use Rattle.key_commands.specs.States.{KeyWorld, key_state};
+ghost use Rattle.agent_origin.specs.SessionExchanges.{went_after_key, RequestExchange, SessionExchange};
+ghost use Rattle.agent_origin.specs.Serving.{Refuses};
+
+use crate::Kept;
+use agent_ask::Prompter;
+use agent_commands::{LineRequest, Request, SessionEnd, Went, run_cache, run_quiet};
+use agent_ports::{Dice, Keys, Link, WriteFault};
+use assuan_line::Line;
+use assuan_server::{Code, Conn, Origin};
+use cache_policy::Desk;
+use key_commands::{KeyWent, read_key, run_key};
+use session_options::Rules;
+use std::alloc::Global;
+use wiping::wipe_stack;
+
+/// Answers one request on the cache, on the session or on keys. Its line is read once; for one that asks the cache alone the texts, which are long, are not
+/// made.
+///
+/// Behind any other one the stack that it used is overwritten: it may have had a passphrase in hand. Behind one that asks the cache alone that
+/// would take longer than the request.
+pub fn answer<L: Link, D: Desk, P: Prompter, K: Keys, R: Dice>(
+    alloc: Global,
+    line: &Line,
+    rules: &Rules,
+    kept: &mut Kept,
+    conn: &mut Conn<'_, L>,
+    desk: &mut D,
+    prompter: &mut P,
+    keys: &mut K,
+    dice: &mut R,
+) -> Went
+    requires open { IsOpen conn.old }
+    requires free { (D.at desk.old).out ≡ None }
+    requires shut { IsShut (P.at prompter.old) }
+    ensures answers { AnswersRequest {w = KeyWorld D.turned P.prompted} (λ before. SessionExchange rules.now before line.now) kept.old
+        (key_state D.turned P.prompted conn.old desk.old prompter.old (K.keys keys.old) (R.draws dice.old)) result kept.new (key_state D.turned P.prompted conn.new desk.new prompter.new (K.keys keys.new) (R.draws dice.new)) }
+    ensures free { (D.at desk.new).out ≡ None }
+    ensures shut { IsShut (P.at prompter.new) }
+{
+    let request = LineRequest::of(line);
+    match request.quiet() {
+        Some(quiet) => run_quiet(&quiet, conn, desk),
+        None => {
+            let went = answer_whole(
+                alloc, &request, rules, kept, conn, desk, prompter, keys, dice,
+            );
+            wipe_stack();
+            went
+        }
+    }
+}
+
+/// Answers one request by all that its line says.
+// Apart from the session's loop, where a place for the request would be filled anew for each line.
+#[inline(never)]
+fn answer_whole<L: Link, D: Desk, P: Prompter, K: Keys, R: Dice>(
+    alloc: Global,
+    request: &LineRequest<'_>,
+    rules: &Rules,
+    kept: &mut Kept,
+    conn: &mut Conn<'_, L>,
+    desk: &mut D,
+    prompter: &mut P,
+    keys: &mut K,
+    dice: &mut R,
+) -> Went
+    requires open { IsOpen conn.old }
+    requires free { (D.at desk.old).out ≡ None }
+    requires shut { IsShut (P.at prompter.old) }
+    ensures answers { AnswersRequest {w = KeyWorld D.turned P.prompted} (λ before. RequestExchange rules.now before request.now) kept.old
+        (key_state D.turned P.prompted conn.old desk.old prompter.old (K.keys keys.old) (R.draws dice.old)) result kept.new (key_state D.turned P.prompted conn.new desk.new prompter.new (K.keys keys.new) (R.draws dice.new)) }
+    ensures free { (D.at desk.new).out ≡ None }
+    ensures shut { IsShut (P.at prompter.new) }
+{
+    match request.whole() {
+        Request::Cache(command) => {
+            run_cache(&command, rules, &mut kept.options, conn, desk, prompter)
+        }
+        Request::Key(line) => {
+            let request = read_key(&line);
+            let went = run_key(
+                alloc,
+                &request,
+                rules,
+                &kept.options,
+                &mut kept.wraps,
+                conn,
+                desk,
+                prompter,
+                keys,
+                dice,
+            );
+            kept.options.end_description();
+            went_after_key(went)
+        }
+        Request::Bad(code) => refuse(code, conn),
+    }
+}
+
+/// Refuses a request.
+pub(crate) fn refuse<L: Link>(code: Code, conn: &mut Conn<'_, L>) -> Went
+    ensures { Refuses code conn.old result conn.new }
+{
+    match conn.err(code, Origin::Agent).whole() {
+        Ok(()) => Went::On,
+        Err(WriteFault) => Went::End(SessionEnd::WriteFault),
+    }
+}
+
+/// How the session goes on after a request on keys.
+fn went_after_key(went: KeyWent) -> Went
+    ensures { result ≡ went_after_key went }
+{
+    match went {
+        KeyWent::On => Went::On,
+        KeyWent::Gone(gone) => Went::End(SessionEnd::from(gone)),
+    }
+}

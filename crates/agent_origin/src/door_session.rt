@@ -1,0 +1,106 @@
+//! A session by the door that it came in.
+
+ghost use Rattle.std.specs.Prelude.{◌≡◌, None};
+ghost use Rattle.agent_ask.specs.Prompters.{IsShut};
+ghost use Rattle.agent_origin.specs.DoorSessions.{door_surroundings, ServesDoor};
+ghost use Rattle.agent_origin.specs.Serving.{Helps};
+
+use crate::answering::{answer, refuse};
+use crate::door::{Door, allowed};
+use crate::names::{DoorCommand, TRUST_COMMANDS, door_command_named};
+use crate::{Answers, Kept, read_trust, run_trust, serve};
+use agent_ask::Prompter;
+use agent_commands::{SessionEnd, Went, write_help};
+use agent_ports::{Dice, Keys, Link, TrustFile, WriteFault};
+use assuan_line::Line;
+use assuan_server::{Code, Conn};
+use assuan_text::command_and_rest;
+use cache_policy::Desk;
+use session_options::Rules;
+use std::alloc::Global;
+
+impl Answers for Door {
+    ghost use Rattle.agent_origin.specs.DoorSessions.{DoorExchange};
+    ghost use Rattle.agent_origin.specs.OriginEvents.{OriginEvent};
+    ghost use Rattle.agent_origin.specs.Origins.{OriginEnds, DoesOrigin};
+
+    ghost service = { record {
+      Further = OriginEvent;
+      Ends = OriginEnds;
+      does = λ prompted. DoesOrigin prompted;
+      ends = λ prompter keys dice trust. record { further = record { prompter = prompter; keys = keys; dice = dice }; trust = trust };
+      exchange = DoorExchange;
+    } };
+
+    fn answer<L: Link, D: Desk, P: Prompter, K: Keys, R: Dice, T: TrustFile>(
+        &self,
+        alloc: Global,
+        line: &Line,
+        rules: &Rules,
+        kept: &mut Kept,
+        conn: &mut Conn<'_, L>,
+        desk: &mut D,
+        prompter: &mut P,
+        keys: &mut K,
+        dice: &mut R,
+        trust: &mut T,
+    ) -> Went {
+        if !allowed(*self, line) {
+            return refuse(Code::Forbidden, conn);
+        }
+        let (word, _) = command_and_rest(line.bytes());
+        match door_command_named(word) {
+            Some(DoorCommand::Help) => help(conn),
+            Some(DoorCommand::Trust) => {
+                let request = read_trust(line);
+                run_trust(
+                    alloc,
+                    &request,
+                    rules,
+                    &kept.options,
+                    conn,
+                    desk,
+                    prompter,
+                    trust,
+                )
+            }
+            None => answer(alloc, line, rules, kept, conn, desk, prompter, keys, dice),
+        }
+    }
+}
+
+/// HELP, which tells the commands on the trust list too.
+fn help<L: Link>(conn: &mut Conn<'_, L>) -> Went
+    ensures { Helps conn.old result conn.new }
+{
+    match write_help(conn, &TRUST_COMMANDS) {
+        Ok(()) => Went::On,
+        Err(WriteFault) => Went::End(SessionEnd::WriteFault),
+    }
+}
+
+/// Serves a session that came in by this door: greets, and answers request after request until the session ends. No ticket of the session is out
+/// and no prompt is open when it returns. Its wrapping keys are overwritten in the end.
+///
+/// At the outer door a known command that isn't allowed there is answered `Forbidden`, and nothing else is done.
+pub fn serve_door<L: Link, D: Desk, P: Prompter, K: Keys, R: Dice, T: TrustFile>(
+    alloc: Global,
+    door: Door,
+    rules: &Rules,
+    link: &mut L,
+    desk: &mut D,
+    prompter: &mut P,
+    keys: &mut K,
+    dice: &mut R,
+    trust: &mut T,
+) -> SessionEnd
+    requires free { (D.at desk.old).out ≡ None }
+    requires shut { IsShut (P.at prompter.old) }
+    ensures serves { ServesDoor D.turned P.prompted door rules.now
+        (door_surroundings D.turned P.prompted (L.input link.old) (L.output link.old) desk.old prompter.old (K.keys keys.old) (R.draws dice.old) (T.trust trust.old)) result
+        (door_surroundings D.turned P.prompted (L.input link.new) (L.output link.new) desk.new prompter.new (K.keys keys.new) (R.draws dice.new) (T.trust trust.new)) }
+    ensures free { (D.at desk.new).out ≡ None }
+    ensures shut { IsShut (P.at prompter.new) }
+{
+    serve(&door, alloc, rules, link, desk, prompter, keys, dice, trust)
+}

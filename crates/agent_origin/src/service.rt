@@ -1,0 +1,161 @@
+//! The frame of every session: its greeting, its requests one after another, and its end.
+
+ghost use Rattle.std.specs.Prelude.{◌≡◌, [], None};
+ghost use Rattle.agent_ask.specs.Prompters.{IsShut};
+ghost use Rattle.assuan_server.specs.Connections.{IsOpen};
+ghost use Rattle.assuan_server.specs.Reading.{budget};
+ghost use Rattle.agent_commands.specs.States.{AnswersRequest};
+ghost use Rattle.agent_origin.specs.Services.{Service, service_world, service_state, service_surroundings};
+ghost use Rattle.agent_origin.specs.Serving.{ServesConn, ServesRequests};
+ghost use Rattle.agent_origin.specs.SessionExchanges.{kept_at_start};
+ghost use Rattle.agent_origin.specs.Sessions.{ServesSession};
+
+use crate::Kept;
+use agent_ask::Prompter;
+use agent_commands::{SessionEnd, Went};
+use agent_ports::{Dice, Keys, Link, TrustFile, WriteFault};
+use assuan_line::{BUDGET, Line, Took};
+use assuan_server::{Code, Conn, Origin};
+use cache_policy::Desk;
+use session_options::Rules;
+use std::alloc::Global;
+use wiping::wipe_stack;
+
+/// How the requests of a session are answered.
+pub trait Answers {
+    ghost service: { Service Self };
+
+    /// Answers the request of a line, and says how the session goes on. No ticket is out and no prompt is open when it returns.
+    fn answer<L: Link, D: Desk, P: Prompter, K: Keys, R: Dice, T: TrustFile>(
+        &self,
+        alloc: Global,
+        line: &Line,
+        rules: &Rules,
+        kept: &mut Kept,
+        conn: &mut Conn<'_, L>,
+        desk: &mut D,
+        prompter: &mut P,
+        keys: &mut K,
+        dice: &mut R,
+        trust: &mut T,
+    ) -> Went
+        requires open { IsOpen conn.old }
+        requires free { (D.at desk.old).out ≡ None }
+        requires shut { IsShut (P.at prompter.old) }
+        ensures answers { AnswersRequest {w = service_world service D.turned P.prompted} (λ before. service.exchange self.now rules.now before line.now) kept.old
+            (service_state service D.turned P.prompted conn.old desk.old prompter.old (K.keys keys.old) (R.draws dice.old) (T.trust trust.old)) result kept.new
+            (service_state service D.turned P.prompted conn.new desk.new prompter.new (K.keys keys.new) (R.draws dice.new) (T.trust trust.new)) }
+        ensures free { (D.at desk.new).out ≡ None }
+        ensures shut { IsShut (P.at prompter.new) };
+}
+
+/// Serves a session on a link: greets, and answers request after request so until the session ends. No ticket of the session is out and no prompt is
+/// open when it returns. Its wrapping keys are overwritten in the end.
+pub fn serve<A: Answers, L: Link, D: Desk, P: Prompter, K: Keys, R: Dice, T: TrustFile>(
+    so: &A,
+    alloc: Global,
+    rules: &Rules,
+    link: &mut L,
+    desk: &mut D,
+    prompter: &mut P,
+    keys: &mut K,
+    dice: &mut R,
+    trust: &mut T,
+) -> SessionEnd
+    requires free { (D.at desk.old).out ≡ None }
+    requires shut { IsShut (P.at prompter.old) }
+    ensures serves { ServesSession {w = service_world A.service D.turned P.prompted} (A.service.exchange so.now rules.now) (kept_at_start rules.now)
+        (service_surroundings A.service D.turned P.prompted (L.input link.old) (L.output link.old) desk.old prompter.old (K.keys keys.old) (R.draws dice.old) (T.trust trust.old)) result
+        (service_surroundings A.service D.turned P.prompted (L.input link.new) (L.output link.new) desk.new prompter.new (K.keys keys.new) (R.draws dice.new) (T.trust trust.new)) }
+    ensures free { (D.at desk.new).out ≡ None }
+    ensures shut { IsShut (P.at prompter.new) }
+{
+    let mut conn = Conn::new(alloc, link, BUDGET);
+    let end = serve_conn(
+        so, alloc, rules, &mut conn, desk, prompter, keys, dice, trust,
+    );
+    wipe_stack();
+    // So what the connection did is known of the link.
+    conn.into_link();
+    end
+}
+
+/// Greets the client, and answers its requests. The wrapping keys are overwritten where they lie.
+fn serve_conn<A: Answers, L: Link, D: Desk, P: Prompter, K: Keys, R: Dice, T: TrustFile>(
+    so: &A,
+    alloc: Global,
+    rules: &Rules,
+    conn: &mut Conn<'_, L>,
+    desk: &mut D,
+    prompter: &mut P,
+    keys: &mut K,
+    dice: &mut R,
+    trust: &mut T,
+) -> SessionEnd
+    requires fresh { conn.old.reader ≡ record { ahead = []; left = budget; ended = None } }
+    requires free { (D.at desk.old).out ≡ None }
+    requires shut { IsShut (P.at prompter.old) }
+    ensures serves { ServesConn {w = service_world A.service D.turned P.prompted} (A.service.exchange so.now rules.now) (kept_at_start rules.now)
+        (service_state A.service D.turned P.prompted conn.old desk.old prompter.old (K.keys keys.old) (R.draws dice.old) (T.trust trust.old)) result
+        (service_state A.service D.turned P.prompted conn.new desk.new prompter.new (K.keys keys.new) (R.draws dice.new) (T.trust trust.new)) }
+    ensures free { (D.at desk.new).out ≡ None }
+    ensures shut { IsShut (P.at prompter.new) }
+{
+    match conn.greet().whole() {
+        Ok(()) => {
+            let mut kept = Kept::new(rules);
+            let end = serve_requests(
+                so, alloc, rules, &mut kept, conn, desk, prompter, keys, dice, trust,
+            );
+            kept.wraps.clear();
+            end
+        }
+        Err(WriteFault) => SessionEnd::WriteFault,
+    }
+}
+
+/// Answers requests up to the end of the session.
+fn serve_requests<A: Answers, L: Link, D: Desk, P: Prompter, K: Keys, R: Dice, T: TrustFile>(
+    so: &A,
+    alloc: Global,
+    rules: &Rules,
+    kept: &mut Kept,
+    conn: &mut Conn<'_, L>,
+    desk: &mut D,
+    prompter: &mut P,
+    keys: &mut K,
+    dice: &mut R,
+    trust: &mut T,
+) -> SessionEnd
+    requires open { IsOpen conn.old }
+    requires free { (D.at desk.old).out ≡ None }
+    requires shut { IsShut (P.at prompter.old) }
+    ensures serves { ServesRequests {w = service_world A.service D.turned P.prompted} (A.service.exchange so.now rules.now) kept.old
+        (service_state A.service D.turned P.prompted conn.old desk.old prompter.old (K.keys keys.old) (R.draws dice.old) (T.trust trust.old)) result
+        (service_state A.service D.turned P.prompted conn.new desk.new prompter.new (K.keys keys.new) (R.draws dice.new) (T.trust trust.new)) }
+    ensures free { (D.at desk.new).out ≡ None }
+    ensures shut { IsShut (P.at prompter.new) }
+{
+    loop {
+        let mut took = conn.next_request();
+        match &mut took {
+            Took::Line(line) => {
+                let went = so.answer(
+                    alloc, line, rules, kept, conn, desk, prompter, keys, dice, trust,
+                );
+                line.clear();
+                match went {
+                    Went::On => {}
+                    Went::End(end) => return end,
+                }
+            }
+            Took::TooLong => match conn.err(Code::LineTooLong, Origin::Agent).whole() {
+                Ok(()) => return SessionEnd::TooLong,
+                Err(WriteFault) => return SessionEnd::WriteFault,
+            },
+            Took::End => return SessionEnd::Ended,
+            Took::Spent => return SessionEnd::Spent,
+            Took::ReadFault => return SessionEnd::ReadFault,
+        }
+    }
+}
