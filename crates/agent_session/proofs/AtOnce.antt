@@ -30,8 +30,8 @@ use Rattle.agent_commands.specs.declared.went.Went.{Went}
 use Rattle.key_commands.specs.States.{KeyWorld}
 use Rattle.agent_session.specs.Causes.{WantsMemory}
 use Rattle.agent_session.specs.Completeness.{IsStopped, AnswersFromCache, given, empty, no_id, AnswersAtOnce, AnswersDone}
-use Rattle.agent_session.specs.Exchanges.{RequestExchange, cache, keys}
-use Rattle.agent_session.specs.declared.kept.Kept.{Kept}
+use Rattle.agent_origin.specs.SessionExchanges.{RequestExchange, cache, keys}
+use Rattle.agent_origin.specs.declared.kept.Kept.{Kept}
 
 -- a turn came out as its step can
 abbrev pub FitsTurn : Event FurtherEvent → Type 0
@@ -63,20 +63,20 @@ module _ (step : MarkStep) (unhurried : FitsStep step Late → ⊥) where
   not_interrupted exchanges.stopping fits calm = calm.1 refl
   not_interrupted exchanges.late fits calm = unhurried fits
 
-  done_so : {text answer : List ℕ} {done went : Went} {turn : Turn} → text ≡ ok → ComesOut text done turn answer went → FitsTurn (cache_turn step turn) → IsCalm (cache_turn step turn)
+  pub done_is_answered : {text answer : List ℕ} {done went : Went} {turn : Turn} → text ≡ ok → ComesOut text done turn answer went → FitsTurn (cache_turn step turn) → IsCalm (cache_turn step turn)
       → AnswersDone step (cache_turn step turn ∷ Sent answer ∷ [])
-  done_so is exchanges.done fits calm = subst (λ t. AnswersDone step (cache_turn step Done ∷ Sent t ∷ [])) (sym is) refl
-  done_so is (exchanges.interrupted why) fits calm = absurd (not_interrupted why fits calm)
+  done_is_answered is exchanges.done fits calm = subst (λ t. AnswersDone step (cache_turn step Done ∷ Sent t ∷ [])) (sym is) refl
+  done_is_answered is (exchanges.interrupted why) fits calm = absurd (not_interrupted why fits calm)
 
 module _ (rules : Rules) where
-  from_cache : (plain : Bool) (id : Option (List ℕ)) {events : List (Event FurtherEvent)} {went : Went} → LooksFirst plain id (Refuses code.NoData) events went → AllByRecursion FitsTurn events → AllByRecursion IsCalm events
+  pub from_cache : (plain : Bool) (id : Option (List ℕ)) {events : List (Event FurtherEvent)} {went : Went} → LooksFirst plain id (Refuses code.NoData) events went → AllByRecursion FitsTurn events → AllByRecursion IsCalm events
       → AnswersFromCache plain id events
   from_cache plain id (exchanges.answered (exchanges.given is)) fits calm = given is
   from_cache plain id (exchanges.answered (exchanges.interrupted {id = named} why)) fits calm = absurd (not_interrupted (ask named) (λ late. absurd (cc late)) why fits.0 calm.0)
   from_cache plain id (exchanges.goes_on exchanges.no_id exchanges.refused) fits calm = no_id
   from_cache plain id (exchanges.goes_on exchanges.empty exchanges.refused) fits calm = empty
 
-  not_quiet : (no_ask : Bool) (texts : Option Texts) {given_texts : Texts} → no_ask ≡ false → texts ≡ Some given_texts → is_quiet no_ask texts ≡ true → ⊥
+  pub not_quiet : (no_ask : Bool) (texts : Option Texts) {given_texts : Texts} → no_ask ≡ false → texts ≡ Some given_texts → is_quiet no_ask texts ≡ true → ⊥
   not_quiet true texts asks some quiet = absurd (cc asks)
   not_quiet false None asks some quiet = absurd (cc some)
   not_quiet false (Some other) asks some quiet = absurd (cc quiet)
@@ -104,9 +104,9 @@ module _ (rules : Rules) where
   cached_at_once request (exchanges.without_data allowed without) fits calm = tt
   cached_at_once request (exchanges.confirmation spec mode_is is_spec wants) fits calm = tt
   cached_at_once request (exchanges.unconfirmed refusal) fits calm = tt
-  cached_at_once request (exchanges.one_turn (exchanges.preset {id} {secret} {life} allow) comes) fits calm = λ allowed. done_so (put id life secret) (λ late. absurd (cc late)) refl comes fits.0 calm.0
-  cached_at_once request (exchanges.one_turn (exchanges.clear {id} {mode}) comes) fits calm = done_so (Clear id mode) (λ late. absurd (cc late)) refl comes fits.0 calm.0
-  cached_at_once request (exchanges.one_turn exchanges.reload comes) fits calm = done_so Flush (λ late. absurd (cc late)) refl comes fits.0 calm.0
+  cached_at_once request (exchanges.one_turn (exchanges.preset {id} {secret} {life} allow) comes) fits calm = λ allowed. done_is_answered (put id life secret) (λ late. absurd (cc late)) refl comes fits.0 calm.0
+  cached_at_once request (exchanges.one_turn (exchanges.clear {id} {mode}) comes) fits calm = done_is_answered (Clear id mode) (λ late. absurd (cc late)) refl comes fits.0 calm.0
+  cached_at_once request (exchanges.one_turn exchanges.reload comes) fits calm = done_is_answered Flush (λ late. absurd (cc late)) refl comes fits.0 calm.0
   cached_at_once request (exchanges.one_turn exchanges.kill comes) fits calm = tt
 
   pub at_once : {before after : Kept} (request : Request) {events : List (Event FurtherEvent)} {went : Went} → RequestExchange rules before request events after went → AllByRecursion FitsTurn events → AllByRecursion IsCalm events

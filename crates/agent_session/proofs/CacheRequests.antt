@@ -36,7 +36,8 @@ use Rattle.agent_commands.specs.Answers.{IsInfo}
 use Rattle.agent_commands.specs.Endings.{went_after}
 use Rattle.agent_commands.specs.Events.{Event}
 use Rattle.agent_commands.specs.Exchanges as exchanges
-use Rattle.agent_commands.specs.Exchanges.{Exchange, Interrupts, Fails, WithoutPassphrase, Looks, LooksFirst, Refuses, IsOneTurn, ComesOut, Keeps, WithoutPrompt, EndsPin, EndsConsent, WantsPrompt, want, ByPrompt, refusal_of, option_text, is_quiet}
+use Rattle.agent_commands.specs.Exchanges.{Exchange, Interrupts, Fails, WithoutPassphrase, Looks, LooksFirst, Refuses, IsOneTurn, ComesOut, Keeps, WithoutPrompt, EndsPin, EndsConsent, WantsPrompt}
+use Rattle.agent_commands.specs.Exchanges.{want, ByPrompt, refusal_of, option_text, is_quiet}
 use Rattle.agent_commands.specs.Prompting.{UnderTicket}
 use Rattle.agent_commands.specs.Requests.{GetFields, get_passphrase}
 use Rattle.agent_commands.specs.declared.request.CacheCommand.{CacheCommand}
@@ -47,10 +48,11 @@ use Rattle.agent_commands.specs.declared.request.Request.{Request}
 use Rattle.agent_commands.specs.declared.request.Request.TheVariants.{Cache}
 use Rattle.agent_commands.specs.declared.went.Went.{Went}
 use Rattle.agent_commands.specs.declared.went.Went.TheVariants.{On}
-use Rattle.agent_session.specs.Causes.{StandIn, IsCaused, IsRefusedBy, IsSaid, said, one, turned, by_stop, by_client, by_mode, no_id, empty, option, preset, of_consent, confirmation, none_given, HasNoEntry, IsUnprompted, without_id, passphrase}
+use Rattle.agent_session.specs.Causes.{StandIn, IsCaused, IsRefusedBy, IsSaid, said, one, turned, by_stop, by_client, by_mode, no_id, empty, option, preset, of_consent, confirmation, none_given}
+use Rattle.agent_session.specs.Causes.{HasNoEntry, IsUnprompted, without_id, passphrase}
 use Rattle.agent_session.specs.Causes as causes
 use Rattle.agent_session.specs.Completeness.{AnswersNothing}
-use Rattle.agent_session.specs.declared.kept.Kept.{Kept}
+use Rattle.agent_origin.specs.declared.kept.Kept.{Kept}
 use Rattle.agent_session.proofs.Explained.{Explained, replied, failed, silent, after_these, IsLast}
 use Rattle.agent_session.proofs.KeyParts.{prompt_silent, has_call, heard_caused, unopened_caused, bad_any}
 use Rattle.agent_session.proofs.Prompted.{PinShows, ConsentShows, pin_shows, consent_shows}
@@ -76,21 +78,21 @@ module _ (rules : Rules) (kept : Kept) (whole : List (Event FurtherEvent)) (requ
 
   -- ---- the client
 
-  pub unheard_so : (why : Unheard) → IsSaid whole why → Here (said_last (session_lines.refusal why)) (went_after (gone_of why))
-  unheard_so unheard.Cancelled is = failed [] code.Cancelled Agent tt (by_client is) tt
-  unheard_so unheard.TooMuch is = failed [] code.TooMuch Agent tt is tt
-  unheard_so unheard.Unexpected is = failed [] code.Unexpected Agent tt is tt
-  unheard_so (unheard.Gone gone.TooLong) is = failed [] code.LineTooLong Agent tt is tt
-  unheard_so (unheard.Gone gone.Ended) is = silent tt is
-  unheard_so (unheard.Gone gone.Spent) is = silent tt is
-  unheard_so (unheard.Gone gone.ReadFault) is = silent tt is
-  unheard_so (unheard.Gone gone.WriteFault) is = silent tt tt
+  pub unheard_explained : (why : Unheard) → IsSaid whole why → Here (said_last (session_lines.refusal why)) (went_after (gone_of why))
+  unheard_explained unheard.Cancelled is = failed [] code.Cancelled Agent tt (by_client is) tt
+  unheard_explained unheard.TooMuch is = failed [] code.TooMuch Agent tt is tt
+  unheard_explained unheard.Unexpected is = failed [] code.Unexpected Agent tt is tt
+  unheard_explained (unheard.Gone gone.TooLong) is = failed [] code.LineTooLong Agent tt is tt
+  unheard_explained (unheard.Gone gone.Ended) is = silent tt is
+  unheard_explained (unheard.Gone gone.Spent) is = silent tt is
+  unheard_explained (unheard.Gone gone.ReadFault) is = silent tt is
+  unheard_explained (unheard.Gone gone.WriteFault) is = silent tt tt
 
-  fails_so : {why : Unheard} {events : List (Event FurtherEvent)} {went : Went} → Fails why events went → IsSaid whole why → Here events went
-  fails_so {why} fails is = unheard_so why is
+  failure_explained : {why : Unheard} {events : List (Event FurtherEvent)} {went : Went} → Fails why events went → IsSaid whole why → Here events went
+  failure_explained {why} fails is = unheard_explained why is
 
   without_passphrase : {events : List (Event FurtherEvent)} {went : Went} → WithoutPassphrase events went → StandIn events whole → Here events went
-  without_passphrase (exchanges.no_data {events = more} says fails) stands = after_these whole CausedHere (_ ∷ _ ∷ []) ((_, refl), (tt, tt)) (fails_so fails (said says (has_second stands)))
+  without_passphrase (exchanges.no_data {events = more} says fails) stands = after_these whole CausedHere (_ ∷ _ ∷ []) ((_, refl), (tt, tt)) (failure_explained fails (said says (has_second stands)))
   without_passphrase (exchanges.limit_cut unsent is) stands = silent (tt, tt) tt
 
   -- ---- looks in the cache
@@ -120,21 +122,21 @@ module _ (rules : Rules) (kept : Kept) (whole : List (Event FurtherEvent)) (requ
     no_data id same first more exchanges.no_id stands = no_id fields is_get quiet same
     no_data id same first more (exchanges.empty {id = named}) stands = empty fields named is_get quiet same (has_first stands)
 
-    refuses_so : (id : Option (List ℕ)) → fields.id ≡ id → {went : Went} (first more : List (Event FurtherEvent)) → Looks fields.plain id first None → Refuses code.NoData more went → StandIn (first ++ more) whole
+    refusal_stands : (id : Option (List ℕ)) → fields.id ≡ id → {went : Went} (first more : List (Event FurtherEvent)) → Looks fields.plain id first None → Refuses code.NoData more went → StandIn (first ++ more) whole
         → Here more went
-    refuses_so id same first more looks exchanges.refused stands = failed [] code.NoData Agent tt (no_data id same first more looks stands) tt
+    refusal_stands id same first more looks exchanges.refused stands = failed [] code.NoData Agent tt (no_data id same first more looks stands) tt
 
-  keeps_so : (plain : Bool) {secret : List ℕ} {id : Option (List ℕ)} {events : List (Event FurtherEvent)} {went : Went} → Keeps plain secret id events went → StandIn events whole → Here events went
-  keeps_so plain (exchanges.unkept is) stands = only_reply (reply_passphrase plain _ _ is) tt
-  keeps_so plain (exchanges.kept is) stands = replied (_ ∷ []) _ (tt, tt) (reply_passphrase plain _ _ is) tt
-  keeps_so plain (exchanges.interrupted {code = why} is) stands = failed (_ ∷ []) why Agent (tt, tt) (interrupts _ refl is stands) tt
+  keeping_explained : (plain : Bool) {secret : List ℕ} {id : Option (List ℕ)} {events : List (Event FurtherEvent)} {went : Went} → Keeps plain secret id events went → StandIn events whole → Here events went
+  keeping_explained plain (exchanges.unkept is) stands = only_reply (reply_passphrase plain _ _ is) tt
+  keeping_explained plain (exchanges.kept is) stands = replied (_ ∷ []) _ (tt, tt) (reply_passphrase plain _ _ is) tt
+  keeping_explained plain (exchanges.interrupted {code = why} is) stands = failed (_ ∷ []) why Agent (tt, tt) (interrupts _ refl is stands) tt
 
   without_prompt : (plain : Bool) (id : Option (List ℕ)) (way : PinMode) → kept.options.mode ≡ way → HasNoEntry whole request → {events : List (Event FurtherEvent)} {went : Went} → WithoutPrompt plain id way events went
       → StandIn events whole → Here events went
   without_prompt plain id way same unmet exchanges.cancelled stands = failed [] code.Cancelled Agent tt (by_mode same unmet) tt
   without_prompt plain id way same unmet exchanges.no_pinentry stands = failed [] code.NoPinentry Agent tt (inl (by_mode same unmet)) tt
   without_prompt plain id way same unmet (exchanges.with_data {events = more} keeps) stands =
-      after_these whole CausedHere (_ ∷ _ ∷ []) ((_, refl), (tt, tt)) (keeps_so plain keeps (stand_tail _ more (stand_tail _ _ stands)))
+      after_these whole CausedHere (_ ∷ _ ∷ []) ((_, refl), (tt, tt)) (keeping_explained plain keeps (stand_tail _ more (stand_tail _ _ stands)))
   without_prompt plain id way same unmet (exchanges.without_data without) stands = without_passphrase without stands
 
   -- ---- prompts
@@ -147,7 +149,7 @@ module _ (rules : Rules) (kept : Kept) (whole : List (Event FurtherEvent)) (requ
     ends_pin plain prompted shows exchanges.timed_out = failed [] code.Timeout Pinentry tt (has_call rules kept request whole in_session stands shows) tt
     ends_pin plain prompted shows exchanges.no_pinentry = failed [] code.NoPinentry Agent tt (unopened_caused rules kept request whole in_session stands shows) tt
     ends_pin plain prompted shows exchanges.bad = failed [] code.BadPass Agent tt (bad_any rules kept request whole prompted in_session stands refl) tt
-    ends_pin plain prompted shows (exchanges.unheard {heard} {why} is fails) = fails_so fails (heard_caused rules kept request whole in_session stands heard why is shows)
+    ends_pin plain prompted shows (exchanges.unheard {heard} {why} is fails) = failure_explained fails (heard_caused rules kept request whole in_session stands heard why is shows)
 
     ends_consent : {answer : Agreed} {keep : Option (List ℕ)} {events : List (Event FurtherEvent)} {went : Went} → ConsentShows answer prompt → EndsConsent answer keep events went → Here events went
     ends_consent shows exchanges.yes = only_reply reply_ok tt
@@ -155,7 +157,7 @@ module _ (rules : Rules) (kept : Kept) (whole : List (Event FurtherEvent)) (requ
     ends_consent shows exchanges.cancelled = failed [] code.Cancelled Pinentry tt (has_call rules kept request whole in_session stands shows) tt
     ends_consent shows exchanges.timed_out = failed [] code.Timeout Pinentry tt (has_call rules kept request whole in_session stands shows) tt
     ends_consent shows exchanges.no_pinentry = failed [] code.NoPinentry Agent tt (unopened_caused rules kept request whole in_session stands shows) tt
-    ends_consent shows (exchanges.unheard {heard} {why} is fails) = fails_so fails (heard_caused rules kept request whole in_session stands heard why is shows)
+    ends_consent shows (exchanges.unheard {heard} {why} is fails) = failure_explained fails (heard_caused rules kept request whole in_session stands heard why is shows)
 
   -- one prompt, and how it ends the request
   module _ {A : Type 0} (Asks : List PromptEvent → A → Type 0) (Ends : A → Option (List ℕ) → List (Event FurtherEvent) → Went → Type 0)
@@ -242,7 +244,7 @@ module _ (rules : Rules) (kept : Kept) (whole : List (Event FurtherEvent)) where
   cache_explained request line_caused (exchanges.info {what} is) stands = only_reply rules kept whole request (info_reply rules kept whole request what is) tt
   cache_explained request line_caused (exchanges.quiet {fields} quiet looks) stands =
       looks_first rules kept whole request fields.plain fields.id (Refuses code.NoData) looks stands
-      (λ first more none refuses stands_all. refuses_so rules kept whole request fields refl quiet fields.id refl first more none refuses stands_all)
+      (λ first more none refuses stands_all. refusal_stands rules kept whole request fields refl quiet fields.id refl first more none refuses stands_all)
   cache_explained request line_caused (exchanges.by_prompt {fields} spec asks texts_are mode_is is_spec by) stands = by_prompt rules kept whole request spec _ fields.plain by stands
   cache_explained request line_caused (exchanges.without_prompt {fields} asks texts_are mode_is looks) stands =
       looks_first rules kept whole request fields.plain fields.id (WithoutPrompt fields.plain fields.id kept.options.mode) looks stands

@@ -50,10 +50,10 @@ abbrev FailsAtPrompter : Event FurtherEvent → Type 0
 FailsAtPrompter (Further (Prompt (Called call))) = is_failed call ≡ true
 FailsAtPrompter _ = ⊥
 
-first_rose : (before mid after : ℕ) → Rose before mid → mid ≤ after → Rose before after
+pub first_rose : (before mid after : ℕ) → Rose before mid → mid ≤ after → Rose before after
 first_rose before mid after rose stays = omega (arith, rose, stays)
 
-last_rose : (before mid after : ℕ) → before ≤ mid → Rose mid after → Rose before after
+pub last_rose : (before mid after : ℕ) → before ≤ mid → Rose mid after → Rose before after
 last_rose before mid after stays rose = omega (arith, stays, rose)
 
 -- the counts of the keys and of the dice, and what a call that fails does to them

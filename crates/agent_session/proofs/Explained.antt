@@ -45,7 +45,7 @@ pub data Explained (whole : List (Event FurtherEvent)) (Caused : Code → Origin
       → Explained whole Caused (before ++ error_line why origin ∷ []) went
   silent : {events : List (Event FurtherEvent)} {went : Went} → AllByRecursion AnswersNothing events → IsLost whole went → Explained whole Caused events went
 
-has_split : {event : Event FurtherEvent} (first more : List (Event FurtherEvent)) → Has event (first ++ more) → Has event first ⊎ Has event more
+pub has_split : {event : Event FurtherEvent} (first more : List (Event FurtherEvent)) → Has event (first ++ more) → Has event first ⊎ Has event more
 has_split [] more has = inr has
 has_split (event ∷ first) more here = inl here
 has_split (other ∷ first) more (later has) = elim (has_split first more has) [ inl before ↦ inl (later before) | inr behind ↦ inr behind ]
@@ -83,11 +83,11 @@ module _ (whole : List (Event FurtherEvent)) (Caused : Code → Origin → Type 
   lost_answers (End ReadFault) lost each = (each, lost)
   lost_answers (End WriteFault) lost each = each
 
-  ends_so : {text : List ℕ} → IsReply text → EndsInOk text
-  ends_so (begins other ends) = ends
+  reply_ends_in_ok : {text : List ℕ} → IsReply text → EndsInOk text
+  reply_ends_in_ok (begins other ends) = ends
 
   pub is_answered : {events : List (Event FurtherEvent)} {went : Went} → Explained whole Caused events went → whole ≡ events → IsAnsweredBy went whole
-  is_answered (replied before text {went} nothing reply last) is = last_answers went whole last (record { before = before; text = text; is = is; nothing_before = nothing; answer = done (ends_so reply) })
+  is_answered (replied before text {went} nothing reply last) is = last_answers went whole last (record { before = before; text = text; is = is; nothing_before = nothing; answer = done (reply_ends_in_ok reply) })
   is_answered (failed before {went} why origin nothing caused last) is = last_answers went whole last (record { before = before; text = _; is = is; nothing_before = nothing; answer = error why origin refl })
   is_answered (silent {events} {went} nothing lost) is = lost_answers went lost (subst (AllByRecursion AnswersNothing) (sym is) nothing)
 

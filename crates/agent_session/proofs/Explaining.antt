@@ -25,7 +25,7 @@ use Rattle.key_commands.specs.declared.refusal.Refusal.{Refusal}
 use Rattle.key_commands.specs.declared.refusal.Refusal.TheVariants.{Agent, Pinentry, Client}
 use Rattle.agent_session.specs.Causes.{Has, StandIn, IsCaused, IsSaid, said, IsSent, sent, IsUnread, IsDrawn, one, turned, by_stop, GivesNone, none_given}
 use Rattle.agent_session.specs.Completeness.{AnswersNothing, IsStatus}
-use Rattle.agent_session.specs.declared.kept.Kept.{Kept}
+use Rattle.agent_origin.specs.declared.kept.Kept.{Kept}
 use Rattle.agent_session.proofs.Standing.{has_first, has_second, stand_left, stand_right, each_append}
 
 -- whatever value
@@ -184,8 +184,8 @@ module _ (rules : Rules) (kept : Kept) (request : Request) (whole : List (Event 
     closes_of before events result after parts.unheld stands = record { silent = tt; explained = tt }
     closes_of before events result after (parts.closed turn) stands = record { silent = (tt, tt); explained = tt }
 
-    pub closes_so : Explains (Closes keep) Anything
-    closes_so = record { of = closes_of }
+    pub closes_explained : Explains (Closes keep) Anything
+    closes_explained = record { of = closes_of }
 
   -- ---- the client
 

@@ -25,9 +25,9 @@ use Rattle.key_commands.specs.declared.went.KeyWent.{KeyWent}
 use Rattle.key_commands.specs.declared.wrap_keys.WrapKeys.{WrapKeys}
 use Rattle.agent_session.specs.Causes.{Has, StandIn, IsCaused, IsRefusedBy, on_keys, IsSaid}
 use Rattle.agent_session.specs.Completeness.{CausedExchange}
-use Rattle.agent_session.specs.Exchanges.{RequestExchange, cache, keys, SessionExchange, went_after_key}
-use Rattle.agent_session.specs.declared.kept.Kept.{Kept}
-use Rattle.agent_session.proofs.CacheRequests.{cache_explained, unheard_so as cached_unheard_so}
+use Rattle.agent_origin.specs.SessionExchanges.{RequestExchange, cache, keys, SessionExchange, went_after_key}
+use Rattle.agent_origin.specs.declared.kept.Kept.{Kept}
+use Rattle.agent_session.proofs.CacheRequests.{cache_explained, unheard_explained as cached_unheard_explained}
 use Rattle.agent_session.proofs.Explained.{Explained, replied, failed, silent, after_these, is_answered, is_caused}
 use Rattle.agent_session.proofs.Explaining.{CausedRefusal, ClientSays, cut, client_said, Comes, Anything, closes_of}
 use Rattle.agent_session.proofs.KeyRequests.{Replied, replies}
@@ -39,31 +39,31 @@ abbrev pub NeverAbsent : List (Event FurtherEvent) → Type 0
 NeverAbsent events = (grip : Grip) (file : List ℕ) → Has (Further (Keys (Replaced grip file key_done.Absent))) events → ⊥
 
 -- a session goes on so after a request on keys as after any other
-went_so : (why : Unheard) → went_after_key (refusal_went (Client why)) ≡ went_after (gone_of why)
-went_so unheard.Cancelled = refl
-went_so unheard.TooMuch = refl
-went_so unheard.Unexpected = refl
-went_so (unheard.Gone gone.Ended) = refl
-went_so (unheard.Gone gone.TooLong) = refl
-went_so (unheard.Gone gone.Spent) = refl
-went_so (unheard.Gone gone.ReadFault) = refl
-went_so (unheard.Gone gone.WriteFault) = refl
+went_of_unheard : (why : Unheard) → went_after_key (refusal_went (Client why)) ≡ went_after (gone_of why)
+went_of_unheard unheard.Cancelled = refl
+went_of_unheard unheard.TooMuch = refl
+went_of_unheard unheard.Unexpected = refl
+went_of_unheard (unheard.Gone gone.Ended) = refl
+went_of_unheard (unheard.Gone gone.TooLong) = refl
+went_of_unheard (unheard.Gone gone.Spent) = refl
+went_of_unheard (unheard.Gone gone.ReadFault) = refl
+went_of_unheard (unheard.Gone gone.WriteFault) = refl
 
 module _ (rules : Rules) (kept : Kept) (request : Request) (whole : List (Event FurtherEvent)) where
   abbrev Here : List (Event FurtherEvent) → Went → Type 0
   Here = Explained whole (IsCaused whole rules kept request)
 
-  unheard_so : (why : Unheard) → IsSaid whole why → Here (refusal_events (Client why)) (went_after_key (refusal_went (Client why)))
-  unheard_so why is = subst (Here (refusal_events (Client why))) (sym (went_so why)) (cached_unheard_so rules kept whole request why is)
+  unheard_explained : (why : Unheard) → IsSaid whole why → Here (refusal_events (Client why)) (went_after_key (refusal_went (Client why)))
+  unheard_explained why is = subst (Here (refusal_events (Client why))) (sym (went_of_unheard why)) (cached_unheard_explained rules kept whole request why is)
 
-  client_so : (why : Unheard) → ClientSays rules kept request whole why → Here (refusal_events (Client why)) (went_after_key (refusal_went (Client why)))
-  client_so why cut = silent tt tt
-  client_so why (client_said is) = unheard_so why is
+  client_explained : (why : Unheard) → ClientSays rules kept request whole why → Here (refusal_events (Client why)) (went_after_key (refusal_went (Client why)))
+  client_explained why cut = silent tt tt
+  client_explained why (client_said is) = unheard_explained why is
 
-  refusal_so : (why : Refusal) → CausedRefusal rules kept request whole why → Here (refusal_events why) (went_after_key (refusal_went why))
-  refusal_so (Agent why) caused = failed [] why origin.Agent tt caused tt
-  refusal_so (Pinentry why) caused = failed [] why origin.Pinentry tt caused tt
-  refusal_so (Client why) says = client_so why says
+  refusal_explained : (why : Refusal) → CausedRefusal rules kept request whole why → Here (refusal_events why) (went_after_key (refusal_went why))
+  refusal_explained (Agent why) caused = failed [] why origin.Agent tt caused tt
+  refusal_explained (Pinentry why) caused = failed [] why origin.Pinentry tt caused tt
+  refusal_explained (Client why) says = client_explained why says
 
   module _ (line_caused : (why : Code) → IsRefusedBy request why → IsCaused whole rules kept request why origin.Agent) (never_absent : NeverAbsent whole) where
     keys_explained : (asked : KeyRequest) → on_keys request ≡ Some asked → {events : List (Event FurtherEvent)} {after : WrapKeys} {went : KeyWent}
@@ -75,7 +75,7 @@ module _ (rules : Rules) (kept : Kept) (request : Request) (whole : List (Event 
     keys_explained asked is (refused events held why {back} does closes) stands =
         let part : Comes rules kept request whole (Replied rules kept request whole) events (Err why) = (replies rules kept request whole never_absent line_caused asked is).of None events (Err why) held does (stand_left events _ stands) in
         let close : Comes rules kept request whole Anything back (Ok tt) = closes_of rules kept request whole None held back (Ok tt) None closes (stand_left back _ (stand_right events _ stands)) in
-        after_these _ _ events part.silent (after_these _ _ back close.silent (refusal_so why part.explained))
+        after_these _ _ events part.silent (after_these _ _ back close.silent (refusal_explained why part.explained))
 
 request_explained : (rules : Rules) (kept : Kept) (request : Request) (whole : List (Event FurtherEvent)) {events : List (Event FurtherEvent)} {after : Kept} {went : Went}
     → ((why : Code) → IsRefusedBy request why → IsCaused whole rules kept request why origin.Agent) → NeverAbsent whole → RequestExchange rules kept request events after went → StandIn events whole

@@ -44,10 +44,11 @@ use Rattle.key_commands.specs.Passphrases.{ask_nonce, LooksForNonce, TakesSeat, 
 use Rattle.key_commands.specs.Passphrases as passphrases
 use Rattle.key_commands.specs.declared.refusal.Refusal.{Refusal}
 use Rattle.key_commands.specs.declared.refusal.Refusal.TheVariants.{Client}
-use Rattle.agent_session.specs.Causes.{Has, StandIn, IsSaid, said, IsUnread, IsUnremoved, LacksKeys, on_keys, one, IsRead, read, IsReadOf, read_of, IsReadLocked, OpensRead, opens, IsFaulty, protection, faulty, HasCall, GivesNone, GivesNoneFor, none_at_all, wrong, ByNonce}
+use Rattle.agent_session.specs.Causes.{Has, StandIn, IsSaid, said, IsUnread, IsUnremoved, LacksKeys, on_keys, one, IsRead, read, IsReadOf, read_of, IsReadLocked, OpensRead, opens, IsFaulty}
+use Rattle.agent_session.specs.Causes.{protection, faulty, HasCall, GivesNone, GivesNoneFor, none_at_all, wrong, ByNonce}
 use Rattle.agent_session.specs.Causes as causes
 use Rattle.agent_session.specs.Completeness.{AnswersNothing}
-use Rattle.agent_session.specs.declared.kept.Kept.{Kept}
+use Rattle.agent_origin.specs.declared.kept.Kept.{Kept}
 use Rattle.agent_session.proofs.Explaining.{Caused, CausedRefusal, client_said, Comes, Explains, Anything, returned, FoundBy, found, found_none, looks, seats, changes, closes_of, out_of_memory_first, out_of_memory_second}
 use Rattle.agent_session.proofs.Faulty.{file_fault_said, locked_fault_said}
 use Rattle.agent_session.proofs.Faulty as said

@@ -23,10 +23,12 @@ use Rattle.session_options.specs.declared.rules.Rules.{Rules}
 use Rattle.sexp_keys.specs.Key.{Key}
 use Rattle.agent_commands.specs.Events.{Event}
 use Rattle.agent_commands.specs.declared.request.Request.{Request}
-use Rattle.key_commands.specs.Exchanges.{KeyReply, HaveKeyReplies, KeyInfoReplies, ListKeysReplies, KeyWrapReplies, ImportKeyReplies, ExportKeyReplies, PasswdReplies, VerifyReplies, DeleteKeyReplies, Replies, wrap_key, StoresKey, FoundOrNew, RenewsPassphrase, RewritesFile, ChangesOpened}
+use Rattle.key_commands.specs.Exchanges.{KeyReply, HaveKeyReplies, KeyInfoReplies, ListKeysReplies, KeyWrapReplies, ImportKeyReplies, ExportKeyReplies, PasswdReplies, VerifyReplies, DeleteKeyReplies}
+use Rattle.key_commands.specs.Exchanges.{Replies, wrap_key, StoresKey, FoundOrNew, RenewsPassphrase, RewritesFile, ChangesOpened}
 use Rattle.key_commands.specs.Files.{Rewrites}
 use Rattle.key_commands.specs.Files as files
-use Rattle.key_commands.specs.KeyParts.{Tells, tells, Protects, IsShort, HasOne as HasOneKey, TellsInfo, ListsGrips, ReadsListed, WritesInfo, TellsListed, WritesInfos, max_key_data, AsksKeyData, Unwraps, ReceivesKey, NamesKey, IsFree, LooksOver, WrapsKey, Consents}
+use Rattle.key_commands.specs.KeyParts.{Tells, tells, Protects, IsShort, HasOne as HasOneKey, TellsInfo, ListsGrips, ReadsListed, WritesInfo, TellsListed, WritesInfos, max_key_data, AsksKeyData}
+use Rattle.key_commands.specs.KeyParts.{Unwraps, ReceivesKey, NamesKey, IsFree, LooksOver, WrapsKey, Consents}
 use Rattle.key_commands.specs.KeyParts as parts
 use Rattle.key_commands.specs.Lines.{limit_line}
 use Rattle.key_commands.specs.Parts.{Part, Returns, unless, needed, or_else, wanted, read_fault}
@@ -38,12 +40,16 @@ use Rattle.key_commands.specs.declared.refusal.Refusal.TheVariants.{Agent}
 use Rattle.key_commands.specs.declared.request.Direction.{Direction}
 use Rattle.key_commands.specs.declared.request.KeyRequest.{KeyRequest}
 use Rattle.key_commands.specs.declared.request.KeyRequest.TheVariants as on
-use Rattle.agent_session.specs.Causes.{Has, StandIn, IsCaused, IsSent, IsUnread, LacksKeys, on_keys, IsRefusedBy, one, IsRead, IsReadOf, IsDrawn, IsListOf, protected, IsReadLocked, OpensRead, is_clear, key_data, KeyDataSays, data_says, faulty, long, long_file, by_mode, deletion, stays, empty, no_import, no_export, there, GivesNone, none_given, GivesNoneFor, ByNonce, HasNoEntry, exported, changed, verified, imported, renewed, IsUnprompted}
+use Rattle.agent_session.specs.Causes.{Has, StandIn, IsCaused, IsSent, IsUnread, LacksKeys, on_keys, IsRefusedBy, one, IsRead, IsReadOf, IsDrawn, IsListOf, protected, IsReadLocked, OpensRead}
+use Rattle.agent_session.specs.Causes.{is_clear, key_data, KeyDataSays, data_says, faulty, long, long_file, by_mode, deletion, stays, empty, no_import, no_export, there, GivesNone, none_given}
+use Rattle.agent_session.specs.Causes.{GivesNoneFor, ByNonce, HasNoEntry, exported, changed, verified, imported, renewed, IsUnprompted}
 use Rattle.agent_session.specs.Completeness.{IsStatus}
-use Rattle.agent_session.specs.declared.kept.Kept.{Kept}
-use Rattle.agent_session.proofs.Explaining.{Caused, Comes, Explains, Anything, IsFound, bind, whatever, returned, refused, is_needed, or_otherwise, is_wanted, seats, changes, peeks, closes_so, writes, inquires_of, asks_client, finds, draws, out_of_memory_first, out_of_memory_second, FoundBy, looks}
+use Rattle.agent_origin.specs.declared.kept.Kept.{Kept}
+use Rattle.agent_session.proofs.Explaining.{Caused, Comes, Explains, Anything, IsFound, bind, whatever, returned, refused, is_needed, or_otherwise, is_wanted, seats, changes, peeks, closes_explained}
+use Rattle.agent_session.proofs.Explaining.{writes, inquires_of, asks_client, finds, draws, out_of_memory_first, out_of_memory_second, FoundBy, looks}
 use Rattle.agent_session.proofs.Faulty.{first_fault_said}
-use Rattle.agent_session.proofs.KeyParts.{Either, fault_caused, looks_for_nonce, takes_seat, keeps_new, locks, tries, tries_found, prompts_old, prompts_new, agrees, reads_file, removes, replaces, FoundByNonce, nonce_none, none_opens, nonce_none_opens, NoneOpens}
+use Rattle.agent_session.proofs.KeyParts.{Either, fault_caused, looks_for_nonce, takes_seat, keeps_new, locks, tries, tries_found, prompts_old, prompts_new, agrees, reads_file, removes, replaces}
+use Rattle.agent_session.proofs.KeyParts.{FoundByNonce, nonce_none, none_opens, nonce_none_opens, NoneOpens}
 use Rattle.agent_session.proofs.Replying.{IsReply, reply_ok, reply_status, reply_nonce, reply_keys}
 use Rattle.agent_session.proofs.Standing.{has_first}
 
@@ -214,9 +220,9 @@ module _ (rules : Rules) (kept : Kept) (request : Request) (whole : List (Event 
     if_needed why None otherwise caused = refused rules kept request whole Good (Agent why) (caused otherwise)
     if_needed why (Some value) good caused = returned rules kept request whole Good value good
 
-    or_else_so : (value : Option A) (other : Part A) → Either rules kept request whole Good Else value → (Else → ExplainsHere other Good) → ExplainsHere (or_else value other) Good
-    or_else_so None other otherwise explains = explains otherwise
-    or_else_so (Some value) other good explains = returned rules kept request whole Good value good
+    or_else_explained : (value : Option A) (other : Part A) → Either rules kept request whole Good Else value → (Else → ExplainsHere other Good) → ExplainsHere (or_else value other) Good
+    or_else_explained None other otherwise explains = explains otherwise
+    or_else_explained (Some value) other good explains = returned rules kept request whole Good value good
 
   module _ (grip : Grip) (locked : LockedKey) (is_locked : IsReadLocked whole locked) where
     client_old : kept.options.mode ≡ mode.Loopback → ExplainsHere (ClientOld rules kept.options grip locked) (λ opened. OpensRead whole opened.key)
@@ -244,11 +250,11 @@ module _ (rules : Rules) (kept : Kept) (request : Request) (whole : List (Event 
         bind rules kept request whole (FoundByNonce rules kept request whole nonce) (λ opened. OpensRead whole opened.key) (looks_for_nonce rules kept request whole nonce)
         (λ by_nonce by. bind rules kept request whole (Either rules kept request whole (λ opened. OpensRead whole opened.key) (NoneOpens rules kept request whole locked is_locked by_nonce)) (λ opened. OpensRead whole opened.key)
         (tries_found rules kept request whole locked is_locked by_nonce)
-        (λ first so. or_else_so (λ opened. OpensRead whole opened.key) (NoneOpens rules kept request whole locked is_locked by_nonce) first _ so
+        (λ first so. or_else_explained (λ opened. OpensRead whole opened.key) (NoneOpens rules kept request whole locked is_locked by_nonce) first _ so
         (λ first_closed. bind rules kept request whole (FoundBy rules kept request whole (ask_key grip (way_of kept.options.mode))) (λ opened. OpensRead whole opened.key) (looks rules kept request whole _ refl)
         (λ cached given. bind rules kept request whole (Either rules kept request whole (λ opened. OpensRead whole opened.key) (NoneOpens rules kept request whole locked is_locked cached)) (λ opened. OpensRead whole opened.key)
         (tries_found rules kept request whole locked is_locked cached)
-        (λ second so. or_else_so (λ opened. OpensRead whole opened.key) (NoneOpens rules kept request whole locked is_locked cached) second _ so
+        (λ second so. or_else_explained (λ opened. OpensRead whole opened.key) (NoneOpens rules kept request whole locked is_locked cached) second _ so
         (λ second_closed. uncached_old kept.options.mode refl
         (unmet (nonce_none_opens rules kept request whole nonce locked by_nonce by first_closed)
         (none_opens rules kept request whole (ask_key grip (way_of kept.options.mode)) locked cached given second_closed))))))))
@@ -340,7 +346,7 @@ module _ (rules : Rules) (kept : Kept) (request : Request) (whole : List (Event 
       bind rules kept request whole Anything Replied (is_needed rules kept request whole Anything code.Parameter kept.wraps.export (λ none. no_export asked none) (λ some is. tt))
       (λ wrap any. bind rules kept request whole (λ file. IsReadOf whole grip file.bytes × IsRead whole (Ok file.key)) Replied (reads_file rules kept request whole grip (λ absent. subst (LacksKeys whole) (sym asked) absent))
       (λ file is_read. bind rules kept request whole (λ opened. OpensRead whole opened.key) Replied (old_passphrase rules kept request whole grip file.key.is_clear file.key id is_read.1 (λ locked is_locked by_nonce by_key. exported _ asked is_locked by_nonce by_key))
-      (λ opened opens. bind rules kept request whole Anything Replied (closes_so rules kept request whole opened.by)
+      (λ opened opens. bind rules kept request whole Anything Replied (closes_explained rules kept request whole opened.by)
       (λ closed any. bind rules kept request whole Anything Replied (wraps_key rules kept request whole wrap opened.key)
       (λ wrapped any. bind rules kept request whole IsReply Replied (told rules kept request whole wrapped) (λ text is_reply. replied _ is_reply))))))
 
@@ -350,7 +356,7 @@ module _ (rules : Rules) (kept : Kept) (request : Request) (whole : List (Event 
   verify grip asked =
       bind rules kept request whole (λ file. IsReadOf whole grip file.bytes × IsRead whole (Ok file.key)) Replied (reads_file rules kept request whole grip (λ absent. subst (LacksKeys whole) (sym asked) absent))
       (λ file is_read. bind rules kept request whole (λ opened. OpensRead whole opened.key) Replied (verifies_passphrase rules kept request whole grip file.key.is_clear file.key is_read.1 (verified asked))
-      (λ opened opens. bind rules kept request whole Anything Replied (closes_so rules kept request whole opened.by) (λ closed any. replied _ reply_ok)))
+      (λ opened opens. bind rules kept request whole Anything Replied (closes_explained rules kept request whole opened.by) (λ closed any. replied _ reply_ok)))
 
   delete_key : (grip : Grip) (force : Bool) → on_keys request ≡ Some (on.DeleteKey grip force) → Explains rules kept request whole (DeleteKeyReplies rules kept.options kept.wraps force grip) Replied
   unfolding DeleteKeyReplies

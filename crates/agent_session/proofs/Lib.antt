@@ -1,21 +1,33 @@
-mod Answering
-mod AtOnce
-mod Beside
+pub mod Answering
+pub mod AtOnce
+mod BesideTrust
+mod CacheCourses
+mod CacheOpens
 mod CacheRequests
 mod Completing
+mod Courses
+mod DoorAnswering
+mod EachEvent
 mod ErrorLines
 mod Explained
 mod Explaining
+pub mod Fair
 mod Faulty
+mod KeyCourses
 mod KeyExplained
 mod KeyParts
 mod KeyRequests
 mod LineFaults
-mod Meeting
+mod Opens
+mod PromptCourses
 mod Prompted
+mod RefusedCourses
+mod Refusing
 mod Replying
-mod Serving
+mod SessionCourses
 mod Standing
-pub mod Turning
+mod Talking
+mod TrustDenied
+mod TrustExplained
 mod Uncaused
 mod WorkedExamples

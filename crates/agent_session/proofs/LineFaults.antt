@@ -26,7 +26,7 @@ use Rattle.key_commands.specs.declared.names.KeyCommandName.TheVariants as key_n
 use Rattle.key_commands.specs.declared.request.KeyRequest.{KeyRequest}
 use Rattle.key_commands.specs.declared.request.KeyRequest.TheVariants as on
 use Rattle.agent_session.specs.Causes.{IsCaused, IsRefusedBy, on_keys, IsMalformed, IsUnsupported}
-use Rattle.agent_session.specs.declared.kept.Kept.{Kept}
+use Rattle.agent_origin.specs.declared.kept.Kept.{Kept}
 
 -- the codes by which lines are refused
 pub data IsLineCode : Code → Type 0 where

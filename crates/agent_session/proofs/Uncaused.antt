@@ -11,7 +11,7 @@ use Rattle.agent_commands.specs.declared.went.Went.{Went}
 use Rattle.agent_commands.specs.declared.went.Went.TheVariants.{On, End}
 use Rattle.agent_session.specs.Causes.{Has, here}
 use Rattle.agent_session.specs.Completeness.{AnswersAtLast, IsAnswer, done, error, IsAnsweredBy, HasError, CausedExchange, IsUncaused, HasOk, IsAnsweredOk}
-use Rattle.agent_session.specs.declared.kept.Kept.{Kept}
+use Rattle.agent_origin.specs.declared.kept.Kept.{Kept}
 use Rattle.agent_session.proofs.Standing.{has_right}
 
 module _ (events : List (Event FurtherEvent)) (never : (why : Code) (origin : Origin) → HasError why origin events → ⊥) where
@@ -22,7 +22,7 @@ module _ (events : List (Event FurtherEvent)) (never : (why : Code) (origin : Or
   ok_at_last : AnswersAtLast events → HasOk events
   ok_at_last answers = ok_text answers.text answers.answer (subst (λ e. Has (Sent answers.text) e) (sym answers.is) (has_right answers.before here))
 
-  ok_by : (went : Went) → IsAnsweredBy went events → IsAnsweredOk went events
+  pub ok_by : (went : Went) → IsAnsweredBy went events → IsAnsweredOk went events
   ok_by On answers = ok_at_last answers
   ok_by (End Bye) answers = ok_at_last answers
   ok_by (End Killed) answers = ok_at_last answers

@@ -25,7 +25,7 @@ use Rattle.agent_commands.specs.declared.request.Request.{Request}
 use Rattle.agent_commands.specs.declared.request.Request.TheVariants.{Cache}
 use Rattle.agent_session.specs.Causes.{here, later, IsCaused, HasNoEntry, GivesNone, HasCall, is_broken}
 use Rattle.agent_session.specs.Causes as causes
-use Rattle.agent_session.specs.declared.kept.Kept.{Kept}
+use Rattle.agent_origin.specs.declared.kept.Kept.{Kept}
 use Rattle.agent_session.proofs.Standing.{each_has}
 
 module _ (rules : Rules) (kept : Kept) where

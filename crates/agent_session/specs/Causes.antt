@@ -62,7 +62,7 @@ use Rattle.key_commands.specs.Wrapping.{WrappedSays}
 use Rattle.key_commands.specs.declared.request.KeyRequest.{KeyRequest}
 use Rattle.key_commands.specs.declared.request.KeyRequest.TheVariants as on
 use Rattle.key_commands.specs.declared.wrapping.TheConstants.{MAX_LIST_LEN}
-use Rattle.agent_session.specs.declared.kept.Kept.{Kept}
+use Rattle.agent_origin.specs.declared.kept.Kept.{Kept}
 
 -- ---- events among others
 

@@ -34,9 +34,9 @@ use Rattle.agent_commands.specs.declared.went.SessionEnd.TheVariants.{Bye, Kille
 use Rattle.agent_commands.specs.declared.went.Went.{Went}
 use Rattle.agent_commands.specs.declared.went.Went.TheVariants.{On, End}
 use Rattle.agent_session.specs.Causes.{Has, IsCaused, HasOne, HasCall, FailsAtKeysOrDice, is_broken, IsUnprompted, IsSaid}
-use Rattle.agent_session.specs.Exchanges.{SessionExchange, kept_at_start}
-use Rattle.agent_session.specs.Sessions.{Surroundings}
-use Rattle.agent_session.specs.declared.kept.Kept.{Kept}
+use Rattle.agent_origin.specs.SessionExchanges.{SessionExchange, kept_at_start}
+use Rattle.agent_origin.specs.Sessions.{Surroundings}
+use Rattle.agent_origin.specs.declared.kept.Kept.{Kept}
 
 -- ---- answers
 
@@ -152,13 +152,13 @@ pub record FaultlessExchange (rules : Rules) (before : Kept) (line : List ℕ) (
   -- and No pinentry is answered only where the client wants no prompt, or the child broke the protocol
   pub asks : HasError code.NoPinentry Agent events → IsUnprompted events rules before (request_of line) ⊎ HasCall events is_broken
 
-module _ {S : Type 0} (exchange : S → List ℕ → List (Event FurtherEvent) → S → Went → Type 0) where
+module _ {S F : Type 0} (exchange : S → List ℕ → List (Event F) → S → Went → Type 0) where
   -- a session's talk from some request on, in which no write failed
-  pub data WholeTalk : S → List (Event FurtherEvent) → SessionEnd → Type 0 where
-    goes_on : {before after : S} {events more : List (Event FurtherEvent)} {end : SessionEnd} (line : List ℕ) → exchange before line events after On → WholeTalk after more end
+  pub data WholeTalk : S → List (Event F) → SessionEnd → Type 0 where
+    goes_on : {before after : S} {events more : List (Event F)} {end : SessionEnd} (line : List ℕ) → exchange before line events after On → WholeTalk after more end
         → WholeTalk before (Received (took.Line line) ∷ (events ++ more)) end
     -- the request is the last one
-    over : {before after : S} {events : List (Event FurtherEvent)} {end : SessionEnd} (line : List ℕ) → exchange before line events after (End end)
+    over : {before after : S} {events : List (Event F)} {end : SessionEnd} (line : List ℕ) → exchange before line events after (End end)
         → WholeTalk before (Received (took.Line line) ∷ events) end
     -- no request comes
     ended : {before : S} → WholeTalk before (Received took.End ∷ []) Ended
@@ -166,8 +166,8 @@ module _ {S : Type 0} (exchange : S → List ℕ → List (Event FurtherEvent) �
     too_long : {before : S} → WholeTalk before (Received took.TooLong ∷ Sent (failed code.LineTooLong) ∷ []) TooLong
 
   -- a whole session
-  pub data WholeSession (start : S) : List (Event FurtherEvent) → SessionEnd → Type 0 where
-    greeted : {events : List (Event FurtherEvent)} {end : SessionEnd} → WholeTalk start events end → WholeSession start (Sent (line_of greeting) ∷ events) end
+  pub data WholeSession (start : S) : List (Event F) → SessionEnd → Type 0 where
+    greeted : {events : List (Event F)} {end : SessionEnd} → WholeTalk start events end → WholeSession start (Sent (line_of greeting) ∷ events) end
 
 -- the ends that are no fault of the link
 abbrev pub IsFaultless : SessionEnd → Type 0

@@ -1,5 +1,6 @@
 pub mod Causes
 pub mod Completeness
-pub mod Exchanges
-pub mod Serving
+pub mod DoorCauses
+pub mod DoorCompleteness
+pub mod Refusals
 pub mod Sessions

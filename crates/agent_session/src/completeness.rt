@@ -13,9 +13,10 @@ ghost use Rattle.key_commands.specs.States.{KeyWorld};
 ghost use Rattle.session_options.specs.declared.rules.Rules.{Rules};
 ghost use Rattle.agent_session.specs.Causes.{WantsMemory};
 ghost use Rattle.agent_session.specs.Completeness.{CausedExchange, IsUncaused, IsAnsweredOk, FailuresRise, IsStopped, AnswersAtOnce, NoCountRose, AnswersAll};
-ghost use Rattle.agent_session.specs.Exchanges.{kept_at_start, SessionExchange};
-ghost use Rattle.agent_session.specs.Sessions.{Surroundings, ServesRules};
-ghost use Rattle.agent_session.specs.declared.kept.Kept.{Kept};
+ghost use Rattle.agent_origin.specs.SessionExchanges.{kept_at_start, SessionExchange};
+ghost use Rattle.agent_origin.specs.Sessions.{Surroundings};
+ghost use Rattle.agent_session.specs.Sessions.{ServesRules};
+ghost use Rattle.agent_origin.specs.declared.kept.Kept.{Kept};
 
 use agent_ask::Prompter;
 use cache_policy::Desk;

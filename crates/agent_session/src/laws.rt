@@ -6,7 +6,8 @@ ghost use Rattle.agent_commands.specs.declared.went.SessionEnd.{SessionEnd as En
 ghost use Rattle.key_commands.specs.Names.{commands as read_commands};
 ghost use Rattle.key_commands.specs.States.{KeyWorld};
 ghost use Rattle.session_options.specs.declared.rules.Rules.{Rules};
-ghost use Rattle.agent_session.specs.Sessions.{Surroundings, ServesRules};
+ghost use Rattle.agent_origin.specs.Sessions.{Surroundings};
+ghost use Rattle.agent_session.specs.Sessions.{ServesRules};
 
 use agent_ask::Prompter;
 use cache_policy::{Desk, turns_extend_a_run};

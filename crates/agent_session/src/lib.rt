@@ -1,15 +1,29 @@
 //! A session from bytes to bytes, over any link and any desk.
+//!
+//! Begin with [`serve_session`]: what a session reads, writes and does is one list of events, the greeting and then each request with its
+//! exchange, and it leaves no ticket out and no prompt open. The laws say when a request is answered: each error has its cause
+//! ([`each_error_has_its_cause`]), and without one there is an answer ([`a_session_without_faults_is_answered`]). They say the same of
+//! sessions that came in by a door ([`each_error_at_a_door_has_its_cause`]). Definitions begin in `specs/Sessions`, the causes in
+//! `specs/Causes`, and at a door in `specs/DoorCauses`.
 #![tactic(auto)]
 
 mod completeness;
-mod kept;
+mod doors;
 mod laws;
+mod refusals;
 mod session;
 
 pub use completeness::{
     a_session_without_faults_is_answered, each_error_has_its_cause, failures_raise_counts,
     requests_without_a_prompt_are_answered, without_a_cause_the_answer_is_ok,
 };
-pub use kept::Kept;
+pub use doors::{
+    a_session_at_a_door_without_faults_is_answered, each_error_at_a_door_has_its_cause,
+    failures_at_a_door_raise_counts, without_a_cause_the_answer_at_a_door_is_ok,
+};
 pub use laws::{a_session_extends_a_run, key_commands_are_read};
+pub use refusals::{
+    a_prompt_is_opened_first, a_refused_request_does_nothing_more, a_refused_turn_leaves_the_desk,
+    each_request_takes_its_course, requests_on_the_cache_alone_want_no_memory,
+};
 pub use session::serve_session;

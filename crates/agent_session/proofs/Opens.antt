@@ -1,0 +1,375 @@
+-- In a request a prompt is opened before the prompter is called, and once.
+use Rattle.std.specs.List.{AllByRecursion}
+use Rattle.std.proofs.Common.{◌≡◌, ℕ, Bool, true, false, List, [], ◌∷◌, ◌++◌, Option, Some, None, Result, Ok, Err, refl, subst, inl, inr, append-nil}
+use Rattle.agent_ask.specs.Further.{FurtherEvent, Keys, Dice, NoMemory, Prompt}
+use Rattle.agent_ask.specs.SessionEvents.{Received, Sent, Cut, Inquiry, CacheTurn, Further}
+use Rattle.agent_ports.specs.declared.grip.Grip.{Grip}
+use Rattle.assuan_server.specs.declared.errors.Code.TheVariants as code
+use Rattle.secret_file.specs.Opens.{LockedKey}
+use Rattle.session_options.specs.OptionValues.{OptionValues}
+use Rattle.session_options.specs.declared.options.PinMode.{PinMode}
+use Rattle.session_options.specs.declared.options.PinMode.TheVariants as mode
+use Rattle.session_options.specs.declared.rules.Rules.{Rules}
+use Rattle.sexp_keys.specs.Key.{Key}
+use Rattle.agent_commands.specs.Events.{Event}
+use Rattle.key_commands.specs.Exchanges.{KeyReply, Exchange, HaveKeyReplies, KeyInfoReplies, ListKeysReplies, KeyWrapReplies, ImportKeyReplies, ExportKeyReplies, PasswdReplies, VerifyReplies}
+use Rattle.key_commands.specs.Exchanges.{DeleteKeyReplies, Replies, wrap_key, FoundOrNew, RenewsPassphrase, ChangesOpened}
+use Rattle.key_commands.specs.Exchanges as exchange
+use Rattle.key_commands.specs.KeyParts.{IsShort, Consents}
+use Rattle.key_commands.specs.KeyParts as parts
+use Rattle.key_commands.specs.Lines.{ok}
+use Rattle.key_commands.specs.Parts.{Part, ◌>>=◌, Follows, goes_on, stops, Returns, or_else, Closes, refusal_events}
+use Rattle.key_commands.specs.Parts as small
+use Rattle.key_commands.specs.Passphrases.{PromptsOld, PromptsNew, UncachedOld, OpensLocked, OldPassphrase, NewPassphrase, LooksForNonce, TakesSeat}
+use Rattle.key_commands.specs.Passphrases as passphrases
+use Rattle.key_commands.specs.declared.refusal.Refusal.{Refusal}
+use Rattle.key_commands.specs.declared.refusal.Refusal.TheVariants.{Agent, Pinentry, Client}
+use Rattle.key_commands.specs.declared.request.Direction.{Direction}
+use Rattle.key_commands.specs.declared.request.KeyRequest.{KeyRequest}
+use Rattle.key_commands.specs.declared.request.KeyRequest.TheVariants as on
+use Rattle.key_commands.specs.declared.went.KeyWent.{KeyWent}
+use Rattle.key_commands.specs.declared.wrap_keys.WrapKeys.{WrapKeys}
+use Rattle.session_client.specs.declared.unheard.Gone.TheVariants as gone
+use Rattle.session_client.specs.declared.unheard.Unheard.TheVariants as unheard
+use Rattle.agent_session.specs.Refusals.{IsUncalled, IsUnopening, OpensFirst}
+use Rattle.agent_session.proofs.EachEvent.{IsStill, EachSo, each_bind, each_returned, each_refused, each_needed, each_otherwise, each_wanted, each_looks, each_seats, each_changes, looks_nonce}
+use Rattle.agent_session.proofs.EachEvent.{looks_over, takes_seat, each_closes, finds, draws, reads_file, lists, told, is_short, names_key, wraps_key, receives_key, is_free, has_one, locks}
+use Rattle.agent_session.proofs.EachEvent.{tries_found, removes, tells_info, writes_infos, client_old, rewrites_file, stores_key, client_new, prompts_old, prompts_new, agrees}
+use Rattle.agent_session.proofs.Standing.{each_append}
+
+abbrev pub Uncalled : List (Event FurtherEvent) → Type 0
+Uncalled events = AllByRecursion IsUncalled events
+
+abbrev pub Unopening : List (Event FurtherEvent) → Type 0
+Unopening events = AllByRecursion IsUnopening events
+
+abbrev pub UncalledSo : {A : Type 0} → Part A → Type 0
+UncalledSo part = EachSo IsUncalled part
+
+abbrev pub UnopeningSo : {A : Type 0} → Part A → Type 0
+UnopeningSo part = EachSo IsUnopening part
+
+still_uncalled : (event : Event FurtherEvent) → IsStill event → IsUncalled event
+still_uncalled (Sent text) still = tt
+still_uncalled (Cut text) still = tt
+still_uncalled (Inquiry word params limit inquired) still = tt
+still_uncalled (Further (Keys call)) still = tt
+still_uncalled (Further (Dice draw)) still = tt
+still_uncalled (Further NoMemory) still = tt
+still_uncalled (Further (Prompt event)) still = absurd still
+still_uncalled (CacheTurn taken) still = tt
+still_uncalled (Received took) still = tt
+
+pub still_unopening : (event : Event FurtherEvent) → IsStill event → IsUnopening event
+still_unopening (Sent text) still = tt
+still_unopening (Cut text) still = tt
+still_unopening (Inquiry word params limit inquired) still = tt
+still_unopening (Further (Keys call)) still = tt
+still_unopening (Further (Dice draw)) still = tt
+still_unopening (Further NoMemory) still = tt
+still_unopening (Further (Prompt event)) still = tt
+still_unopening (CacheTurn taken) still = absurd still
+still_unopening (Received took) still = tt
+
+-- ---- lists
+
+pub uncalled_first : (first more : List (Event FurtherEvent)) → Uncalled first → OpensFirst more → OpensFirst (first ++ more)
+uncalled_first [] more each opens = opens
+uncalled_first (event ∷ first) more each opens = (inl each.0, uncalled_first first more each.1 opens)
+
+pub unopening_opens : (events : List (Event FurtherEvent)) → Unopening events → OpensFirst events
+unopening_opens [] each = tt
+unopening_opens (event ∷ more) each = (inr each.1, unopening_opens more each.1)
+
+pub then_unopening : (first more : List (Event FurtherEvent)) → OpensFirst first → Unopening more → OpensFirst (first ++ more)
+then_unopening [] more opens each = unopening_opens more each
+then_unopening (event ∷ first) more opens each = (elim (opens.0) [ inl uncalled ↦ inl uncalled | inr unopening ↦ inr (each_append IsUnopening first more unopening each) ], then_unopening first more opens.1 each)
+
+pub uncalled_opens : (events : List (Event FurtherEvent)) → Uncalled events → OpensFirst events
+uncalled_opens events each = subst OpensFirst (append-nil events) (uncalled_first events [] each tt)
+
+-- ---- parts
+
+-- a part, by which the prompter is called only where it leaves a ticket out
+record PromptsSo {A : Type 0} (part : Part A) : Type 0 where
+  opens : (before : Option ℕ) (events : List (Event FurtherEvent)) (result : Result A Refusal) (after : Option ℕ) → part before events result after → OpensFirst events
+  seated : (before : Option ℕ) (events : List (Event FurtherEvent)) (result : Result A Refusal) (after : Option ℕ) → part before events result after → after ≡ None → Uncalled events
+
+-- one from its first event on, whatever is behind
+record OpensSo {A : Type 0} (part : Part A) : Type 0 where
+  of : (before : Option ℕ) (events : List (Event FurtherEvent)) (result : Result A Refusal) (after : Option ℕ) → part before events result after → OpensFirst events
+
+uncalled_prompts : {A : Type 0} {part : Part A} → UncalledSo part → PromptsSo part
+uncalled_prompts each = record {
+  opens = λ before events result after does. uncalled_opens events (each.of before events result after does);
+  seated = λ before events result after does none. each.of before events result after does;
+}
+
+prompts_opens : {A : Type 0} {part : Part A} → PromptsSo part → OpensSo part
+prompts_opens prompts = record { of = prompts.opens }
+
+unopening_part_opens : {A : Type 0} {part : Part A} → UnopeningSo part → OpensSo part
+unopening_part_opens each = record { of = λ before events result after does. unopening_opens events (each.of before events result after does) }
+
+module _ {A B : Type 0} {part : Part A} {next : A → Part B} (first : UncalledSo part) where
+  module _ (then : (value : A) → OpensSo (next value)) where
+    before_opens_of : (before : Option ℕ) (events : List (Event FurtherEvent)) (result : Result B Refusal) (after : Option ℕ) → Follows part next before events result after → OpensFirst events
+    before_opens_of before events result after (goes_on {first = some} {events = more} {value} {mid} does next_does) =
+        uncalled_first some more (first.of before some (Ok value) mid does) ((then value).of mid more result after next_does)
+    before_opens_of before events result after (stops {refusal = why} does) = uncalled_opens events (first.of before events (Err why) after does)
+
+    before_opens : OpensSo (part >>= next)
+    before_opens = record { of = before_opens_of }
+
+  module _ (then : (value : A) → PromptsSo (next value)) where
+    before_seated_of : (before : Option ℕ) (events : List (Event FurtherEvent)) (result : Result B Refusal) (after : Option ℕ) → Follows part next before events result after → after ≡ None → Uncalled events
+    before_seated_of before events result after (goes_on {first = some} {events = more} {value} {mid} does next_does) none =
+        each_append IsUncalled some more (first.of before some (Ok value) mid does) ((then value).seated mid more result after next_does none)
+    before_seated_of before events result after (stops {refusal = why} does) none = first.of before events (Err why) after does
+
+    before_prompts : PromptsSo (part >>= next)
+    before_prompts = record { opens = (before_opens (λ value. prompts_opens (then value))).of; seated = before_seated_of }
+
+module _ {A B : Type 0} {part : Part A} {next : A → Part B} (first : OpensSo part) (then : (value : A) → UnopeningSo (next value)) where
+  behind_opens_of : (before : Option ℕ) (events : List (Event FurtherEvent)) (result : Result B Refusal) (after : Option ℕ) → Follows part next before events result after → OpensFirst events
+  behind_opens_of before events result after (goes_on {first = some} {events = more} {value} {mid} does next_does) =
+      then_unopening some more (first.of before some (Ok value) mid does) ((then value).of mid more result after next_does)
+  behind_opens_of before events result after (stops {refusal = why} does) = first.of before events (Err why) after does
+
+  behind_opens : OpensSo (part >>= next)
+  behind_opens = record { of = behind_opens_of }
+
+otherwise_prompts : {A : Type 0} (value : Option A) {other : Part A} → PromptsSo other → PromptsSo (or_else value other)
+otherwise_prompts None other = other
+otherwise_prompts (Some value) other = uncalled_prompts (each_returned IsUncalled value)
+
+-- ---- prompts
+
+module _ (rules : Rules) (options : OptionValues) (grip : Grip) where
+  old_seated : (locked : LockedKey) (before : Option ℕ) (events : List (Event FurtherEvent)) (result : Result _ Refusal) (after : Option ℕ) → PromptsOld rules options grip locked before events result after → after ≡ None → ⊥
+  old_seated locked before events result after (passphrases.opens_by spec is prompt to) none = absurd (cc none)
+  old_seated locked before events result after (passphrases.refused spec is prompt refusal) none = absurd (cc none)
+
+  old_prompts : (locked : LockedKey) → PromptsSo (PromptsOld rules options grip locked)
+  old_prompts locked = record {
+    opens = (unopening_part_opens (prompts_old IsUnopening still_unopening (λ event. tt) rules options grip locked)).of;
+    seated = λ before events result after does none. absurd (old_seated locked before events result after does none);
+  }
+
+  new_seated : (before : Option ℕ) (events : List (Event FurtherEvent)) (result : Result (List ℕ) Refusal) (after : Option ℕ) → PromptsNew rules options grip before events result after → after ≡ None → ⊥
+  new_seated before events result after (passphrases.given spec is prompt) none = absurd (cc none)
+  new_seated before events result after (passphrases.refused spec is prompt refusal) none = absurd (cc none)
+
+  new_prompts : PromptsSo (PromptsNew rules options grip)
+  new_prompts = record {
+    opens = (unopening_part_opens (prompts_new IsUnopening still_unopening (λ event. tt) rules options grip)).of;
+    seated = λ before events result after does none. absurd (new_seated before events result after does none);
+  }
+
+  -- ---- passphrases
+
+  uncached_prompts : (locked : LockedKey) (way : PinMode) → PromptsSo (UncachedOld rules options grip way locked)
+  uncached_prompts locked mode.Ask = before_prompts (takes_seat IsUncalled grip (λ turn. tt)) (λ seated_so. old_prompts locked)
+  uncached_prompts locked mode.Cancel = uncalled_prompts (each_refused IsUncalled (Agent code.Cancelled))
+  uncached_prompts locked mode.Error = uncalled_prompts (each_refused IsUncalled (Agent code.NoPinentry))
+  uncached_prompts locked mode.Loopback = uncalled_prompts (client_old IsUncalled still_uncalled (λ key pass turn. tt) rules options grip locked)
+
+  locked_prompts : (id : Option (List ℕ)) (locked : LockedKey) → PromptsSo (OpensLocked rules options grip id locked)
+  unfolding OpensLocked
+  locked_prompts id locked =
+      before_prompts (looks_nonce IsUncalled id (λ named turn. tt)) (λ by_nonce. before_prompts (tries_found IsUncalled still_uncalled locked by_nonce) (λ first. otherwise_prompts first
+      (before_prompts (each_looks IsUncalled (λ turn. tt)) (λ cached. before_prompts (tries_found IsUncalled still_uncalled locked cached) (λ second. otherwise_prompts second (uncached_prompts locked options.mode))))))
+
+  old_by_prompts : (id : Option (List ℕ)) (key : Key) (clear : Bool) → PromptsSo (passphrases.old_by rules options grip id key clear)
+  old_by_prompts id key true = uncalled_prompts (each_returned IsUncalled _)
+  old_by_prompts id key false = before_prompts (locks IsUncalled still_uncalled key) (λ locked. locked_prompts id locked)
+
+  verified_prompts : (key : Key) (clear : Bool) → PromptsSo (passphrases.verified_by rules options grip key clear)
+  verified_prompts key true = uncalled_prompts (each_returned IsUncalled _)
+  verified_prompts key false = before_prompts (locks IsUncalled still_uncalled key) (λ locked. uncached_prompts locked options.mode)
+
+  new_by_prompts : (way : PinMode) → PromptsSo (passphrases.new_by rules options grip way)
+  new_by_prompts mode.Ask = before_prompts (takes_seat IsUncalled grip (λ turn. tt)) (λ seated_so. new_prompts)
+  new_by_prompts mode.Cancel = uncalled_prompts (each_refused IsUncalled (Agent code.Cancelled))
+  new_by_prompts mode.Error = uncalled_prompts (each_refused IsUncalled (Agent code.NoPinentry))
+  new_by_prompts mode.Loopback = uncalled_prompts (client_new IsUncalled still_uncalled)
+
+agrees_opens : (rules : Rules) (options : OptionValues) (grip : Grip) (way : PinMode) (force : Bool) → OpensSo (Consents rules (record options { mode = way }) force grip)
+agrees_opens rules options grip way true = prompts_opens (uncalled_prompts (each_returned IsUncalled tt))
+agrees_opens rules options grip mode.Ask false =
+    before_opens (each_seats IsUncalled (λ turn. tt)) (λ seated_so. unopening_part_opens (agrees IsUnopening still_unopening (λ event. tt) rules (record options { mode = mode.Ask }) grip))
+agrees_opens rules options grip mode.Cancel false = prompts_opens (uncalled_prompts (each_refused IsUncalled (Agent code.Cancelled)))
+agrees_opens rules options grip mode.Error false = prompts_opens (uncalled_prompts (each_refused IsUncalled (Agent code.NoPinentry)))
+agrees_opens rules options grip mode.Loopback false = prompts_opens (uncalled_prompts (each_refused IsUncalled (Agent code.NoPinentry)))
+
+-- ---- a request that has a ticket opens no other prompt
+
+record Seated {A : Type 0} (part : Part A) : Type 0 where
+  each : (number : ℕ) (events : List (Event FurtherEvent)) (result : Result A Refusal) (after : Option ℕ) → part (Some number) events result after → Unopening events
+  stays : (number : ℕ) (events : List (Event FurtherEvent)) (result : Result A Refusal) (after : Option ℕ) → part (Some number) events result after → after ≡ Some number
+
+module _ {A B : Type 0} {part : Part A} {next : A → Part B} (first : Seated part) (then : (value : A) (number : ℕ) (events : List (Event FurtherEvent)) (result : Result B Refusal) (after : Option ℕ)
+    → next value (Some number) events result after → Unopening events) where
+  seated_then : (number : ℕ) (events : List (Event FurtherEvent)) (result : Result B Refusal) (after : Option ℕ) → Follows part next (Some number) events result after → Unopening events
+  seated_then number events result after (goes_on {first = some} {events = more} {value} {mid} does next_does) =
+      each_append IsUnopening some more (first.each number some (Ok value) mid does)
+      ((then value) number more result after (subst (λ m. next value m more result after) (first.stays number some (Ok value) mid does) next_does))
+  seated_then number events result after (stops {refusal = why} does) = first.each number events (Err why) after does
+
+short_stays : (key : Key) (number : ℕ) (events : List (Event FurtherEvent)) (result : Result (Unit {0}) Refusal) (after : Option ℕ) → IsShort key (Some number) events result after → after ≡ Some number
+short_stays key number events result after (parts.short few) = refl
+short_stays key number events result after (parts.long many) = refl
+short_stays key number events result after parts.no_memory = refl
+
+nonce_stays : (id : Option (List ℕ)) (number : ℕ) (events : List (Event FurtherEvent)) (result : Result (Option (List ℕ)) Refusal) (after : Option ℕ) → LooksForNonce id (Some number) events result after → after ≡ Some number
+nonce_stays None number events result after small.returns = refl
+nonce_stays (Some id) number events result after small.given = refl
+nonce_stays (Some id) number events result after small.empty = refl
+nonce_stays (Some id) number events result after (small.interrupted why) = refl
+
+seat_taken_stays : (grip : Grip) (number : ℕ) (events : List (Event FurtherEvent)) (result : Result (Unit {0}) Refusal) (after : Option ℕ) → TakesSeat grip (Some number) events result after → after ≡ Some number
+seat_taken_stays grip number events result after small.returns = refl
+
+seat_taken_each : (grip : Grip) (number : ℕ) (events : List (Event FurtherEvent)) (result : Result (Unit {0}) Refusal) (after : Option ℕ) → TakesSeat grip (Some number) events result after → Unopening events
+seat_taken_each grip number events result after small.returns = tt
+
+module _ (rules : Rules) (options : OptionValues) (grip : Grip) where
+  new_by_seated : (way : PinMode) (number : ℕ) (events : List (Event FurtherEvent)) (result : Result (List ℕ) Refusal) (after : Option ℕ) → passphrases.new_by rules options grip way (Some number) events result after
+      → Unopening events
+  new_by_seated mode.Ask number events result after does =
+      seated_then (record { each = seat_taken_each grip; stays = seat_taken_stays grip })
+      (λ seated_so number more came held. (prompts_new IsUnopening still_unopening (λ event. tt) rules options grip).of (Some number) more came held) number events result after does
+  new_by_seated mode.Cancel number events result after does = (each_refused IsUnopening (Agent code.Cancelled)).of (Some number) events result after does
+  new_by_seated mode.Error number events result after does = (each_refused IsUnopening (Agent code.NoPinentry)).of (Some number) events result after does
+  new_by_seated mode.Loopback number events result after does = (client_new IsUnopening still_unopening).of (Some number) events result after does
+
+  found_seated : (found : Option (List ℕ)) (number : ℕ) (events : List (Event FurtherEvent)) (result : Result (List ℕ) Refusal) (after : Option ℕ)
+      → or_else found (NewPassphrase rules options grip) (Some number) events result after → Unopening events
+  found_seated None number events result after does = new_by_seated options.mode number events result after does
+  found_seated (Some pass) number events result after does = (each_returned IsUnopening pass).of (Some number) events result after does
+
+  renews_seated : (id : Option (List ℕ)) (number : ℕ) (events : List (Event FurtherEvent)) (result : Result (List ℕ) Refusal) (after : Option ℕ) → RenewsPassphrase rules options grip id (Some number) events result after
+      → Unopening events
+  renews_seated id = seated_then
+      (record { each = λ number events result after does. (looks_nonce IsUnopening id (λ named turn. refl)).of (Some number) events result after does; stays = nonce_stays id })
+      (λ found. found_seated found)
+
+  changes_seated : (id : Option (List ℕ)) (file : List ℕ) (key : Key) (number : ℕ) (events : List (Event FurtherEvent)) (result : Result (Unit {0}) Refusal) (after : Option ℕ)
+      → ChangesOpened rules options grip id file key (Some number) events result after → Unopening events
+  changes_seated id file key = seated_then
+      (record { each = λ number events result after does. (is_short IsUnopening still_unopening key).of (Some number) events result after does; stays = short_stays key })
+      (λ short number events result after does. renewed number events result after does)
+    where
+      renewed : (number : ℕ) (events : List (Event FurtherEvent)) (result : Result (Unit {0}) Refusal) (after : Option ℕ)
+          → (RenewsPassphrase rules options grip id >>= λ pass. exchange.RewritesFile rules options grip file key pass) (Some number) events result after → Unopening events
+      renewed number events result after (goes_on {first = some} {events = more} {value = pass} {mid} does next_does) =
+          each_append IsUnopening some more (renews_seated id number some (Ok pass) mid does)
+          ((rewrites_file IsUnopening still_unopening (λ key_grip secret turn. refl) (λ ticket keep turn. refl) rules options grip file key pass).of mid more result after next_does)
+      renewed number events result after (stops {refusal = why} does) = renews_seated id number events (Err why) after does
+
+  changes_opens : (id : Option (List ℕ)) (file : List ℕ) (key : Key) → OpensSo (ChangesOpened rules options grip id file key)
+  changes_opens id file key =
+      before_opens (is_short IsUncalled still_uncalled key) (λ short. behind_opens
+      (prompts_opens (before_prompts (looks_nonce IsUncalled id (λ named turn. tt)) (λ found. otherwise_prompts found (new_by_prompts rules options grip options.mode))))
+      (λ pass. rewrites_file IsUnopening still_unopening (λ key_grip secret turn. refl) (λ ticket keep turn. refl) rules options grip file key pass))
+
+  changed_seated : (wraps : WrapKeys) (id : Option (List ℕ)) (file : List ℕ) (key : Key) (number : ℕ) (events : List (Event FurtherEvent)) (result : Result KeyReply Refusal) (after : Option ℕ)
+      → (ChangesOpened rules options grip id file key >>= λ changed. Returns (exchange.reply wraps ok)) (Some number) events result after → Unopening events
+  changed_seated wraps id file key number events result after (goes_on {first = some} {events = more} {value} {mid} does small.returns) =
+      each_append IsUnopening some more (changes_seated id file key number some (Ok value) mid does) tt
+  changed_seated wraps id file key number events result after (stops {refusal = why} does) = changes_seated id file key number events (Err why) after does
+
+  -- both passphrases, under one ticket
+  both_of : (wraps : WrapKeys) (old_id new_id : Option (List ℕ)) (file : List ℕ) (key : Key) (before : Option ℕ) (events : List (Event FurtherEvent)) (result : Result KeyReply Refusal) (after : Option ℕ)
+      → (OldPassphrase rules options grip old_id key >>= λ opened. (ChangesOpened rules options grip new_id file opened.key >>= λ changed. Returns (exchange.reply wraps ok))) before events result after
+      → OpensFirst events
+  both_of wraps old_id new_id file key before events result after (goes_on {first = some} {events = more} {value = opened} {mid = None} does next_does) =
+      uncalled_first some more ((old_by_prompts rules options grip old_id key key.is_clear).seated before some (Ok opened) None does refl)
+      ((behind_opens (changes_opens new_id file opened.key) (λ changed. each_returned IsUnopening _)).of None more result after next_does)
+  both_of wraps old_id new_id file key before events result after (goes_on {first = some} {events = more} {value = opened} {mid = Some number} does next_does) =
+      then_unopening some more ((old_by_prompts rules options grip old_id key key.is_clear).opens before some (Ok opened) (Some number) does) (changed_seated wraps new_id file opened.key number more result after next_does)
+  both_of wraps old_id new_id file key before events result after (stops {refusal = why} does) = (old_by_prompts rules options grip old_id key key.is_clear).opens before events (Err why) after does
+
+-- ---- requests
+
+module _ (rules : Rules) (options : OptionValues) (wraps : WrapKeys) where
+  have_key : (grips : List Grip) → OpensSo (HaveKeyReplies rules options wraps grips)
+  unfolding HaveKeyReplies
+  have_key grips = prompts_opens (uncalled_prompts (each_bind IsUncalled (has_one IsUncalled still_uncalled grips) (λ one. each_returned IsUncalled _)))
+
+  key_info : (grip : Grip) → OpensSo (KeyInfoReplies rules options wraps grip)
+  unfolding KeyInfoReplies
+  key_info grip = prompts_opens (uncalled_prompts (each_bind IsUncalled (reads_file IsUncalled still_uncalled grip) (λ file. each_bind IsUncalled (tells_info IsUncalled still_uncalled (λ key turn. tt) grip file.key) (λ line. each_returned IsUncalled _))))
+
+  list_keys : OpensSo (ListKeysReplies rules options wraps)
+  unfolding ListKeysReplies
+  list_keys = prompts_opens (uncalled_prompts (each_bind IsUncalled (lists IsUncalled still_uncalled) (λ grips. each_bind IsUncalled (writes_infos IsUncalled still_uncalled (λ key turn. tt) grips) (λ written. each_returned IsUncalled _))))
+
+  key_wrap : (way : Direction) → OpensSo (KeyWrapReplies rules options wraps way)
+  unfolding KeyWrapReplies
+  key_wrap way =
+      prompts_opens (uncalled_prompts (each_bind IsUncalled (each_otherwise IsUncalled (wrap_key way wraps) (draws IsUncalled still_uncalled 16)) (λ key. each_bind IsUncalled (told IsUncalled still_uncalled key) (λ text. each_returned IsUncalled _))))
+
+  export_key : (grip : Grip) (id : Option (List ℕ)) → OpensSo (ExportKeyReplies rules options wraps grip id)
+  unfolding ExportKeyReplies
+  export_key grip id =
+      before_opens (each_needed IsUncalled code.Parameter wraps.export) (λ wrap. before_opens (reads_file IsUncalled still_uncalled grip) (λ file.
+      behind_opens (prompts_opens (old_by_prompts rules options grip id file.key file.key.is_clear)) (λ opened. each_bind IsUnopening (each_closes IsUnopening opened.by (λ number turn. refl))
+      (λ closed. each_bind IsUnopening (wraps_key IsUnopening still_unopening wrap opened.key) (λ wrapped. each_bind IsUnopening (told IsUnopening still_unopening wrapped) (λ text. each_returned IsUnopening _))))))
+
+  verify : (grip : Grip) → OpensSo (VerifyReplies rules options wraps grip)
+  unfolding VerifyReplies
+  verify grip =
+      before_opens (reads_file IsUncalled still_uncalled grip) (λ file. behind_opens (prompts_opens (verified_prompts rules options grip file.key file.key.is_clear))
+      (λ opened. each_bind IsUnopening (each_closes IsUnopening opened.by (λ number turn. refl)) (λ closed. each_returned IsUnopening _)))
+
+  delete_key : (force : Bool) (grip : Grip) → OpensSo (DeleteKeyReplies rules options wraps force grip)
+  unfolding DeleteKeyReplies
+  delete_key force grip =
+      before_opens (finds IsUncalled still_uncalled grip) (λ there. before_opens (each_wanted IsUncalled code.NoSecKey there) (λ some. behind_opens (agrees_opens rules options grip options.mode force)
+      (λ agreed. each_bind IsUnopening (removes IsUnopening still_unopening grip) (λ removed. each_bind IsUnopening (each_changes IsUnopening (λ turn. refl)) (λ cleared. each_returned IsUnopening _)))))
+
+  passwd : (grip : Grip) (id new_id : Option (List ℕ)) → OpensSo (PasswdReplies rules options wraps grip id new_id)
+  unfolding PasswdReplies
+  passwd grip id new_id = before_opens (reads_file IsUncalled still_uncalled grip) (λ file. record { of = both_of rules options grip wraps id new_id file.bytes file.key })
+
+  import_key : (force : Bool) (id : Option (List ℕ)) → OpensSo (ImportKeyReplies rules options wraps force id)
+  unfolding ImportKeyReplies
+  import_key force id =
+      before_opens (each_needed IsUncalled code.Parameter wraps.import) (λ wrap. before_opens (receives_key IsUncalled still_uncalled wrap) (λ key. before_opens (names_key IsUncalled still_uncalled key)
+      (λ grip. before_opens (is_free IsUncalled still_uncalled force grip) (λ free. behind_opens
+      (prompts_opens (before_prompts (looks_over IsUncalled id (λ named turn. tt)) (λ found. otherwise_prompts found (new_by_prompts rules options grip options.mode))))
+      (λ pass. each_bind IsUnopening (stores_key IsUnopening still_unopening (λ key_grip secret turn. refl) (λ ticket keep turn. refl) (λ named secret turn. refl) options.s2k_count key grip pass)
+      (λ cache_nonce. each_returned IsUnopening _))))))
+
+  replies : (asked : KeyRequest) → OpensSo (Replies rules options wraps asked)
+  replies (on.HaveKey grips) = have_key grips
+  replies (on.KeyInfo grip) = key_info grip
+  replies on.ListKeys = list_keys
+  replies (on.KeyWrap way) = key_wrap way
+  replies (on.ImportKey force id) = import_key force id
+  replies (on.ExportKey grip id) = export_key grip id
+  replies (on.Passwd grip old new true) = verify grip
+  replies (on.Passwd grip old new false) = passwd grip old new
+  replies (on.DeleteKey grip force) = delete_key force grip
+  replies (on.Bad why) = prompts_opens (uncalled_prompts (each_refused IsUncalled (Agent why)))
+
+  back_unopening : {held : Option ℕ} {back : List (Event FurtherEvent)} (last : List (Event FurtherEvent)) → Unopening last → Closes None held back (Ok tt) None → Unopening (back ++ last)
+  back_unopening last each small.unheld = each
+  back_unopening last each (small.closed turn) = (refl, each)
+
+  refusal_unopening : (why : Refusal) → Unopening (refusal_events why)
+  refusal_unopening (Agent why) = (tt, tt)
+  refusal_unopening (Pinentry why) = (tt, tt)
+  refusal_unopening (Client unheard.Cancelled) = (tt, tt)
+  refusal_unopening (Client unheard.TooMuch) = (tt, tt)
+  refusal_unopening (Client unheard.Unexpected) = (tt, tt)
+  refusal_unopening (Client (unheard.Gone gone.TooLong)) = (tt, tt)
+  refusal_unopening (Client (unheard.Gone gone.Ended)) = tt
+  refusal_unopening (Client (unheard.Gone gone.Spent)) = tt
+  refusal_unopening (Client (unheard.Gone gone.ReadFault)) = tt
+  refusal_unopening (Client (unheard.Gone gone.WriteFault)) = tt
+
+  pub key_opens : (asked : KeyRequest) {events : List (Event FurtherEvent)} {after : WrapKeys} {went : KeyWent} → Exchange rules options wraps asked events after went → OpensFirst events
+  key_opens asked (exchange.answered events held reply does closes) = then_unopening events _ ((replies asked).of None events (Ok reply) held does) (back_unopening _ (tt, tt) closes)
+  key_opens asked (exchange.refused events held why does closes) = then_unopening events _ ((replies asked).of None events (Err why) held does) (back_unopening _ (refusal_unopening why) closes)

@@ -1,0 +1,182 @@
+-- Requests that are answered for want of memory, or for a failure of the keys or of the dice: an event refused them.
+use Rattle.std.specs.List.{AllByRecursion}
+use Rattle.std.proofs.Common.{◌≡◌, List, [], ◌∷◌, ◌++◌, ℕ, Option, Some, None, refl, sym, ap, subst, inl, inr}
+use Rattle.agent_ask.specs.Events.{Called, OutOfMemory, Notified}
+use Rattle.agent_ask.specs.Further.{FurtherEvent, Read, Listed, Replaced, Removed, Drew, NotDrawn, Prompt, Keys, Dice, NoMemory}
+use Rattle.agent_ask.specs.SessionEvents.{Received, Sent, Cut, Inquiry, CacheTurn, Further, cache_turn}
+use Rattle.agent_ports.specs.declared.grip.Grip.{Grip}
+use Rattle.agent_ports.specs.declared.keys.KeyDone.TheVariants as key_done
+use Rattle.agent_ports.specs.declared.keys.KeyNames.TheVariants as key_names
+use Rattle.agent_ports.specs.declared.keys.KeyRead.TheVariants as key_read
+use Rattle.assuan_server.specs.Written.{failed}
+use Rattle.assuan_server.specs.declared.errors.Code.{Code}
+use Rattle.assuan_server.specs.declared.errors.Code.TheVariants as code
+use Rattle.assuan_server.specs.declared.errors.Origin.TheVariants.{Agent}
+use Rattle.cache_policy.specs.Turns.{Turn, Refused, FitsStep, closes}
+use Rattle.cache_policy.specs.declared.mark.MarkStep.{MarkStep}
+use Rattle.cache_policy.specs.declared.mark.MarkStep.TheVariants.{Clear, Close}
+use Rattle.cache_policy.specs.declared.mode.Mode.TheVariants.{Normal}
+use Rattle.session_options.specs.declared.rules.Rules.{Rules}
+use Rattle.agent_commands.specs.Events.{Event}
+use Rattle.agent_commands.specs.declared.request.Request.{Request}
+use Rattle.key_commands.specs.Lines.{grip_text}
+use Rattle.key_commands.specs.Parts as small
+use Rattle.key_commands.specs.Passphrases.{put_key}
+use Rattle.agent_session.specs.Causes.{Has, here, later, HasOne, one, WantsMemory, FailsAtKeysOrDice, IsCaused}
+use Rattle.agent_session.specs.Refusals as course
+use Rattle.agent_session.specs.Refusals.{refuses, turn_refuses, AreWork, IsWork, IsEnd, Course, GivesBack, Settles, IsLast, RefusedEnd, at_work, at_answer, at_store, at_clear, RefusedCourse, IsOwnCode, memory, fault, shuts}
+use Rattle.agent_origin.specs.declared.kept.Kept.{Kept}
+use Rattle.agent_session.proofs.AtOnce.{FitsTurn}
+use Rattle.agent_session.proofs.Explained.{has_split}
+use Rattle.agent_session.proofs.Refusing.{no_close}
+use Rattle.agent_session.proofs.Standing.{each_has}
+
+-- ---- an event that the answer blames refuses its request
+
+refused_turn : (asked : MarkStep) (turn : Turn) → FitsStep asked turn → turn ≡ Refused → turn_refuses (closes asked) turn ≡ Some code.NoMemory
+refused_turn asked turn fits is =
+    let so : FitsStep asked Refused = subst (FitsStep asked) is fits in
+    subst (λ t. turn_refuses (closes asked) t ≡ Some code.NoMemory) (sym is) (ap (λ c. turn_refuses c Refused) (no_close asked so))
+
+wants_refuses : (event : Event FurtherEvent) → FitsTurn event → WantsMemory event → refuses event ≡ Some code.NoMemory
+wants_refuses (CacheTurn taken) fits wants = refused_turn taken.asked taken.turn fits wants
+wants_refuses (Further NoMemory) fits wants = refl
+wants_refuses (Further (Prompt OutOfMemory)) fits wants = refl
+wants_refuses (Further (Prompt (Called call))) fits wants = absurd wants
+wants_refuses (Further (Prompt (Notified pid heard))) fits wants = absurd wants
+wants_refuses (Further (Keys (Read grip key_read.NoMemory))) fits wants = refl
+wants_refuses (Further (Keys (Read grip key_read.Failed))) fits wants = absurd wants
+wants_refuses (Further (Keys (Read grip key_read.Absent))) fits wants = absurd wants
+wants_refuses (Further (Keys (Read grip (key_read.Found bytes)))) fits wants = absurd wants
+wants_refuses (Further (Keys (Listed key_names.NoMemory))) fits wants = refl
+wants_refuses (Further (Keys (Listed key_names.Failed))) fits wants = absurd wants
+wants_refuses (Further (Keys (Listed (key_names.Names grips)))) fits wants = absurd wants
+wants_refuses (Further (Keys (Replaced grip file key_done.NoMemory))) fits wants = refl
+wants_refuses (Further (Keys (Replaced grip file key_done.Done))) fits wants = absurd wants
+wants_refuses (Further (Keys (Replaced grip file key_done.Absent))) fits wants = absurd wants
+wants_refuses (Further (Keys (Replaced grip file key_done.Failed))) fits wants = absurd wants
+wants_refuses (Further (Keys (Removed grip key_done.NoMemory))) fits wants = refl
+wants_refuses (Further (Keys (Removed grip key_done.Done))) fits wants = absurd wants
+wants_refuses (Further (Keys (Removed grip key_done.Absent))) fits wants = absurd wants
+wants_refuses (Further (Keys (Removed grip key_done.Failed))) fits wants = absurd wants
+wants_refuses (Further (Dice draw)) fits wants = absurd wants
+wants_refuses (Received took) fits wants = absurd wants
+wants_refuses (Sent text) fits wants = absurd wants
+wants_refuses (Cut text) fits wants = absurd wants
+wants_refuses (Inquiry word params limit inquired) fits wants = absurd wants
+
+fails_refuses : (event : Event FurtherEvent) → FailsAtKeysOrDice event → refuses event ≡ Some code.General
+fails_refuses (Further (Keys (Read grip key_read.Failed))) fails = refl
+fails_refuses (Further (Keys (Read grip key_read.NoMemory))) fails = absurd fails
+fails_refuses (Further (Keys (Read grip key_read.Absent))) fails = absurd fails
+fails_refuses (Further (Keys (Read grip (key_read.Found bytes)))) fails = absurd fails
+fails_refuses (Further (Keys (Listed key_names.Failed))) fails = refl
+fails_refuses (Further (Keys (Listed key_names.NoMemory))) fails = absurd fails
+fails_refuses (Further (Keys (Listed (key_names.Names grips)))) fails = absurd fails
+fails_refuses (Further (Keys (Replaced grip file key_done.Failed))) fails = refl
+fails_refuses (Further (Keys (Replaced grip file key_done.Done))) fails = absurd fails
+fails_refuses (Further (Keys (Replaced grip file key_done.Absent))) fails = absurd fails
+fails_refuses (Further (Keys (Replaced grip file key_done.NoMemory))) fails = absurd fails
+fails_refuses (Further (Keys (Removed grip key_done.Failed))) fails = refl
+fails_refuses (Further (Keys (Removed grip key_done.Done))) fails = absurd fails
+fails_refuses (Further (Keys (Removed grip key_done.Absent))) fails = absurd fails
+fails_refuses (Further (Keys (Removed grip key_done.NoMemory))) fails = absurd fails
+fails_refuses (Further (Dice (NotDrawn count))) fails = refl
+fails_refuses (Further (Dice (Drew bytes))) fails = absurd fails
+fails_refuses (Further (Prompt event)) fails = absurd fails
+fails_refuses (Further NoMemory) fails = absurd fails
+fails_refuses (CacheTurn taken) fails = absurd fails
+fails_refuses (Received took) fails = absurd fails
+fails_refuses (Sent text) fails = absurd fails
+fails_refuses (Cut text) fails = absurd fails
+fails_refuses (Inquiry word params limit inquired) fails = absurd fails
+
+-- an event among these refuses the request by this code
+pub data HasRefusal (why : Code) (events : List (Event FurtherEvent)) : Type 0 where
+  has_refusal : (event : Event FurtherEvent) → refuses event ≡ Some why → Has event events → HasRefusal why events
+
+module _ {events : List (Event FurtherEvent)} (fits : AllByRecursion FitsTurn events) where
+  memory_refuses : HasOne events WantsMemory → HasRefusal code.NoMemory events
+  memory_refuses (one event wants has) = has_refusal event (wants_refuses event (each_has FitsTurn events fits has) wants) has
+
+  fault_refuses : HasOne events FailsAtKeysOrDice → HasRefusal code.General events
+  fault_refuses (one event fails has) = has_refusal event (fails_refuses event fails) has
+
+  pub caused_refuses : (rules : Rules) (kept : Kept) (request : Request) {why : Code} → IsOwnCode why → IsCaused events rules kept request why Agent → HasRefusal why events
+  caused_refuses rules kept request memory caused = memory_refuses caused
+  caused_refuses rules kept request fault caused = fault_refuses caused
+
+-- ---- where it stands
+
+-- none of these refuses it
+abbrev Goes : Event FurtherEvent → Type 0
+Goes event = refuses event ≡ None
+
+none_refuses : {why : Code} (events : List (Event FurtherEvent)) → AllByRecursion Goes events → HasRefusal why events → ⊥
+none_refuses events each (has_refusal event is has) = absurd (cc (is, each_has Goes events each has))
+
+-- the first one does, or one behind it
+not_first : {why : Code} {event : Event FurtherEvent} {more : List (Event FurtherEvent)} → Goes event → HasRefusal why (event ∷ more) → HasRefusal why more
+not_first goes (has_refusal event is here) = absurd (cc (is, goes))
+not_first goes (has_refusal event is (later has)) = has_refusal event is has
+
+only_first : {why : Code} {event : Event FurtherEvent} (more : List (Event FurtherEvent)) → AllByRecursion Goes more → HasRefusal why (event ∷ more) → refuses event ≡ Some why
+only_first more each (has_refusal event is here) = is
+only_first more each (has_refusal event is (later has)) = absurd (none_refuses more each (has_refusal event is has))
+
+last_goes : {last : List (Event FurtherEvent)} → IsLast last → AllByRecursion Goes last
+last_goes course.gone = tt
+last_goes (course.said is) = (refl, tt)
+
+back_goes : {text : List ℕ} {ending : List (Event FurtherEvent)} → GivesBack (Sent text ∷ []) ending → AllByRecursion Goes ending
+back_goes course.no_ticket = (refl, tt)
+back_goes (course.with_ticket turn) = (refl, (refl, tt))
+
+shut_goes : (event : Event FurtherEvent) (ending : List (Event FurtherEvent)) → AllByRecursion Goes ending → AllByRecursion Goes (shuts event ++ ending)
+shut_goes (Further (Prompt event)) ending each = (refl, each)
+shut_goes (Further (Keys call)) ending each = each
+shut_goes (Further (Dice draw)) ending each = each
+shut_goes (Further NoMemory) ending each = each
+shut_goes (CacheTurn taken) ending each = each
+shut_goes (Received took) ending each = each
+shut_goes (Sent text) ending each = each
+shut_goes (Cut text) ending each = each
+shut_goes (Inquiry word params limit inquired) ending each = each
+
+abbrev unanswered_events : ℕ → Option (List ℕ) → Turn → List (Event FurtherEvent)
+unanswered_events number keep turn = cache_turn (Close number keep) turn ∷ Further NoMemory ∷ Sent (failed code.NoMemory) ∷ []
+
+abbrev stored_events : Grip → List ℕ → List ℕ → List (Event FurtherEvent)
+stored_events grip file pass = Further (Keys (Replaced grip file key_done.Done)) ∷ cache_turn (put_key grip pass) Refused ∷ Sent (failed code.NoMemory) ∷ []
+
+abbrev cleared_events : Grip → List (Event FurtherEvent) → List (Event FurtherEvent)
+cleared_events grip ending = Further (Keys (Removed grip key_done.Done)) ∷ cache_turn (Clear (grip_text grip) Normal) Refused ∷ ending
+
+module _ (request : Request) where
+  refused_end : {why : Code} {last : List (Event FurtherEvent)} → IsEnd request last → HasRefusal why last → RefusedEnd request why last
+  refused_end (course.answered is) has = absurd (none_refuses _ (last_goes is) has)
+  refused_end (course.given_back turn is) has = absurd (none_refuses _ (refl, last_goes is) has)
+  refused_end (course.unanswered {ticket} {keep} turn) has = subst (λ c. RefusedEnd request c (unanswered_events ticket keep turn)) (cc (only_first _ (refl, tt) (not_first refl has))) (at_answer turn)
+  refused_end (course.refused {event} {why = given} {ending} allowed is back) has =
+      let same : given ≡ _ = cc (is, only_first _ (shut_goes event ending (back_goes back)) has) in
+      subst (λ c. RefusedEnd request c (event ∷ (shuts event ++ ending))) same (at_work allowed is back)
+  refused_end (course.kept turn ok) has = absurd (none_refuses _ (refl, (refl, (refl, tt))) has)
+  refused_end (course.stored (course.settled ok)) has = absurd (none_refuses _ (refl, (refl, (refl, tt))) has)
+  refused_end (course.stored {grip} {file} {pass} (course.interrupted small.refused)) has = subst (λ c. RefusedEnd request c (stored_events grip file pass)) (cc (only_first _ (refl, tt) (not_first refl has))) at_store
+  refused_end (course.stored (course.interrupted small.stopping)) has = absurd (none_refuses _ (refl, (refl, (refl, tt))) has)
+  refused_end (course.stored (course.interrupted small.late)) has = absurd (none_refuses _ (refl, (refl, (refl, tt))) has)
+  refused_end (course.cleared (course.settled ok) back) has = absurd (none_refuses _ (refl, (refl, back_goes back)) has)
+  refused_end (course.cleared {grip} {ending} (course.interrupted small.refused) back) has =
+      subst (λ c. RefusedEnd request c (cleared_events grip ending)) (cc (only_first _ (back_goes back) (not_first refl has))) (at_clear back)
+  refused_end (course.cleared (course.interrupted small.stopping) back) has = absurd (none_refuses _ (refl, (refl, back_goes back)) has)
+  refused_end (course.cleared (course.interrupted small.late) back) has = absurd (none_refuses _ (refl, (refl, back_goes back)) has)
+
+  in_last : {why : Code} (work : List (Event FurtherEvent)) {last : List (Event FurtherEvent)} → AreWork request work → HasRefusal why (work ++ last) → HasRefusal why last
+  in_last work each (has_refusal event is has) = elim (has_split work _ has) [
+    | inl first ↦ absurd (cc (is, (each_has (IsWork request) work each first).1))
+    | inr behind ↦ has_refusal event is behind
+  ]
+
+  pub refused_course : {events : List (Event FurtherEvent)} {why : Code} → Course request events → HasRefusal why events → RefusedCourse request why events
+  refused_course {why} goes has =
+      record { work = goes.work; last = goes.last; is = goes.is; each = goes.each; end = refused_end goes.end (in_last goes.work goes.each (subst (HasRefusal why) goes.is has)) }

@@ -1,0 +1,251 @@
+-- A request on the trust list is answered Not trusted wherever a read of the file says so.
+use Rattle.std.proofs.Common.{◌≡◌, ◌⊎◌, ◌∙◌, ℕ, Bool, true, false, List, [], ◌∷◌, ◌++◌, Option, Some, None, Ok, Err, refl, sym, subst, inl, inr}
+use Rattle.agent_ask.specs.Failing.{said_last}
+use Rattle.agent_ask.specs.Further.{FurtherEvent}
+use Rattle.agent_ask.specs.SessionEvents.{Received, Sent, Cut, Inquiry, CacheTurn, Further}
+use Rattle.agent_commands.specs.Answers.{ok}
+use Rattle.agent_commands.specs.Events.{Event as SessionEvent}
+use Rattle.agent_commands.specs.declared.went.Went.{Went}
+use Rattle.agent_ports.specs.declared.grip.Grip.{Grip}
+use Rattle.assuan_server.specs.Written.{failed}
+use Rattle.assuan_server.specs.declared.errors.Code.TheVariants as code
+use Rattle.assuan_server.specs.declared.errors.Origin.TheVariants.{Agent}
+use Rattle.cache_policy.specs.Extending.{Taken}
+use Rattle.session_options.specs.OptionValues.{OptionValues}
+use Rattle.session_options.specs.declared.options.PinMode.{PinMode}
+use Rattle.session_options.specs.declared.options.PinMode.TheVariants as mode
+use Rattle.session_options.specs.declared.rules.Rules.{Rules}
+use Rattle.trust_list.specs.Trust.{trust}
+use Rattle.agent_origin.specs.Exchanges.{flag_of, trust_question, fingerprint_question, unless_said, TrustedNow, Stores, StoresUnsaid, Consented, asked_in, Marked, Carried, TrustExchange}
+use Rattle.agent_origin.specs.Exchanges as trusts
+use Rattle.agent_origin.specs.OriginEvents.{Event, TrustCall, called, in_session}
+use Rattle.agent_origin.specs.Parts.{Part, ◌>>=◌, Follows, Returns, Refuses, Seats, UnderTicket, Agrees, ReadsFile, AddsEntry, Replaces, file_in, refusal_events, refusal_line}
+use Rattle.agent_origin.specs.Parts as parts
+use Rattle.agent_origin.specs.declared.request.TrustPurpose.{TrustPurpose}
+use Rattle.agent_origin.specs.declared.request.TrustRequest.{TrustRequest}
+use Rattle.agent_session.specs.Causes.{Has, here, later}
+use Rattle.agent_session.specs.Completeness.{HasError}
+use Rattle.agent_session.specs.DoorCauses.{beside_trust, IsReadTrust, read_trust, IsAsked, IsNotTrusted, unsaid, denied, denied_mark}
+use Rattle.agent_session.proofs.BesideTrust.{beside_append}
+use Rattle.agent_session.proofs.Standing.{has_right}
+
+-- no call of the trust file is among a session's events that has none
+pub none_called : (events : List (SessionEvent FurtherEvent)) {call : TrustCall} → Has (called call) (in_session events) → ⊥
+none_called [] has = elim has [ ]
+none_called (Received took ∷ more) (later has) = none_called more has
+none_called (Sent text ∷ more) (later has) = none_called more has
+none_called (Cut text ∷ more) (later has) = none_called more has
+none_called (Inquiry word params limit inquired ∷ more) (later has) = none_called more has
+none_called (CacheTurn taken ∷ more) (later has) = none_called more has
+none_called (Further what ∷ more) (later has) = none_called more has
+
+split : {E : Type 0} {event : E} (first more : List E) → Has event (first ++ more) → Has event first ⊎ Has event more
+split [] more has = inr has
+split (event ∷ first) more here = inl here
+split (other ∷ first) more (later has) = elim (split first more has) [ inl before ↦ inl (later before) | inr behind ↦ inr behind ]
+
+split_read : (first more : List Event) {file : List ℕ} → IsReadTrust (first ++ more) file → IsReadTrust first file ⊎ IsReadTrust more file
+split_read first more (read_trust {answer} is has) = elim (split first more has) [ inl before ↦ inl (read_trust {answer = answer} is before) | inr behind ↦ inr (read_trust {answer = answer} is behind) ]
+
+-- this is what the read file says of the certificate
+module _ (fingerprint : Grip) (file : List ℕ) where
+  -- by no event of such a part the file is read that has these bytes
+  record ReadsNot {A : Type 0} (part : Part A) : Type 0 where
+    never : (events : List Event) {result : _} → part events result → ¬ IsReadTrust events file
+
+  -- where it is read by a part, that is refused as Not trusted
+  record Heeds {A : Type 0} (part : Part A) : Type 0 where
+    fine : (events : List Event) (value : A) → part events (Ok value) → ¬ IsReadTrust events file
+    denies : (events : List Event) {why : _} → part events (Err why) → IsReadTrust events file → refusal_line why ≡ Some (failed code.NotTrusted)
+
+  by_never : {A : Type 0} {part : Part A} → ReadsNot part → Heeds part
+  by_never reads = record { fine = λ events value does is_read. reads.never events does is_read; denies = λ events does is_read. absurd (reads.never events does is_read) }
+
+  none_read : ¬ IsReadTrust [] file
+  none_read (read_trust is has) = elim has [ ]
+
+  returns_never : {A : Type 0} (value : A) → ReadsNot (Returns value)
+  returns_never value = record { never = none_of }
+    where
+      none_of : (events : List Event) {result : _} → Returns value events result → ¬ IsReadTrust events file
+      none_of events parts.returns is_read = none_read is_read
+
+  refuses_never : {A : Type 0} {why : _} → ReadsNot (Refuses {A = A} why)
+  refuses_never {A} {why} = record { never = none_of }
+    where
+      none_of : (events : List Event) {result : _} → Refuses {A = A} why events result → ¬ IsReadTrust events file
+      none_of events parts.refuses is_read = none_read is_read
+
+  seats_never : ReadsNot Seats
+  seats_never = record { never = none_of }
+    where
+      none_of : (events : List Event) {result : _} → Seats events result → ¬ IsReadTrust events file
+      none_of events parts.opened (read_trust is (later has)) = elim has [ ]
+      none_of events (parts.interrupted why) (read_trust is (later has)) = elim has [ ]
+
+  agrees_never : (rules : Rules) (options : OptionValues) (question : List ℕ) → ReadsNot (Agrees rules options question)
+  agrees_never rules options question = record { never = none_of }
+    where
+      none_of : (events : List Event) {result : _} → Agrees rules options question events result → ¬ IsReadTrust events file
+      none_of events (parts.consents spec is (parts.prompts {shown} asks shows)) (read_trust found has) = none_called shown has
+      none_of events (parts.refused spec is (parts.prompts {shown} asks shows) refusal) (read_trust found has) = none_called shown has
+
+  adds_never : (old : List ℕ) (flag : ℕ) → ReadsNot (AddsEntry old fingerprint flag)
+  adds_never old flag = record { never = none_of }
+    where
+      none_of : (events : List Event) {result : _} → AddsEntry old fingerprint flag events result → ¬ IsReadTrust events file
+      none_of events (parts.added fits) is_read = none_read is_read
+      none_of events (parts.too_long long) is_read = none_read is_read
+      none_of events parts.no_memory (read_trust is (later has)) = elim has [ ]
+
+  replaces_never : (new : List ℕ) → ReadsNot (Replaces new)
+  replaces_never new = record { never = none_of }
+    where
+      none_of : (events : List Event) {result : _} → Replaces new events result → ¬ IsReadTrust events file
+      none_of events parts.replaced (read_trust is (later has)) = elim has [ ]
+      none_of events parts.faulted (read_trust is (later has)) = elim has [ ]
+      none_of events parts.no_memory (read_trust is (later has)) = elim has [ ]
+
+  -- a part that doesn't read, and then one that heeds what it reads
+  module _ {A B : Type 0} {part : Part A} {next : A → Part B} (reads : ReadsNot part) (heeds : (value : A) → Heeds (next value)) where
+    behind : Heeds (part >>= next)
+    behind = record { fine = is_fine; denies = is_denied }
+      where
+        is_fine : (events : List Event) (value : B) → Follows part next events (Ok value) → ¬ IsReadTrust events file
+        is_fine _ value (parts.goes_on {first} {events = more} {value = mid} does next_does) is_read =
+            elim (split_read first more is_read) [ inl before ↦ reads.never first does before | inr later_read ↦ (heeds mid).fine more value next_does later_read ]
+
+        is_denied : (events : List Event) {why : _} → Follows part next events (Err why) → IsReadTrust events file → refusal_line why ≡ Some (failed code.NotTrusted)
+        is_denied _ (parts.goes_on {first} {events = more} {value = mid} does next_does) is_read =
+            elim (split_read first more is_read) [ inl before ↦ absurd (reads.never first does before) | inr later_read ↦ (heeds mid).denies more next_does later_read ]
+        is_denied events (parts.stops does) is_read = absurd (reads.never events does is_read)
+
+  module _ {A : Type 0} {part : Part A} (ticket : ℕ) (heeds : Heeds part) where
+    none_closed : (events : List Event) (turn : Taken) → IsReadTrust (events ++ CacheTurn turn ∷ []) file → IsReadTrust events file
+    none_closed events turn is_read = elim (split_read events _ is_read) [ inl before ↦ before | inr (read_trust is (later has)) ↦ elim has [ ] ]
+
+    under : Heeds (UnderTicket ticket part)
+    under = record { fine = is_fine; denies = is_denied }
+      where
+        is_fine : (events : List Event) (value : A) → UnderTicket ticket part events (Ok value) → ¬ IsReadTrust events file
+        is_fine _ value (parts.given_back {events} turn does) is_read = heeds.fine events value does (none_closed events _ is_read)
+
+        is_denied : (events : List Event) {why : _} → UnderTicket ticket part events (Err why) → IsReadTrust events file → refusal_line why ≡ Some (failed code.NotTrusted)
+        is_denied _ (parts.given_back {events} turn does) is_read = heeds.denies events does (none_closed events _ is_read)
+
+  -- a part that comes to nothing else than Not trusted
+  record Denies {A : Type 0} (part : Part A) : Type 0 where
+    never : (events : List Event) (value : A) → part events (Ok value) → ⊥
+    denial_is_said : (events : List Event) {why : _} → part events (Err why) → refusal_line why ≡ Some (failed code.NotTrusted)
+
+  denies_refused : {A : Type 0} {why : _} → refusal_line why ≡ Some (failed code.NotTrusted) → Denies (Refuses {A = A} why)
+  denies_refused {A} {why} is = record { never = never_ok; denial_is_said = is_denied }
+    where
+      comes_to : {events : List Event} {result : _} → Refuses {A = A} why events result → result ≡ Err why
+      comes_to parts.refuses = refl
+
+      never_ok : (events : List Event) (value : A) → Refuses {A = A} why events (Ok value) → ⊥
+      never_ok events value does = absurd (cc (comes_to does))
+
+      is_denied : (events : List Event) {other : _} → Refuses {A = A} why events (Err other) → refusal_line other ≡ Some (failed code.NotTrusted)
+      is_denied events parts.refuses = is
+
+  unless_heeds : (said : Option Bool) (other : Part (Unit {0})) → Heeds other → Heeds (unless_said said other)
+  unless_heeds (Some true) other heeds = by_never (returns_never tt)
+  unless_heeds (Some false) other heeds = by_never refuses_never
+  unless_heeds None other heeds = heeds
+
+  -- a read, by which the request is decided where the file says something
+  module _ (bad : ¬ (trust file fingerprint.0 ≡ Some true)) (otherwise : List ℕ → Part (Unit {0})) (heeds : (other : List ℕ) → Heeds (otherwise other))
+      (denies_too : trust file fingerprint.0 ≡ None → Denies (otherwise file)) where
+    abbrev Decided : List ℕ → Part (Unit {0})
+    Decided other = unless_said (trust other fingerprint.0) (otherwise other)
+
+    unless_denies : (said : Option Bool) → trust file fingerprint.0 ≡ said → Denies (unless_said said (otherwise file))
+    unless_denies (Some true) is = absurd (bad is)
+    unless_denies (Some false) is = denies_refused refl
+    unless_denies None is = denies_too is
+
+    decides : Heeds (ReadsFile >>= Decided)
+    decides = record { fine = is_fine; denies = is_denied }
+      where
+        is_fine : (events : List Event) (value : Unit {0}) → Follows ReadsFile Decided events (Ok value) → ¬ IsReadTrust events file
+        is_fine _ value (parts.goes_on {events = more} (parts.has_read {file = other} is) does) (read_trust found here) =
+            let same : other ≡ file = cc in (unless_denies (trust file fingerprint.0) refl).never more value (subst (λ o. Decided o more (Ok value)) same does)
+        is_fine _ value (parts.goes_on {events = more} (parts.has_read {file = other} is) does) (read_trust {answer} found (later has)) =
+            (unless_heeds (trust other fingerprint.0) (otherwise other) (heeds other)).fine more value does (read_trust {answer = answer} found has)
+
+        is_denied : (events : List Event) {why : _} → Follows ReadsFile Decided events (Err why) → IsReadTrust events file → refusal_line why ≡ Some (failed code.NotTrusted)
+        is_denied _ {why} (parts.goes_on {events = more} (parts.has_read {file = other} is) does) (read_trust found here) =
+            let same : other ≡ file = cc in (unless_denies (trust file fingerprint.0) refl).denial_is_said more (subst (λ o. Decided o more (Err why)) same does)
+        is_denied _ (parts.goes_on {events = more} (parts.has_read {file = other} is) does) (read_trust {answer} found (later has)) =
+            (unless_heeds (trust other fingerprint.0) (otherwise other) (heeds other)).denies more does (read_trust {answer = answer} found has)
+        is_denied _ (parts.stops parts.faulted) (read_trust found here) = absurd (cc found)
+        is_denied _ (parts.stops parts.faulted) (read_trust found (later has)) = elim has [ ]
+        is_denied _ (parts.stops parts.no_memory) (read_trust found here) = absurd (cc found)
+        is_denied _ (parts.stops parts.no_memory) (read_trust found (later has)) = elim has [ ]
+
+  -- ---- whole requests
+
+  asked_heeds : ¬ (trust file fingerprint.0 ≡ Some true) → Heeds (TrustedNow fingerprint)
+  unfolding TrustedNow
+  asked_heeds bad = decides bad _ (λ other. by_never refuses_never) (λ none. denies_refused refl)
+
+  module _ (rules : Rules) (options : OptionValues) (purpose : TrustPurpose) (name : List ℕ) (bad : trust file fingerprint.0 ≡ Some false) where
+    not_true : ¬ (trust file fingerprint.0 ≡ Some true)
+    not_true is = absurd (cc (bad, is))
+
+    stores_heeds : (old : List ℕ) → Heeds (Stores fingerprint purpose old)
+    unfolding Stores
+    stores_heeds old = behind (adds_never old (flag_of purpose)) (λ new. by_never (replaces_never new))
+
+    unsaid_heeds : Heeds (StoresUnsaid fingerprint purpose)
+    unfolding StoresUnsaid
+    unsaid_heeds = decides not_true _ stores_heeds (λ none. absurd (cc (bad, none)))
+
+    consented_heeds : Heeds (Consented rules options fingerprint purpose name)
+    unfolding Consented
+    consented_heeds = behind (agrees_never rules options (trust_question name)) (λ trusted. behind (agrees_never rules options (fingerprint_question fingerprint name)) (λ right. unsaid_heeds))
+
+    prompt_heeds : (way : PinMode) → Heeds (asked_in rules options fingerprint purpose name way)
+    prompt_heeds mode.Ask = behind seats_never (λ ticket. under ticket consented_heeds)
+    prompt_heeds mode.Cancel = by_never refuses_never
+    prompt_heeds mode.Error = by_never refuses_never
+    prompt_heeds mode.Loopback = by_never refuses_never
+
+    marked_heeds : Heeds (Marked rules options fingerprint purpose name)
+    unfolding Marked
+    marked_heeds = decides not_true _ (λ other. prompt_heeds options.mode) (λ none. absurd (cc (bad, none)))
+
+-- ---- requests
+
+-- a refusal's line is the last event
+refused_last : (events : List Event) {line : Option (List ℕ)} → line ≡ Some (failed code.NotTrusted) → HasError code.NotTrusted Agent (beside_trust (events ++ said_last line))
+refused_last events is =
+    subst (λ l. HasError code.NotTrusted Agent (beside_trust (events ++ said_last l))) (sym is)
+    (subst (HasError code.NotTrusted Agent) (sym (beside_append events (Sent (failed code.NotTrusted) ∷ []))) (has_right (beside_trust events) here))
+
+-- what is said isn't a read
+none_said : (events : List Event) (line : Option (List ℕ)) {file : List ℕ} → IsReadTrust (events ++ said_last line) file → IsReadTrust events file
+none_said events (Some line) is_read = elim (split_read events _ is_read) [ inl before ↦ before | inr (read_trust is (later has)) ↦ elim has [ ] ]
+none_said events None is_read = elim (split_read events _ is_read) [ inl before ↦ before | inr (read_trust is has) ↦ elim has [ ] ]
+
+module _ (rules : Rules) (options : OptionValues) where
+  heeded : (fingerprint : Grip) (file : List ℕ) {request : TrustRequest} → Heeds fingerprint file (Carried rules options request) → {events : List Event} {went : Went}
+      → TrustExchange rules options request events went → IsReadTrust events file → HasError code.NotTrusted Agent (beside_trust events)
+  heeded fingerprint file heeds (trusts.answered events does) is_read = absurd (heeds.fine events tt does (none_said events (Some ok) is_read))
+  heeded fingerprint file heeds (trusts.refused events why does) is_read = refused_last events (heeds.denies events does (none_said events (refusal_line why) is_read))
+
+  asked_heeded : {fingerprint : Grip} {said : Option Bool} {request : TrustRequest} {events : List Event} {went : Went} → ¬ (said ≡ Some true) → IsAsked events request fingerprint said
+      → TrustExchange rules options request events went → HasError code.NotTrusted Agent (beside_trust events)
+  asked_heeded {fingerprint} {events} {went} other asked exchanged =
+      heeded fingerprint asked.file (asked_heeds fingerprint asked.file (λ is. other (sym asked.says_so ∙ is))) (subst (λ r. TrustExchange rules options r events went) asked.request_is exchanged)
+      asked.is_read
+
+  pub denial_is_said : {request : TrustRequest} {events : List Event} {went : Went} → TrustExchange rules options request events went → IsNotTrusted events request
+      → HasError code.NotTrusted Agent (beside_trust events)
+  denial_is_said exchanged (unsaid asked) = asked_heeded (λ is. absurd (cc is)) asked exchanged
+  denial_is_said exchanged (denied asked) = asked_heeded (λ is. absurd (cc is)) asked exchanged
+  denial_is_said {events} {went} exchanged (denied_mark {fingerprint} {purpose} {file} marked) =
+      heeded fingerprint file (marked_heeds fingerprint file rules options purpose marked.name.items marked.says_so)
+      (subst (λ r. TrustExchange rules options r events went) marked.request_is exchanged) marked.is_read

@@ -1,0 +1,249 @@
+-- What stands after a refusal: how each request is carried out, as far as what it stores, clears, replaces and gives back goes, and what an event that refuses
+-- it leaves to be done. This is the project's own.
+use Rattle.std.specs.List.{AllByRecursion}
+use Rattle.std.specs.Prelude.{◌≡◌, ◌≢◌, ◌⊎◌, ◌++◌, ℕ, Bool, true, false, List, [], ◌∷◌, Option, Some, None, ⊤}
+use Rattle.agent_ask.specs.Events.{Call, GetPin, Confirm, Start, Shut, Called, OutOfMemory}
+use Rattle.agent_ask.specs.Further.{FurtherEvent, KeyCall, Read, Listed, Replaced, Removed, NotDrawn, Prompt, Keys, Dice, NoMemory}
+use Rattle.agent_ask.specs.SessionEvents.{Received, Sent, CacheTurn, Further, cache_turn}
+use Rattle.agent_ask.specs.declared.prompter.Consent.TheVariants as consent
+use Rattle.agent_ask.specs.declared.prompter.Opened.TheVariants as opened
+use Rattle.agent_ask.specs.declared.prompter.Outcome.TheVariants as outcome
+use Rattle.agent_ports.specs.declared.grip.Grip.{Grip}
+use Rattle.agent_ports.specs.declared.keys.KeyDone.{KeyDone}
+use Rattle.agent_ports.specs.declared.keys.KeyDone.TheVariants as key_done
+use Rattle.agent_ports.specs.declared.keys.KeyNames.TheVariants as key_names
+use Rattle.agent_ports.specs.declared.keys.KeyRead.{KeyRead}
+use Rattle.agent_ports.specs.declared.keys.KeyRead.TheVariants as key_read
+use Rattle.assuan_server.specs.Written.{failed}
+use Rattle.assuan_server.specs.declared.errors.Code.{Code}
+use Rattle.assuan_server.specs.declared.errors.Code.TheVariants as code
+use Rattle.cache_policy.specs.Desks.{AtDesk, is_of}
+use Rattle.cache_policy.specs.Histories.{History}
+use Rattle.cache_policy.specs.Runs.{joined}
+use Rattle.cache_policy.specs.Turns.{Turn, Done, Refused, closes, opens}
+use Rattle.cache_policy.specs.declared.life.Life.{Life}
+use Rattle.cache_policy.specs.declared.mark.Mark.{Mark}
+use Rattle.cache_policy.specs.declared.mark.MarkStep.{MarkStep}
+use Rattle.cache_policy.specs.declared.mark.MarkStep.TheVariants.{Put, Clear, Flush, Stop, Close}
+use Rattle.cache_policy.specs.declared.mode.Mode.{Mode}
+use Rattle.cache_policy.specs.declared.mode.Mode.TheVariants.{Any, User, Normal, Nonce}
+use Rattle.agent_commands.specs.Events.{Event}
+use Rattle.agent_commands.specs.Exchanges.{is_quiet}
+use Rattle.agent_commands.specs.Requests.{GetFields, get_passphrase}
+use Rattle.agent_commands.specs.declared.request.CacheCommand.TheVariants.{GetPassphrase, PresetPassphrase, ClearPassphrase, ReloadAgent, KillAgent}
+use Rattle.agent_commands.specs.declared.request.Request.{Request}
+use Rattle.agent_commands.specs.declared.request.Request.TheVariants.{Cache}
+use Rattle.key_commands.specs.Lines.{grip_text, info_line, limit_line}
+use Rattle.key_commands.specs.Parts.{Interrupts}
+use Rattle.key_commands.specs.Passphrases.{put_key}
+use Rattle.key_commands.specs.declared.request.KeyRequest.TheVariants as on
+use Rattle.agent_session.specs.Causes.{on_keys}
+use Rattle.agent_session.specs.Completeness.{AnswersFromCache, AnswersDone, EndsInOk, IsAnswer}
+
+-- ---- events that refuse their request
+
+-- a turn that finds no memory, but for one that gives a ticket back
+abbrev pub turn_refuses : Option ℕ → Turn → Option Code
+turn_refuses None Refused = Some code.NoMemory
+turn_refuses _ _ = None
+
+-- a call of the prompter that fails, or whose child breaks the protocol
+abbrev pub call_refuses : Call → Option Code
+call_refuses (Start spec opened.Failed) = Some code.NoPinentry
+call_refuses (Start spec (opened.Broken breach)) = Some code.NoPinentry
+call_refuses (GetPin error outcome.Failed) = Some code.NoPinentry
+call_refuses (GetPin error (outcome.Broken breach)) = Some code.NoPinentry
+call_refuses (Confirm consent.Failed) = Some code.NoPinentry
+call_refuses (Confirm (consent.Broken breach)) = Some code.NoPinentry
+call_refuses _ = None
+
+-- a call of the keys that fails, or finds no memory
+abbrev pub read_refuses : KeyRead → Option Code
+read_refuses key_read.Failed = Some code.General
+read_refuses key_read.NoMemory = Some code.NoMemory
+read_refuses _ = None
+
+abbrev pub change_refuses : KeyDone → Option Code
+change_refuses key_done.Failed = Some code.General
+change_refuses key_done.NoMemory = Some code.NoMemory
+change_refuses _ = None
+
+abbrev pub keys_refuse : KeyCall → Option Code
+keys_refuse (Read grip answer) = read_refuses answer
+keys_refuse (Listed key_names.Failed) = Some code.General
+keys_refuse (Listed key_names.NoMemory) = Some code.NoMemory
+keys_refuse (Listed (key_names.Names grips)) = None
+keys_refuse (Replaced grip file answer) = change_refuses answer
+keys_refuse (Removed grip answer) = change_refuses answer
+
+-- the code by which an event refuses its request, where it does: for want of memory, or since the prompter, the keys or the dice failed
+abbrev pub refuses : Event FurtherEvent → Option Code
+refuses (CacheTurn taken) = turn_refuses (closes taken.asked) taken.turn
+refuses (Further (Prompt (Called call))) = call_refuses call
+refuses (Further (Prompt OutOfMemory)) = Some code.NoMemory
+refuses (Further (Keys call)) = keys_refuse call
+refuses (Further (Dice (NotDrawn count))) = Some code.General
+refuses (Further NoMemory) = Some code.NoMemory
+refuses _ = None
+
+-- ---- the work of a request
+
+-- a line that answers nothing: how much the client may send, or what is known of a key
+pub data IsNotice : List ℕ → Type 0 where
+  limit : (limit : ℕ) → IsNotice (limit_line limit)
+  info : (grip : Grip) (cached clear : Bool) → IsNotice (info_line grip cached clear)
+
+-- which requests store a passphrase by a turn of their own, and under which mode
+pub data MayStore (request : Request) : Mode → Type 0 where
+  preset : {id : List ℕ} {life : Life} {secret : Option (List ℕ)} → request ≡ Cache (PresetPassphrase id life secret) → MayStore request Any
+  -- what the client gave in place of a prompt
+  given : (fields : GetFields) → request ≡ Cache (get_passphrase fields) → MayStore request User
+  exported : {grip : Grip} {nonce : Option (List ℕ)} → on_keys request ≡ Some (on.ExportKey grip nonce) → MayStore request Normal
+  changed : {grip : Grip} {old new : Option (List ℕ)} {verify : Bool} → on_keys request ≡ Some (on.Passwd grip old new verify) → MayStore request Normal
+  -- under a nonce alone
+  imported : {force : Bool} {nonce : Option (List ℕ)} → on_keys request ≡ Some (on.ImportKey force nonce) → MayStore request Nonce
+
+-- the turns that are its work: the cache is asked, or the prompt is wanted; and what is stored, cleared or stopped, by its own commands alone
+abbrev pub IsWorkStep : Request → MarkStep → Type 0
+IsWorkStep request (Put id mode life secret) = MayStore request mode
+IsWorkStep request (Clear id mode) = request ≡ Cache (ClearPassphrase id mode)
+IsWorkStep request Flush = request ≡ Cache ReloadAgent
+IsWorkStep request Stop = request ≡ Cache KillAgent
+IsWorkStep request (Close ticket keep) = ⊥
+IsWorkStep request _ = ⊤
+
+-- what is done of a request: no key's file is changed by it, and no ticket is given back
+abbrev pub IsAllowed : Request → Event FurtherEvent → Type 0
+IsAllowed request (Received took) = ⊥
+IsAllowed request (Sent text) = IsNotice text
+IsAllowed request (CacheTurn taken) = IsWorkStep request taken.asked
+IsAllowed request (Further (Keys (Replaced grip file answer))) = answer ≢ key_done.Done
+IsAllowed request (Further (Keys (Removed grip answer))) = answer ≢ key_done.Done
+IsAllowed request _ = ⊤
+
+-- and it isn't refused by it
+abbrev pub IsWork : Request → Event FurtherEvent → Type 0
+IsWork request event = IsAllowed request event × (refuses event ≡ None)
+
+abbrev pub AreWork : Request → List (Event FurtherEvent) → Type 0
+AreWork request events = AllByRecursion (IsWork request) events
+
+-- ---- its end
+
+-- the answer, or none where the client is gone
+pub data IsLast : List (Event FurtherEvent) → Type 0 where
+  gone : IsLast []
+  said : {text : List ℕ} → IsAnswer text → IsLast (Sent text ∷ [])
+
+-- a ticket that is still held is given back, and nothing is kept
+pub data GivesBack (last : List (Event FurtherEvent)) : List (Event FurtherEvent) → Type 0 where
+  no_ticket : GivesBack last last
+  with_ticket : {ticket : ℕ} (turn : Turn) → GivesBack last (cache_turn (Close ticket None) turn ∷ last)
+
+-- a prompt by which its request is refused is shut
+abbrev pub shuts : Event FurtherEvent → List (Event FurtherEvent)
+shuts (Further (Prompt event)) = Further (Prompt (Called Shut)) ∷ []
+shuts _ = []
+
+-- what the one turn behind a changed file comes to, and the answer: it is done, or it interrupts the request, whose file stays changed
+pub data Settles : Turn → List ℕ → Type 0 where
+  settled : {text : List ℕ} → EndsInOk text → Settles Done text
+  interrupted : {turn : Turn} {why : Code} → Interrupts turn why → Settles turn (failed why)
+
+-- How a request ends, once its work is done.
+pub data IsEnd (request : Request) : List (Event FurtherEvent) → Type 0 where
+  answered : {last : List (Event FurtherEvent)} → IsLast last → IsEnd request last
+  -- a prompt's ticket is given back, and its passphrase may be kept
+  given_back : {ticket : ℕ} {keep : Option (List ℕ)} {last : List (Event FurtherEvent)} (turn : Turn) → IsLast last → IsEnd request (cache_turn (Close ticket keep) turn ∷ last)
+  -- it is, and then there is no memory for the answer: what was kept stays
+  unanswered : {ticket : ℕ} {keep : Option (List ℕ)} (turn : Turn) → IsEnd request (cache_turn (Close ticket keep) turn ∷ Further NoMemory ∷ Sent (failed code.NoMemory) ∷ [])
+  -- an event refuses it: nothing is done behind it but to shut the prompt, to give the ticket back and to answer
+  refused : {event : Event FurtherEvent} {why : Code} {ending : List (Event FurtherEvent)} → IsAllowed request event → refuses event ≡ Some why → GivesBack (Sent (failed why) ∷ []) ending
+      → IsEnd request (event ∷ (shuts event ++ ending))
+  -- a key's file is replaced, and the passphrase kept by the return of the ticket, or by a turn
+  kept : {grip : Grip} {file : List ℕ} {ticket : ℕ} {pass text : List ℕ} (turn : Turn) → EndsInOk text
+      → IsEnd request (Further (Keys (Replaced grip file key_done.Done)) ∷ cache_turn (Close ticket (Some pass)) turn ∷ Sent text ∷ [])
+  stored : {grip : Grip} {file pass text : List ℕ} {turn : Turn} → Settles turn text
+      → IsEnd request (Further (Keys (Replaced grip file key_done.Done)) ∷ cache_turn (put_key grip pass) turn ∷ Sent text ∷ [])
+  -- a key's file is removed, and its passphrase cleared
+  cleared : {grip : Grip} {text : List ℕ} {turn : Turn} {ending : List (Event FurtherEvent)} → Settles turn text → GivesBack (Sent text ∷ []) ending
+      → IsEnd request (Further (Keys (Removed grip key_done.Done)) ∷ cache_turn (Clear (grip_text grip) Normal) turn ∷ ending)
+
+-- What is done for a request, from its first event to its last: its work, and its end. A failed write of its answer ends the whole session, and is no part
+-- of this.
+pub record Course (request : Request) (events : List (Event FurtherEvent)) : Type 0 where
+  pub work : List (Event FurtherEvent)
+  pub last : List (Event FurtherEvent)
+  pub is : events ≡ work ++ last
+  pub each : AreWork request work
+  pub end : IsEnd request last
+
+-- ---- requests that are refused so
+
+-- how a request ends that an event of its own refuses by this code
+pub data RefusedEnd (request : Request) : Code → List (Event FurtherEvent) → Type 0 where
+  -- at its work: nothing more is done for it
+  at_work : {event : Event FurtherEvent} {why : Code} {ending : List (Event FurtherEvent)} → IsAllowed request event → refuses event ≡ Some why → GivesBack (Sent (failed why) ∷ []) ending
+      → RefusedEnd request why (event ∷ (shuts event ++ ending))
+  -- behind the return of its ticket, by which a passphrase may have been kept
+  at_answer : {ticket : ℕ} {keep : Option (List ℕ)} (turn : Turn)
+      → RefusedEnd request code.NoMemory (cache_turn (Close ticket keep) turn ∷ Further NoMemory ∷ Sent (failed code.NoMemory) ∷ [])
+  -- behind a key's file that was replaced, whose passphrase found no memory to be stored; or that was removed, whose passphrase found none to be cleared
+  at_store : {grip : Grip} {file pass : List ℕ}
+      → RefusedEnd request code.NoMemory (Further (Keys (Replaced grip file key_done.Done)) ∷ cache_turn (put_key grip pass) Refused ∷ Sent (failed code.NoMemory) ∷ [])
+  at_clear : {grip : Grip} {ending : List (Event FurtherEvent)} → GivesBack (Sent (failed code.NoMemory) ∷ []) ending
+      → RefusedEnd request code.NoMemory (Further (Keys (Removed grip key_done.Done)) ∷ cache_turn (Clear (grip_text grip) Normal) Refused ∷ ending)
+
+pub record RefusedCourse (request : Request) (why : Code) (events : List (Event FurtherEvent)) : Type 0 where
+  pub work : List (Event FurtherEvent)
+  pub last : List (Event FurtherEvent)
+  pub is : events ≡ work ++ last
+  pub each : AreWork request work
+  pub end : RefusedEnd request why last
+
+-- the codes that are answered for such events alone
+pub data IsOwnCode : Code → Type 0 where
+  memory : IsOwnCode code.NoMemory
+  fault : IsOwnCode code.General
+
+-- ---- prompts
+
+-- an event that is no call of the prompter
+abbrev pub IsUncalled : Event FurtherEvent → Type 0
+IsUncalled (Further (Prompt (Called call))) = ⊥
+IsUncalled _ = ⊤
+
+-- one that isn't a turn that may open a prompt
+abbrev pub IsUnopening : Event FurtherEvent → Type 0
+IsUnopening (CacheTurn taken) = opens taken.asked ≡ false
+IsUnopening _ = ⊤
+
+-- Behind a call of the prompter stands no turn that may open a prompt. So where such a turn is refused, the prompter wasn't called before it.
+abbrev pub OpensFirst : List (Event FurtherEvent) → Type 0
+OpensFirst [] = ⊤
+OpensFirst (event ∷ more) = (IsUncalled event ⊎ AllByRecursion IsUnopening more) × OpensFirst more
+
+-- ---- turns
+
+-- A turn that finds no memory makes no mark: the run goes on by marks of other sessions alone.
+abbrev pub LeavesRun : AtDesk → Option (List History) → Option (List History) → Type 0
+LeavesRun desk (Some before) (Some after) = (others : List Mark) × AllByRecursion (λ mark. is_of desk.session mark ≡ false) others × (joined after ≡ joined before ++ others)
+LeavesRun desk None None = ⊤
+LeavesRun desk _ _ = ⊥
+
+-- It gives no ticket back, and leaves the desk as it was.
+pub record LeavesDesk (before : AtDesk) (asked : MarkStep) (after : AtDesk) : Type 0 where
+  pub no_close : closes asked ≡ None
+  pub run : LeavesRun before before.run after.run
+  pub limits : after.limits ≡ before.limits
+  pub session : after.session ≡ before.session
+  pub out : after.out ≡ before.out
+
+-- ---- requests that want no memory
+
+-- what is done for a request that asks the cache alone, or clears it
+abbrev pub AnswersAlone : Request → List (Event FurtherEvent) → Type 0
+AnswersAlone (Cache (GetPassphrase plain check no_ask repeat quality id texts)) events = is_quiet no_ask texts ≡ true → AnswersFromCache plain id events
+AnswersAlone (Cache (ClearPassphrase id mode)) events = AnswersDone (Clear id mode) events
+AnswersAlone (Cache ReloadAgent) events = AnswersDone Flush events
+AnswersAlone request events = ⊤
