@@ -1,18 +1,20 @@
-ghost use Rattle.std.specs.Prelude.{◌≡◌, Some, IsSome};
+ghost use Rattle.std.specs.Prelude.{◌≡◌, ◌≤◌, Some, IsSome, IsNone};
+ghost use Rattle.agent_ports.specs.Counts.{Rose};
 
 use crate::clock::SystemClock;
 use crate::dice::SystemDice;
+use crate::faults::count;
+use crate::homedir::Homedir;
 use crate::keys::SystemKeys;
 use crate::launcher::PipeLauncher;
-use agent_ports::{Dice, Host, Keys, Launcher, MemTrust, NoGate, Parts};
-use arrayvec::ArrayVec;
-use session_options::MAX_VALUE_LEN;
+use crate::trust::SystemTrust;
+use agent_ports::{Dice, Host, Keys, Launcher, NoGate, Parts, TrustFile};
 use std::alloc::Global;
 use std::fs::{File, Files};
 use std::net::Net;
 use std::process::Processes;
-use std::{rt, str};
-use unix_socket::{SocketEar, SocketLink, SocketListener};
+use std::rt;
+use unix_socket::{SocketEar, SocketLink, SocketListener, SocketName};
 
 type SystemParts<'a, R> = Parts<
     PipeLauncher<'a, R>,
@@ -21,16 +23,15 @@ type SystemParts<'a, R> = Parts<
     SystemKeys<'a, R>,
 >;
 
-/// The machine that the program runs on. It listens on a Unix socket in the folder that was settled, and has the key files of that folder. For
-/// now it has no trust file, and no second socket: each call for a listener for restricted sessions is a fault.
+/// The machine that the program runs on. It listens on two Unix sockets in the folder that was settled, and has the key files and the trust
+/// list of that folder.
 #[derive(Drop)]
 pub struct SystemHost<'a, R> {
     rt: &'a R,
     alloc: Global,
     pid: u32,
     parts: Option<SystemParts<'a, R>>,
-    /// The folder that was settled, where it is short enough for a rule.
-    homedir: ArrayVec<u8, MAX_VALUE_LEN>,
+    homedir: Homedir,
     listens: u64,
     gate: NoGate,
 }
@@ -44,7 +45,7 @@ impl<'a, R: rt::Clock + Processes + Files<File = File> + Net> SystemHost<'a, R> 
             alloc,
             pid,
             parts: Some(new_parts(rt, alloc, b"")),
-            homedir: ArrayVec::new(),
+            homedir: Homedir::new(),
             listens: 0,
             gate: NoGate,
         }
@@ -52,10 +53,20 @@ impl<'a, R: rt::Clock + Processes + Files<File = File> + Net> SystemHost<'a, R> 
 }
 
 impl<'a, R: Files + Net> SystemHost<'a, R> {
-    /// The socket of the folder that was settled.
-    fn socket(&self) -> Option<SocketListener<'a, R>> {
-        let folder = str::from_utf8(&self.homedir).ok()?;
-        SocketListener::bind(self.rt, self.alloc, folder).ok()
+    /// A socket of the folder that was settled. One that can't be had counts.
+    fn listen_at(&mut self, name: SocketName) -> Option<SocketListener<'a, R>>
+        ensures failed { IsNone result → Rose self.old.listens self.new.listens }
+        ensures listens { self.old.listens ≤ self.new.listens }
+        ensures parts { self.new.parts ≡ self.old.parts }
+        ensures pid { self.new.pid ≡ self.old.pid }
+    {
+        let listener = self.socket(name);
+        count(&mut self.listens, listener.is_none());
+        listener
+    }
+
+    fn socket(&self, name: SocketName) -> Option<SocketListener<'a, R>> {
+        SocketListener::bind(self.rt, self.alloc, self.homedir.path()?, name).ok()
     }
 }
 
@@ -94,7 +105,7 @@ impl<'a, R: rt::Clock + Processes + Files<File = File> + Net> Host for SystemHos
 
     type Keys = SystemKeys<'a, R>;
 
-    type Trust = MemTrust;
+    type Trust = SystemTrust<'a, R>;
 
     type Gate = NoGate;
 
@@ -105,8 +116,7 @@ impl<'a, R: rt::Clock + Processes + Files<File = File> + Net> Host for SystemHos
     ghost listens = { λ h. h.listens };
 
     fn settle(&mut self, homedir: &[u8]) {
-        self.homedir.clear();
-        let _ = self.homedir.try_extend_from_slice(homedir);
+        self.homedir.settle(homedir);
         if let Some(parts) = &mut self.parts {
             parts.keys.settle(homedir);
         }
@@ -129,24 +139,19 @@ impl<'a, R: rt::Clock + Processes + Files<File = File> + Net> Host for SystemHos
     }
 
     fn session_parts(&self) -> SystemParts<'a, R> {
-        new_parts(self.rt, self.alloc, &self.homedir)
+        new_parts(self.rt, self.alloc, self.homedir.name())
     }
 
-    fn trust(&self) -> MemTrust {
-        MemTrust::new(None, Vec::new(self.alloc))
+    fn trust(&self) -> SystemTrust<'a, R> {
+        SystemTrust::new(self.rt, self.homedir.name())
     }
 
     fn listen(&mut self) -> Option<SocketListener<'a, R>> {
-        let listener = self.socket();
-        if listener.is_none() {
-            self.listens = self.listens.saturating_add(1);
-        }
-        listener
+        self.listen_at(SocketName::Standard)
     }
 
     fn listen_extra(&mut self) -> Option<SocketListener<'a, R>> {
-        self.listens = self.listens.saturating_add(1);
-        None
+        self.listen_at(SocketName::Extra)
     }
 
     fn ear_back(&mut self, ear: SocketEar) {

@@ -1,11 +1,17 @@
 //! The agent as a program: standard input, standard output and the machine, handed to `run_agent`.
+//!
+//! Begin with `main`. The clock, the launcher, the dice and the host keep the promises of `agent_ports` and leave their contents unknown:
+//! faults are counted, the rest is tested (`tools/statuses`, `tools/with-gnupg`). There are no definitions.
 #![tactic(auto)]
 
 mod clock;
 mod dice;
+mod faults;
+mod homedir;
 mod host;
 mod keys;
 mod launcher;
+mod trust;
 
 use agent_top::{Status, run_agent};
 use host::SystemHost;

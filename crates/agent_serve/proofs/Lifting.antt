@@ -3,10 +3,12 @@ use Rattle.std.proofs.Common.{◌≡◌, List, [], ◌++◌, Option, None, Some,
 use Rattle.std.specs.Prelude.{is_some}
 use Rattle.agent_ask.specs.Doing.{called, out_of_memory}
 use Rattle.agent_ask.specs.Events.{Call}
-use Rattle.agent_ask.specs.Further.{FurtherEvent, prompt, keys, dice, no_memory}
+use Rattle.agent_ask.specs.Further.{prompt, keys, dice, no_memory}
+use Rattle.agent_origin.specs.OriginEvents.{Event}
+use Rattle.agent_origin.specs.Origins.{origin_world, session, trust}
+use Rattle.agent_origin.specs.declared.door.Door.{Door}
 use Rattle.agent_ask.specs.SessionEvents.{turns_in}
 use Rattle.agent_ask.specs.Worlds.{Outside, Does, received, sent, cut, asked, not_asked, turned, further}
-use Rattle.agent_commands.specs.Events.{Event}
 use Rattle.agent_commands.specs.Outside.{World}
 use Rattle.assuan_server.specs.Clients.{session_lines}
 use Rattle.agent_ports.specs.HostParts.{Views, AreNew}
@@ -17,7 +19,6 @@ use Rattle.agent_ports.specs.Readings.{Readings}
 use Rattle.agent_ports.specs.Sides.{Side}
 use Rattle.cache_policy.specs.declared.mark.Mark.{Mark}
 use Rattle.counted_lock.specs.Turns.{AtCountedDesk, CountedTurn}
-use Rattle.key_commands.specs.States.{KeyWorld}
 use Rattle.pinentry_client.specs.Dialogues.{PinentryDoes, PinentryCall}
 use Rattle.pinentry_client.specs.States.{PinentryState, AtPinentry, at_pinentry, at_prompter, idle}
 use Rattle.agent_serve.specs.Gates.{Gated}
@@ -25,7 +26,9 @@ use Rattle.agent_ask.specs.Prompters.{IsShut}
 use Rattle.agent_commands.specs.declared.went.SessionEnd.{SessionEnd}
 use Rattle.agent_ports.specs.declared.host.Parts.{Parts}
 use Rattle.agent_ports.specs.declared.session.SessionId.{SessionId}
-use Rattle.agent_session.specs.Sessions.{surroundings, ends_with, supply_of, ServesRules}
+use Rattle.agent_origin.specs.DoorSessions.{door_surroundings, ServesDoor}
+use Rattle.agent_origin.specs.Sessions.{ends_with, supply_of}
+use Rattle.agent_ports.specs.TrustFiles.{TrustState}
 use Rattle.counted_lock.specs.Passes.{AtPass}
 use Rattle.session_options.specs.declared.rules.Rules.{Rules}
 use Rattle.agent_serve.proofs.Counting.{added}
@@ -37,10 +40,10 @@ abbrev pub GatedCall : {La : Type 0} → (La → Launches) → Gated (PinentrySt
 GatedCall launches before call after = PinentryCall launches before.prompter call after.prompter
 
 abbrev pub held_world : {C La : Type 0} → (C → Readings) → (La → Launches) → World
-held_world readings launches = KeyWorld (CountedTurn readings) (GatedCall launches)
+held_world readings launches = origin_world (CountedTurn readings) (GatedCall launches)
 
 abbrev pub seen_world : World
-seen_world = KeyWorld (CountedTurn (λ (clock : Readings). clock)) PinentryDoes
+seen_world = origin_world (CountedTurn (λ (clock : Readings). clock)) PinentryDoes
 
 abbrev pub seen_desk : {C : Type 0} → (C → Readings) → AtCountedDesk C → AtCountedDesk Readings
 seen_desk readings desk = record { pass = desk.pass; session = desk.session; out = desk.out; clock = readings desk.clock }
@@ -52,18 +55,25 @@ module _ {C La : Type 0} (readings : C → Readings) (launches : La → Launches
     source = ends.source;
     output = ends.output;
     desk = seen_desk readings ends.desk;
-    ends = record { prompter = at_pinentry launches ends.ends.prompter.prompter; keys = ends.ends.keys; dice = ends.ends.dice };
+    ends = record {
+      further = record {
+        prompter = at_pinentry launches ends.ends.further.prompter.prompter;
+        keys = ends.ends.further.keys;
+        dice = ends.ends.further.dice;
+      };
+      trust = ends.ends.trust;
+    };
   }
 
-  pub record Lifts (before after : Outside (held_world readings launches)) (events : List (Event FurtherEvent)) : Type 0 where
+  pub record Lifts (before after : Outside (held_world readings launches)) (events : List Event) : Type 0 where
     pub leads : Leads (Does seen_world supply) (with_seen before) events (with_seen after)
-    pub program : after.ends.prompter.prompter.program ≡ before.ends.prompter.prompter.program
-    pub lent : after.ends.prompter.prompter.lent ≡ before.ends.prompter.prompter.lent
+    pub program : after.ends.further.prompter.prompter.program ≡ before.ends.further.prompter.prompter.program
+    pub lent : after.ends.further.prompter.prompter.lent ≡ before.ends.further.prompter.prompter.lent
     pub session : after.desk.session ≡ before.desk.session
     pub own : List Mark
     pub turns : PassTurns before.desk.session before.desk.pass (readings before.desk.clock) (turns_in events) own after.desk.pass (readings after.desk.clock)
 
-  pub lifts : {before after : Outside (held_world readings launches)} {events : List (Event FurtherEvent)}
+  pub lifts : {before after : Outside (held_world readings launches)} {events : List Event}
       → Leads (Does (held_world readings launches) supply) before events after → Lifts before after events
   lifts none = record { leads = none; program = refl; lent = refl; session = refl; own = []; turns = serves.none }
   lifts (one (received known needed) more) = let r = lifts more in record { leads = one (received known needed) r.leads; program = r.program; lent = r.lent; session = r.session; own = r.own; turns = r.turns }
@@ -83,52 +93,55 @@ module _ {C La : Type 0} (readings : C → Readings) (launches : La → Launches
         turns = serves.turned does.turns
             (subst (λ s. PassTurns s mid.desk.pass (readings mid.desk.clock) (turns_in later) r.own after.desk.pass (readings after.desk.clock)) same r.turns);
       }
-  lifts (one (further (prompt (called does))) more) =
+  lifts (one (further (session (prompt (called does)))) more) =
       let r = lifts more in
       record {
-        leads = one (further (prompt (called does.does))) r.leads;
+        leads = one (further (session (prompt (called does.does)))) r.leads;
         program = r.program ∙ does.program;
         lent = r.lent ∙ does.lent;
         session = r.session;
         own = r.own;
         turns = r.turns;
       }
-  lifts (one (further (prompt out_of_memory)) more) = let r = lifts more in record { leads = one (further (prompt out_of_memory)) r.leads; program = r.program; lent = r.lent; session = r.session; own = r.own; turns = r.turns }
-  lifts (one (further (keys does)) more) = let r = lifts more in record { leads = one (further (keys does)) r.leads; program = r.program; lent = r.lent; session = r.session; own = r.own; turns = r.turns }
-  lifts (one (further (dice does)) more) = let r = lifts more in record { leads = one (further (dice does)) r.leads; program = r.program; lent = r.lent; session = r.session; own = r.own; turns = r.turns }
-  lifts (one (further no_memory) more) = let r = lifts more in record { leads = one (further no_memory) r.leads; program = r.program; lent = r.lent; session = r.session; own = r.own; turns = r.turns }
+  lifts (one (further (session (prompt out_of_memory))) more) = let r = lifts more in record { leads = one (further (session (prompt out_of_memory))) r.leads; program = r.program; lent = r.lent; session = r.session; own = r.own; turns = r.turns }
+  lifts (one (further (session (keys does))) more) = let r = lifts more in record { leads = one (further (session (keys does))) r.leads; program = r.program; lent = r.lent; session = r.session; own = r.own; turns = r.turns }
+  lifts (one (further (session (dice does))) more) = let r = lifts more in record { leads = one (further (session (dice does))) r.leads; program = r.program; lent = r.lent; session = r.session; own = r.own; turns = r.turns }
+  lifts (one (further (session no_memory)) more) = let r = lifts more in record { leads = one (further (session no_memory)) r.leads; program = r.program; lent = r.lent; session = r.session; own = r.own; turns = r.turns }
+  lifts (one (further (trust does)) more) = let r = lifts more in record { leads = one (further (trust does)) r.leads; program = r.program; lent = r.lent; session = r.session; own = r.own; turns = r.turns }
 
 no_some : {A : Type 0} (child : Option A) → is_some child ≡ false → child ≡ None
 no_some None is = refl
 no_some (Some conn) is = absurd (cc is)
 
 -- a pinentry that is shut
-shut_so : {La : Type 0} (launches : La → Launches) (rules : Rules) (pinentry : PinentryState La) → pinentry.program ≡ rules.pinentry.items
+gated_is_shut : {La : Type 0} (launches : La → Launches) (rules : Rules) (pinentry : PinentryState La) → pinentry.program ≡ rules.pinentry.items
     → IsShut (at_prompter (at_pinentry launches pinentry)) → at_pinentry launches pinentry ≡ idle rules.pinentry.items (launches pinentry.launcher)
-shut_so launches rules pinentry program shut = rw (program, shut.idle, no_some pinentry.child shut.childless) refl
+gated_is_shut launches rules pinentry program shut = rw (program, shut.idle, no_some pinentry.child shut.childless) refl
 
 -- what a session at the desk is at its pass
-module _ {C La R K : Type 0} (views : Views La C R K) (rules : Rules) (session : SessionId) (before after : LinkSides) (pass : AtPass) (parts : Parts La C R K)
-    (desk desk_now : AtCountedDesk C) (gated gated_now : Gated (PinentryState La)) (keys_now : KeyFiles) (dice_now : Side) (end : SessionEnd)
+module _ {C La R K T : Type 0} (views : Views La C R K) (trusts : T → TrustState) (rules : Rules) (door : Door) (session : SessionId) (before after : LinkSides) (pass : AtPass) (parts : Parts La C R K)
+    (trust_file : T)
+    (desk desk_now : AtCountedDesk C) (gated gated_now : Gated (PinentryState La)) (keys_now : KeyFiles) (dice_now : Side) (trust_now : TrustState) (end : SessionEnd)
     (desk_is : desk ≡ record { pass = record pass { sessions = session.count + 1 }; session = session; out = None; clock = parts.clock })
     (unused : at_pinentry views.launches gated.prompter ≡ idle rules.pinentry.items (views.launches gated.prompter.launcher))
     (new : AreNew views parts)
+    (unfailed : (trusts trust_file).faults ≡ 0)
     (own : gated.prompter.launcher ≡ parts.launcher)
-    (served : ServesRules (CountedTurn views.readings) (GatedCall views.launches) rules
-    (surroundings (CountedTurn views.readings) (GatedCall views.launches) before.input before.output desk gated (views.keys parts.keys) (views.draws parts.dice)) end
-    (surroundings (CountedTurn views.readings) (GatedCall views.launches) after.input after.output desk_now gated_now keys_now dice_now))
+    (served : ServesDoor (CountedTurn views.readings) (GatedCall views.launches) door rules
+    (door_surroundings (CountedTurn views.readings) (GatedCall views.launches) before.input before.output desk gated (views.keys parts.keys) (views.draws parts.dice) (trusts trust_file)) end
+    (door_surroundings (CountedTurn views.readings) (GatedCall views.launches) after.input after.output desk_now gated_now keys_now dice_now trust_now))
     (free : desk_now.out ≡ None)
     (shut : IsShut (at_prompter (at_pinentry views.launches gated_now.prompter))) where
   abbrev first : AtPass
   first = record pass { sessions = session.count + 1 }
 
   lifted : Lifts views.readings views.launches (supply_of before.input.bytes)
-      (ends_with before.input.bytes (surroundings (CountedTurn views.readings) (GatedCall views.launches) before.input before.output desk gated (views.keys parts.keys) (views.draws parts.dice)))
-      (ends_with served.rest (surroundings (CountedTurn views.readings) (GatedCall views.launches) after.input after.output desk_now gated_now keys_now dice_now)) served.events
+      (ends_with before.input.bytes (door_surroundings (CountedTurn views.readings) (GatedCall views.launches) before.input before.output desk gated (views.keys parts.keys) (views.draws parts.dice) (trusts trust_file)))
+      (ends_with served.rest (door_surroundings (CountedTurn views.readings) (GatedCall views.launches) after.input after.output desk_now gated_now keys_now dice_now trust_now)) served.events
   lifted = lifts views.readings views.launches (supply_of before.input.bytes) served.leads
 
   idle_now : at_pinentry views.launches gated_now.prompter ≡ idle rules.pinentry.items (views.launches gated_now.prompter.launcher)
-  idle_now = shut_so views.launches rules gated_now.prompter (lifted.program ∙ ap (λ (p : AtPinentry). p.program) unused) shut
+  idle_now = gated_is_shut views.launches rules gated_now.prompter (lifted.program ∙ ap (λ (p : AtPinentry). p.program) unused) shut
 
   session_now : desk_now.session ≡ session
   session_now = lifted.session ∙ ap (λ (d : AtCountedDesk C). d.session) desk_is
@@ -139,12 +152,12 @@ module _ {C La R K : Type 0} (views : Views La C R K) (rules : Rules) (session :
   abbrev leads_from : AtCountedDesk Readings → AtCountedDesk Readings → AtPinentry → AtPinentry → Type 0
   leads_from from to asks asks_now =
       Leads (Does seen_world (supply_of before.input.bytes))
-      (ends_with before.input.bytes (surroundings (CountedTurn (λ (c : Readings). c)) PinentryDoes before.input before.output from asks (views.keys parts.keys) (views.draws parts.dice))) served.events
-      (ends_with served.rest (surroundings (CountedTurn (λ (c : Readings). c)) PinentryDoes after.input after.output to asks_now keys_now dice_now))
+      (ends_with before.input.bytes (door_surroundings (CountedTurn (λ (c : Readings). c)) PinentryDoes before.input before.output from asks (views.keys parts.keys) (views.draws parts.dice) (trusts trust_file))) served.events
+      (ends_with served.rest (door_surroundings (CountedTurn (λ (c : Readings). c)) PinentryDoes after.input after.output to asks_now keys_now dice_now trust_now))
 
-  leads_so : leads_from (desk_at first session (views.readings parts.clock)) (desk_at desk_now.pass session (views.readings desk_now.clock))
+  session_leads : leads_from (desk_at first session (views.readings parts.clock)) (desk_at desk_now.pass session (views.readings desk_now.clock))
       (idle rules.pinentry.items (views.launches gated.prompter.launcher)) (idle rules.pinentry.items (views.launches gated_now.prompter.launcher))
-  leads_so =
+  session_leads =
       subst (λ (d : AtCountedDesk Readings). leads_from d (desk_at desk_now.pass session (views.readings desk_now.clock)) (idle rules.pinentry.items (views.launches gated.prompter.launcher))
       (idle rules.pinentry.items (views.launches gated_now.prompter.launcher))) (ap (seen_desk views.readings) desk_is)
       (subst (λ (d : AtCountedDesk Readings). leads_from (seen_desk views.readings desk) d (idle rules.pinentry.items (views.launches gated.prompter.launcher))
@@ -156,22 +169,25 @@ module _ {C La R K : Type 0} (views : Views La C R K) (rules : Rules) (session :
       (idle rules.pinentry.items (views.launches parts.launcher)) (idle rules.pinentry.items (views.launches gated_now.prompter.launcher))
   leads_from_parts =
       subst (λ (l : La). leads_from (desk_at first session (views.readings parts.clock)) (desk_at desk_now.pass session (views.readings desk_now.clock))
-      (idle rules.pinentry.items (views.launches l)) (idle rules.pinentry.items (views.launches gated_now.prompter.launcher))) own leads_so
+      (idle rules.pinentry.items (views.launches l)) (idle rules.pinentry.items (views.launches gated_now.prompter.launcher))) own session_leads
 
-  turns_so : PassTurns session first (views.readings parts.clock) (turns_in served.events) lifted.own desk_now.pass (views.readings desk_now.clock)
-  turns_so =
+  pass_is_led : PassTurns session first (views.readings parts.clock) (turns_in served.events) lifted.own desk_now.pass (views.readings desk_now.clock)
+  pass_is_led =
       subst (λ (d : AtCountedDesk C). PassTurns d.session d.pass (views.readings d.clock) (turns_in served.events) lifted.own desk_now.pass (views.readings desk_now.clock)) desk_is lifted.turns
 
-  pub served_so : ServesOne views rules session before pass end after desk_now.pass
-  served_so =
-      let does = added session first desk_now.pass _ _ (turns_in served.events) lifted.own turns_so in
+  pub one_is_served : ServesOne views trusts rules door session before pass end after desk_now.pass
+  one_is_served =
+      let does = added session first desk_now.pass _ _ (turns_in served.events) lifted.own pass_is_led in
       record {
         parts = parts;
         new = new;
+        trust_file = trust_file;
+        unused = unfailed;
         clock_now = views.readings desk_now.clock;
         launches_now = views.launches gated_now.prompter.launcher;
         keys_now = keys_now;
         dice_now = dice_now;
+        trust_now = trust_now;
         served = record {
           events = served.events;
           session = served.session;
@@ -186,7 +202,7 @@ module _ {C La R K : Type 0} (views : Views La C R K) (rules : Rules) (session :
           output_faults = served.output_faults;
         };
         own = lifted.own;
-        turns = turns_so;
+        turns = pass_is_led;
         adds = record { mine_is = does.adds.mine_is; by = does.adds.by; given = does.adds.given; empty = does.adds.empty; opened = does.adds.opened };
         more = does.more;
         now_is = does.now;

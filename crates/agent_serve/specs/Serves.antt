@@ -10,7 +10,11 @@ use Rattle.agent_ports.specs.Readings.{Readings}
 use Rattle.agent_ports.specs.Sides.{Side}
 use Rattle.agent_ports.specs.declared.host.Parts.{Parts}
 use Rattle.agent_ports.specs.declared.session.SessionId.{SessionId}
-use Rattle.agent_session.specs.Sessions.{Surroundings, surroundings, ServesRules}
+use Rattle.agent_ports.specs.TrustFiles.{TrustState}
+use Rattle.agent_origin.specs.declared.door.Door.{Door}
+use Rattle.agent_origin.specs.DoorSessions.{door_surroundings, ServesDoor}
+use Rattle.agent_origin.specs.Origins.{origin_world}
+use Rattle.agent_origin.specs.Sessions.{Surroundings}
 use Rattle.cache_policy.specs.declared.mark.Mark.{Mark}
 use Rattle.cache_policy.specs.Extending.{Taken}
 use Rattle.cache_policy.specs.Seat.{is_open}
@@ -18,7 +22,6 @@ use Rattle.cache_policy.specs.Tallies.{is_given, is_empty, how_many}
 use Rattle.cache_policy.specs.Turns.{Turn, Given, Empty, Open}
 use Rattle.counted_lock.specs.Passes.{AtPass, mine}
 use Rattle.counted_lock.specs.Turns.{AtCountedDesk, TurnsPass, CountedTurn}
-use Rattle.key_commands.specs.States.{KeyWorld}
 use Rattle.pinentry_client.specs.Dialogues.{PinentryDoes}
 use Rattle.pinentry_client.specs.States.{idle}
 use Rattle.session_options.specs.declared.rules.Rules.{Rules}
@@ -67,23 +70,29 @@ pub record AddsMarks (session : SessionId) (turns : List Taken) (own : List Mark
 abbrev pub desk_at : AtPass → SessionId → Readings → AtCountedDesk Readings
 desk_at pass session clock = record { pass = pass; session = session; out = None; clock = clock }
 
--- the desk, the pinentry that the rules name, of which no child stands, the keys and the dice, as what a session has to do with
-abbrev pub at_pass : Rules → SessionId → LinkSides → AtPass → Readings → Launches → KeyFiles → Side → Surroundings (KeyWorld (CountedTurn (λ clock. clock)) PinentryDoes)
-at_pass rules session link pass clock launches keys dice =
-    surroundings (CountedTurn (λ readings. readings)) PinentryDoes link.input link.output (desk_at pass session clock) (idle rules.pinentry.items launches) keys dice
+-- the desk, the pinentry that the rules name, of which no child stands, the keys, the dice and the trust file, as what a session has to do with
+abbrev pub at_pass : Rules → SessionId → LinkSides → AtPass → Readings → Launches → KeyFiles → Side → TrustState → Surroundings (origin_world (CountedTurn (λ clock. clock)) PinentryDoes)
+at_pass rules session link pass clock launches keys dice trust_file =
+    door_surroundings (CountedTurn (λ readings. readings)) PinentryDoes link.input link.output (desk_at pass session clock) (idle rules.pinentry.items launches) keys dice trust_file
 
--- A session was served at this pass, with new parts of its own, of the types that the host has: so by a clock, a launcher, keys and dice of the
--- host's. It ended so, and no ticket and no child of it is left. What it did to the run is what its turns did.
-pub record ServesOne {La C R K : Type 0} (views : Views La C R K) (rules : Rules) (session : SessionId) (before : LinkSides) (pass : AtPass) (end : SessionEnd) (after : LinkSides) (now : AtPass) : Type 0 where
+-- A session was served at this pass that came in by this door, with new parts of its own and a trust file of which no call had failed, all of the
+-- types that the host has: so by a clock, a launcher, keys, dice and a trust file of the host's. It ended so, and no ticket and no child of it is
+-- left. What it did to the run is what its turns did.
+pub record ServesOne {La C R K T : Type 0} (views : Views La C R K) (trusts : T → TrustState) (rules : Rules) (door : Door) (session : SessionId)
+    (before : LinkSides) (pass : AtPass) (end : SessionEnd) (after : LinkSides) (now : AtPass) : Type 0 where
   pub parts : Parts La C R K
   pub new : AreNew views parts
+  pub trust_file : T
+  pub unused : (trusts trust_file).faults ≡ 0
   pub clock_now : Readings
   pub launches_now : Launches
   pub keys_now : KeyFiles
   pub dice_now : Side
-  pub served : ServesRules (CountedTurn (λ readings. readings)) PinentryDoes rules
-      (at_pass rules session before (record pass { sessions = session.count + 1 }) (views.readings parts.clock) (views.launches parts.launcher) (views.keys parts.keys) (views.draws parts.dice))
-      end (at_pass rules session after now clock_now launches_now keys_now dice_now)
+  pub trust_now : TrustState
+  pub served : ServesDoor (CountedTurn (λ readings. readings)) PinentryDoes door rules
+      (at_pass rules session before (record pass { sessions = session.count + 1 }) (views.readings parts.clock) (views.launches parts.launcher) (views.keys parts.keys) (views.draws parts.dice)
+      (trusts trust_file))
+      end (at_pass rules session after now clock_now launches_now keys_now dice_now trust_now)
   pub own : List Mark
   pub turns : PassTurns session (record pass { sessions = session.count + 1 }) (views.readings parts.clock) (turns_in served.events) own now clock_now
   pub adds : AddsMarks session (turns_in served.events) own pass now

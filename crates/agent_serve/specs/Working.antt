@@ -1,9 +1,13 @@
 -- What a worker does with its pass. This is the project's own.
+use Rattle.std.specs.Prelude.{Bool, true, false}
 use Rattle.agent_commands.specs.declared.went.SessionEnd.{SessionEnd}
 use Rattle.agent_ports.specs.declared.session.SessionId.{SessionId}
 use Rattle.agent_ports.specs.HostParts.{Views}
 use Rattle.agent_ports.specs.Listening.{NothingFailed}
 use Rattle.agent_ports.specs.Sides.{Side}
+use Rattle.agent_ports.specs.TrustFiles.{TrustState}
+use Rattle.agent_origin.specs.declared.door.Door.{Door}
+use Rattle.agent_origin.specs.declared.door.Door.TheVariants.{Home, Outer}
 use Rattle.counted_lock.specs.Passes.{AtPass}
 use Rattle.session_options.specs.declared.rules.Rules.{Rules}
 use Rattle.agent_serve.specs.Serves.{LinkSides, link_of, ServesOne}
@@ -12,23 +16,29 @@ use Rattle.agent_serve.specs.Serves.{LinkSides, link_of, ServesOne}
 abbrev pub next_session : AtPass → SessionId
 next_session pass = record { pass = pass.number; count = pass.sessions }
 
--- how the links and the parts are seen that a host has for its sessions
-pub record HostViews (Li La C R K : Type 0) : Type 0 where
+-- how the links, the parts and the trust files are seen that a host has for its sessions
+pub record HostViews (Li La C R K T : Type 0) : Type 0 where
   pub input : Li → Side
   pub output : Li → Side
   pub parts : Views La C R K
+  pub trust : T → TrustState
 
-module _ {Li La C R K : Type 0} (host : HostViews Li La C R K) (rules : Rules) where
+-- the door by which the last worker's links come, where there is an extra listener, or none
+abbrev pub last_door : Bool → Door
+last_door true = Outer
+last_door false = Home
+
+module _ {Li La C R K T : Type 0} (host : HostViews Li La C R K T) (rules : Rules) (door : Door) where
   abbrev pub sides : Li → LinkSides
   sides link = link_of (host.input link) (host.output link)
 
-  -- The pass's next session was served, on a link of the host's of which no read and no write had failed.
+  -- The pass's next session was served, on a link of the host's that came in by the door, and of which no read and no write had failed.
   pub record ServesNext (pass now : AtPass) : Type 0 where
     pub link : Li
     pub fresh : NothingFailed (host.input link) (host.output link)
     pub end : SessionEnd
     pub after : Li
-    pub serves : ServesOne host.parts rules (next_session pass) (sides link) pass end (sides after) now
+    pub serves : ServesOne host.parts host.trust rules door (next_session pass) (sides link) pass end (sides after) now
 
   -- A worker's sessions, one after another: each found the pass as the one before had left it. Nothing else is done to the pass.
   pub data ServesLinks : AtPass → AtPass → Type 0 where

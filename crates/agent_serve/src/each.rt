@@ -18,33 +18,35 @@ pub(crate) trait Task<J, K> {
         ensures { did self.now job ear result };
 }
 
-/// Runs the task for each pair, each in a thread of its own where one can be made, and one after another where none can. All come back, in
-/// their order.
+/// Runs the task for each pair, but `last` for the last one, each in a thread of its own where one can be made, and one after another where none
+/// can. All come back, in their order.
 pub(crate) fn run_each<W: Threads + Sync, J: Send + Drop, K: Send + Drop, T: Task<J, K> + Sync>(
     rt: &W,
     task: &T,
+    last: &T,
     jobs: Vec<J>,
     ears: Vec<K>,
 ) -> (Vec<J>, Vec<K>)
-    requires { Paired (T.takes task.now) jobs.items ears.items }
+    requires { Paired (T.takes task.now) jobs.items ears.items × Paired (T.takes last.now) jobs.items ears.items }
     ensures lens { (vec_len result.0 ≡ vec_len jobs) × (vec_len result.1 ≡ vec_len ears) }
     ensures room { (vec_capacity result.0 ≡ vec_capacity jobs) × (vec_capacity result.1 ≡ vec_capacity ears) }
-    ensures each { PairedTo (T.did task.now) jobs.items ears.items result.0.items result.1.items }
+    ensures each { PairedTo (T.did task.now) (T.did last.now) jobs.items ears.items result.0.items result.1.items }
 {
     let mut jobs = jobs;
     let mut ears = ears;
-    let Some((job, ear)) = pop_pair(task, &mut jobs, &mut ears) else {
+    let Some((job, ear)) = pop_pair(task, last, &mut jobs, &mut ears) else {
         return (jobs, ears);
     };
     let front = move || -> (Vec<J>, Vec<K>)
         requires { IsSync W.row × IsSync T.row × IsSend J.row × IsSend K.row × Paired (T.takes task.now) jobs.items ears.items }
         ensures { (vec_len result.0 ≡ vec_len jobs) × (vec_len result.1 ≡ vec_len ears) × (vec_capacity result.0 ≡ vec_capacity jobs)
-            × (vec_capacity result.1 ≡ vec_capacity ears) × PairedTo (T.did task.entry.now) jobs.items ears.items result.0.items result.1.items }
-    { run_each(rt, task, jobs, ears) };
+            × (vec_capacity result.1 ≡ vec_capacity ears)
+            × PairedTo (T.did task.entry.now) (T.did task.entry.now) jobs.items ears.items result.0.items result.1.items }
+    { run_each(rt, task, task, jobs, ears) };
     let back = move || -> (J, K)
-        requires { T.takes task.now job ear }
-        ensures { T.did task.entry.now job ear result }
-    { task.run(job, ear) };
+        requires { T.takes last.now job ear }
+        ensures { T.did last.entry.now job ear result }
+    { last.run(job, ear) };
     let ((mut jobs, mut ears), (job, ear)) = thread::join(rt, front, back);
     jobs.push_reserved(job);
     ears.push_reserved(ear);
@@ -54,11 +56,13 @@ pub(crate) fn run_each<W: Threads + Sync, J: Send + Drop, K: Send + Drop, T: Tas
 /// The last pair.
 fn pop_pair<J: Drop, K: Drop, T: Task<J, K>>(
     _task: &T,
+    _last: &T,
     jobs: &mut Vec<J>,
     ears: &mut Vec<K>,
 ) -> Option<(J, K)>
-    requires { Paired (T.takes _task.now) jobs.old.items ears.old.items }
-    ensures some { IfSome result (λ pair. HasPopped (T.takes _task.now) jobs.old.items ears.old.items pair.0 pair.1 jobs.new.items ears.new.items) }
+    requires other { Paired (T.takes _task.now) jobs.old.items ears.old.items }
+    requires last { Paired (T.takes _last.now) jobs.old.items ears.old.items }
+    ensures some { IfSome result (λ pair. HasPopped (T.takes _task.now) (T.takes _last.now) jobs.old.items ears.old.items pair.0 pair.1 jobs.new.items ears.new.items) }
     ensures none { IfNone result ((jobs.old.items ≡ []) × (ears.old.items ≡ []) × (jobs.new.items ≡ []) × (ears.new.items ≡ [])) }
     ensures room { (vec_capacity jobs.new ≡ vec_capacity jobs.old) × (vec_capacity ears.new ≡ vec_capacity ears.old) }
 {

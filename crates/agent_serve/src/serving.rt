@@ -5,8 +5,10 @@ ghost use Rattle.agent_serve.specs.Serves.{ServesOne, link_of};
 
 use crate::GatedPrompter;
 use agent_commands::SessionEnd;
-use agent_ports::{Clock, Dice, Gate, GatePoint, Host, Keys, Launcher, Link, Parts, SessionId};
-use agent_session::serve_session;
+use agent_origin::{Door, serve_door};
+use agent_ports::{
+    Clock, Dice, Gate, GatePoint, Host, Keys, Launcher, Link, Parts, SessionId, TrustFile,
+};
 use counted_lock::{Counted, CountedDesk, CountedPass};
 use pinentry_client::{Pinentry, Word};
 use session_options::Rules;
@@ -14,7 +16,8 @@ use std::alloc::Global;
 use std::sync::Wait;
 use std::time;
 
-/// Serves one session on a link, with parts of its own from the host, and gives the pass back. It may wait for the turns of other sessions.
+/// Serves one session on a link that came in by this door, with parts of its own from the host, and gives the pass back. It may wait for the turns
+/// of other sessions.
 pub fn serve_one<W: Wait + time::Clock, H: Host>(
     rt: &W,
     alloc: Global,
@@ -24,29 +27,34 @@ pub fn serve_one<W: Wait + time::Clock, H: Host>(
     pass: CountedPass,
     session: SessionId,
     link: &mut H::Link,
+    door: Door,
 ) -> (CountedPass, SessionEnd)
 where
     H::Launcher: Drop,
     H::Clock: Drop,
     H::Dice: Drop,
     H::Keys: Drop,
+    H::Trust: Drop,
     requires own { pass.table ≡ counted.now.table }
     requires by { session.pass ≡ pass.number }
     requires later { pass.sessions ≤ session.count }
     requires numbered { session.count < 2 ^ 64 - 1 }
-    ensures { ServesOne (record { launches = H.Launcher.launches; readings = H.Clock.readings; draws = H.Dice.draws; keys = H.Keys.keys })
-        rules.now session (link_of (H.Link.input link.old) (H.Link.output link.old)) pass result.1
+    ensures { ServesOne (record { launches = H.Launcher.launches; readings = H.Clock.readings; draws = H.Dice.draws; keys = H.Keys.keys }) H.Trust.trust
+        rules.now door session (link_of (H.Link.input link.old) (H.Link.output link.old)) pass result.1
         (link_of (H.Link.input link.new) (H.Link.output link.new)) result.0 }
 {
     let gate = host.gate();
     gate.at(GatePoint::Began, session);
     let parts = host.session_parts();
-    let served = serve_with(rt, alloc, rules, gate, parts, counted, pass, session, link);
+    let trust = host.trust();
+    let served = serve_with(
+        rt, alloc, rules, gate, parts, trust, counted, pass, session, link, door,
+    );
     gate.at(GatePoint::Ended, session);
     served
 }
 
-/// Serves the session with these parts, which nothing was done with.
+/// Serves the session with these parts and this trust file, which nothing was done with.
 fn serve_with<
     W: Wait + time::Clock,
     G: Gate,
@@ -55,24 +63,28 @@ fn serve_with<
     C: Clock + Drop,
     R: Dice + Drop,
     K: Keys + Drop,
+    T: TrustFile + Drop,
 >(
     rt: &W,
     alloc: Global,
     rules: &Rules,
     gate: &G,
     parts: Parts<La, C, R, K>,
+    trust: T,
     counted: &Counted,
     pass: CountedPass,
     session: SessionId,
     link: &mut L,
+    door: Door,
 ) -> (CountedPass, SessionEnd)
     requires own { pass.table ≡ counted.now.table }
     requires by { session.pass ≡ pass.number }
     requires later { pass.sessions ≤ session.count }
     requires numbered { session.count < 2 ^ 64 - 1 }
     requires new { AreNew (record { launches = La.launches; readings = C.readings; draws = R.draws; keys = K.keys }) parts }
-    ensures { ServesOne (record { launches = La.launches; readings = C.readings; draws = R.draws; keys = K.keys })
-        rules.now session (link_of (L.input link.old) (L.output link.old)) pass result.1
+    requires unused { (T.trust trust).faults ≡ 0 }
+    ensures { ServesOne (record { launches = La.launches; readings = C.readings; draws = R.draws; keys = K.keys }) T.trust
+        rules.now door session (link_of (L.input link.old) (L.output link.old)) pass result.1
         (link_of (L.input link.new) (L.output link.new)) result.0 }
 {
     let Parts {
@@ -81,17 +93,20 @@ fn serve_with<
         mut dice,
         mut keys,
     } = parts;
+    let mut trust = trust;
     let pinentry = Pinentry::new(alloc, &mut launcher, copied(&rules.pinentry));
     let mut prompter = GatedPrompter::new(pinentry, gate, session);
     let mut desk = CountedDesk::new(rt, counted, pass, session, clock);
-    let end = serve_session(
+    let end = serve_door(
         alloc,
+        door,
         rules,
         link,
         &mut desk,
         &mut prompter,
         &mut keys,
         &mut dice,
+        &mut trust,
     );
     // No child is left.
     prompter.into_prompter().into_launcher();

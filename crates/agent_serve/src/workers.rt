@@ -1,12 +1,14 @@
-ghost use Rattle.std.specs.Prelude.{◌≡◌, ◌<◌, ◌≤◌, ◌-◌, ◌^◌, vec_len};
+ghost use Rattle.std.specs.Prelude.{◌≡◌, ◌<◌, ◌≤◌, ◌-◌, ◌^◌, vec_len, is_some};
 ghost use Rattle.agent_ports.specs.Listening.{NothingFailed};
 ghost use Rattle.counted_lock.specs.Passes.{AreOf};
 ghost use Rattle.agent_serve.specs.Pairs.{PairedTo};
-ghost use Rattle.agent_serve.specs.Working.{ServesLinks, ServesNext};
+ghost use Rattle.agent_serve.specs.Working.{ServesLinks, ServesNext, last_door};
+ghost use Rattle.agent_origin.specs.declared.door.Door.{Door};
 
 use crate::each::{Task, run_each};
 use crate::serving::serve_one;
 use agent_commands::SessionEnd;
+use agent_origin::Door;
 use agent_ports::{Ear, Host, Launcher, Listener, Next, SessionId};
 use counted_lock::{Counted, CountedPass};
 use session_options::Rules;
@@ -15,7 +17,7 @@ use std::sync::Wait;
 use std::thread::Threads;
 use std::time;
 
-/// What all workers share.
+/// What the workers of a listener share.
 #[derive(Drop)]
 struct Working<'a, W: Wait + time::Clock, H: Host> {
     rt: &'a W,
@@ -23,6 +25,10 @@ struct Working<'a, W: Wait + time::Clock, H: Host> {
     rules: &'a Rules,
     host: &'a H,
     listener: &'a H::Listener,
+    /// By which its links come in.
+    door: Door,
+    /// The other one, which is stopped with it.
+    other: Option<&'a H::Listener>,
     counted: &'a Counted,
 }
 
@@ -32,12 +38,13 @@ where
     H::Clock: Drop,
     H::Dice: Drop,
     H::Keys: Drop,
+    H::Trust: Drop,
 {
     /// Serves links with this pass until no more come, or the pass has no number for a further session.
     fn work(&self, pass: CountedPass, ear: H::Ear) -> (CountedPass, H::Ear)
         requires { pass.table ≡ self.now.counted.now.table }
-        ensures pass { ServesLinks (record { input = H.Link.input; output = H.Link.output; parts = record { launches = H.Launcher.launches; readings = H.Clock.readings; draws = H.Dice.draws; keys = H.Keys.keys } })
-            self.now.rules.now pass result.0 }
+        ensures pass { ServesLinks (record { input = H.Link.input; output = H.Link.output; parts = record { launches = H.Launcher.launches; readings = H.Clock.readings; draws = H.Dice.draws; keys = H.Keys.keys }; trust = H.Trust.trust })
+            self.now.rules.now self.now.door pass result.0 }
         ensures ear { H.Ear.faults ear ≤ H.Ear.faults result.1 }
     {
         let mut pass = pass;
@@ -54,13 +61,13 @@ where
         (pass, ear)
     }
 
-    /// Serves the session of one link. One that stopped the agent also stops the listener, whether or not its client stayed for the answer.
+    /// Serves the session of one link. One that stopped the agent also stops the listeners, whether or not its client stayed for the answer.
     fn serve(&self, pass: CountedPass, link: H::Link) -> CountedPass
         requires own { pass.table ≡ self.now.counted.now.table }
         requires numbered { pass.sessions < 2 ^ 64 - 1 }
         requires fresh { NothingFailed (H.Link.input link) (H.Link.output link) }
-        ensures { ServesNext (record { input = H.Link.input; output = H.Link.output; parts = record { launches = H.Launcher.launches; readings = H.Clock.readings; draws = H.Dice.draws; keys = H.Keys.keys } })
-            self.now.rules.now pass result }
+        ensures { ServesNext (record { input = H.Link.input; output = H.Link.output; parts = record { launches = H.Launcher.launches; readings = H.Clock.readings; draws = H.Dice.draws; keys = H.Keys.keys }; trust = H.Trust.trust })
+            self.now.rules.now self.now.door pass result }
     {
         let mut link = link;
         let session = SessionId {
@@ -76,12 +83,21 @@ where
             pass,
             session,
             &mut link,
+            self.door,
         );
         self.listener.done(link);
         if end == SessionEnd::Killed || pass.stopped() {
-            self.listener.stop();
+            self.stop();
         }
         pass
+    }
+
+    /// From now on no link is taken at either listener.
+    fn stop(&self) {
+        self.listener.stop();
+        if let Some(other) = self.other {
+            other.stop();
+        }
     }
 }
 
@@ -91,11 +107,17 @@ where
     H::Clock: Drop,
     H::Dice: Drop,
     H::Keys: Drop,
+    H::Trust: Drop,
 {
     ghost takes = { λ working pass ear. pass.table ≡ working.counted.now.table };
 
-    ghost did = { λ working pass ear back. ServesLinks (record { input = H.Link.input; output = H.Link.output; parts = record { launches = H.Launcher.launches; readings = H.Clock.readings; draws = H.Dice.draws; keys = H.Keys.keys } })
-        working.rules.now pass back.0 × (H.Ear.faults ear ≤ H.Ear.faults back.1) };
+    ghost did = { λ working pass ear back. ServesLinks (record {
+      input = H.Link.input;
+      output = H.Link.output;
+      parts = record { launches = H.Launcher.launches; readings = H.Clock.readings; draws = H.Dice.draws; keys = H.Keys.keys };
+      trust = H.Trust.trust;
+    })
+        working.rules.now working.door pass back.0 × (H.Ear.faults ear ≤ H.Ear.faults back.1) };
 
     fn run(&self, job: CountedPass, ear: H::Ear) -> (CountedPass, H::Ear) {
         self.work(job, ear)
@@ -103,16 +125,18 @@ where
 }
 
 /// Serves links by one worker for each pass and ear, each in a thread of its own; where no thread can be made the workers run one after
-/// another. All passes and ears come back, in their order.
+/// another. Where there is an extra listener the last worker takes its links, by the outer door, and all others take those of the first one. All
+/// passes and ears come back, in their order.
 ///
-/// A worker takes links until the listener is stopped or fails, and hands each link back whose session has ended. It stops the listener
-/// where its session has stopped the agent.
+/// A worker takes links until its listener is stopped or fails, and hands each link back whose session has ended. It stops both listeners
+/// where its session has stopped the agent, or has seen that another one did.
 pub fn run_workers<W: Threads + Wait + time::Clock + Sync, H: Host + Sync>(
     rt: &W,
     alloc: Global,
     rules: &Rules,
     host: &H,
     listener: &H::Listener,
+    extra: Option<&H::Listener>,
     counted: &Counted,
     passes: Vec<CountedPass>,
     ears: Vec<H::Ear>,
@@ -126,26 +150,41 @@ where
     H::Clock: Send + Sync + Drop,
     H::Dice: Send + Sync + Drop,
     H::Keys: Send + Sync + Drop,
-    H::Trust: Send + Sync,
+    H::Trust: Send + Sync + Drop,
     H::Gate: Send + Sync,
     requires own { AreOf counted.now.table passes.items }
     requires ears { vec_len passes ≡ vec_len ears }
     ensures own { AreOf counted.now.table result.0.items }
     ensures all { (vec_len result.0 ≡ vec_len passes) × (vec_len result.1 ≡ vec_len ears) }
-    ensures each { PairedTo (λ pass ear back. ServesLinks (record { input = H.Link.input; output = H.Link.output; parts = record { launches = H.Launcher.launches; readings = H.Clock.readings; draws = H.Dice.draws; keys = H.Keys.keys } })
-        rules.now pass back.0 × (H.Ear.faults ear ≤ H.Ear.faults back.1)) passes.items ears.items result.0.items result.1.items }
+    // What each did to its pass and its ear, by the door of its links.
+    ensures each { PairedTo (λ pass ear back. ServesLinks
+        (record { input = H.Link.input; output = H.Link.output; parts = record { launches = H.Launcher.launches; readings = H.Clock.readings; draws = H.Dice.draws; keys = H.Keys.keys }; trust = H.Trust.trust })
+        rules.now Door.Home pass back.0 × (H.Ear.faults ear ≤ H.Ear.faults back.1))
+        (λ pass ear back. ServesLinks (record { input = H.Link.input; output = H.Link.output; parts = record { launches = H.Launcher.launches; readings = H.Clock.readings; draws = H.Dice.draws; keys = H.Keys.keys }; trust = H.Trust.trust })
+        rules.now (last_door (is_some extra.entry)) pass back.0 × (H.Ear.faults ear ≤ H.Ear.faults back.1)) passes.items ears.items result.0.items result.1.items }
 {
-    run_each(
+    let home = Working {
         rt,
-        &Working {
-            rt,
-            alloc,
-            rules,
-            host,
-            listener,
-            counted,
-        },
-        passes,
-        ears,
-    )
+        alloc,
+        rules,
+        host,
+        listener,
+        door: Door::Home,
+        other: extra,
+        counted,
+    };
+    let Some(extra) = extra else {
+        return run_each(rt, &home, &home, passes, ears);
+    };
+    let outer = Working {
+        rt,
+        alloc,
+        rules,
+        host,
+        listener: extra,
+        door: Door::Outer,
+        other: Some(listener),
+        counted,
+    };
+    run_each(rt, &home, &outer, passes, ears)
 }

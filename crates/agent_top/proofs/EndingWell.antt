@@ -8,13 +8,15 @@ use Rattle.agent_commands.specs.declared.went.SessionEnd.{SessionEnd}
 use Rattle.agent_commands.specs.declared.went.SessionEnd.TheVariants.{Bye, Killed, Ended, TooLong, Spent, ReadFault, WriteFault}
 use Rattle.agent_serve.specs.Working.{HostViews}
 use Rattle.session_options.specs.declared.rules.Rules.{Rules}
-use Rattle.agent_top.specs.Completeness.{NoLinkFault, SessionEndsWell, DaemonEndsWell, over, spent, too_long, no_memory, stopped}
+use Rattle.agent_top.specs.Completeness.{NoLinkFault, SessionEndsByClient, SessionEndsWell, DaemonEndsWell, LoadEndsWell, over, spent, too_long, by_client, no_memory, stopped, done}
 use Rattle.agent_top.specs.Daemon.{RunsDaemon, summed, no_listener, status_after}
 use Rattle.agent_top.specs.Daemon as daemon
-use Rattle.agent_top.specs.Top.{Machine, RunsServer, ran, exit_number, status_of}
+use Rattle.agent_top.specs.Load.{RunsLoad, wrote, load_status}
+use Rattle.agent_top.specs.Load as load
+use Rattle.agent_top.specs.Top.{Machine, RunsSession, RunsServer, ran, exit_number, status_of}
 use Rattle.agent_top.specs.Top as top
 
-by_end : (end : SessionEnd) → (end ≡ ReadFault → ⊥) → (end ≡ WriteFault → ⊥) → SessionEndsWell (exit_number (status_of end))
+by_end : (end : SessionEnd) → (end ≡ ReadFault → ⊥) → (end ≡ WriteFault → ⊥) → SessionEndsByClient (exit_number (status_of end))
 by_end Bye unread unwritten = over
 by_end Killed unread unwritten = over
 by_end Ended unread unwritten = over
@@ -23,9 +25,12 @@ by_end Spent unread unwritten = spent
 by_end ReadFault unread unwritten = absurd (unread refl)
 by_end WriteFault unread unwritten = absurd (unwritten refl)
 
+pub ends_by_client : {rules : Rules} {before after : Machine} {number : ℕ} → RunsSession rules before number after → NoLinkFault before after → SessionEndsByClient number
+ends_by_client session still =
+    subst SessionEndsByClient (sym session.number_is) (by_end session.end (λ is. still.input (session.served.read_fault is)) (λ is. still.output (session.served.write_fault is)))
+
 pub server_ends_well : {rules : Rules} {before after : Machine} {number : ℕ} → RunsServer rules before number after → NoLinkFault before after → SessionEndsWell number
-server_ends_well (ran session) still =
-    subst SessionEndsWell (sym session.number_is) (by_end session.end (λ is. still.input (session.served.read_fault is)) (λ is. still.output (session.served.write_fault is)))
+server_ends_well (ran session) still = by_client (ends_by_client session still)
 server_ends_well top.no_memory still = no_memory
 
 by_summary : (is_stopped : Bool) (sent : Sent) → (is_stopped ≡ false → ⊥) → ((count : ℕ) → sent ≡ Failed count → ⊥) → DaemonEndsWell (exit_number (status_after is_stopped sent))
@@ -33,9 +38,18 @@ by_summary is_stopped (Failed count) runs whole = absurd (whole count refl)
 by_summary true All runs whole = stopped
 by_summary false All runs whole = absurd (runs refl)
 
-pub daemon_ends_well : {Li La C R K : Type 0} {host : HostViews Li La C R K} {rules : Rules} {listens listens_now : ℕ} {before after : Side} {number : ℕ}
+pub daemon_ends_well : {Li La C R K T : Type 0} {host : HostViews Li La C R K T} {rules : Rules} {listens listens_now : ℕ} {before after : Side} {number : ℕ}
     → RunsDaemon host rules listens before number listens_now after → ¬ Rose listens listens_now → ¬ Rose before.faults after.faults → DaemonEndsWell number
 daemon_ends_well (summed sums) heard written =
     subst DaemonEndsWell (sym sums.number_is) (by_summary sums.tally.stopped sums.sent (λ is. heard (sums.unstopped is)) (λ count is. written (sums.cut (subst IsCut (sym is) tt))))
 daemon_ends_well (no_listener rose) heard written = absurd (heard rose)
 daemon_ends_well daemon.no_memory heard written = no_memory
+
+by_line : (sent : Sent) → ((count : ℕ) → sent ≡ Failed count → ⊥) → LoadEndsWell (exit_number (load_status sent))
+by_line (Failed count) whole = absurd (whole count refl)
+by_line All whole = done
+
+pub load_ends_well : {number result : ℕ} {before after : Side} → RunsLoad number before result after → ¬ Rose before.faults after.faults → LoadEndsWell result
+load_ends_well (wrote tally sent is line number_is cut) stays =
+    subst LoadEndsWell (sym number_is) (by_line sent (λ count is. stays (cut (subst IsCut (sym is) tt))))
+load_ends_well load.no_memory stays = no_memory

@@ -1,3 +1,4 @@
+mod Answered
 mod EndingWell
 mod Ears
 mod Lifting

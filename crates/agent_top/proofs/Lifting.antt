@@ -22,8 +22,9 @@ use Rattle.agent_commands.specs.Outside.{World}
 use Rattle.assuan_server.specs.Clients.{session_lines}
 use Rattle.agent_ask.specs.Worlds.{Outside, Does, received, sent, cut, asked, not_asked, turned, further}
 use Rattle.agent_commands.specs.declared.went.SessionEnd.{SessionEnd}
-use Rattle.agent_session.proofs.Turning.{turns_lead}
-use Rattle.agent_session.specs.Sessions.{surroundings, ends_with, supply_of, ServesRules}
+use Rattle.agent_origin.proofs.Turning.{turns_lead}
+use Rattle.agent_origin.specs.Sessions.{ends_with, supply_of}
+use Rattle.agent_session.specs.Sessions.{surroundings, ServesRules}
 use Rattle.assuan_client.specs.Connections.{Connection}
 use Rattle.key_commands.specs.States.{KeyWorld}
 use Rattle.pinentry_client.specs.Dialogues.{PinentryDoes, PinentryCall}
@@ -90,9 +91,9 @@ no_some None is = refl
 no_some (Some conn) is = absurd (cc is)
 
 -- a pinentry that is shut
-shut_so : {La : Type 0} (launches : La → Launches) (rules : Rules) (pinentry : PinentryState La) → pinentry.program ≡ rules.pinentry.items
+pinentry_is_shut : {La : Type 0} (launches : La → Launches) (rules : Rules) (pinentry : PinentryState La) → pinentry.program ≡ rules.pinentry.items
     → IsShut (at_prompter (at_pinentry launches pinentry)) → at_pinentry launches pinentry ≡ no_child rules (launches pinentry.launcher)
-shut_so launches rules pinentry program shut = rw (program, shut.idle, no_some pinentry.child shut.childless) refl
+pinentry_is_shut launches rules pinentry program shut = rw (program, shut.idle, no_some pinentry.child shut.childless) refl
 
 -- what a session at the desk is for the agent
 module _ {C La : Type 0} (readings : C → Readings) (launches : La → Launches) (rules : Rules) (input output input_now output_now : Side) (desk desk_now : SoloState C)
@@ -108,7 +109,7 @@ module _ {C La : Type 0} (readings : C → Readings) (launches : La → Launches
 
   -- in the end the pinentry is shut
   idle_now : at_pinentry launches pinentry_now ≡ no_child rules (launches pinentry_now.launcher)
-  idle_now = shut_so launches rules pinentry_now (lifted.program ∙ ap (λ (p : AtPinentry). p.program) unused) shut
+  idle_now = pinentry_is_shut launches rules pinentry_now (lifted.program ∙ ap (λ (p : AtPinentry). p.program) unused) shut
 
   -- the desk as it begins
   abbrev leads_from : AtSolo → AtPinentry → AtPinentry → Type 0
@@ -116,19 +117,19 @@ module _ {C La : Type 0} (readings : C → Readings) (launches : La → Launches
       Leads (Does seen_world (supply_of input.bytes)) (ends_with input.bytes (surroundings TurnsSolo PinentryDoes input output from asks files draws)) served.events
       (ends_with served.rest (surroundings TurnsSolo PinentryDoes input_now output_now (seen readings desk_now) asks_now files_now draws_now))
 
-  leads_so : leads_from (fresh_desk (limits_of rules) (readings desk.clock)) (no_child rules (launches pinentry.launcher)) (no_child rules (launches pinentry_now.launcher))
-  leads_so =
+  session_leads : leads_from (fresh_desk (limits_of rules) (readings desk.clock)) (no_child rules (launches pinentry.launcher)) (no_child rules (launches pinentry_now.launcher))
+  session_leads =
       subst (λ (s : AtSolo). leads_from s (no_child rules (launches pinentry.launcher)) (no_child rules (launches pinentry_now.launcher))) fresh
       (subst (λ (p : AtPinentry). leads_from (seen readings desk) p (no_child rules (launches pinentry_now.launcher))) unused
       (subst (λ (p : AtPinentry). leads_from (seen readings desk) (at_pinentry launches pinentry) p) idle_now lifted.leads))
 
-  pub ran_so : (number : ℕ) → number ≡ exit_number (status_of end) → RunsServer rules (machine input output (readings desk.clock) (launches pinentry.launcher) files draws) number
+  pub session_ran : (number : ℕ) → number ≡ exit_number (status_of end) → RunsServer rules (machine input output (readings desk.clock) (launches pinentry.launcher) files draws) number
       (machine input_now output_now (readings desk_now.clock) (launches pinentry_now.launcher) files_now draws_now)
-  ran_so number is =
+  session_ran number is =
       let extends : IsExtended (limits_of rules) session (first_history ∷ []) (turns_in served.events) (seen readings desk_now).run =
-      extended (supply_of input.bytes) _ _ served.events leads_so in
+      extended (supply_of input.bytes) _ _ served.events session_leads in
       let replays : Replayed (fresh_desk (limits_of rules) (readings desk.clock)) (turns_in served.events) (seen readings desk_now) =
-      replayed (record { script = refl; nobody = refl }) (turns_lead leads_so) in
+      replayed (record { script = refl; nobody = refl }) (turns_lead session_leads) in
       let legal = extends.legal (first_legal (limits_of rules)) in
       ran (record {
         end = end;
@@ -140,7 +141,7 @@ module _ {C La : Type 0} (readings : C → Readings) (launches : La → Launches
           events = served.events;
           session = served.session;
           rest = served.rest;
-          leads = leads_so;
+          leads = session_leads;
           leaves = served.leaves;
           taken = served.taken;
           greeted = served.greeted;
@@ -169,8 +170,8 @@ module _ {C La : Type 0} (readings : C → Readings) (launches : La → Launches
         };
       })
 
-  pub lent_so : desk_now.lent ≡ desk.lent
-  lent_so = lifted.lent
+  pub clock_stays_lent : desk_now.lent ≡ desk.lent
+  clock_stays_lent = lifted.lent
 
-  pub launcher_so : pinentry_now.lent ≡ pinentry.lent
-  launcher_so = lifted.launcher
+  pub launcher_stays_lent : pinentry_now.lent ≡ pinentry.lent
+  launcher_stays_lent = lifted.launcher

@@ -16,7 +16,7 @@ use Rattle.clap.specs.Walk.{rows_after, Row, Rule, idle, settled, has_row, finis
 use Rattle.clap.specs.declared.error.Error.{Error}
 use Rattle.clap.proofs.FaultLemmas.{leaf_fault}
 use Rattle.agent_top.specs.Forms.{forms, form_of, fits, is_of_form}
-use Rattle.agent_top.specs.Words.{rules_of, rules_with, run_of, if_built, if_extra_fits}
+use Rattle.agent_top.specs.Words.{rules_of, rules_with, run_of, if_extra_fits}
 use Rattle.clap.specs.Lexer.{long_of, long_of_rest, strip_byte}
 use Rattle.clap.specs.declared.error.kind.ErrorKind.{ErrorKind}
 use Rattle.agent_top.specs.declared.words.WordsFault.{WordsFault}
@@ -342,7 +342,7 @@ all_read (setting ∷ more) fit =
     and_from (is_readable setting) (list_all is_readable more) (fit_reads setting parts.0) (all_read more parts.1)
 
 pub no_rules : (words : List (List ℕ)) → are_readable (settings words) ≡ false → rules_of words ≡ None
-no_rules words unread = ap (λ b. option_and_then if_built (option_and_then if_extra_fits (cond b (option_map (rules_with (settings words)) (run_of (settings words))) None))) (go (list_all fits (settings words) && are_distinct (settings words)) refl)
+no_rules words unread = ap (λ b. option_and_then if_extra_fits (cond b (option_map (rules_with (settings words)) (run_of (settings words))) None)) (go (list_all fits (settings words) && are_distinct (settings words)) refl)
   where
     go : (b : Bool) → (list_all fits (settings words) && are_distinct (settings words)) ≡ b → (list_all fits (settings words) && are_distinct (settings words)) ≡ false
     go false is = is

@@ -11,7 +11,8 @@ use Rattle.clap.specs.Lexer.{short_of_rest, long_of, long_of_rest, short_of, str
 use Rattle.clap.specs.Kinds.{Kinds, or_else}
 use Rattle.clap.specs.Faults.{bundle_fault, flag_word_fault, positional_fault, stray_fault, walk_fault, turn_fault, step_fault, settle_fault, use_fault, react_fault, long_fault}
 use Rattle.clap.specs.Simple.{new_shape, Shape}
-use Rattle.clap.specs.Walk.{Step, next as goes_on, trailing, long_or_other, short_or_plain, plain_word, option_word, most_values, used_by_id, at_row, more_values, arg_by_index, Held, Row, Rule, Walk, Waiting, idle, option, positional, after_flag, after_step, long_met, walked, settled, reacted, used, has_row, arg_by_long, arg_by_id}
+use Rattle.clap.specs.Walk.{Step, next as goes_on, trailing, long_or_other, short_or_plain, plain_word, option_word, most_values, used_by_id, at_row, more_values, arg_by_index, Held, Row, Rule}
+use Rattle.clap.specs.Walk.{Walk, Waiting, idle, option, positional, after_flag, after_step, long_met, walked, settled, reacted, used, has_row, arg_by_long, arg_by_id}
 use Rattle.clap.specs.declared.parser.matches.ValueSource.TheVariants.{CommandLine}
 use Rattle.clap.specs.declared.error.kind.ErrorKind.TheVariants.{ArgumentConflict}
 use Rattle.agent_top.specs.Options.{after_dashes, has_its_value, row_for, is_flag, is_plain}
@@ -364,7 +365,8 @@ module _ (rows : List (List ℕ × Form)) (dashes : list_all (λ row. dashed row
         none_both (react_fault rules false (built (this_name, Path)) (value ∷ []) h) [] ∙ ap (λ b. b && none []) (none_both (settle_fault rules false h) (use_fault false (built (this_name, Path)) (value ∷ []) (settled rules h).rows))
         ∙ and_true _ ∙ ap (λ b. none (settle_fault rules false h) && b) (uses_value this_name value Path (settled rules h).rows refl)
     turn_value waiting h (Number x y) value flag =
-        none_both (react_fault rules false (built (this_name, Number x y)) (value ∷ []) h) [] ∙ ap (λ b. b && none []) (none_both (settle_fault rules false h) (use_fault false (built (this_name, Number x y)) (value ∷ []) (settled rules h).rows))
+        none_both (react_fault rules false (built (this_name, Number x y)) (value ∷ []) h) []
+        ∙ ap (λ b. b && none []) (none_both (settle_fault rules false h) (use_fault false (built (this_name, Number x y)) (value ∷ []) (settled rules h).rows))
         ∙ and_true _ ∙ ap (λ b. none (settle_fault rules false h) && b) (uses_value this_name value (Number x y) (settled rules h).rows refl)
 
     turn_waits : (waiting : Waiting) (h : Held) (form : Form) → is_flag form ≡ false

@@ -1,5 +1,5 @@
 -- The definition of the words on worked examples, each by computation.
-use Rattle.std.specs.Prelude.{◌≡◌, ℕ, List, [], ◌∷◌, replicate, codes, Option, Some, None, refl}
+use Rattle.std.specs.Prelude.{◌≡◌, ℕ, List, [], ◌∷◌, replicate, codes, Option, Some, None, refl, true}
 use Rattle.std.specs.Option.{option_map}
 use Rattle.session_options.specs.declared.rules.Rules.{Rules}
 use Rattle.session_options.specs.declared.rules.RunMode.TheVariants.{Server, Daemon, Load}
@@ -58,9 +58,13 @@ load_is_built : field (λ r. r.run) (codes "--load=1" ∷ []) ≡ Some (Load 1)
 unfolding form_of
 load_is_built = refl
 
-extra_socket_is_not_built : rules_of (codes "--daemon" ∷ codes "--extra-socket" ∷ []) ≡ None
+extra_socket_of_a_daemon : field (λ r. r.extra) (codes "--daemon" ∷ codes "--extra-socket" ∷ []) ≡ Some true
 unfolding form_of
-extra_socket_is_not_built = refl
+extra_socket_of_a_daemon = refl
+
+no_extra_socket_of_a_server : rules_of (codes "--server" ∷ codes "--extra-socket" ∷ []) ≡ None
+unfolding form_of
+no_extra_socket_of_a_server = refl
 
 two_runs : rules_from (settings (codes "--server" ∷ codes "--daemon" ∷ [])) ≡ None
 unfolding form_of

@@ -1,5 +1,5 @@
 -- What a run of the daemon leaves, and its status. This is the project's own.
-use Rattle.std.specs.Prelude.{◌≡◌, ◌≤◌, ℕ, Bool, true, false, List, [], ◌∷◌, ◌++◌, length, codes, decimal, ⊤}
+use Rattle.std.specs.Prelude.{◌≡◌, ◌≤◌, ◌+◌, ℕ, Bool, true, false, List, [], ◌∷◌, ◌++◌, length, codes, decimal, ⊤}
 use Rattle.agent_ports.specs.Counts.{Rose}
 use Rattle.agent_ports.specs.Sides.{Side, with_bytes, sent_part, IsCut}
 use Rattle.agent_ports.specs.declared.link.Sent.{Sent}
@@ -9,7 +9,9 @@ use Rattle.cache_policy.specs.declared.tally.Tally.{Tally}
 use Rattle.counted_lock.specs.Logs.{is_stopped}
 use Rattle.counted_lock.specs.Passes.{AtCounted, AtPass, AreNewPasses, IsClosed, HasLooked}
 use Rattle.session_options.specs.declared.rules.Rules.{Rules}
-use Rattle.agent_serve.specs.Working.{HostViews, ServesLinks}
+use Rattle.agent_origin.specs.declared.door.Door.TheVariants.{Home}
+use Rattle.agent_serve.specs.Pairs.{ByPlace}
+use Rattle.agent_serve.specs.Working.{HostViews, ServesLinks, last_door}
 use Rattle.agent_top.specs.Cache.{limits_of}
 use Rattle.agent_top.specs.Top.{exit_number}
 use Rattle.agent_top.specs.declared.status.Status.{Status}
@@ -42,29 +44,35 @@ pub data PassRuns (Serves : AtPass → AtPass → Type 0) : AtPass → AtPass �
   served : {first pass now : AtPass} → PassRuns Serves first pass → Serves pass now → PassRuns Serves first now
   looked : {first pass now : AtPass} → PassRuns Serves first pass → HasLooked pass now → PassRuns Serves first now
 
--- the same of each pass of a list, in their order
-abbrev pub AllRun : (AtPass → AtPass → Type 0) → List AtPass → List AtPass → Type 0
-AllRun Serves [] [] = ⊤
-AllRun Serves (first ∷ others) (now ∷ later) = PassRuns Serves first now × AllRun Serves others later
-AllRun Serves _ _ = ⊥
+-- the same of each pass of a list, in their order, of which the last one's worker serves in a way of its own
+abbrev pub AllRun : (Other Last : AtPass → AtPass → Type 0) → List AtPass → List AtPass → Type 0
+AllRun Other Last [] [] = ⊤
+AllRun Other Last (first ∷ others) (now ∷ later) = ByPlace (PassRuns Other first now) (PassRuns Last first now) others × AllRun Other Last others later
+AllRun Other Last _ _ = ⊥
 
 -- the first pass looked, and the others are as they were
 abbrev pub FirstLooks : List AtPass → List AtPass → Type 0
 FirstLooks (first ∷ others) (now ∷ later) = HasLooked first now × (later ≡ others)
 FirstLooks _ _ = ⊥
 
+-- how many workers there are, each with a pass: one more where there is an extra listener
+abbrev pub workers_with : Bool → ℕ → ℕ
+workers_with true workers = workers + 1
+workers_with false workers = workers
+
 -- The daemon came to its end: all its passes were given back to the lock, whose run has their marks and no others, and the summary of that run
 -- was sent, whole or in part. Each pass was new, and then sessions were served at it on links of the host's, as many as came, with no turn
--- between them. Where the agent isn't stopped a call for a link has failed. No count fell.
-pub record SumsUp {Li La C R K : Type 0} (host : HostViews Li La C R K) (rules : Rules) (listens : ℕ) (before : Side) (number listens_now : ℕ) (after : Side) : Type 0 where
+-- between them. Where there is an extra listener those of the last pass came in by the outer door; all others came in at home. Where the agent
+-- isn't stopped a call for a link has failed. No count fell.
+pub record SumsUp {Li La C R K T : Type 0} (host : HostViews Li La C R K T) (rules : Rules) (listens : ℕ) (before : Side) (number listens_now : ℕ) (after : Side) : Type 0 where
   pub counted : AtCounted
   pub limits : counted.limits ≡ limits_of rules
-  pub workers : counted.passes ≡ rules.workers
+  pub workers : counted.passes ≡ workers_with rules.extra rules.workers
   pub passes : List AtPass
   pub all : length passes ≡ counted.passes
   pub began : List AtPass
   pub new : AreNewPasses counted 0 began
-  pub ran : AllRun (ServesLinks host rules) began passes
+  pub ran : AllRun (ServesLinks host rules Home) (ServesLinks host rules (last_door rules.extra)) began passes
   pub tally : Tally
   pub closed : IsClosed counted passes tally
   pub sent : Sent
@@ -75,8 +83,8 @@ pub record SumsUp {Li La C R K : Type 0} (host : HostViews Li La C R K) (rules :
   pub listens_stay : listens ≤ listens_now
   pub faults_stay : before.faults ≤ after.faults
 
--- That was done; or there was no listener, or no memory before the first link, and nothing was written.
-pub data RunsDaemon {Li La C R K : Type 0} (host : HostViews Li La C R K) (rules : Rules) (listens : ℕ) (before : Side) : ℕ → ℕ → Side → Type 0 where
+-- That was done; or a listener was wanting, or there was no memory before the first link, and nothing was written.
+pub data RunsDaemon {Li La C R K T : Type 0} (host : HostViews Li La C R K T) (rules : Rules) (listens : ℕ) (before : Side) : ℕ → ℕ → Side → Type 0 where
   summed : {number listens_now : ℕ} {after : Side} → SumsUp host rules listens before number listens_now after → RunsDaemon host rules listens before number listens_now after
   no_listener : {listens_now : ℕ} → Rose listens listens_now → RunsDaemon host rules listens before (exit_number status.ListenFault) listens_now before
   no_memory : RunsDaemon host rules listens before (exit_number status.NoMemory) listens before

@@ -20,7 +20,8 @@ use Rattle.session_options.specs.declared.rules.RunMode.TheVariants.{Server, Dae
 use Rattle.agent_ask.specs.SessionEvents.{turns_in}
 use Rattle.agent_commands.specs.declared.went.SessionEnd.{SessionEnd}
 use Rattle.agent_commands.specs.declared.went.SessionEnd.TheVariants.{Bye, Killed, Ended, TooLong, Spent, ReadFault, WriteFault}
-use Rattle.agent_session.specs.Sessions.{Surroundings, surroundings, ServesRules}
+use Rattle.agent_origin.specs.Sessions.{Surroundings}
+use Rattle.agent_session.specs.Sessions.{surroundings, ServesRules}
 use Rattle.key_commands.specs.States.{KeyWorld}
 use Rattle.pinentry_client.specs.Dialogues.{PinentryDoes}
 use Rattle.pinentry_client.specs.States.{AtPinentry, idle}

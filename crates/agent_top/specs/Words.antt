@@ -64,15 +64,6 @@ is_daemon (Load number) = false
 abbrev pub if_extra_fits : Rules → Option Rules
 if_extra_fits rules = if rules.extra && not (is_daemon rules.run) then None else Some rules
 
--- a socket for restricted sessions isn't built yet, and is refused so long
-abbrev pub if_built_for : Rules → RunMode → Option Rules
-if_built_for rules Server = Some rules
-if_built_for rules Daemon = if rules.extra then None else Some rules
-if_built_for rules (Load number) = Some rules
-
-abbrev pub if_built : Rules → Option Rules
-if_built rules = if_built_for rules rules.run
-
 -- the rules that these words mean, or none where they are refused with status 2
 abbrev pub rules_of : List (List ℕ) → Option Rules
-rules_of words = option_and_then if_built (option_and_then if_extra_fits (rules_from (settings words)))
+rules_of words = option_and_then if_extra_fits (rules_from (settings words))

@@ -1,10 +1,11 @@
-ghost use Rattle.std.specs.Prelude.{◌≡◌, ◌≤◌, ◌<◌, ◌+◌, ◌⊎◌, ◌++◌, Any, decimal, length, vec_len, vec_capacity, true};
+ghost use Rattle.std.specs.Prelude.{◌≡◌, ◌≤◌, ◌<◌, ◌+◌, ◌⊎◌, ◌++◌, Any, IfSome, IsNone, decimal, is_some, length, vec_len, vec_capacity, true};
 ghost use Rattle.agent_ports.specs.Counts.{Rose};
 ghost use Rattle.agent_ports.specs.Sides.{with_bytes, sent_part, IsCut};
 ghost use Rattle.arrayvec.specs.ArrayVec.{array_vec_len};
 ghost use Rattle.counted_lock.specs.Passes.{AreOf};
-ghost use Rattle.agent_serve.specs.Working.{ServesLinks};
-ghost use Rattle.agent_top.specs.Daemon.{RunsDaemon, AllRun, FirstLooks, summary_line, status_after, IsFirstStopped};
+ghost use Rattle.agent_origin.specs.declared.door.Door.{Door};
+ghost use Rattle.agent_serve.specs.Working.{ServesLinks, last_door};
+ghost use Rattle.agent_top.specs.Daemon.{RunsDaemon, AllRun, FirstLooks, summary_line, status_after, IsFirstStopped, workers_with};
 
 use crate::Status;
 use crate::top::limits_of;
@@ -23,10 +24,11 @@ use std::thread::Threads;
 /// More bytes than a summary has: its words, seven numbers of at most 20 digits, and a line feed.
 pub(crate) const SUMMARY_ROOM: usize = 256;
 
-/// Serves the links of the host's listener until a session stops the agent, and writes a line that says what was done.
+/// Serves the links of the host's listener until a session stops the agent, and writes a line that says what was done. Where the rules ask for
+/// an extra listener one more worker serves its links, each as a restricted session.
 ///
 /// Its answer is the status of the process: 0 where a session stopped the agent, 1 where there is no memory for the workers, 4 where the line
-/// can't be written, and 5 where there is no listener, or where it failed before the agent was stopped. Sessions that are being served when
+/// can't be written, and 5 where a listener is wanting, or where one failed before the agent was stopped. Sessions that are being served when
 /// the agent is stopped go on until their clients end them.
 pub fn run_daemon<W: Threads + Wait + rt::Clock + Sync, S: Link, H: Host + Sync>(
     rt: &W,
@@ -44,51 +46,94 @@ where
     H::Clock: Send + Sync + Drop,
     H::Dice: Send + Sync + Drop,
     H::Keys: Send + Sync + Drop,
-    H::Trust: Send + Sync,
+    H::Trust: Send + Sync + Drop,
     H::Gate: Send + Sync,
-    ensures runs { RunsDaemon (record { input = H.Link.input; output = H.Link.output; parts = record { launches = H.Launcher.launches; readings = H.Clock.readings; draws = H.Dice.draws; keys = H.Keys.keys } })
+    ensures runs { RunsDaemon (record { input = H.Link.input; output = H.Link.output; parts = record { launches = H.Launcher.launches; readings = H.Clock.readings; draws = H.Dice.draws; keys = H.Keys.keys }; trust = H.Trust.trust })
         rules.now (H.listens host.old) (S.output stdio.old) result (H.listens host.new) (S.output stdio.new) }
     ensures input { S.input stdio.new ≡ S.input stdio.old }
     ensures server { H.server host.new ≡ H.server host.old }
     ensures process { H.process host.new ≡ H.process host.old }
 {
-    let Ok((counted, passes)) = Counted::new(alloc, limits_of(rules), rules.workers) else {
+    let Ok((counted, passes)) = Counted::new(alloc, limits_of(rules), workers_of(rules)) else {
         return Status::NoMemory.number();
     };
     let Ok(room) = Vec::with_capacity(alloc, passes.len()) else {
         return Status::NoMemory.number();
     };
-    let Some(listener) = host.listen() else {
+    let Some((listener, extra)) = listeners(rules, host) else {
         return Status::ListenFault.number();
     };
-    let ears = with_ears(&listener, room, passes.len());
-    let (passes, ears) = serve_rounds(rt, alloc, rules, host, &listener, &counted, passes, ears);
+    let further = extra.as_ref();
+    let ears = with_ears(&listener, further, room, rules.workers as usize);
+    let (passes, ears) = serve_rounds(
+        rt, alloc, rules, host, &listener, further, &counted, passes, ears,
+    );
     let tally = counted.close(passes);
     drop(listener);
+    drop(extra);
     give_ears_back(host, ears);
     let sent = write_summary(stdio, &tally);
     status_after(&tally, sent).number()
 }
 
-/// An ear for each of so many workers.
-fn with_ears<L: Listener>(listener: &L, mut room: Vec<L::Ear>, count: usize) -> Vec<L::Ear>
-    requires empty { vec_len room ≡ 0 }
-    requires fits { count ≤ vec_capacity room }
-    ensures { vec_len result ≡ count }
+/// How many workers serve links: one more where there is an extra listener.
+fn workers_of(rules: &Rules) -> u32
+    ensures number { result ≡ workers_with rules.now.extra rules.now.workers }
+    ensures within { (0 < result) × (result ≤ 65) }
 {
-    for _ in 0..count {
+    if rules.extra {
+        rules.workers + 1
+    } else {
+        rules.workers
+    }
+}
+
+/// The daemon's listener, and the extra one where the rules ask for it.
+fn listeners<H: Host>(rules: &Rules, host: &mut H) -> Option<(H::Listener, Option<H::Listener>)>
+where
+    H::Listener: Drop,
+    ensures extra { IfSome result (λ made. is_some made.1 ≡ rules.now.extra) }
+    ensures failed { IsNone result → Rose (H.listens host.old) (H.listens host.new) }
+    ensures listens { H.listens host.old ≤ H.listens host.new }
+    ensures server { H.server host.new ≡ H.server host.old }
+    ensures process { H.process host.new ≡ H.process host.old }
+{
+    let listener = host.listen()?;
+    if !rules.extra {
+        return Some((listener, None));
+    }
+    let extra = host.listen_extra()?;
+    Some((listener, Some(extra)))
+}
+
+/// An ear for each of so many workers, and then one of the extra listener for its worker.
+fn with_ears<L: Listener>(
+    listener: &L,
+    extra: Option<&L>,
+    mut room: Vec<L::Ear>,
+    workers: usize,
+) -> Vec<L::Ear>
+    requires empty { vec_len room ≡ 0 }
+    requires fits { workers_with (is_some extra) workers ≤ vec_capacity room }
+    ensures { vec_len result ≡ workers_with (is_some extra.entry) workers }
+{
+    for _ in 0..workers {
         room.push_reserved(listener.ear());
+    }
+    if let Some(extra) = extra {
+        room.push_reserved(extra.ear());
     }
     room
 }
 
-/// Has the workers serve links until the agent is stopped, or the listener failed. Where they came back for another reason they begin again.
+/// Has the workers serve links until the agent is stopped, or a listener failed. Where they came back for another reason they begin again.
 fn serve_rounds<W: Threads + Wait + rt::Clock + Sync, H: Host + Sync>(
     rt: &W,
     alloc: Global,
     rules: &Rules,
     host: &H,
     listener: &H::Listener,
+    extra: Option<&H::Listener>,
     counted: &Counted,
     mut passes: Vec<CountedPass>,
     mut ears: Vec<H::Ear>,
@@ -102,19 +147,25 @@ where
     H::Clock: Send + Sync + Drop,
     H::Dice: Send + Sync + Drop,
     H::Keys: Send + Sync + Drop,
-    H::Trust: Send + Sync,
+    H::Trust: Send + Sync + Drop,
     H::Gate: Send + Sync,
     requires own { AreOf counted.now.table passes.items }
     requires ears { vec_len passes ≡ vec_len ears }
     requires some { 0 < vec_len passes }
     ensures own { AreOf counted.now.table result.0.items }
     ensures all { (vec_len result.0 ≡ vec_len passes) × (vec_len result.1 ≡ vec_len ears) }
-    ensures ran { AllRun (ServesLinks (record { input = H.Link.input; output = H.Link.output; parts = record { launches = H.Launcher.launches; readings = H.Clock.readings; draws = H.Dice.draws; keys = H.Keys.keys } }) rules.now)
+    ensures ran { AllRun (ServesLinks
+        (record { input = H.Link.input; output = H.Link.output; parts = record { launches = H.Launcher.launches; readings = H.Clock.readings; draws = H.Dice.draws; keys = H.Keys.keys }; trust = H.Trust.trust })
+        rules.now Door.Home)
+        (ServesLinks (record { input = H.Link.input; output = H.Link.output; parts = record { launches = H.Launcher.launches; readings = H.Clock.readings; draws = H.Dice.draws; keys = H.Keys.keys }; trust = H.Trust.trust })
+        rules.now (last_door (is_some extra.entry)))
         passes.items result.0.items }
     ensures end { IsFirstStopped result.0.items ⊎ Any (λ ear. 0 < H.Ear.faults ear) result.1.items }
 {
     for _ in rt.forever() {
-        (passes, ears) = run_workers(rt, alloc, rules, host, listener, counted, passes, ears);
+        (passes, ears) = run_workers(
+            rt, alloc, rules, host, listener, extra, counted, passes, ears,
+        );
         if sees_a_stop(rt, counted, &mut passes) {
             return (passes, ears);
         }

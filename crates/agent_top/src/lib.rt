@@ -1,5 +1,9 @@
 //! The agent from bytes to bytes: it reads its words, and serves a session on standard input and output or
 //! many on a socket.
+//!
+//! Begin with [`run_agent`], whose four clauses are the release guarantee (`docs/PROOFS.md` reads them): words that are refused, a server,
+//! a daemon, a load. [`read_words`] gives exactly the rules that the words mean, or none. Definitions begin in `specs/Top`, `specs/Daemon`
+//! and `specs/Words`.
 #![tactic(auto)]
 
 mod completeness;
@@ -9,7 +13,11 @@ mod status;
 mod top;
 mod words;
 
-pub use completeness::{a_daemon_without_faults_ends_well, a_server_without_faults_ends_well};
+pub use completeness::{
+    a_daemon_wants_no_memory_for_the_cache_alone, a_daemon_without_faults_ends_well,
+    a_load_without_faults_ends_well, a_server_without_faults_ends_well,
+    a_server_without_faults_is_answered, each_error_of_a_server_has_its_cause,
+};
 pub use daemon::run_daemon;
 pub use load::run_load;
 pub use status::Status;

@@ -31,7 +31,8 @@ pub(crate) const SESSION: SessionId = SessionId { pass: 0, count: 0 };
 ///
 /// Its answer is the status of the process: 0 at BYE, at KILLAGENT or at the end of the input, 1 where there is no memory for the words or the session,
 /// 2 for words that it doesn't take, 3 and 4 where a read or a write failed, 6 after 2^40 bytes, and 7 at a line of more than 1,000 bytes.
-/// With `--daemon` it is as `run_daemon` says, and with `--load` as `run_load` does.
+/// With `--daemon` it is as `run_daemon` says, and with `--load` as `run_load` does. `--extra-socket` beside `--daemon` has restricted sessions
+/// served too, at a listener of their own.
 pub fn run_agent<W: Threads + Wait + rt::Clock + Sync, S: Link, H: Host + Sync>(
     rt: &W,
     alloc: Global,
@@ -48,7 +49,7 @@ where
     H::Clock: Send + Sync + Drop,
     H::Dice: Send + Sync + Drop,
     H::Keys: Send + Sync + Drop,
-    H::Trust: Send + Sync,
+    H::Trust: Send + Sync + Drop,
     H::Gate: Send + Sync,
     requires { IsSome (H.server host.old) }
     // Words that it doesn't know, or has no memory to read: nothing is read or written.
@@ -65,7 +66,7 @@ where
     // Words for a daemon: its sessions were served and its summary was written, unless there was no listener or no memory. Nothing is read of
     // standard input, and the host keeps its parts.
     ensures daemon { IfSome (rules_of (map string_bytes words.now)) (λ rules. IfDaemon rules.run (
-        RunsDaemon (record { input = H.Link.input; output = H.Link.output; parts = record { launches = H.Launcher.launches; readings = H.Clock.readings; draws = H.Dice.draws; keys = H.Keys.keys } })
+        RunsDaemon (record { input = H.Link.input; output = H.Link.output; parts = record { launches = H.Launcher.launches; readings = H.Clock.readings; draws = H.Dice.draws; keys = H.Keys.keys }; trust = H.Trust.trust })
         (with_pid (H.process host.old) rules) (H.listens host.old) (S.output stdio.old) result (H.listens host.new) (S.output stdio.new)
         × (S.input stdio.new ≡ S.input stdio.old)
         × AreSettled (record { launches = H.Launcher.launches; readings = H.Clock.readings; draws = H.Dice.draws; keys = H.Keys.keys }) (H.server host.old) (H.server host.new))) }

@@ -3,7 +3,7 @@ ghost use Rattle.agent_top.specs.Forms.{form_of, forms, number_or, path_or};
 ghost use Rattle.agent_top.specs.Options.{are_readable, flag_in};
 ghost use Rattle.agent_top.specs.Settings.{settings};
 ghost use Rattle.agent_top.specs.Within.{IsWithin};
-ghost use Rattle.agent_top.specs.Words.{rules_of, rules_from, rules_with, run_of, if_extra_fits, if_built};
+ghost use Rattle.agent_top.specs.Words.{rules_of, rules_from, rules_with, run_of, if_extra_fits};
 
 mod forms;
 mod options;
@@ -49,7 +49,7 @@ impl fmt::Display for WordsFault {
 impl Error for WordsFault {}
 
 /// Reads the words of the command line, without the program's name, as the rules that they mean (GnuPG manual, "agent
-/// options"). `--extra-socket` is refused, since it isn't built yet.
+/// options"). `--extra-socket` is taken beside `--daemon` alone, and takes no name.
 pub fn read_words(alloc: Global, words: &[String]) -> Result<Rules, WordsFault>
     ensures rules { IfOk result (λ rules. rules_of (map string_bytes words.now) ≡ Some rules) }
     ensures bad { IfErr result (λ fault. fault ≡ WordsFault.Bad → rules_of (map string_bytes words.now) ≡ None) }
@@ -57,7 +57,6 @@ pub fn read_words(alloc: Global, words: &[String]) -> Result<Rules, WordsFault>
     let given = Given::read(alloc, words)?;
     rules_from(&given)
         .and_then(if_extra_fits)
-        .and_then(if_built)
         .ok_or(WordsFault::Bad)
 }
 
@@ -69,17 +68,6 @@ fn if_extra_fits(rules: Rules) -> Option<Rules>
         return None;
     }
     Some(rules)
-}
-
-/// The rules, where what they ask for is built. A socket for restricted sessions isn't yet.
-fn if_built(rules: Rules) -> Option<Rules>
-    ensures { result ≡ if_built rules }
-{
-    match rules.run {
-        RunMode::Server => Some(rules),
-        RunMode::Daemon => { if rules.extra { None } else { Some(rules) } }
-        RunMode::Load(_) => Some(rules),
-    }
 }
 
 /// The rules that the settings mean.

@@ -1,11 +1,12 @@
 use Rattle.std.proofs.Common.{refl}
-use Rattle.agent_serve.proofs.Lifting.{served_so}
+use Rattle.agent_serve.proofs.Lifting.{one_is_served}
 use Rattle.agent_serve.proofs.serving.serve_with.Goals as goal
 
 pub returns : goal.returns
 returns g c =
-    rw c.into_pass.ensures (served_so _ c.args.rules.now c.args.session _ _ c.args.pass c.args.parts c.new-desk.result c.serve_session-end.new.desk
-    c.new-prompter.result c.serve_session-end.new.prompter (g.K.Keys.keys c.serve_session-end.new.keys) (g.R.Dice.draws c.serve_session-end.new.dice) c.serve_session-end.result c.new-desk.ensures
+    rw c.into_pass.ensures (one_is_served _ g.T.TrustFile.trust c.args.rules.now c.args.door c.args.session _ _ c.args.pass c.args.parts c.args.trust c.new-desk.result c.serve_door-end.new.desk
+    c.new-prompter.result c.serve_door-end.new.prompter (g.K.Keys.keys c.serve_door-end.new.keys) (g.R.Dice.draws c.serve_door-end.new.dice) (g.T.TrustFile.trust c.serve_door-end.new.trust)
+    c.serve_door-end.result c.new-desk.ensures
     (rw c.new-prompter.ensures (rw (c.new-pinentry.ensures.program, c.new-pinentry.ensures.child, c.new-pinentry.ensures.ready, c.copied.ensures) refl))
-    c.requires.new (rw (c.new-prompter.ensures, c.new-pinentry.ensures.launcher) refl)
-    c.serve_session-end.ensures.serves c.serve_session-end.ensures.free c.serve_session-end.ensures.shut)
+    c.requires.new c.requires.unused (rw (c.new-prompter.ensures, c.new-pinentry.ensures.launcher) refl)
+    c.serve_door-end.ensures.serves c.serve_door-end.ensures.free c.serve_door-end.ensures.shut)

@@ -1,4 +1,5 @@
 use Rattle.std.proofs.Common.{refl, ap, ◌∙◌, arith}
+use Rattle.agent_top.proofs.Rounds.{by_flag}
 use Rattle.agent_top.proofs.Running.{listens_rose}
 use Rattle.agent_top.specs.Daemon.{summed, no_listener, no_memory}
 use Rattle.agent_top.specs.Top.{exit_number}
@@ -10,8 +11,8 @@ returns-in_default-clause-runs g c = rw c.number.ensures no_memory
 pub returns-in_default-with_capacity-clause-runs : goal.returns-in_default-with_capacity-clause-runs
 returns-in_default-with_capacity-clause-runs g c = rw c.number-in_default-with_capacity.ensures no_memory
 
-pub returns-in_default-listen-clause-runs : goal.returns-in_default-listen-clause-runs
-returns-in_default-listen-clause-runs g c = rw c.number-in_default-listen.ensures (no_listener (c.in_default-listen.ensures.failed refl))
+pub returns-in_default-listeners-clause-runs : goal.returns-in_default-listeners-clause-runs
+returns-in_default-listeners-clause-runs g c = rw c.number-in_default-listeners.ensures (no_listener (c.in_default-listeners.ensures.failed refl))
 
 pub returns-clause-runs : goal.returns-clause-runs
 returns-clause-runs g c =
@@ -19,12 +20,12 @@ returns-clause-runs g c =
     summed (record {
       counted = c.in-Ok.counted;
       limits = c.in-Ok.ensures.about.0 ∙ c.limits_of.ensures;
-      workers = c.in-Ok.ensures.about.1;
+      workers = c.in-Ok.ensures.about.1 ∙ c.workers_of.ensures.number;
       passes = r.0.items;
       all = omega (arith, c.serve_rounds-passes.ensures.all.0, c.in-Ok.ensures.all, c.in-Ok.ensures.about.1, r.0.ok);
       began = c.in-Ok.passes.items;
       new = c.in-Ok.ensures.new;
-      ran = c.serve_rounds-passes.ensures.ran;
+      ran = by_flag _ c.args.rules.now c.in-Ok.passes.items r.0.items _ _ (c.as_ref-further.ensures.variant ∙ c.in-Some.ensures.extra) c.serve_rounds-passes.ensures.ran;
       tally = c.close-tally.result;
       closed = c.close-tally.ensures;
       sent = c.write_summary-sent.result;

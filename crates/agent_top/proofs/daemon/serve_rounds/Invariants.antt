@@ -1,6 +1,8 @@
 use Rattle.std.proofs.Common.{◌≡◌, vec_len}
+use Rattle.std.specs.Prelude.{is_some}
+use Rattle.agent_origin.specs.declared.door.Door.TheVariants.{Home}
 use Rattle.counted_lock.specs.Passes.{AreOf}
-use Rattle.agent_serve.specs.Working.{ServesLinks}
+use Rattle.agent_serve.specs.Working.{ServesLinks, last_door}
 use Rattle.agent_top.specs.Daemon.{AllRun}
 use Rattle.agent_top.proofs.daemon.serve_rounds.Given as goal
 
@@ -13,5 +15,11 @@ invariant-loop g l = record {
     input = g.H.Link.Source.input;
     output = g.H.Link.Sink.output;
     parts = record { launches = g.H.Launcher.Launcher.launches; readings = g.H.Clock.Clock.readings; draws = g.H.Dice.Dice.draws; keys = g.H.Keys.Keys.keys };
-  }) l.rules) l.fn.passes.items l.passes.items;
+    trust = g.H.Trust.TrustFile.trust;
+  }) l.rules Home) (ServesLinks (record {
+    input = g.H.Link.Source.input;
+    output = g.H.Link.Sink.output;
+    parts = record { launches = g.H.Launcher.Launcher.launches; readings = g.H.Clock.Clock.readings; draws = g.H.Dice.Dice.draws; keys = g.H.Keys.Keys.keys };
+    trust = g.H.Trust.TrustFile.trust;
+  }) l.rules (last_door (is_some l.extra))) l.fn.passes.items l.passes.items;
 }

@@ -4,7 +4,8 @@ use Rattle.agent_top.proofs.top.run_agent.Goals as goal
 pub returns-in_default-clause-served : goal.returns-in_default-clause-served
 returns-in_default-clause-served g c =
     rw c.in-Ok.ensures.rules (if_server _ (rw (c.with_pid-rules.ensures, c.pid.ensures)
-    at (uses_settled (record { launches = g.H.Launcher.Launcher.launches; readings = g.H.Clock.Clock.readings; draws = g.H.Dice.Dice.draws; keys = g.H.Keys.Keys.keys }) _ _ _ _ _ _ _ _ _ c.requires c.settle.ensures.parts c.run_server.ensures.served)))
+    at (uses_settled (record { launches = g.H.Launcher.Launcher.launches; readings = g.H.Clock.Clock.readings; draws = g.H.Dice.Dice.draws; keys = g.H.Keys.Keys.keys })
+    _ _ _ _ _ _ _ _ _ c.requires c.settle.ensures.parts c.run_server.ensures.served)))
 
 pub returns-in-Err-NoMemory-clause-served : goal.returns-in-Err-NoMemory-clause-served
 returns-in-Err-NoMemory-clause-served g c =
@@ -17,6 +18,7 @@ returns-in-Err-NoMemory-clause-daemon g c =
       input = g.H.Link.Source.input;
       output = g.H.Link.Sink.output;
       parts = record { launches = g.H.Launcher.Launcher.launches; readings = g.H.Clock.Clock.readings; draws = g.H.Dice.Dice.draws; keys = g.H.Keys.Keys.keys };
+      trust = g.H.Trust.TrustFile.trust;
     }) _ _ _ _ _ _ _ c.number-in-Err-NoMemory.ensures
 
 pub returns-in-Err-NoMemory-clause-load : goal.returns-in-Err-NoMemory-clause-load

@@ -8,7 +8,8 @@ invariant-loop g l = record {
     input = g.H.Link.Source.input;
     output = g.H.Link.Sink.output;
     parts = record { launches = g.H.Launcher.Launcher.launches; readings = g.H.Clock.Clock.readings; draws = g.H.Dice.Dice.draws; keys = g.H.Keys.Keys.keys };
-  }) l.self.rules.now l.fn.pass l.pass;
+    trust = g.H.Trust.TrustFile.trust;
+  }) l.self.rules.now l.self.door l.fn.pass l.pass;
   own : l.pass.table ≡ l.fn.pass.table;
   faults : g.H.Ear.Ear.faults l.fn.ear ≤ g.H.Ear.Ear.faults l.ear;
 }

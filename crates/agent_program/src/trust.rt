@@ -1,0 +1,62 @@
+ghost use Rattle.std.specs.Prelude.{◌≡◌, None, IfOk};
+
+use crate::faults::count;
+use crate::homedir::{Homedir, NoFolder};
+use agent_ports::{TrustDone, TrustFile, TrustRead};
+use key_store::FolderTrust;
+use std::alloc::Global;
+use std::fs::{File, Files};
+
+/// The trust list of the folder that was settled. As with the keys, what reads and writes it is made for each call.
+#[derive(Drop)]
+pub struct SystemTrust<'a, R> {
+    rt: &'a R,
+    homedir: Homedir,
+    faults: u64,
+}
+
+impl<'a, R: Files<File = File>> SystemTrust<'a, R> {
+    /// The trust list of this folder.
+    pub fn new(rt: &'a R, homedir: &[u8]) -> Self
+        ensures { ⟦<SystemTrust<'a, R> as TrustFile>⟧.trust result ≡ record { file = None; faults = 0 } }
+    {
+        let mut settled = Homedir::new();
+        settled.settle(homedir);
+        SystemTrust {
+            rt,
+            homedir: settled,
+            faults: 0,
+        }
+    }
+
+    fn folder(&self, alloc: Global) -> Result<FolderTrust<'a, R>, NoFolder>
+        ensures { IfOk result (λ folder. ⟦<FolderTrust<'a, R> as TrustFile>⟧.trust folder ≡ record { file = None; faults = 0 }) }
+    {
+        let path = self.homedir.path().ok_or(NoFolder::Failed)?;
+        FolderTrust::new(self.rt, alloc, path).map_err(|_| NoFolder::NoMemory)
+    }
+}
+
+impl<R: Files<File = File>> TrustFile for SystemTrust<'_, R> {
+    ghost trust = { λ t. record { file = None; faults = t.faults } };
+
+    fn read(&mut self, alloc: Global) -> TrustRead {
+        let answer = match self.folder(alloc) {
+            Ok(mut folder) => folder.read(alloc),
+            Err(NoFolder::NoMemory) => TrustRead::NoMemory,
+            Err(NoFolder::Failed) => TrustRead::Failed,
+        };
+        count(&mut self.faults, matches!(answer, TrustRead::Failed));
+        answer
+    }
+
+    fn replace(&mut self, alloc: Global, file: &[u8]) -> TrustDone {
+        let answer = match self.folder(alloc) {
+            Ok(mut folder) => folder.replace(alloc, file),
+            Err(NoFolder::NoMemory) => TrustDone::NoMemory,
+            Err(NoFolder::Failed) => TrustDone::Failed,
+        };
+        count(&mut self.faults, answer == TrustDone::Failed);
+        answer
+    }
+}

@@ -1,0 +1,25 @@
+ghost use Rattle.std.specs.Prelude.{◌+◌, None};
+ghost use Rattle.agent_ask.specs.SessionEvents.{turns_in};
+ghost use Rattle.agent_commands.specs.declared.went.SessionEnd.{SessionEnd as Ends};
+ghost use Rattle.agent_origin.specs.OuterRuns.{LeavesDesk};
+ghost use Rattle.agent_origin.specs.OuterTurns.{LeavesCache};
+ghost use Rattle.agent_origin.specs.declared.door.Door.TheVariants.{Outer};
+ghost use Rattle.agent_ports.specs.declared.session.SessionId.{SessionId};
+ghost use Rattle.counted_lock.specs.Passes.{AtPass};
+ghost use Rattle.counted_lock.specs.Turns.{at_counted};
+ghost use Rattle.session_options.specs.declared.rules.Rules.{Rules};
+ghost use Rattle.agent_serve.specs.Serves.{LinkSides, ServesOne};
+
+use agent_ports::Host;
+
+/// A restricted session of the daemon takes the seat for prompts of which nothing is kept, gives it back, and looks whether passphrases are cached. So its
+/// marks in the one run store and clear nothing, and none of them was given a passphrase.
+pub fn a_restricted_session_leaves_the_run<H: Host>()
+    ensures cache { (rules : Rules) (session : SessionId) (before after : LinkSides) (pass now : AtPass) (end : Ends)
+        → (serves : ServesOne (record { launches = H.Launcher.launches; readings = H.Clock.readings; draws = H.Dice.draws; keys = H.Keys.keys }) H.Trust.trust
+        rules Outer session before pass end after now) → LeavesCache serves.served.events }
+    ensures run { (rules : Rules) (session : SessionId) (before after : LinkSides) (pass now : AtPass) (end : Ends)
+        → (serves : ServesOne (record { launches = H.Launcher.launches; readings = H.Clock.readings; draws = H.Dice.draws; keys = H.Keys.keys }) H.Trust.trust
+        rules Outer session before pass end after now)
+        → LeavesDesk (at_counted (record pass { sessions = session.count + 1 }) session None) (turns_in serves.served.events) (at_counted now session None) }
+{}
