@@ -1,7 +1,9 @@
 //! The daemon over links in memory: what it answers, and with what status and summary it ends.
 
 use crate::serving::{host_of, parts, planned, preset_rules};
-use agent_ports::{ListedLinks, MemLink, MemParts, MemSink, MemSource, NoGate, PlannedLink};
+use agent_ports::{
+    HoldGate, ListListener, ListedLinks, Listener, MemLink, MemParts, MemSink, MemSource, Next,
+};
 use agent_top::run_daemon;
 use std::alloc::{AllocError, Global};
 use std::rt;
@@ -9,13 +11,18 @@ use std::sync::{Mutex, Wait};
 use std::test::Fail;
 use std::thread::Threads;
 
+/// What a client sends, and what it is answered.
+type Client = (&'static str, &'static str);
+
 /// A daemon: its links, and what comes of it.
 #[derive(Clone, Copy)]
 struct Row {
     workers: u32,
-    /// What each client sends, and what it is answered, in the order in which their sessions end. Those that aren't taken have no answer.
-    links: &'static [(&'static str, &'static str)],
-    /// The calls that fail, by their number from 0: for the listener, for a link, reads and writes of the first link, and writes of the summary.
+    /// In the order in which their sessions end. Those that aren't taken have no answer.
+    links: &'static [Client],
+    /// Those of the extra listener, where it is asked for.
+    extra: Option<&'static [Client]>,
+    /// The calls that fail, by their number from 0: for a listener, for a link, reads and writes of the first link, and writes of the summary.
     listens: &'static [u64],
     nexts: &'static [u64],
     reads: &'static [u64],
@@ -33,6 +40,7 @@ const STOPPED: &str = "marks 1 given 0 empty 0 opened 0 stored 0 cleared 0 flush
 const PLAIN: Row = Row {
     workers: 1,
     links: &[],
+    extra: None,
     listens: &[],
     nexts: &[],
     reads: &[],
@@ -44,9 +52,9 @@ const PLAIN: Row = Row {
 
 const GREETING: &str = "OK Pleased to meet you\n";
 
-const NOP: (&str, &str) = ("NOP\n", "OK Pleased to meet you\nOK\n");
+const NOP: Client = ("NOP\n", "OK Pleased to meet you\nOK\n");
 
-const KILL: (&str, &str) = (
+const KILL: Client = (
     "KILLAGENT\n",
     "OK Pleased to meet you\nOK closing connection\n",
 );
@@ -191,20 +199,79 @@ const ROWS: [Row; 15] = [
     },
 ];
 
-fn links_of(alloc: Global, row: &Row) -> Result<Vec<PlannedLink>, AllocError> {
+/// Daemons at whose first link a prompt is open until another session has ended. One that ends with status 0 has stopped both its listeners.
+const AT_TWO_DOORS: [Row; 5] = [
+    // A restricted session is served beside a prompt. It may not stop the agent: a session at home does, and no link is taken at either door.
+    Row {
+        links: &[
+            (
+                "GET_PASSPHRASE --data id1 X X X\nKILLAGENT\n",
+                "OK Pleased to meet you\nD pin\nOK\nOK closing connection\n",
+            ),
+            ("NOP\n", ""),
+        ],
+        extra: Some(&[RESTRICTED]),
+        status: 0,
+        summary: "marks 3 given 0 empty 0 opened 1 stored 1 cleared 0 flushed 0\n",
+        ..PLAIN
+    },
+    // No link comes any more at either door.
+    Row {
+        workers: 64,
+        links: &[NOP, NOP],
+        extra: Some(&[RESTRICTED, NOP]),
+        ..PLAIN
+    },
+    // Sessions at home go on where the extra listener has failed.
+    Row {
+        links: &[NOP, KILL],
+        extra: Some(&[]),
+        status: 0,
+        summary: STOPPED,
+        ..PLAIN
+    },
+    // One of the listeners is wanting: nothing is written.
+    Row {
+        links: &[("KILLAGENT\n", "")],
+        extra: Some(&[]),
+        listens: &[0],
+        summary: "",
+        ..PLAIN
+    },
+    Row {
+        links: &[("KILLAGENT\n", "")],
+        extra: Some(&[("NOP\n", "")]),
+        listens: &[1],
+        summary: "",
+        ..PLAIN
+    },
+];
+
+const RESTRICTED: Client = (
+    "RELOADAGENT\nGET_PASSPHRASE --no-ask id1\nKILLAGENT\nFOO\n",
+    "OK Pleased to meet you\nERR 67109115 Forbidden <GPG Agent>\nERR 67109115 Forbidden <GPG Agent>\nERR 67109115 Forbidden <GPG Agent>\nERR 67109139 Unknown IPC command <GPG Agent>\n",
+);
+
+/// Links with these clients, whose first has the faults of the row.
+fn links_of(alloc: Global, clients: &[Client], row: &Row) -> Result<ListedLinks, AllocError> {
     let mut links = Vec::new(alloc);
     let (mut reads, mut writes) = (row.reads, row.writes);
-    for (sent, _) in row.links.iter() {
+    for (sent, _) in clients {
         links.push(planned(alloc, sent, reads, writes)?)?;
         (reads, writes) = (&[], &[]);
     }
-    Ok(links)
+    ListedLinks::new(alloc, links, Vec::from_slice(alloc, row.nexts)?)
+}
+
+/// The clients of the extra listener.
+fn extra_of(row: &Row) -> &'static [Client] {
+    row.extra.unwrap_or(&[])
 }
 
 /// Parts for each session.
 fn sessions_of(alloc: Global, row: &Row) -> Result<Vec<MemParts>, AllocError> {
     let mut all = Vec::new(alloc);
-    for _ in row.links.iter() {
+    for _ in row.links.iter().chain(extra_of(row)) {
         all.push(parts(alloc)?)?;
     }
     Ok(all)
@@ -213,7 +280,7 @@ fn sessions_of(alloc: Global, row: &Row) -> Result<Vec<MemParts>, AllocError> {
 /// What is to come of a row: what each link is written that is taken, the summary, and the status.
 fn wanted(alloc: Global, row: &Row) -> Result<String, AllocError> {
     let mut all = String::new(alloc);
-    for (_, answered) in row.links.iter() {
+    for (_, answered) in row.links.iter().chain(extra_of(row)) {
         all.push_str(answered)?;
     }
     format!(in alloc; "{all}{}{}", row.summary, row.status)
@@ -224,21 +291,25 @@ fn outcome<W: Threads + Wait + rt::Clock + Sync>(
     rt: &W,
     alloc: Global,
     row: &Row,
+    links: &Mutex<ListedLinks>,
+    extra: &Mutex<ListedLinks>,
+    gate: HoldGate,
 ) -> Result<String, AllocError> {
-    let nexts = Vec::from_slice(alloc, row.nexts)?;
     let listens = Vec::from_slice(alloc, row.listens)?;
     let summaries = Vec::from_slice(alloc, row.summaries)?;
-    let links = Mutex::new(ListedLinks::new(alloc, links_of(alloc, row)?, nexts)?);
     let sessions = sessions_of(alloc, row)?;
-    let mut host = host_of(rt, alloc, &links, sessions, listens, NoGate)?;
+    let further = row.extra.map(|_| extra);
+    let mut host = host_of(rt, alloc, links, further, sessions, listens, gate)?;
     let source = MemSource::new(Vec::new(alloc), 1, Vec::new(alloc));
     let mut stdio = MemLink::new(source, MemSink::new(alloc, 0, summaries));
     let mut rules = preset_rules();
     rules.workers = row.workers.clamp(1, 64);
+    rules.extra = row.extra.is_some();
     let status = run_daemon(rt, alloc, &rules, &mut stdio, &mut host);
-    let answered = answered_text(rt, alloc, &links)?;
+    let answered = answered_text(rt, alloc, links)?;
+    let further = answered_text(rt, alloc, extra)?;
     let summary = String::from_utf8_lossy(alloc, stdio.written())?;
-    format!(in alloc; "{answered}{summary}{status}")
+    format!(in alloc; "{answered}{further}{summary}{status}")
 }
 
 /// What the links were written whose sessions have ended.
@@ -256,11 +327,36 @@ fn answered_text<W: Wait>(
     Ok(all)
 }
 
+/// Whether no link is given any more since the listener was stopped.
+fn is_stopped<W: Wait>(rt: &W, links: &Mutex<ListedLinks>) -> bool {
+    let listener = ListListener::new(rt, links);
+    matches!(listener.next(&mut listener.ear()), Next::Stopped)
+}
+
 #[test]
 fn daemons_end_as_their_rows_say(rt: HostRuntime) -> Result<(), Fail> {
+    let alloc = rt.alloc();
     for row in ROWS {
-        let got = outcome(&rt, rt.alloc(), &row)?;
-        assert_eq!(rt; got, wanted(rt.alloc(), &row)?);
+        let links = Mutex::new(links_of(alloc, row.links, &row)?);
+        let extra = Mutex::new(links_of(alloc, extra_of(&row), &row)?);
+        let gate = HoldGate::new(0);
+        let got = outcome(&rt, alloc, &row, &links, &extra, gate)?;
+        assert_eq!(rt; got, wanted(alloc, &row)?);
+    }
+    Ok(())
+}
+
+#[test]
+fn restricted_sessions_are_served_at_a_door_of_their_own(rt: HostRuntime) -> Result<(), Fail> {
+    let alloc = rt.alloc();
+    for row in AT_TWO_DOORS {
+        let links = Mutex::new(links_of(alloc, row.links, &row)?);
+        let extra = Mutex::new(links_of(alloc, extra_of(&row), &row)?);
+        let gate = HoldGate::new(2_000_000_000);
+        let got = outcome(&rt, alloc, &row, &links, &extra, gate)?;
+        assert_eq!(rt; got, wanted(alloc, &row)?);
+        assert_eq!(rt; is_stopped(&rt, &links), row.status == 0);
+        assert_eq!(rt; is_stopped(&rt, &extra), row.status == 0);
     }
     Ok(())
 }

@@ -10,6 +10,8 @@ mod daemon;
 #[cfg(test)]
 mod dialogues;
 #[cfg(test)]
+mod doors;
+#[cfg(test)]
 mod faults;
 #[cfg(test)]
 mod key_sessions;

@@ -1,11 +1,13 @@
 //! Sessions over links at passes of the counted lock.
 
-ghost use Rattle.std.specs.Prelude.{◌≡◌, ◌+◌, ◌<◌, ◌≤◌, length};
+ghost use Rattle.std.specs.Prelude.{◌≡◌, ◌+◌, ◌<◌, ◌≤◌, length, vec_len};
+ghost use Rattle.counted_lock.specs.Passes.{AreOf};
 
+use agent_origin::Door;
 use agent_ports::{
-    Gate, HoldGate, Host, ListClock, ListDice, ListedLinks, Listener, MapKeys, MemHost,
-    MemLauncher, MemLink, MemParts, MemSink, MemSource, NoGate, Parts, PlannedChild, PlannedLink,
-    SessionId,
+    Gate, Grip, HoldGate, Host, Launcher, ListClock, ListDice, ListedLinks, Listener,
+    MAX_KEY_FILE_LEN, MapKeys, MemHost, MemLauncher, MemLink, MemParts, MemSink, MemSource, NoGate,
+    Parts, PlannedChild, PlannedLink, SessionId,
 };
 use agent_serve::{run_workers, serve_one};
 use cache_policy::{Limits, Tally};
@@ -32,6 +34,23 @@ pub(crate) fn preset_rules() -> Rules {
     rules
 }
 
+/// A protected key, and its grip.
+const GRIP: &str = "81594C58EF1286E89015A30A5CC2072D343B3307";
+
+const KEY: &[u8] =
+    b"(21:protected-private-key(3:ecc(1:q1:Q)(9:protected20:openpgp-s2k3-ocb-aes((4:sha18: !\"#$%&'5:65536)12:()*+,-./0123)28:\x9d=\xe3\xd4\x88\x93\x844\xe0q\x15\x0bU`\xb3`\xf1\x87\xb6\xa9(j\xb2\n\x1cNtU)))";
+
+/// The keys of a machine that has one.
+fn one_key(alloc: Global) -> Result<MapKeys, AllocError> {
+    let mut keys = MapKeys::new(alloc, Vec::new(alloc));
+    if let Some(grip) = Grip::of_hex(GRIP.as_bytes())
+        && KEY.len() <= MAX_KEY_FILE_LEN
+    {
+        keys.insert(grip, Vec::from_slice(alloc, KEY)?)?;
+    }
+    Ok(keys)
+}
+
 /// A machine's parts, whose pinentry is told `pin`.
 pub(crate) fn parts(alloc: Global) -> Result<MemParts, AllocError> {
     let gives = b"OK\nD 9\nOK\nOK\nOK\nOK\nD pin\nOK\n";
@@ -45,29 +64,53 @@ pub(crate) fn parts(alloc: Global) -> Result<MemParts, AllocError> {
         launcher: MemLauncher::new(alloc, vec![in alloc; child]?, Vec::new(alloc)),
         clock: ListClock::new(Vec::new(alloc)),
         dice: ListDice::new(Vec::new(alloc), Vec::new(alloc)),
-        keys: MapKeys::new(alloc, Vec::new(alloc)),
+        keys: one_key(alloc)?,
     })
 }
 
-/// At which pass a session is, what its client sends, and what that is answered.
-type Row = (usize, &'static str, &'static str);
+/// At which pass a session is, the door that it came in by, what its client sends, and what that is answered.
+type Row = (usize, Door, &'static str, &'static str);
 
 const ROWS: [Row; 4] = [
     (
         0,
+        Door::Home,
         "PRESET_PASSPHRASE id1 -1 736563726574\n",
         "OK Pleased to meet you\nOK\n",
     ),
     (
         1,
+        Door::Home,
         "GET_PASSPHRASE --no-ask --data id1\n",
         "OK Pleased to meet you\nD secret\nOK\n",
     ),
-    (2, "RELOADAGENT\n", "OK Pleased to meet you\nOK\n"),
+    (
+        2,
+        Door::Home,
+        "RELOADAGENT\n",
+        "OK Pleased to meet you\nOK\n",
+    ),
     (
         1,
+        Door::Home,
         "GET_PASSPHRASE --no-ask --data id1\n",
         "OK Pleased to meet you\nERR 67108922 No data <GPG Agent>\n",
+    ),
+];
+
+/// A key's passphrase is kept at home, and a restricted session learns of that alone.
+const RESTRICTED: [Row; 2] = [
+    (
+        0,
+        Door::Home,
+        "PRESET_PASSPHRASE 81594C58EF1286E89015A30A5CC2072D343B3307 -1 61\n",
+        "OK Pleased to meet you\nOK\n",
+    ),
+    (
+        1,
+        Door::Outer,
+        "RELOADAGENT\nGET_PASSPHRASE --no-ask id1\nFOO\nKEYINFO 81594C58EF1286E89015A30A5CC2072D343B3307\nKILLAGENT\n",
+        "OK Pleased to meet you\nERR 67109115 Forbidden <GPG Agent>\nERR 67109115 Forbidden <GPG Agent>\nERR 67109139 Unknown IPC command <GPG Agent>\nS KEYINFO 81594C58EF1286E89015A30A5CC2072D343B3307 D - - 1 P - - -\nOK\nERR 67109115 Forbidden <GPG Agent>\n",
     ),
 ];
 
@@ -95,6 +138,7 @@ fn served<W: Wait + Clock>(
     host: &MemHost<'_, W, NoGate>,
     counted: &Counted,
     pass: CountedPass,
+    door: Door,
     link: &mut MemLink,
 ) -> CountedPass
     requires own { pass.table ≡ counted.now.table }
@@ -107,7 +151,7 @@ fn served<W: Wait + Clock>(
         count: pass.sessions(),
     };
     let rules = preset_rules();
-    let (pass, _) = serve_one(rt, alloc, &rules, host, counted, pass, session, link);
+    let (pass, _) = serve_one(rt, alloc, &rules, host, counted, pass, session, link, door);
     pass
 }
 
@@ -122,6 +166,7 @@ fn served_at<W: Wait + Clock>(
     counted: &Counted,
     passes: Three,
     whose: usize,
+    door: Door,
     link: &mut MemLink,
 ) -> Three
     requires own { (passes.0.table ≡ counted.now.table) × (passes.1.table ≡ counted.now.table) × (passes.2.table ≡ counted.now.table) }
@@ -132,15 +177,15 @@ fn served_at<W: Wait + Clock>(
     let (first, second, third) = passes;
     match whose {
         0 => {
-            let first = served(rt, alloc, host, counted, first, link);
+            let first = served(rt, alloc, host, counted, first, door, link);
             (first, second, third)
         }
         1 => {
-            let second = served(rt, alloc, host, counted, second, link);
+            let second = served(rt, alloc, host, counted, second, door, link);
             (first, second, third)
         }
         _ => {
-            let third = served(rt, alloc, host, counted, third, link);
+            let third = served(rt, alloc, host, counted, third, door, link);
             (first, second, third)
         }
     }
@@ -164,9 +209,9 @@ fn served_rows<W: Wait + Clock>(
     let mut passes = passes;
     let mut wrong = None;
     for place in 0..rows.len() {
-        let (whose, _, answered) = rows[place];
+        let (whose, door, _, answered) = rows[place];
         if let Some(link) = links.get_mut(place) {
-            passes = served_at(rt, alloc, host, counted, passes, whose, link);
+            passes = served_at(rt, alloc, host, counted, passes, whose, door, link);
             if link.written() != answered.as_bytes() && wrong.is_none() {
                 wrong = Some(place);
             }
@@ -181,11 +226,13 @@ fn served_rows<W: Wait + Clock>(
 fn play<W: Wait + Clock>(rt: &W, alloc: Global, rows: &[Row]) -> Result<Option<Came>, AllocError>
     requires { length rows.now < 1000 }
 {
-    let host = MemHost::new(rt, alloc, 17, parts(alloc)?);
     let mut links = Vec::new(alloc);
-    for (_, sent, _) in rows {
+    let mut sessions = Vec::new(alloc);
+    for (_, _, sent, _) in rows {
         links.push(client(alloc, sent)?)?;
+        sessions.push(parts(alloc)?)?;
     }
+    let host = MemHost::new(rt, alloc, 17, parts(alloc)?).with_sessions(sessions, Vec::new(alloc));
     let (counted, mut all) = Counted::new(alloc, LIMITS, 3)?;
     let (Some(third), Some(second), Some(first)) = (all.pop(), all.pop(), all.pop()) else {
         return Ok(None);
@@ -230,6 +277,28 @@ fn sessions_at_three_passes_share_one_cache(rt: HostRuntime) -> Result<(), Fail>
     Ok(())
 }
 
+#[test]
+fn a_restricted_session_leaves_the_cache(rt: HostRuntime) -> Result<(), Fail> {
+    let came = Came {
+        wrong: None,
+        calls: 1,
+        front: 2,
+        sessions: 1,
+        tally: Tally {
+            marks: 2,
+            given: 0,
+            empty: 0,
+            opened: 0,
+            stored: 1,
+            cleared: 0,
+            flushed: 0,
+            stopped: false,
+        },
+    };
+    assert_eq!(rt; play(&rt, rt.alloc(), &RESTRICTED)?, Some(came));
+    Ok(())
+}
+
 /// A link whose client sends this.
 pub(crate) fn planned(
     alloc: Global,
@@ -265,11 +334,13 @@ fn written<W: Wait>(
     String::from_utf8_lossy(alloc, links.written(place).unwrap_or(b""))
 }
 
-/// A machine whose daemon has these links and parts. The calls for a listener of these numbers, from 0, fail.
+/// A machine whose daemon has these links, and where there are some those for its extra listener, and parts. The calls for a listener of these
+/// numbers, from 0, fail.
 pub(crate) fn host_of<'l, W: Wait, G: Gate + Drop>(
     rt: &'l W,
     alloc: Global,
     links: &'l Mutex<ListedLinks>,
+    extra: Option<&'l Mutex<ListedLinks>>,
     sessions: Vec<MemParts>,
     failing: Vec<u64>,
     gate: G,
@@ -278,8 +349,54 @@ pub(crate) fn host_of<'l, W: Wait, G: Gate + Drop>(
         MemHost::new(rt, alloc, 17, parts(alloc)?)
             .with_gate(gate)
             .with_sessions(sessions, Vec::new(alloc))
-            .with_links(links, None, failing),
+            .with_links(links, extra, failing),
     )
+}
+
+/// Runs the workers of a daemon that has one listener.
+fn run_at_home<'a, W: Threads + Wait + Clock + Sync, H: Host + Sync>(
+    rt: &'a W,
+    alloc: Global,
+    host: &'a H,
+    listener: &'a H::Listener,
+    counted: &'a Counted,
+    passes: Vec<CountedPass>,
+    ears: Vec<H::Ear>,
+) -> Vec<CountedPass>
+where
+    H::Link: Send + Sync,
+    H::Ear: Send + Sync + Drop,
+    H::Listener: Send + Sync,
+    H::Launcher: Send + Sync + Drop,
+    <H::Launcher as Launcher>::Child: Send + Sync,
+    H::Clock: Send + Sync + Drop,
+    H::Dice: Send + Sync + Drop,
+    H::Keys: Send + Sync + Drop,
+    H::Trust: Send + Sync + Drop,
+    H::Gate: Send + Sync,
+    requires own { AreOf counted.now.table passes.items }
+    requires ears { vec_len passes ≡ vec_len ears }
+    ensures own { AreOf counted.now.table result.items }
+    ensures all { vec_len result ≡ vec_len passes }
+{
+    let rules = preset_rules();
+    let extra: Option<&'a H::Listener> = None;
+    let (passes, _) = run_workers(
+        rt, alloc, &rules, host, listener, extra, counted, passes, ears,
+    );
+    passes
+}
+
+/// A machine whose daemon has these links alone, no call for which fails.
+fn host_at_home<'l, W: Wait, G: Gate + Drop>(
+    rt: &'l W,
+    alloc: Global,
+    links: &'l Mutex<ListedLinks>,
+    sessions: Vec<MemParts>,
+    gate: G,
+) -> Result<MemHost<'l, W, G>, AllocError> {
+    let extra: Option<&'l Mutex<ListedLinks>> = None;
+    host_of(rt, alloc, links, extra, sessions, Vec::new(alloc), gate)
 }
 
 fn run_pair<W: Threads + Wait + Clock + Sync>(
@@ -292,14 +409,13 @@ fn run_pair<W: Threads + Wait + Clock + Sync>(
     let links = Mutex::new(ListedLinks::new(alloc, coming, Vec::new(alloc))?);
     let sessions = vec![in alloc; parts(alloc)?, parts(alloc)?]?;
     let gate = HoldGate::new(2_000_000_000);
-    let mut host = host_of(rt, alloc, &links, sessions, Vec::new(alloc), gate)?;
+    let mut host = host_at_home(rt, alloc, &links, sessions, gate)?;
     let Some(listener) = host.listen() else {
         return Ok(None);
     };
     let ears = vec![in alloc; listener.ear(), listener.ear()]?;
     let (counted, passes) = Counted::new(alloc, LIMITS, 2)?;
-    let rules = preset_rules();
-    let (passes, _) = run_workers(rt, alloc, &rules, &host, &listener, &counted, passes, ears);
+    let passes = run_at_home(rt, alloc, &host, &listener, &counted, passes, ears);
     let tally = counted.close(passes);
     Ok(Some(Pair {
         first: written(rt, alloc, &links, 0)?,

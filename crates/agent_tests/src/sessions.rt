@@ -1,7 +1,9 @@
 ghost use Rattle.std.specs.Prelude.{◌≤◌, IfOk, IsSome};
 
 use crate::dialogues::DIALOGUES;
-use crate::key_sessions::{CHANGES, DESCRIPTIONS, EXPORTS, IMPORTS, LISTS, OTHERS, WITH_A_KEY};
+use crate::key_sessions::{
+    CHANGES, DESCRIPTIONS, EXPORTS, IMPORTS, LISTS, OTHERS, REFUSALS, WITH_A_KEY,
+};
 use crate::prompts::{Child, PIN, PROMPTS};
 use agent_ports::{
     Got, Grip, Host, KeyNames, KeyRead, Keys, Link, ListClock, ListDice, MAX_KEY_FILE_LEN, MapKeys,
@@ -586,6 +588,12 @@ fn passphrases_are_changed(rt: HostRuntime) -> Result<(), Fail> {
 #[test]
 fn other_sessions_on_keys_go_as_their_rows_say(rt: HostRuntime) -> Result<(), Fail> {
     assert_eq!(rt; first_wrong(&rt, rt.alloc(), OTHERS)?, None);
+    Ok(())
+}
+
+#[test]
+fn a_request_fails_alone_where_keys_or_dice_fail(rt: HostRuntime) -> Result<(), Fail> {
+    assert_eq!(rt; first_wrong(&rt, rt.alloc(), REFUSALS)?, None);
     Ok(())
 }
 

@@ -60,7 +60,17 @@ fn each_option_sets_its_field(rt: HostRuntime) -> Result<(), Fail> {
     Ok(())
 }
 
-const REFUSED: [&str; 41] = [
+#[test]
+fn a_daemon_may_serve_restricted_sessions(rt: HostRuntime) -> Result<(), Fail> {
+    let rules = read(rt.alloc(), "--extra-socket --daemon")?
+        .ok()
+        .ok_or("refused")?;
+    assert!(rt; rules.extra);
+    assert_eq!(rt; rules.run, RunMode::Daemon);
+    Ok(())
+}
+
+const REFUSED: [&str; 43] = [
     "",
     "--workers=2",
     "--server --server",
@@ -71,7 +81,9 @@ const REFUSED: [&str; 41] = [
     "--load=x",
     "--load 4294967296",
     "--server --extra-socket",
-    "--daemon --extra-socket",
+    "--load 7 --extra-socket",
+    "--daemon --extra-socket --extra-socket",
+    "--daemon --extra-socket=x",
     "--server --extra-socket=x",
     "--",
     "--server --",

@@ -1,7 +1,7 @@
 use Rattle.std.proofs.Common.{refl}
 use Rattle.assuan_server.specs.Inquiries.{Data}
-use Rattle.assuan_server.proofs.StillOpen.{closed_so}
+use Rattle.assuan_server.proofs.StillOpen.{ended_is_closed}
 use Rattle.line_tests.proofs.server.ask_and_give.Goals as goal
 
 pub give-requires : goal.give-requires
-give-requires c = closed_so (Data c.in-Secret.secret) refl refl (c.in-Secret.ensures.inquiry (λ e. cc e))
+give-requires c = ended_is_closed (Data c.in-Secret.secret) refl refl (c.in-Secret.ensures.inquiry (λ e. cc e))
