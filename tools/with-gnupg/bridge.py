@@ -1,8 +1,10 @@
-"""A socket at which each client is given an agent of its own, as `gpg-agent` has one for all."""
+"""What the checks with GnuPG talk by: a client, a socket at which each client is given an agent of its own, as `gpg-agent` has one for all, and a socket that
+is forwarded to another one."""
 import pathlib
 import socket
 import subprocess
 import threading
+import urllib.parse
 
 
 def agent_socket(home):
@@ -28,3 +30,97 @@ class Bridge:
             client, _ = self.listener.accept()
             with client:
                 subprocess.Popen(self.command, stdin=client.fileno(), stdout=client.fileno(), cwd=self.folder)
+
+
+class Client:
+    """A client of the agent, over its socket."""
+
+    def __init__(self, path):
+        self.link = socket.socket(socket.AF_UNIX)
+        self.link.connect(path)
+        self.left = b""
+        self.answer()
+
+    def line(self):
+        while b"\n" not in self.left:
+            piece = self.link.recv(65536)
+            if not piece:
+                raise EOFError
+            self.left += piece
+        line, self.left = self.left.split(b"\n", 1)
+        return line
+
+    def answer(self, data=b""):
+        """The bytes of the data lines, the status lines, and the last line. An inquiry is answered by this data."""
+        got, told = b"", []
+        while True:
+            line = self.line()
+            if line[:2] == b"D ":
+                got += urllib.parse.unquote_to_bytes(line[2:])
+            elif line[:2] == b"S ":
+                told.append(line.decode())
+            elif line[:8] == b"INQUIRE ":
+                lines = b"".join(b"D " + urllib.parse.quote_from_bytes(data[at:at + 300]).encode() + b"\n" for at in range(0, len(data), 300))
+                self.link.sendall(lines + b"END\n")
+            elif line[:1] != b"#":
+                return got, told, line.decode()
+
+    def ask(self, text, data=b""):
+        self.link.sendall(text.encode() + b"\n")
+        return self.answer(data)
+
+    def close(self):
+        self.link.close()
+
+
+class Relay:
+    """Each client of the path is one of the target, as where ssh forwards a socket, and what they say is kept."""
+
+    def __init__(self, path, target):
+        self.target, self.talks = target, []
+        self.listener = socket.socket(socket.AF_UNIX)
+        self.listener.bind(path)
+        self.listener.listen()
+        threading.Thread(target=self.serve, daemon=True).start()
+
+    def serve(self):
+        while True:
+            client, _ = self.listener.accept()
+            agent, talk = socket.socket(socket.AF_UNIX), []
+            try:
+                agent.connect(self.target)
+            except OSError:
+                client.close()
+                continue
+            self.talks.append(talk)
+            for source, sink, is_client in ((client, agent, True), (agent, client, False)):
+                threading.Thread(target=self.pump, args=(source, sink, is_client, talk), daemon=True).start()
+
+    @staticmethod
+    def pump(source, sink, is_client, talk):
+        try:
+            while piece := source.recv(65536):
+                talk.append((is_client, piece))
+                sink.sendall(piece)
+            sink.shutdown(socket.SHUT_WR)
+        except OSError:
+            # The other one is gone.
+            pass
+
+    def taken(self):
+        """The requests so far, each with the last line of its answer. They are told once."""
+        talks, self.talks = self.talks, []
+        for talk in talks:
+            request, inquires, left = None, False, {True: b"", False: b""}
+            for is_client, piece in talk:
+                *lines, left[is_client] = (left[is_client] + piece).split(b"\n")
+                for line in lines:
+                    if is_client and not inquires:
+                        request = line.decode()
+                    elif is_client:
+                        inquires = line not in (b"END", b"CAN")
+                    elif line.startswith((b"OK", b"ERR")) and request is not None:
+                        yield request, line.decode()
+                        request = None
+                    else:
+                        inquires = line.startswith(b"INQUIRE")
