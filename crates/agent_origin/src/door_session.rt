@@ -2,16 +2,17 @@
 
 ghost use Rattle.std.specs.Prelude.{◌≡◌, None};
 ghost use Rattle.agent_ask.specs.Prompters.{IsShut};
-ghost use Rattle.agent_origin.specs.DoorSessions.{door_surroundings, ServesDoor};
-ghost use Rattle.agent_origin.specs.Serving.{Helps};
+ghost use Rattle.agent_origin.specs.DoorSessions.{door_help, door_surroundings, ServesDoor};
+ghost use Rattle.agent_origin.specs.States.{SaysText};
 
 use crate::answering::{answer, refuse};
 use crate::door::{Door, allowed};
 use crate::names::{DoorCommand, TRUST_COMMANDS, door_command_named};
+use crate::reply::went_unless_cut;
 use crate::{Answers, Kept, read_trust, run_trust, serve};
 use agent_ask::Prompter;
 use agent_commands::{SessionEnd, Went, write_help};
-use agent_ports::{Dice, Keys, Link, TrustFile, WriteFault};
+use agent_ports::{Dice, Keys, Link, TrustFile};
 use assuan_line::Line;
 use assuan_server::{Code, Conn};
 use assuan_text::command_and_rest;
@@ -71,12 +72,9 @@ impl Answers for Door {
 
 /// HELP, which tells the commands on the trust list too.
 fn help<L: Link>(conn: &mut Conn<'_, L>) -> Went
-    ensures { Helps conn.old result conn.new }
+    ensures { SaysText door_help conn.old result conn.new }
 {
-    match write_help(conn, &TRUST_COMMANDS) {
-        Ok(()) => Went::On,
-        Err(WriteFault) => Went::End(SessionEnd::WriteFault),
-    }
+    went_unless_cut(Went::On, write_help(conn, &TRUST_COMMANDS))
 }
 
 /// Serves a session that came in by this door: greets, and answers request after request until the session ends. No ticket of the session is out
