@@ -5,9 +5,9 @@ use Rattle.agent_ask.specs.Further.{FurtherEnds}
 use Rattle.agent_commands.specs.States.{AnswersRequest}
 use Rattle.agent_commands.specs.Talks.{WholeOrCut, whole, cut}
 use Rattle.agent_commands.specs.declared.went.Went.{Went}
-use Rattle.agent_commands.proofs.Answering.{answered_text, cut_text}
 use Rattle.agent_ports.specs.TrustFiles.{TrustState}
 use Rattle.assuan_server.specs.Connections.{Connection}
+use Rattle.assuan_server.specs.Written.{failed}
 use Rattle.assuan_server.specs.declared.errors.Code.TheVariants.{Forbidden}
 use Rattle.assuan_text.specs.Words.{command_of}
 use Rattle.cache_policy.specs.declared.mark.MarkStep.{MarkStep}
@@ -21,14 +21,13 @@ use Rattle.agent_origin.specs.Names.{door_command_named}
 use Rattle.agent_origin.specs.OriginEvents.{Event, Session}
 use Rattle.agent_origin.specs.Origins.{session, origin_world, OriginState}
 use Rattle.agent_origin.specs.Requests.{trust_request_of}
-use Rattle.agent_origin.specs.Serving.{Refuses, Helps}
-use Rattle.agent_origin.specs.Serving as serving
 use Rattle.agent_origin.specs.SessionExchanges.{SessionExchange}
+use Rattle.agent_origin.specs.States.{SaysText}
 use Rattle.agent_origin.specs.declared.door.Door.{Door}
 use Rattle.agent_origin.specs.declared.kept.Kept.{Kept}
 use Rattle.agent_origin.specs.declared.names.DoorCommand.TheVariants.{Help, Trust}
 use Rattle.agent_origin.proofs.Mapped.{answers_as}
-use Rattle.agent_origin.proofs.Serving.{refusal_answers}
+use Rattle.agent_origin.proofs.Serving.{text_answers}
 
 module _ {D P : Type 0} (turned : D → MarkStep → Turn → D → Type 0) (prompted : P → Call → P → Type 0) (door : Door) (rules : Rules) (line : List ℕ) where
   -- the line was answered at the door
@@ -36,17 +35,15 @@ module _ {D P : Type 0} (turned : D → MarkStep → Turn → D → Type 0) (pro
   Answers before start went after now = AnswersRequest {w = origin_world turned prompted} (λ kept. DoorExchange door rules kept line) before start went after now
 
   pub forbidden_is_answered : (kept : Kept) (start : OriginState turned prompted) (now : Connection) {went : Went} → allowed door line ≡ false → start.conn.reader.ended ≡ None
-      → Refuses Forbidden start.conn went now → Answers kept start went kept (record start { conn = now })
-  forbidden_is_answered kept start now not_allowed going refuses =
-      refusal_answers {w = origin_world turned prompted} (λ k. DoorExchange door rules k line) kept start now (forbidden not_allowed) going refuses
+      → SaysText (failed Forbidden) start.conn went now → Answers kept start went kept (record start { conn = now })
+  forbidden_is_answered kept start now not_allowed going said =
+      text_answers {w = origin_world turned prompted} (λ k. DoorExchange door rules k line) kept start now (forbidden not_allowed) going said
 
   module _ (may : allowed door line ≡ true) where
     pub help_is_answered : (kept : Kept) (start : OriginState turned prompted) (now : Connection) {went : Went} → door_command_named (command_of line) ≡ Some Help → start.conn.reader.ended ≡ None
-        → Helps start.conn went now → Answers kept start went kept (record start { conn = now })
-    help_is_answered kept start now named going (serving.Helps.whole said) =
-        answered_text {w = origin_world turned prompted} (λ k. DoorExchange door rules k line) kept kept start now door_help (is_allowed may (rw named helped)) going said
-    help_is_answered kept start now named going (serving.Helps.cut why said) =
-        cut_text {w = origin_world turned prompted} (λ k. DoorExchange door rules k line) kept kept start now door_help (is_allowed may (rw named helped)) why said
+        → SaysText door_help start.conn went now → Answers kept start went kept (record start { conn = now })
+    help_is_answered kept start now named going said =
+        text_answers {w = origin_world turned prompted} (λ k. DoorExchange door rules k line) kept start now (is_allowed may (rw named helped)) going said
 
     pub trust_is_answered : (kept : Kept) {start now : OriginState turned prompted} {went : Went} → door_command_named (command_of line) ≡ Some Trust
         → AnswersRequest {w = origin_world turned prompted} {S = Unit {0}} (λ before events after went. TrustExchange rules kept.options (trust_request_of line) events went) tt start went tt now

@@ -4,6 +4,7 @@ mod Trusting
 mod Outer
 mod OuterKeys
 mod OuterTrust
+mod KnownCommands
 pub mod OuterSessions
 pub mod OuterRuns
 mod NewTrustFiles

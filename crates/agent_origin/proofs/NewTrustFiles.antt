@@ -30,7 +30,8 @@ use Rattle.agent_origin.specs.DoorSessions.{AllowedExchange, helped, trusts as o
 use Rattle.agent_origin.specs.Doors.{allowed}
 use Rattle.agent_origin.specs.NewTrustFiles.{replaced, HasConsents, HasConsentsIn}
 use Rattle.agent_origin.specs.OriginEvents.{Event, Read, Replaced, Trust, called, in_session}
-use Rattle.agent_origin.specs.Parts.{Part, goes_on, stops, returns, Refuses, refuses, Seats, opened, interrupted, UnderTicket, given_back, Agrees, consents, refused, prompts, file_in, ReadsFile, has_read, AddsEntry, added, too_long, Replaces, refusal_line, refusal_events}
+use Rattle.agent_origin.specs.Parts.{Part, goes_on, stops, returns, Refuses, refuses, Seats, opened, interrupted, UnderTicket, given_back, Agrees, consents, refused, prompts}
+use Rattle.agent_origin.specs.Parts.{file_in, ReadsFile, has_read, AddsEntry, added, too_long, Replaces, refusal_line, refusal_events}
 use Rattle.agent_origin.specs.Parts as parts
 use Rattle.agent_origin.specs.Requests.{trust_request_of}
 use Rattle.agent_origin.specs.declared.door.Door.{Door}

@@ -149,7 +149,7 @@ found_behind f word (row ∷ rows) more none =
     neither_found f row.1 (found_in_any_case word rows) (found_in_any_case word (map (λ row. (row.0, f row.1)) rows ++ more)) (found_in_any_case word more) (found_behind f word rows more)
     (str_eq_ignore_ascii_case row.0 word) none
 
-abbrev key_rule : KeyCommandName → Rule
+abbrev pub key_rule : KeyCommandName → Rule
 key_rule name.HaveKey = Always
 key_rule name.KeyInfo = OneKey
 key_rule _ = Never

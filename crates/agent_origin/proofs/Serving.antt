@@ -6,7 +6,6 @@ use Rattle.assuan_line.specs.declared.reader.Took.{Took}
 use Rattle.assuan_line.specs.declared.reader.Took.TheVariants as took
 use Rattle.assuan_server.specs.Connections.{Connection}
 use Rattle.assuan_server.specs.Requests.{NextRequest}
-use Rattle.assuan_server.specs.declared.errors.Code.{Code}
 use Rattle.assuan_server.specs.declared.errors.Code.TheVariants.{LineTooLong}
 use Rattle.assuan_server.specs.Written.{failed}
 use Rattle.agent_commands.specs.Events.{Event}
@@ -28,7 +27,8 @@ use Rattle.agent_ask.proofs.Doing.{done_none, done_then, done_said, done_cut, do
 use Rattle.assuan_server.proofs.Clients.{said_so, received_so}
 use Rattle.assuan_server.proofs.Reading.{here_going}
 use Rattle.agent_origin.specs.Sessions.{LineRelation, Leaves}
-use Rattle.agent_origin.specs.Serving.{ServesRequests, Refuses, whole, cut}
+use Rattle.agent_origin.specs.Serving.{ServesRequests}
+use Rattle.agent_origin.specs.States.{SaysText, says}
 
 leaves_part_of : (reader : Reader) (left : List ℕ) (o : Option Took) → reader.ended ≡ o → (ahead : List ℕ) × (unread reader left ≡ ahead ++ left)
 leaves_part_of reader left None is = (reader.ahead, here_going reader left is)
@@ -153,9 +153,9 @@ module _ {w : World} {S : Type 0} (exchange : LineRelation w S) (before : S) (st
             }))
             (leaves_part last.reader) (record { read = λ e. absurd (cc e); write = λ e. omega (arith, received.output_faults, stopped.rose) })
 
--- a request was refused
-pub refusal_answers : {w : World} {S : Type 0} (exchange : S → List (Event w.Further) → S → Went → Type 0) (before : S) {code : Code} (start : SessionState w)
-    (now : Connection) {went : Went} → exchange before (Sent (failed code) ∷ []) before On → start.conn.reader.ended ≡ None → Refuses code start.conn went now
+-- nothing was done for a request but to say one text
+pub text_answers : {w : World} {S : Type 0} (exchange : S → List (Event w.Further) → S → Went → Type 0) (before : S) {text : List ℕ} (start : SessionState w)
+    (now : Connection) {went : Went} → exchange before (Sent text ∷ []) before On → start.conn.reader.ended ≡ None → SaysText text start.conn went now
     → AnswersRequest exchange before start went before (record start { conn = now })
-refusal_answers exchange before {code} start now on going (whole said) = answered_text exchange before before start now (failed code) on going said
-refusal_answers exchange before {code} start now on going (cut why said) = cut_text exchange before before start now (failed code) on why said
+text_answers exchange before {text} start now on going (says (Ok tt) said) = answered_text exchange before before start now text on going said
+text_answers exchange before {text} start now on going (says (Err why) said) = cut_text exchange before before start now text on why said

@@ -1,12 +1,20 @@
 -- Requests on the trust list and what is done for them, as the GnuPG manual has them ("Agent's Assuan protocol", ISTRUSTED and MARKTRUSTED). The
 -- codes, the texts and the order of what is done are this project's own.
 use Rattle.std.specs.Prelude.{◌++◌, ℕ, Bool, true, false, List, [], ◌∷◌, codes, Option, Some, None, Ok, Err}
+use Rattle.agent_ask.specs.Events.{Call}
 use Rattle.agent_ask.specs.SessionEvents.{Sent}
 use Rattle.agent_commands.specs.Answers.{ok}
+use Rattle.agent_commands.specs.States.{AnswersRequest}
 use Rattle.agent_commands.specs.declared.went.Went.{Went}
 use Rattle.agent_commands.specs.declared.went.Went.TheVariants.{On}
+use Rattle.agent_ports.specs.KeyFiles.{KeyFiles}
+use Rattle.agent_ports.specs.Sides.{Side}
+use Rattle.agent_ports.specs.TrustFiles.{TrustState}
 use Rattle.agent_ports.specs.declared.grip.Grip.{Grip}
+use Rattle.assuan_server.specs.Connections.{Connection}
 use Rattle.assuan_server.specs.declared.errors.Code.TheVariants as code
+use Rattle.cache_policy.specs.Turns.{Turn}
+use Rattle.cache_policy.specs.declared.mark.MarkStep.{MarkStep}
 use Rattle.hex.specs.Hex.{encode_upper}
 use Rattle.session_options.specs.OptionValues.{OptionValues}
 use Rattle.session_options.specs.declared.options.PinMode.{PinMode}
@@ -14,6 +22,7 @@ use Rattle.session_options.specs.declared.options.PinMode.TheVariants as mode
 use Rattle.session_options.specs.declared.rules.Rules.{Rules}
 use Rattle.trust_list.specs.Trust.{trust}
 use Rattle.agent_origin.specs.OriginEvents.{Event}
+use Rattle.agent_origin.specs.Origins.{origin_world, origin_state}
 use Rattle.agent_origin.specs.Parts.{Part, ◌>>=◌, Returns, Refuses, Seats, UnderTicket, Agrees, ReadsFile, AddsEntry, Replaces, refusal_events, refusal_went}
 use Rattle.agent_origin.specs.declared.refusal.Refusal.{Refusal}
 use Rattle.agent_origin.specs.declared.refusal.Refusal.TheVariants.{Agent}
@@ -92,3 +101,11 @@ pub data TrustExchange (rules : Rules) (options : OptionValues) (request : Trust
   answered : (events : List Event) → Carried rules options request events (Ok tt) → TrustExchange rules options request (events ++ Sent ok ∷ []) On
   refused : (events : List Event) (why : Refusal) → Carried rules options request events (Err why)
       → TrustExchange rules options request (events ++ refusal_events why) (refusal_went why)
+
+module _ {D P : Type 0} (turned : D → MarkStep → Turn → D → Type 0) (prompted : P → Call → P → Type 0) (rules : Rules) (options : OptionValues) (request : TrustRequest) where
+  -- A request was answered, whole or in part. It has nothing to do with the keys and the dice, whatever these are.
+  abbrev pub AnswersTrust : Connection → D → P → TrustState → Went → Connection → D → P → TrustState → Type 0
+  AnswersTrust conn desk prompter trust went conn_now desk_now prompter_now trust_now =
+      (keys : KeyFiles) (dice : Side)
+      → AnswersRequest {w = origin_world turned prompted} (λ before events after went. TrustExchange rules options request events went) (tt {0})
+      (origin_state turned prompted conn desk prompter keys dice trust) went (tt {0}) (origin_state turned prompted conn_now desk_now prompter_now keys dice trust_now)

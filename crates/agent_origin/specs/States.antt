@@ -101,6 +101,10 @@ module _ {D P : Type 0} (turned : D → MarkStep → Turn → D → Type 0) (pro
 
 -- ---- replies
 
+-- a text was written, whole or in part, and the session goes on where it was whole
+pub data SaysText (text : List ℕ) (before : Connection) : Went → Connection → Type 0 where
+  says : {after : Connection} (written : Result (Unit {0}) WriteFault) → WritesText text before written after → SaysText text before (went_unless_cut On written) after
+
 -- that a request was carried out was written, or why it wasn't, and the session goes on so
 pub data RespondsTo (before : Connection) : Result (Unit {0}) Refusal → Went → Connection → Type 0 where
   carried : {after : Connection} (written : Result (Unit {0}) WriteFault) → WritesText ok before written after → RespondsTo before (Ok tt) (went_unless_cut On written) after

@@ -3,15 +3,17 @@
 ghost use Rattle.std.specs.Prelude.{◌≡◌, None};
 ghost use Rattle.agent_ask.specs.Prompters.{IsShut};
 ghost use Rattle.assuan_server.specs.Connections.{IsOpen};
+ghost use Rattle.assuan_server.specs.Written.{failed};
 ghost use Rattle.agent_commands.specs.States.{AnswersRequest};
 ghost use Rattle.key_commands.specs.States.{KeyWorld, key_state};
 ghost use Rattle.agent_origin.specs.SessionExchanges.{went_after_key, RequestExchange, SessionExchange};
-ghost use Rattle.agent_origin.specs.Serving.{Refuses};
+ghost use Rattle.agent_origin.specs.States.{SaysText};
 
 use crate::Kept;
+use crate::reply::went_unless_cut;
 use agent_ask::Prompter;
 use agent_commands::{LineRequest, Request, SessionEnd, Went, run_cache, run_quiet};
-use agent_ports::{Dice, Keys, Link, WriteFault};
+use agent_ports::{Dice, Keys, Link};
 use assuan_line::Line;
 use assuan_server::{Code, Conn, Origin};
 use cache_policy::Desk;
@@ -106,12 +108,9 @@ fn answer_whole<L: Link, D: Desk, P: Prompter, K: Keys, R: Dice>(
 
 /// Refuses a request.
 pub(crate) fn refuse<L: Link>(code: Code, conn: &mut Conn<'_, L>) -> Went
-    ensures { Refuses code conn.old result conn.new }
+    ensures { SaysText (failed code) conn.old result conn.new }
 {
-    match conn.err(code, Origin::Agent).whole() {
-        Ok(()) => Went::On,
-        Err(WriteFault) => Went::End(SessionEnd::WriteFault),
-    }
+    went_unless_cut(Went::On, conn.err(code, Origin::Agent).whole())
 }
 
 /// How the session goes on after a request on keys.

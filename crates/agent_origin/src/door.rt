@@ -32,18 +32,20 @@ pub enum Door {
     Outer,
 }
 
-/// What the line of a command has to be at the outer door.
+/// What the line of a command has to be at the outer door. Which rule a command has is this project's own.
 #[derive(Clone, Copy, Debug, PartialEq, Eq)]
 pub(crate) enum Rule {
+    /// Any line, in form or not.
     Always,
-    /// An OPTION that isn't how the session wants its prompts.
+    /// An OPTION of any name but `pinentry-mode`, by which a session says how its prompts are answered.
     NotTheMode,
-    /// A GETINFO of what the agent is and can do.
+    /// A GETINFO of what the agent is and can do: `version` or `cmd_has_option`.
     AboutTheAgent,
-    /// A GET_PASSPHRASE in form that leaves the cache out.
+    /// A GET_PASSPHRASE in form that leaves the cache out: its cache id is `X`.
     Uncached,
-    /// A KEYINFO of one key, not of all.
+    /// A KEYINFO of one key, not of all, which `--list` asks for.
     OneKey,
+    /// No line, in form or not.
     Never,
 }
 

@@ -2,21 +2,25 @@
 
 ghost use Rattle.std.specs.Prelude.{◌≡◌, None};
 ghost use Rattle.agent_ask.specs.Prompters.{IsShut};
-ghost use Rattle.agent_origin.specs.DoorSessions.{door_surroundings, ServesDoor};
-ghost use Rattle.agent_origin.specs.Serving.{Helps};
+ghost use Rattle.assuan_server.specs.Connections.{IsOpen};
+ghost use Rattle.agent_origin.specs.DoorSessions.{door_help, door_surroundings, ServesDoor};
+ghost use Rattle.agent_origin.specs.Exchanges.{AnswersTrust};
+ghost use Rattle.agent_origin.specs.Requests.{trust_request_of};
+ghost use Rattle.agent_origin.specs.States.{SaysText};
 
 use crate::answering::{answer, refuse};
 use crate::door::{Door, allowed};
 use crate::names::{DoorCommand, TRUST_COMMANDS, door_command_named};
+use crate::reply::went_unless_cut;
 use crate::{Answers, Kept, read_trust, run_trust, serve};
 use agent_ask::Prompter;
 use agent_commands::{SessionEnd, Went, write_help};
-use agent_ports::{Dice, Keys, Link, TrustFile, WriteFault};
+use agent_ports::{Dice, Keys, Link, TrustFile};
 use assuan_line::Line;
 use assuan_server::{Code, Conn};
 use assuan_text::command_and_rest;
 use cache_policy::Desk;
-use session_options::Rules;
+use session_options::{Options, Rules};
 use std::alloc::Global;
 
 impl Answers for Door {
@@ -51,19 +55,16 @@ impl Answers for Door {
         let (word, _) = command_and_rest(line.bytes());
         match door_command_named(word) {
             Some(DoorCommand::Help) => help(conn),
-            Some(DoorCommand::Trust) => {
-                let request = read_trust(line);
-                run_trust(
-                    alloc,
-                    &request,
-                    rules,
-                    &kept.options,
-                    conn,
-                    desk,
-                    prompter,
-                    trust,
-                )
-            }
+            Some(DoorCommand::Trust) => answer_trust(
+                alloc,
+                line,
+                rules,
+                &kept.options,
+                conn,
+                desk,
+                prompter,
+                trust,
+            ),
             None => answer(alloc, line, rules, kept, conn, desk, prompter, keys, dice),
         }
     }
@@ -71,12 +72,34 @@ impl Answers for Door {
 
 /// HELP, which tells the commands on the trust list too.
 fn help<L: Link>(conn: &mut Conn<'_, L>) -> Went
-    ensures { Helps conn.old result conn.new }
+    ensures { SaysText door_help conn.old result conn.new }
 {
-    match write_help(conn, &TRUST_COMMANDS) {
-        Ok(()) => Went::On,
-        Err(WriteFault) => Went::End(SessionEnd::WriteFault),
-    }
+    went_unless_cut(Went::On, write_help(conn, &TRUST_COMMANDS))
+}
+
+/// Reads a request on the trust list, and answers it.
+// Apart from the session's loop, where a place for the request would be filled anew for each line.
+#[inline(never)]
+fn answer_trust<L: Link, D: Desk, P: Prompter, T: TrustFile>(
+    alloc: Global,
+    line: &Line,
+    rules: &Rules,
+    options: &Options,
+    conn: &mut Conn<'_, L>,
+    desk: &mut D,
+    prompter: &mut P,
+    trust: &mut T,
+) -> Went
+    requires open { IsOpen conn.old }
+    requires free { (D.at desk.old).out ≡ None }
+    requires shut { IsShut (P.at prompter.old) }
+    ensures answers { AnswersTrust D.turned P.prompted rules.now options.now (trust_request_of line.now)
+        conn.old desk.old prompter.old (T.trust trust.old) result conn.new desk.new prompter.new (T.trust trust.new) }
+    ensures free { (D.at desk.new).out ≡ None }
+    ensures shut { IsShut (P.at prompter.new) }
+{
+    let request = read_trust(line);
+    run_trust(alloc, &request, rules, options, conn, desk, prompter, trust)
 }
 
 /// Serves a session that came in by this door: greets, and answers request after request until the session ends. No ticket of the session is out

@@ -1,8 +1,9 @@
-ghost use Rattle.std.specs.Prelude.{◌≡◌, ℕ, List, [], ◌∷◌, ◌++◌, true, false};
+ghost use Rattle.std.specs.Prelude.{◌≡◌, ℕ, List, [], ◌∷◌, ◌++◌, true, false, IsSome};
 ghost use Rattle.agent_ask.specs.Further.{FurtherEvent};
 ghost use Rattle.agent_ask.specs.SessionEvents.{Sent, turns_in};
 ghost use Rattle.agent_commands.specs.Events.{Event as SessionEvent};
 ghost use Rattle.agent_commands.specs.Exchanges.{LineExchange};
+ghost use Rattle.agent_commands.specs.Names.{command_named as cache_command_named};
 ghost use Rattle.agent_commands.specs.Requests.{request_of};
 ghost use Rattle.agent_commands.specs.declared.request.Request.TheVariants.{Key};
 ghost use Rattle.agent_commands.specs.declared.went.SessionEnd.{SessionEnd as Ends};
@@ -12,14 +13,16 @@ ghost use Rattle.arrayvec.specs.ArrayVec.{ArrayVec};
 ghost use Rattle.assuan_server.specs.Written.{failed};
 ghost use Rattle.assuan_server.specs.declared.errors.Code.TheVariants.{Forbidden};
 ghost use Rattle.key_commands.specs.Exchanges.{Exchange as KeyExchange};
+ghost use Rattle.key_commands.specs.Names.{command_named as key_command_named};
 ghost use Rattle.key_commands.specs.Requests.{key_request_of};
 ghost use Rattle.key_commands.specs.declared.went.KeyWent.{KeyWent};
 ghost use Rattle.key_commands.specs.declared.wrap_keys.WrapKeys.{WrapKeys};
 ghost use Rattle.session_options.specs.OptionValues.{OptionValues};
 ghost use Rattle.session_options.specs.declared.rules.Rules.{Rules};
 ghost use Rattle.agent_origin.specs.DoorSessions.{DoorExchange, ServesDoor};
-ghost use Rattle.agent_origin.specs.Doors.{allowed};
+ghost use Rattle.agent_origin.specs.Doors.{rule_named, allowed};
 ghost use Rattle.agent_origin.specs.Exchanges.{TrustExchange};
+ghost use Rattle.agent_origin.specs.Names.{command_named as trust_command_named};
 ghost use Rattle.agent_origin.specs.NewTrustFiles.{replaced, HasConsents, HasConsentsIn};
 ghost use Rattle.agent_origin.specs.OriginEvents.{Event};
 ghost use Rattle.agent_origin.specs.Origins.{origin_world};
@@ -59,6 +62,14 @@ pub fn an_outer_session_leaves_the_cache<D: Desk, P: Prompter>()
 pub fn an_outer_session_leaves_the_run<D: Desk, P: Prompter>()
     ensures { (rules : Rules) (before after : Surroundings (origin_world D.turned P.prompted)) (end : Ends)
         → (served : ServesDoor D.turned P.prompted Outer rules before end after) → LeavesDesk (D.at before.desk) (turns_in served.events) (D.at after.desk) }
+{}
+
+/// A law: each command that is known has its rule at the outer door, whichever of the agent's tables names it: that of the cache, of the keys or of the
+/// trust list. One without a rule would be allowed there as an unknown one is, and then be carried out.
+pub fn each_known_command_has_a_rule()
+    ensures cache { (word : List ℕ) → IsSome (cache_command_named word) → IsSome (rule_named word) }
+    ensures keys { (word : List ℕ) → IsSome (key_command_named word) → IsSome (rule_named word) }
+    ensures trust { (word : List ℕ) → IsSome (trust_command_named word) → IsSome (rule_named word) }
 {}
 
 /// A law: a line that isn't allowed at its session's door is answered by the one error, nothing else is done or kept, and the session goes on.

@@ -2,7 +2,7 @@
 //! agent's trust list.
 //!
 //! Begin with [`serve_door`]: a session's events lead its link, desk, prompter, keys, dice and trust file from before to after, exactly. [`allowed`]
-//! is one table of commands with their rules; a session at the outer door leaves the cache as it is ([`an_outer_session_leaves_the_run`]).
+//! is one table with a rule for each known command; a session at the outer door leaves the cache as it is ([`an_outer_session_leaves_the_run`]).
 //! [`read_trust`] and [`run_trust`] read a request on the trust list and answer it, and a new list has two consents
 //! ([`a_new_trust_file_has_two_consents`]). Definitions begin in `specs/Sessions` and `specs/DoorSessions`.
 #![tactic(auto)]
@@ -39,7 +39,7 @@ pub use kept::Kept;
 pub use laws::{
     a_forbidden_line_does_nothing, a_new_trust_file_has_two_consents,
     an_outer_session_leaves_the_cache, an_outer_session_leaves_the_run,
-    the_outer_door_leaves_the_cache,
+    each_known_command_has_a_rule, the_outer_door_leaves_the_cache,
 };
 pub use names::{TRUST_COMMANDS, TrustCommandName, trust_commands_are_as_defined};
 pub use read::read_trust;

@@ -4,10 +4,12 @@ ghost use Rattle.agent_origin.specs.declared.names.TheConstants.{TRUST_COMMANDS}
 
 use assuan_text::found_in_any_case;
 
-/// The commands on the trust list that are known.
+/// The commands on the trust list that are known (GnuPG manual, "Agent's Assuan protocol").
 #[derive(Clone, Copy, Debug, PartialEq, Eq)]
 pub enum TrustCommandName {
+    /// ISTRUSTED, which asks whether a root certificate is trusted. The user isn't asked.
     IsTrusted,
+    /// MARKTRUSTED, by which one becomes so, where the user agrees.
     MarkTrusted,
 }
 

@@ -23,7 +23,7 @@ pub(crate) fn respond<L: Link>(carried: Result<(), Refusal>, conn: &mut Conn<'_,
 }
 
 /// How a session goes on whose last write came to this: where it was whole, as it would go on.
-fn went_unless_cut(whole: Went, written: Result<(), WriteFault>) -> Went
+pub(crate) fn went_unless_cut(whole: Went, written: Result<(), WriteFault>) -> Went
     ensures { result ≡ went_unless_cut whole written }
 {
     match written {

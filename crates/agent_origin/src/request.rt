@@ -8,7 +8,7 @@ use assuan_server::Code;
 /// What a line with a command on the trust list asks for (GnuPG manual, "Agent's Assuan protocol").
 #[derive(Drop)]
 pub enum TrustRequest {
-    /// Whether the certificate of this fingerprint is trusted.
+    /// Whether the certificate of this fingerprint, a SHA-1 of 20 bytes, is trusted.
     IsTrusted {
         fingerprint: Grip,
     },
@@ -23,10 +23,12 @@ pub enum TrustRequest {
     Bad(Code),
 }
 
-/// What a certificate is trusted for.
+/// What a certificate is trusted for, by the flag of its entry (GnuPG manual, "Agent Configuration", `trustlist.txt`).
 #[derive(Clone, Copy, Debug, PartialEq, Eq)]
 pub enum TrustPurpose {
+    /// `S`: as the root of a chain of X.509 certificates.
     X509,
+    /// `P`: as an OpenPGP key.
     OpenPgp,
 }
 

@@ -2,12 +2,8 @@
 
 ghost use Rattle.std.specs.Prelude.{◌≡◌, None};
 ghost use Rattle.agent_ask.specs.Prompters.{IsShut};
-ghost use Rattle.agent_commands.specs.States.{AnswersRequest};
-ghost use Rattle.agent_ports.specs.KeyFiles.{KeyFiles};
-ghost use Rattle.agent_ports.specs.Sides.{Side};
 ghost use Rattle.assuan_server.specs.Connections.{IsOpen};
-ghost use Rattle.agent_origin.specs.Exchanges.{Carried, TrustExchange};
-ghost use Rattle.agent_origin.specs.Origins.{origin_state, origin_world};
+ghost use Rattle.agent_origin.specs.Exchanges.{AnswersTrust, Carried};
 ghost use Rattle.agent_origin.specs.States.{LeavesKeys};
 
 use crate::TrustRequest;
@@ -24,8 +20,6 @@ use session_options::{Options, Rules};
 use std::alloc::Global;
 
 /// Does what a request asks for, answers it, and says how the session goes on. No ticket is out and no prompt is open when it returns.
-// Apart from the session's loop, as `read_request` is.
-#[inline(never)]
 pub fn run_trust<L: Link, D: Desk, P: Prompter, T: TrustFile>(
     alloc: Global,
     request: &TrustRequest,
@@ -39,11 +33,8 @@ pub fn run_trust<L: Link, D: Desk, P: Prompter, T: TrustFile>(
     requires open { IsOpen conn.old }
     requires free { (D.at desk.old).out ≡ None }
     requires shut { IsShut (P.at prompter.old) }
-    // Whatever the keys and the dice are: the request has nothing to do with them.
-    ensures answers { (keys : KeyFiles) (dice : Side)
-        → AnswersRequest {w = origin_world D.turned P.prompted} (λ before events after went. TrustExchange rules.now options.now request.now events went) (tt {0})
-        (origin_state D.turned P.prompted conn.old desk.old prompter.old keys dice (T.trust trust.old)) result (tt {0})
-        (origin_state D.turned P.prompted conn.new desk.new prompter.new keys dice (T.trust trust.new)) }
+    ensures answers { AnswersTrust D.turned P.prompted rules.now options.now request.now
+        conn.old desk.old prompter.old (T.trust trust.old) result conn.new desk.new prompter.new (T.trust trust.new) }
     ensures free { (D.at desk.new).out ≡ None }
     ensures shut { IsShut (P.at prompter.new) }
 {

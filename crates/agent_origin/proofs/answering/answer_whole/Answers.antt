@@ -4,7 +4,7 @@ use Rattle.agent_commands.specs.States.{AnswersRequest}
 use Rattle.key_commands.specs.States.{KeyWorld, key_state}
 use Rattle.agent_origin.specs.SessionExchanges.{RequestExchange, cache}
 use Rattle.agent_origin.proofs.Beside.{cached_beside, keyed_beside}
-use Rattle.agent_origin.proofs.Serving.{refusal_answers}
+use Rattle.agent_origin.proofs.Serving.{text_answers}
 use Rattle.agent_origin.proofs.answering.answer_whole.Goals as goal
 
 pub returns-in-Cache-clause-answers : goal.returns-in-Cache-clause-answers
@@ -23,5 +23,5 @@ returns-in-Key-clause-answers g c =
 
 pub returns-in-Bad-clause-answers : goal.returns-in-Bad-clause-answers
 returns-in-Bad-clause-answers g c =
-    refusal_answers {w = KeyWorld g.D.Desk.turned g.P.Prompter.prompted} (λ kept. RequestExchange c.args.rules.now kept c.args.request.now) c.args.kept.now _ _
+    text_answers {w = KeyWorld g.D.Desk.turned g.P.Prompter.prompted} (λ kept. RequestExchange c.args.rules.now kept c.args.request.now) c.args.kept.now _ _
     (rw (sym c.whole.ensures ∙ c.in-Bad.is) (cache refused)) c.requires.open c.refuse.ensures

@@ -22,7 +22,7 @@ returns-in-Some-Trust-clause-answers g c =
     trust_is_answered g.D.Desk.turned g.P.Prompter.prompted c.args.self.now c.args.rules.now c.args.line.now (sym c.allowed.ensures ∙ c.if-not-allowed.false) c.args.kept.now
     (sym (c.door_command_named.ensures ∙ ap door_command_named c.command_and_rest.ensures.command ∙ ap (λ (line : List ℕ). door_command_named (command_of line)) c.bytes.ensures.bytes) ∙ c.in-Some-Trust.is
     ∙ ap (λ (d : DoorCommand). Some d) c.in-Some-Trust.field-0-is)
-    (rw c.read_trust-request.ensures at c.run_trust.ensures.answers (g.K.Keys.keys c.args.keys.now) (g.R.Dice.draws c.args.dice.now))
+    (c.answer_trust.ensures.answers (g.K.Keys.keys c.args.keys.now) (g.R.Dice.draws c.args.dice.now))
 
 pub returns-in-None-clause-answers : goal.returns-in-None-clause-answers
 returns-in-None-clause-answers g c =
