@@ -1,4 +1,4 @@
-ghost use Rattle.std.specs.Prelude.{◌≡◌, ◌≤◌, ℕ, Option, Some, None, IsSome, IsNone};
+ghost use Rattle.std.specs.Prelude.{◌≡◌, ◌≤◌, ℕ, Option, Some, None, IfSome, IsSome, IsNone};
 ghost use Rattle.agent_ports.specs.Counts.{Rose, RoseBy};
 ghost use Rattle.agent_ports.specs.HostParts.{Views, AreSettled, AreNew};
 ghost use Rattle.agent_ports.specs.declared.host.Parts.{Parts as HostParts};
@@ -40,6 +40,12 @@ pub trait Host {
     /// The number of the process.
     ghost process: { Self → ℕ };
 
+    /// Whether a listener is the daemon's own.
+    ghost is_home: { Self.Listener → Type 0 };
+
+    /// Whether it is the one for restricted sessions.
+    ghost is_extra: { Self.Listener → Type 0 };
+
     /// How many calls for a listener failed, and how many calls with the ears that came back.
     ghost listens: { Self → ℕ };
 
@@ -78,6 +84,7 @@ pub trait Host {
 
     /// The daemon's listener.
     fn listen(&mut self) -> Option<Self::Listener>
+        ensures home { IfSome result is_home }
         ensures failed { IsNone result → Rose (listens self.old) (listens self.new) }
         ensures listens { listens self.old ≤ listens self.new }
         ensures server { server self.new ≡ server self.old }
@@ -85,6 +92,7 @@ pub trait Host {
 
     /// The listener for restricted sessions.
     fn listen_extra(&mut self) -> Option<Self::Listener>
+        ensures extra { IfSome result is_extra }
         ensures failed { IsNone result → Rose (listens self.old) (listens self.new) }
         ensures listens { listens self.old ≤ listens self.new }
         ensures server { server self.new ≡ server self.old }

@@ -32,12 +32,16 @@ pub trait Listener {
 
     type Ear: Ear;
 
+    /// Which links come in at it: each listener says for itself what is so of them.
+    ghost gives: { Self → Self.Link → Type 0 };
+
     /// An ear for one more worker.
     fn ear(&self) -> Self::Ear
         ensures { Self.Ear.faults result ≡ 0 };
 
     /// Waits for the next link. Whether the listener was stopped is in no clause, since any worker may stop it at any time.
     fn next(&self, ear: &mut Self::Ear) -> Next<Self::Link>
+        ensures gives { IfLink result (λ link. gives self.now link) }
         ensures link { IfLink result (λ link. NothingFailed (Self.Link.input link) (Self.Link.output link)) }
         ensures failed { result ≡ Next.Failed → Rose (Self.Ear.faults ear.old) (Self.Ear.faults ear.new) }
         ensures faults { Self.Ear.faults ear.old ≤ Self.Ear.faults ear.new };

@@ -1,4 +1,4 @@
-ghost use Rattle.std.specs.Prelude.{◌≡◌, ◌≤◌, Some, IsNone};
+ghost use Rattle.std.specs.Prelude.{◌≡◌, ◌≤◌, Some, IfSome, IsNone, true, false};
 ghost use Rattle.agent_ports.specs.Counts.{Rose};
 
 use crate::fault_plan::FaultPlan;
@@ -120,8 +120,13 @@ impl<'l, W: Wait, G: Gate> MemHost<'l, W, G> {
         &self.homedir
     }
 
-    /// A listener for these links, where there are some and the call isn't one that is to fail.
-    fn listener_of(&mut self, links: Option<&'l Mutex<ListedLinks>>) -> Option<ListListener<'l, W>>
+    /// A listener for these links, which may be those of restricted sessions, where there are some and the call isn't one that is to fail.
+    fn listener_of(
+        &mut self,
+        links: Option<&'l Mutex<ListedLinks>>,
+        extra: bool,
+    ) -> Option<ListListener<'l, W>>
+        ensures extra { IfSome result (λ listener. listener.extra ≡ extra) }
         ensures failed { IsNone result → Rose (⟦<MemHost<'l, W, G> as Host>⟧.listens self.old) (⟦<MemHost<'l, W, G> as Host>⟧.listens self.new) }
         ensures listens { ⟦<MemHost<'l, W, G> as Host>⟧.listens self.old ≤ ⟦<MemHost<'l, W, G> as Host>⟧.listens self.new }
         ensures server { ⟦<MemHost<'l, W, G> as Host>⟧.server self.new ≡ ⟦<MemHost<'l, W, G> as Host>⟧.server self.old }
@@ -134,7 +139,7 @@ impl<'l, W: Wait, G: Gate> MemHost<'l, W, G> {
             self.plan.raise();
             return None;
         };
-        Some(ListListener::new(self.rt, links))
+        Some(ListListener::at(self.rt, links, extra))
     }
 
     /// How many calls for a listener failed, and how many with the ears that came back.
@@ -177,6 +182,10 @@ impl<'l, W: Wait, G: Gate> Host for MemHost<'l, W, G> {
 
     ghost process = { λ h. h.pid };
 
+    ghost is_home = { λ l. l.extra ≡ false };
+
+    ghost is_extra = { λ l. l.extra ≡ true };
+
     ghost listens = { λ h. h.plan.faults };
 
     /// Without memory the folder isn't kept.
@@ -218,11 +227,11 @@ impl<'l, W: Wait, G: Gate> Host for MemHost<'l, W, G> {
     }
 
     fn listen(&mut self) -> Option<ListListener<'l, W>> {
-        self.listener_of(self.links)
+        self.listener_of(self.links, false)
     }
 
     fn listen_extra(&mut self) -> Option<ListListener<'l, W>> {
-        self.listener_of(self.extra_links)
+        self.listener_of(self.extra_links, true)
     }
 
     fn ear_back(&mut self, ear: MemEar) {

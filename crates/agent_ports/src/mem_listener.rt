@@ -1,4 +1,4 @@
-ghost use Rattle.std.specs.Prelude.{◌≡◌, ◌≤◌, ◌<◌, ◌↔◌, ◌⊎◌, ◌∷◌, ◌++◌, [], true, false, IfOk, map, length, slice_get, vec_len};
+ghost use Rattle.std.specs.Prelude.{◌≡◌, ◌≤◌, ◌<◌, ◌↔◌, ◌⊎◌, ◌∷◌, ◌++◌, [], ⊤, true, false, IfOk, map, length, slice_get, vec_len};
 ghost use Rattle.std.specs.Option.{option_map};
 ghost use Rattle.agent_ports.specs.Counts.{Rose};
 ghost use Rattle.agent_ports.specs.Listening.{IfLink, MatchNext, NothingFailed};
@@ -139,11 +139,19 @@ impl ListedLinks {
 pub struct ListListener<'l, W> {
     rt: &'l W,
     links: &'l Mutex<ListedLinks>,
+    extra: bool,
 }
 
 impl<'l, W: Wait> ListListener<'l, W> {
     pub fn new(rt: &'l W, links: &'l Mutex<ListedLinks>) -> Self {
-        ListListener { rt, links }
+        ListListener::at(rt, links, false)
+    }
+
+    /// One whose links may be those of restricted sessions.
+    pub(crate) fn at(rt: &'l W, links: &'l Mutex<ListedLinks>, extra: bool) -> Self
+        ensures { result.extra ≡ extra }
+    {
+        ListListener { rt, links, extra }
     }
 }
 
@@ -151,6 +159,9 @@ impl<'l, W: Wait> Listener for ListListener<'l, W> {
     type Link = MemLink;
 
     type Ear = MemEar;
+
+    // Its links lie behind a lock, so which come next isn't known.
+    ghost gives = { λ _ _. ⊤ };
 
     fn ear(&self) -> MemEar {
         MemEar { faults: 0 }

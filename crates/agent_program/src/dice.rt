@@ -1,5 +1,6 @@
 ghost use Rattle.std.specs.Prelude.{◌≡◌, None};
 
+use crate::faults::count;
 use agent_ports::Dice;
 use std::fs::{File, Files};
 use std::io;
@@ -27,12 +28,12 @@ impl<R: Files<File = File>> Dice for SystemDice<'_, R> {
     ghost draws = { λ d. record { bytes = None; faults = d.faults } };
 
     fn fill(&mut self, out: &mut [u8]) -> bool {
-        if read_random(self.rt, out).is_ok() {
-            return true;
+        let drawn = read_random(self.rt, out).is_ok();
+        if !drawn {
+            out.fill(0);
         }
-        out.fill(0);
-        self.faults = self.faults.saturating_add(1);
-        false
+        count(&mut self.faults, !drawn);
+        drawn
     }
 }
 

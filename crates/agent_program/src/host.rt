@@ -1,5 +1,6 @@
-ghost use Rattle.std.specs.Prelude.{◌≡◌, ◌≤◌, Some, IsSome, IsNone};
+ghost use Rattle.std.specs.Prelude.{◌≡◌, ◌≤◌, Some, IsSome, IsNone, IfSome};
 ghost use Rattle.agent_ports.specs.Counts.{Rose};
+ghost use Rattle.unix_socket.specs.declared.path.SocketName.{SocketName as Named};
 
 use crate::clock::SystemClock;
 use crate::dice::SystemDice;
@@ -55,6 +56,7 @@ impl<'a, R: rt::Clock + Processes + Files<File = File> + Net> SystemHost<'a, R> 
 impl<'a, R: Files + Net> SystemHost<'a, R> {
     /// A socket of the folder that was settled. One that can't be had counts.
     fn listen_at(&mut self, name: SocketName) -> Option<SocketListener<'a, R>>
+        ensures name { IfSome result (λ listener. listener.name ≡ name) }
         ensures failed { IsNone result → Rose self.old.listens self.new.listens }
         ensures listens { self.old.listens ≤ self.new.listens }
         ensures parts { self.new.parts ≡ self.old.parts }
@@ -65,7 +67,9 @@ impl<'a, R: Files + Net> SystemHost<'a, R> {
         listener
     }
 
-    fn socket(&self, name: SocketName) -> Option<SocketListener<'a, R>> {
+    fn socket(&self, name: SocketName) -> Option<SocketListener<'a, R>>
+        ensures { IfSome result (λ listener. listener.name ≡ name) }
+    {
         SocketListener::bind(self.rt, self.alloc, self.homedir.path()?, name).ok()
     }
 }
@@ -112,6 +116,10 @@ impl<'a, R: rt::Clock + Processes + Files<File = File> + Net> Host for SystemHos
     ghost server = { λ h. h.parts };
 
     ghost process = { λ h. h.pid };
+
+    ghost is_home = { λ l. l.name ≡ Named.Standard };
+
+    ghost is_extra = { λ l. l.name ≡ Named.Extra };
 
     ghost listens = { λ h. h.listens };
 

@@ -1,6 +1,7 @@
 ghost use Rattle.std.specs.Prelude.{◌≡◌, None, IfSome, refl};
 ghost use Rattle.agent_ports.specs.Launches.{IsFresh};
 
+use crate::faults::count;
 use agent_ports::{Got, Launcher, Link, Sent, Sink, Source};
 use std::alloc::Global;
 use std::process::{Child, Command, OpenProcess, Processes, Stdio};
@@ -72,9 +73,7 @@ impl<R: rt::Clock + Processes> Launcher for PipeLauncher<'_, R> {
 
     fn launch(&mut self, program: &[u8]) -> Option<PipedChild<R::Started>> {
         let child = start(self.rt, self.alloc, program);
-        if child.is_none() {
-            self.faults = self.faults.saturating_add(1);
-        }
+        count(&mut self.faults, child.is_none());
         child
     }
 
@@ -84,9 +83,7 @@ impl<R: rt::Clock + Processes> Launcher for PipeLauncher<'_, R> {
         self.faults = self.faults.saturating_add(reads).saturating_add(writes);
         // A child that still reads, or writes, comes to the end of its pipes.
         drop(pipes);
-        if end(self.rt, &mut process).is_err() {
-            self.faults = self.faults.saturating_add(1);
-        }
+        count(&mut self.faults, end(self.rt, &mut process).is_err());
     }
 }
 

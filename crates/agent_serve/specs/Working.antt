@@ -1,5 +1,5 @@
 -- What a worker does with its pass. This is the project's own.
-use Rattle.std.specs.Prelude.{Bool, true, false}
+use Rattle.std.specs.Prelude.{Bool, true, false, Option, Some, None}
 use Rattle.agent_commands.specs.declared.went.SessionEnd.{SessionEnd}
 use Rattle.agent_ports.specs.declared.session.SessionId.{SessionId}
 use Rattle.agent_ports.specs.HostParts.{Views}
@@ -16,8 +16,13 @@ use Rattle.agent_serve.specs.Serves.{LinkSides, link_of, ServesOne}
 abbrev pub next_session : AtPass → SessionId
 next_session pass = record { pass = pass.number; count = pass.sessions }
 
--- how the links, the parts and the trust files are seen that a host has for its sessions
-pub record HostViews (Li La C R K T : Type 0) : Type 0 where
+-- how the listeners, the links, the parts and the trust files are seen that a host has for its sessions
+pub record HostViews (Ls Li La C R K T : Type 0) : Type 1 where
+  -- which links come in at a listener
+  pub gives : Ls → Li → Type 0
+  -- whether a listener is the daemon's own, and whether it is the one for restricted sessions
+  pub is_home : Ls → Type 0
+  pub is_extra : Ls → Type 0
   pub input : Li → Side
   pub output : Li → Side
   pub parts : Views La C R K
@@ -28,13 +33,19 @@ abbrev pub last_door : Bool → Door
 last_door true = Outer
 last_door false = Home
 
-module _ {Li La C R K T : Type 0} (host : HostViews Li La C R K T) (rules : Rules) (door : Door) where
+-- the last worker's listener: the extra one, where there is one
+abbrev pub last_listener : {Ls : Type 0} → Ls → Option Ls → Ls
+last_listener listener None = listener
+last_listener listener (Some extra) = extra
+
+module _ {Ls Li La C R K T : Type 0} (host : HostViews Ls Li La C R K T) (rules : Rules) (door : Door) (listener : Ls) where
   abbrev pub sides : Li → LinkSides
   sides link = link_of (host.input link) (host.output link)
 
-  -- The pass's next session was served, on a link of the host's that came in by the door, and of which no read and no write had failed.
+  -- The pass's next session was served by the door, on a link that came in at the listener, and of which no read and no write had failed.
   pub record ServesNext (pass now : AtPass) : Type 0 where
     pub link : Li
+    pub came : host.gives listener link
     pub fresh : NothingFailed (host.input link) (host.output link)
     pub end : SessionEnd
     pub after : Li

@@ -1,8 +1,9 @@
 ghost use Rattle.std.specs.Prelude.{◌≡◌, ◌<◌, ◌≤◌, ◌-◌, ◌^◌, vec_len, is_some};
+ghost use Rattle.std.specs.Option.{option_copied};
 ghost use Rattle.agent_ports.specs.Listening.{NothingFailed};
 ghost use Rattle.counted_lock.specs.Passes.{AreOf};
 ghost use Rattle.agent_serve.specs.Pairs.{PairedTo};
-ghost use Rattle.agent_serve.specs.Working.{ServesLinks, ServesNext, last_door};
+ghost use Rattle.agent_serve.specs.Working.{ServesLinks, ServesNext, last_door, last_listener};
 ghost use Rattle.agent_origin.specs.declared.door.Door.{Door};
 
 use crate::each::{Task, run_each};
@@ -43,8 +44,16 @@ where
     /// Serves links with this pass until no more come, or the pass has no number for a further session.
     fn work(&self, pass: CountedPass, ear: H::Ear) -> (CountedPass, H::Ear)
         requires { pass.table ≡ self.now.counted.now.table }
-        ensures pass { ServesLinks (record { input = H.Link.input; output = H.Link.output; parts = record { launches = H.Launcher.launches; readings = H.Clock.readings; draws = H.Dice.draws; keys = H.Keys.keys }; trust = H.Trust.trust })
-            self.now.rules.now self.now.door pass result.0 }
+        ensures pass { ServesLinks (record {
+          gives = H.Listener.gives;
+          is_home = H.is_home;
+          is_extra = H.is_extra;
+          input = H.Link.input;
+          output = H.Link.output;
+          parts = record { launches = H.Launcher.launches; readings = H.Clock.readings; draws = H.Dice.draws; keys = H.Keys.keys };
+          trust = H.Trust.trust;
+        })
+            self.now.rules.now self.now.door self.now.listener.now pass result.0 }
         ensures ear { H.Ear.faults ear ≤ H.Ear.faults result.1 }
     {
         let mut pass = pass;
@@ -65,9 +74,18 @@ where
     fn serve(&self, pass: CountedPass, link: H::Link) -> CountedPass
         requires own { pass.table ≡ self.now.counted.now.table }
         requires numbered { pass.sessions < 2 ^ 64 - 1 }
+        requires came { H.Listener.gives self.now.listener.now link }
         requires fresh { NothingFailed (H.Link.input link) (H.Link.output link) }
-        ensures { ServesNext (record { input = H.Link.input; output = H.Link.output; parts = record { launches = H.Launcher.launches; readings = H.Clock.readings; draws = H.Dice.draws; keys = H.Keys.keys }; trust = H.Trust.trust })
-            self.now.rules.now self.now.door pass result }
+        ensures { ServesNext (record {
+          gives = H.Listener.gives;
+          is_home = H.is_home;
+          is_extra = H.is_extra;
+          input = H.Link.input;
+          output = H.Link.output;
+          parts = record { launches = H.Launcher.launches; readings = H.Clock.readings; draws = H.Dice.draws; keys = H.Keys.keys };
+          trust = H.Trust.trust;
+        })
+            self.now.rules.now self.now.door self.now.listener.now pass result }
     {
         let mut link = link;
         let session = SessionId {
@@ -112,12 +130,15 @@ where
     ghost takes = { λ working pass ear. pass.table ≡ working.counted.now.table };
 
     ghost did = { λ working pass ear back. ServesLinks (record {
+      gives = H.Listener.gives;
+      is_home = H.is_home;
+      is_extra = H.is_extra;
       input = H.Link.input;
       output = H.Link.output;
       parts = record { launches = H.Launcher.launches; readings = H.Clock.readings; draws = H.Dice.draws; keys = H.Keys.keys };
       trust = H.Trust.trust;
     })
-        working.rules.now working.door pass back.0 × (H.Ear.faults ear ≤ H.Ear.faults back.1) };
+        working.rules.now working.door working.listener.now pass back.0 × (H.Ear.faults ear ≤ H.Ear.faults back.1) };
 
     fn run(&self, job: CountedPass, ear: H::Ear) -> (CountedPass, H::Ear) {
         self.work(job, ear)
@@ -156,12 +177,28 @@ where
     requires ears { vec_len passes ≡ vec_len ears }
     ensures own { AreOf counted.now.table result.0.items }
     ensures all { (vec_len result.0 ≡ vec_len passes) × (vec_len result.1 ≡ vec_len ears) }
-    // What each did to its pass and its ear, by the door of its links.
+    // What each did to its pass and its ear, by its door, on links that came in at its listener.
     ensures each { PairedTo (λ pass ear back. ServesLinks
-        (record { input = H.Link.input; output = H.Link.output; parts = record { launches = H.Launcher.launches; readings = H.Clock.readings; draws = H.Dice.draws; keys = H.Keys.keys }; trust = H.Trust.trust })
-        rules.now Door.Home pass back.0 × (H.Ear.faults ear ≤ H.Ear.faults back.1))
-        (λ pass ear back. ServesLinks (record { input = H.Link.input; output = H.Link.output; parts = record { launches = H.Launcher.launches; readings = H.Clock.readings; draws = H.Dice.draws; keys = H.Keys.keys }; trust = H.Trust.trust })
-        rules.now (last_door (is_some extra.entry)) pass back.0 × (H.Ear.faults ear ≤ H.Ear.faults back.1)) passes.items ears.items result.0.items result.1.items }
+        (record {
+          gives = H.Listener.gives;
+          is_home = H.is_home;
+          is_extra = H.is_extra;
+          input = H.Link.input;
+          output = H.Link.output;
+          parts = record { launches = H.Launcher.launches; readings = H.Clock.readings; draws = H.Dice.draws; keys = H.Keys.keys };
+          trust = H.Trust.trust;
+        })
+        rules.now Door.Home listener.now pass back.0 × (H.Ear.faults ear ≤ H.Ear.faults back.1))
+        (λ pass ear back. ServesLinks (record {
+          gives = H.Listener.gives;
+          is_home = H.is_home;
+          is_extra = H.is_extra;
+          input = H.Link.input;
+          output = H.Link.output;
+          parts = record { launches = H.Launcher.launches; readings = H.Clock.readings; draws = H.Dice.draws; keys = H.Keys.keys };
+          trust = H.Trust.trust;
+        })
+        rules.now (last_door (is_some extra.entry)) (last_listener listener.now (option_copied extra.entry)) pass back.0 × (H.Ear.faults ear ≤ H.Ear.faults back.1)) passes.items ears.items result.0.items result.1.items }
 {
     let home = Working {
         rt,

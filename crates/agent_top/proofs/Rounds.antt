@@ -1,9 +1,9 @@
 -- What the daemon does with its passes, round after round.
-use Rattle.std.proofs.Common.{◌≡◌, ◌≤◌, ℕ, Bool, List, [], ◌∷◌, subst, sym}
+use Rattle.std.proofs.Common.{◌≡◌, ◌≤◌, ℕ, Bool, List, [], ◌∷◌, Option, subst, sym}
 use Rattle.counted_lock.specs.Passes.{AtPass, HasLooked}
 use Rattle.agent_origin.specs.declared.door.Door.TheVariants.{Home}
 use Rattle.agent_serve.specs.Pairs.{ByPlace, PairedTo}
-use Rattle.agent_serve.specs.Working.{HostViews, ServesLinks, last_door}
+use Rattle.agent_serve.specs.Working.{HostViews, ServesLinks, last_door, last_listener}
 use Rattle.session_options.specs.declared.rules.Rules.{Rules}
 use Rattle.agent_top.specs.Daemon.{PassRuns, AllRun, FirstLooks, begun, served, looked}
 
@@ -54,7 +54,11 @@ module _ (Other Last : AtPass → AtPass → Type 0) where
   first_looked (a ∷ began) [] now ran looks = absurd ran
   first_looked (a ∷ began) (pass ∷ later) [] ran looks = absurd looks
 
--- the passes ran by the same doors
-pub by_flag : {Li La C R K T : Type 0} (host : HostViews Li La C R K T) (rules : Rules) (began passes : List AtPass) (flag same : Bool) → flag ≡ same
-    → AllRun (ServesLinks host rules Home) (ServesLinks host rules (last_door flag)) began passes → AllRun (ServesLinks host rules Home) (ServesLinks host rules (last_door same)) began passes
-by_flag host rules began passes flag same is ran = subst (λ extra. AllRun (ServesLinks host rules Home) (ServesLinks host rules (last_door extra)) began passes) is ran
+-- the passes ran by the same doors, at the same listeners
+pub by_listeners : {Ls Li La C R K T : Type 0} (host : HostViews Ls Li La C R K T) (rules : Rules) (listener : Ls) (began passes : List AtPass) (flag same : Bool) (extra given : Option Ls)
+    → flag ≡ same → extra ≡ given
+    → AllRun (ServesLinks host rules Home listener) (ServesLinks host rules (last_door flag) (last_listener listener extra)) began passes
+    → AllRun (ServesLinks host rules Home listener) (ServesLinks host rules (last_door same) (last_listener listener given)) began passes
+by_listeners host rules listener began passes flag same extra given is alike ran =
+    subst (λ e. AllRun (ServesLinks host rules Home listener) (ServesLinks host rules (last_door same) (last_listener listener e)) began passes) alike
+    (subst (λ f. AllRun (ServesLinks host rules Home listener) (ServesLinks host rules (last_door f) (last_listener listener extra)) began passes) is ran)

@@ -1,5 +1,5 @@
 -- What a run of the daemon leaves, and its status. This is the project's own.
-use Rattle.std.specs.Prelude.{◌≡◌, ◌≤◌, ◌+◌, ℕ, Bool, true, false, List, [], ◌∷◌, ◌++◌, length, codes, decimal, ⊤}
+use Rattle.std.specs.Prelude.{◌≡◌, ◌≤◌, ◌+◌, ℕ, Bool, true, false, List, [], ◌∷◌, ◌++◌, length, codes, decimal, is_some, IfSome, Option, ⊤}
 use Rattle.agent_ports.specs.Counts.{Rose}
 use Rattle.agent_ports.specs.Sides.{Side, with_bytes, sent_part, IsCut}
 use Rattle.agent_ports.specs.declared.link.Sent.{Sent}
@@ -11,7 +11,7 @@ use Rattle.counted_lock.specs.Passes.{AtCounted, AtPass, AreNewPasses, IsClosed,
 use Rattle.session_options.specs.declared.rules.Rules.{Rules}
 use Rattle.agent_origin.specs.declared.door.Door.TheVariants.{Home}
 use Rattle.agent_serve.specs.Pairs.{ByPlace}
-use Rattle.agent_serve.specs.Working.{HostViews, ServesLinks, last_door}
+use Rattle.agent_serve.specs.Working.{HostViews, ServesLinks, last_door, last_listener}
 use Rattle.agent_top.specs.Cache.{limits_of}
 use Rattle.agent_top.specs.Top.{exit_number}
 use Rattle.agent_top.specs.declared.status.Status.{Status}
@@ -61,10 +61,10 @@ workers_with true workers = workers + 1
 workers_with false workers = workers
 
 -- The daemon came to its end: all its passes were given back to the lock, whose run has their marks and no others, and the summary of that run
--- was sent, whole or in part. Each pass was new, and then sessions were served at it on links of the host's, as many as came, with no turn
--- between them. Where there is an extra listener those of the last pass came in by the outer door; all others came in at home. Where the agent
--- isn't stopped a call for a link has failed. No count fell.
-pub record SumsUp {Li La C R K T : Type 0} (host : HostViews Li La C R K T) (rules : Rules) (listens : ℕ) (before : Side) (number listens_now : ℕ) (after : Side) : Type 0 where
+-- was sent, whole or in part. Each pass was new, and then sessions were served at it, as many as came, with no turn between them: at home, on links
+-- that came in at the daemon's own listener. Where the rules ask for an extra listener, those of the last pass were served by the outer door, on links
+-- that came in at that one. Where the agent isn't stopped a call for a link has failed. No count fell.
+pub record SumsUp {Ls Li La C R K T : Type 0} (host : HostViews Ls Li La C R K T) (rules : Rules) (listens : ℕ) (before : Side) (number listens_now : ℕ) (after : Side) : Type 0 where
   pub counted : AtCounted
   pub limits : counted.limits ≡ limits_of rules
   pub workers : counted.passes ≡ workers_with rules.extra rules.workers
@@ -72,7 +72,12 @@ pub record SumsUp {Li La C R K T : Type 0} (host : HostViews Li La C R K T) (rul
   pub all : length passes ≡ counted.passes
   pub began : List AtPass
   pub new : AreNewPasses counted 0 began
-  pub ran : AllRun (ServesLinks host rules Home) (ServesLinks host rules (last_door rules.extra)) began passes
+  pub listener : Ls
+  pub is_home : host.is_home listener
+  pub extra : Option Ls
+  pub is_extra : IfSome extra host.is_extra
+  pub extra_as : is_some extra ≡ rules.extra
+  pub ran : AllRun (ServesLinks host rules Home listener) (ServesLinks host rules (last_door rules.extra) (last_listener listener extra)) began passes
   pub tally : Tally
   pub closed : IsClosed counted passes tally
   pub sent : Sent
@@ -84,7 +89,7 @@ pub record SumsUp {Li La C R K T : Type 0} (host : HostViews Li La C R K T) (rul
   pub faults_stay : before.faults ≤ after.faults
 
 -- That was done; or a listener was wanting, or there was no memory before the first link, and nothing was written.
-pub data RunsDaemon {Li La C R K T : Type 0} (host : HostViews Li La C R K T) (rules : Rules) (listens : ℕ) (before : Side) : ℕ → ℕ → Side → Type 0 where
+pub data RunsDaemon {Ls Li La C R K T : Type 0} (host : HostViews Ls Li La C R K T) (rules : Rules) (listens : ℕ) (before : Side) : ℕ → ℕ → Side → Type 0 where
   summed : {number listens_now : ℕ} {after : Side} → SumsUp host rules listens before number listens_now after → RunsDaemon host rules listens before number listens_now after
   no_listener : {listens_now : ℕ} → Rose listens listens_now → RunsDaemon host rules listens before (exit_number status.ListenFault) listens_now before
   no_memory : RunsDaemon host rules listens before (exit_number status.NoMemory) listens before

@@ -1,10 +1,11 @@
 ghost use Rattle.std.specs.Prelude.{◌≡◌, ◌≤◌, ◌<◌, ◌+◌, ◌⊎◌, ◌++◌, Any, IfSome, IsNone, decimal, is_some, length, vec_len, vec_capacity, true};
+ghost use Rattle.std.specs.Option.{option_copied};
 ghost use Rattle.agent_ports.specs.Counts.{Rose};
 ghost use Rattle.agent_ports.specs.Sides.{with_bytes, sent_part, IsCut};
 ghost use Rattle.arrayvec.specs.ArrayVec.{array_vec_len};
 ghost use Rattle.counted_lock.specs.Passes.{AreOf};
 ghost use Rattle.agent_origin.specs.declared.door.Door.{Door};
-ghost use Rattle.agent_serve.specs.Working.{ServesLinks, last_door};
+ghost use Rattle.agent_serve.specs.Working.{ServesLinks, last_door, last_listener};
 ghost use Rattle.agent_top.specs.Daemon.{RunsDaemon, AllRun, FirstLooks, summary_line, status_after, IsFirstStopped, workers_with};
 
 use crate::Status;
@@ -48,7 +49,15 @@ where
     H::Keys: Send + Sync + Drop,
     H::Trust: Send + Sync + Drop,
     H::Gate: Send + Sync,
-    ensures runs { RunsDaemon (record { input = H.Link.input; output = H.Link.output; parts = record { launches = H.Launcher.launches; readings = H.Clock.readings; draws = H.Dice.draws; keys = H.Keys.keys }; trust = H.Trust.trust })
+    ensures runs { RunsDaemon (record {
+      gives = H.Listener.gives;
+      is_home = H.is_home;
+      is_extra = H.is_extra;
+      input = H.Link.input;
+      output = H.Link.output;
+      parts = record { launches = H.Launcher.launches; readings = H.Clock.readings; draws = H.Dice.draws; keys = H.Keys.keys };
+      trust = H.Trust.trust;
+    })
         rules.now (H.listens host.old) (S.output stdio.old) result (H.listens host.new) (S.output stdio.new) }
     ensures input { S.input stdio.new ≡ S.input stdio.old }
     ensures server { H.server host.new ≡ H.server host.old }
@@ -92,7 +101,8 @@ fn workers_of(rules: &Rules) -> u32
 fn listeners<H: Host>(rules: &Rules, host: &mut H) -> Option<(H::Listener, Option<H::Listener>)>
 where
     H::Listener: Drop,
-    ensures extra { IfSome result (λ made. is_some made.1 ≡ rules.now.extra) }
+    ensures home { IfSome result (λ made. H.is_home made.0) }
+    ensures extra { IfSome result (λ made. IfSome made.1 H.is_extra × (is_some made.1 ≡ rules.now.extra)) }
     ensures failed { IsNone result → Rose (H.listens host.old) (H.listens host.new) }
     ensures listens { H.listens host.old ≤ H.listens host.new }
     ensures server { H.server host.new ≡ H.server host.old }
@@ -155,10 +165,26 @@ where
     ensures own { AreOf counted.now.table result.0.items }
     ensures all { (vec_len result.0 ≡ vec_len passes) × (vec_len result.1 ≡ vec_len ears) }
     ensures ran { AllRun (ServesLinks
-        (record { input = H.Link.input; output = H.Link.output; parts = record { launches = H.Launcher.launches; readings = H.Clock.readings; draws = H.Dice.draws; keys = H.Keys.keys }; trust = H.Trust.trust })
-        rules.now Door.Home)
-        (ServesLinks (record { input = H.Link.input; output = H.Link.output; parts = record { launches = H.Launcher.launches; readings = H.Clock.readings; draws = H.Dice.draws; keys = H.Keys.keys }; trust = H.Trust.trust })
-        rules.now (last_door (is_some extra.entry)))
+        (record {
+          gives = H.Listener.gives;
+          is_home = H.is_home;
+          is_extra = H.is_extra;
+          input = H.Link.input;
+          output = H.Link.output;
+          parts = record { launches = H.Launcher.launches; readings = H.Clock.readings; draws = H.Dice.draws; keys = H.Keys.keys };
+          trust = H.Trust.trust;
+        })
+        rules.now Door.Home listener.now)
+        (ServesLinks (record {
+          gives = H.Listener.gives;
+          is_home = H.is_home;
+          is_extra = H.is_extra;
+          input = H.Link.input;
+          output = H.Link.output;
+          parts = record { launches = H.Launcher.launches; readings = H.Clock.readings; draws = H.Dice.draws; keys = H.Keys.keys };
+          trust = H.Trust.trust;
+        })
+        rules.now (last_door (is_some extra.entry)) (last_listener listener.now (option_copied extra.entry)))
         passes.items result.0.items }
     ensures end { IsFirstStopped result.0.items ⊎ Any (λ ear. 0 < H.Ear.faults ear) result.1.items }
 {

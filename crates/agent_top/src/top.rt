@@ -66,7 +66,15 @@ where
     // Words for a daemon: its sessions were served and its summary was written, unless there was no listener or no memory. Nothing is read of
     // standard input, and the host keeps its parts.
     ensures daemon { IfSome (rules_of (map string_bytes words.now)) (λ rules. IfDaemon rules.run (
-        RunsDaemon (record { input = H.Link.input; output = H.Link.output; parts = record { launches = H.Launcher.launches; readings = H.Clock.readings; draws = H.Dice.draws; keys = H.Keys.keys }; trust = H.Trust.trust })
+        RunsDaemon (record {
+          gives = H.Listener.gives;
+          is_home = H.is_home;
+          is_extra = H.is_extra;
+          input = H.Link.input;
+          output = H.Link.output;
+          parts = record { launches = H.Launcher.launches; readings = H.Clock.readings; draws = H.Dice.draws; keys = H.Keys.keys };
+          trust = H.Trust.trust;
+        })
         (with_pid (H.process host.old) rules) (H.listens host.old) (S.output stdio.old) result (H.listens host.new) (S.output stdio.new)
         × (S.input stdio.new ≡ S.input stdio.old)
         × AreSettled (record { launches = H.Launcher.launches; readings = H.Clock.readings; draws = H.Dice.draws; keys = H.Keys.keys }) (H.server host.old) (H.server host.new))) }

@@ -1,4 +1,4 @@
-ghost use Rattle.std.specs.Prelude.{◌≡◌};
+ghost use Rattle.std.specs.Prelude.{◌≡◌, ⊤, IfOk};
 ghost use Rattle.agent_ports.specs.Listening.{NothingFailed};
 
 use crate::accepting::{Accepted, accept_next};
@@ -43,6 +43,8 @@ impl Ear for SocketEar {
 /// Each descriptor is closed in programs that the process starts, so no such program holds a client or the socket.
 pub struct SocketListener<'a, R: Files> {
     rt: &'a R,
+    /// By which clients find it.
+    pub name: SocketName,
     bound: Bound,
     path: String,
     stopped: AtomicBool,
@@ -51,10 +53,13 @@ pub struct SocketListener<'a, R: Files> {
 impl<'a, R: Files + Net> SocketListener<'a, R> {
     /// Listens at the socket of this name in this folder, which is made for its owner alone where it isn't there. Whatever had the socket's
     /// name is removed. It fails where the path is too long for a socket (108 bytes on Linux), and then nothing was made or removed.
-    pub fn bind(rt: &'a R, alloc: Global, folder: &str, name: SocketName) -> io::Result<Self> {
+    pub fn bind(rt: &'a R, alloc: Global, folder: &str, name: SocketName) -> io::Result<Self>
+        ensures { IfOk result (λ listener. listener.name ≡ name) }
+    {
         let path = socket_path(alloc, folder, name)?;
         Ok(SocketListener {
             rt,
+            name,
             bound: bind_at(rt, alloc, folder, &path)?,
             path,
             stopped: AtomicBool::new(false),
@@ -70,6 +75,7 @@ impl<R: Files> Drop for SocketListener<'_, R> {
         }
         let Self {
             rt: _,
+            name: _,
             bound: _,
             path: _,
             stopped: _,
@@ -81,6 +87,9 @@ impl<R: Files + Clock> Listener for SocketListener<'_, R> {
     type Link = SocketLink;
 
     type Ear = SocketEar;
+
+    // What the system hands out isn't known.
+    ghost gives = { λ _ _. ⊤ };
 
     fn ear(&self) -> SocketEar {
         SocketEar { faults: 0 }

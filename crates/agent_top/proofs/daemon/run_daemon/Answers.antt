@@ -1,5 +1,5 @@
 use Rattle.std.proofs.Common.{refl, ap, ◌∙◌, arith}
-use Rattle.agent_top.proofs.Rounds.{by_flag}
+use Rattle.agent_top.proofs.Rounds.{by_listeners}
 use Rattle.agent_top.proofs.Running.{listens_rose}
 use Rattle.agent_top.specs.Daemon.{summed, no_listener, no_memory}
 use Rattle.agent_top.specs.Top.{exit_number}
@@ -25,7 +25,13 @@ returns-clause-runs g c =
       all = omega (arith, c.serve_rounds-passes.ensures.all.0, c.in-Ok.ensures.all, c.in-Ok.ensures.about.1, r.0.ok);
       began = c.in-Ok.passes.items;
       new = c.in-Ok.ensures.new;
-      ran = by_flag _ c.args.rules.now c.in-Ok.passes.items r.0.items _ _ (c.as_ref-further.ensures.variant ∙ c.in-Some.ensures.extra) c.serve_rounds-passes.ensures.ran;
+      listener = c.in-Some.listener;
+      is_home = c.in-Some.ensures.home;
+      extra = c.in-Some.extra;
+      is_extra = c.in-Some.ensures.extra.0;
+      extra_as = c.in-Some.ensures.extra.1;
+      ran = by_listeners _ c.args.rules.now c.in-Some.listener c.in-Ok.passes.items r.0.items _ _ _ _ (c.as_ref-further.ensures.variant ∙ c.in-Some.ensures.extra.1) c.as_ref-further.ensures.value
+          c.serve_rounds-passes.ensures.ran;
       tally = c.close-tally.result;
       closed = c.close-tally.ensures;
       sent = c.write_summary-sent.result;

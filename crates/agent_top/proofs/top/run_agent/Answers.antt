@@ -15,6 +15,9 @@ returns-in-Err-NoMemory-clause-served g c =
 pub returns-in-Err-NoMemory-clause-daemon : goal.returns-in-Err-NoMemory-clause-daemon
 returns-in-Err-NoMemory-clause-daemon g c =
     no_words_for_daemon (record {
+      gives = g.H.Listener.Listener.gives;
+      is_home = g.H.Host.is_home;
+      is_extra = g.H.Host.is_extra;
       input = g.H.Link.Source.input;
       output = g.H.Link.Sink.output;
       parts = record { launches = g.H.Launcher.Launcher.launches; readings = g.H.Clock.Clock.readings; draws = g.H.Dice.Dice.draws; keys = g.H.Keys.Keys.keys };

@@ -5,11 +5,14 @@ use Rattle.agent_serve.proofs.workers.Working.work.Given as goal
 abbrev pub invariant-loop : goal.invariant-loop
 invariant-loop g l = record {
   serves : ServesLinks (record {
+    gives = g.H.Listener.Listener.gives;
+    is_home = g.H.Host.is_home;
+    is_extra = g.H.Host.is_extra;
     input = g.H.Link.Source.input;
     output = g.H.Link.Sink.output;
     parts = record { launches = g.H.Launcher.Launcher.launches; readings = g.H.Clock.Clock.readings; draws = g.H.Dice.Dice.draws; keys = g.H.Keys.Keys.keys };
     trust = g.H.Trust.TrustFile.trust;
-  }) l.self.rules.now l.self.door l.fn.pass l.pass;
+  }) l.self.rules.now l.self.door l.self.listener.now l.fn.pass l.pass;
   own : l.pass.table ≡ l.fn.pass.table;
   faults : g.H.Ear.Ear.faults l.fn.ear ≤ g.H.Ear.Ear.faults l.ear;
 }
