@@ -17,6 +17,7 @@ use Rattle.agent_ports.specs.Launches.{Launches}
 use Rattle.agent_ports.specs.Leads.{Leads, none, one}
 use Rattle.agent_ports.specs.Readings.{Readings}
 use Rattle.agent_ports.specs.Sides.{Side}
+use Rattle.cache_policy.specs.Extending.{Taken}
 use Rattle.cache_policy.specs.declared.mark.Mark.{Mark}
 use Rattle.counted_lock.specs.Turns.{AtCountedDesk, CountedTurn}
 use Rattle.pinentry_client.specs.Dialogues.{PinentryDoes, PinentryCall}
@@ -65,49 +66,51 @@ module _ {C La : Type 0} (readings : C → Readings) (launches : La → Launches
     };
   }
 
+  -- what becomes of a desk and of a pinentry by these turns
+  pub record Goes (desk : AtCountedDesk C) (pinentry : PinentryState La) (taken : List Taken) (desk_now : AtCountedDesk C) (pinentry_now : PinentryState La) : Type 0 where
+    pub program : pinentry_now.program ≡ pinentry.program
+    pub lent : pinentry_now.lent ≡ pinentry.lent
+    pub session : desk_now.session ≡ desk.session
+    pub own : List Mark
+    pub turns : PassTurns desk.session desk.pass (readings desk.clock) taken own desk_now.pass (readings desk_now.clock)
+
   pub record Lifts (before after : Outside (held_world readings launches)) (events : List Event) : Type 0 where
     pub leads : Leads (Does seen_world supply) (with_seen before) events (with_seen after)
-    pub program : after.ends.further.prompter.prompter.program ≡ before.ends.further.prompter.prompter.program
-    pub lent : after.ends.further.prompter.prompter.lent ≡ before.ends.further.prompter.prompter.lent
-    pub session : after.desk.session ≡ before.desk.session
-    pub own : List Mark
-    pub turns : PassTurns before.desk.session before.desk.pass (readings before.desk.clock) (turns_in events) own after.desk.pass (readings after.desk.clock)
+    pub goes : Goes before.desk before.ends.further.prompter.prompter (turns_in events) after.desk after.ends.further.prompter.prompter
 
   pub lifts : {before after : Outside (held_world readings launches)} {events : List Event}
       → Leads (Does (held_world readings launches) supply) before events after → Lifts before after events
-  lifts none = record { leads = none; program = refl; lent = refl; session = refl; own = []; turns = serves.none }
-  lifts (one (received known needed) more) = let r = lifts more in record { leads = one (received known needed) r.leads; program = r.program; lent = r.lent; session = r.session; own = r.own; turns = r.turns }
-  lifts (one sent more) = let r = lifts more in record { leads = one sent r.leads; program = r.program; lent = r.lent; session = r.session; own = r.own; turns = r.turns }
-  lifts (one cut more) = let r = lifts more in record { leads = one cut r.leads; program = r.program; lent = r.lent; session = r.session; own = r.own; turns = r.turns }
-  lifts (one (asked known needed) more) = let r = lifts more in record { leads = one (asked known needed) r.leads; program = r.program; lent = r.lent; session = r.session; own = r.own; turns = r.turns }
-  lifts (one (not_asked unsent split) more) = let r = lifts more in record { leads = one (not_asked unsent split) r.leads; program = r.program; lent = r.lent; session = r.session; own = r.own; turns = r.turns }
+  lifts none = record { leads = none; goes = record { program = refl; lent = refl; session = refl; own = []; turns = serves.none } }
+  lifts (one (received known needed) more) = let r = lifts more in record { leads = one (received known needed) r.leads; goes = r.goes }
+  lifts (one sent more) = let r = lifts more in record { leads = one sent r.leads; goes = r.goes }
+  lifts (one cut more) = let r = lifts more in record { leads = one cut r.leads; goes = r.goes }
+  lifts (one (asked known needed) more) = let r = lifts more in record { leads = one (asked known needed) r.leads; goes = r.goes }
+  lifts (one (not_asked unsent split) more) = let r = lifts more in record { leads = one (not_asked unsent split) r.leads; goes = r.goes }
   lifts {before} {after} (one {mid = mid} {more = later} (turned {taken = taken} does) more) =
       let r = lifts more in
       let same = does.is.session in
       record {
         leads = one (turned (record { turns = does.turns; is = does.is })) r.leads;
-        program = r.program;
-        lent = r.lent;
-        session = r.session ∙ same;
-        own = does.turns.own ++ r.own;
-        turns = serves.turned does.turns
-            (subst (λ s. PassTurns s mid.desk.pass (readings mid.desk.clock) (turns_in later) r.own after.desk.pass (readings after.desk.clock)) same r.turns);
+        goes = record {
+          program = r.goes.program;
+          lent = r.goes.lent;
+          session = r.goes.session ∙ same;
+          own = does.turns.own ++ r.goes.own;
+          turns = serves.turned does.turns
+              (subst (λ s. PassTurns s mid.desk.pass (readings mid.desk.clock) (turns_in later) r.goes.own after.desk.pass (readings after.desk.clock)) same r.goes.turns);
+        };
       }
   lifts (one (further (session (prompt (called does)))) more) =
       let r = lifts more in
       record {
         leads = one (further (session (prompt (called does.does)))) r.leads;
-        program = r.program ∙ does.program;
-        lent = r.lent ∙ does.lent;
-        session = r.session;
-        own = r.own;
-        turns = r.turns;
+        goes = record { program = r.goes.program ∙ does.program; lent = r.goes.lent ∙ does.lent; session = r.goes.session; own = r.goes.own; turns = r.goes.turns };
       }
-  lifts (one (further (session (prompt out_of_memory))) more) = let r = lifts more in record { leads = one (further (session (prompt out_of_memory))) r.leads; program = r.program; lent = r.lent; session = r.session; own = r.own; turns = r.turns }
-  lifts (one (further (session (keys does))) more) = let r = lifts more in record { leads = one (further (session (keys does))) r.leads; program = r.program; lent = r.lent; session = r.session; own = r.own; turns = r.turns }
-  lifts (one (further (session (dice does))) more) = let r = lifts more in record { leads = one (further (session (dice does))) r.leads; program = r.program; lent = r.lent; session = r.session; own = r.own; turns = r.turns }
-  lifts (one (further (session no_memory)) more) = let r = lifts more in record { leads = one (further (session no_memory)) r.leads; program = r.program; lent = r.lent; session = r.session; own = r.own; turns = r.turns }
-  lifts (one (further (trust does)) more) = let r = lifts more in record { leads = one (further (trust does)) r.leads; program = r.program; lent = r.lent; session = r.session; own = r.own; turns = r.turns }
+  lifts (one (further (session (prompt out_of_memory))) more) = let r = lifts more in record { leads = one (further (session (prompt out_of_memory))) r.leads; goes = r.goes }
+  lifts (one (further (session (keys does))) more) = let r = lifts more in record { leads = one (further (session (keys does))) r.leads; goes = r.goes }
+  lifts (one (further (session (dice does))) more) = let r = lifts more in record { leads = one (further (session (dice does))) r.leads; goes = r.goes }
+  lifts (one (further (session no_memory)) more) = let r = lifts more in record { leads = one (further (session no_memory)) r.leads; goes = r.goes }
+  lifts (one (further (trust does)) more) = let r = lifts more in record { leads = one (further (trust does)) r.leads; goes = r.goes }
 
 no_some : {A : Type 0} (child : Option A) → is_some child ≡ false → child ≡ None
 no_some None is = refl
@@ -141,10 +144,10 @@ module _ {C La R K T : Type 0} (views : Views La C R K) (trusts : T → TrustSta
   lifted = lifts views.readings views.launches (supply_of before.input.bytes) served.leads
 
   idle_now : at_pinentry views.launches gated_now.prompter ≡ idle rules.pinentry.items (views.launches gated_now.prompter.launcher)
-  idle_now = gated_is_shut views.launches rules gated_now.prompter (lifted.program ∙ ap (λ (p : AtPinentry). p.program) unused) shut
+  idle_now = gated_is_shut views.launches rules gated_now.prompter (lifted.goes.program ∙ ap (λ (p : AtPinentry). p.program) unused) shut
 
   session_now : desk_now.session ≡ session
-  session_now = lifted.session ∙ ap (λ (d : AtCountedDesk C). d.session) desk_is
+  session_now = lifted.goes.session ∙ ap (λ (d : AtCountedDesk C). d.session) desk_is
 
   seen_now : seen_desk views.readings desk_now ≡ desk_at desk_now.pass session (views.readings desk_now.clock)
   seen_now = rw (session_now, free) refl
@@ -171,13 +174,13 @@ module _ {C La R K T : Type 0} (views : Views La C R K) (trusts : T → TrustSta
       subst (λ (l : La). leads_from (desk_at first session (views.readings parts.clock)) (desk_at desk_now.pass session (views.readings desk_now.clock))
       (idle rules.pinentry.items (views.launches l)) (idle rules.pinentry.items (views.launches gated_now.prompter.launcher))) own session_leads
 
-  pass_is_led : PassTurns session first (views.readings parts.clock) (turns_in served.events) lifted.own desk_now.pass (views.readings desk_now.clock)
+  pass_is_led : PassTurns session first (views.readings parts.clock) (turns_in served.events) lifted.goes.own desk_now.pass (views.readings desk_now.clock)
   pass_is_led =
-      subst (λ (d : AtCountedDesk C). PassTurns d.session d.pass (views.readings d.clock) (turns_in served.events) lifted.own desk_now.pass (views.readings desk_now.clock)) desk_is lifted.turns
+      subst (λ (d : AtCountedDesk C). PassTurns d.session d.pass (views.readings d.clock) (turns_in served.events) lifted.goes.own desk_now.pass (views.readings desk_now.clock)) desk_is lifted.goes.turns
 
   pub one_is_served : ServesOne views trusts rules door session before pass end after desk_now.pass
   one_is_served =
-      let does = added session first desk_now.pass _ _ (turns_in served.events) lifted.own pass_is_led in
+      let does = added session first desk_now.pass _ _ (turns_in served.events) lifted.goes.own pass_is_led in
       record {
         parts = parts;
         new = new;
@@ -201,7 +204,7 @@ module _ {C La R K T : Type 0} (views : Views La C R K) (trusts : T → TrustSta
           input_faults = served.input_faults;
           output_faults = served.output_faults;
         };
-        own = lifted.own;
+        own = lifted.goes.own;
         turns = pass_is_led;
         adds = record { mine_is = does.adds.mine_is; by = does.adds.by; given = does.adds.given; empty = does.adds.empty; opened = does.adds.opened };
         more = does.more;
