@@ -1,5 +1,5 @@
 -- A session's events but the calls of the trust file: what they lead from and to, and what they show.
-use Rattle.std.proofs.Common.{◌≡◌, ◌≤◌, List, [], ◌∷◌, ◌++◌, refl, ap, ◌∙◌, arith}
+use Rattle.std.proofs.Common.{◌≡◌, ◌≤◌, ℕ, true, false, List, [], ◌∷◌, ◌++◌, Option, Some, None, refl, sym, ap, subst, ◌∙◌, arith}
 use Rattle.std.proofs.lemmas.List.Elements.{filter_map-append}
 use Rattle.agent_ask.specs.Events.{Call}
 use Rattle.agent_ask.specs.Further.{FurtherEvent}
@@ -13,15 +13,25 @@ use Rattle.agent_ports.specs.Leads.{Leads, none, one}
 use Rattle.agent_ports.specs.TrustFiles.{TrustState}
 use Rattle.agent_ports.specs.declared.trust.TrustDone.TheVariants as done
 use Rattle.agent_ports.specs.declared.trust.TrustRead.TheVariants as read
+use Rattle.agent_commands.specs.declared.went.Went.{Went}
 use Rattle.assuan_server.specs.Reading.{Supply}
+use Rattle.assuan_text.specs.Words.{command_of}
 use Rattle.cache_policy.specs.Turns.{Turn}
 use Rattle.cache_policy.specs.declared.mark.MarkStep.{MarkStep}
 use Rattle.key_commands.specs.States.{KeyWorld}
+use Rattle.session_options.specs.declared.rules.Rules.{Rules}
+use Rattle.agent_origin.specs.DoorSessions.{AllowedExchange, DoorExchange}
+use Rattle.agent_origin.specs.DoorSessions as doors
+use Rattle.agent_origin.specs.Doors.{allowed}
+use Rattle.agent_origin.specs.Names.{door_command_named}
 use Rattle.agent_origin.specs.OriginEvents.{Event, TrustCall, Read, Replaced, called, in_session}
 use Rattle.agent_origin.specs.Origins.{DoesTrust, origin_world}
 use Rattle.agent_origin.specs.Origins as origins
+use Rattle.agent_origin.specs.SessionExchanges.{SessionExchange}
+use Rattle.agent_origin.specs.declared.door.Door.{Door}
+use Rattle.agent_origin.specs.declared.kept.Kept.{Kept}
 use Rattle.agent_session.specs.Causes.{Has, here, later, StandIn}
-use Rattle.agent_session.specs.DoorCauses.{session_event, beside_trust, FailsAtTrust, HasTrustCall, called_trust}
+use Rattle.agent_session.specs.DoorCauses.{session_event, beside, beside_trust, FailsAtTrust, HasTrustCall, called_trust}
 use Rattle.agent_session.specs.DoorCompleteness.{FailuresRiseAtDoor}
 use Rattle.agent_session.proofs.Completing.{failures_rise, first_rose, last_rose}
 
@@ -64,13 +74,9 @@ trust_rises before after (Replaced file done.Done) does fails = absurd fails
 trust_rises before after (Replaced file done.NoMemory) does fails = absurd fails
 
 module _ {D P : Type 0} (turned : D → MarkStep → Turn → D → Type 0) (prompted : P → Call → P → Type 0) where
-  -- the ends but the trust file
-  abbrev pub beside : Outside (origin_world turned prompted) → Outside (KeyWorld turned prompted)
-  beside now = record { input = now.input; source = now.source; output = now.output; desk = now.desk; ends = now.ends.further }
-
   module _ {supply : Supply} where
     pub beside_leads : {before after : Outside (origin_world turned prompted)} {events : List Event} → Leads (Does (origin_world turned prompted) supply) before events after
-        → Leads (Does (KeyWorld turned prompted) supply) (beside before) (beside_trust events) (beside after)
+        → Leads (Does (KeyWorld turned prompted) supply) (beside turned prompted before) (beside_trust events) (beside turned prompted after)
     beside_leads none = none
     beside_leads (one (worlds.received known needed) rest) = one (worlds.received known needed) (beside_leads rest)
     beside_leads (one worlds.sent rest) = one worlds.sent (beside_leads rest)
@@ -115,3 +121,18 @@ module _ {D P : Type 0} (turned : D → MarkStep → Turn → D → Type 0) (pro
         {before after : Outside (origin_world turned prompted)} {events : List Event} → Leads (Does (origin_world turned prompted) supply) before events after
         → FailuresRiseAtDoor at events before.ends after.ends
     door_failures_rise at promise leads = record { any = failures_rise turned prompted at promise (beside_leads leads); trust = trust_risen leads }
+
+-- ---- exchanges
+
+module _ {rules : Rules} {before : Kept} {line : List ℕ} where
+  allowed_is_session : {command : _} {events : List Event} {after : Kept} {went : Went} → AllowedExchange rules before line command events after went → command ≡ None
+      → SessionExchange rules before line (beside_trust events) after went
+  allowed_is_session doors.helped is = absurd (cc is)
+  allowed_is_session (doors.trusts exchanged) is = absurd (cc is)
+  allowed_is_session {after} {went} (doors.any {events = own} exchanged) is = subst (λ e. SessionExchange rules before line e after went) (sym (beside_session own)) exchanged
+
+  -- a line that is allowed, and whose command isn't the door's own
+  pub door_is_session : {door : Door} {events : List Event} {after : Kept} {went : Went} → DoorExchange door rules before line events after went → allowed door line ≡ true → door_command_named (command_of line) ≡ None
+      → SessionExchange rules before line (beside_trust events) after went
+  door_is_session (doors.forbidden refuses) allows is = absurd (cc (refuses, allows))
+  door_is_session (doors.is_allowed allows exchanged) allowing is = allowed_is_session exchanged is

@@ -123,17 +123,21 @@ module _ (request : Request) where
   looks_first (exchanges.answered looks) other = looks_answered looks
   looks_first (exchanges.goes_on {first} {events = more} {went} looks otherwise) other = behind first (looks_work looks) (other more went otherwise)
 
-  module _ (stores : MayStore request User) where
-    keeping_here : (plain : Bool) {secret : List ℕ} {id : Option (List ℕ)} {events : List (Event FurtherEvent)} {went : Went} → Keeps plain secret id events went → Here events
-    keeping_here plain (exchanges.unkept is) = only (is_reply (reply_passphrase plain _ _ is))
-    keeping_here plain (exchanges.kept is) = answers (_ ∷ []) ((stores, refl), tt) (said (is_reply (reply_passphrase plain _ _ is)))
-    keeping_here plain (exchanges.interrupted why) = interrupts _ refl stores why
+  -- it may store under the id that it names
+  abbrev StoresUnder : Option (List ℕ) → Type 0
+  StoresUnder named = (id : List ℕ) → named ≡ Some id → MayStore request id User
 
-    without_prompt : (plain : Bool) {id : Option (List ℕ)} {way : PinMode} {events : List (Event FurtherEvent)} {went : Went} → WithoutPrompt plain id way events went → Here events
-    without_prompt plain exchanges.cancelled = only (is_failed code.Cancelled)
-    without_prompt plain exchanges.no_pinentry = only (is_failed code.NoPinentry)
-    without_prompt plain (exchanges.with_data keeps) = behind (_ ∷ _ ∷ []) ((limit _, refl), ((tt, refl), tt)) (keeping_here plain keeps)
-    without_prompt plain (exchanges.without_data without) = without_passphrase without
+  module _ (plain : Bool) where
+    keeping_here : {secret : List ℕ} (named : Option (List ℕ)) {events : List (Event FurtherEvent)} {went : Went} → StoresUnder named → Keeps plain secret named events went → Here events
+    keeping_here named stores (exchanges.unkept is) = only (is_reply (reply_passphrase plain _ _ is))
+    keeping_here named stores (exchanges.kept {id} is) = answers (_ ∷ []) ((stores id refl, refl), tt) (said (is_reply (reply_passphrase plain _ _ is)))
+    keeping_here named stores (exchanges.interrupted {id} why) = interrupts _ refl (stores id refl) why
+
+    without_prompt : {way : PinMode} (named : Option (List ℕ)) {events : List (Event FurtherEvent)} {went : Went} → StoresUnder named → WithoutPrompt plain named way events went → Here events
+    without_prompt named stores exchanges.cancelled = only (is_failed code.Cancelled)
+    without_prompt named stores exchanges.no_pinentry = only (is_failed code.NoPinentry)
+    without_prompt named stores (exchanges.with_data keeps) = behind (_ ∷ _ ∷ []) ((limit _, refl), ((tt, refl), tt)) (keeping_here named stores keeps)
+    without_prompt named stores (exchanges.without_data without) = without_passphrase without
 
   -- ---- prompts
 
@@ -267,7 +271,7 @@ cache_course request (exchanges.quiet quiet looks) = looks_first request looks (
     quiet_refused exchanges.refused = only request (is_failed code.NoData)
 cache_course request (exchanges.by_prompt {fields} spec asks texts_are mode_is is_spec by) = by_prompt request spec _ fields.plain by
 cache_course request (exchanges.without_prompt {fields} asks texts_are mode_is looks) =
-    looks_first request looks (λ more after without. without_prompt request (given fields refl) fields.plain without)
+    looks_first request looks (λ more after without. without_prompt request fields.plain fields.id (λ id is. given fields refl is) without)
 cache_course request (exchanges.not_allowed is) = only request (is_failed code.NotSupported)
 cache_course request (exchanges.with_data allowed comes) = behind request (_ ∷ _ ∷ []) ((limit _, refl), ((tt, refl), tt)) (comes_out request _ refl (preset refl) reply_ok comes)
 cache_course request (exchanges.without_data allowed without) = without_passphrase request without

@@ -56,6 +56,7 @@ use Rattle.agent_origin.specs.declared.kept.Kept.{Kept}
 use Rattle.agent_session.proofs.Explained.{Explained, replied, failed, silent, after_these, IsLast}
 use Rattle.agent_session.proofs.KeyParts.{prompt_silent, has_call, heard_caused, unopened_caused, bad_any}
 use Rattle.agent_session.proofs.Prompted.{PinShows, ConsentShows, pin_shows, consent_shows}
+use Rattle.agent_session.proofs.Asides.{secret_limit}
 use Rattle.agent_session.proofs.Replying.{IsReply, reply_ok, reply_closing, reply_help, reply_cache, reply_passphrase}
 use Rattle.agent_session.proofs.Standing.{has_first, has_second, stand_left, stand_right, stand_tail}
 
@@ -92,7 +93,7 @@ module _ (rules : Rules) (kept : Kept) (whole : List (Event FurtherEvent)) (requ
   failure_explained {why} fails is = unheard_explained why is
 
   without_passphrase : {events : List (Event FurtherEvent)} {went : Went} → WithoutPassphrase events went → StandIn events whole → Here events went
-  without_passphrase (exchanges.no_data {events = more} says fails) stands = after_these whole CausedHere (_ ∷ _ ∷ []) ((_, refl), (tt, tt)) (failure_explained fails (said says (has_second stands)))
+  without_passphrase (exchanges.no_data {events = more} says fails) stands = after_these whole CausedHere (_ ∷ _ ∷ []) (secret_limit, (tt, tt)) (failure_explained fails (said says (has_second stands)))
   without_passphrase (exchanges.limit_cut unsent is) stands = silent (tt, tt) tt
 
   -- ---- looks in the cache
@@ -136,7 +137,7 @@ module _ (rules : Rules) (kept : Kept) (whole : List (Event FurtherEvent)) (requ
   without_prompt plain id way same unmet exchanges.cancelled stands = failed [] code.Cancelled Agent tt (by_mode same unmet) tt
   without_prompt plain id way same unmet exchanges.no_pinentry stands = failed [] code.NoPinentry Agent tt (inl (by_mode same unmet)) tt
   without_prompt plain id way same unmet (exchanges.with_data {events = more} keeps) stands =
-      after_these whole CausedHere (_ ∷ _ ∷ []) ((_, refl), (tt, tt)) (keeping_explained plain keeps (stand_tail _ more (stand_tail _ _ stands)))
+      after_these whole CausedHere (_ ∷ _ ∷ []) (secret_limit, (tt, tt)) (keeping_explained plain keeps (stand_tail _ more (stand_tail _ _ stands)))
   without_prompt plain id way same unmet (exchanges.without_data without) stands = without_passphrase without stands
 
   -- ---- prompts
@@ -178,7 +179,8 @@ module _ (rules : Rules) (kept : Kept) (whole : List (Event FurtherEvent)) (requ
     prompted_once shown events answers keep went turn ticket (next {answer} {shown = first} {more} asks in_session later) ends stands =
         let done : AsksNoMore answer more _ = asks_no_more answer later in
         let ended : Ends answer keep events went = subst (λ a. EndsOnce session_lines Ends a keep events went) done.one_answer ends in
-        let silence : AllByRecursion AnswersNothing (first ++ more) = subst (λ m. AllByRecursion AnswersNothing (first ++ m)) (sym done.shows_none) (subst (AllByRecursion AnswersNothing) (sym (append-nil first)) (prompt_silent in_session)) in
+        let silence : AllByRecursion AnswersNothing (first ++ more) = subst (λ m. AllByRecursion AnswersNothing (first ++ m)) (sym done.shows_none)
+        (subst (AllByRecursion AnswersNothing) (sym (append-nil first)) (prompt_silent in_session)) in
         after_these whole CausedHere (first ++ more) silence
         (after_these whole CausedHere (_ ∷ []) (tt, tt) (each _ _ _ _ _ _ asks in_session (stand_left first more (stand_left (first ++ more) _ stands)) ended))
 
@@ -197,7 +199,9 @@ module _ (rules : Rules) (kept : Kept) (whole : List (Event FurtherEvent)) (requ
       → Here events went
   by_prompt spec plan plain (exchanges.cached is) stands = replied (_ ∷ []) _ (tt, tt) (reply_passphrase plain _ _ is) tt
   by_prompt spec plan plain (exchanges.prompted {id} wants) stands =
-      wants_prompt (AsksPin spec plan (λ pin. ⊤)) (EndsPin plain) (λ prompt shown answer keep events went asks in_session shown_stands ends. ends_pin in_session shown_stands plain asks (pin_shows asks) ends) (want id) (wants_keeps id) wants stands
+      wants_prompt (AsksPin spec plan (λ pin. ⊤)) (EndsPin plain)
+      (λ prompt shown answer keep events went asks in_session shown_stands ends. ends_pin in_session shown_stands plain asks (pin_shows asks) ends)
+      (want id) (wants_keeps id) wants stands
 
   -- ---- single lines
 
@@ -248,12 +252,14 @@ module _ (rules : Rules) (kept : Kept) (whole : List (Event FurtherEvent)) where
   cache_explained request line_caused (exchanges.by_prompt {fields} spec asks texts_are mode_is is_spec by) stands = by_prompt rules kept whole request spec _ fields.plain by stands
   cache_explained request line_caused (exchanges.without_prompt {fields} asks texts_are mode_is looks) stands =
       looks_first rules kept whole request fields.plain fields.id (WithoutPrompt fields.plain fields.id kept.options.mode) looks stands
-      (λ first more none without stands_all. without_prompt rules kept whole request fields.plain fields.id kept.options.mode refl (no_entry rules kept whole request fields refl fields.id refl first more none stands_all) without (stand_right first more stands_all))
+      (λ first more none without stands_all. without_prompt rules kept whole request fields.plain fields.id kept.options.mode refl
+      (no_entry rules kept whole request fields refl fields.id refl first more none stands_all) without (stand_right first more stands_all))
   cache_explained request line_caused (exchanges.not_allowed is) stands = failed [] code.NotSupported Agent tt (preset refl is) tt
   cache_explained request line_caused (exchanges.with_data allowed comes) stands =
-      after_these whole (IsCaused whole rules kept request) (_ ∷ _ ∷ []) ((_, refl), (tt, tt)) (comes_out rules kept whole request _ refl reply_ok tt comes (stand_tail _ _ (stand_tail _ _ stands)))
+      after_these whole (IsCaused whole rules kept request) (_ ∷ _ ∷ []) (secret_limit, (tt, tt)) (comes_out rules kept whole request _ refl reply_ok tt comes (stand_tail _ _ (stand_tail _ _ stands)))
   cache_explained request line_caused (exchanges.without_data allowed without) stands = without_passphrase rules kept whole request without stands
   cache_explained request line_caused (exchanges.confirmation spec mode_is is_spec wants) stands =
-      wants_prompt rules kept whole request (AsksConsent spec kept.options.notify) EndsConsent (λ prompt shown answer keep events went asks in_session shown_stands ends. ends_consent rules kept whole request in_session shown_stands (consent_shows asks) ends) _ refl wants stands
+      wants_prompt rules kept whole request (AsksConsent spec kept.options.notify) EndsConsent
+      (λ prompt shown answer keep events went asks in_session shown_stands ends. ends_consent rules kept whole request in_session shown_stands (consent_shows asks) ends) _ refl wants stands
   cache_explained request line_caused (exchanges.unconfirmed {description} {code = why} refusal) stands = failed [] why Agent tt (unconfirmed rules kept whole request description refl kept.options.mode refl why refusal) tt
   cache_explained request line_caused (exchanges.one_turn is comes) stands = one_turn rules kept whole request is comes stands

@@ -42,6 +42,7 @@ use Rattle.agent_session.specs.Causes.{Has, HasOne, one, HasCall, called, IsCaus
 use Rattle.agent_session.specs.Completeness.{IsAnsweredBy, HasError, CausedExchange, IsFaultless}
 use Rattle.agent_session.specs.DoorCauses.{beside_trust, HasTrustCall, called_trust, FailsAtTrust, IsTrustCaused, IsCausedBy, IsCausedAtDoor, IsReadTrust, read_trust, IsNotTrusted, unsaid, denied, denied_mark, forbidden, is_allowed}
 use Rattle.agent_session.specs.DoorCompleteness.{CausedAtDoor, FaultlessAtDoor, WantsNoPrompt, any, on_trust, Remembers, NoCountRoseAtDoor, AnswersAllAtDoor}
+use Rattle.agent_session.proofs.Asides.{asides_append, comments_aside}
 use Rattle.agent_session.proofs.BesideTrust.{beside_append, beside_session, beside_leads, door_failures_rise}
 use Rattle.agent_session.proofs.Completing.{IsPossible, never_absent, all_possible}
 use Rattle.agent_session.proofs.Explained.{Explained, replied, failed, silent, is_answered, is_caused}
@@ -86,7 +87,13 @@ none_read_of : (events : List (SessionEvent FurtherEvent)) → HasRead (in_sessi
 none_read_of events (file, read_trust is has) = none_called events has
 
 reply_help : IsReply door_help
-reply_help = begins (λ e. absurd (cc e)) (record { before = comments command_names ++ comments (map (λ row. row.0) commands); rest = []; is = refl; one_line = refl })
+reply_help = begins (λ e. absurd (cc e)) (record {
+  before = comments command_names ++ comments (map (λ row. row.0) commands);
+  asides = asides_append (comments_aside command_names refl) (comments_aside (map (λ row. row.0) commands) refl);
+  rest = [];
+  is = refl;
+  one_line = refl;
+})
 
 module _ (door : Door) (rules : Rules) (before : Kept) (line : List ℕ) (events : List Event) where
   abbrev Caused : Code → Origin → Type 0

@@ -118,7 +118,8 @@ module _ (Is : Event FurtherEvent → Type 0) where
     pub each_changes : EachSo (Changes step)
     each_changes = record { of = changes_of }
 
-  peeks_of : (grip : Grip) → ((turn : Turn) → Is (cache_turn (Peek (grip_text grip) Normal) turn)) → (before : Option ℕ) (events : List (Event FurtherEvent)) (result : Result Bool Refusal) (after : Option ℕ) → Peeks grip before events result after → All events
+  peeks_of : (grip : Grip) → ((turn : Turn) → Is (cache_turn (Peek (grip_text grip) Normal) turn))
+      → (before : Option ℕ) (events : List (Event FurtherEvent)) (result : Result Bool Refusal) (after : Option ℕ) → Peeks grip before events result after → All events
   peeks_of grip turns before events result after small.peeked = (turns _, tt)
   peeks_of grip turns before events result after (small.interrupted why) = (turns _, tt)
 

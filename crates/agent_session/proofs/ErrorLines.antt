@@ -157,4 +157,4 @@ pub no_reply : (why : Code) (origin : Origin) {text : List ℕ} → IsReply text
 no_reply why origin (begins {first} {rest} other ends) is = let e : 69 ∷ (begins_error why origin).0 ≡ first ∷ rest = is in let same : first ≡ 69 = cc e in other same
 
 pub no_status : (why : Code) (origin : Origin) → IsStatus (line_of (error_text why origin)) → ⊥
-no_status why origin status = let e : 69 ∷ (begins_error why origin).0 ≡ 83 ∷ 32 ∷ status.0 = status.1 in absurd (cc e)
+no_status why origin status = let e : 69 ∷ (begins_error why origin).0 ≡ 83 ∷ 32 ∷ line_of status.rest = status.is in absurd (cc e)

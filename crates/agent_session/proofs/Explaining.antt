@@ -1,7 +1,7 @@
 -- Parts of a request on keys each of whose refusals has its cause among the events of the request.
 use Rattle.std.specs.List.{AllByRecursion}
 use Rattle.std.proofs.Common.{◌≡◌, ℕ, Bool, true, false, List, ◌∷◌, Option, Some, None, Result, Ok, Err, refl}
-use Rattle.std.specs.Prelude.{⊤}
+use Rattle.std.specs.Prelude.{⊤, ◌<◌, ◌^◌}
 use Rattle.agent_ask.specs.Further.{FurtherEvent, Keys, Read, Dice, NotDrawn, NoMemory}
 use Rattle.agent_ask.specs.SessionEvents.{Further, cache_turn}
 use Rattle.agent_ports.specs.declared.grip.Grip.{Grip}
@@ -25,6 +25,7 @@ use Rattle.key_commands.specs.declared.refusal.Refusal.{Refusal}
 use Rattle.key_commands.specs.declared.refusal.Refusal.TheVariants.{Agent, Pinentry, Client}
 use Rattle.agent_session.specs.Causes.{Has, StandIn, IsCaused, IsSaid, said, IsSent, sent, IsUnread, IsDrawn, one, turned, by_stop, GivesNone, none_given}
 use Rattle.agent_session.specs.Completeness.{AnswersNothing, IsStatus}
+use Rattle.agent_session.proofs.Asides.{limit_status}
 use Rattle.agent_origin.specs.declared.kept.Kept.{Kept}
 use Rattle.agent_session.proofs.Standing.{has_first, has_second, stand_left, stand_right, each_append}
 
@@ -207,8 +208,8 @@ module _ (rules : Rules) (kept : Kept) (request : Request) (whole : List (Event 
     inquires : Explains (Inquires word limit) (IsSent whole word limit)
     inquires = record { of = inquires_of }
 
-    pub asks_client : Explains (AsksClient word limit) (IsSent whole word limit)
-    asks_client = bind Anything (IsSent whole word limit) (writes (limit_line limit) (_, refl)) (λ told good. inquires)
+    pub asks_client : limit < 2 ^ 64 → Explains (AsksClient word limit) (IsSent whole word limit)
+    asks_client small = bind Anything (IsSent whole word limit) (writes (limit_line limit) (limit_status limit small)) (λ told good. inquires)
 
   -- ---- the keys and the dice
 

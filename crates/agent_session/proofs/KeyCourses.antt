@@ -41,8 +41,7 @@ use Rattle.key_commands.specs.KeyParts.{Tells, tells, ReadsFile, Replaces, Remov
 use Rattle.key_commands.specs.KeyParts.{max_key_data, AsksKeyData, Unwraps, ReceivesKey, NamesKey, IsFree, LooksOver, WrapsKey, PromptsConsent, Agrees, Consents, file_in, grips_in, change_fault}
 use Rattle.key_commands.specs.KeyParts.{consent_refusal}
 use Rattle.key_commands.specs.KeyParts as parts
-use Rattle.assuan_escape.specs.Escapes.{hex_text}
-use Rattle.key_commands.specs.Lines.{ok, grip_text, limit_line, nonce_line}
+use Rattle.key_commands.specs.Lines.{ok, grip_text, info_line, limit_line}
 use Rattle.key_commands.specs.Parts.{Part, ◌>>=◌, Follows, goes_on, stops, Returns, returns, Refuses, Interrupts, Asks, Seats, Changes, Peeks, Closes, Writes, Inquires, AsksClient, Finds, Draws, read_fault, refusal_events, refusal_went}
 use Rattle.key_commands.specs.Parts as small
 use Rattle.key_commands.specs.Passphrases.{PromptsPin, PromptsOld, PromptsNew, ClientOld, UncachedOld, CachedOld, OpensLocked, OldPassphrase, VerifiesPassphrase, ClientNew, NewPassphrase}
@@ -56,13 +55,16 @@ use Rattle.key_commands.specs.declared.request.KeyRequest.TheVariants as on
 use Rattle.key_commands.specs.declared.went.KeyWent.{KeyWent}
 use Rattle.key_commands.specs.declared.wrap_keys.WrapKeys.{WrapKeys}
 use Rattle.agent_session.specs.Causes.{on_keys}
+use Rattle.assuan_escape.specs.Escapes.{hex_text}
 use Rattle.agent_session.specs.Completeness.{EndsInOk, error, done}
+use Rattle.agent_session.specs.Completeness as completeness
 use Rattle.agent_session.specs.Refusals.{refuses, IsAllowed, IsWork, AreWork, IsWorkStep, IsNotice, limit, info, MayStore, exported, changed, imported, shuts, IsLast, said, gone as client_gone}
 use Rattle.agent_session.specs.Refusals.{GivesBack, no_ticket, with_ticket, Settles, settled, interrupted, IsEnd, Course}
 use Rattle.agent_session.specs.Refusals as course
 use Rattle.agent_session.proofs.Courses.{by_turn, WorkEnd, no_more, refused, Works, works, ok_works, err_works, behind_work, one_works, WorksSo, bind, returned, refuses_by, is_needed, or_otherwise, is_unless, is_wanted}
 use Rattle.agent_session.proofs.PromptCourses.{ShownEnd, no_more as no_shown, stopped, Shows, pin_shows_work, consent_shows_work, pin_code, consent_code}
-use Rattle.agent_session.proofs.Replying.{IsReply, begins, reply_keys}
+use Rattle.agent_session.proofs.Asides.{info_status, nonce_status, status_aside}
+use Rattle.agent_session.proofs.Replying.{IsReply, begins, ends_in_ok, reply_keys}
 use Rattle.agent_session.proofs.Standing.{each_append}
 
 module _ (request : Request) where
@@ -334,7 +336,7 @@ module _ (request : Request) where
 
     -- ---- passphrases
 
-    module _ (stores : MayStore request Normal) (locked : LockedKey) where
+    module _ (stores : MayStore request (grip_text grip) Normal) (locked : LockedKey) where
       client_old : PartHere (ClientOld rules options grip locked)
       unfolding ClientOld
       client_old =
@@ -353,7 +355,7 @@ module _ (request : Request) where
           bind request (looks_for_nonce id) (λ by_nonce. bind request (tries_found locked by_nonce) (λ first. or_otherwise request first
           (bind request (looks (own_step (ask_key grip (way_of options.mode)) refl tt)) (λ cached. bind request (tries_found locked cached) (λ second. or_otherwise request second (uncached_old options.mode))))))
 
-    module _ (stores : MayStore request Normal) where
+    module _ (stores : MayStore request (grip_text grip) Normal) where
       old_here : (id : Option (List ℕ)) (key : Key) (clear : Bool) → PartHere (passphrases.old_by rules options grip id key clear)
       old_here id key true = returned request _
       old_here id key false = bind request (record { of = locks_of key }) (λ locked. opens_locked stores locked id)
@@ -578,15 +580,15 @@ module _ (request : Request) where
     unfolding KeyWrapReplies
     key_wrap way = ends_working (bind request (or_otherwise request (wrap_key way wraps) (draws 16)) (λ key. bind request (told key) (λ text. returned request _)))
 
-    export_key : MayStore request Normal → (grip : Grip) (id : Option (List ℕ)) → EndsSo (ExportKeyReplies rules options wraps grip id)
+    export_key : (grip : Grip) → MayStore request (grip_text grip) Normal → (id : Option (List ℕ)) → EndsSo (ExportKeyReplies rules options wraps grip id)
     unfolding ExportKeyReplies
-    export_key stores grip id =
+    export_key grip stores id =
         bind_ends (is_needed request code.Parameter wraps.export) (λ wrap. bind_ends (reads_file grip) (λ file. bind_ends (old_here rules options grip stores id file.key file.key.is_clear)
         (λ opened. record { of = wraps_last_of opened.by wrap opened.key wraps })))
 
-    verify : MayStore request Normal → (grip : Grip) → EndsSo (VerifyReplies rules options wraps grip)
+    verify : (grip : Grip) → MayStore request (grip_text grip) Normal → EndsSo (VerifyReplies rules options wraps grip)
     unfolding VerifyReplies
-    verify stores grip = bind_ends (reads_file grip) (λ file. bind_ends (verified_here rules options grip stores file.key file.key.is_clear) (λ opened. record { of = gives_back_of opened.by _ }))
+    verify grip stores = bind_ends (reads_file grip) (λ file. bind_ends (verified_here rules options grip stores file.key file.key.is_clear) (λ opened. record { of = gives_back_of opened.by _ }))
 
     delete_key : (force : Bool) (grip : Grip) → EndsSo (DeleteKeyReplies rules options wraps force grip)
     unfolding DeleteKeyReplies
@@ -604,17 +606,17 @@ module _ (request : Request) where
         bind_ends (record { of = is_short_of key }) (λ short. bind_ends (bind request (looks_for_nonce id) (λ found. or_otherwise request found (new_here rules options grip options.mode)))
         (λ pass. rewrites_file grip file key pass))
 
-    passwd : MayStore request Normal → (grip : Grip) (id new_id : Option (List ℕ)) → EndsSo (PasswdReplies rules options wraps grip id new_id)
+    passwd : (grip : Grip) → MayStore request (grip_text grip) Normal → (id new_id : Option (List ℕ)) → EndsSo (PasswdReplies rules options wraps grip id new_id)
     unfolding PasswdReplies
-    passwd stores grip id new_id =
+    passwd grip stores id new_id =
         bind_ends (reads_file grip) (λ file. bind_ends (old_here rules options grip stores id file.key file.key.is_clear) (λ opened. made _ (changes_opened grip new_id file.bytes opened.key)))
 
-    stores_key : MayStore request Nonce → (count : ℕ) (key : Key) (grip : Grip) (pass : List ℕ) → EndsSo (StoresKey count key grip pass)
+    stores_key : ((drawn : List ℕ) → MayStore request (hex_text drawn) Nonce) → (count : ℕ) (key : Key) (grip : Grip) (pass : List ℕ) → EndsSo (StoresKey count key grip pass)
     stores_key stores count key grip pass =
         bind_ends (draws 32) (λ drawn. bind_ends (protects key pass (take 8 drawn) (take 12 (drop 8 drawn)) count)
-        (λ file. bind_ends (changes (own_step _ refl stores)) (λ cached. record { of = stores_so_of grip file pass (drop 20 drawn) })))
+        (λ file. bind_ends (changes (own_step _ refl (stores (drop 20 drawn)))) (λ cached. record { of = stores_so_of grip file pass (drop 20 drawn) })))
 
-    import_key : MayStore request Nonce → (force : Bool) (id : Option (List ℕ)) → EndsSo (ImportKeyReplies rules options wraps force id)
+    import_key : ((drawn : List ℕ) → MayStore request (hex_text drawn) Nonce) → (force : Bool) (id : Option (List ℕ)) → EndsSo (ImportKeyReplies rules options wraps force id)
     unfolding ImportKeyReplies
     import_key stores force id =
         bind_ends (is_needed request code.Parameter wraps.import) (λ wrap. bind_ends (receives_key wrap) (λ key. bind_ends (record { of = names_key_of key }) (λ grip. bind_ends (is_free force grip)
@@ -627,9 +629,9 @@ module _ (request : Request) where
     replies on.ListKeys is = list_keys
     replies (on.KeyWrap way) is = key_wrap way
     replies (on.ImportKey force id) is = import_key (imported is) force id
-    replies (on.ExportKey grip id) is = export_key (exported is) grip id
-    replies (on.Passwd grip old new true) is = verify (changed is) grip
-    replies (on.Passwd grip old new false) is = passwd (changed is) grip old new
+    replies (on.ExportKey grip id) is = export_key grip (exported is) id
+    replies (on.Passwd grip old new true) is = verify grip (changed is)
+    replies (on.Passwd grip old new false) is = passwd grip (changed is) old new
     replies (on.DeleteKey grip force) is = delete_key force grip
     replies (on.Bad why) is = ends_working (refuses_by request (Agent why))
 
@@ -695,9 +697,13 @@ module _ {A : Type 0} {part : Part A} {next : A → Part KeyReply} (then : (valu
 reply_ends_in_ok : {text : List ℕ} → IsReply text → EndsInOk text
 reply_ends_in_ok (begins other ends) = ends
 
--- an OK line behind anything
-ok_behind : (before : List ℕ) → EndsInOk (before ++ ok)
-ok_behind before = record { before = before; rest = []; is = refl; one_line = refl }
+-- what is known of a key, and an OK line
+info_ok_of : (grip : Grip) (key : Key) (wraps : WrapKeys) {before after : Option ℕ} {events : List (Event FurtherEvent)} {reply : KeyReply}
+    → (TellsInfo grip key >>= λ line. Returns (exchange.reply wraps (line ++ ok))) before events (Ok reply) after → EndsInOk reply.text
+info_ok_of grip key wraps (goes_on (goes_on {value = cached} peeks line) returns) = info_told line
+  where
+    info_told : {before after : Option ℕ} {events : List (Event FurtherEvent)} {line : List ℕ} → Returns (info_line grip cached key.is_clear) before events (Ok line) after → EndsInOk (line ++ ok)
+    info_told returns = ends_in_ok (status_aside (info_status grip cached key.is_clear))
 
 tells_ok_of : (bytes : List ℕ) (make : List ℕ → WrapKeys) {before after : Option ℕ} {events : List (Event FurtherEvent)} {reply : KeyReply}
     → (Tells bytes >>= λ text. Returns (exchange.reply (make text) text)) before events (Ok reply) after → EndsInOk reply.text
@@ -706,15 +712,15 @@ tells_ok_of bytes make (goes_on (tells answers) returns) = reply_ends_in_ok (rep
 module _ (rules : Rules) (options : OptionValues) (wraps : WrapKeys) where
   have_key_ok : (grips : List Grip) → RepliesOk (HaveKeyReplies rules options wraps grips)
   unfolding HaveKeyReplies
-  have_key_ok grips = ok_then (λ one. ok_returns _ (ok_behind []))
+  have_key_ok grips = ok_then (λ one. ok_returns _ (ends_in_ok completeness.none))
 
   key_info_ok : (grip : Grip) → RepliesOk (KeyInfoReplies rules options wraps grip)
   unfolding KeyInfoReplies
-  key_info_ok grip = ok_then (λ file. ok_then (λ line. ok_returns _ (ok_behind line)))
+  key_info_ok grip = ok_then (λ file. record { of = info_ok_of grip file.key wraps })
 
   list_keys_ok : RepliesOk (ListKeysReplies rules options wraps)
   unfolding ListKeysReplies
-  list_keys_ok = ok_then (λ grips. ok_then (λ written. ok_returns _ (ok_behind [])))
+  list_keys_ok = ok_then (λ grips. ok_then (λ written. ok_returns _ (ends_in_ok completeness.none)))
 
   key_wrap_ok : (way : Direction) → RepliesOk (KeyWrapReplies rules options wraps way)
   unfolding KeyWrapReplies
@@ -722,7 +728,7 @@ module _ (rules : Rules) (options : OptionValues) (wraps : WrapKeys) where
 
   import_key_ok : (force : Bool) (id : Option (List ℕ)) → RepliesOk (ImportKeyReplies rules options wraps force id)
   unfolding ImportKeyReplies
-  import_key_ok force id = ok_then (λ wrap. ok_then (λ key. ok_then (λ grip. ok_then (λ free. ok_then (λ pass. ok_then (λ cache_nonce. ok_returns _ (ok_behind (nonce_line (hex_text cache_nonce)))))))))
+  import_key_ok force id = ok_then (λ wrap. ok_then (λ key. ok_then (λ grip. ok_then (λ free. ok_then (λ pass. ok_then (λ cache_nonce. ok_returns _ (ends_in_ok (status_aside (nonce_status cache_nonce)))))))))
 
   export_key_ok : (grip : Grip) (id : Option (List ℕ)) → RepliesOk (ExportKeyReplies rules options wraps grip id)
   unfolding ExportKeyReplies
@@ -730,15 +736,15 @@ module _ (rules : Rules) (options : OptionValues) (wraps : WrapKeys) where
 
   passwd_ok : (grip : Grip) (id new_id : Option (List ℕ)) → RepliesOk (PasswdReplies rules options wraps grip id new_id)
   unfolding PasswdReplies
-  passwd_ok grip id new_id = ok_then (λ file. ok_then (λ opened. ok_then (λ changed. ok_returns _ (ok_behind []))))
+  passwd_ok grip id new_id = ok_then (λ file. ok_then (λ opened. ok_then (λ changed. ok_returns _ (ends_in_ok completeness.none))))
 
   verify_ok : (grip : Grip) → RepliesOk (VerifyReplies rules options wraps grip)
   unfolding VerifyReplies
-  verify_ok grip = ok_then (λ file. ok_then (λ opened. ok_then (λ closed. ok_returns _ (ok_behind []))))
+  verify_ok grip = ok_then (λ file. ok_then (λ opened. ok_then (λ closed. ok_returns _ (ends_in_ok completeness.none))))
 
   delete_key_ok : (force : Bool) (grip : Grip) → RepliesOk (DeleteKeyReplies rules options wraps force grip)
   unfolding DeleteKeyReplies
-  delete_key_ok force grip = ok_then (λ there. ok_then (λ some. ok_then (λ agreed. ok_then (λ removed. ok_then (λ cleared. ok_returns _ (ok_behind []))))))
+  delete_key_ok force grip = ok_then (λ there. ok_then (λ some. ok_then (λ agreed. ok_then (λ removed. ok_then (λ cleared. ok_returns _ (ends_in_ok completeness.none))))))
 
   bad_ok_of : (why : Code) {before after : Option ℕ} {events : List (Event FurtherEvent)} {result : Result KeyReply Refusal} {reply : KeyReply} → Refuses (Agent why) before events result after → result ≡ Ok reply
       → EndsInOk reply.text

@@ -69,7 +69,8 @@ module _ (rules : Rules) (kept : Kept) (request : Request) (whole : List (Event 
     keys_explained : (asked : KeyRequest) → on_keys request ≡ Some asked → {events : List (Event FurtherEvent)} {after : WrapKeys} {went : KeyWent}
         → Exchange rules kept.options kept.wraps asked events after went → StandIn events whole → Here events (went_after_key went)
     keys_explained asked is (answered events held reply {back} does closes) stands =
-        let part : Comes rules kept request whole (Replied rules kept request whole) events (Ok reply) = (replies rules kept request whole never_absent line_caused asked is).of None events (Ok reply) held does (stand_left events _ stands) in
+        let part : Comes rules kept request whole (Replied rules kept request whole) events (Ok reply) =
+        (replies rules kept request whole never_absent line_caused asked is).of None events (Ok reply) held does (stand_left events _ stands) in
         let close : Comes rules kept request whole Anything back (Ok tt) = closes_of rules kept request whole None held back (Ok tt) None closes (stand_left back _ (stand_right events _ stands)) in
         after_these _ _ events part.silent (after_these _ _ back close.silent (replied [] reply.text tt part.explained tt))
     keys_explained asked is (refused events held why {back} does closes) stands =

@@ -46,6 +46,7 @@ use Rattle.agent_session.specs.Causes.{GivesNoneFor, ByNonce, HasNoEntry, export
 use Rattle.agent_session.specs.Completeness.{IsStatus}
 use Rattle.agent_origin.specs.declared.kept.Kept.{Kept}
 use Rattle.agent_session.proofs.Explaining.{Caused, Comes, Explains, Anything, IsFound, bind, whatever, returned, refused, is_needed, or_otherwise, is_wanted, seats, changes, peeks, closes_explained}
+use Rattle.agent_session.proofs.Asides.{info_status, limit_status}
 use Rattle.agent_session.proofs.Explaining.{writes, inquires_of, asks_client, finds, draws, out_of_memory_first, out_of_memory_second, FoundBy, looks}
 use Rattle.agent_session.proofs.Faulty.{first_fault_said}
 use Rattle.agent_session.proofs.KeyParts.{Either, fault_caused, looks_for_nonce, takes_seat, keeps_new, locks, tries, tries_found, prompts_old, prompts_new, agrees, reads_file, removes, replaces}
@@ -119,7 +120,7 @@ module _ (rules : Rules) (kept : Kept) (request : Request) (whole : List (Event 
   -- ---- what is known of keys
 
   tells_info : (grip : Grip) (key : Key) → ExplainsHere (TellsInfo grip key) IsStatus
-  tells_info grip key = bind rules kept request whole Anything IsStatus (peeks rules kept request whole grip) (λ cached any. returned rules kept request whole IsStatus _ (_, refl))
+  tells_info grip key = bind rules kept request whole Anything IsStatus (peeks rules kept request whole grip) (λ cached any. returned rules kept request whole IsStatus _ (info_status grip cached key.is_clear))
 
   lists_of : (before : Option ℕ) (events : List (Event FurtherEvent)) (result : Result (List Grip) Refusal) (after : Option ℕ) → ListsGrips before events result after → StandIn events whole
       → ComesHere Anything events result
@@ -202,7 +203,7 @@ module _ (rules : Rules) (kept : Kept) (request : Request) (whole : List (Event 
 
   receives_key : (wrap : List ℕ) → kept.wraps.import ≡ Some wrap → ExplainsHere (ReceivesKey wrap) Anything
   receives_key wrap drawn =
-      bind rules kept request whole Anything Anything (writes rules kept request whole (limit_line max_key_data) (_, refl))
+      bind rules kept request whole Anything Anything (writes rules kept request whole (limit_line max_key_data) (limit_status max_key_data (omega arith)))
       (λ told any. bind rules kept request whole (IsSent whole (codes "KEYDATA") max_key_data) Anything asks_key_data (λ wrapped sent. unwraps wrap wrapped drawn sent))
 
   is_free : (force : Bool) (grip : Grip) {id : Option (List ℕ)} → on_keys request ≡ Some (on.ImportKey force id) → ExplainsHere (IsFree force grip) Anything
@@ -228,7 +229,7 @@ module _ (rules : Rules) (kept : Kept) (request : Request) (whole : List (Event 
     client_old : kept.options.mode ≡ mode.Loopback → ExplainsHere (ClientOld rules kept.options grip locked) (λ opened. OpensRead whole opened.key)
     unfolding ClientOld
     client_old loopback =
-        bind rules kept request whole (IsSent whole (codes "PASSPHRASE") MAX_SECRET_LEN) (λ opened. OpensRead whole opened.key) (asks_client rules kept request whole (codes "PASSPHRASE") MAX_SECRET_LEN)
+        bind rules kept request whole (IsSent whole (codes "PASSPHRASE") MAX_SECRET_LEN) (λ opened. OpensRead whole opened.key) (asks_client rules kept request whole (codes "PASSPHRASE") MAX_SECRET_LEN (omega arith))
         (λ pass sent. bind rules kept request whole (Either rules kept request whole (λ opened. OpensRead whole opened.key) (¬ OpensBy locked pass)) (λ opened. OpensRead whole opened.key)
         (tries rules kept request whole locked is_locked pass)
         (λ tried so. bind rules kept request whole (λ opened. OpensRead whole opened.key) (λ opened. OpensRead whole opened.key)
@@ -280,8 +281,9 @@ module _ (rules : Rules) (kept : Kept) (request : Request) (whole : List (Event 
     client_new : kept.options.mode ≡ mode.Loopback → ExplainsHere ClientNew Anything
     unfolding ClientNew
     client_new loopback =
-        bind rules kept request whole (IsSent whole (codes "NEW_PASSPHRASE") MAX_SECRET_LEN) Anything (asks_client rules kept request whole (codes "NEW_PASSPHRASE") MAX_SECRET_LEN)
-        (λ pass sent. bind rules kept request whole (λ done. not (length pass == 0) ≡ true) Anything (is_wanted rules kept request whole code.BadPass (not (length pass == 0)) (λ none. empty loopback (subst (IsSent whole (codes "NEW_PASSPHRASE") MAX_SECRET_LEN) (is_empty pass none) sent)))
+        bind rules kept request whole (IsSent whole (codes "NEW_PASSPHRASE") MAX_SECRET_LEN) Anything (asks_client rules kept request whole (codes "NEW_PASSPHRASE") MAX_SECRET_LEN (omega arith))
+        (λ pass sent. bind rules kept request whole (λ done. not (length pass == 0) ≡ true) Anything (is_wanted rules kept request whole code.BadPass (not (length pass == 0))
+        (λ none. empty loopback (subst (IsSent whole (codes "NEW_PASSPHRASE") MAX_SECRET_LEN) (is_empty pass none) sent)))
         (λ some so. returned rules kept request whole Anything pass tt))
       where
         is_empty : (pass : List ℕ) → not (length pass == 0) ≡ false → pass ≡ []
@@ -336,7 +338,8 @@ module _ (rules : Rules) (kept : Kept) (request : Request) (whole : List (Event 
   key_wrap : (way : Direction) → Explains rules kept request whole (KeyWrapReplies rules kept.options kept.wraps way) Replied
   unfolding KeyWrapReplies
   key_wrap way =
-      bind rules kept request whole Anything Replied (or_otherwise rules kept request whole Anything (wrap_key way kept.wraps) _ (λ some is. tt) (λ none. whatever rules kept request whole (IsDrawn whole 16) (draws rules kept request whole 16)))
+      bind rules kept request whole Anything Replied (or_otherwise rules kept request whole Anything (wrap_key way kept.wraps) _ (λ some is. tt)
+      (λ none. whatever rules kept request whole (IsDrawn whole 16) (draws rules kept request whole 16)))
       (λ key any. bind rules kept request whole IsReply Replied (told rules kept request whole key) (λ text is_reply. replied _ is_reply))
 
   export_key : (grip : Grip) (nonce : Option (List ℕ)) → on_keys request ≡ Some (on.ExportKey grip nonce)
@@ -345,7 +348,8 @@ module _ (rules : Rules) (kept : Kept) (request : Request) (whole : List (Event 
   export_key grip id asked =
       bind rules kept request whole Anything Replied (is_needed rules kept request whole Anything code.Parameter kept.wraps.export (λ none. no_export asked none) (λ some is. tt))
       (λ wrap any. bind rules kept request whole (λ file. IsReadOf whole grip file.bytes × IsRead whole (Ok file.key)) Replied (reads_file rules kept request whole grip (λ absent. subst (LacksKeys whole) (sym asked) absent))
-      (λ file is_read. bind rules kept request whole (λ opened. OpensRead whole opened.key) Replied (old_passphrase rules kept request whole grip file.key.is_clear file.key id is_read.1 (λ locked is_locked by_nonce by_key. exported _ asked is_locked by_nonce by_key))
+      (λ file is_read. bind rules kept request whole (λ opened. OpensRead whole opened.key) Replied (old_passphrase rules kept request whole grip file.key.is_clear file.key id is_read.1
+      (λ locked is_locked by_nonce by_key. exported _ asked is_locked by_nonce by_key))
       (λ opened opens. bind rules kept request whole Anything Replied (closes_explained rules kept request whole opened.by)
       (λ closed any. bind rules kept request whole Anything Replied (wraps_key rules kept request whole wrap opened.key)
       (λ wrapped any. bind rules kept request whole IsReply Replied (told rules kept request whole wrapped) (λ text is_reply. replied _ is_reply))))))
@@ -426,7 +430,8 @@ module _ (rules : Rules) (kept : Kept) (request : Request) (whole : List (Event 
         → Explains rules kept request whole (ImportKeyReplies rules kept.options kept.wraps force nonce) Replied
     unfolding ImportKeyReplies
     import_key force id asked =
-        bind rules kept request whole (λ wrap. kept.wraps.import ≡ Some wrap) Replied (is_needed rules kept request whole (λ wrap. kept.wraps.import ≡ Some wrap) code.Parameter kept.wraps.import (λ none. no_import asked none) (λ some is. is))
+        bind rules kept request whole (λ wrap. kept.wraps.import ≡ Some wrap) Replied (is_needed rules kept request whole (λ wrap. kept.wraps.import ≡ Some wrap) code.Parameter kept.wraps.import
+        (λ none. no_import asked none) (λ some is. is))
         (λ wrap drawn. bind rules kept request whole Anything Replied (receives_key rules kept request whole wrap drawn)
         (λ key any. bind rules kept request whole Anything Replied (names_key rules kept request whole key)
         (λ grip any. bind rules kept request whole Anything Replied (is_free rules kept request whole force grip asked)
@@ -456,7 +461,8 @@ module _ (rules : Rules) (kept : Kept) (request : Request) (whole : List (Event 
     unfolding PasswdReplies
     passwd grip id new_id asked =
         bind rules kept request whole (λ file. IsReadOf whole grip file.bytes × IsRead whole (Ok file.key)) Replied (reads_file rules kept request whole grip (λ absent. subst (LacksKeys whole) (sym asked) absent))
-        (λ file is_read. bind rules kept request whole (λ opened. OpensRead whole opened.key) Replied (old_passphrase rules kept request whole grip file.key.is_clear file.key id is_read.1 (λ locked is_locked by_nonce by_key. changed _ asked is_locked by_nonce by_key))
+        (λ file is_read. bind rules kept request whole (λ opened. OpensRead whole opened.key) Replied (old_passphrase rules kept request whole grip file.key.is_clear file.key id is_read.1
+        (λ locked is_locked by_nonce by_key. changed _ asked is_locked by_nonce by_key))
         (λ opened opens. bind rules kept request whole Anything Replied (changes_opened grip asked file.bytes is_read.0 opened.key opens) (λ changed_so any. replied _ reply_ok)))
 
     -- a request on keys, whose line may be refused

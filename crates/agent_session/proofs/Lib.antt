@@ -1,12 +1,13 @@
 pub mod Answering
+mod Asides
 pub mod AtOnce
-mod BesideTrust
+pub mod BesideTrust
 mod CacheCourses
 mod CacheOpens
 mod CacheRequests
 mod Completing
 mod Courses
-mod DoorAnswering
+pub mod DoorAnswering
 mod EachEvent
 mod ErrorLines
 mod Explained
@@ -28,6 +29,7 @@ mod SessionCourses
 mod Standing
 mod Talking
 mod TrustDenied
+mod TrustEnds
 mod TrustExplained
 mod Uncaused
 mod WorkedExamples

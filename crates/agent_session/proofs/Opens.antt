@@ -299,7 +299,8 @@ module _ (rules : Rules) (options : OptionValues) (wraps : WrapKeys) where
 
   key_info : (grip : Grip) → OpensSo (KeyInfoReplies rules options wraps grip)
   unfolding KeyInfoReplies
-  key_info grip = prompts_opens (uncalled_prompts (each_bind IsUncalled (reads_file IsUncalled still_uncalled grip) (λ file. each_bind IsUncalled (tells_info IsUncalled still_uncalled (λ key turn. tt) grip file.key) (λ line. each_returned IsUncalled _))))
+  key_info grip = prompts_opens (uncalled_prompts (each_bind IsUncalled (reads_file IsUncalled still_uncalled grip)
+      (λ file. each_bind IsUncalled (tells_info IsUncalled still_uncalled (λ key turn. tt) grip file.key) (λ line. each_returned IsUncalled _))))
 
   list_keys : OpensSo (ListKeysReplies rules options wraps)
   unfolding ListKeysReplies
@@ -308,7 +309,8 @@ module _ (rules : Rules) (options : OptionValues) (wraps : WrapKeys) where
   key_wrap : (way : Direction) → OpensSo (KeyWrapReplies rules options wraps way)
   unfolding KeyWrapReplies
   key_wrap way =
-      prompts_opens (uncalled_prompts (each_bind IsUncalled (each_otherwise IsUncalled (wrap_key way wraps) (draws IsUncalled still_uncalled 16)) (λ key. each_bind IsUncalled (told IsUncalled still_uncalled key) (λ text. each_returned IsUncalled _))))
+      prompts_opens (uncalled_prompts (each_bind IsUncalled (each_otherwise IsUncalled (wrap_key way wraps) (draws IsUncalled still_uncalled 16))
+      (λ key. each_bind IsUncalled (told IsUncalled still_uncalled key) (λ text. each_returned IsUncalled _))))
 
   export_key : (grip : Grip) (id : Option (List ℕ)) → OpensSo (ExportKeyReplies rules options wraps grip id)
   unfolding ExportKeyReplies

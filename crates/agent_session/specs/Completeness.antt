@@ -41,8 +41,10 @@ use Rattle.agent_origin.specs.declared.kept.Kept.{Kept}
 -- ---- answers
 
 -- a status line, which answers nothing yet
-abbrev pub IsStatus : List ℕ → Type 0
-IsStatus text = (rest : List ℕ) × (text ≡ codes "S " ++ rest)
+pub record IsStatus (text : List ℕ) : Type 0 where
+  pub rest : List ℕ
+  pub is : text ≡ line_of (codes "S " ++ rest)
+  pub one_line : has_lf rest ≡ false
 
 -- by this event nothing is answered
 abbrev pub AnswersNothing : Event FurtherEvent → Type 0
@@ -50,9 +52,21 @@ AnswersNothing (Received took) = ⊥
 AnswersNothing (Sent text) = IsStatus text
 AnswersNothing _ = ⊤
 
--- a text whose last line is an OK line
+-- a line of data, of a status, or a comment, without its end
+pub data IsAside : List ℕ → Type 0 where
+  of_data : {rest : List ℕ} → has_lf rest ≡ false → IsAside (codes "D " ++ rest)
+  of_status : {rest : List ℕ} → has_lf rest ≡ false → IsAside (codes "S " ++ rest)
+  of_comment : {rest : List ℕ} → has_lf rest ≡ false → IsAside (codes "# " ++ rest)
+
+-- such lines, one after another
+pub data AreAsides : List ℕ → Type 0 where
+  none : AreAsides []
+  one_more : {line more : List ℕ} → IsAside line → AreAsides more → AreAsides (line_of line ++ more)
+
+-- a text that is an OK line, before which stand only lines that answer nothing
 pub record EndsInOk (text : List ℕ) : Type 0 where
   pub before : List ℕ
+  pub asides : AreAsides before
   pub rest : List ℕ
   pub is : text ≡ before ++ line_of (codes "OK" ++ rest)
   pub one_line : has_lf rest ≡ false

@@ -2,9 +2,11 @@
 -- exchange, for each code of a request on the trust list. The codes and their causes are this project's own.
 use Rattle.std.specs.List.{filter_map}
 use Rattle.std.specs.Prelude.{◌≡◌, ◌<◌, ◌⊎◌, ℕ, Bool, true, false, List, length, Option, Some, None, ⊤}
+use Rattle.agent_ask.specs.Events.{Call}
 use Rattle.agent_ask.specs.Further.{FurtherEvent}
 use Rattle.agent_ask.specs.Prompters.{is_failed}
 use Rattle.agent_ask.specs.SessionEvents.{Received, Sent, Cut, Inquiry, CacheTurn, Further}
+use Rattle.agent_ask.specs.Worlds.{Outside}
 use Rattle.agent_commands.specs.Events.{Event as SessionEvent}
 use Rattle.agent_commands.specs.Requests.{request_of}
 use Rattle.agent_ports.specs.declared.grip.Grip.{Grip}
@@ -17,7 +19,9 @@ use Rattle.assuan_server.specs.declared.errors.Code.TheVariants as code
 use Rattle.assuan_server.specs.declared.errors.Origin.{Origin}
 use Rattle.assuan_server.specs.declared.errors.Origin.TheVariants.{Agent, Pinentry}
 use Rattle.assuan_text.specs.Words.{command_of}
-use Rattle.cache_policy.specs.Turns.{Stopping, Late}
+use Rattle.cache_policy.specs.Turns.{Turn, Stopping, Late}
+use Rattle.cache_policy.specs.declared.mark.MarkStep.{MarkStep}
+use Rattle.key_commands.specs.States.{KeyWorld}
 use Rattle.session_client.specs.declared.unheard.Gone.TheVariants as gone
 use Rattle.session_client.specs.declared.unheard.Unheard.TheVariants as unheard
 use Rattle.session_options.specs.OptionValues.{OptionValues}
@@ -29,6 +33,7 @@ use Rattle.agent_origin.specs.Doors.{allowed}
 use Rattle.agent_origin.specs.Exchanges.{flag_of}
 use Rattle.agent_origin.specs.Names.{command_named}
 use Rattle.agent_origin.specs.OriginEvents.{Event, TrustCall, Read, Replaced, Session, Trust, called}
+use Rattle.agent_origin.specs.Origins.{origin_world}
 use Rattle.agent_origin.specs.Parts.{file_in}
 use Rattle.agent_origin.specs.Requests.{trust_request_of}
 use Rattle.agent_origin.specs.declared.door.Door.{Door}
@@ -54,6 +59,11 @@ session_event (Further (Trust call)) = None
 -- the events but the calls of the trust file
 abbrev pub beside_trust : List Event → List (SessionEvent FurtherEvent)
 beside_trust events = filter_map session_event events
+
+module _ {D P : Type 0} (turned : D → MarkStep → Turn → D → Type 0) (prompted : P → Call → P → Type 0) where
+  -- the ends but the trust file
+  abbrev pub beside : Outside (origin_world turned prompted) → Outside (KeyWorld turned prompted)
+  beside now = record { input = now.input; source = now.source; output = now.output; desk = now.desk; ends = now.ends.further }
 
 -- a call of the trust file found no memory, or failed
 abbrev pub WantsMemoryAtTrust : TrustCall → Type 0

@@ -4,3 +4,4 @@ pub mod DoorCauses
 pub mod DoorCompleteness
 pub mod Refusals
 pub mod Sessions
+pub mod TrustCalls

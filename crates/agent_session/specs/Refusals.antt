@@ -14,6 +14,7 @@ use Rattle.agent_ports.specs.declared.keys.KeyDone.TheVariants as key_done
 use Rattle.agent_ports.specs.declared.keys.KeyNames.TheVariants as key_names
 use Rattle.agent_ports.specs.declared.keys.KeyRead.{KeyRead}
 use Rattle.agent_ports.specs.declared.keys.KeyRead.TheVariants as key_read
+use Rattle.assuan_escape.specs.Escapes.{hex_text}
 use Rattle.assuan_server.specs.Written.{failed}
 use Rattle.assuan_server.specs.declared.errors.Code.{Code}
 use Rattle.assuan_server.specs.declared.errors.Code.TheVariants as code
@@ -93,19 +94,19 @@ pub data IsNotice : List ℕ → Type 0 where
   limit : (limit : ℕ) → IsNotice (limit_line limit)
   info : (grip : Grip) (cached clear : Bool) → IsNotice (info_line grip cached clear)
 
--- which requests store a passphrase by a turn of their own, and under which mode
-pub data MayStore (request : Request) : Mode → Type 0 where
-  preset : {id : List ℕ} {life : Life} {secret : Option (List ℕ)} → request ≡ Cache (PresetPassphrase id life secret) → MayStore request Any
+-- which requests store a passphrase by a turn of their own, and under which id and mode
+pub data MayStore (request : Request) : List ℕ → Mode → Type 0 where
+  preset : {id : List ℕ} {life : Life} {secret : Option (List ℕ)} → request ≡ Cache (PresetPassphrase id life secret) → MayStore request id Any
   -- what the client gave in place of a prompt
-  given : (fields : GetFields) → request ≡ Cache (get_passphrase fields) → MayStore request User
-  exported : {grip : Grip} {nonce : Option (List ℕ)} → on_keys request ≡ Some (on.ExportKey grip nonce) → MayStore request Normal
-  changed : {grip : Grip} {old new : Option (List ℕ)} {verify : Bool} → on_keys request ≡ Some (on.Passwd grip old new verify) → MayStore request Normal
-  -- under a nonce alone
-  imported : {force : Bool} {nonce : Option (List ℕ)} → on_keys request ≡ Some (on.ImportKey force nonce) → MayStore request Nonce
+  given : {id : List ℕ} (fields : GetFields) → request ≡ Cache (get_passphrase fields) → fields.id ≡ Some id → MayStore request id User
+  exported : {grip : Grip} {nonce : Option (List ℕ)} → on_keys request ≡ Some (on.ExportKey grip nonce) → MayStore request (grip_text grip) Normal
+  changed : {grip : Grip} {old new : Option (List ℕ)} {verify : Bool} → on_keys request ≡ Some (on.Passwd grip old new verify) → MayStore request (grip_text grip) Normal
+  -- under a nonce that is drawn for it alone
+  imported : {force : Bool} {nonce : Option (List ℕ)} → on_keys request ≡ Some (on.ImportKey force nonce) → (drawn : List ℕ) → MayStore request (hex_text drawn) Nonce
 
 -- the turns that are its work: the cache is asked, or the prompt is wanted; and what is stored, cleared or stopped, by its own commands alone
 abbrev pub IsWorkStep : Request → MarkStep → Type 0
-IsWorkStep request (Put id mode life secret) = MayStore request mode
+IsWorkStep request (Put id mode life secret) = MayStore request id mode
 IsWorkStep request (Clear id mode) = request ≡ Cache (ClearPassphrase id mode)
 IsWorkStep request Flush = request ≡ Cache ReloadAgent
 IsWorkStep request Stop = request ≡ Cache KillAgent

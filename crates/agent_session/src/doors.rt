@@ -1,24 +1,40 @@
-ghost use Rattle.std.specs.Prelude.{List, ℕ};
+ghost use Rattle.std.specs.Prelude.{◌≡◌, List, ℕ, None, true};
 ghost use Rattle.agent_ask.specs.Worlds.{Outside, Does};
 ghost use Rattle.agent_ports.specs.Leads.{Leads};
 ghost use Rattle.agent_commands.specs.Talks.{Session};
 ghost use Rattle.agent_commands.specs.declared.went.SessionEnd.{SessionEnd as Ends};
 ghost use Rattle.agent_commands.specs.declared.went.Went.{Went};
-ghost use Rattle.agent_origin.specs.DoorSessions.{ServesDoor};
+ghost use Rattle.agent_origin.specs.DoorSessions.{DoorExchange, ServesDoor};
+ghost use Rattle.agent_origin.specs.Doors.{allowed};
+ghost use Rattle.agent_origin.specs.Names.{door_command_named};
 ghost use Rattle.agent_origin.specs.OriginEvents.{Event};
 ghost use Rattle.agent_origin.specs.Origins.{origin_world};
-ghost use Rattle.agent_origin.specs.SessionExchanges.{kept_at_start};
+ghost use Rattle.agent_origin.specs.SessionExchanges.{kept_at_start, SessionExchange};
 ghost use Rattle.agent_origin.specs.Sessions.{Surroundings};
 ghost use Rattle.agent_origin.specs.declared.door.Door.{Door};
 ghost use Rattle.agent_origin.specs.declared.kept.Kept.{Kept};
 ghost use Rattle.agent_session.specs.Completeness.{IsAnsweredOk};
-ghost use Rattle.agent_session.specs.DoorCauses.{beside_trust};
+ghost use Rattle.agent_session.specs.DoorCauses.{beside, beside_trust};
 ghost use Rattle.agent_session.specs.DoorCompleteness.{CausedAtDoor, IsUncausedAtDoor, FailuresRiseAtDoor, Remembers, NoCountRoseAtDoor, AnswersAllAtDoor};
 ghost use Rattle.assuan_server.specs.Reading.{Supply};
+ghost use Rattle.assuan_text.specs.Words.{command_of};
+ghost use Rattle.key_commands.specs.States.{KeyWorld};
 ghost use Rattle.session_options.specs.declared.rules.Rules.{Rules};
 
 use agent_ask::Prompter;
 use cache_policy::Desk;
+
+/// What is done for a line that is allowed at its session's door, and whose command isn't the door's own, is what a session without doors does for
+/// it. What its events lead from and to, beside the trust file, is the same too. So each law on such requests, as those of what stands after a
+/// refusal, is one on this line.
+pub fn an_exchange_at_a_door_is_a_sessions<D: Desk, P: Prompter>()
+    ensures exchange { (door : Door) (rules : Rules) (kept now : Kept) (line : List ℕ) (events : List Event) (went : Went)
+        → DoorExchange door rules kept line events now went → allowed door line ≡ true → door_command_named (command_of line) ≡ None
+        → SessionExchange rules kept line (beside_trust events) now went }
+    ensures leads { (supply : Supply) (before after : Outside (origin_world D.turned P.prompted)) (events : List Event)
+        → Leads (Does (origin_world D.turned P.prompted) supply) before events after
+        → Leads (Does (KeyWorld D.turned P.prompted) supply) (beside D.turned P.prompted before) (beside_trust events) (beside D.turned P.prompted after) }
+{}
 
 /// In each exchange of a session that came in by a door the request has its one answer, unless its own inquiry ended the session or a write
 /// failed, and each error line has its cause among the events of that exchange. A line is answered `Forbidden` exactly where it isn't allowed at

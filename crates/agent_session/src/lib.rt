@@ -18,12 +18,14 @@ pub use completeness::{
     requests_without_a_prompt_are_answered, without_a_cause_the_answer_is_ok,
 };
 pub use doors::{
-    a_session_at_a_door_without_faults_is_answered, each_error_at_a_door_has_its_cause,
-    failures_at_a_door_raise_counts, without_a_cause_the_answer_at_a_door_is_ok,
+    a_session_at_a_door_without_faults_is_answered, an_exchange_at_a_door_is_a_sessions,
+    each_error_at_a_door_has_its_cause, failures_at_a_door_raise_counts,
+    without_a_cause_the_answer_at_a_door_is_ok,
 };
-pub use laws::{a_session_extends_a_run, key_commands_are_read};
+pub use laws::{a_session_at_a_door_extends_a_run, a_session_extends_a_run, key_commands_are_read};
 pub use refusals::{
-    a_prompt_is_opened_first, a_refused_request_does_nothing_more, a_refused_turn_leaves_the_desk,
+    a_call_of_the_trust_file_decides_its_request, a_prompt_is_opened_first,
+    a_refused_request_does_nothing_more, a_refused_turn_leaves_the_desk,
     each_request_takes_its_course, requests_on_the_cache_alone_want_no_memory,
 };
 pub use session::serve_session;

@@ -16,6 +16,10 @@ ghost use Rattle.session_options.specs.declared.rules.Rules.{Rules};
 ghost use Rattle.agent_session.specs.Completeness.{HasError, IsStopped};
 ghost use Rattle.agent_origin.specs.SessionExchanges.{SessionExchange};
 ghost use Rattle.agent_session.specs.Refusals.{AnswersAlone, Course, IsOwnCode, LeavesDesk, OpensFirst, RefusedCourse};
+ghost use Rattle.agent_session.specs.TrustCalls.{EndsAtCalls};
+ghost use Rattle.agent_origin.specs.DoorSessions.{DoorExchange};
+ghost use Rattle.agent_origin.specs.OriginEvents.{Event as DoorEvent};
+ghost use Rattle.agent_origin.specs.declared.door.Door.{Door};
 ghost use Rattle.agent_origin.specs.declared.kept.Kept.{Kept};
 
 use agent_ask::Prompter;
@@ -55,4 +59,12 @@ pub fn requests_on_the_cache_alone_want_no_memory<D: Desk, P: Prompter>()
         → (rules : Rules) (kept now : Kept) (line : List ℕ) (events : List (Event FurtherEvent)) (went : Went) (supply : Supply) (before after : Outside (KeyWorld D.turned P.prompted))
         → SessionExchange rules kept line events now went → Leads (Does (KeyWorld D.turned P.prompted) supply) before events after
         → AllByRecursion (λ event. ¬ IsStopped event) events → AnswersAlone (request_of line) events }
+{}
+
+/// A call of the trust file that failed or found no memory is the last thing that is done for its request, but that its ticket is given back and the
+/// error line is written. So is one by which a new file took the old one's place, whose request is answered by OK: one that is answered by an error
+/// line has left the file as it was.
+pub fn a_call_of_the_trust_file_decides_its_request()
+    ensures { (door : Door) (rules : Rules) (kept now : Kept) (line : List ℕ) (events : List DoorEvent) (went : Went) → DoorExchange door rules kept line events now went
+        → EndsAtCalls events }
 {}

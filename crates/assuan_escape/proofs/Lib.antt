@@ -1,2 +1,2 @@
-mod EscapeLemmas
+pub mod EscapeLemmas
 mod OnlyData

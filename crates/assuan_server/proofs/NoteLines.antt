@@ -24,7 +24,7 @@ digits_no_lf (byte ∷ more) all =
     let parts = and_parts (is_ascii_digit byte) (all_ascii_digits more) all in
     or_from (is_lf byte) (has_lf more) (digit_no_lf byte (is_lf byte) refl parts.0) (digits_no_lf more parts.1)
 
-decimal_no_lf : (number : ℕ) → number < 2 ^ 64 → has_lf (decimal number) ≡ false
+pub decimal_no_lf : (number : ℕ) → number < 2 ^ 64 → has_lf (decimal number) ≡ false
 decimal_no_lf number small = digits_no_lf (decimal number) (digits_decimal (numerals_by_value (λ ds. all_ascii_digits ds ≡ true) tells_all_ascii_digits) number small)
 
 -- a text in two parts is a line
