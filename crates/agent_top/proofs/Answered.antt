@@ -1,14 +1,27 @@
--- Runs of the agent: each error line has its cause, and where no count rose each request is answered.
+-- Runs of the agent, and sessions of its daemon: each error line has its cause, and where no count rose each request is answered.
 use Rattle.std.proofs.Common.{◌+◌, ◌-◌, ◌^◌, ℕ, min, arith}
 use Rattle.agent_ask.specs.Events.{Call}
 use Rattle.agent_ask.specs.Prompters.{IsCall}
+use Rattle.agent_commands.specs.Talks.{Session}
+use Rattle.agent_commands.specs.declared.went.SessionEnd.{SessionEnd}
 use Rattle.agent_core.specs.Solos.{TurnsSolo}
+use Rattle.agent_origin.specs.SessionExchanges.{kept_at_start}
+use Rattle.agent_origin.specs.declared.door.Door.{Door}
 use Rattle.agent_ports.specs.Counts.{Rose}
+use Rattle.agent_ports.specs.HostParts.{Views}
+use Rattle.agent_ports.specs.Readings.{Readings}
+use Rattle.agent_ports.specs.TrustFiles.{TrustState}
+use Rattle.agent_ports.specs.declared.session.SessionId.{SessionId}
+use Rattle.agent_serve.specs.Serves.{LinkSides, ServesOne}
 use Rattle.agent_session.proofs.Answering.{each_caused, all_answered}
+use Rattle.agent_session.proofs.DoorAnswering.{each_caused_at_door, all_answered_at_door}
+use Rattle.agent_session.specs.DoorCompleteness.{AnswersAllAtDoor, CausedAtDoor, Remembers}
+use Rattle.counted_lock.specs.Passes.{AtPass}
+use Rattle.counted_lock.specs.Turns.{CountedTurn}
 use Rattle.pinentry_client.specs.Dialogues.{PinentryDoes}
 use Rattle.pinentry_client.specs.States.{AtPinentry, at_prompter}
 use Rattle.session_options.specs.declared.rules.Rules.{Rules}
-use Rattle.agent_top.specs.Completeness.{NoFault, IsAnsweredRun, answered, no_session, IsCausedRun}
+use Rattle.agent_top.specs.Completeness.{NoFault, NoFaultOfOne, IsAnsweredRun, answered, no_session, IsCausedRun}
 use Rattle.agent_top.specs.Top.{Machine, RunsServer, ran}
 use Rattle.agent_top.specs.Top as top
 use Rattle.agent_top.proofs.EndingWell.{ends_by_client}
@@ -34,3 +47,21 @@ module _ (promise : (before : AtPinentry) (call : Call) (after : AtPinentry) →
   pub server_caused : {rules : Rules} {before after : Machine} {number : ℕ} (runs : RunsServer rules before number after) → IsCausedRun runs
   server_caused {rules} (ran run) = each_caused TurnsSolo PinentryDoes at_prompter promise rules _ _ run.end run.served
   server_caused top.no_memory = tt
+
+  module _ {La C R K T : Type 0} {views : Views La C R K} {trusts : T → TrustState} {rules : Rules} {door : Door} {session : SessionId} {before after : LinkSides} {pass now : AtPass} {end : SessionEnd}
+      (one : ServesOne views trusts rules door session before pass end after now) where
+    pub daemon_answered : NoFaultOfOne one → Remembers one.served.events → AnswersAllAtDoor door rules one.served.events end
+    daemon_answered still remembers =
+        all_answered_at_door (CountedTurn (λ (readings : Readings). readings)) PinentryDoes at_prompter promise door rules _ _ end one.served
+        (record {
+          input = still.input;
+          output = still.output;
+          prompter = stands_still (views.launches one.parts.launcher).faults one.launches_now.faults still.launches;
+          keys = still.keys;
+          dice = still.dice;
+          trust = still.trust;
+        })
+        remembers
+
+    pub daemon_caused : Session (CausedAtDoor door rules) (kept_at_start rules) one.served.events end
+    daemon_caused = each_caused_at_door (CountedTurn (λ (readings : Readings). readings)) PinentryDoes at_prompter promise door rules _ _ end one.served

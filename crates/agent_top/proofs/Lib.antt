@@ -7,6 +7,7 @@ mod Rounds
 mod Running
 mod OptionReading
 mod OptionRows
+mod OptionPieces
 mod OptionWalk
 mod Stopping
 mod Spelling

@@ -27,7 +27,8 @@ use Rattle.agent_top.specs.Settings.{Setting, settings, is_set, are_distinct, al
 use Rattle.agent_top.specs.declared.words.forms.Form.{Form}
 use Rattle.agent_top.specs.declared.words.forms.Form.TheVariants.{Flag, Path, Number}
 use Rattle.agent_top.proofs.OptionRows.{given_back, built, same_name}
-use Rattle.agent_top.proofs.OptionWalk.{known_dashed, strip_cases, before_more, before_bare, has_dash, none, none_both, and_true, dashed, shape, from, readable_in, reads, Ends, At, walk_is}
+use Rattle.agent_top.proofs.OptionPieces.{strip_cases, before_more, before_bare, has_dash, none, none_both, and_true, dashed}
+use Rattle.agent_top.proofs.OptionWalk.{known_dashed, shape, from, readable_in, reads, Ends, At, walk_is}
 
 -- ---- the settings are readable one after the other
 

@@ -2,10 +2,17 @@
 use Rattle.std.specs.List.{AllByRecursion}
 use Rattle.std.specs.Prelude.{ℕ, ⊤}
 use Rattle.agent_commands.specs.Talks.{Session}
+use Rattle.agent_commands.specs.declared.went.SessionEnd.{SessionEnd}
 use Rattle.agent_ports.specs.Counts.{Rose}
+use Rattle.agent_ports.specs.HostParts.{Views}
+use Rattle.agent_ports.specs.TrustFiles.{TrustState}
+use Rattle.agent_ports.specs.declared.session.SessionId.{SessionId}
+use Rattle.agent_serve.specs.Serves.{LinkSides, ServesOne}
 use Rattle.agent_session.specs.Causes.{WantsMemory}
 use Rattle.agent_session.specs.Completeness.{CausedExchange, AnswersAll}
 use Rattle.agent_origin.specs.SessionExchanges.{kept_at_start}
+use Rattle.agent_origin.specs.declared.door.Door.{Door}
+use Rattle.counted_lock.specs.Passes.{AtPass}
 use Rattle.session_options.specs.declared.rules.Rules.{Rules}
 use Rattle.agent_top.specs.Top.{Machine, RunsSession, RunsServer, ran, exit_number}
 use Rattle.agent_top.specs.Top as top
@@ -45,6 +52,17 @@ pub data IsAnsweredRun (rules : Rules) (before : Machine) : (number : ℕ) (afte
 abbrev pub IsCausedRun : {rules : Rules} {before : Machine} {number : ℕ} {after : Machine} → RunsServer rules before number after → Type 0
 IsCausedRun {rules} (ran run) = Session (CausedExchange rules) (kept_at_start rules) run.served.events run.end
 IsCausedRun top.no_memory = ⊤
+
+-- No count that a session of a daemon has to do with has risen: of neither side of its link, nor of its launcher, its key files, its random bytes and its
+-- trust file.
+pub record NoFaultOfOne {La C R K T : Type 0} {views : Views La C R K} {trusts : T → TrustState} {rules : Rules} {door : Door} {session : SessionId} {before after : LinkSides}
+    {pass now : AtPass} {end : SessionEnd} (one : ServesOne views trusts rules door session before pass end after now) : Type 0 where
+  pub input : ¬ Rose before.input.faults after.input.faults
+  pub output : ¬ Rose before.output.faults after.output.faults
+  pub launches : ¬ Rose (views.launches one.parts.launcher).faults one.launches_now.faults
+  pub keys : ¬ Rose (views.keys one.parts.keys).faults one.keys_now.faults
+  pub dice : ¬ Rose (views.draws one.parts.dice).faults one.dice_now.faults
+  pub trust : ¬ Rose (trusts one.trust_file).faults one.trust_now.faults
 
 -- a daemon was stopped, or there was no memory for it
 pub data DaemonEndsWell : ℕ → Type 0 where

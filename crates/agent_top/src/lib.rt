@@ -16,7 +16,8 @@ mod words;
 pub use completeness::{
     a_daemon_wants_no_memory_for_the_cache_alone, a_daemon_without_faults_ends_well,
     a_load_without_faults_ends_well, a_server_without_faults_ends_well,
-    a_server_without_faults_is_answered, each_error_of_a_server_has_its_cause,
+    a_server_without_faults_is_answered, a_session_of_a_daemon_without_faults_is_answered,
+    each_error_of_a_daemon_has_its_cause, each_error_of_a_server_has_its_cause,
 };
 pub use daemon::run_daemon;
 pub use load::run_load;
