@@ -29,7 +29,7 @@ use itoa::Buffer;
 use session_options::{OptionAnswer, Options, Rules};
 
 /// Does what a command asks for, answers it, and says how the session goes on. No ticket is out and no prompt is open when it returns.
-// Apart from the session's loop, as `read_request` is.
+// Apart from the session's loop, where its places would be filled anew for each line.
 #[inline(never)]
 pub fn run_cache<L: Link, D: Desk, P: Prompter>(
     command: &CacheCommand,

@@ -29,7 +29,7 @@ use std::alloc::Global;
 
 /// Does what a request asks for, answers it, and says how the session goes on. The wrapping keys are the session's. No ticket is out and no
 /// prompt is open when it returns.
-// Apart from the session's loop, as `read_request` is.
+// Apart from the session's loop, where its places would be filled anew for each line.
 #[inline(never)]
 pub fn run_key<L: Link, D: Desk, P: Prompter, K: Keys, R: Dice>(
     alloc: Global,
