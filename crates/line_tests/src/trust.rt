@@ -1,24 +1,76 @@
+use crate::server::text_of;
 use agent_ports::Grip;
 use std::alloc::{AllocError, Global};
 use std::test::Fail;
-use trust_list::{TrustFault, add_trust, trusted};
+use trust_list::{MAX_TRUST_FILE_LEN, TrustFault, add_trust, trusted};
 
 const CERTIFICATE: Grip = Grip([0xAA; 20]);
 
-const DIGITS: &[u8] = b"AAAAAAAAAAAAAAAAAAAAAAAAAAAAAAAAAAAAAAAA";
+/// A file, and what it says of the certificate, whose fingerprint is 40 times `A`. A text may have repeated parts, as `{part*3}`. No file is longer than one may be.
+const FILES: [(&str, Option<bool>); 48] = [
+    ("", None),
+    // Digits are of either case, blanks are tabs too, and further words are skipped. The last line needs no end.
+    ("{A*40} S", Some(true)),
+    ("{A*40} S\n", Some(true)),
+    ("{a*40} S\n", Some(true)),
+    ("{Aa*20} P", Some(true)),
+    ("{a*40} *", Some(true)),
+    ("# x\n\n \t{A*40}\tP relax\n", Some(true)),
+    ("{A*40} S # x", Some(true)),
+    // An LF alone ends a line.
+    ("!{A*40} *\r\n", None),
+    ("!{A*40} * \r\n", Some(false)),
+    // The mark stands right before the digits.
+    ("!{A*40} S", Some(false)),
+    ("! {A*40} S\n", None),
+    ("!!{A*40} S\n", None),
+    // A colon stands between two pairs, and need not.
+    ("{AA:*19}AA S\n", Some(true)),
+    ("!{aa:*19}aa S", Some(false)),
+    ("AA:{A*36}:AA S\n", Some(true)),
+    (":{A*40} S\n", None),
+    ("{A*40}: S\n", None),
+    ("{AA:*20} S\n", None),
+    ("AA::{A*38} S\n", None),
+    ("A:{A*39} S\n", None),
+    ("AAA:{A*37} S\n", None),
+    ("{A:*39}A S\n", None),
+    // Forty digits, and a flag.
+    ("{A*38} S\n", None),
+    ("{A*42} S\n", None),
+    ("{A*39}G S\n", None),
+    ("{A*40}\n", None),
+    ("{A*40}S\n", None),
+    ("{A*40} s\n", None),
+    ("{A*40} SP\n", None),
+    ("{A*40} x S\n", None),
+    ("#{A*40} S\n", None),
+    // The first entry decides.
+    ("{a*40} S\n!{A*40} S", Some(true)),
+    ("!aa:aaaa:{Aa*17} S\n{A*40} S", Some(false)),
+    ("!a:aaaaa:{Aa*17} S\n{A*40} S", Some(true)),
+    ("!AA::{A*38} S\n{A*40} S", Some(true)),
+    ("!BB{A*38} S\n{A*40} S", Some(true)),
+    ("!{A*40} s\n{A*40} S", Some(true)),
+    // Files of 65,536 bytes: one line that is no entry, or one behind blanks, before words, or behind another line.
+    ("{A*65536}", None),
+    ("{:*65536}", None),
+    ("{ *65536}", None),
+    ("{A*65534} S", None),
+    ("{A*40} {S*65495}", None),
+    ("{ *65494}{A*40} S", Some(true)),
+    ("{A*40}{ *65495}S", Some(true)),
+    ("{A*40} S{ x*32747}", Some(true)),
+    ("!{A*40} S {x*65492}", Some(false)),
+    ("{x*65493}\n{A*40} S", Some(true)),
+];
 
-/// What stands before and behind the digits of the certificate, and what the file then says of it.
-#[derive(Clone, Copy)]
-struct Row(&'static [u8], &'static [u8], Option<bool>);
-
-/// The place of the first row that comes out otherwise.
-fn first_wrong(alloc: Global, rows: &[Row]) -> Result<Option<usize>, AllocError> {
-    for (place, row) in rows.iter().enumerate() {
-        let mut file = Vec::from_slice(alloc, row.0)?;
-        file.extend_from_slice(DIGITS)?;
-        file.extend_from_slice(row.1)?;
-        if trusted(&file, &CERTIFICATE) != row.2 {
-            return Ok(Some(place));
+/// The first file of which something else is said.
+fn first_wrong(alloc: Global) -> Result<Option<&'static str>, AllocError> {
+    for (text, want) in FILES {
+        let file = text_of(alloc, text)?.into_bytes();
+        if file.len() > MAX_TRUST_FILE_LEN || trusted(&file, &CERTIFICATE) != want {
+            return Ok(Some(text));
         }
     }
     Ok(None)
@@ -26,35 +78,7 @@ fn first_wrong(alloc: Global, rows: &[Row]) -> Result<Option<usize>, AllocError>
 
 #[test]
 fn lines_of_the_file_decide(rt: HostRuntime) -> Result<(), Fail> {
-    let rows = [
-        Row(b"", b" S", Some(true)),
-        Row(b"# x\n\n \t", b"\tP relax\n", Some(true)),
-        Row(b"!", b" *\r\n", None),
-        Row(b"!", b" * \r\n", Some(false)),
-        Row(b"! ", b" S\n", None),
-        Row(b":", b" S\n", None),
-        Row(b"", b": S\n", None),
-        Row(b"", b"AA S\n", None),
-        Row(b"", b"\n", None),
-        Row(b"", b" SP\n", None),
-        Row(b"#", b" S\n", None),
-        Row(
-            b"!aa:aaaa:aAaaAaaaaaaaaaaaaaaaaaaaaaaaaaaaaa S\n",
-            b" S",
-            Some(false),
-        ),
-        Row(
-            b"!a:aaaaa:aAaaAaaaaaaaaaaaaaaaaaaaaaaaaaaaaa S\n",
-            b" S",
-            Some(true),
-        ),
-        Row(
-            b"!BBAAAAAAAAAAAAAAAAAAAAAAAAAAAAAAAAAAAAAA S\n",
-            b" S",
-            Some(true),
-        ),
-    ];
-    assert_eq!(rt; first_wrong(rt.alloc(), &rows)?, None);
+    assert_eq!(rt; first_wrong(rt.alloc())?, None);
     Ok(())
 }
 
