@@ -1,6 +1,5 @@
-//! Sessions by the door that they came in, over a trust list in memory: what is answered, what the list has behind them, and how many prompts there were.
+//! Sessions by the door that they came in, over a trust list in memory: what is answered, what the list has behind them, and what the user was asked.
 
-use crate::prompts::Opening;
 use crate::sessions::text_of;
 use agent_core::Solo;
 use agent_origin::{Door, serve_door};
@@ -24,11 +23,11 @@ struct Row {
     sent: &'static str,
     /// Behind the greeting.
     answered: &'static str,
-    /// What each child gives behind its opening.
-    children: &'static [&'static str],
-    /// How many of them were launched.
+    /// The children, and how many of them were launched.
+    children: &'static [Child],
     launched: usize,
-    /// The calls of the trust list that fail, by their number from 0.
+    /// The launches and the calls of the trust list that fail, by their numbers from 0.
+    launches: &'static [u64],
     faults: &'static [u64],
 }
 
@@ -40,16 +39,37 @@ const PLAIN: Row = Row {
     answered: "",
     children: &[],
     launched: 0,
+    launches: &[],
     faults: &[],
 };
 
-/// A prompt for consent, of a child with the number 9.
-const CONSENT: Opening = ("OK\nD 9\nOK\nOK\nOK\n", "");
+/// What a child with the number 9 is to ask, as it is written to it, what it gives behind that, and what it is written then.
+type Child = (&'static str, &'static str, &'static str);
+
+/// What it gives before that.
+const OPENING: &str = "OK\nD 9\nOK\nOK\nOK\n";
+
+/// The prompts of MARKTRUSTED for a certificate of `Root CA`. The user agrees.
+const TRUST: Child = ("Trust Root CA?", "OK\n", "CONFIRM\nBYE\n");
+
+const RIGHT: Child = (
+    "Is {A*40} the right fingerprint of Root CA?",
+    "OK\n",
+    "CONFIRM\nBYE\n",
+);
+
+/// The same, of which the client takes no note.
+const UNSEEN_TRUST: Child = ("Trust Root CA?", "", "BYE\n");
+
+const UNSEEN_RIGHT: Child = ("Is {A*40} the right fingerprint of Root CA?", "", "BYE\n");
+
+/// The prompt of GET_CONFIRMATION. The user agrees.
+const OTHER: Child = ("Really send", "OK\n", "CONFIRM\nBYE\n");
 
 const NOT_TRUSTED: &str = "ERR 67108962 Not trusted <GPG Agent>\n";
 
 /// Of requests on the list alone.
-const LISTS: [Row; 9] = [
+const LISTS: [Row; 13] = [
     // There is no list; digits are of either case, and further words are skipped.
     Row {
         sent: "ISTRUSTED {A*40}\n",
@@ -92,8 +112,16 @@ const LISTS: [Row; 9] = [
     },
     // In other modes there is no prompt.
     Row {
-        sent: "OPTION pinentry-mode=cancel\nMARKTRUSTED {A*40} S Root\nOPTION pinentry-mode=error\nMARKTRUSTED {A*40} S Root\n",
-        answered: "OK\nERR 67108963 Operation cancelled <GPG Agent>\nOK\nERR 67108950 No pinentry <GPG Agent>\n",
+        sent: "OPTION pinentry-mode=cancel\nMARKTRUSTED {A*40} S Root\nOPTION pinentry-mode=error\nMARKTRUSTED {A*40} S Root\nOPTION pinentry-mode=loopback\nMARKTRUSTED {A*40} S Root\nNOP\n",
+        answered: "OK\nERR 67108963 Operation cancelled <GPG Agent>\n{OK\nERR 67108950 No pinentry <GPG Agent>\n*2}OK\n",
+        ..PLAIN
+    },
+    // The list comes first there too.
+    Row {
+        before: Some("{A*40} S\n!{B*40} S\n"),
+        after: Some("{A*40} S\n!{B*40} S\n"),
+        sent: "OPTION pinentry-mode=loopback\nMARKTRUSTED {A*40} P Root\nMARKTRUSTED {B*40} P Root\nMARKTRUSTED {B*40} * Root\n",
+        answered: "OK\nOK\nERR 67108962 Not trusted <GPG Agent>\nERR 67109144 IPC parameter error <GPG Agent>\n",
         ..PLAIN
     },
     // What is forbidden at the outer door is so before its form is looked at, and leaves all as it was.
@@ -105,32 +133,60 @@ const LISTS: [Row; 9] = [
         answered: "ERR 67109115 Forbidden <GPG Agent>\nOK\n{ERR 67109115 Forbidden <GPG Agent>\n*5}ERR 67108922 No data <GPG Agent>\nERR 67109139 Unknown IPC command <GPG Agent>\n",
         ..PLAIN
     },
+    Row {
+        door: Door::Outer,
+        sent: "OPTION --pinentry-mode = ask\nGETINFO\nGETINFO s2k_count\nGET_PASSPHRASE --no-ask id1\nGET_PASSPHRASE --repeat=17 X\nPRESET_PASSPHRASE id1 -1 61\nCLEAR_PASSPHRASE id1\nRELOADAGENT\nKILLAGENT\nkeyinfo --list {A*40}\nKEYWRAP_KEY --export\nIMPORT_KEY\nEXPORT_KEY {A*40}\nPASSWD {A*40}\nDELETE_KEY --force {A*40}\nMARKTRUSTED {A*40} S Root\n",
+        answered: "{ERR 67109115 Forbidden <GPG Agent>\n*16}",
+        ..PLAIN
+    },
+    // All else is answered as at home.
+    Row {
+        door: Door::Outer,
+        sent: "NOP\nOPTION ttyname=/dev/pts/1\nOPTION foo=1\nOPTION\nGETINFO cmd_has_option KEYINFO list\nGETINFO cmd_has_option KEYINFO x\nHAVEKEY {A*40}\nHAVEKEY\nKEYINFO {A*40}\nISTRUSTED\nFOO\n",
+        answered: "OK\nOK\nERR 67109038 Unknown option <GPG Agent>\nERR 67109144 IPC parameter error <GPG Agent>\nOK\nERR 67108924 Not supported <GPG Agent>\nERR 67108881 No secret key <GPG Agent>\nERR 67109144 IPC parameter error <GPG Agent>\nERR 67108881 No secret key <GPG Agent>\nERR 67109144 IPC parameter error <GPG Agent>\nERR 67109139 Unknown IPC command <GPG Agent>\n",
+        ..PLAIN
+    },
+    // At a door HELP names two commands more.
+    Row {
+        door: Door::Outer,
+        sent: "HELP\n",
+        answered: "# NOP\n# RESET\n# BYE\n# HELP\n# OPTION\n# GETINFO\n# GET_PASSPHRASE\n# PRESET_PASSPHRASE\n# CLEAR_PASSPHRASE\n# GET_CONFIRMATION\n# RELOADAGENT\n# KILLAGENT\n# HAVEKEY\n# KEYINFO\n# KEYWRAP_KEY\n# IMPORT_KEY\n# EXPORT_KEY\n# PASSWD\n# DELETE_KEY\n# SETKEYDESC\n# ISTRUSTED\n# MARKTRUSTED\nOK\n",
+        ..PLAIN
+    },
     // A restricted session may ask the user.
     Row {
         door: Door::Outer,
-        sent: "GET_CONFIRMATION x\nGETINFO version\nRESET\nBYE\n",
+        sent: "GET_CONFIRMATION Really+send\nGETINFO version\nRESET\nBYE\n",
         answered: "OK\nD 2.4.0\nOK\nOK\nOK closing connection\n",
-        children: &["OK\n"],
+        children: &[OTHER],
         launched: 1,
         ..PLAIN
     },
 ];
 
 /// Of MARKTRUSTED with its two prompts.
-const MARKS: [Row; 8] = [
+const MARKS: [Row; 17] = [
     Row {
         after: Some("{A*40} S\n"),
         sent: "MARKTRUSTED {A*40} S Root+CA\nISTRUSTED {A*40}\n",
         answered: "OK\nOK\n",
-        children: &["OK\n", "OK\n"],
+        children: &[TRUST, RIGHT],
         launched: 2,
         ..PLAIN
     },
     // The second consent is refused: the seat is free for the next prompt.
     Row {
-        sent: "MARKTRUSTED {A*40} S Root+CA\nGET_CONFIRMATION x\n",
+        sent: "MARKTRUSTED {A*40} S Root+CA\nGET_CONFIRMATION Really+send\n",
         answered: "ERR 83886194 Not confirmed <Pinentry>\nOK\n",
-        children: &["OK\n", "ERR 83886194\n", "OK\n"],
+        children: &[
+            TRUST,
+            (
+                "Is {A*40} the right fingerprint of Root CA?",
+                "ERR 83886194\n",
+                "CONFIRM\nBYE\n",
+            ),
+            OTHER,
+        ],
         launched: 3,
         ..PLAIN
     },
@@ -138,8 +194,87 @@ const MARKS: [Row; 8] = [
     Row {
         sent: "MARKTRUSTED {A*40} S Root+CA\n",
         answered: "ERR 83886179 Operation cancelled <Pinentry>\n",
-        children: &["ERR 83886179 cancelled\n", "OK\n"],
+        children: &[
+            (
+                "Trust Root CA?",
+                "ERR 83886179 cancelled\n",
+                "CONFIRM\nBYE\n",
+            ),
+            RIGHT,
+        ],
         launched: 1,
+        ..PLAIN
+    },
+    Row {
+        sent: "MARKTRUSTED {A*40} S Root+CA\nMARKTRUSTED {A*40} S Root+CA\nISTRUSTED {A*40}\n",
+        answered: "ERR 83886194 Not confirmed <Pinentry>\nERR 83886142 Timeout <Pinentry>\nERR 67108962 Not trusted <GPG Agent>\n",
+        children: &[
+            ("Trust Root CA?", "ERR 114\n", "CONFIRM\nBYE\n"),
+            ("Trust Root CA?", "ERR 62\n", "CONFIRM\nBYE\n"),
+            RIGHT,
+        ],
+        launched: 2,
+        ..PLAIN
+    },
+    // A child breaks its prompt.
+    Row {
+        sent: "MARKTRUSTED {A*40} S Root+CA\nMARKTRUSTED {A*40} S Root+CA\nISTRUSTED {A*40}\n",
+        answered: "ERR 67108950 No pinentry <GPG Agent>\nERR 67108950 No pinentry <GPG Agent>\nERR 67108962 Not trusted <GPG Agent>\n",
+        children: &[
+            ("Trust Root CA?", "", "CONFIRM\n"),
+            TRUST,
+            (
+                "Is {A*40} the right fingerprint of Root CA?",
+                "D x\nOK\n",
+                "CONFIRM\n",
+            ),
+        ],
+        launched: 3,
+        ..PLAIN
+    },
+    // The first child can't be launched, and then the second: nobody is trusted. The next time both can be.
+    Row {
+        before: Some("# mine\n"),
+        after: Some("# mine\n{A*40} S\n"),
+        sent: "MARKTRUSTED {A*40} S Root+CA\nISTRUSTED {A*40}\nMARKTRUSTED {A*40} S Root+CA\nISTRUSTED {A*40}\nMARKTRUSTED {A*40} S Root+CA\nISTRUSTED {A*40}\n",
+        answered: "{ERR 67108950 No pinentry <GPG Agent>\nERR 67108962 Not trusted <GPG Agent>\n*2}OK\nOK\n",
+        children: &[TRUST, TRUST, RIGHT],
+        launched: 3,
+        launches: &[0, 2],
+        ..PLAIN
+    },
+    Row {
+        before: Some("# mine"),
+        after: Some("# mine"),
+        sent: "MARKTRUSTED {A*40} S Root+CA\nGET_CONFIRMATION Really+send\n",
+        answered: "ERR 67108950 No pinentry <GPG Agent>\nOK\n",
+        children: &[TRUST, OTHER],
+        launched: 2,
+        launches: &[1],
+        ..PLAIN
+    },
+    // The client is told of each prompt, and its answer decides.
+    Row {
+        after: Some("{A*40} S\n"),
+        sent: "OPTION allow-pinentry-notify\nMARKTRUSTED {A*40} S Root+CA\nNOP\nISTRUSTED {A*40}\nMARKTRUSTED {A*40} S Root+CA\nEND\nCAN\nISTRUSTED {A*40}\nMARKTRUSTED {A*40} S Root+CA\nD seen\nEND\n\n# x\nend now\nISTRUSTED {A*40}\n",
+        answered: "OK\nINQUIRE PINENTRY_LAUNCHED 9\nERR 67109138 Unexpected IPC command <GPG Agent>\nERR 67108962 Not trusted <GPG Agent>\n{INQUIRE PINENTRY_LAUNCHED 9\n*2}ERR 67108963 Operation cancelled <GPG Agent>\nERR 67108962 Not trusted <GPG Agent>\n{INQUIRE PINENTRY_LAUNCHED 9\n*2}OK\nOK\n",
+        children: &[UNSEEN_TRUST, TRUST, UNSEEN_RIGHT, TRUST, RIGHT],
+        launched: 5,
+        ..PLAIN
+    },
+    // Its input ends there.
+    Row {
+        sent: "OPTION allow-pinentry-notify\nMARKTRUSTED {A*40} S Root+CA\n",
+        answered: "OK\nINQUIRE PINENTRY_LAUNCHED 9\n",
+        children: &[UNSEEN_TRUST, RIGHT],
+        launched: 1,
+        ..PLAIN
+    },
+    Row {
+        sent: "OPTION allow-pinentry-notify\nMARKTRUSTED {A*40} S Root+CA\nEND\nEND",
+        answered: "OK\n{INQUIRE PINENTRY_LAUNCHED 9\n*2}",
+        children: &[TRUST, UNSEEN_RIGHT],
+        launched: 2,
         ..PLAIN
     },
     // A line feed is put behind a last line that lacks one; the longest name.
@@ -148,25 +283,63 @@ const MARKS: [Row; 8] = [
         after: Some("# x\r\n!{B*40} *\n{A*40} P\n"),
         sent: "MARKTRUSTED {a*40} P {n*900} more\n",
         answered: "OK\n",
-        children: &["OK\n", "OK\n"],
+        children: &[
+            ("Trust {n*900}?", "OK\n", "CONFIRM\nBYE\n"),
+            (
+                "Is {A*40} the right fingerprint of {n*900}?",
+                "OK\n",
+                "CONFIRM\nBYE\n",
+            ),
+        ],
+        launched: 2,
+        ..PLAIN
+    },
+    // The escapes of a name are read. What doesn't fit in the line to a child is cut behind a whole escape.
+    Row {
+        after: Some("{A*40} S\n"),
+        sent: "MARKTRUSTED {A*40} S Root%2BCA+%25%0a\n",
+        answered: "OK\n",
+        children: &[
+            ("Trust Root+CA %25%0A?", "OK\n", "CONFIRM\nBYE\n"),
+            (
+                "Is {A*40} the right fingerprint of Root+CA %25%0A?",
+                "OK\n",
+                "CONFIRM\nBYE\n",
+            ),
+        ],
+        launched: 2,
+        ..PLAIN
+    },
+    Row {
+        after: Some("{A*40} S\n"),
+        sent: "MARKTRUSTED {A*40} S {é*450}\n",
+        answered: "OK\n",
+        children: &[
+            ("Trust {%C3%A9*164}", "OK\n", "CONFIRM\nBYE\n"),
+            (
+                "Is {A*40} the right fingerprint of {%C3%A9*153}%C3",
+                "OK\n",
+                "CONFIRM\nBYE\n",
+            ),
+        ],
         launched: 2,
         ..PLAIN
     },
     // The file can't be written, and can the next time.
     Row {
         after: Some("{A*40} S\n"),
-        sent: "MARKTRUSTED {A*40} S Root\nMARKTRUSTED {A*40} S Root\n",
+        sent: "MARKTRUSTED {A*40} S Root+CA\nMARKTRUSTED {A*40} S Root+CA\n",
         answered: "ERR 67108865 General error <GPG Agent>\nOK\n",
-        children: &["OK\n", "OK\n", "OK\n", "OK\n"],
+        children: &[TRUST, RIGHT, TRUST, RIGHT],
         launched: 4,
         faults: &[2],
         ..PLAIN
     },
     // It can't be read again under the ticket.
     Row {
-        sent: "MARKTRUSTED {A*40} S Root\nNOP\n",
+        sent: "MARKTRUSTED {A*40} S Root+CA\nNOP\n",
         answered: "ERR 67108865 General error <GPG Agent>\nOK\n",
-        children: &["OK\n", "OK\n"],
+        children: &[TRUST, RIGHT],
         launched: 2,
         faults: &[1],
         ..PLAIN
@@ -175,18 +348,18 @@ const MARKS: [Row; 8] = [
     Row {
         before: Some("{# a comment\n*5461}#23\n"),
         after: Some("{# a comment\n*5461}#23\n"),
-        sent: "MARKTRUSTED {A*40} S Root\n",
+        sent: "MARKTRUSTED {A*40} S Root+CA\n",
         answered: "ERR 67109137 Too much data for IPC layer <GPG Agent>\n",
-        children: &["OK\n", "OK\n"],
+        children: &[TRUST, RIGHT],
         launched: 2,
         ..PLAIN
     },
     Row {
         before: Some("{# a comment\n*5457}# a comm"),
         after: Some("{# a comment\n*5457}# a comm\n{A*40} S\n"),
-        sent: "MARKTRUSTED {A*40} S Root\n",
+        sent: "MARKTRUSTED {A*40} S Root+CA\n",
         answered: "OK\n",
-        children: &["OK\n", "OK\n"],
+        children: &[TRUST, RIGHT],
         launched: 2,
         ..PLAIN
     },
@@ -203,11 +376,10 @@ const LIMITS: Limits = Limits {
 const ALICE: SessionId = SessionId { pass: 0, count: 0 };
 
 fn children_of(alloc: Global, row: &Row) -> Result<Vec<PlannedChild>, AllocError> {
-    let (opening, _) = CONSENT;
     let mut children = Vec::new(alloc);
-    for behind in row.children.iter() {
+    for (_, gives, _) in row.children.iter() {
         children.push(PlannedChild {
-            gives: format!(in alloc; "{opening}{behind}")?.into_bytes(),
+            gives: format!(in alloc; "{OPENING}{gives}")?.into_bytes(),
             piece: 5,
             failing_reads: Vec::new(alloc),
             failing_writes: Vec::new(alloc),
@@ -223,9 +395,35 @@ fn list_of(alloc: Global, text: Option<&'static str>) -> Result<Option<Vec<u8>>,
     }
 }
 
-/// What comes of a row: what is written, how many children were launched, and the list.
+/// How many children were launched, and what those were written that have ended.
+fn told(alloc: Global, launcher: &MemLauncher) -> Result<String, AllocError> {
+    let launched = (0..8)
+        .filter(|place| launcher.launched(*place).is_some())
+        .count();
+    let mut all = format!(in alloc; "{launched} launched\n")?;
+    for back in (0..8usize).rev() {
+        let written = launcher.written(back).unwrap_or(b"");
+        all.push_str(&String::from_utf8_lossy(alloc, written)?)?;
+    }
+    Ok(all)
+}
+
+/// What is to be told.
+fn wanted_told(alloc: Global, row: &Row) -> Result<String, AllocError> {
+    let mut all = format!(in alloc; "{} launched\n", row.launched)?;
+    for (question, _, behind) in row.children.iter().take(row.launched) {
+        all.push_str("GETINFO pid\nSETKEYINFO --clear\nSETDESC ")?;
+        all.push_str(&text_of(alloc, question)?)?;
+        all.push('\n')?;
+        all.push_str(behind)?;
+    }
+    Ok(all)
+}
+
+/// What comes of a row: what is written, the children, and the list.
 fn outcome(alloc: Global, row: &Row) -> Result<String, Fail> {
-    let mut launcher = MemLauncher::new(alloc, children_of(alloc, row)?, Vec::new(alloc));
+    let launches = Vec::from_slice(alloc, row.launches)?;
+    let mut launcher = MemLauncher::new(alloc, children_of(alloc, row)?, launches);
     let sent = text_of(alloc, row.sent)?.into_bytes();
     let source = MemSource::new(sent, 7, Vec::new(alloc));
     let mut link = MemLink::new(source, MemSink::new(alloc, 0, Vec::new(alloc)));
@@ -252,15 +450,13 @@ fn outcome(alloc: Global, row: &Row) -> Result<String, Fail> {
     );
     desk.end();
     let _ = pinentry.into_launcher();
-    let launched = (0..8)
-        .filter(|place| launcher.launched(*place).is_some())
-        .count();
+    let children = told(alloc, &launcher)?;
     let written = String::from_utf8_lossy(alloc, link.written())?;
     let list = match trust.file() {
         Some(bytes) => String::from_utf8_lossy(alloc, bytes)?,
         None => String::from_str(alloc, "no list")?,
     };
-    Ok(format!(in alloc; "{written}{launched} launched\n{list}")?)
+    Ok(format!(in alloc; "{written}{children}{list}")?)
 }
 
 /// What is to come of it.
@@ -270,10 +466,8 @@ fn wanted(alloc: Global, row: &Row) -> Result<String, AllocError> {
         Some(text) => text_of(alloc, text)?,
         None => String::from_str(alloc, "no list")?,
     };
-    format!(in alloc;
-        "OK Pleased to meet you\n{answered}{} launched\n{list}",
-        row.launched
-    )
+    let children = wanted_told(alloc, row)?;
+    format!(in alloc; "OK Pleased to meet you\n{answered}{children}{list}")
 }
 
 #[test]

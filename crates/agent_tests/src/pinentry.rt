@@ -215,18 +215,25 @@ fn comment(alloc: Global, len: usize) -> Result<Vec<u8>, AllocError> {
     Ok(line)
 }
 
+/// What is asked, and what a child gives before and behind a comment of so many bytes. Then what that means.
+const LONG_LINES: [(Asks, &[u8], usize, &[u8], &[u8]); 7] = [
+    (Asks::Nothing, b"", 1000, OPENED, b"pid 7"),
+    (Asks::Nothing, b"", 1001, OPENED, b"too long"),
+    (Asks::Nothing, b"", 1002, OPENED, b"too long"),
+    (Asks::Nothing, b"", 5000, OPENED, b"too long"),
+    (Asks::Pin(b""), OPENED, 1000, b"D x\nOK\n", b"pin x"),
+    (Asks::Pin(b""), OPENED, 1001, b"D x\nOK\n", b"too long"),
+    (Asks::Consent, OPENED, 1001, b"OK\n", b"too long"),
+];
+
 #[test]
 fn a_child_may_not_send_a_line_that_is_too_long(rt: HostRuntime) -> Result<(), Fail> {
     let alloc = rt.alloc();
-    for (len, said) in [
-        (1000usize, b"pid 7".as_slice()),
-        (1001, b"too long"),
-        (1002, b"too long"),
-        (5000, b"too long"),
-    ] {
-        let mut gives = comment(alloc, len)?;
-        gives.extend_from_slice(OPENED)?;
-        let played = play(alloc, &plain(), Asks::Nothing, &gives, &[])?;
+    for (asks, before, len, behind, said) in LONG_LINES {
+        let mut gives = Vec::from_slice(alloc, before)?;
+        gives.extend_from_slice(&comment(alloc, len)?)?;
+        gives.extend_from_slice(behind)?;
+        let played = play(alloc, &plain(), asks, &gives, &[])?;
         assert_eq!(rt; played.said.as_slice(), said, "{len}");
     }
     Ok(())

@@ -20,7 +20,7 @@ const TEXTS: Opening = (
     "GETINFO pid\nSETKEYINFO --clear\nSETDESC Say%0Ait\nSETPROMPT PIN 100%25:\n",
 );
 
-const CONSENT: Opening = (
+pub(crate) const CONSENT: Opening = (
     "OK\nD 9\nOK\nOK\nOK\n",
     "GETINFO pid\nSETKEYINFO --clear\nSETDESC Really send\n",
 );

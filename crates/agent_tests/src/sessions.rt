@@ -2,9 +2,10 @@ ghost use Rattle.std.specs.Prelude.{◌≤◌, IfOk, IsSome};
 
 use crate::dialogues::DIALOGUES;
 use crate::key_sessions::{
-    CHANGES, DESCRIPTIONS, EXPORTS, IMPORTS, LISTS, OTHERS, REFUSALS, WITH_A_KEY,
+    CHANGES, DESCRIPTIONS, EXPORTS, IMPORTS, INQUIRIES, LAUNCHES, LISTS, OTHERS, REFUSALS,
+    WITH_A_KEY,
 };
-use crate::prompts::{Child, PIN, PROMPTS};
+use crate::prompts::{CONSENT, Child, PIN, PROMPTS};
 use agent_ports::{
     Got, Grip, Host, KeyNames, KeyRead, Keys, Link, ListClock, ListDice, MAX_KEY_FILE_LEN, MapKeys,
     MemHost, MemLauncher, MemLink, MemSink, MemSource, NoGate, Parts, PlannedChild, Sent, Sink,
@@ -339,12 +340,20 @@ const SESSIONS: &[Row] = &[
         pieces: &[4096],
         ..PLAIN
     },
-    // The seat is free behind a launch that failed.
+    // The seat is free behind a launch that failed. Nothing is cached by it, and what was cached stays.
     Row {
-        sent: "GET_PASSPHRASE --data id1 X X X\nGET_PASSPHRASE --data id1 X X X\n",
-        answered: "ERR 67108950 No pinentry <GPG Agent>\nD pin\nOK\n",
+        sent: "PRESET_PASSPHRASE id2 -1 61\nGET_PASSPHRASE --data id1 X X X\nGET_PASSPHRASE --no-ask id1\nGET_PASSPHRASE id2\nGET_PASSPHRASE --data id1 X X X\n",
+        answered: "OK\nERR 67108950 No pinentry <GPG Agent>\nERR 67108922 No data <GPG Agent>\nOK 61\nD pin\nOK\n",
         children: &[(PIN, "D pin\nOK\n", "GETPIN\nBYE\n")],
         launches: &[0],
+        ..PLAIN
+    },
+    // The client isn't told of it.
+    Row {
+        sent: "OPTION allow-pinentry-notify\nGET_CONFIRMATION Really+send\nGET_PASSPHRASE --check --repeat X X X X\nGET_CONFIRMATION Really+send\nEND\nGET_CONFIRMATION Really+send\nNOP\n",
+        answered: "OK\n{ERR 67108950 No pinentry <GPG Agent>\n*2}INQUIRE PINENTRY_LAUNCHED 9\nOK\nERR 67108950 No pinentry <GPG Agent>\nOK\n",
+        children: &[(CONSENT, "OK\n", "CONFIRM\nBYE\n")],
+        launches: &[0, 1],
         ..PLAIN
     },
     // A line of a child that is too long.
@@ -594,6 +603,18 @@ fn other_sessions_on_keys_go_as_their_rows_say(rt: HostRuntime) -> Result<(), Fa
 #[test]
 fn a_request_fails_alone_where_keys_or_dice_fail(rt: HostRuntime) -> Result<(), Fail> {
     assert_eq!(rt; first_wrong(&rt, rt.alloc(), REFUSALS)?, None);
+    Ok(())
+}
+
+#[test]
+fn a_request_fails_alone_where_no_pinentry_can_be_launched(rt: HostRuntime) -> Result<(), Fail> {
+    assert_eq!(rt; first_wrong(&rt, rt.alloc(), LAUNCHES)?, None);
+    Ok(())
+}
+
+#[test]
+fn inquiries_on_keys_decide_their_requests(rt: HostRuntime) -> Result<(), Fail> {
+    assert_eq!(rt; first_wrong(&rt, rt.alloc(), INQUIRIES)?, None);
     Ok(())
 }
 
