@@ -20,7 +20,7 @@ closing = line_of (ok_text (codes "closing connection"))
 abbrev pub comments : List (List ℕ) → List ℕ
 comments names = flat_map (λ name. line_of (comment_text name)) names
 
--- and for each command, and for further ones that a server has
+-- and for each command that HELP tells, and for further ones that a server has
 abbrev pub help_with : List (List ℕ) → List ℕ
 help_with further = comments command_names ++ (comments further ++ ok)
 

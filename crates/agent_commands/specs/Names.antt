@@ -24,7 +24,7 @@ commands =
     ∷ (codes "KILLAGENT", KillAgent)
     ∷ []
 
--- those on the prompts of commands on keys
+-- those on the prompts of commands on keys, which HELP doesn't tell (this project's own)
 abbrev pub prompt_commands : List (List ℕ × CommandName)
 prompt_commands = (codes "SETKEYDESC", SetKeyDesc) ∷ []
 
@@ -44,9 +44,9 @@ key_commands =
     ∷ (codes "DELETE_KEY", tt)
     ∷ []
 
--- the names of all of them, in this order
+-- the names that HELP tells: of the commands on the cache and on keys, in this order
 abbrev pub command_names : List (List ℕ)
-command_names = map (λ row. row.0) commands ++ map (λ row. row.0) key_commands ++ map (λ row. row.0) prompt_commands
+command_names = map (λ row. row.0) commands ++ map (λ row. row.0) key_commands
 
 unfoldable pub is_key_command : List ℕ → Bool
 is_key_command word = is_some (found_in_any_case word key_commands)

@@ -50,7 +50,7 @@ pub const KEY_COMMANDS: [(&[u8], ()); 7] = [
     (b"DELETE_KEY", ()),
 ];
 
-/// The commands on the prompts of those on keys, which HELP tells behind these.
+/// The commands on the prompts of those on keys. They are served, and HELP doesn't tell them.
 pub const PROMPT_COMMANDS: [(&[u8], CommandName); 1] = [(b"SETKEYDESC", CommandName::SetKeyDesc)];
 
 /// A law: `COMMANDS`, `KEY_COMMANDS` and `PROMPT_COMMANDS` have the names as they are defined, in this order.

@@ -57,7 +57,7 @@ pub enum CacheCommand {
     ReloadAgent,
     /// Ends the session, and opens no prompt any more.
     KillAgent,
-    /// Says what the prompts of the next command on keys say.
+    /// Sets what the next prompts about a key say.
     SetKeyDesc {
         text: Text,
     },

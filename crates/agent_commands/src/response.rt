@@ -8,7 +8,7 @@ ghost use Rattle.agent_commands.specs.Names.{command_names};
 ghost use Rattle.assuan_server.specs.Written.{WritesText};
 ghost use Rattle.agent_commands.specs.Steps.{IsText};
 
-use crate::{COMMANDS, KEY_COMMANDS, PROMPT_COMMANDS};
+use crate::{COMMANDS, KEY_COMMANDS};
 use agent_ports::{Link, WriteFault};
 use assuan_escape::upper_hex;
 use assuan_server::{Code, Conn, Origin};
@@ -98,7 +98,7 @@ fn write_digits<L: Link>(conn: &mut Conn<'_, L>, secret: &Secret) -> Result<(), 
     sent.whole()
 }
 
-/// Writes a comment for each command and, behind these, for each further one that a server has, and that this is all.
+/// Writes a comment for each command that HELP tells and, behind these, for each further one that a server has, and that this is all.
 pub fn write_help<L: Link, T>(
     conn: &mut Conn<'_, L>,
     further: &[(&[u8], T)],
@@ -111,13 +111,12 @@ pub fn write_help<L: Link, T>(
     conn.ok(b"").whole()
 }
 
-/// Writes a comment for each command.
+/// Writes a comment for each command that HELP tells.
 fn write_commands<L: Link>(conn: &mut Conn<'_, L>) -> Result<(), WriteFault>
     ensures { WritesText (comments command_names) conn.old result conn.new }
 {
     write_names(conn, &COMMANDS)?;
-    write_names(conn, &KEY_COMMANDS)?;
-    write_names(conn, &PROMPT_COMMANDS)
+    write_names(conn, &KEY_COMMANDS)
 }
 
 /// Writes a comment for each row of a table, with its name.

@@ -10,7 +10,7 @@ use Rattle.assuan_server.specs.Connections.{Connection}
 use Rattle.cache_policy.specs.declared.mark.MarkStep.{MarkStep}
 use Rattle.cache_policy.specs.Turns.{Turn}
 use Rattle.session_client.specs.declared.unheard.Gone.TheVariants as gone
-use Rattle.session_options.specs.OptionValues.{OptionValues, without_description}
+use Rattle.session_options.specs.OptionValues.{OptionValues}
 use Rattle.session_options.specs.declared.rules.Rules.{Rules}
 use Rattle.agent_commands.specs.Events.{Event}
 use Rattle.agent_commands.specs.Exchanges.{Exchange}
@@ -28,7 +28,7 @@ use Rattle.key_commands.specs.States as states
 use Rattle.key_commands.specs.declared.went.KeyWent.{KeyWent}
 use Rattle.key_commands.specs.declared.went.KeyWent.TheVariants as key
 use Rattle.key_commands.specs.declared.wrap_keys.WrapKeys.{WrapKeys}
-use Rattle.agent_origin.specs.SessionExchanges.{RequestExchange, cache, keys, went_after_key}
+use Rattle.agent_origin.specs.SessionExchanges.{RequestExchange, cache, keys, went_after_key, described_after}
 use Rattle.agent_origin.specs.declared.kept.Kept.{Kept}
 
 abbrev kept_with : OptionValues → WrapKeys → Kept
@@ -79,14 +79,14 @@ module _ {D P : Type 0} (turned : D → MarkStep → Turn → D → Type 0) (pro
   module _ (rules : Rules) (options : OptionValues) {line : ArrayVec ℕ} {before : WrapKeys} where
     key_exchange_beside : {events : List (Event FurtherEvent)} {after : WrapKeys} {went : KeyWent}
         → states.WholeOrCut turned prompted (KeyExchange rules options before (key_request_of line.items)) events after went
-        → WholeOrCut (λ kept. RequestExchange rules kept (Key line)) (kept_with options before) events (kept_with (without_description options) after) (went_after_key went)
+        → WholeOrCut (λ kept. RequestExchange rules kept (Key line)) (kept_with options before) events (kept_with (described_after line.items options) after) (went_after_key went)
     key_exchange_beside (states.whole exchanged) = whole (keys exchanged)
     key_exchange_beside (states.cut exchanged last) = cut (keys exchanged) last
 
     -- with the option values beside
     pub keyed_beside : {start now : KeyState turned prompted} {went : KeyWent} {after : WrapKeys}
         → AnswersKey turned prompted (KeyExchange rules options before (key_request_of line.items)) start went after now
-        → AnswersRequest {w = KeyWorld turned prompted} (λ kept. RequestExchange rules kept (Key line)) (kept_with options before) start (went_after_key went) (kept_with (without_description options) after) now
+        → AnswersRequest {w = KeyWorld turned prompted} (λ kept. RequestExchange rules kept (Key line)) (kept_with options before) start (went_after_key went) (kept_with (described_after line.items options) after) now
     keyed_beside {went} answered = record {
       events = answered.events;
       exchanges = key_exchange_beside answered.exchanges;

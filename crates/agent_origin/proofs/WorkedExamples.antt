@@ -1,5 +1,6 @@
 -- The definitions on worked examples, each by computation.
 use Rattle.std.specs.Prelude.{◌≡◌, ◌++◌, replicate, codes, true, false, refl}
+use Rattle.std.proofs.Common.{ℕ, ◌≤◌, List, length, arith}
 use Rattle.hex.proofs.OnLiterals.{hex_on_literals}
 use Rattle.percent_encoding.proofs.OnLiterals.{percent_encoding_on_literals}
 use Rattle.agent_commands.specs.Names.{command_named as cache_command_named}
@@ -9,6 +10,7 @@ use Rattle.assuan_server.specs.declared.errors.Code.TheVariants.{UnknownCommand,
 use Rattle.agent_origin.specs.Doors.{rule_named, allowed}
 use Rattle.agent_origin.specs.Names.{command_named}
 use Rattle.agent_origin.specs.Requests.{trust_request_of}
+use Rattle.agent_origin.specs.declared.TheConstants.{MAX_NAME_LEN}
 use Rattle.agent_origin.specs.declared.door.Door.TheVariants.{Home, Outer}
 use Rattle.agent_origin.specs.declared.request.TrustPurpose.TheVariants.{X509}
 use Rattle.agent_origin.specs.declared.request.TrustRequest.TheVariants.{IsTrusted, MarkTrusted, Bad}
@@ -105,6 +107,9 @@ mark_without_name = refl
 mark_of_901 : trust_request_of (codes "MARKTRUSTED " ++ replicate 40 97 ++ codes " P " ++ replicate 901 97) ≡ Bad Parameter
 unfolding trust_request_of command_named hex_on_literals percent_encoding_on_literals
 mark_of_901 = refl
+
+longest_name : (name : List ℕ) → length name ≡ 900 → length name ≤ MAX_NAME_LEN
+longest_name name len = omega (arith, len)
 
 other_command : trust_request_of (codes "HAVEKEY") ≡ Bad UnknownCommand
 unfolding trust_request_of command_named

@@ -1,5 +1,6 @@
--- What a session does for each of its requests, by what it keeps between them. That the wrapping keys stay until its end is this project's own.
-use Rattle.std.specs.Prelude.{ℕ, List, None}
+-- What a session does for each of its requests, by what it keeps between them. That the wrapping keys stay until its end, and how long a description lives,
+-- is this project's own.
+use Rattle.std.specs.Prelude.{ℕ, List, None, if◌then◌else◌}
 use Rattle.arrayvec.specs.ArrayVec.{ArrayVec}
 use Rattle.agent_ask.specs.Further.{FurtherEvent}
 use Rattle.agent_commands.specs.Endings.{end_of}
@@ -11,7 +12,7 @@ use Rattle.agent_commands.specs.declared.request.Request.TheVariants.{Key}
 use Rattle.agent_commands.specs.declared.went.Went.{Went}
 use Rattle.agent_commands.specs.declared.went.Went.TheVariants.{On, End}
 use Rattle.key_commands.specs.Exchanges.{Exchange as KeyExchange}
-use Rattle.key_commands.specs.Requests.{key_request_of}
+use Rattle.key_commands.specs.Requests.{key_request_of, ends_description}
 use Rattle.key_commands.specs.declared.went.KeyWent.{KeyWent}
 use Rattle.key_commands.specs.declared.went.KeyWent.TheVariants as key
 use Rattle.key_commands.specs.declared.wrap_keys.WrapKeys.{WrapKeys}
@@ -28,15 +29,18 @@ abbrev pub went_after_key : KeyWent → Went
 went_after_key key.On = On
 went_after_key (key.Gone how) = End (end_of how)
 
+-- A line with a command on keys leaves the option values. One whose prompts the client may describe ends the description.
+abbrev pub described_after : List ℕ → OptionValues → OptionValues
+described_after line options = if ends_description line then without_description options else options
+
 -- A request: what is kept before it, what the session does for it, what is kept after it, and how the session goes on. A request on the cache or
--- on the session, or one that is refused, leaves the wrapping keys; one on keys, whatever it is answered,
--- leaves the option values, but ends the description of its prompts.
+-- on the session, or one that is refused, leaves the wrapping keys; one on keys leaves the option values but for the description, whatever it is answered.
 pub data RequestExchange (rules : Rules) (before : Kept) : Request → List (Event FurtherEvent) → Kept → Went → Type 0 where
   cache : {request : Request} {events : List (Event FurtherEvent)} {options : OptionValues} {went : Went} → Exchange rules before.options request events options went
       → RequestExchange rules before request events (record { options = options; wraps = before.wraps }) went
   keys : {line : ArrayVec ℕ} {events : List (Event FurtherEvent)} {wraps : WrapKeys} {went : KeyWent}
       → KeyExchange rules before.options before.wraps (key_request_of line.items) events wraps went
-      → RequestExchange rules before (Key line) events (record { options = without_description before.options; wraps = wraps }) (went_after_key went)
+      → RequestExchange rules before (Key line) events (record { options = described_after line.items before.options; wraps = wraps }) (went_after_key went)
 
 -- the exchange of a line
 abbrev pub SessionExchange : Rules → Kept → List ℕ → List (Event FurtherEvent) → Kept → Went → Type 0

@@ -6,7 +6,7 @@ ghost use Rattle.assuan_server.specs.Connections.{IsOpen};
 ghost use Rattle.assuan_server.specs.Written.{failed};
 ghost use Rattle.agent_commands.specs.States.{AnswersRequest};
 ghost use Rattle.key_commands.specs.States.{KeyWorld, key_state};
-ghost use Rattle.agent_origin.specs.SessionExchanges.{went_after_key, RequestExchange, SessionExchange};
+ghost use Rattle.agent_origin.specs.SessionExchanges.{went_after_key, described_after, RequestExchange, SessionExchange};
 ghost use Rattle.agent_origin.specs.States.{SaysText};
 
 use crate::Kept;
@@ -17,8 +17,8 @@ use agent_ports::{Dice, Keys, Link};
 use assuan_line::Line;
 use assuan_server::{Code, Conn, Origin};
 use cache_policy::Desk;
-use key_commands::{KeyWent, read_key, run_key};
-use session_options::Rules;
+use key_commands::{KeyWent, ends_description, read_key, run_key};
+use session_options::{Options, Rules};
 use std::alloc::Global;
 use wiping::wipe_stack;
 
@@ -86,7 +86,8 @@ fn answer_whole<L: Link, D: Desk, P: Prompter, K: Keys, R: Dice>(
             run_cache(&command, rules, &mut kept.options, conn, desk, prompter)
         }
         Request::Key(line) => {
-            let request = read_key(&line);
+            let line: &[u8] = &line;
+            let request = read_key(line);
             let went = run_key(
                 alloc,
                 &request,
@@ -99,10 +100,19 @@ fn answer_whole<L: Link, D: Desk, P: Prompter, K: Keys, R: Dice>(
                 keys,
                 dice,
             );
-            kept.options.end_description();
+            end_description(line, &mut kept.options);
             went_after_key(went)
         }
         Request::Bad(code) => refuse(code, conn),
+    }
+}
+
+/// Ends the description of prompts behind a line with a command on keys, where that one may prompt.
+fn end_description(line: &[u8], options: &mut Options)
+    ensures { options.new ≡ described_after line.now options.old }
+{
+    if ends_description(line) {
+        options.end_description();
     }
 }
 

@@ -28,7 +28,8 @@ const HAS_OPTION: &[u8] = b"cmd_has_option";
 pub enum Door {
     /// The user's own.
     Home,
-    /// The one that is handed to other machines, whose sessions may use keys, and neither change what the agent keeps nor read it.
+    /// The one that is handed to other machines. Their sessions see which keys are here, and may prompt the user. They use no key, change nothing that the
+    /// agent keeps, and are given no passphrase of its cache.
     Outer,
 }
 

@@ -1,9 +1,10 @@
 -- A host's parts, as far as they show what they are. This is the project's own.
-use Rattle.std.specs.Prelude.{◌≡◌, ℕ, Option, Some, None, ⊤}
+use Rattle.std.specs.Prelude.{◌≡◌, ℕ, List, [], length, nat_le, if◌then◌else◌, Option, Some, None, ⊤}
 use Rattle.agent_ports.specs.Sides.{Side}
 use Rattle.agent_ports.specs.Launches.{Launches}
 use Rattle.agent_ports.specs.Readings.{Readings}
 use Rattle.agent_ports.specs.KeyFiles.{KeyFiles}
+use Rattle.agent_ports.specs.declared.homedir.TheConstants.{MAX_HOMEDIR_LEN}
 use Rattle.agent_ports.specs.declared.host.Parts.{Parts}
 
 -- how parts of these types are seen
@@ -12,6 +13,15 @@ pub record Views (La C R K : Type 0) : Type 0 where
   pub readings : C → Readings
   pub draws : R → Side
   pub keys : K → KeyFiles
+
+-- whether key files are those of a folder, and whether a trust file is the one of it, as far as a host shows this
+pub record InFolder (K T : Type 0) : Type 1 where
+  pub keys : K → Type 0
+  pub trust : T → Type 0
+
+-- what a host keeps of a folder's path: one that is too long is none
+abbrev pub kept_path : List ℕ → List ℕ
+kept_path path = if nat_le (length path) MAX_HOMEDIR_LEN then path else []
 
 module _ {La C R K : Type 0} (views : Views La C R K) where
   -- nothing failed in these parts so far

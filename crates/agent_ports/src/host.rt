@@ -1,6 +1,6 @@
-ghost use Rattle.std.specs.Prelude.{◌≡◌, ◌≤◌, ℕ, Option, Some, None, IfSome, IsSome, IsNone};
+ghost use Rattle.std.specs.Prelude.{◌≡◌, ◌≤◌, ℕ, List, Option, Some, None, IfSome, IsSome, IsNone};
 ghost use Rattle.agent_ports.specs.Counts.{Rose, RoseBy};
-ghost use Rattle.agent_ports.specs.HostParts.{Views, AreSettled, AreNew};
+ghost use Rattle.agent_ports.specs.HostParts.{InFolder, AreSettled, AreNew, kept_path};
 ghost use Rattle.agent_ports.specs.declared.host.Parts.{Parts as HostParts};
 
 use crate::{Clock, Dice, Ear, Gate, Keys, Launcher, Link, Listener, TrustFile};
@@ -40,6 +40,12 @@ pub trait Host {
     /// The number of the process.
     ghost process: { Self → ℕ };
 
+    /// The path of the folder that was settled last, without a byte where there is none.
+    ghost homedir: { Self → List ℕ };
+
+    /// Whether the key files of parts, and a trust file, are those of the folder at a path, as far as the host shows it.
+    ghost of_folder: { List ℕ → InFolder Self.Keys Self.Trust };
+
     /// Whether a listener is the daemon's own.
     ghost is_home: { Self.Listener → Type 0 };
 
@@ -49,8 +55,10 @@ pub trait Host {
     /// How many calls for a listener failed, and how many calls with the ears that came back.
     ghost listens: { Self → ℕ };
 
-    /// The folder that is used from now on. The server's parts stay as they are, as far as they show it.
-    fn settle(&mut self, homedir: &[u8])
+    /// The folder that is used from now on. The server's parts are of it then, and stay as they are, as far as they show it.
+    fn settle(&mut self, path: &[u8])
+        ensures homedir { homedir self.new ≡ kept_path path.now }
+        ensures folder { IfSome (server self.new) (λ parts. (of_folder (homedir self.new)).keys parts.keys) }
         ensures parts { AreSettled (record { launches = Self.Launcher.launches; readings = Self.Clock.readings; draws = Self.Dice.draws; keys = Self.Keys.keys })
             (server self.old) (server self.new) }
         ensures process { process self.new ≡ process self.old }
@@ -66,21 +74,25 @@ pub trait Host {
         ensures given { server self.old ≡ Some result }
         ensures gone { server self.new ≡ None }
         ensures process { process self.new ≡ process self.old }
-        ensures listens { listens self.new ≡ listens self.old };
+        ensures listens { listens self.new ≡ listens self.old }
+        ensures homedir { homedir self.new ≡ homedir self.old };
 
     /// Takes the server's parts back.
     fn parts_back(&mut self, parts: Parts<Self::Launcher, Self::Clock, Self::Dice, Self::Keys>)
         ensures back { server self.new ≡ Some parts }
         ensures process { process self.new ≡ process self.old }
-        ensures listens { listens self.new ≡ listens self.old };
+        ensures listens { listens self.new ≡ listens self.old }
+        ensures homedir { homedir self.new ≡ homedir self.old };
 
-    /// New parts, for one session of a daemon.
+    /// New parts, for one session of a daemon, with the key files of the folder.
     fn session_parts(&self) -> Parts<Self::Launcher, Self::Clock, Self::Dice, Self::Keys>
-        ensures { AreNew (record { launches = Self.Launcher.launches; readings = Self.Clock.readings; draws = Self.Dice.draws; keys = Self.Keys.keys }) result };
+        ensures new { AreNew (record { launches = Self.Launcher.launches; readings = Self.Clock.readings; draws = Self.Dice.draws; keys = Self.Keys.keys }) result }
+        ensures folder { (of_folder (homedir self.now)).keys result.keys };
 
-    /// The trust file, for one session of a daemon.
+    /// The folder's trust file, for one session of a daemon.
     fn trust(&self) -> Self::Trust
-        ensures { (Self.Trust.trust result).faults ≡ 0 };
+        ensures unused { (Self.Trust.trust result).faults ≡ 0 }
+        ensures folder { (of_folder (homedir self.now)).trust result };
 
     /// The daemon's listener.
     fn listen(&mut self) -> Option<Self::Listener>
@@ -88,7 +100,8 @@ pub trait Host {
         ensures failed { IsNone result → Rose (listens self.old) (listens self.new) }
         ensures listens { listens self.old ≤ listens self.new }
         ensures server { server self.new ≡ server self.old }
-        ensures process { process self.new ≡ process self.old };
+        ensures process { process self.new ≡ process self.old }
+        ensures homedir { homedir self.new ≡ homedir self.old };
 
     /// The listener for restricted sessions.
     fn listen_extra(&mut self) -> Option<Self::Listener>
@@ -96,14 +109,16 @@ pub trait Host {
         ensures failed { IsNone result → Rose (listens self.old) (listens self.new) }
         ensures listens { listens self.old ≤ listens self.new }
         ensures server { server self.new ≡ server self.old }
-        ensures process { process self.new ≡ process self.old };
+        ensures process { process self.new ≡ process self.old }
+        ensures homedir { homedir self.new ≡ homedir self.old };
 
     /// Takes an ear back whose worker has returned. What failed there counts here too.
     fn ear_back(&mut self, ear: Self::Ear)
         ensures rose { RoseBy (Self.Ear.faults ear) (listens self.old) (listens self.new) }
         ensures listens { listens self.old ≤ listens self.new }
         ensures server { server self.new ≡ server self.old }
-        ensures process { process self.new ≡ process self.old };
+        ensures process { process self.new ≡ process self.old }
+        ensures homedir { homedir self.new ≡ homedir self.old };
 
     /// Where the sessions of a daemon pass by.
     fn gate(&self) -> &Self::Gate;

@@ -1,10 +1,10 @@
-ghost use Rattle.std.specs.Prelude.{◌≡◌, ◌≤◌, Some, IfSome, IsNone, true, false};
+ghost use Rattle.std.specs.Prelude.{◌≡◌, ◌≤◌, [], Some, IfSome, IsNone, true, false, ⊤};
 ghost use Rattle.agent_ports.specs.Counts.{Rose};
 
 use crate::fault_plan::FaultPlan;
 use crate::{
-    Gate, Host, ListClock, ListDice, ListListener, ListedLinks, MapKeys, MemEar, MemLauncher,
-    MemLink, MemTrust, NoGate, Parts,
+    Gate, Homedir, Host, ListClock, ListDice, ListListener, ListedLinks, MapKeys, MemEar,
+    MemLauncher, MemLink, MemTrust, NoGate, Parts,
 };
 use std::alloc::Global;
 use std::sync::{Mutex, Wait};
@@ -21,7 +21,7 @@ pub struct MemHost<'l, W, G> {
     alloc: Global,
     pid: u32,
     parts: Option<MemParts>,
-    homedir: Vec<u8>,
+    homedir: Homedir,
     sessions: Mutex<Vec<MemParts>>,
     trusts: Mutex<Vec<MemTrust>>,
     links: Option<&'l Mutex<ListedLinks>>,
@@ -35,6 +35,7 @@ impl<'l, W: Wait> MemHost<'l, W, NoGate> {
     pub fn new(rt: &'l W, alloc: Global, pid: u32, parts: MemParts) -> Self
         ensures server { ⟦<MemHost<'l, W, NoGate> as Host>⟧.server result ≡ Some parts }
         ensures process { ⟦<MemHost<'l, W, NoGate> as Host>⟧.process result ≡ pid }
+        ensures homedir { ⟦<MemHost<'l, W, NoGate> as Host>⟧.homedir result ≡ [] }
         ensures listens { ⟦<MemHost<'l, W, NoGate> as Host>⟧.listens result ≡ 0 }
     {
         MemHost {
@@ -42,7 +43,7 @@ impl<'l, W: Wait> MemHost<'l, W, NoGate> {
             alloc,
             pid,
             parts: Some(parts),
-            homedir: Vec::new(alloc),
+            homedir: Homedir::new(),
             sessions: Mutex::new(Vec::new(alloc)),
             trusts: Mutex::new(Vec::new(alloc)),
             links: None,
@@ -115,9 +116,21 @@ impl<'l, W: Wait, G: Gate> MemHost<'l, W, G> {
         host
     }
 
-    /// The folder that was settled last.
-    pub fn homedir(&self) -> &[u8] {
-        &self.homedir
+    /// The server's parts, where it has them.
+    pub fn into_parts(self) -> Option<MemParts>
+    where
+        G: Drop,
+        ensures { result ≡ ⟦<MemHost<'l, W, G> as Host>⟧.server self.entry }
+    {
+        let mut host = self;
+        host.parts.take()
+    }
+
+    /// The path of the folder that was settled last.
+    pub fn homedir(&self) -> &[u8]
+        ensures { result.now ≡ ⟦<MemHost<'l, W, G> as Host>⟧.homedir self.now }
+    {
+        self.homedir.bytes()
     }
 
     /// A listener for these links, which may be those of restricted sessions, where there are some and the call isn't one that is to fail.
@@ -131,6 +144,7 @@ impl<'l, W: Wait, G: Gate> MemHost<'l, W, G> {
         ensures listens { ⟦<MemHost<'l, W, G> as Host>⟧.listens self.old ≤ ⟦<MemHost<'l, W, G> as Host>⟧.listens self.new }
         ensures server { ⟦<MemHost<'l, W, G> as Host>⟧.server self.new ≡ ⟦<MemHost<'l, W, G> as Host>⟧.server self.old }
         ensures process { ⟦<MemHost<'l, W, G> as Host>⟧.process self.new ≡ ⟦<MemHost<'l, W, G> as Host>⟧.process self.old }
+        ensures homedir { ⟦<MemHost<'l, W, G> as Host>⟧.homedir self.new ≡ ⟦<MemHost<'l, W, G> as Host>⟧.homedir self.old }
     {
         if self.plan.next_fails() {
             return None;
@@ -182,15 +196,19 @@ impl<'l, W: Wait, G: Gate> Host for MemHost<'l, W, G> {
 
     ghost process = { λ h. h.pid };
 
+    ghost homedir = { λ h. h.homedir };
+
+    // Its key files and trust files are those of its lists, whatever the folder is.
+    ghost of_folder = { λ path. record { keys = λ keys. ⊤; trust = λ trust. ⊤ } };
+
     ghost is_home = { λ l. l.extra ≡ false };
 
     ghost is_extra = { λ l. l.extra ≡ true };
 
     ghost listens = { λ h. h.plan.faults };
 
-    /// Without memory the folder isn't kept.
-    fn settle(&mut self, homedir: &[u8]) {
-        self.homedir = Vec::from_slice(self.alloc, homedir).unwrap_or(Vec::new(self.alloc));
+    fn settle(&mut self, path: &[u8]) {
+        self.homedir.settle(path);
     }
 
     fn pid(&self) -> u32 {
@@ -205,6 +223,7 @@ impl<'l, W: Wait, G: Gate> Host for MemHost<'l, W, G> {
         ensures back { ⟦<MemHost<'l, W, G> as Host>⟧.server self.new ≡ Some parts }
         ensures process { ⟦<MemHost<'l, W, G> as Host>⟧.process self.new ≡ ⟦<MemHost<'l, W, G> as Host>⟧.process self.old }
         ensures listens { ⟦<MemHost<'l, W, G> as Host>⟧.listens self.new ≡ ⟦<MemHost<'l, W, G> as Host>⟧.listens self.old }
+        ensures homedir { ⟦<MemHost<'l, W, G> as Host>⟧.homedir self.new ≡ ⟦<MemHost<'l, W, G> as Host>⟧.homedir self.old }
     {
         self.parts = Some(parts);
     }

@@ -5,11 +5,10 @@ ghost use Rattle.unix_socket.specs.declared.path.SocketName.{SocketName as Named
 use crate::clock::SystemClock;
 use crate::dice::SystemDice;
 use crate::faults::count;
-use crate::homedir::Homedir;
 use crate::keys::SystemKeys;
 use crate::launcher::PipeLauncher;
 use crate::trust::SystemTrust;
-use agent_ports::{Dice, Host, Keys, Launcher, NoGate, Parts, TrustFile};
+use agent_ports::{Dice, Homedir, Host, Keys, Launcher, NoGate, Parts, TrustFile};
 use std::alloc::Global;
 use std::fs::{File, Files};
 use std::net::Net;
@@ -45,7 +44,7 @@ impl<'a, R: rt::Clock + Processes + Files<File = File> + Net> SystemHost<'a, R> 
             rt,
             alloc,
             pid,
-            parts: Some(new_parts(rt, alloc, b"")),
+            parts: Some(new_parts(rt, alloc, &Homedir::new())),
             homedir: Homedir::new(),
             listens: 0,
             gate: NoGate,
@@ -60,6 +59,7 @@ impl<'a, R: Files + Net> SystemHost<'a, R> {
         ensures failed { IsNone result → Rose self.old.listens self.new.listens }
         ensures listens { self.old.listens ≤ self.new.listens }
         ensures parts { self.new.parts ≡ self.old.parts }
+        ensures homedir { self.new.homedir ≡ self.old.homedir }
         ensures pid { self.new.pid ≡ self.old.pid }
     {
         let listener = self.socket(name);
@@ -78,11 +78,12 @@ impl<'a, R: Files + Net> SystemHost<'a, R> {
 fn new_parts<'a, R: rt::Clock + Processes + Files<File = File>>(
     rt: &'a R,
     alloc: Global,
-    homedir: &[u8],
+    homedir: &Homedir,
 ) -> SystemParts<'a, R>
     ensures launcher { (⟦<PipeLauncher<'a, R> as Launcher>⟧.launches result.launcher).faults ≡ 0 }
     ensures dice { (⟦<SystemDice<'a, R> as Dice>⟧.draws result.dice).faults ≡ 0 }
     ensures keys { (⟦<SystemKeys<'a, R> as Keys>⟧.keys result.keys).faults ≡ 0 }
+    ensures homedir { result.keys.homedir ≡ homedir.now }
 {
     let mut keys = SystemKeys::new(rt);
     keys.settle(homedir);
@@ -117,16 +118,20 @@ impl<'a, R: rt::Clock + Processes + Files<File = File> + Net> Host for SystemHos
 
     ghost process = { λ h. h.pid };
 
+    ghost homedir = { λ h. h.homedir };
+
+    ghost of_folder = { λ path. record { keys = λ keys. keys.homedir ≡ path; trust = λ trust. trust.homedir ≡ path } };
+
     ghost is_home = { λ l. l.name ≡ Named.Standard };
 
     ghost is_extra = { λ l. l.name ≡ Named.Extra };
 
     ghost listens = { λ h. h.listens };
 
-    fn settle(&mut self, homedir: &[u8]) {
-        self.homedir.settle(homedir);
+    fn settle(&mut self, path: &[u8]) {
+        self.homedir.settle(path);
         if let Some(parts) = &mut self.parts {
-            parts.keys.settle(homedir);
+            parts.keys.settle(&self.homedir);
         }
     }
 
@@ -142,16 +147,17 @@ impl<'a, R: rt::Clock + Processes + Files<File = File> + Net> Host for SystemHos
         ensures back { ⟦<SystemHost<'a, R> as Host>⟧.server self.new ≡ Some parts.entry }
         ensures process { ⟦<SystemHost<'a, R> as Host>⟧.process self.new ≡ ⟦<SystemHost<'a, R> as Host>⟧.process self.old }
         ensures listens { ⟦<SystemHost<'a, R> as Host>⟧.listens self.new ≡ ⟦<SystemHost<'a, R> as Host>⟧.listens self.old }
+        ensures homedir { ⟦<SystemHost<'a, R> as Host>⟧.homedir self.new ≡ ⟦<SystemHost<'a, R> as Host>⟧.homedir self.old }
     {
         self.parts = Some(parts);
     }
 
     fn session_parts(&self) -> SystemParts<'a, R> {
-        new_parts(self.rt, self.alloc, self.homedir.name())
+        new_parts(self.rt, self.alloc, &self.homedir)
     }
 
     fn trust(&self) -> SystemTrust<'a, R> {
-        SystemTrust::new(self.rt, self.homedir.name())
+        SystemTrust::new(self.rt, &self.homedir)
     }
 
     fn listen(&mut self) -> Option<SocketListener<'a, R>> {

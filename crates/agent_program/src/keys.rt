@@ -1,25 +1,27 @@
-ghost use Rattle.std.specs.Prelude.{◌≡◌, None, IfOk};
+ghost use Rattle.std.specs.Prelude.{◌≡◌, [], None, IfOk};
 
 use crate::faults::count;
-use crate::homedir::{Homedir, NoFolder};
-use agent_ports::{Grip, KeyDone, KeyNames, KeyRead, Keys};
+use crate::no_folder::NoFolder;
+use agent_ports::{Grip, Homedir, KeyDone, KeyNames, KeyRead, Keys};
 use key_store::FolderKeys;
 use std::alloc::Global;
 use std::fs::{File, Files};
+use std::rt;
 
 /// The key files of the folder that was settled. A path takes memory, and settling may take none: so the keys of the folder are made for each
 /// call.
 #[derive(Drop)]
 pub struct SystemKeys<'a, R> {
     rt: &'a R,
-    homedir: Homedir,
+    pub homedir: Homedir,
     faults: u64,
 }
 
-impl<'a, R: Files<File = File>> SystemKeys<'a, R> {
+impl<'a, R: rt::Clock + Files<File = File>> SystemKeys<'a, R> {
     /// Keys of no folder yet: each call fails.
     pub fn new(rt: &'a R) -> Self
-        ensures { ⟦<SystemKeys<'a, R> as Keys>⟧.keys result ≡ record { files = None; faults = 0 } }
+        ensures keys { ⟦<SystemKeys<'a, R> as Keys>⟧.keys result ≡ record { files = None; faults = 0 } }
+        ensures homedir { result.homedir ≡ [] }
     {
         SystemKeys {
             rt,
@@ -29,10 +31,11 @@ impl<'a, R: Files<File = File>> SystemKeys<'a, R> {
     }
 
     /// The folder that is used from now on.
-    pub fn settle(&mut self, homedir: &[u8])
-        ensures { ⟦<SystemKeys<'a, R> as Keys>⟧.keys self.new ≡ ⟦<SystemKeys<'a, R> as Keys>⟧.keys self.old }
+    pub fn settle(&mut self, homedir: &Homedir)
+        ensures keys { ⟦<SystemKeys<'a, R> as Keys>⟧.keys self.new ≡ ⟦<SystemKeys<'a, R> as Keys>⟧.keys self.old }
+        ensures homedir { self.new.homedir ≡ homedir.now }
     {
-        self.homedir.settle(homedir);
+        self.homedir = homedir.copy();
     }
 
     fn folder(&self, alloc: Global) -> Result<FolderKeys<'a, R>, NoFolder>
@@ -43,7 +46,7 @@ impl<'a, R: Files<File = File>> SystemKeys<'a, R> {
     }
 }
 
-impl<R: Files<File = File>> Keys for SystemKeys<'_, R> {
+impl<R: rt::Clock + Files<File = File>> Keys for SystemKeys<'_, R> {
     ghost keys = { λ k. record { files = None; faults = k.faults } };
 
     fn read(&mut self, alloc: Global, grip: &Grip) -> KeyRead {

@@ -1,30 +1,30 @@
 ghost use Rattle.std.specs.Prelude.{◌≡◌, None, IfOk};
 
 use crate::faults::count;
-use crate::homedir::{Homedir, NoFolder};
-use agent_ports::{TrustDone, TrustFile, TrustRead};
+use crate::no_folder::NoFolder;
+use agent_ports::{Homedir, TrustDone, TrustFile, TrustRead};
 use key_store::FolderTrust;
 use std::alloc::Global;
 use std::fs::{File, Files};
+use std::rt;
 
 /// The trust list of the folder that was settled. As with the keys, what reads and writes it is made for each call.
 #[derive(Drop)]
 pub struct SystemTrust<'a, R> {
     rt: &'a R,
-    homedir: Homedir,
+    pub homedir: Homedir,
     faults: u64,
 }
 
-impl<'a, R: Files<File = File>> SystemTrust<'a, R> {
+impl<'a, R: rt::Clock + Files<File = File>> SystemTrust<'a, R> {
     /// The trust list of this folder.
-    pub fn new(rt: &'a R, homedir: &[u8]) -> Self
-        ensures { ⟦<SystemTrust<'a, R> as TrustFile>⟧.trust result ≡ record { file = None; faults = 0 } }
+    pub fn new(rt: &'a R, homedir: &Homedir) -> Self
+        ensures trust { ⟦<SystemTrust<'a, R> as TrustFile>⟧.trust result ≡ record { file = None; faults = 0 } }
+        ensures homedir { result.homedir ≡ homedir.now }
     {
-        let mut settled = Homedir::new();
-        settled.settle(homedir);
         SystemTrust {
             rt,
-            homedir: settled,
+            homedir: homedir.copy(),
             faults: 0,
         }
     }
@@ -37,7 +37,7 @@ impl<'a, R: Files<File = File>> SystemTrust<'a, R> {
     }
 }
 
-impl<R: Files<File = File>> TrustFile for SystemTrust<'_, R> {
+impl<R: rt::Clock + Files<File = File>> TrustFile for SystemTrust<'_, R> {
     ghost trust = { λ t. record { file = None; faults = t.faults } };
 
     fn read(&mut self, alloc: Global) -> TrustRead {

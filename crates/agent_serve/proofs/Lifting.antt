@@ -11,7 +11,7 @@ use Rattle.agent_ask.specs.SessionEvents.{turns_in}
 use Rattle.agent_ask.specs.Worlds.{Outside, Does, received, sent, cut, asked, not_asked, turned, further}
 use Rattle.agent_commands.specs.Outside.{World}
 use Rattle.assuan_server.specs.Clients.{session_lines}
-use Rattle.agent_ports.specs.HostParts.{Views, AreNew}
+use Rattle.agent_ports.specs.HostParts.{Views, InFolder, AreNew}
 use Rattle.agent_ports.specs.KeyFiles.{KeyFiles}
 use Rattle.agent_ports.specs.Launches.{Launches}
 use Rattle.agent_ports.specs.Leads.{Leads, none, one}
@@ -122,13 +122,15 @@ gated_is_shut : {La : Type 0} (launches : La → Launches) (rules : Rules) (pine
 gated_is_shut launches rules pinentry program shut = rw (program, shut.idle, no_some pinentry.child shut.childless) refl
 
 -- what a session at the desk is at its pass
-module _ {C La R K T : Type 0} (views : Views La C R K) (trusts : T → TrustState) (rules : Rules) (door : Door) (session : SessionId) (before after : LinkSides) (pass : AtPass) (parts : Parts La C R K)
+module _ {C La R K T : Type 0} (views : Views La C R K) (trusts : T → TrustState) (folder : InFolder K T) (rules : Rules) (door : Door) (session : SessionId) (before after : LinkSides) (pass : AtPass) (parts : Parts La C R K)
     (trust_file : T)
     (desk desk_now : AtCountedDesk C) (gated gated_now : Gated (PinentryState La)) (keys_now : KeyFiles) (dice_now : Side) (trust_now : TrustState) (end : SessionEnd)
     (desk_is : desk ≡ record { pass = record pass { sessions = session.count + 1 }; session = session; out = None; clock = parts.clock })
     (unused : at_pinentry views.launches gated.prompter ≡ idle rules.pinentry.items (views.launches gated.prompter.launcher))
     (new : AreNew views parts)
     (unfailed : (trusts trust_file).faults ≡ 0)
+    (keys_in : folder.keys parts.keys)
+    (trust_in : folder.trust trust_file)
     (own : gated.prompter.launcher ≡ parts.launcher)
     (served : ServesDoor (CountedTurn views.readings) (GatedCall views.launches) door rules
     (door_surroundings (CountedTurn views.readings) (GatedCall views.launches) before.input before.output desk gated (views.keys parts.keys) (views.draws parts.dice) (trusts trust_file)) end
@@ -178,7 +180,7 @@ module _ {C La R K T : Type 0} (views : Views La C R K) (trusts : T → TrustSta
   pass_is_led =
       subst (λ (d : AtCountedDesk C). PassTurns d.session d.pass (views.readings d.clock) (turns_in served.events) lifted.goes.own desk_now.pass (views.readings desk_now.clock)) desk_is lifted.goes.turns
 
-  pub one_is_served : ServesOne views trusts rules door session before pass end after desk_now.pass
+  pub one_is_served : ServesOne views trusts folder rules door session before pass end after desk_now.pass
   one_is_served =
       let does = added session first desk_now.pass _ _ (turns_in served.events) lifted.goes.own pass_is_led in
       record {
@@ -186,6 +188,8 @@ module _ {C La R K T : Type 0} (views : Views La C R K) (trusts : T → TrustSta
         new = new;
         trust_file = trust_file;
         unused = unfailed;
+        keys_in = keys_in;
+        trust_in = trust_in;
         clock_now = views.readings desk_now.clock;
         launches_now = views.launches gated_now.prompter.launcher;
         keys_now = keys_now;

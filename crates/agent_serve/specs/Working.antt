@@ -2,7 +2,7 @@
 use Rattle.std.specs.Prelude.{Bool, true, false, Option, Some, None}
 use Rattle.agent_commands.specs.declared.went.SessionEnd.{SessionEnd}
 use Rattle.agent_ports.specs.declared.session.SessionId.{SessionId}
-use Rattle.agent_ports.specs.HostParts.{Views}
+use Rattle.agent_ports.specs.HostParts.{Views, InFolder}
 use Rattle.agent_ports.specs.Listening.{NothingFailed}
 use Rattle.agent_ports.specs.Sides.{Side}
 use Rattle.agent_ports.specs.TrustFiles.{TrustState}
@@ -16,7 +16,7 @@ use Rattle.agent_serve.specs.Serves.{LinkSides, link_of, ServesOne}
 abbrev pub next_session : AtPass → SessionId
 next_session pass = record { pass = pass.number; count = pass.sessions }
 
--- how the listeners, the links, the parts and the trust files are seen that a host has for its sessions
+-- how the listeners, the links, the parts and the trust files are seen that a host has for its sessions, and which of them are those of its folder
 pub record HostViews (Ls Li La C R K T : Type 0) : Type 1 where
   -- which links come in at a listener
   pub gives : Ls → Li → Type 0
@@ -27,6 +27,7 @@ pub record HostViews (Ls Li La C R K T : Type 0) : Type 1 where
   pub output : Li → Side
   pub parts : Views La C R K
   pub trust : T → TrustState
+  pub folder : InFolder K T
 
 -- the door by which the last worker's links come, where there is an extra listener, or none
 abbrev pub last_door : Bool → Door
@@ -49,7 +50,7 @@ module _ {Ls Li La C R K T : Type 0} (host : HostViews Ls Li La C R K T) (rules 
     pub fresh : NothingFailed (host.input link) (host.output link)
     pub end : SessionEnd
     pub after : Li
-    pub serves : ServesOne host.parts host.trust rules door (next_session pass) (sides link) pass end (sides after) now
+    pub serves : ServesOne host.parts host.trust host.folder rules door (next_session pass) (sides link) pass end (sides after) now
 
   -- A worker's sessions, one after another: each found the pass as the one before had left it. Nothing else is done to the pass.
   pub data ServesLinks : AtPass → AtPass → Type 0 where

@@ -18,8 +18,8 @@ pub(crate) trait Task<J, K> {
         ensures { did self.now job ear result };
 }
 
-/// Runs the task for each pair, but `last` for the last one, each in a thread of its own where one can be made, and one after another where none
-/// can. All come back, in their order.
+/// Runs the task for each pair, but `last` for the last one: the first one in this thread, and each other one in a thread of its own. One for which no
+/// thread can be made is run when those before it are done, so the first one runs in any case. All come back, in their order.
 pub(crate) fn run_each<W: Threads + Sync, J: Send + Drop, K: Send + Drop, T: Task<J, K> + Sync>(
     rt: &W,
     task: &T,
@@ -37,17 +37,24 @@ pub(crate) fn run_each<W: Threads + Sync, J: Send + Drop, K: Send + Drop, T: Tas
     let Some((job, ear)) = pop_pair(task, last, &mut jobs, &mut ears) else {
         return (jobs, ears);
     };
+    if jobs.is_empty() {
+        let (job, ear) = last.run(job, ear);
+        jobs.push_reserved(job);
+        ears.push_reserved(ear);
+        return (jobs, ears);
+    }
+    let back = move || -> (J, K)
+        requires { T.takes last.now job ear }
+        ensures { T.did last.entry.now job ear result }
+    { last.run(job, ear) };
     let front = move || -> (Vec<J>, Vec<K>)
         requires { IsSync W.row × IsSync T.row × IsSend J.row × IsSend K.row × Paired (T.takes task.now) jobs.items ears.items }
         ensures { (vec_len result.0 ≡ vec_len jobs) × (vec_len result.1 ≡ vec_len ears) × (vec_capacity result.0 ≡ vec_capacity jobs)
             × (vec_capacity result.1 ≡ vec_capacity ears)
             × PairedTo (T.did task.entry.now) (T.did task.entry.now) jobs.items ears.items result.0.items result.1.items }
     { run_each(rt, task, task, jobs, ears) };
-    let back = move || -> (J, K)
-        requires { T.takes last.now job ear }
-        ensures { T.did last.entry.now job ear result }
-    { last.run(job, ear) };
-    let ((mut jobs, mut ears), (job, ear)) = thread::join(rt, front, back);
+    // Where no thread can be made `join` calls its first closure last.
+    let ((job, ear), (mut jobs, mut ears)) = thread::join(rt, back, front);
     jobs.push_reserved(job);
     ears.push_reserved(ear);
     (jobs, ears)

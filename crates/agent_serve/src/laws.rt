@@ -1,4 +1,4 @@
-ghost use Rattle.std.specs.Prelude.{◌+◌, None};
+ghost use Rattle.std.specs.Prelude.{◌+◌, ℕ, List, None};
 ghost use Rattle.agent_ask.specs.SessionEvents.{turns_in};
 ghost use Rattle.agent_commands.specs.declared.went.SessionEnd.{SessionEnd as Ends};
 ghost use Rattle.agent_origin.specs.OuterRuns.{LeavesDesk};
@@ -15,11 +15,11 @@ use agent_ports::Host;
 /// A restricted session of the daemon takes the seat for prompts of which nothing is kept, gives it back, and looks whether passphrases are cached. So its
 /// marks in the one run store and clear nothing, and none of them was given a passphrase.
 pub fn a_restricted_session_leaves_the_run<H: Host>()
-    ensures cache { (rules : Rules) (session : SessionId) (before after : LinkSides) (pass now : AtPass) (end : Ends)
-        → (serves : ServesOne (record { launches = H.Launcher.launches; readings = H.Clock.readings; draws = H.Dice.draws; keys = H.Keys.keys }) H.Trust.trust
+    ensures cache { (path : List ℕ) (rules : Rules) (session : SessionId) (before after : LinkSides) (pass now : AtPass) (end : Ends)
+        → (serves : ServesOne (record { launches = H.Launcher.launches; readings = H.Clock.readings; draws = H.Dice.draws; keys = H.Keys.keys }) H.Trust.trust (H.of_folder path)
         rules Outer session before pass end after now) → LeavesCache serves.served.events }
-    ensures run { (rules : Rules) (session : SessionId) (before after : LinkSides) (pass now : AtPass) (end : Ends)
-        → (serves : ServesOne (record { launches = H.Launcher.launches; readings = H.Clock.readings; draws = H.Dice.draws; keys = H.Keys.keys }) H.Trust.trust
+    ensures run { (path : List ℕ) (rules : Rules) (session : SessionId) (before after : LinkSides) (pass now : AtPass) (end : Ends)
+        → (serves : ServesOne (record { launches = H.Launcher.launches; readings = H.Clock.readings; draws = H.Dice.draws; keys = H.Keys.keys }) H.Trust.trust (H.of_folder path)
         rules Outer session before pass end after now)
         → LeavesDesk (at_counted (record pass { sessions = session.count + 1 }) session None) (turns_in serves.served.events) (at_counted now session None) }
 {}

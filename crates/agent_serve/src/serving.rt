@@ -6,9 +6,7 @@ ghost use Rattle.agent_serve.specs.Serves.{ServesOne, link_of};
 use crate::GatedPrompter;
 use agent_commands::SessionEnd;
 use agent_origin::{Door, serve_door};
-use agent_ports::{
-    Clock, Dice, Gate, GatePoint, Host, Keys, Launcher, Link, Parts, SessionId, TrustFile,
-};
+use agent_ports::{Gate, GatePoint, Host, Launcher, Parts, SessionId};
 use counted_lock::{Counted, CountedDesk, CountedPass};
 use pinentry_client::{Pinentry, Word};
 use session_options::Rules;
@@ -40,7 +38,7 @@ where
     requires later { pass.sessions ≤ session.count }
     requires numbered { session.count < 2 ^ 64 - 1 }
     ensures { ServesOne (record { launches = H.Launcher.launches; readings = H.Clock.readings; draws = H.Dice.draws; keys = H.Keys.keys }) H.Trust.trust
-        rules.now door session (link_of (H.Link.input link.old) (H.Link.output link.old)) pass result.1
+        (H.of_folder (H.homedir host.now)) rules.now door session (link_of (H.Link.input link.old) (H.Link.output link.old)) pass result.1
         (link_of (H.Link.input link.new) (H.Link.output link.new)) result.0 }
 {
     let gate = host.gate();
@@ -48,44 +46,43 @@ where
     let parts = host.session_parts();
     let trust = host.trust();
     let served = serve_with(
-        rt, alloc, rules, gate, parts, trust, counted, pass, session, link, door,
+        rt, alloc, rules, host, parts, trust, counted, pass, session, link, door,
     );
     gate.at(GatePoint::Ended, session);
     served
 }
 
 /// Serves the session with these parts and this trust file, which nothing was done with.
-fn serve_with<
-    W: Wait + time::Clock,
-    G: Gate,
-    L: Link,
-    La: Launcher + Drop,
-    C: Clock + Drop,
-    R: Dice + Drop,
-    K: Keys + Drop,
-    T: TrustFile + Drop,
->(
+fn serve_with<W: Wait + time::Clock, H: Host>(
     rt: &W,
     alloc: Global,
     rules: &Rules,
-    gate: &G,
-    parts: Parts<La, C, R, K>,
-    trust: T,
+    host: &H,
+    parts: Parts<H::Launcher, H::Clock, H::Dice, H::Keys>,
+    trust: H::Trust,
     counted: &Counted,
     pass: CountedPass,
     session: SessionId,
-    link: &mut L,
+    link: &mut H::Link,
     door: Door,
 ) -> (CountedPass, SessionEnd)
+where
+    H::Launcher: Drop,
+    H::Clock: Drop,
+    H::Dice: Drop,
+    H::Keys: Drop,
+    H::Trust: Drop,
     requires own { pass.table ≡ counted.now.table }
     requires by { session.pass ≡ pass.number }
     requires later { pass.sessions ≤ session.count }
     requires numbered { session.count < 2 ^ 64 - 1 }
-    requires new { AreNew (record { launches = La.launches; readings = C.readings; draws = R.draws; keys = K.keys }) parts }
-    requires unused { (T.trust trust).faults ≡ 0 }
-    ensures { ServesOne (record { launches = La.launches; readings = C.readings; draws = R.draws; keys = K.keys }) T.trust
-        rules.now door session (link_of (L.input link.old) (L.output link.old)) pass result.1
-        (link_of (L.input link.new) (L.output link.new)) result.0 }
+    requires new { AreNew (record { launches = H.Launcher.launches; readings = H.Clock.readings; draws = H.Dice.draws; keys = H.Keys.keys }) parts }
+    requires unused { (H.Trust.trust trust).faults ≡ 0 }
+    requires keys_in { (H.of_folder (H.homedir host.now)).keys parts.keys }
+    requires trust_in { (H.of_folder (H.homedir host.now)).trust trust }
+    ensures { ServesOne (record { launches = H.Launcher.launches; readings = H.Clock.readings; draws = H.Dice.draws; keys = H.Keys.keys }) H.Trust.trust
+        (H.of_folder (H.homedir host.now)) rules.now door session (link_of (H.Link.input link.old) (H.Link.output link.old)) pass result.1
+        (link_of (H.Link.input link.new) (H.Link.output link.new)) result.0 }
 {
     let Parts {
         mut launcher,
@@ -95,7 +92,7 @@ fn serve_with<
     } = parts;
     let mut trust = trust;
     let pinentry = Pinentry::new(alloc, &mut launcher, copied(&rules.pinentry));
-    let mut prompter = GatedPrompter::new(pinentry, gate, session);
+    let mut prompter = GatedPrompter::new(pinentry, host.gate(), session);
     let mut desk = CountedDesk::new(rt, counted, pass, session, clock);
     let end = serve_door(
         alloc,

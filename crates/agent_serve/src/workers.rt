@@ -52,6 +52,7 @@ where
           output = H.Link.output;
           parts = record { launches = H.Launcher.launches; readings = H.Clock.readings; draws = H.Dice.draws; keys = H.Keys.keys };
           trust = H.Trust.trust;
+          folder = H.of_folder (H.homedir self.now.host.now);
         })
             self.now.rules.now self.now.door self.now.listener.now pass result.0 }
         ensures ear { H.Ear.faults ear ≤ H.Ear.faults result.1 }
@@ -84,6 +85,7 @@ where
           output = H.Link.output;
           parts = record { launches = H.Launcher.launches; readings = H.Clock.readings; draws = H.Dice.draws; keys = H.Keys.keys };
           trust = H.Trust.trust;
+          folder = H.of_folder (H.homedir self.now.host.now);
         })
             self.now.rules.now self.now.door self.now.listener.now pass result }
     {
@@ -137,6 +139,7 @@ where
       output = H.Link.output;
       parts = record { launches = H.Launcher.launches; readings = H.Clock.readings; draws = H.Dice.draws; keys = H.Keys.keys };
       trust = H.Trust.trust;
+      folder = H.of_folder (H.homedir working.host.now);
     })
         working.rules.now working.door working.listener.now pass back.0 × (H.Ear.faults ear ≤ H.Ear.faults back.1) };
 
@@ -145,9 +148,9 @@ where
     }
 }
 
-/// Serves links by one worker for each pass and ear, each in a thread of its own; where no thread can be made the workers run one after
-/// another. Where there is an extra listener the last worker takes its links, by the outer door, and all others take those of the first one. All
-/// passes and ears come back, in their order.
+/// Serves links by one worker for each pass and ear, the first one in this thread and each other one in a thread of its own; where no thread can be
+/// made they run one after another, the first one first. Where there is an extra listener the last worker takes its links, by the outer door, and all
+/// others take those of the first one. All passes and ears come back, in their order.
 ///
 /// A worker takes links until its listener is stopped or fails, and hands each link back whose session has ended. It stops both listeners
 /// where its session has stopped the agent, or has seen that another one did.
@@ -187,6 +190,7 @@ where
           output = H.Link.output;
           parts = record { launches = H.Launcher.launches; readings = H.Clock.readings; draws = H.Dice.draws; keys = H.Keys.keys };
           trust = H.Trust.trust;
+          folder = H.of_folder (H.homedir host.now);
         })
         rules.now Door.Home listener.now pass back.0 × (H.Ear.faults ear ≤ H.Ear.faults back.1))
         (λ pass ear back. ServesLinks (record {
@@ -197,6 +201,7 @@ where
           output = H.Link.output;
           parts = record { launches = H.Launcher.launches; readings = H.Clock.readings; draws = H.Dice.draws; keys = H.Keys.keys };
           trust = H.Trust.trust;
+          folder = H.of_folder (H.homedir host.now);
         })
         rules.now (last_door (is_some extra.entry)) (last_listener listener.now (option_copied extra.entry)) pass back.0 × (H.Ear.faults ear ≤ H.Ear.faults back.1)) passes.items ears.items result.0.items result.1.items }
 {

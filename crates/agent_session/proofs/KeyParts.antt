@@ -1,6 +1,6 @@
 -- The parts of requests on keys, each of whose refusals has its cause.
 use Rattle.std.specs.List.{AllByRecursion}
-use Rattle.std.proofs.Common.{◌≡◌, ℕ, List, ◌∷◌, Option, Some, None, Result, Ok, refl, sym, subst, inl, inr}
+use Rattle.std.proofs.Common.{false, ◌≡◌, ℕ, List, ◌∷◌, Option, Some, None, Result, Ok, refl, sym, subst, inl, inr}
 use Rattle.std.specs.Prelude.{⊤}
 use Rattle.std.specs.Option.{option_map}
 use Rattle.agent_ask.specs.Callers.{unheard_of}
@@ -44,7 +44,7 @@ use Rattle.key_commands.specs.Passphrases.{ask_nonce, LooksForNonce, TakesSeat, 
 use Rattle.key_commands.specs.Passphrases as passphrases
 use Rattle.key_commands.specs.declared.refusal.Refusal.{Refusal}
 use Rattle.key_commands.specs.declared.refusal.Refusal.TheVariants.{Client}
-use Rattle.agent_session.specs.Causes.{Has, StandIn, IsSaid, said, IsUnread, IsUnremoved, LacksKeys, on_keys, one, IsRead, read, IsReadOf, read_of, IsReadLocked, OpensRead, opens, IsFaulty}
+use Rattle.agent_session.specs.Causes.{Has, StandIn, IsSaid, said, IsUnread, IsUnremoved, LacksKeys, on_keys, one, IsRead, read, IsReadOf, read_of, IsReadLocked, OpensRead, opens, IsFaulty, Unlocks, Judges}
 use Rattle.agent_session.specs.Causes.{protection, faulty, HasCall, GivesNone, GivesNoneFor, none_at_all, wrong, ByNonce}
 use Rattle.agent_session.specs.Causes as causes
 use Rattle.agent_session.specs.Completeness.{AnswersNothing}
@@ -183,16 +183,16 @@ module _ (rules : Rules) (kept : Kept) (request : Request) (whole : List (Event 
 
   -- ---- locked keys
 
-  module _ (key : Key) (is_read : IsRead whole (Ok key)) where
+  module _ (grip : Grip) (unlocks : Unlocks request grip) (key : Key) (is_read : IsRead whole grip (Ok key)) (closed : key.is_clear ≡ false) where
     locks_of : (before : Option ℕ) (events : List (Event FurtherEvent)) (result : Result LockedKey Refusal) (after : Option ℕ) → Locks key before events result after
-        → StandIn events whole → ComesHere (IsReadLocked whole) events result
+        → StandIn events whole → ComesHere (IsReadLocked whole grip) events result
     locks_of before events result after (passphrases.is_locked same locked) stands =
-        record { silent = tt; explained = record { key = subst (λ k. IsRead whole (Ok k)) (sym same) is_read; protection = locked } }
+        record { silent = tt; explained = record { key = subst (λ k. IsRead whole grip (Ok k)) (sym same) is_read; protection = locked } }
     locks_of before events result after (passphrases.has_fault {fault} is) stands =
-        record { silent = tt; explained = fault_caused fault (locked_fault_said key fault is) (λ why so. protection is_read is so) }
+        record { silent = tt; explained = fault_caused fault (locked_fault_said key fault is) (λ why so. protection unlocks is_read closed is so) }
     locks_of before events result after passphrases.no_memory stands = record { silent = (tt, tt); explained = out_of_memory_first rules kept request whole stands }
 
-    pub locks : ExplainsHere (Locks key) (IsReadLocked whole)
+    pub locks : ExplainsHere (Locks key) (IsReadLocked whole grip)
     locks = record { of = locks_of }
 
   -- a value that is so, or there is none, and then this holds
@@ -200,15 +200,15 @@ module _ (rules : Rules) (kept : Kept) (request : Request) (whole : List (Event 
   Either Is Else (Some value) = Is value
   Either Is Else None = Else
 
-  module _ (locked : LockedKey) (is_locked : IsReadLocked whole locked) where
+  module _ (grip : Grip) (unlocks : Unlocks request grip) (locked : LockedKey) (is_locked : IsReadLocked whole grip locked) where
     module _ (pass : List ℕ) where
       tries_of : (before : Option ℕ) (events : List (Event FurtherEvent)) (result : Result (Option _) Refusal) (after : Option ℕ) → Tries locked pass before events result after
-          → StandIn events whole → ComesHere (Either (λ opened. OpensRead whole opened.key) (¬ OpensBy locked pass)) events result
+          → StandIn events whole → ComesHere (Either (λ opened. OpensRead whole grip opened.key) (¬ OpensBy locked pass)) events result
       tries_of before events result after (passphrases.opens to) stands = record { silent = tt; explained = opens is_locked to }
       tries_of before events result after (passphrases.stays closed) stands = record { silent = tt; explained = closed }
       tries_of before events result after passphrases.no_memory stands = record { silent = (tt, tt); explained = out_of_memory_first rules kept request whole stands }
 
-      pub tries : ExplainsHere (Tries locked pass) (Either (λ opened. OpensRead whole opened.key) (¬ OpensBy locked pass))
+      pub tries : ExplainsHere (Tries locked pass) (Either (λ opened. OpensRead whole grip opened.key) (¬ OpensBy locked pass))
       tries = record { of = tries_of }
 
     -- no passphrase was found, or one that doesn't open it
@@ -217,15 +217,15 @@ module _ (rules : Rules) (kept : Kept) (request : Request) (whole : List (Event 
 
     module _ (pass : List ℕ) where
       tried_of : (before : Option ℕ) (events : List (Event FurtherEvent)) (result : Result (Option _) Refusal) (after : Option ℕ) → Tries locked pass before events result after
-          → StandIn events whole → ComesHere (Either (λ opened. OpensRead whole opened.key) (NoneOpens (Some pass))) events result
+          → StandIn events whole → ComesHere (Either (λ opened. OpensRead whole grip opened.key) (NoneOpens (Some pass))) events result
       tried_of before events result after (passphrases.opens to) stands = record { silent = tt; explained = opens is_locked to }
       tried_of before events result after (passphrases.stays closed) stands =
           record { silent = tt; explained = λ secret is. let same : pass ≡ secret = cc is in subst (λ p. ¬ OpensBy locked p) same closed }
       tried_of before events result after passphrases.no_memory stands = record { silent = (tt, tt); explained = out_of_memory_first rules kept request whole stands }
 
     -- one that was found is tried
-    pub tries_found : (pass : Option (List ℕ)) → ExplainsHere (TriesFound locked pass) (Either (λ opened. OpensRead whole opened.key) (NoneOpens pass))
-    tries_found None = returned rules kept request whole (Either (λ opened. OpensRead whole opened.key) (NoneOpens None)) None (λ secret is. absurd (cc is))
+    pub tries_found : (pass : Option (List ℕ)) → ExplainsHere (TriesFound locked pass) (Either (λ opened. OpensRead whole grip opened.key) (NoneOpens pass))
+    tries_found None = returned rules kept request whole (Either (λ opened. OpensRead whole grip opened.key) (NoneOpens None)) None (λ secret is. absurd (cc is))
     tries_found (Some pass) = record { of = tried_of pass }
 
     -- ---- prompts for passphrases
@@ -233,21 +233,20 @@ module _ (rules : Rules) (kept : Kept) (request : Request) (whole : List (Event 
     bad_opening : {spec : PromptSpec} {plan : AskPlan} {prompt : List PromptEvent} {shown : List (Event FurtherEvent)} {answer : Asked} → AsksPin spec plan (OpensBy locked) prompt answer
         → AnyInSession session_lines prompt shown → StandIn shown whole → answer ≡ asked.Bad → CausedHere code.BadPass
     bad_opening {spec} {plan} {prompt} prompted_so in_session stands bad =
-        causes.at_prompt (causes.opening is_locked (subst (λ a. AsksPin spec plan (OpensBy locked) prompt a) bad prompted_so) in_session stands)
+        causes.at_prompt (causes.opening unlocks is_locked (subst (λ a. AsksPin spec plan (OpensBy locked) prompt a) bad prompted_so) in_session stands)
 
-    module _ (grip : Grip) where
-      prompts_old_of : (before : Option ℕ) (events : List (Event FurtherEvent)) (result : Result _ Refusal) (after : Option ℕ) → PromptsOld rules kept.options grip locked before events result after
-          → StandIn events whole → ComesHere (λ opened. OpensRead whole opened.key) events result
-      prompts_old_of before events result after (passphrases.opens_by spec is prompt to) stands =
-          record { silent = prompt_silent prompt.in_session; explained = opens is_locked to }
-      prompts_old_of before events result after (passphrases.refused {answer} {why} spec is prompt refusal) stands = record {
-        silent = prompt_silent prompt.in_session;
-        explained = pin_caused prompt.in_session stands answer why (pin_shows prompt.asks)
-            (λ bad. bad_opening prompt.asks prompt.in_session stands bad) refusal;
-      }
+    prompts_old_of : (before : Option ℕ) (events : List (Event FurtherEvent)) (result : Result _ Refusal) (after : Option ℕ) → PromptsOld rules kept.options grip locked before events result after
+        → StandIn events whole → ComesHere (λ opened. OpensRead whole grip opened.key) events result
+    prompts_old_of before events result after (passphrases.opens_by spec is prompt to) stands =
+        record { silent = prompt_silent prompt.in_session; explained = opens is_locked to }
+    prompts_old_of before events result after (passphrases.refused {answer} {why} spec is prompt refusal) stands = record {
+      silent = prompt_silent prompt.in_session;
+      explained = pin_caused prompt.in_session stands answer why (pin_shows prompt.asks)
+          (λ bad. bad_opening prompt.asks prompt.in_session stands bad) refusal;
+    }
 
-      pub prompts_old : ExplainsHere (PromptsOld rules kept.options grip locked) (λ opened. OpensRead whole opened.key)
-      prompts_old = record { of = prompts_old_of }
+    pub prompts_old : ExplainsHere (PromptsOld rules kept.options grip locked) (λ opened. OpensRead whole grip opened.key)
+    prompts_old = record { of = prompts_old_of }
 
   pub bad_any : {spec : PromptSpec} {plan : AskPlan} {prompt : List PromptEvent} {shown : List (Event FurtherEvent)} {answer : Asked} → AsksPin spec plan (λ pin. ⊤) prompt answer
       → AnyInSession session_lines prompt shown → StandIn shown whole → answer ≡ asked.Bad → CausedHere code.BadPass
@@ -286,17 +285,17 @@ module _ (rules : Rules) (kept : Kept) (request : Request) (whole : List (Event 
   read_caused grip key_read.Failed absent is stands = let same : code.General ≡ _ = cc in subst CausedHere same (one _ tt (has_first stands))
   read_caused grip key_read.NoMemory absent is stands = let same : code.NoMemory ≡ _ = cc in subst CausedHere same (one _ tt (has_first stands))
 
-  module _ (grip : Grip) (lacks : IsUnread whole grip → LacksKeys whole (on_keys request)) where
+  module _ (grip : Grip) (judges : Judges request grip) (lacks : IsUnread whole grip → LacksKeys whole (on_keys request)) where
     reads_file_of : (before : Option ℕ) (events : List (Event FurtherEvent)) (result : Result _ Refusal) (after : Option ℕ) → ReadsFile grip before events result after
-        → StandIn events whole → ComesHere (λ file. IsReadOf whole grip file.bytes × IsRead whole (Ok file.key)) events result
+        → StandIn events whole → ComesHere (λ file. IsReadOf whole grip file.bytes × IsRead whole grip (Ok file.key)) events result
     reads_file_of before events result after (parts.is_key is says) stands = record { silent = (tt, tt); explained = (read_of is (has_first stands), read is says (has_first stands)) }
     reads_file_of before events result after (parts.faulty {file} {fault} is says) stands =
-        record { silent = (tt, tt); explained = fault_caused fault (file_fault_said file fault says) (λ why so. causes.file (read is says (has_first stands)) so) }
+        record { silent = (tt, tt); explained = fault_caused fault (file_fault_said file fault says) (λ why so. causes.file judges (read is says (has_first stands)) so) }
     reads_file_of before events result after (parts.no_memory is) stands = record { silent = (tt, (tt, tt)); explained = out_of_memory_second rules kept request whole stands }
     reads_file_of before events result after (parts.unread {answer} is) stands =
         record { silent = (tt, tt); explained = read_caused grip answer (λ absent. lacks (subst (λ a. Has (Further (Keys (Read grip a))) whole) absent (has_first stands))) is stands }
 
-    pub reads_file : ExplainsHere (ReadsFile grip) (λ file. IsReadOf whole grip file.bytes × IsRead whole (Ok file.key))
+    pub reads_file : ExplainsHere (ReadsFile grip) (λ file. IsReadOf whole grip file.bytes × IsRead whole grip (Ok file.key))
     reads_file = record { of = reads_file_of }
 
   module _ (grip : Grip) (lacks : IsUnremoved whole grip → LacksKeys whole (on_keys request)) where

@@ -21,6 +21,7 @@ use Rattle.session_options.specs.declared.options.PinMode.{PinMode}
 use Rattle.session_options.specs.declared.options.PinMode.TheVariants as mode
 use Rattle.session_options.specs.declared.rules.Rules.{Rules}
 use Rattle.sexp_keys.specs.Key.{Key}
+use Rattle.sexp_keys.specs.Lists.{grip_of}
 use Rattle.agent_commands.specs.Events.{Event}
 use Rattle.agent_commands.specs.declared.request.Request.{Request}
 use Rattle.key_commands.specs.Exchanges.{KeyReply, HaveKeyReplies, KeyInfoReplies, ListKeysReplies, KeyWrapReplies, ImportKeyReplies, ExportKeyReplies, PasswdReplies, VerifyReplies, DeleteKeyReplies}
@@ -40,9 +41,10 @@ use Rattle.key_commands.specs.declared.refusal.Refusal.TheVariants.{Agent}
 use Rattle.key_commands.specs.declared.request.Direction.{Direction}
 use Rattle.key_commands.specs.declared.request.KeyRequest.{KeyRequest}
 use Rattle.key_commands.specs.declared.request.KeyRequest.TheVariants as on
-use Rattle.agent_session.specs.Causes.{Has, StandIn, IsCaused, IsSent, IsUnread, LacksKeys, on_keys, IsRefusedBy, one, IsRead, IsReadOf, IsDrawn, IsListOf, protected, IsReadLocked, OpensRead}
+use Rattle.agent_session.specs.Causes.{Has, StandIn, IsCaused, IsSent, IsUnread, LacksKeys, on_keys, IsRefusedBy, one, IsRead, IsReadOf, IsDrawn, IsListOf, protected, IsReadLocked, OpensRead, Unlocks, exports}
 use Rattle.agent_session.specs.Causes.{is_clear, key_data, KeyDataSays, data_says, faulty, long, long_file, by_mode, deletion, stays, empty, no_import, no_export, there, GivesNone, none_given}
 use Rattle.agent_session.specs.Causes.{GivesNoneFor, ByNonce, HasNoEntry, exported, changed, verified, imported, renewed, IsUnprompted}
+use Rattle.agent_session.specs.Causes as causes
 use Rattle.agent_session.specs.Completeness.{IsStatus}
 use Rattle.agent_origin.specs.declared.kept.Kept.{Kept}
 use Rattle.agent_session.proofs.Explaining.{Caused, Comes, Explains, Anything, IsFound, bind, whatever, returned, refused, is_needed, or_otherwise, is_wanted, seats, changes, peeks, closes_explained}
@@ -86,11 +88,11 @@ module _ (rules : Rules) (kept : Kept) (request : Request) (whole : List (Event 
     protects = record { of = protects_of }
 
   names_key_of : (key : Key) (before : Option ℕ) (events : List (Event FurtherEvent)) (result : Result Grip Refusal) (after : Option ℕ) → NamesKey key before events result after → StandIn events whole
-      → ComesHere Anything events result
-  names_key_of key before events result after (parts.named is) stands = record { silent = tt; explained = tt }
+      → ComesHere (λ grip. grip.0 ≡ grip_of key) events result
+  names_key_of key before events result after (parts.named is) stands = record { silent = tt; explained = is }
   names_key_of key before events result after parts.no_memory stands = record { silent = (tt, tt); explained = out_of_memory_first rules kept request whole stands }
 
-  names_key : (key : Key) → ExplainsHere (NamesKey key) Anything
+  names_key : (key : Key) → ExplainsHere (NamesKey key) (λ grip. grip.0 ≡ grip_of key)
   names_key key = record { of = names_key_of key }
 
   wraps_key_of : (wrap : List ℕ) (key : Key) (before : Option ℕ) (events : List (Event FurtherEvent)) (result : Result (List ℕ) Refusal) (after : Option ℕ) → WrapsKey wrap key before events result after
@@ -193,25 +195,26 @@ module _ (rules : Rules) (kept : Kept) (request : Request) (whole : List (Event 
     wrapped_caused (wrapping.checked are (wrapping.long padded is clear much)) = faulty (key_data (data_says drawn sent (wrapping.checked are (wrapping.long padded is clear much))))
 
     unwraps_of : (before : Option ℕ) (events : List (Event FurtherEvent)) (result : Result Key Refusal) (after : Option ℕ) → Unwraps wrap wrapped before events result after → StandIn events whole
-        → ComesHere Anything events result
-    unwraps_of before events result after (parts.is_key says) stands = record { silent = tt; explained = tt }
+        → ComesHere (λ key. KeyDataSays whole rules kept request (Ok key)) events result
+    unwraps_of before events result after (parts.is_key says) stands = record { silent = tt; explained = data_says drawn sent says }
     unwraps_of before events result after (parts.refused says) stands = record { silent = tt; explained = wrapped_caused says }
     unwraps_of before events result after parts.no_memory stands = record { silent = (tt, tt); explained = out_of_memory_first rules kept request whole stands }
 
-    unwraps : ExplainsHere (Unwraps wrap wrapped) Anything
+    unwraps : ExplainsHere (Unwraps wrap wrapped) (λ key. KeyDataSays whole rules kept request (Ok key))
     unwraps = record { of = unwraps_of }
 
-  receives_key : (wrap : List ℕ) → kept.wraps.import ≡ Some wrap → ExplainsHere (ReceivesKey wrap) Anything
+  receives_key : (wrap : List ℕ) → kept.wraps.import ≡ Some wrap → ExplainsHere (ReceivesKey wrap) (λ key. KeyDataSays whole rules kept request (Ok key))
   receives_key wrap drawn =
-      bind rules kept request whole Anything Anything (writes rules kept request whole (limit_line max_key_data) (limit_status max_key_data (omega arith)))
-      (λ told any. bind rules kept request whole (IsSent whole (codes "KEYDATA") max_key_data) Anything asks_key_data (λ wrapped sent. unwraps wrap wrapped drawn sent))
+      bind rules kept request whole Anything (λ key. KeyDataSays whole rules kept request (Ok key)) (writes rules kept request whole (limit_line max_key_data) (limit_status max_key_data (omega arith)))
+      (λ told any. bind rules kept request whole (IsSent whole (codes "KEYDATA") max_key_data) (λ key. KeyDataSays whole rules kept request (Ok key)) asks_key_data (λ wrapped sent. unwraps wrap wrapped drawn sent))
 
-  is_free : (force : Bool) (grip : Grip) {id : Option (List ℕ)} → on_keys request ≡ Some (on.ImportKey force id) → ExplainsHere (IsFree force grip) Anything
-  is_free true grip asked = returned rules kept request whole Anything tt tt
-  is_free false grip asked = bind rules kept request whole (IsFound rules kept request whole grip) Anything (finds rules kept request whole grip) (λ found so. free found so)
+  is_free : (force : Bool) {key : Key} (grip : Grip) {id : Option (List ℕ)} → on_keys request ≡ Some (on.ImportKey force id) → KeyDataSays whole rules kept request (Ok key) → grip.0 ≡ grip_of key
+      → ExplainsHere (IsFree force grip) Anything
+  is_free true grip asked says named = returned rules kept request whole Anything tt tt
+  is_free false grip asked says named = bind rules kept request whole (IsFound rules kept request whole grip) Anything (finds rules kept request whole grip) (λ found so. free found so)
     where
       free : (found : Bool) → IsFound rules kept request whole grip found → ExplainsHere (wanted code.FileExists (not found)) Anything
-      free true so = refused rules kept request whole Anything (Agent code.FileExists) (there asked so.1)
+      free true so = refused rules kept request whole Anything (Agent code.FileExists) (there asked says named so.1)
       free false so = returned rules kept request whole Anything tt tt
 
   -- ---- the old passphrase
@@ -225,59 +228,63 @@ module _ (rules : Rules) (kept : Kept) (request : Request) (whole : List (Event 
     or_else_explained None other otherwise explains = explains otherwise
     or_else_explained (Some value) other good explains = returned rules kept request whole Good value good
 
-  module _ (grip : Grip) (locked : LockedKey) (is_locked : IsReadLocked whole locked) where
-    client_old : kept.options.mode ≡ mode.Loopback → ExplainsHere (ClientOld rules kept.options grip locked) (λ opened. OpensRead whole opened.key)
+  module _ (grip : Grip) (unlocks : Unlocks request grip) (locked : LockedKey) (is_locked : IsReadLocked whole grip locked) where
+    client_old : kept.options.mode ≡ mode.Loopback → ExplainsHere (ClientOld rules kept.options grip locked) (λ opened. OpensRead whole grip opened.key)
     unfolding ClientOld
     client_old loopback =
-        bind rules kept request whole (IsSent whole (codes "PASSPHRASE") MAX_SECRET_LEN) (λ opened. OpensRead whole opened.key) (asks_client rules kept request whole (codes "PASSPHRASE") MAX_SECRET_LEN (omega arith))
-        (λ pass sent. bind rules kept request whole (Either rules kept request whole (λ opened. OpensRead whole opened.key) (¬ OpensBy locked pass)) (λ opened. OpensRead whole opened.key)
-        (tries rules kept request whole locked is_locked pass)
-        (λ tried so. bind rules kept request whole (λ opened. OpensRead whole opened.key) (λ opened. OpensRead whole opened.key)
-        (if_needed (λ opened. OpensRead whole opened.key) (¬ OpensBy locked pass) code.BadPass tried so (λ closed. stays loopback is_locked sent closed))
-        (λ opened opens. bind rules kept request whole Anything (λ opened. OpensRead whole opened.key) (changes rules kept request whole _ refl)
-        (λ kept_so any. returned rules kept request whole (λ opened. OpensRead whole opened.key) opened opens))))
+        bind rules kept request whole (IsSent whole (codes "PASSPHRASE") MAX_SECRET_LEN) (λ opened. OpensRead whole grip opened.key) (asks_client rules kept request whole (codes "PASSPHRASE") MAX_SECRET_LEN (omega arith))
+        (λ pass sent. bind rules kept request whole (Either rules kept request whole (λ opened. OpensRead whole grip opened.key) (¬ OpensBy locked pass)) (λ opened. OpensRead whole grip opened.key)
+        (tries rules kept request whole grip unlocks locked is_locked pass)
+        (λ tried so. bind rules kept request whole (λ opened. OpensRead whole grip opened.key) (λ opened. OpensRead whole grip opened.key)
+        (if_needed (λ opened. OpensRead whole grip opened.key) (¬ OpensBy locked pass) code.BadPass tried so (λ closed. stays loopback unlocks is_locked sent closed))
+        (λ opened opens. bind rules kept request whole Anything (λ opened. OpensRead whole grip opened.key) (changes rules kept request whole _ refl)
+        (λ kept_so any. returned rules kept request whole (λ opened. OpensRead whole grip opened.key) opened opens))))
 
-    uncached_old : (way : PinMode) → kept.options.mode ≡ way → HasNoEntry whole request → ExplainsHere (UncachedOld rules kept.options grip way locked) (λ opened. OpensRead whole opened.key)
+    uncached_old : (way : PinMode) → kept.options.mode ≡ way → HasNoEntry whole request → ExplainsHere (UncachedOld rules kept.options grip way locked) (λ opened. OpensRead whole grip opened.key)
     uncached_old mode.Ask is unmet =
-        bind rules kept request whole Anything (λ opened. OpensRead whole opened.key) (takes_seat rules kept request whole grip) (λ seated any. prompts_old rules kept request whole locked is_locked grip)
-    uncached_old mode.Cancel is unmet = refused rules kept request whole (λ opened. OpensRead whole opened.key) (Agent code.Cancelled) (by_mode is unmet)
-    uncached_old mode.Error is unmet = refused rules kept request whole (λ opened. OpensRead whole opened.key) (Agent code.NoPinentry) (inl (by_mode is unmet))
+        bind rules kept request whole Anything (λ opened. OpensRead whole grip opened.key) (takes_seat rules kept request whole grip) (λ seated any. prompts_old rules kept request whole grip unlocks locked is_locked)
+    uncached_old mode.Cancel is unmet = refused rules kept request whole (λ opened. OpensRead whole grip opened.key) (Agent code.Cancelled) (by_mode is unmet)
+    uncached_old mode.Error is unmet = refused rules kept request whole (λ opened. OpensRead whole grip opened.key) (Agent code.NoPinentry) (inl (by_mode is unmet))
     uncached_old mode.Loopback is unmet = client_old is
 
     opens_locked : (nonce : Option (List ℕ)) → (ByNonce whole (GivesNoneFor whole locked) nonce → GivesNoneFor whole locked (ask_key grip (way_of kept.options.mode)) → HasNoEntry whole request)
-        → ExplainsHere (OpensLocked rules kept.options grip nonce locked) (λ opened. OpensRead whole opened.key)
+        → ExplainsHere (OpensLocked rules kept.options grip nonce locked) (λ opened. OpensRead whole grip opened.key)
     unfolding OpensLocked
     opens_locked nonce unmet =
-        bind rules kept request whole (FoundByNonce rules kept request whole nonce) (λ opened. OpensRead whole opened.key) (looks_for_nonce rules kept request whole nonce)
-        (λ by_nonce by. bind rules kept request whole (Either rules kept request whole (λ opened. OpensRead whole opened.key) (NoneOpens rules kept request whole locked is_locked by_nonce)) (λ opened. OpensRead whole opened.key)
-        (tries_found rules kept request whole locked is_locked by_nonce)
-        (λ first so. or_else_explained (λ opened. OpensRead whole opened.key) (NoneOpens rules kept request whole locked is_locked by_nonce) first _ so
-        (λ first_closed. bind rules kept request whole (FoundBy rules kept request whole (ask_key grip (way_of kept.options.mode))) (λ opened. OpensRead whole opened.key) (looks rules kept request whole _ refl)
-        (λ cached given. bind rules kept request whole (Either rules kept request whole (λ opened. OpensRead whole opened.key) (NoneOpens rules kept request whole locked is_locked cached)) (λ opened. OpensRead whole opened.key)
-        (tries_found rules kept request whole locked is_locked cached)
-        (λ second so. or_else_explained (λ opened. OpensRead whole opened.key) (NoneOpens rules kept request whole locked is_locked cached) second _ so
+        bind rules kept request whole (FoundByNonce rules kept request whole nonce) (λ opened. OpensRead whole grip opened.key) (looks_for_nonce rules kept request whole nonce)
+        (λ by_nonce by. bind rules kept request whole (Either rules kept request whole (λ opened. OpensRead whole grip opened.key) (NoneOpens rules kept request whole grip unlocks locked is_locked by_nonce))
+        (λ opened. OpensRead whole grip opened.key)
+        (tries_found rules kept request whole grip unlocks locked is_locked by_nonce)
+        (λ first so. or_else_explained (λ opened. OpensRead whole grip opened.key) (NoneOpens rules kept request whole grip unlocks locked is_locked by_nonce) first _ so
+        (λ first_closed. bind rules kept request whole (FoundBy rules kept request whole (ask_key grip (way_of kept.options.mode))) (λ opened. OpensRead whole grip opened.key) (looks rules kept request whole _ refl)
+        (λ cached given. bind rules kept request whole (Either rules kept request whole (λ opened. OpensRead whole grip opened.key) (NoneOpens rules kept request whole grip unlocks locked is_locked cached))
+        (λ opened. OpensRead whole grip opened.key)
+        (tries_found rules kept request whole grip unlocks locked is_locked cached)
+        (λ second so. or_else_explained (λ opened. OpensRead whole grip opened.key) (NoneOpens rules kept request whole grip unlocks locked is_locked cached) second _ so
         (λ second_closed. uncached_old kept.options.mode refl
         (unmet (nonce_none_opens rules kept request whole nonce locked by_nonce by first_closed)
         (none_opens rules kept request whole (ask_key grip (way_of kept.options.mode)) locked cached given second_closed))))))))
 
-  module _ (grip : Grip) where
-    old_passphrase : (clear : Bool) (key : Key) (id : Option (List ℕ)) → IsRead whole (Ok (record key { is_clear = clear }))
-        → ((locked : LockedKey) → IsReadLocked whole locked → ByNonce whole (GivesNoneFor whole locked) id → GivesNoneFor whole locked (ask_key grip (way_of kept.options.mode)) → HasNoEntry whole request)
-        → ExplainsHere (OldPassphrase rules kept.options grip id (record key { is_clear = clear })) (λ opened. OpensRead whole opened.key)
-    old_passphrase true key id is_read unmet = returned rules kept request whole (λ opened. OpensRead whole opened.key) _ (is_clear is_read refl)
+  module _ (grip : Grip) (unlocks : Unlocks request grip) where
+    old_passphrase : (clear : Bool) (key : Key) (id : Option (List ℕ)) → IsRead whole grip (Ok (record key { is_clear = clear }))
+        → ((locked : LockedKey) → IsReadLocked whole grip locked → ByNonce whole (GivesNoneFor whole locked) id → GivesNoneFor whole locked (ask_key grip (way_of kept.options.mode)) → HasNoEntry whole request)
+        → ExplainsHere (OldPassphrase rules kept.options grip id (record key { is_clear = clear })) (λ opened. OpensRead whole grip opened.key)
+    old_passphrase true key id is_read unmet = returned rules kept request whole (λ opened. OpensRead whole grip opened.key) _ (is_clear is_read refl)
     old_passphrase false key id is_read unmet =
-        bind rules kept request whole (IsReadLocked whole) (λ opened. OpensRead whole opened.key) (locks rules kept request whole (record key { is_clear = false }) is_read)
-        (λ locked is_locked. opens_locked grip locked is_locked id (unmet locked is_locked))
+        bind rules kept request whole (IsReadLocked whole grip) (λ opened. OpensRead whole grip opened.key) (locks rules kept request whole grip unlocks (record key { is_clear = false }) is_read refl)
+        (λ locked is_locked. opens_locked grip unlocks locked is_locked id (unmet locked is_locked))
 
-    verifies_passphrase : (clear : Bool) (key : Key) → IsRead whole (Ok (record key { is_clear = clear })) → HasNoEntry whole request
-        → ExplainsHere (VerifiesPassphrase rules kept.options grip (record key { is_clear = clear })) (λ opened. OpensRead whole opened.key)
-    verifies_passphrase true key is_read unmet = returned rules kept request whole (λ opened. OpensRead whole opened.key) _ (is_clear is_read refl)
+    verifies_passphrase : (clear : Bool) (key : Key) → IsRead whole grip (Ok (record key { is_clear = clear }))
+        → ((locked : LockedKey) → IsReadLocked whole grip locked → HasNoEntry whole request)
+        → ExplainsHere (VerifiesPassphrase rules kept.options grip (record key { is_clear = clear })) (λ opened. OpensRead whole grip opened.key)
+    verifies_passphrase true key is_read unmet = returned rules kept request whole (λ opened. OpensRead whole grip opened.key) _ (is_clear is_read refl)
     verifies_passphrase false key is_read unmet =
-        bind rules kept request whole (IsReadLocked whole) (λ opened. OpensRead whole opened.key) (locks rules kept request whole (record key { is_clear = false }) is_read)
-        (λ locked is_locked. uncached_old grip locked is_locked kept.options.mode refl unmet)
+        bind rules kept request whole (IsReadLocked whole grip) (λ opened. OpensRead whole grip opened.key) (locks rules kept request whole grip unlocks (record key { is_clear = false }) is_read refl)
+        (λ locked is_locked. uncached_old grip unlocks locked is_locked kept.options.mode refl (unmet locked is_locked))
 
-    -- ---- a new passphrase
+  -- ---- a new passphrase
 
+  module _ (grip : Grip) where
     client_new : kept.options.mode ≡ mode.Loopback → ExplainsHere ClientNew Anything
     unfolding ClientNew
     client_new loopback =
@@ -326,7 +333,7 @@ module _ (rules : Rules) (kept : Kept) (request : Request) (whole : List (Event 
   key_info : (grip : Grip) → on_keys request ≡ Some (on.KeyInfo grip) → Explains rules kept request whole (KeyInfoReplies rules kept.options kept.wraps grip) Replied
   unfolding KeyInfoReplies
   key_info grip asked =
-      bind rules kept request whole (λ file. IsReadOf whole grip file.bytes × IsRead whole (Ok file.key)) Replied (reads_file rules kept request whole grip (λ absent. subst (LacksKeys whole) (sym asked) absent))
+      bind rules kept request whole (λ file. IsReadOf whole grip file.bytes × IsRead whole grip (Ok file.key)) Replied (reads_file rules kept request whole grip (causes.tells asked) (λ absent. subst (LacksKeys whole) (sym asked) absent))
       (λ file is_read. bind rules kept request whole IsStatus Replied (tells_info rules kept request whole grip file.key) (λ line status. replied _ (reply_status _ status)))
 
   list_keys : Explains rules kept request whole (ListKeysReplies rules kept.options kept.wraps) Replied
@@ -347,8 +354,9 @@ module _ (rules : Rules) (kept : Kept) (request : Request) (whole : List (Event 
   unfolding ExportKeyReplies
   export_key grip id asked =
       bind rules kept request whole Anything Replied (is_needed rules kept request whole Anything code.Parameter kept.wraps.export (λ none. no_export asked none) (λ some is. tt))
-      (λ wrap any. bind rules kept request whole (λ file. IsReadOf whole grip file.bytes × IsRead whole (Ok file.key)) Replied (reads_file rules kept request whole grip (λ absent. subst (LacksKeys whole) (sym asked) absent))
-      (λ file is_read. bind rules kept request whole (λ opened. OpensRead whole opened.key) Replied (old_passphrase rules kept request whole grip file.key.is_clear file.key id is_read.1
+      (λ wrap any. bind rules kept request whole (λ file. IsReadOf whole grip file.bytes × IsRead whole grip (Ok file.key)) Replied
+      (reads_file rules kept request whole grip (causes.unlocks (exports asked)) (λ absent. subst (LacksKeys whole) (sym asked) absent))
+      (λ file is_read. bind rules kept request whole (λ opened. OpensRead whole grip opened.key) Replied (old_passphrase rules kept request whole grip (exports asked) file.key.is_clear file.key id is_read.1
       (λ locked is_locked by_nonce by_key. exported _ asked is_locked by_nonce by_key))
       (λ opened opens. bind rules kept request whole Anything Replied (closes_explained rules kept request whole opened.by)
       (λ closed any. bind rules kept request whole Anything Replied (wraps_key rules kept request whole wrap opened.key)
@@ -358,8 +366,10 @@ module _ (rules : Rules) (kept : Kept) (request : Request) (whole : List (Event 
       → Explains rules kept request whole (VerifyReplies rules kept.options kept.wraps grip) Replied
   unfolding VerifyReplies
   verify grip asked =
-      bind rules kept request whole (λ file. IsReadOf whole grip file.bytes × IsRead whole (Ok file.key)) Replied (reads_file rules kept request whole grip (λ absent. subst (LacksKeys whole) (sym asked) absent))
-      (λ file is_read. bind rules kept request whole (λ opened. OpensRead whole opened.key) Replied (verifies_passphrase rules kept request whole grip file.key.is_clear file.key is_read.1 (verified asked))
+      bind rules kept request whole (λ file. IsReadOf whole grip file.bytes × IsRead whole grip (Ok file.key)) Replied
+      (reads_file rules kept request whole grip (causes.unlocks (causes.changes asked)) (λ absent. subst (LacksKeys whole) (sym asked) absent))
+      (λ file is_read. bind rules kept request whole
+      (λ opened. OpensRead whole grip opened.key) Replied (verifies_passphrase rules kept request whole grip (causes.changes asked) file.key.is_clear file.key is_read.1 (λ locked is_locked. verified asked is_locked))
       (λ opened opens. bind rules kept request whole Anything Replied (closes_explained rules kept request whole opened.by) (λ closed any. replied _ reply_ok)))
 
   delete_key : (grip : Grip) (force : Bool) → on_keys request ≡ Some (on.DeleteKey grip force) → Explains rules kept request whole (DeleteKeyReplies rules kept.options kept.wraps force grip) Replied
@@ -390,7 +400,7 @@ module _ (rules : Rules) (kept : Kept) (request : Request) (whole : List (Event 
         (λ found by. or_otherwise rules kept request whole Anything found _ (λ some is. tt)
         (λ none. new_passphrase rules kept request whole grip kept.options.mode (renewed asked (nonce_none rules kept request whole new (subst (FoundByNonce rules kept request whole new) none by)))))
 
-    module _ (key : Key) (opens : OpensRead whole key) where
+    module _ (key : Key) (opens : OpensRead whole grip key) where
       is_short_of : (before : Option ℕ) (events : List (Event FurtherEvent)) (result : Result (Unit {0}) Refusal) (after : Option ℕ) → IsShort key before events result after → StandIn events whole
           → Comes rules kept request whole Anything events result
       is_short_of before events result after (parts.short few) stands = record { silent = tt; explained = tt }
@@ -432,15 +442,15 @@ module _ (rules : Rules) (kept : Kept) (request : Request) (whole : List (Event 
     import_key force id asked =
         bind rules kept request whole (λ wrap. kept.wraps.import ≡ Some wrap) Replied (is_needed rules kept request whole (λ wrap. kept.wraps.import ≡ Some wrap) code.Parameter kept.wraps.import
         (λ none. no_import asked none) (λ some is. is))
-        (λ wrap drawn. bind rules kept request whole Anything Replied (receives_key rules kept request whole wrap drawn)
-        (λ key any. bind rules kept request whole Anything Replied (names_key rules kept request whole key)
-        (λ grip any. bind rules kept request whole Anything Replied (is_free rules kept request whole force grip asked)
+        (λ wrap drawn. bind rules kept request whole (λ key. KeyDataSays whole rules kept request (Ok key)) Replied (receives_key rules kept request whole wrap drawn)
+        (λ key says. bind rules kept request whole (λ grip. grip.0 ≡ grip_of key) Replied (names_key rules kept request whole key)
+        (λ grip named. bind rules kept request whole Anything Replied (is_free rules kept request whole force grip asked says named)
         (λ free any. bind rules kept request whole Anything Replied (found_or_new grip force id asked)
         (λ pass any. bind rules kept request whole Anything Replied (stores_key kept.options.s2k_count key grip pass)
         (λ cache_nonce any. replied _ (reply_nonce _)))))))
 
     module _ (grip : Grip) {old new : Option (List ℕ)} (asked : on_keys request ≡ Some (on.Passwd grip old new false)) (file : List ℕ) (is_read : IsReadOf whole grip file) (key : Key)
-        (opens : OpensRead whole key) where
+        (opens : OpensRead whole grip key) where
       rewrites_file : (pass : List ℕ) → Explains rules kept request whole (RewritesFile rules kept.options grip file key pass) Anything
       unfolding RewritesFile
       rewrites_file pass =
@@ -460,8 +470,9 @@ module _ (rules : Rules) (kept : Kept) (request : Request) (whole : List (Event 
         → Explains rules kept request whole (PasswdReplies rules kept.options kept.wraps grip nonce new_nonce) Replied
     unfolding PasswdReplies
     passwd grip id new_id asked =
-        bind rules kept request whole (λ file. IsReadOf whole grip file.bytes × IsRead whole (Ok file.key)) Replied (reads_file rules kept request whole grip (λ absent. subst (LacksKeys whole) (sym asked) absent))
-        (λ file is_read. bind rules kept request whole (λ opened. OpensRead whole opened.key) Replied (old_passphrase rules kept request whole grip file.key.is_clear file.key id is_read.1
+        bind rules kept request whole (λ file. IsReadOf whole grip file.bytes × IsRead whole grip (Ok file.key)) Replied
+        (reads_file rules kept request whole grip (causes.unlocks (causes.changes asked)) (λ absent. subst (LacksKeys whole) (sym asked) absent))
+        (λ file is_read. bind rules kept request whole (λ opened. OpensRead whole grip opened.key) Replied (old_passphrase rules kept request whole grip (causes.changes asked) file.key.is_clear file.key id is_read.1
         (λ locked is_locked by_nonce by_key. changed _ asked is_locked by_nonce by_key))
         (λ opened opens. bind rules kept request whole Anything Replied (changes_opened grip asked file.bytes is_read.0 opened.key opens) (λ changed_so any. replied _ reply_ok)))
 

@@ -74,7 +74,7 @@ module _ (rules : Rules) (kept : Kept) where
     has_no_entry (causes.passphrase other other_id is other_has gives) = gives_none (ask other_id) gives
     has_no_entry (causes.exported way is locked by_nonce by_key) = absurd (cc is)
     has_no_entry (causes.changed way is locked by_nonce by_key) = absurd (cc is)
-    has_no_entry (causes.verified is) = absurd (cc is)
+    has_no_entry (causes.verified is locked) = absurd (cc is)
     has_no_entry (causes.imported is gives) = absurd (cc is)
     has_no_entry (causes.renewed is gives) = absurd (cc is)
     has_no_entry (causes.of_consent (causes.confirmation is)) = absurd (cc is)

@@ -45,7 +45,7 @@ use Rattle.session_options.specs.declared.options.PinMode.TheVariants as mode
 use Rattle.session_options.specs.declared.rules.Rules.{Rules}
 use Rattle.sexp_canonical.specs.Spelling.{most_bytes}
 use Rattle.sexp_keys.specs.Key.{Key}
-use Rattle.sexp_keys.specs.Lists.{key_list_of}
+use Rattle.sexp_keys.specs.Lists.{grip_of, key_list_of}
 use Rattle.sexp_keys.specs.declared.fault.KeyFault.{KeyFault}
 use Rattle.agent_commands.specs.Events.{Event, Inquired}
 use Rattle.agent_commands.specs.Exchanges.{ask, is_quiet}
@@ -150,6 +150,16 @@ pub data AsksForConsent (request : Request) : Type 0 where
   confirmation : {description : ArrayVec ℕ} → request ≡ Cache (GetConfirmation description) → AsksForConsent request
   deletion : {grip : Grip} → on_keys request ≡ Some (on.DeleteKey grip false) → AsksForConsent request
 
+-- it wants the key of this grip opened, where that is protected
+pub data Unlocks (request : Request) (grip : Grip) : Type 0 where
+  exports : {nonce : Option (List ℕ)} → on_keys request ≡ Some (on.ExportKey grip nonce) → Unlocks request grip
+  changes : {old new : Option (List ℕ)} {verify : Bool} → on_keys request ≡ Some (on.Passwd grip old new verify) → Unlocks request grip
+
+-- it wants to know what the file of this key says, and ends by a fault of it
+pub data Judges (request : Request) (grip : Grip) : Type 0 where
+  tells : on_keys request ≡ Some (on.KeyInfo grip) → Judges request grip
+  unlocks : Unlocks request grip → Judges request grip
+
 module _ (events : List (Event FurtherEvent)) where
   -- ---- what happened in an exchange with these events
 
@@ -187,9 +197,9 @@ module _ (events : List (Event FurtherEvent)) where
   pub data IsSent (word : List ℕ) (limit : ℕ) (bytes : List ℕ) : Type 0 where
     sent : {inquired : Inquired} → said_by session_lines inquired ≡ Ok bytes → Has (Inquiry word [] limit inquired) events → IsSent word limit bytes
 
-  -- a file was read that says this
-  pub data IsRead (says : Result Key KeyFault) : Type 0 where
-    read : {grip : Grip} {answer : KeyRead} {file : List ℕ} → file_in answer ≡ Some file → FileSays file says → Has (Further (Keys (Read grip answer))) events → IsRead says
+  -- the file of this key was read, and says this
+  pub data IsRead (grip : Grip) (says : Result Key KeyFault) : Type 0 where
+    read : {answer : KeyRead} {file : List ℕ} → file_in answer ≡ Some file → FileSays file says → Has (Further (Keys (Read grip answer))) events → IsRead grip says
 
   -- the file of this key was read, and has these bytes
   pub data IsReadOf (grip : Grip) (file : List ℕ) : Type 0 where
@@ -204,26 +214,26 @@ module _ (events : List (Event FurtherEvent)) where
   pub data IsListOf (key : Key) (pass : List ℕ) (count : ℕ) (list : List ℕ) : Type 0 where
     protected : {drawn : List ℕ} → IsDrawn 20 drawn → list ≡ protected_file key (ocb_protection key pass (take 8 drawn) (drop 8 drawn) count None) None → IsListOf key pass count list
 
-  -- a key is locked so whose file was read
-  pub record IsReadLocked (locked : LockedKey) : Type 0 where
-    pub key : IsRead (Ok locked.key)
+  -- the key of this grip, whose file was read, is locked so
+  pub record IsReadLocked (grip : Grip) (locked : LockedKey) : Type 0 where
+    pub key : IsRead grip (Ok locked.key)
     pub protection : IsLocked locked
 
-  -- a key was read that is clear, or that opens to this one
-  pub data OpensRead (key : Key) : Type 0 where
-    is_clear : IsRead (Ok key) → key.is_clear ≡ true → OpensRead key
-    opens : {locked : LockedKey} {pass : List ℕ} → IsReadLocked locked → OpensTo locked pass key → OpensRead key
+  -- it is this one and clear, or it opens to this one
+  pub data OpensRead (grip : Grip) (key : Key) : Type 0 where
+    is_clear : IsRead grip (Ok key) → key.is_clear ≡ true → OpensRead grip key
+    opens : {locked : LockedKey} {pass : List ℕ} → IsReadLocked grip locked → OpensTo locked pass key → OpensRead grip key
 
   -- no entry that is of use to the request was given: for its passphrase; for the old one of a key, or a new one; and consent is in no cache
   pub data HasNoEntry (request : Request) : Type 0 where
     without_id : (fields : GetFields) → request ≡ Cache (get_passphrase fields) → fields.id ≡ None → HasNoEntry request
     passphrase : (fields : GetFields) (id : List ℕ) → request ≡ Cache (get_passphrase fields) → fields.id ≡ Some id → GivesNone (ask id) → HasNoEntry request
-    exported : {grip : Grip} {id : Option (List ℕ)} {locked : LockedKey} (way : Way) → on_keys request ≡ Some (on.ExportKey grip id) → IsReadLocked locked → ByNonce (GivesNoneFor locked) id
+    exported : {grip : Grip} {id : Option (List ℕ)} {locked : LockedKey} (way : Way) → on_keys request ≡ Some (on.ExportKey grip id) → IsReadLocked grip locked → ByNonce (GivesNoneFor locked) id
         → GivesNoneFor locked (ask_key grip way) → HasNoEntry request
-    changed : {grip : Grip} {id new : Option (List ℕ)} {locked : LockedKey} (way : Way) → on_keys request ≡ Some (on.Passwd grip id new false) → IsReadLocked locked
+    changed : {grip : Grip} {id new : Option (List ℕ)} {locked : LockedKey} (way : Way) → on_keys request ≡ Some (on.Passwd grip id new false) → IsReadLocked grip locked
         → ByNonce (GivesNoneFor locked) id → GivesNoneFor locked (ask_key grip way) → HasNoEntry request
     -- whatever is cached
-    verified : {grip : Grip} {old new : Option (List ℕ)} → on_keys request ≡ Some (on.Passwd grip old new true) → HasNoEntry request
+    verified : {grip : Grip} {old new : Option (List ℕ)} {locked : LockedKey} → on_keys request ≡ Some (on.Passwd grip old new true) → IsReadLocked grip locked → HasNoEntry request
     imported : {force : Bool} {id : Option (List ℕ)} → on_keys request ≡ Some (on.ImportKey force id) → ByNonce GivesNone id → HasNoEntry request
     renewed : {grip : Grip} {old id : Option (List ℕ)} → on_keys request ≡ Some (on.Passwd grip old id false) → ByNonce GivesNone id → HasNoEntry request
     of_consent : AsksForConsent request → HasNoEntry request
@@ -244,12 +254,12 @@ module _ (events : List (Event FurtherEvent)) where
   LacksKeys (Some (on.DeleteKey grip force)) = IsUnread grip ⊎ IsUnremoved grip
   LacksKeys _ = ⊥
 
-  -- a prompt came to three tries that failed, at which every passphrase was right, or one that opens a key
-  pub data IsBadPrompt : Type 0 where
+  -- a prompt came to three tries that failed, at which every passphrase was right, or one that opens the request's key
+  pub data IsBadPrompt (request : Request) : Type 0 where
     any : {spec : PromptSpec} {plan : AskPlan} {prompt : List PromptEvent} {shown : List (Event FurtherEvent)} → AsksPin spec plan (λ pin. ⊤) prompt asked.Bad
-        → AnyInSession session_lines prompt shown → StandIn shown events → IsBadPrompt
-    opening : {locked : LockedKey} {spec : PromptSpec} {plan : AskPlan} {prompt : List PromptEvent} {shown : List (Event FurtherEvent)} → IsReadLocked locked
-        → AsksPin spec plan (OpensBy locked) prompt asked.Bad → AnyInSession session_lines prompt shown → StandIn shown events → IsBadPrompt
+        → AnyInSession session_lines prompt shown → StandIn shown events → IsBadPrompt request
+    opening : {grip : Grip} {locked : LockedKey} {spec : PromptSpec} {plan : AskPlan} {prompt : List PromptEvent} {shown : List (Event FurtherEvent)} → Unlocks request grip
+        → IsReadLocked grip locked → AsksPin spec plan (OpensBy locked) prompt asked.Bad → AnyInSession session_lines prompt shown → StandIn shown events → IsBadPrompt request
 
   module _ (rules : Rules) (kept : Kept) (request : Request) where
     -- ---- the causes of each code
@@ -262,10 +272,11 @@ module _ (events : List (Event FurtherEvent)) where
     pub data KeyDataSays (says : Result Key Code) : Type 0 where
       data_says : {wrap wrapped : List ℕ} → kept.wraps.import ≡ Some wrap → IsSent (codes "KEYDATA") max_key_data wrapped → WrappedSays wrap wrapped says → KeyDataSays says
 
-    -- a file that was read has a fault, or its protection has, or the bytes that the client sent for a key
+    -- the file that the request is about has a fault, or the protection has of the key that it wants opened, or the bytes that the client sent for a key
     pub data IsFaulty (why : Code) : Type 0 where
-      file : {fault : KeyFault} → IsRead (Err fault) → fault_code fault ≡ why → IsFaulty why
-      protection : {key : Key} {fault : KeyFault} → IsRead (Ok key) → IsLockedFault key fault → fault_code fault ≡ why → IsFaulty why
+      file : {grip : Grip} {fault : KeyFault} → Judges request grip → IsRead grip (Err fault) → fault_code fault ≡ why → IsFaulty why
+      protection : {grip : Grip} {key : Key} {fault : KeyFault} → Unlocks request grip → IsRead grip (Ok key) → key.is_clear ≡ false → IsLockedFault key fault → fault_code fault ≡ why
+          → IsFaulty why
       key_data : KeyDataSays (Err why) → IsFaulty why
 
     -- the request is for the cache alone, which has nothing under the id, or there is no id
@@ -287,8 +298,9 @@ module _ (events : List (Event FurtherEvent)) where
 
     -- no passphrase was right: at a prompt; or the client was to give one by itself, and its own doesn't open the key, or is an empty new one
     pub data HasBadPassphrase : Type 0 where
-      at_prompt : IsBadPrompt → HasBadPassphrase
-      stays : {locked : LockedKey} {pass : List ℕ} → kept.options.mode ≡ mode.Loopback → IsReadLocked locked → IsSent (codes "PASSPHRASE") MAX_SECRET_LEN pass → ¬ OpensBy locked pass → HasBadPassphrase
+      at_prompt : IsBadPrompt request → HasBadPassphrase
+      stays : {grip : Grip} {locked : LockedKey} {pass : List ℕ} → kept.options.mode ≡ mode.Loopback → Unlocks request grip → IsReadLocked grip locked
+          → IsSent (codes "PASSPHRASE") MAX_SECRET_LEN pass → ¬ OpensBy locked pass → HasBadPassphrase
       empty : kept.options.mode ≡ mode.Loopback → IsSent (codes "NEW_PASSPHRASE") MAX_SECRET_LEN [] → HasBadPassphrase
 
     -- the line is out of form, or an option's value, or no wrapping key was drawn
@@ -308,15 +320,15 @@ module _ (events : List (Event FurtherEvent)) where
     -- a key that isn't one, or whose list is too long to be written again, or the new file with it, which is in the extended format
     pub data IsBadKey : Type 0 where
       faulty : IsFaulty code.BadSecKey → IsBadKey
-      long : {grip : Grip} {old new : Option (List ℕ)} {key : Key} → on_keys request ≡ Some (on.Passwd grip old new false) → OpensRead key
+      long : {grip : Grip} {old new : Option (List ℕ)} {key : Key} → on_keys request ≡ Some (on.Passwd grip old new false) → OpensRead grip key
           → MAX_LIST_LEN < length (key_list_of key) → IsBadKey
       long_file : {grip : Grip} {old new : Option (List ℕ)} {file list changed : List ℕ} {key : Key} (pass : List ℕ) → on_keys request ≡ Some (on.Passwd grip old new false) → IsReadOf grip file
-          → is_canonical file ≡ false → OpensRead key → IsListOf key pass kept.options.s2k_count list → IsWithList file list changed → most_bytes < length changed → IsBadKey
+          → is_canonical file ≡ false → OpensRead grip key → IsListOf key pass kept.options.s2k_count list → IsWithList file list changed → most_bytes < length changed → IsBadKey
 
-    -- a key's file is there, and isn't to be replaced
+    -- the file of the key that the client sent is there, and isn't to be replaced
     pub data IsThere : Type 0 where
-      there : {grip : Grip} {file : _} {nonce : Option (List ℕ)} → on_keys request ≡ Some (on.ImportKey false nonce) → Has (Further (Keys (Read grip (key_read.Found file)))) events
-          → IsThere
+      there : {key : Key} {grip : Grip} {file : _} {nonce : Option (List ℕ)} → on_keys request ≡ Some (on.ImportKey false nonce) → KeyDataSays (Ok key) → grip.0 ≡ grip_of key
+          → Has (Further (Keys (Read grip (key_read.Found file)))) events → IsThere
 
     -- an error line with this code and origin has its cause in this exchange
     abbrev pub IsCaused : Code → Origin → Type 0

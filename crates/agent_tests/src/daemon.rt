@@ -4,7 +4,8 @@ use crate::serving::{host_of, parts, planned, preset_rules};
 use agent_ports::{
     HoldGate, ListListener, ListedLinks, Listener, MemLink, MemParts, MemSink, MemSource, Next,
 };
-use agent_top::run_daemon;
+use agent_top::{run_agent, run_daemon};
+use session_options::Rules;
 use std::alloc::{AllocError, Global};
 use std::rt;
 use std::sync::{Mutex, Wait};
@@ -49,6 +50,9 @@ const PLAIN: Row = Row {
     status: 5,
     summary: NOTHING,
 };
+
+/// The folder that the words of a daemon say.
+const FOLDER: &str = "/h";
 
 const GREETING: &str = "OK Pleased to meet you\n";
 
@@ -286,7 +290,28 @@ fn wanted(alloc: Global, row: &Row) -> Result<String, AllocError> {
     format!(in alloc; "{all}{}{}", row.summary, row.status)
 }
 
-/// What comes of it.
+/// The words that ask for the daemon of a row, in a folder of its own.
+fn words_of(alloc: Global, row: &Row) -> Result<Vec<String>, AllocError> {
+    let mut words = Vec::new(alloc);
+    for word in ["--daemon", "--homedir", FOLDER, "--allow-preset-passphrase"] {
+        words.push(String::from_str(alloc, word)?)?;
+    }
+    words.push(format!(in alloc; "--workers={}", row.workers)?)?;
+    if row.extra.is_some() {
+        words.push(String::from_str(alloc, "--extra-socket")?)?;
+    }
+    Ok(words)
+}
+
+/// The rules of the same daemon.
+fn rules_of(row: &Row) -> Rules {
+    let mut rules = preset_rules();
+    rules.workers = row.workers.clamp(1, 64);
+    rules.extra = row.extra.is_some();
+    rules
+}
+
+/// What comes of it, as `run_agent` is asked for it by words, or as `run_daemon` is given rules.
 fn outcome<W: Threads + Wait + rt::Clock + Sync>(
     rt: &W,
     alloc: Global,
@@ -294,6 +319,7 @@ fn outcome<W: Threads + Wait + rt::Clock + Sync>(
     links: &Mutex<ListedLinks>,
     extra: &Mutex<ListedLinks>,
     gate: HoldGate,
+    by_words: bool,
 ) -> Result<String, AllocError> {
     let listens = Vec::from_slice(alloc, row.listens)?;
     let summaries = Vec::from_slice(alloc, row.summaries)?;
@@ -302,10 +328,15 @@ fn outcome<W: Threads + Wait + rt::Clock + Sync>(
     let mut host = host_of(rt, alloc, links, further, sessions, listens, gate)?;
     let source = MemSource::new(Vec::new(alloc), 1, Vec::new(alloc));
     let mut stdio = MemLink::new(source, MemSink::new(alloc, 0, summaries));
-    let mut rules = preset_rules();
-    rules.workers = row.workers.clamp(1, 64);
-    rules.extra = row.extra.is_some();
-    let status = run_daemon(rt, alloc, &rules, &mut stdio, &mut host);
+    let status = if by_words {
+        run_agent(rt, alloc, &words_of(alloc, row)?, &mut stdio, &mut host)
+    } else {
+        run_daemon(rt, alloc, &rules_of(row), &mut stdio, &mut host)
+    };
+    let settled = if by_words { FOLDER.as_bytes() } else { b"" };
+    if host.homedir() != settled {
+        return format!(in alloc; "another folder");
+    }
     let answered = answered_text(rt, alloc, links)?;
     let further = answered_text(rt, alloc, extra)?;
     let summary = String::from_utf8_lossy(alloc, stdio.written())?;
@@ -333,15 +364,25 @@ fn is_stopped<W: Wait>(rt: &W, links: &Mutex<ListedLinks>) -> bool {
     matches!(listener.next(&mut listener.ear()), Next::Stopped)
 }
 
+/// Each row, to be given as rules and to be asked for by words.
+fn twice<'a>(alloc: Global, rows: &'a [Row]) -> Result<Vec<(&'a Row, bool)>, AllocError> {
+    let mut all = Vec::new(alloc);
+    for row in rows {
+        all.push((row, false))?;
+        all.push((row, true))?;
+    }
+    Ok(all)
+}
+
 #[test]
 fn daemons_end_as_their_rows_say(rt: HostRuntime) -> Result<(), Fail> {
     let alloc = rt.alloc();
-    for row in ROWS {
-        let links = Mutex::new(links_of(alloc, row.links, &row)?);
-        let extra = Mutex::new(links_of(alloc, extra_of(&row), &row)?);
+    for (row, by_words) in twice(alloc, &ROWS)? {
+        let links = Mutex::new(links_of(alloc, row.links, row)?);
+        let extra = Mutex::new(links_of(alloc, extra_of(row), row)?);
         let gate = HoldGate::new(0);
-        let got = outcome(&rt, alloc, &row, &links, &extra, gate)?;
-        assert_eq!(rt; got, wanted(alloc, &row)?);
+        let got = outcome(&rt, alloc, row, &links, &extra, gate, by_words)?;
+        assert_eq!(rt; got, wanted(alloc, row)?);
     }
     Ok(())
 }
@@ -349,12 +390,12 @@ fn daemons_end_as_their_rows_say(rt: HostRuntime) -> Result<(), Fail> {
 #[test]
 fn restricted_sessions_are_served_at_a_door_of_their_own(rt: HostRuntime) -> Result<(), Fail> {
     let alloc = rt.alloc();
-    for row in AT_TWO_DOORS {
-        let links = Mutex::new(links_of(alloc, row.links, &row)?);
-        let extra = Mutex::new(links_of(alloc, extra_of(&row), &row)?);
+    for (row, by_words) in twice(alloc, &AT_TWO_DOORS)? {
+        let links = Mutex::new(links_of(alloc, row.links, row)?);
+        let extra = Mutex::new(links_of(alloc, extra_of(row), row)?);
         let gate = HoldGate::new(2_000_000_000);
-        let got = outcome(&rt, alloc, &row, &links, &extra, gate)?;
-        assert_eq!(rt; got, wanted(alloc, &row)?);
+        let got = outcome(&rt, alloc, row, &links, &extra, gate, by_words)?;
+        assert_eq!(rt; got, wanted(alloc, row)?);
         assert_eq!(rt; is_stopped(&rt, &links), row.status == 0);
         assert_eq!(rt; is_stopped(&rt, &extra), row.status == 0);
     }

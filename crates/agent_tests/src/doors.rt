@@ -1,6 +1,6 @@
 //! Sessions by the door that they came in, over a trust list in memory: what is answered, what the list has behind them, and what the user was asked.
 
-use crate::sessions::text_of;
+use crate::rows::text_of;
 use agent_core::Solo;
 use agent_origin::{Door, serve_door};
 use agent_ports::{
@@ -55,6 +55,13 @@ const TRUST: Child = ("Trust Root CA?", "OK\n", "CONFIRM\nBYE\n");
 const RIGHT: Child = (
     "Is {A*40} the right fingerprint of Root CA?",
     "OK\n",
+    "CONFIRM\nBYE\n",
+);
+
+/// The second one, to which the user doesn't agree.
+const WRONG: Child = (
+    "Is {A*40} the right fingerprint of Root CA?",
+    "ERR 83886194\n",
     "CONFIRM\nBYE\n",
 );
 
@@ -150,7 +157,7 @@ const LISTS: [Row; 13] = [
     Row {
         door: Door::Outer,
         sent: "HELP\n",
-        answered: "# NOP\n# RESET\n# BYE\n# HELP\n# OPTION\n# GETINFO\n# GET_PASSPHRASE\n# PRESET_PASSPHRASE\n# CLEAR_PASSPHRASE\n# GET_CONFIRMATION\n# RELOADAGENT\n# KILLAGENT\n# HAVEKEY\n# KEYINFO\n# KEYWRAP_KEY\n# IMPORT_KEY\n# EXPORT_KEY\n# PASSWD\n# DELETE_KEY\n# SETKEYDESC\n# ISTRUSTED\n# MARKTRUSTED\nOK\n",
+        answered: "# NOP\n# RESET\n# BYE\n# HELP\n# OPTION\n# GETINFO\n# GET_PASSPHRASE\n# PRESET_PASSPHRASE\n# CLEAR_PASSPHRASE\n# GET_CONFIRMATION\n# RELOADAGENT\n# KILLAGENT\n# HAVEKEY\n# KEYINFO\n# KEYWRAP_KEY\n# IMPORT_KEY\n# EXPORT_KEY\n# PASSWD\n# DELETE_KEY\n# ISTRUSTED\n# MARKTRUSTED\nOK\n",
         ..PLAIN
     },
     // A restricted session may ask the user.
@@ -165,29 +172,31 @@ const LISTS: [Row; 13] = [
 ];
 
 /// Of MARKTRUSTED with its two prompts.
-const MARKS: [Row; 17] = [
+const MARKS: [Row; 18] = [
+    // One that isn't trusted is so once the user has agreed twice.
     Row {
         after: Some("{A*40} S\n"),
-        sent: "MARKTRUSTED {A*40} S Root+CA\nISTRUSTED {A*40}\n",
-        answered: "OK\nOK\n",
+        sent: "ISTRUSTED {A*40}\nMARKTRUSTED {A*40} S Root+CA\nISTRUSTED {A*40}\n",
+        answered: "ERR 67108962 Not trusted <GPG Agent>\nOK\nOK\n",
         children: &[TRUST, RIGHT],
         launched: 2,
         ..PLAIN
     },
-    // The second consent is refused: the seat is free for the next prompt.
+    // The second consent is refused: there is no list, and the seat is free for the next prompt.
     Row {
-        sent: "MARKTRUSTED {A*40} S Root+CA\nGET_CONFIRMATION Really+send\n",
-        answered: "ERR 83886194 Not confirmed <Pinentry>\nOK\n",
-        children: &[
-            TRUST,
-            (
-                "Is {A*40} the right fingerprint of Root CA?",
-                "ERR 83886194\n",
-                "CONFIRM\nBYE\n",
-            ),
-            OTHER,
-        ],
+        sent: "MARKTRUSTED {A*40} S Root+CA\nISTRUSTED {A*40}\nGET_CONFIRMATION Really+send\n",
+        answered: "ERR 83886194 Not confirmed <Pinentry>\nERR 67108962 Not trusted <GPG Agent>\nOK\n",
+        children: &[TRUST, WRONG, OTHER],
         launched: 3,
+        ..PLAIN
+    },
+    // And then it is given.
+    Row {
+        after: Some("{A*40} S\n"),
+        sent: "ISTRUSTED {A*40}\nMARKTRUSTED {A*40} S Root+CA\nISTRUSTED {A*40}\nMARKTRUSTED {A*40} S Root+CA\nISTRUSTED {A*40}\n",
+        answered: "ERR 67108962 Not trusted <GPG Agent>\nERR 83886194 Not confirmed <Pinentry>\nERR 67108962 Not trusted <GPG Agent>\nOK\nOK\n",
+        children: &[TRUST, WRONG, TRUST, RIGHT],
+        launched: 4,
         ..PLAIN
     },
     // The first one is: the second child isn't started.

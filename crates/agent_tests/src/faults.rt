@@ -1,7 +1,7 @@
 //! One failure at each place of a session: what is answered there, and that what follows is answered as ever.
 
 use crate::prompts::{AFTER_GPG, Opening, PIN, QUALITY};
-use crate::sessions::{PLAIN, Row, served, text_of};
+use crate::rows::{PLAIN, Row, served, text_of};
 use agent_ports::{MemLink, MemSink, MemSource, PlannedChild};
 use std::alloc::{AllocError, Global};
 use std::sync::Wait;

@@ -1,41 +1,10 @@
-//! Sessions on keys. Made by tools/key-sessions.
+//! Keys are listed, exported, taken in and changed. Made by tools/key-sessions.
 
-use crate::sessions::{KEYS, Row};
-
-const GRIP: &str = "81594C58EF1286E89015A30A5CC2072D343B3307";
-
-const DSA_GRIP: &str = "0000000000000000000000000000000000000001";
-
-const CLEAR: &[u8] = b"(11:private-key(3:ecc(1:q1:Q)(1:d1:D)))";
-
-const DSA: &[u8] =
-    b"(11:private-key(3:dsa(1:p2:\x01\x02)(1:q1:\x03)(1:g1:\x04)(1:y1:\x05)(1:x1:\x06)))";
-
-const BY_CBC: &[u8] =
-    b"(21:protected-private-key(3:ecc(1:q1:Q)(9:protected25:openpgp-s2k3-sha1-aes-cbc((4:sha18:\x01\x02\x03\x04\x05\x06\x07\x082:96)16:\x10\x11\x12\x13\x14\x15\x16\x17\x18\x19\x1a\x1b\x1c\x1d\x1e\x1f)64:\x9e\x98\x95Yi*\x1b\x91\xd9e{[`D\xff\x06\xa8\xc3\x9eo\xc6w\xf3}\xb0\x07i\xf1C\x9c\x83n\x12\x86\xb5\x7f\xc0}I\x83\x02\x1b\xe7O\x0f\xf0\xd8\xea\xde\xb3\xa8\x18\xfa\x03\x1f\xd1\x10\xbf\xc6\x8f\xf2\xcf\x8b\x97)))";
-
-const BY_OCB: &[u8] =
-    b"(21:protected-private-key(3:ecc(1:q1:Q)(9:protected20:openpgp-s2k3-ocb-aes((4:sha18: !\"#$%&'5:65536)12:()*+,-./0123)28:\x9d=\xe3\xd4\x88\x93\x844\xe0q\x15\x0bU`\xb3`\xf1\x87\xb6\xa9(j\xb2\n\x1cNtU)))";
-
-const CHANGED: &[u8] =
-    b"(21:protected-private-key(3:ecc(1:q1:Q)(9:protected20:openpgp-s2k3-ocb-aes((4:sha18: !\"#$%&'5:65536)12:()*+,-./0123)28:\xed\xbb\xa2z\xf7W\xcb3\xb4\x93\x8f\xa7\xaf\x12\x15\xb2\xcc\xe2s\xdd9\xe2nknWS\xcc)))";
-
-const SHADOWED: &[u8] = b"(20:shadowed-private-key(3:ecc(1:q1:Q)))";
-
-const EXTENDED: &[u8] = b"Created: x\nKey: (private-key (ecc (q \"Q\")\n (d #44#)))\n";
-
-const EXTENDED_CHANGED: &[u8] =
-    b"Created: x\nKey: (protected-private-key (ecc (q Q) (protected openpgp-s2k3-ocb-aes ((sha1 #2021222324252627# #3635353336#) #28292A2B2C2D2E2F30313233#) #EDBBA27AF757CB33B4938FA7AF1215B2CCE273DD39E26E6B6E5753CC#)))\n";
-
-const WITHOUT_KEY: &[u8] = b"Created: x\n";
-
-const IN_AGAIN: &[u8] =
-    b"(21:protected-private-key(3:ecc(1:q1:Q)(9:protected20:openpgp-s2k3-ocb-aes((4:sha18:'&%$#\"! 5:65536)12:()*+,-./0123)28:\x85\xb7D\xe2p\xa1<\xf5K%\x13\x9a\x04\xc9\xb9uV\xa9\x96U\xae\x95g\xc3\xa0h\xa3,)))";
-
-const IN_LATER: &[u8] =
-    b"(21:protected-private-key(3:ecc(1:q1:Q)(9:protected20:openpgp-s2k3-ocb-aes((4:sha18:'&%$#\"! 5:65536)12:3210/.-,+*)()28:Q\x92\xe8\x15\xa0\xb6\xdd\xb3\xc3{\xbcN\xa44,\x8d\xca\x9d\x14\\\x1b\x1b~\x15\xa4Q@\xe3)))";
-
-const EMPTY: &[u8] = b"";
+use crate::key_files::{
+    BY_CBC, BY_OCB, CHANGED, CHANGED_LATER, CLEAR, DSA, DSA_GRIP, EMPTY, EXTENDED,
+    EXTENDED_CHANGED, GRIP, IN_AGAIN, IN_LATER, SHADOWED, WITHOUT_KEY,
+};
+use crate::rows::{KEYS, Row};
 
 /// Keys are looked at, listed and deleted: what is sent and answered, with the key files before and behind it.
 pub(crate) const LISTS: &[Row] = &[
@@ -211,24 +180,86 @@ pub(crate) const EXPORTS: &[Row] = &[
         dice: b"wraps a key 2415",
         ..KEYS
     },
+    // By the nonce that its import drew nobody is asked, and nothing is kept for the key.
+    Row {
+        sent: "OPTION s2k-count=65536\nKEYWRAP_KEY --import\nIMPORT_KEY\nD %EE%8F%72%ED%69%3D%2A%3F%65%6D%E4%D7%AF%42%3B%B8%47%D7%AC%29%8B%85%D7%E1%34%CB%F3%6C%26%D8%47%51%FB%63%46%67%BF%84%BF%4E%95%80%8D%5F%2E%AB%92%E0\nEND\nCLEAR_PASSPHRASE --mode=normal 81594C58EF1286E89015A30A5CC2072D343B3307\nKEYWRAP_KEY --export\nEXPORT_KEY --cache-nonce=A0A1A2A3A4A5A6A7A8A9AAAB 81594C58EF1286E89015A30A5CC2072D343B3307\nKEYINFO 81594C58EF1286E89015A30A5CC2072D343B3307\nEXPORT_KEY 81594C58EF1286E89015A30A5CC2072D343B3307\n",
+        answered: "OK\nD wraps a key 2415\nOK\nS INQUIRE_MAXLEN 65544\nINQUIRE KEYDATA\nS CACHE_NONCE A0A1A2A3A4A5A6A7A8A9AAAB\nOK\nOK\nD defghijklmnopqrs\nOK\nD %BEB%E9\x05\x18%BC7+%EE,C%C4%C9%9Bz\x01B|%85%FC%E0\x06`^z%FF%B5%C0%92\x7f a\x10%F1%B9%FC%D1%A1%D1\x1b%D3*%A8%C9Y%D1s%F0\nOK\nS KEYINFO 81594C58EF1286E89015A30A5CC2072D343B3307 D - - - P - - -\nOK\nD %BEB%E9\x05\x18%BC7+%EE,C%C4%C9%9Bz\x01B|%85%FC%E0\x06`^z%FF%B5%C0%92\x7f a\x10%F1%B9%FC%D1%A1%D1\x1b%D3*%A8%C9Y%D1s%F0\nOK\n",
+        files_after: Some(&[(GRIP, BY_OCB)]),
+        children: &[
+            (
+                (
+                    "OK Pleased to meet you\nD 9\nOK\nOK\nOK\nOK\nOK\n",
+                    "GETINFO pid\nSETKEYINFO --clear\nSETDESC Please enter a new passphrase for key 81594C58EF1286E89015A30A5CC2072D343B3307\nSETPROMPT Passphrase:\nSETQUALITYBAR\n",
+                ),
+                "D abcdefg1\nOK\nOK\nD abcdefg1\nOK\n",
+                "GETPIN\nSETERROR Please repeat the passphrase\nGETPIN\nBYE\n",
+            ),
+            (
+                (
+                    "OK Pleased to meet you\nD 9\nOK\nOK\nOK\nOK\n",
+                    "GETINFO pid\nSETKEYINFO --clear\nSETDESC Please enter the passphrase for key 81594C58EF1286E89015A30A5CC2072D343B3307\nSETPROMPT Passphrase:\n",
+                ),
+                "D abcdefg1\nOK\n",
+                "GETPIN\nBYE\n",
+            ),
+        ],
+        dice: b"wraps a key 2415 !\"#$%&'()*+,-./0123\xa0\xa1\xa2\xa3\xa4\xa5\xa6\xa7\xa8\xa9\xaa\xabdefghijklmnopqrs",
+        ..KEYS
+    },
+    // A nonce that is unknown, or under which a wrong passphrase is cached, gives way to what is cached for the key.
+    Row {
+        sent: "KEYWRAP_KEY --export\nPRESET_PASSPHRASE wrong -1 61\nPRESET_PASSPHRASE 81594C58EF1286E89015A30A5CC2072D343B3307 -1 6162636465666731\nEXPORT_KEY --cache-nonce=unknown 81594C58EF1286E89015A30A5CC2072D343B3307\nEXPORT_KEY --cache-nonce=wrong 81594C58EF1286E89015A30A5CC2072D343B3307\n",
+        answered: "D wraps a key 2415\nOK\nOK\nOK\nD %EE%8Fr%EDi=*?em%E4%D7%AFB;%B8G%D7%AC)%8B%85%D7%E14%CB%F3l&%D8GQ%FBcFg%BF%84%BFN%95%80%8D_.%AB%92%E0\nOK\nD %EE%8Fr%EDi=*?em%E4%D7%AFB;%B8G%D7%AC)%8B%85%D7%E14%CB%F3l&%D8GQ%FBcFg%BF%84%BFN%95%80%8D_.%AB%92%E0\nOK\n",
+        files: &[(GRIP, BY_CBC)],
+        files_after: Some(&[(GRIP, BY_CBC)]),
+        dice: b"wraps a key 2415",
+        ..KEYS
+    },
+    // And to a prompt where nothing is. What is typed is kept for the key, and not under the nonce.
+    Row {
+        sent: "KEYWRAP_KEY --export\nPRESET_PASSPHRASE wrong -1 61\nEXPORT_KEY --cache-nonce=wrong 81594C58EF1286E89015A30A5CC2072D343B3307\nKEYINFO 81594C58EF1286E89015A30A5CC2072D343B3307\nEXPORT_KEY --cache-nonce=unknown 81594C58EF1286E89015A30A5CC2072D343B3307\nGET_PASSPHRASE --no-ask wrong\nGET_PASSPHRASE --no-ask unknown\n",
+        answered: "D wraps a key 2415\nOK\nOK\nD %EE%8Fr%EDi=*?em%E4%D7%AFB;%B8G%D7%AC)%8B%85%D7%E14%CB%F3l&%D8GQ%FBcFg%BF%84%BFN%95%80%8D_.%AB%92%E0\nOK\nS KEYINFO 81594C58EF1286E89015A30A5CC2072D343B3307 D - - 1 P - - -\nOK\nD %EE%8Fr%EDi=*?em%E4%D7%AFB;%B8G%D7%AC)%8B%85%D7%E14%CB%F3l&%D8GQ%FBcFg%BF%84%BFN%95%80%8D_.%AB%92%E0\nOK\nOK 61\nERR 67108922 No data <GPG Agent>\n",
+        files: &[(GRIP, BY_CBC)],
+        files_after: Some(&[(GRIP, BY_CBC)]),
+        children: &[(
+            (
+                "OK Pleased to meet you\nD 9\nOK\nOK\nOK\nOK\n",
+                "GETINFO pid\nSETKEYINFO --clear\nSETDESC Please enter the passphrase for key 81594C58EF1286E89015A30A5CC2072D343B3307\nSETPROMPT Passphrase:\n",
+            ),
+            "D abcdefg1\nOK\n",
+            "GETPIN\nBYE\n",
+        )],
+        dice: b"wraps a key 2415",
+        ..KEYS
+    },
 ];
 
 /// Keys come in: what is sent and answered, with the key files before and behind it.
 pub(crate) const IMPORTS: &[Row] = &[
-    // A key comes in and is protected by a new passphrase, which is cached under the key and under the nonce.
+    // A key comes in and is protected by a new passphrase, which is cached under the key and under the nonce. By that its file is written anew, and opens by the same.
     Row {
-        sent: "OPTION s2k-count=65536\nKEYWRAP_KEY --import\nIMPORT_KEY\nD %EE%8F%72%ED%69%3D%2A%3F%65%6D%E4%D7%AF%42%3B%B8%47%D7%AC%29%8B%85%D7%E1%34%CB%F3%6C%26%D8%47%51%FB%63%46%67%BF%84%BF%4E%95%80%8D%5F%2E%AB%92%E0\nEND\nKEYINFO 81594C58EF1286E89015A30A5CC2072D343B3307\nPASSWD --cache-nonce=A0A1A2A3A4A5A6A7A8A9AAAB --passwd-nonce=A0A1A2A3A4A5A6A7A8A9AAAB 81594C58EF1286E89015A30A5CC2072D343B3307\nIMPORT_KEY\nD %EE%8F%72%ED%69%3D%2A%3F%65%6D%E4%D7%AF%42%3B%B8%47%D7%AC%29%8B%85%D7%E1%34%CB%F3%6C%26%D8%47%51%FB%63%46%67%BF%84%BF%4E%95%80%8D%5F%2E%AB%92%E0\nEND\n",
-        answered: "OK\nD wraps a key 2415\nOK\nS INQUIRE_MAXLEN 65544\nINQUIRE KEYDATA\nS CACHE_NONCE A0A1A2A3A4A5A6A7A8A9AAAB\nOK\nS KEYINFO 81594C58EF1286E89015A30A5CC2072D343B3307 D - - 1 P - - -\nOK\nOK\nS INQUIRE_MAXLEN 65544\nINQUIRE KEYDATA\nERR 67141667 File exists <GPG Agent>\n",
-        files_after: Some(&[(GRIP, BY_OCB)]),
-        children: &[(
+        sent: "OPTION s2k-count=65536\nKEYWRAP_KEY --import\nIMPORT_KEY\nD %EE%8F%72%ED%69%3D%2A%3F%65%6D%E4%D7%AF%42%3B%B8%47%D7%AC%29%8B%85%D7%E1%34%CB%F3%6C%26%D8%47%51%FB%63%46%67%BF%84%BF%4E%95%80%8D%5F%2E%AB%92%E0\nEND\nKEYINFO 81594C58EF1286E89015A30A5CC2072D343B3307\nPASSWD --cache-nonce=A0A1A2A3A4A5A6A7A8A9AAAB --passwd-nonce=A0A1A2A3A4A5A6A7A8A9AAAB 81594C58EF1286E89015A30A5CC2072D343B3307\nPASSWD --verify 81594C58EF1286E89015A30A5CC2072D343B3307\nIMPORT_KEY\nD %EE%8F%72%ED%69%3D%2A%3F%65%6D%E4%D7%AF%42%3B%B8%47%D7%AC%29%8B%85%D7%E1%34%CB%F3%6C%26%D8%47%51%FB%63%46%67%BF%84%BF%4E%95%80%8D%5F%2E%AB%92%E0\nEND\n",
+        answered: "OK\nD wraps a key 2415\nOK\nS INQUIRE_MAXLEN 65544\nINQUIRE KEYDATA\nS CACHE_NONCE A0A1A2A3A4A5A6A7A8A9AAAB\nOK\nS KEYINFO 81594C58EF1286E89015A30A5CC2072D343B3307 D - - 1 P - - -\nOK\nOK\nOK\nS INQUIRE_MAXLEN 65544\nINQUIRE KEYDATA\nERR 67141667 File exists <GPG Agent>\n",
+        files_after: Some(&[(GRIP, IN_LATER)]),
+        children: &[
             (
-                "OK Pleased to meet you\nD 9\nOK\nOK\nOK\nOK\nOK\n",
-                "GETINFO pid\nSETKEYINFO --clear\nSETDESC Please enter a new passphrase for key 81594C58EF1286E89015A30A5CC2072D343B3307\nSETPROMPT Passphrase:\nSETQUALITYBAR\n",
+                (
+                    "OK Pleased to meet you\nD 9\nOK\nOK\nOK\nOK\nOK\n",
+                    "GETINFO pid\nSETKEYINFO --clear\nSETDESC Please enter a new passphrase for key 81594C58EF1286E89015A30A5CC2072D343B3307\nSETPROMPT Passphrase:\nSETQUALITYBAR\n",
+                ),
+                "D abcdefg1\nOK\nOK\nD abcdefg1\nOK\n",
+                "GETPIN\nSETERROR Please repeat the passphrase\nGETPIN\nBYE\n",
             ),
-            "D abcdefg1\nOK\nOK\nD abcdefg1\nOK\n",
-            "GETPIN\nSETERROR Please repeat the passphrase\nGETPIN\nBYE\n",
-        )],
-        dice: b"wraps a key 2415 !\"#$%&'()*+,-./0123\xa0\xa1\xa2\xa3\xa4\xa5\xa6\xa7\xa8\xa9\xaa\xab !\"#$%&'()*+,-./0123",
+            (
+                (
+                    "OK Pleased to meet you\nD 9\nOK\nOK\nOK\nOK\n",
+                    "GETINFO pid\nSETKEYINFO --clear\nSETDESC Please enter the passphrase for key 81594C58EF1286E89015A30A5CC2072D343B3307\nSETPROMPT Passphrase:\n",
+                ),
+                "D abcdefg1\nOK\n",
+                "GETPIN\nBYE\n",
+            ),
+        ],
+        dice: b"wraps a key 2415 !\"#$%&'()*+,-./0123\xa0\xa1\xa2\xa3\xa4\xa5\xa6\xa7\xa8\xa9\xaa\xab'&%$#\"! 3210/.-,+*)(",
         ..KEYS
     },
     // By a nonce nobody is asked, and a file that is there is replaced where that is wanted.
@@ -367,6 +398,76 @@ pub(crate) const CHANGES: &[Row] = &[
             ),
         ],
         dice: b" !\"#$%&'()*+,-./0123",
+        ..KEYS
+    },
+    // So is the file of a key that came in, whose passphrase is cached. The user verifies the new one, and doesn't let the key go.
+    Row {
+        sent: "OPTION s2k-count=65536\nPRESET_PASSPHRASE 81594C58EF1286E89015A30A5CC2072D343B3307 -1 6162636465666731\nPASSWD 81594C58EF1286E89015A30A5CC2072D343B3307\nPASSWD --verify 81594C58EF1286E89015A30A5CC2072D343B3307\nHAVEKEY 81594C58EF1286E89015A30A5CC2072D343B3307\nDELETE_KEY 81594C58EF1286E89015A30A5CC2072D343B3307\nHAVEKEY 81594C58EF1286E89015A30A5CC2072D343B3307\n",
+        answered: "OK\nOK\nOK\nOK\nOK\nERR 83886194 Not confirmed <Pinentry>\nOK\n",
+        files: &[(GRIP, BY_OCB)],
+        files_after: Some(&[(GRIP, CHANGED_LATER)]),
+        children: &[
+            (
+                (
+                    "OK Pleased to meet you\nD 9\nOK\nOK\nOK\nOK\nOK\n",
+                    "GETINFO pid\nSETKEYINFO --clear\nSETDESC Please enter a new passphrase for key 81594C58EF1286E89015A30A5CC2072D343B3307\nSETPROMPT Passphrase:\nSETQUALITYBAR\n",
+                ),
+                "D hijklmn2\nOK\nOK\nD hijklmn2\nOK\n",
+                "GETPIN\nSETERROR Please repeat the passphrase\nGETPIN\nBYE\n",
+            ),
+            (
+                (
+                    "OK Pleased to meet you\nD 9\nOK\nOK\nOK\nOK\n",
+                    "GETINFO pid\nSETKEYINFO --clear\nSETDESC Please enter the passphrase for key 81594C58EF1286E89015A30A5CC2072D343B3307\nSETPROMPT Passphrase:\n",
+                ),
+                "D hijklmn2\nOK\n",
+                "GETPIN\nBYE\n",
+            ),
+            (
+                (
+                    "OK\nD 9\nOK\nOK\nOK\n",
+                    "GETINFO pid\nSETKEYINFO --clear\nSETDESC Delete key 81594C58EF1286E89015A30A5CC2072D343B3307?\n",
+                ),
+                "ERR 83886194\n",
+                "CONFIRM\nBYE\n",
+            ),
+        ],
+        dice: b"'&%$#\"! 3210/.-,+*)(",
+        ..KEYS
+    },
+    // A nonce gives the new passphrase, behind a prompt for the old one. An unknown nonce gives none.
+    Row {
+        sent: "OPTION s2k-count=65536\nPRESET_PASSPHRASE new -1 68696a6b6c6d6e32\nPASSWD --passwd-nonce=new 81594C58EF1286E89015A30A5CC2072D343B3307\nKEYINFO 81594C58EF1286E89015A30A5CC2072D343B3307\nPASSWD --passwd-nonce=unknown 81594C58EF1286E89015A30A5CC2072D343B3307\nPASSWD --verify 81594C58EF1286E89015A30A5CC2072D343B3307\n",
+        answered: "OK\nOK\nOK\nS KEYINFO 81594C58EF1286E89015A30A5CC2072D343B3307 D - - 1 P - - -\nOK\nOK\nOK\n",
+        files: &[(GRIP, BY_CBC)],
+        files_after: Some(&[(GRIP, IN_LATER)]),
+        children: &[
+            (
+                (
+                    "OK Pleased to meet you\nD 9\nOK\nOK\nOK\nOK\n",
+                    "GETINFO pid\nSETKEYINFO --clear\nSETDESC Please enter the passphrase for key 81594C58EF1286E89015A30A5CC2072D343B3307\nSETPROMPT Passphrase:\n",
+                ),
+                "D abcdefg1\nOK\n",
+                "GETPIN\nBYE\n",
+            ),
+            (
+                (
+                    "OK Pleased to meet you\nD 9\nOK\nOK\nOK\nOK\nOK\n",
+                    "GETINFO pid\nSETKEYINFO --clear\nSETDESC Please enter a new passphrase for key 81594C58EF1286E89015A30A5CC2072D343B3307\nSETPROMPT Passphrase:\nSETQUALITYBAR\n",
+                ),
+                "D abcdefg1\nOK\nOK\nD abcdefg1\nOK\n",
+                "GETPIN\nSETERROR Please repeat the passphrase\nGETPIN\nBYE\n",
+            ),
+            (
+                (
+                    "OK Pleased to meet you\nD 9\nOK\nOK\nOK\nOK\n",
+                    "GETINFO pid\nSETKEYINFO --clear\nSETDESC Please enter the passphrase for key 81594C58EF1286E89015A30A5CC2072D343B3307\nSETPROMPT Passphrase:\n",
+                ),
+                "D abcdefg1\nOK\n",
+                "GETPIN\nBYE\n",
+            ),
+        ],
+        dice: b" !\"#$%&'()*+,-./0123'&%$#\"! 3210/.-,+*)(",
         ..KEYS
     },
     // The old passphrase is cached, and the new one afterwards.
@@ -530,489 +631,3 @@ pub(crate) const OTHERS: &[Row] = &[
         ..KEYS
     },
 ];
-
-/// One call of the keys or of the dice fails, and what follows is answered as ever: what is sent and answered, with the key files before and behind it.
-pub(crate) const REFUSALS: &[Row] = &[
-    // Reads that fail, one in each request.
-    Row {
-        sent: "KEYWRAP_KEY --export\nEXPORT_KEY 81594C58EF1286E89015A30A5CC2072D343B3307\nEXPORT_KEY 81594C58EF1286E89015A30A5CC2072D343B3307\nPASSWD --verify 81594C58EF1286E89015A30A5CC2072D343B3307\nPASSWD --verify 81594C58EF1286E89015A30A5CC2072D343B3307\nPASSWD 81594C58EF1286E89015A30A5CC2072D343B3307\nDELETE_KEY --force 81594C58EF1286E89015A30A5CC2072D343B3307\nKEYINFO 81594C58EF1286E89015A30A5CC2072D343B3307\nHAVEKEY 81594C58EF1286E89015A30A5CC2072D343B3307\nHAVEKEY 81594C58EF1286E89015A30A5CC2072D343B3307\n",
-        answered: "D wraps a key 2415\nOK\nERR 67108865 General error <GPG Agent>\nD %EE%8Fr%EDi=*?em%E4%D7%AFB;%B8G%D7%AC)%8B%85%D7%E14%CB%F3l&%D8GQ%FBcFg%BF%84%BFN%95%80%8D_.%AB%92%E0\nOK\nERR 67108865 General error <GPG Agent>\nOK\nERR 67108865 General error <GPG Agent>\nERR 67108865 General error <GPG Agent>\nERR 67108865 General error <GPG Agent>\nERR 67108865 General error <GPG Agent>\nOK\n",
-        files: &[(GRIP, CLEAR)],
-        files_after: Some(&[(GRIP, CLEAR)]),
-        dice: b"wraps a key 2415",
-        key_faults: &[0, 2, 4, 5, 6, 7],
-        ..KEYS
-    },
-    // The read of a key that comes in fails: nobody is asked. Then no bytes are drawn, behind the prompt: no file is written, and the seat is free.
-    Row {
-        sent: "OPTION s2k-count=65536\nKEYWRAP_KEY --import\nIMPORT_KEY\nD %EE%8F%72%ED%69%3D%2A%3F%65%6D%E4%D7%AF%42%3B%B8%47%D7%AC%29%8B%85%D7%E1%34%CB%F3%6C%26%D8%47%51%FB%63%46%67%BF%84%BF%4E%95%80%8D%5F%2E%AB%92%E0\nEND\nIMPORT_KEY\nD %EE%8F%72%ED%69%3D%2A%3F%65%6D%E4%D7%AF%42%3B%B8%47%D7%AC%29%8B%85%D7%E1%34%CB%F3%6C%26%D8%47%51%FB%63%46%67%BF%84%BF%4E%95%80%8D%5F%2E%AB%92%E0\nEND\nHAVEKEY 81594C58EF1286E89015A30A5CC2072D343B3307\nGET_PASSPHRASE --no-ask 81594C58EF1286E89015A30A5CC2072D343B3307\nIMPORT_KEY\nD %EE%8F%72%ED%69%3D%2A%3F%65%6D%E4%D7%AF%42%3B%B8%47%D7%AC%29%8B%85%D7%E1%34%CB%F3%6C%26%D8%47%51%FB%63%46%67%BF%84%BF%4E%95%80%8D%5F%2E%AB%92%E0\nEND\nKEYINFO 81594C58EF1286E89015A30A5CC2072D343B3307\n",
-        answered: "OK\nD wraps a key 2415\nOK\nS INQUIRE_MAXLEN 65544\nINQUIRE KEYDATA\nERR 67108865 General error <GPG Agent>\nS INQUIRE_MAXLEN 65544\nINQUIRE KEYDATA\nERR 67108865 General error <GPG Agent>\nERR 67108881 No secret key <GPG Agent>\nERR 67108922 No data <GPG Agent>\nS INQUIRE_MAXLEN 65544\nINQUIRE KEYDATA\nS CACHE_NONCE A0A1A2A3A4A5A6A7A8A9AAAB\nOK\nS KEYINFO 81594C58EF1286E89015A30A5CC2072D343B3307 D - - 1 P - - -\nOK\n",
-        files_after: Some(&[(GRIP, BY_OCB)]),
-        children: &[
-            (
-                (
-                    "OK Pleased to meet you\nD 9\nOK\nOK\nOK\nOK\nOK\n",
-                    "GETINFO pid\nSETKEYINFO --clear\nSETDESC Please enter a new passphrase for key 81594C58EF1286E89015A30A5CC2072D343B3307\nSETPROMPT Passphrase:\nSETQUALITYBAR\n",
-                ),
-                "D abcdefg1\nOK\nOK\nD abcdefg1\nOK\n",
-                "GETPIN\nSETERROR Please repeat the passphrase\nGETPIN\nBYE\n",
-            ),
-            (
-                (
-                    "OK Pleased to meet you\nD 9\nOK\nOK\nOK\nOK\nOK\n",
-                    "GETINFO pid\nSETKEYINFO --clear\nSETDESC Please enter a new passphrase for key 81594C58EF1286E89015A30A5CC2072D343B3307\nSETPROMPT Passphrase:\nSETQUALITYBAR\n",
-                ),
-                "D abcdefg1\nOK\nOK\nD abcdefg1\nOK\n",
-                "GETPIN\nSETERROR Please repeat the passphrase\nGETPIN\nBYE\n",
-            ),
-        ],
-        dice: b"wraps a key 2415 !\"#$%&'()*+,-./0123\xa0\xa1\xa2\xa3\xa4\xa5\xa6\xa7\xa8\xa9\xaa\xab",
-        key_faults: &[0],
-        draw_faults: &[1],
-        ..KEYS
-    },
-    // No bytes are drawn for a new passphrase: the file stays, and the new passphrase isn't kept.
-    Row {
-        sent: "OPTION s2k-count=65536\nPASSWD 81594C58EF1286E89015A30A5CC2072D343B3307\nKEYINFO 81594C58EF1286E89015A30A5CC2072D343B3307\nPASSWD 81594C58EF1286E89015A30A5CC2072D343B3307\nKEYINFO 81594C58EF1286E89015A30A5CC2072D343B3307\n",
-        answered: "OK\nERR 67108865 General error <GPG Agent>\nS KEYINFO 81594C58EF1286E89015A30A5CC2072D343B3307 D - - - P - - -\nOK\nOK\nS KEYINFO 81594C58EF1286E89015A30A5CC2072D343B3307 D - - 1 P - - -\nOK\n",
-        files: &[(GRIP, BY_CBC)],
-        files_after: Some(&[(GRIP, CHANGED)]),
-        children: &[
-            (
-                (
-                    "OK Pleased to meet you\nD 9\nOK\nOK\nOK\nOK\n",
-                    "GETINFO pid\nSETKEYINFO --clear\nSETDESC Please enter the passphrase for key 81594C58EF1286E89015A30A5CC2072D343B3307\nSETPROMPT Passphrase:\n",
-                ),
-                "D abcdefg1\nOK\n",
-                "GETPIN\nBYE\n",
-            ),
-            (
-                (
-                    "OK Pleased to meet you\nD 9\nOK\nOK\nOK\nOK\nOK\n",
-                    "GETINFO pid\nSETKEYINFO --clear\nSETDESC Please enter a new passphrase for key 81594C58EF1286E89015A30A5CC2072D343B3307\nSETPROMPT Passphrase:\nSETQUALITYBAR\n",
-                ),
-                "D hijklmn2\nOK\nOK\nD hijklmn2\nOK\n",
-                "GETPIN\nSETERROR Please repeat the passphrase\nGETPIN\nBYE\n",
-            ),
-            (
-                (
-                    "OK Pleased to meet you\nD 9\nOK\nOK\nOK\nOK\n",
-                    "GETINFO pid\nSETKEYINFO --clear\nSETDESC Please enter the passphrase for key 81594C58EF1286E89015A30A5CC2072D343B3307\nSETPROMPT Passphrase:\n",
-                ),
-                "D abcdefg1\nOK\n",
-                "GETPIN\nBYE\n",
-            ),
-            (
-                (
-                    "OK Pleased to meet you\nD 9\nOK\nOK\nOK\nOK\nOK\n",
-                    "GETINFO pid\nSETKEYINFO --clear\nSETDESC Please enter a new passphrase for key 81594C58EF1286E89015A30A5CC2072D343B3307\nSETPROMPT Passphrase:\nSETQUALITYBAR\n",
-                ),
-                "D hijklmn2\nOK\nOK\nD hijklmn2\nOK\n",
-                "GETPIN\nSETERROR Please repeat the passphrase\nGETPIN\nBYE\n",
-            ),
-        ],
-        dice: b" !\"#$%&'()*+,-./0123",
-        draw_faults: &[0],
-        ..KEYS
-    },
-    // A file that can't be removed: what is cached for it stays, and the user is asked again.
-    Row {
-        sent: "PRESET_PASSPHRASE 81594C58EF1286E89015A30A5CC2072D343B3307 -1 61\nDELETE_KEY 81594C58EF1286E89015A30A5CC2072D343B3307\nGET_PASSPHRASE --no-ask 81594C58EF1286E89015A30A5CC2072D343B3307\nHAVEKEY 81594C58EF1286E89015A30A5CC2072D343B3307\nDELETE_KEY 81594C58EF1286E89015A30A5CC2072D343B3307\nGET_PASSPHRASE --no-ask 81594C58EF1286E89015A30A5CC2072D343B3307\n",
-        answered: "OK\nERR 67108865 General error <GPG Agent>\nOK 61\nOK\nOK\nERR 67108922 No data <GPG Agent>\n",
-        files: &[(GRIP, BY_CBC)],
-        files_after: Some(&[]),
-        children: &[
-            (
-                (
-                    "OK\nD 9\nOK\nOK\nOK\n",
-                    "GETINFO pid\nSETKEYINFO --clear\nSETDESC Delete key 81594C58EF1286E89015A30A5CC2072D343B3307?\n",
-                ),
-                "OK\n",
-                "CONFIRM\nBYE\n",
-            ),
-            (
-                (
-                    "OK\nD 9\nOK\nOK\nOK\n",
-                    "GETINFO pid\nSETKEYINFO --clear\nSETDESC Delete key 81594C58EF1286E89015A30A5CC2072D343B3307?\n",
-                ),
-                "OK\n",
-                "CONFIRM\nBYE\n",
-            ),
-        ],
-        key_faults: &[1],
-        ..KEYS
-    },
-    // A listed key that can't be read, behind one that can. Then both can be.
-    Row {
-        sent: "KEYINFO --list\nKEYINFO --list\n",
-        answered: "S KEYINFO 0000000000000000000000000000000000000001 D - - - C - - -\nERR 67108865 General error <GPG Agent>\nS KEYINFO 0000000000000000000000000000000000000001 D - - - C - - -\nS KEYINFO 81594C58EF1286E89015A30A5CC2072D343B3307 D - - - P - - -\nOK\n",
-        files: &[(DSA_GRIP, DSA), (GRIP, BY_CBC)],
-        files_after: Some(&[(DSA_GRIP, DSA), (GRIP, BY_CBC)]),
-        key_faults: &[2],
-        ..KEYS
-    },
-];
-
-/// No pinentry can be launched for a request on keys, and what follows is answered as ever: what is sent and answered, with the key files before and behind it.
-pub(crate) const LAUNCHES: &[Row] = &[
-    // Nothing is exported or kept, and what is cached stays. The next request prompts.
-    Row {
-        sent: "KEYWRAP_KEY --export\nEXPORT_KEY 81594C58EF1286E89015A30A5CC2072D343B3307\nKEYINFO 81594C58EF1286E89015A30A5CC2072D343B3307\nPRESET_PASSPHRASE 81594C58EF1286E89015A30A5CC2072D343B3307 -1 61\nEXPORT_KEY 81594C58EF1286E89015A30A5CC2072D343B3307\nGET_PASSPHRASE --no-ask 81594C58EF1286E89015A30A5CC2072D343B3307\nEXPORT_KEY 81594C58EF1286E89015A30A5CC2072D343B3307\nEXPORT_KEY 81594C58EF1286E89015A30A5CC2072D343B3307\n",
-        answered: "D wraps a key 2415\nOK\nERR 67108950 No pinentry <GPG Agent>\nS KEYINFO 81594C58EF1286E89015A30A5CC2072D343B3307 D - - - P - - -\nOK\nOK\nERR 67108950 No pinentry <GPG Agent>\nOK 61\nD %EE%8Fr%EDi=*?em%E4%D7%AFB;%B8G%D7%AC)%8B%85%D7%E14%CB%F3l&%D8GQ%FBcFg%BF%84%BFN%95%80%8D_.%AB%92%E0\nOK\nD %EE%8Fr%EDi=*?em%E4%D7%AFB;%B8G%D7%AC)%8B%85%D7%E14%CB%F3l&%D8GQ%FBcFg%BF%84%BFN%95%80%8D_.%AB%92%E0\nOK\n",
-        files: &[(GRIP, BY_CBC)],
-        files_after: Some(&[(GRIP, BY_CBC)]),
-        children: &[(
-            (
-                "OK Pleased to meet you\nD 9\nOK\nOK\nOK\nOK\n",
-                "GETINFO pid\nSETKEYINFO --clear\nSETDESC Please enter the passphrase for key 81594C58EF1286E89015A30A5CC2072D343B3307\nSETPROMPT Passphrase:\n",
-            ),
-            "D abcdefg1\nOK\n",
-            "GETPIN\nBYE\n",
-        )],
-        dice: b"wraps a key 2415",
-        launches: &[0, 1],
-        ..KEYS
-    },
-    // For the old passphrase, and then for the new one: the file stays, and neither is kept. No bytes are drawn.
-    Row {
-        sent: "OPTION s2k-count=65536\nPASSWD --verify 81594C58EF1286E89015A30A5CC2072D343B3307\nPASSWD 81594C58EF1286E89015A30A5CC2072D343B3307\nKEYINFO 81594C58EF1286E89015A30A5CC2072D343B3307\nPASSWD 81594C58EF1286E89015A30A5CC2072D343B3307\nKEYINFO 81594C58EF1286E89015A30A5CC2072D343B3307\nPASSWD 81594C58EF1286E89015A30A5CC2072D343B3307\nKEYINFO 81594C58EF1286E89015A30A5CC2072D343B3307\nPASSWD --verify 81594C58EF1286E89015A30A5CC2072D343B3307\n",
-        answered: "OK\nERR 67108950 No pinentry <GPG Agent>\nERR 67108950 No pinentry <GPG Agent>\nS KEYINFO 81594C58EF1286E89015A30A5CC2072D343B3307 D - - - P - - -\nOK\nERR 67108950 No pinentry <GPG Agent>\nS KEYINFO 81594C58EF1286E89015A30A5CC2072D343B3307 D - - - P - - -\nOK\nOK\nS KEYINFO 81594C58EF1286E89015A30A5CC2072D343B3307 D - - 1 P - - -\nOK\nOK\n",
-        files: &[(GRIP, BY_CBC)],
-        files_after: Some(&[(GRIP, CHANGED)]),
-        children: &[
-            (
-                (
-                    "OK Pleased to meet you\nD 9\nOK\nOK\nOK\nOK\n",
-                    "GETINFO pid\nSETKEYINFO --clear\nSETDESC Please enter the passphrase for key 81594C58EF1286E89015A30A5CC2072D343B3307\nSETPROMPT Passphrase:\n",
-                ),
-                "D abcdefg1\nOK\n",
-                "GETPIN\nBYE\n",
-            ),
-            (
-                (
-                    "OK Pleased to meet you\nD 9\nOK\nOK\nOK\nOK\n",
-                    "GETINFO pid\nSETKEYINFO --clear\nSETDESC Please enter the passphrase for key 81594C58EF1286E89015A30A5CC2072D343B3307\nSETPROMPT Passphrase:\n",
-                ),
-                "D abcdefg1\nOK\n",
-                "GETPIN\nBYE\n",
-            ),
-            (
-                (
-                    "OK Pleased to meet you\nD 9\nOK\nOK\nOK\nOK\nOK\n",
-                    "GETINFO pid\nSETKEYINFO --clear\nSETDESC Please enter a new passphrase for key 81594C58EF1286E89015A30A5CC2072D343B3307\nSETPROMPT Passphrase:\nSETQUALITYBAR\n",
-                ),
-                "D hijklmn2\nOK\nOK\nD hijklmn2\nOK\n",
-                "GETPIN\nSETERROR Please repeat the passphrase\nGETPIN\nBYE\n",
-            ),
-            (
-                (
-                    "OK Pleased to meet you\nD 9\nOK\nOK\nOK\nOK\n",
-                    "GETINFO pid\nSETKEYINFO --clear\nSETDESC Please enter the passphrase for key 81594C58EF1286E89015A30A5CC2072D343B3307\nSETPROMPT Passphrase:\n",
-                ),
-                "D hijklmn2\nOK\n",
-                "GETPIN\nBYE\n",
-            ),
-        ],
-        dice: b" !\"#$%&'()*+,-./0123",
-        launches: &[0, 1, 3],
-        ..KEYS
-    },
-    // For the new passphrase alone: the old one stays cached.
-    Row {
-        sent: "OPTION s2k-count=65536\nPRESET_PASSPHRASE 81594C58EF1286E89015A30A5CC2072D343B3307 -1 6162636465666731\nPASSWD 81594C58EF1286E89015A30A5CC2072D343B3307\nGET_PASSPHRASE --no-ask 81594C58EF1286E89015A30A5CC2072D343B3307\nPASSWD 81594C58EF1286E89015A30A5CC2072D343B3307\n",
-        answered: "OK\nOK\nERR 67108950 No pinentry <GPG Agent>\nOK 6162636465666731\nOK\n",
-        files: &[(GRIP, BY_CBC)],
-        files_after: Some(&[(GRIP, CHANGED)]),
-        children: &[(
-            (
-                "OK Pleased to meet you\nD 9\nOK\nOK\nOK\nOK\nOK\n",
-                "GETINFO pid\nSETKEYINFO --clear\nSETDESC Please enter a new passphrase for key 81594C58EF1286E89015A30A5CC2072D343B3307\nSETPROMPT Passphrase:\nSETQUALITYBAR\n",
-            ),
-            "D hijklmn2\nOK\nOK\nD hijklmn2\nOK\n",
-            "GETPIN\nSETERROR Please repeat the passphrase\nGETPIN\nBYE\n",
-        )],
-        dice: b" !\"#$%&'()*+,-./0123",
-        launches: &[0],
-        ..KEYS
-    },
-    // For that of a clear key.
-    Row {
-        sent: "OPTION s2k-count=65536\nPASSWD 81594C58EF1286E89015A30A5CC2072D343B3307\nKEYINFO 81594C58EF1286E89015A30A5CC2072D343B3307\nPASSWD 81594C58EF1286E89015A30A5CC2072D343B3307\nKEYINFO 81594C58EF1286E89015A30A5CC2072D343B3307\n",
-        answered: "OK\nERR 67108950 No pinentry <GPG Agent>\nS KEYINFO 81594C58EF1286E89015A30A5CC2072D343B3307 D - - - C - - -\nOK\nOK\nS KEYINFO 81594C58EF1286E89015A30A5CC2072D343B3307 D - - 1 P - - -\nOK\n",
-        files: &[(GRIP, CLEAR)],
-        files_after: Some(&[(GRIP, CHANGED)]),
-        children: &[(
-            (
-                "OK Pleased to meet you\nD 9\nOK\nOK\nOK\nOK\nOK\n",
-                "GETINFO pid\nSETKEYINFO --clear\nSETDESC Please enter a new passphrase for key 81594C58EF1286E89015A30A5CC2072D343B3307\nSETPROMPT Passphrase:\nSETQUALITYBAR\n",
-            ),
-            "D hijklmn2\nOK\nOK\nD hijklmn2\nOK\n",
-            "GETPIN\nSETERROR Please repeat the passphrase\nGETPIN\nBYE\n",
-        )],
-        dice: b" !\"#$%&'()*+,-./0123",
-        launches: &[0],
-        ..KEYS
-    },
-    // For a key that comes in, new or in the place of another.
-    Row {
-        sent: "OPTION s2k-count=65536\nKEYWRAP_KEY --import\nIMPORT_KEY\nD %EE%8F%72%ED%69%3D%2A%3F%65%6D%E4%D7%AF%42%3B%B8%47%D7%AC%29%8B%85%D7%E1%34%CB%F3%6C%26%D8%47%51%FB%63%46%67%BF%84%BF%4E%95%80%8D%5F%2E%AB%92%E0\nEND\nHAVEKEY 81594C58EF1286E89015A30A5CC2072D343B3307\nIMPORT_KEY\nD %EE%8F%72%ED%69%3D%2A%3F%65%6D%E4%D7%AF%42%3B%B8%47%D7%AC%29%8B%85%D7%E1%34%CB%F3%6C%26%D8%47%51%FB%63%46%67%BF%84%BF%4E%95%80%8D%5F%2E%AB%92%E0\nEND\nIMPORT_KEY --force\nD %EE%8F%72%ED%69%3D%2A%3F%65%6D%E4%D7%AF%42%3B%B8%47%D7%AC%29%8B%85%D7%E1%34%CB%F3%6C%26%D8%47%51%FB%63%46%67%BF%84%BF%4E%95%80%8D%5F%2E%AB%92%E0\nEND\nKEYINFO 81594C58EF1286E89015A30A5CC2072D343B3307\n",
-        answered: "OK\nD wraps a key 2415\nOK\nS INQUIRE_MAXLEN 65544\nINQUIRE KEYDATA\nERR 67108950 No pinentry <GPG Agent>\nERR 67108881 No secret key <GPG Agent>\nS INQUIRE_MAXLEN 65544\nINQUIRE KEYDATA\nS CACHE_NONCE A0A1A2A3A4A5A6A7A8A9AAAB\nOK\nS INQUIRE_MAXLEN 65544\nINQUIRE KEYDATA\nERR 67108950 No pinentry <GPG Agent>\nS KEYINFO 81594C58EF1286E89015A30A5CC2072D343B3307 D - - 1 P - - -\nOK\n",
-        files_after: Some(&[(GRIP, BY_OCB)]),
-        children: &[(
-            (
-                "OK Pleased to meet you\nD 9\nOK\nOK\nOK\nOK\nOK\n",
-                "GETINFO pid\nSETKEYINFO --clear\nSETDESC Please enter a new passphrase for key 81594C58EF1286E89015A30A5CC2072D343B3307\nSETPROMPT Passphrase:\nSETQUALITYBAR\n",
-            ),
-            "D abcdefg1\nOK\nOK\nD abcdefg1\nOK\n",
-            "GETPIN\nSETERROR Please repeat the passphrase\nGETPIN\nBYE\n",
-        )],
-        dice: b"wraps a key 2415 !\"#$%&'()*+,-./0123\xa0\xa1\xa2\xa3\xa4\xa5\xa6\xa7\xa8\xa9\xaa\xab",
-        launches: &[0, 2],
-        ..KEYS
-    },
-    // For consent: the key stays, and what is cached for it.
-    Row {
-        sent: "PRESET_PASSPHRASE 81594C58EF1286E89015A30A5CC2072D343B3307 -1 61\nDELETE_KEY 81594C58EF1286E89015A30A5CC2072D343B3307\nGET_PASSPHRASE --no-ask 81594C58EF1286E89015A30A5CC2072D343B3307\nHAVEKEY 81594C58EF1286E89015A30A5CC2072D343B3307\nDELETE_KEY 81594C58EF1286E89015A30A5CC2072D343B3307\nGET_PASSPHRASE --no-ask 81594C58EF1286E89015A30A5CC2072D343B3307\nHAVEKEY 81594C58EF1286E89015A30A5CC2072D343B3307\n",
-        answered: "OK\nERR 67108950 No pinentry <GPG Agent>\nOK 61\nOK\nOK\nERR 67108922 No data <GPG Agent>\nERR 67108881 No secret key <GPG Agent>\n",
-        files: &[(GRIP, BY_CBC)],
-        files_after: Some(&[]),
-        children: &[(
-            (
-                "OK\nD 9\nOK\nOK\nOK\n",
-                "GETINFO pid\nSETKEYINFO --clear\nSETDESC Delete key 81594C58EF1286E89015A30A5CC2072D343B3307?\n",
-            ),
-            "OK\n",
-            "CONFIRM\nBYE\n",
-        )],
-        launches: &[0],
-        ..KEYS
-    },
-];
-
-/// The client is asked by requests on keys: what is sent and answered, with the key files before and behind it.
-pub(crate) const INQUIRIES: &[Row] = &[
-    // Another line, too many bytes, and then the passphrase, in parts. It is kept.
-    Row {
-        sent: "OPTION pinentry-mode=loopback\nKEYWRAP_KEY --export\nEXPORT_KEY 81594C58EF1286E89015A30A5CC2072D343B3307\nNOP\nEXPORT_KEY 81594C58EF1286E89015A30A5CC2072D343B3307\nD {a*256}\nEND\nKEYINFO 81594C58EF1286E89015A30A5CC2072D343B3307\nEXPORT_KEY 81594C58EF1286E89015A30A5CC2072D343B3307\n\n# x\n \nD abcd\nd efg1\nend now\nKEYINFO --list\nEXPORT_KEY 81594C58EF1286E89015A30A5CC2072D343B3307\n",
-        answered: "OK\nD wraps a key 2415\nOK\nS INQUIRE_MAXLEN 255\nINQUIRE PASSPHRASE\nERR 67109138 Unexpected IPC command <GPG Agent>\nS INQUIRE_MAXLEN 255\nINQUIRE PASSPHRASE\nERR 67109137 Too much data for IPC layer <GPG Agent>\nS KEYINFO 81594C58EF1286E89015A30A5CC2072D343B3307 D - - - P - - -\nOK\nS INQUIRE_MAXLEN 255\nINQUIRE PASSPHRASE\nD %EE%8Fr%EDi=*?em%E4%D7%AFB;%B8G%D7%AC)%8B%85%D7%E14%CB%F3l&%D8GQ%FBcFg%BF%84%BFN%95%80%8D_.%AB%92%E0\nOK\nS KEYINFO 81594C58EF1286E89015A30A5CC2072D343B3307 D - - 1 P - - -\nOK\nD %EE%8Fr%EDi=*?em%E4%D7%AFB;%B8G%D7%AC)%8B%85%D7%E14%CB%F3l&%D8GQ%FBcFg%BF%84%BFN%95%80%8D_.%AB%92%E0\nOK\n",
-        files: &[(GRIP, BY_CBC)],
-        files_after: Some(&[(GRIP, BY_CBC)]),
-        dice: b"wraps a key 2415",
-        ..KEYS
-    },
-    // A passphrase that is verified: what is cached isn't looked at.
-    Row {
-        sent: "OPTION pinentry-mode=loopback\nPASSWD --verify 81594C58EF1286E89015A30A5CC2072D343B3307\nCAN\nPASSWD --verify 81594C58EF1286E89015A30A5CC2072D343B3307\nNOP\nPASSWD --verify 81594C58EF1286E89015A30A5CC2072D343B3307\nD a\nEND\nKEYINFO 81594C58EF1286E89015A30A5CC2072D343B3307\nPASSWD --verify 81594C58EF1286E89015A30A5CC2072D343B3307\nD abcdefg1\nEND\nKEYINFO 81594C58EF1286E89015A30A5CC2072D343B3307\nPASSWD --verify 81594C58EF1286E89015A30A5CC2072D343B3307\nEND\nKEYINFO 81594C58EF1286E89015A30A5CC2072D343B3307\n",
-        answered: "OK\nS INQUIRE_MAXLEN 255\nINQUIRE PASSPHRASE\nERR 67108963 Operation cancelled <GPG Agent>\nS INQUIRE_MAXLEN 255\nINQUIRE PASSPHRASE\nERR 67109138 Unexpected IPC command <GPG Agent>\nS INQUIRE_MAXLEN 255\nINQUIRE PASSPHRASE\nERR 67108875 Bad passphrase <GPG Agent>\nS KEYINFO 81594C58EF1286E89015A30A5CC2072D343B3307 D - - - P - - -\nOK\nS INQUIRE_MAXLEN 255\nINQUIRE PASSPHRASE\nOK\nS KEYINFO 81594C58EF1286E89015A30A5CC2072D343B3307 D - - 1 P - - -\nOK\nS INQUIRE_MAXLEN 255\nINQUIRE PASSPHRASE\nERR 67108875 Bad passphrase <GPG Agent>\nS KEYINFO 81594C58EF1286E89015A30A5CC2072D343B3307 D - - 1 P - - -\nOK\n",
-        files: &[(GRIP, BY_CBC)],
-        files_after: Some(&[(GRIP, BY_CBC)]),
-        ..KEYS
-    },
-    // Without a new passphrase the file stays. The old one, which the client gave, is kept.
-    Row {
-        sent: "OPTION s2k-count=65536\nOPTION pinentry-mode=loopback\nPASSWD 81594C58EF1286E89015A30A5CC2072D343B3307\nD abcdefg1\nEND\nCAN\nKEYINFO 81594C58EF1286E89015A30A5CC2072D343B3307\nPASSWD 81594C58EF1286E89015A30A5CC2072D343B3307\nNOP\nPASSWD 81594C58EF1286E89015A30A5CC2072D343B3307\nD {a*256}\nEND\nPASSWD 81594C58EF1286E89015A30A5CC2072D343B3307\nEND\nPASSWD 81594C58EF1286E89015A30A5CC2072D343B3307\nD hijklmn2\nEND\nPASSWD 81594C58EF1286E89015A30A5CC2072D343B3307\nD new",
-        answered: "OK\nOK\nS INQUIRE_MAXLEN 255\nINQUIRE PASSPHRASE\nS INQUIRE_MAXLEN 255\nINQUIRE NEW_PASSPHRASE\nERR 67108963 Operation cancelled <GPG Agent>\nS KEYINFO 81594C58EF1286E89015A30A5CC2072D343B3307 D - - 1 P - - -\nOK\nS INQUIRE_MAXLEN 255\nINQUIRE NEW_PASSPHRASE\nERR 67109138 Unexpected IPC command <GPG Agent>\nS INQUIRE_MAXLEN 255\nINQUIRE NEW_PASSPHRASE\nERR 67109137 Too much data for IPC layer <GPG Agent>\nS INQUIRE_MAXLEN 255\nINQUIRE NEW_PASSPHRASE\nERR 67108875 Bad passphrase <GPG Agent>\nS INQUIRE_MAXLEN 255\nINQUIRE NEW_PASSPHRASE\nOK\nS INQUIRE_MAXLEN 255\nINQUIRE NEW_PASSPHRASE\n",
-        files: &[(GRIP, BY_CBC)],
-        files_after: Some(&[(GRIP, CHANGED)]),
-        dice: b" !\"#$%&'()*+,-./0123",
-        ..KEYS
-    },
-    // Without one no key comes in, and no bytes are drawn.
-    Row {
-        sent: "OPTION s2k-count=65536\nOPTION pinentry-mode=loopback\nKEYWRAP_KEY --import\nIMPORT_KEY\nD %EE%8F%72%ED%69%3D%2A%3F%65%6D%E4%D7%AF%42%3B%B8%47%D7%AC%29%8B%85%D7%E1%34%CB%F3%6C%26%D8%47%51%FB%63%46%67%BF%84%BF%4E%95%80%8D%5F%2E%AB%92%E0\nEND\nCAN\nIMPORT_KEY\nD %EE%8F%72%ED%69%3D%2A%3F%65%6D%E4%D7%AF%42%3B%B8%47%D7%AC%29%8B%85%D7%E1%34%CB%F3%6C%26%D8%47%51%FB%63%46%67%BF%84%BF%4E%95%80%8D%5F%2E%AB%92%E0\nEND\nNOP\nIMPORT_KEY\nD %EE%8F%72%ED%69%3D%2A%3F%65%6D%E4%D7%AF%42%3B%B8%47%D7%AC%29%8B%85%D7%E1%34%CB%F3%6C%26%D8%47%51%FB%63%46%67%BF%84%BF%4E%95%80%8D%5F%2E%AB%92%E0\nEND\nD {a*256}\nEND\nIMPORT_KEY\nD %EE%8F%72%ED%69%3D%2A%3F%65%6D%E4%D7%AF%42%3B%B8%47%D7%AC%29%8B%85%D7%E1%34%CB%F3%6C%26%D8%47%51%FB%63%46%67%BF%84%BF%4E%95%80%8D%5F%2E%AB%92%E0\nEND\nEND\nHAVEKEY 81594C58EF1286E89015A30A5CC2072D343B3307\nIMPORT_KEY\nD %EE%8F%72%ED%69%3D%2A%3F%65%6D%E4%D7%AF%42%3B%B8%47%D7%AC%29%8B%85%D7%E1%34%CB%F3%6C%26%D8%47%51%FB%63%46%67%BF%84%BF%4E%95%80%8D%5F%2E%AB%92%E0\nEND\nD abcdefg1\nEND\nKEYINFO --list\n",
-        answered: "OK\nOK\nD wraps a key 2415\nOK\nS INQUIRE_MAXLEN 65544\nINQUIRE KEYDATA\nS INQUIRE_MAXLEN 255\nINQUIRE NEW_PASSPHRASE\nERR 67108963 Operation cancelled <GPG Agent>\nS INQUIRE_MAXLEN 65544\nINQUIRE KEYDATA\nS INQUIRE_MAXLEN 255\nINQUIRE NEW_PASSPHRASE\nERR 67109138 Unexpected IPC command <GPG Agent>\nS INQUIRE_MAXLEN 65544\nINQUIRE KEYDATA\nS INQUIRE_MAXLEN 255\nINQUIRE NEW_PASSPHRASE\nERR 67109137 Too much data for IPC layer <GPG Agent>\nS INQUIRE_MAXLEN 65544\nINQUIRE KEYDATA\nS INQUIRE_MAXLEN 255\nINQUIRE NEW_PASSPHRASE\nERR 67108875 Bad passphrase <GPG Agent>\nERR 67108881 No secret key <GPG Agent>\nS INQUIRE_MAXLEN 65544\nINQUIRE KEYDATA\nS INQUIRE_MAXLEN 255\nINQUIRE NEW_PASSPHRASE\nS CACHE_NONCE A0A1A2A3A4A5A6A7A8A9AAAB\nOK\nS KEYINFO 81594C58EF1286E89015A30A5CC2072D343B3307 D - - 1 P - - -\nOK\n",
-        files_after: Some(&[(GRIP, BY_OCB)]),
-        dice: b"wraps a key 2415 !\"#$%&'()*+,-./0123\xa0\xa1\xa2\xa3\xa4\xa5\xa6\xa7\xa8\xa9\xaa\xab",
-        ..KEYS
-    },
-    // A wrapped key has up to 65,544 bytes, in lines of up to 1,000.
-    Row {
-        sent: "KEYWRAP_KEY --import\nIMPORT_KEY\n{D aaaaaaaaaaaaaaaaaaaaaaaaaaaaaaaaaaaaaaaaaaaaaaaaaaaaaaaaaaaaaaaaaaaaaaaaaaaaaaaaaaaaaaaaaaaaaaaaaaaaaaaaaaaaaaaaaaaaaaaaaaaaaaaa\n*512}D aaaaaaaa\nEND\nIMPORT_KEY\n{D aaaaaaaaaaaaaaaaaaaaaaaaaaaaaaaaaaaaaaaaaaaaaaaaaaaaaaaaaaaaaaaaaaaaaaaaaaaaaaaaaaaaaaaaaaaaaaaaaaaaaaaaaaaaaaaaaaaaaaaaaaaaaaaa\n*512}D aaaaaaaaa\nEND\nIMPORT_KEY\n{D aaaaaaaaaaaaaaaaaaaaaaaaaaaaaaaaaaaaaaaaaaaaaaaaaaaaaaaaaaaaaaaaaaaaaaaaaaaaaaaaaaaaaaaaaaaaaaaaaaaaaaaaaaaaaaaaaaaaaaaaaaaaaaaa\n*512}D aaaaaaaaa\nCAN\nIMPORT_KEY\n{D aaaaaaaaaaaaaaaaaaaaaaaaaaaaaaaaaaaaaaaaaaaaaaaaaaaaaaaaaaaaaaaaaaaaaaaaaaaaaaaaaaaaaaaaaaaaaaaaaaaaaaaaaaaaaaaaaaaaaaaaaaaaaaaa\n*512}D aaaaaaaaa\nNOP\nIMPORT_KEY\nD {a*998}\nD {a*999}\nEND\n",
-        answered: "D wraps a key 2415\nOK\nS INQUIRE_MAXLEN 65544\nINQUIRE KEYDATA\nERR 67108874 Checksum error <GPG Agent>\nS INQUIRE_MAXLEN 65544\nINQUIRE KEYDATA\nERR 67109137 Too much data for IPC layer <GPG Agent>\nS INQUIRE_MAXLEN 65544\nINQUIRE KEYDATA\nERR 67108963 Operation cancelled <GPG Agent>\nS INQUIRE_MAXLEN 65544\nINQUIRE KEYDATA\nERR 67109138 Unexpected IPC command <GPG Agent>\nS INQUIRE_MAXLEN 65544\nINQUIRE KEYDATA\nERR 67109127 Line passed to IPC too long <GPG Agent>\n",
-        files_after: Some(&[]),
-        dice: b"wraps a key 2415",
-        status: 7,
-        pieces: &[4096],
-        ..KEYS
-    },
-    // The client is told of each prompt, and its answer decides.
-    Row {
-        sent: "OPTION s2k-count=65536\nOPTION allow-pinentry-notify\nDELETE_KEY 81594C58EF1286E89015A30A5CC2072D343B3307\nCAN\nDELETE_KEY 81594C58EF1286E89015A30A5CC2072D343B3307\nNOP\nHAVEKEY 81594C58EF1286E89015A30A5CC2072D343B3307\nPASSWD 81594C58EF1286E89015A30A5CC2072D343B3307\nNOP\nPASSWD 81594C58EF1286E89015A30A5CC2072D343B3307\nEND\nCAN\nKEYINFO 81594C58EF1286E89015A30A5CC2072D343B3307\nPASSWD 81594C58EF1286E89015A30A5CC2072D343B3307\nEND\nEND\nKEYINFO 81594C58EF1286E89015A30A5CC2072D343B3307\n",
-        answered: "OK\nOK\nINQUIRE PINENTRY_LAUNCHED 9\nERR 67108963 Operation cancelled <GPG Agent>\nINQUIRE PINENTRY_LAUNCHED 9\nERR 67109138 Unexpected IPC command <GPG Agent>\nOK\nINQUIRE PINENTRY_LAUNCHED 9\nERR 67109138 Unexpected IPC command <GPG Agent>\nINQUIRE PINENTRY_LAUNCHED 9\nINQUIRE PINENTRY_LAUNCHED 9\nERR 67108963 Operation cancelled <GPG Agent>\nS KEYINFO 81594C58EF1286E89015A30A5CC2072D343B3307 D - - - P - - -\nOK\nINQUIRE PINENTRY_LAUNCHED 9\nINQUIRE PINENTRY_LAUNCHED 9\nOK\nS KEYINFO 81594C58EF1286E89015A30A5CC2072D343B3307 D - - 1 P - - -\nOK\n",
-        files: &[(GRIP, BY_CBC)],
-        files_after: Some(&[(GRIP, CHANGED)]),
-        children: &[
-            (
-                (
-                    "OK\nD 9\nOK\nOK\nOK\n",
-                    "GETINFO pid\nSETKEYINFO --clear\nSETDESC Delete key 81594C58EF1286E89015A30A5CC2072D343B3307?\n",
-                ),
-                "",
-                "BYE\n",
-            ),
-            (
-                (
-                    "OK\nD 9\nOK\nOK\nOK\n",
-                    "GETINFO pid\nSETKEYINFO --clear\nSETDESC Delete key 81594C58EF1286E89015A30A5CC2072D343B3307?\n",
-                ),
-                "",
-                "BYE\n",
-            ),
-            (
-                (
-                    "OK Pleased to meet you\nD 9\nOK\nOK\nOK\nOK\n",
-                    "GETINFO pid\nSETKEYINFO --clear\nSETDESC Please enter the passphrase for key 81594C58EF1286E89015A30A5CC2072D343B3307\nSETPROMPT Passphrase:\n",
-                ),
-                "",
-                "BYE\n",
-            ),
-            (
-                (
-                    "OK Pleased to meet you\nD 9\nOK\nOK\nOK\nOK\n",
-                    "GETINFO pid\nSETKEYINFO --clear\nSETDESC Please enter the passphrase for key 81594C58EF1286E89015A30A5CC2072D343B3307\nSETPROMPT Passphrase:\n",
-                ),
-                "D abcdefg1\nOK\n",
-                "GETPIN\nBYE\n",
-            ),
-            (
-                (
-                    "OK Pleased to meet you\nD 9\nOK\nOK\nOK\nOK\nOK\n",
-                    "GETINFO pid\nSETKEYINFO --clear\nSETDESC Please enter a new passphrase for key 81594C58EF1286E89015A30A5CC2072D343B3307\nSETPROMPT Passphrase:\nSETQUALITYBAR\n",
-                ),
-                "",
-                "BYE\n",
-            ),
-            (
-                (
-                    "OK Pleased to meet you\nD 9\nOK\nOK\nOK\nOK\n",
-                    "GETINFO pid\nSETKEYINFO --clear\nSETDESC Please enter the passphrase for key 81594C58EF1286E89015A30A5CC2072D343B3307\nSETPROMPT Passphrase:\n",
-                ),
-                "D abcdefg1\nOK\n",
-                "GETPIN\nBYE\n",
-            ),
-            (
-                (
-                    "OK Pleased to meet you\nD 9\nOK\nOK\nOK\nOK\nOK\n",
-                    "GETINFO pid\nSETKEYINFO --clear\nSETDESC Please enter a new passphrase for key 81594C58EF1286E89015A30A5CC2072D343B3307\nSETPROMPT Passphrase:\nSETQUALITYBAR\n",
-                ),
-                "D hijklmn2\nOK\nOK\nD hijklmn2\nOK\n",
-                "GETPIN\nSETERROR Please repeat the passphrase\nGETPIN\nBYE\n",
-            ),
-        ],
-        dice: b" !\"#$%&'()*+,-./0123",
-        ..KEYS
-    },
-];
-
-/// What SETKEYDESC set is what prompts say: what is sent and answered, with the key files before and behind it.
-pub(crate) const DESCRIPTIONS: &[Row] = &[
-    // A description is the one of both prompts of the next command on keys, and of no later one.
-    Row {
-        sent: "OPTION s2k-count=65536\nSETKEYDESC Unlock%0Ait+now\nPASSWD 81594C58EF1286E89015A30A5CC2072D343B3307\nPASSWD --verify 81594C58EF1286E89015A30A5CC2072D343B3307\n",
-        answered: "OK\nOK\nOK\nOK\n",
-        files: &[(GRIP, BY_CBC)],
-        files_after: Some(&[(GRIP, CHANGED)]),
-        children: &[
-            (
-                (
-                    "OK Pleased to meet you\nD 9\nOK\nOK\nOK\nOK\n",
-                    "GETINFO pid\nSETKEYINFO --clear\nSETDESC Unlock%0Ait now\nSETPROMPT Passphrase:\n",
-                ),
-                "D abcdefg1\nOK\n",
-                "GETPIN\nBYE\n",
-            ),
-            (
-                (
-                    "OK Pleased to meet you\nD 9\nOK\nOK\nOK\nOK\nOK\n",
-                    "GETINFO pid\nSETKEYINFO --clear\nSETDESC Unlock%0Ait now\nSETPROMPT Passphrase:\nSETQUALITYBAR\n",
-                ),
-                "D hijklmn2\nOK\nOK\nD hijklmn2\nOK\n",
-                "GETPIN\nSETERROR Please repeat the passphrase\nGETPIN\nBYE\n",
-            ),
-            (
-                (
-                    "OK Pleased to meet you\nD 9\nOK\nOK\nOK\nOK\n",
-                    "GETINFO pid\nSETKEYINFO --clear\nSETDESC Please enter the passphrase for key 81594C58EF1286E89015A30A5CC2072D343B3307\nSETPROMPT Passphrase:\n",
-                ),
-                "D hijklmn2\nOK\n",
-                "GETPIN\nBYE\n",
-            ),
-        ],
-        dice: b" !\"#$%&'()*+,-./0123",
-        ..KEYS
-    },
-    // The later of two counts. Commands on the cache leave it, and so does one without a text.
-    Row {
-        sent: "KEYWRAP_KEY --export\nSETKEYDESC Other\nSETKEYDESC Unlock%0Ait+now more\nSETKEYDESC\nSETKEYDESC  \nNOP\nGETINFO cmd_has_option SETKEYDESC x\nEXPORT_KEY 81594C58EF1286E89015A30A5CC2072D343B3307\n",
-        answered: "D wraps a key 2415\nOK\nOK\nOK\nERR 67109144 IPC parameter error <GPG Agent>\nERR 67109144 IPC parameter error <GPG Agent>\nOK\nERR 67108924 Not supported <GPG Agent>\nD %EE%8Fr%EDi=*?em%E4%D7%AFB;%B8G%D7%AC)%8B%85%D7%E14%CB%F3l&%D8GQ%FBcFg%BF%84%BFN%95%80%8D_.%AB%92%E0\nOK\n",
-        files: &[(GRIP, BY_CBC)],
-        files_after: Some(&[(GRIP, BY_CBC)]),
-        children: &[(
-            (
-                "OK Pleased to meet you\nD 9\nOK\nOK\nOK\nOK\n",
-                "GETINFO pid\nSETKEYINFO --clear\nSETDESC Unlock%0Ait now\nSETPROMPT Passphrase:\n",
-            ),
-            "D abcdefg1\nOK\n",
-            "GETPIN\nBYE\n",
-        )],
-        dice: b"wraps a key 2415",
-        ..KEYS
-    },
-    // It is the one of a question for consent.
-    Row {
-        sent: "SETKEYDESC Other\nSETKEYDESC Unlock%0Ait+now\nDELETE_KEY 81594C58EF1286E89015A30A5CC2072D343B3307\n",
-        answered: "OK\nOK\nOK\n",
-        files: &[(GRIP, BY_CBC)],
-        files_after: Some(&[]),
-        children: &[(
-            (
-                "OK\nD 9\nOK\nOK\nOK\n",
-                "GETINFO pid\nSETKEYINFO --clear\nSETDESC Unlock%0Ait now\n",
-            ),
-            "OK\n",
-            "CONFIRM\nBYE\n",
-        )],
-        ..KEYS
-    },
-    // RESET ends it, and so does a command on keys that is refused, or asks nobody.
-    Row {
-        sent: "SETKEYDESC Other\nRESET\nPASSWD --verify 81594C58EF1286E89015A30A5CC2072D343B3307\nSETKEYDESC Other\nEXPORT_KEY\nPASSWD --verify 81594C58EF1286E89015A30A5CC2072D343B3307\nSETKEYDESC Other\nHAVEKEY 81594C58EF1286E89015A30A5CC2072D343B3307\nPASSWD --verify 81594C58EF1286E89015A30A5CC2072D343B3307\n",
-        answered: "OK\nOK\nOK\nOK\nERR 67109144 IPC parameter error <GPG Agent>\nOK\nOK\nOK\nOK\n",
-        files: &[(GRIP, BY_CBC)],
-        files_after: Some(&[(GRIP, BY_CBC)]),
-        children: &[
-            (
-                (
-                    "OK Pleased to meet you\nD 9\nOK\nOK\nOK\nOK\n",
-                    "GETINFO pid\nSETKEYINFO --clear\nSETDESC Please enter the passphrase for key 81594C58EF1286E89015A30A5CC2072D343B3307\nSETPROMPT Passphrase:\n",
-                ),
-                "D abcdefg1\nOK\n",
-                "GETPIN\nBYE\n",
-            ),
-            (
-                (
-                    "OK Pleased to meet you\nD 9\nOK\nOK\nOK\nOK\n",
-                    "GETINFO pid\nSETKEYINFO --clear\nSETDESC Please enter the passphrase for key 81594C58EF1286E89015A30A5CC2072D343B3307\nSETPROMPT Passphrase:\n",
-                ),
-                "D abcdefg1\nOK\n",
-                "GETPIN\nBYE\n",
-            ),
-            (
-                (
-                    "OK Pleased to meet you\nD 9\nOK\nOK\nOK\nOK\n",
-                    "GETINFO pid\nSETKEYINFO --clear\nSETDESC Please enter the passphrase for key 81594C58EF1286E89015A30A5CC2072D343B3307\nSETPROMPT Passphrase:\n",
-                ),
-                "D abcdefg1\nOK\n",
-                "GETPIN\nBYE\n",
-            ),
-        ],
-        ..KEYS
-    },
-];
-
-/// A session with one key, and these random bytes.
-pub(crate) const WITH_A_KEY: Row = Row {
-    files: &[(GRIP, CLEAR)],
-    dice: b"wraps a key 2415a salt 8and an iv 12and a nonce.",
-    ..KEYS
-};

@@ -14,7 +14,21 @@ mod doors;
 #[cfg(test)]
 mod faults;
 #[cfg(test)]
+mod filled_keys;
+#[cfg(test)]
+mod key_faults;
+#[cfg(test)]
+mod key_files;
+#[cfg(test)]
+mod key_questions;
+#[cfg(test)]
 mod key_sessions;
+#[cfg(test)]
+mod key_waits;
+#[cfg(test)]
+mod keys;
+#[cfg(test)]
+mod large_keys;
 #[cfg(test)]
 mod load;
 #[cfg(test)]
@@ -25,6 +39,8 @@ mod pinentry;
 mod prompts;
 #[cfg(test)]
 mod requests;
+#[cfg(test)]
+mod rows;
 #[cfg(test)]
 mod script;
 #[cfg(test)]

@@ -4,16 +4,17 @@ ghost use Rattle.std.specs.Prelude.{◌≡◌, map, IfOk};
 ghost use Rattle.std.specs.List.{AllByRecursion};
 ghost use Rattle.agent_core.specs.Foreigners.{IsForeign, AllForeign};
 
+use crate::key_waits::{BEHIND, BESIDE, LATE};
+use crate::prompts::PIN;
+use crate::rows::{
+    PLAIN, Row, children_text, client, kept_text, keys_of, planned, rules_of, wanted,
+};
 use agent_commands::SessionEnd;
 use agent_core::{Foreign, ForeignStep, Solo};
-use agent_ports::{
-    Clock, ListDice, MapKeys, MemLauncher, MemLink, MemSink, MemSource, PlannedChild, SessionId,
-    StepClock,
-};
+use agent_ports::{Clock, ListDice, MemLauncher, SessionId, StepClock};
 use agent_session::serve_session;
 use cache_policy::{CacheId, Limits, MarkReply, Mode, Way};
 use pinentry_client::{Pinentry, Word};
-use session_options::Rules;
 use std::alloc::{AllocError, Global};
 use std::test::Fail;
 
@@ -100,39 +101,34 @@ fn bobs_reply<C: Clock>(desk: &Solo<'_, C>, place: usize) -> Option<MarkReply> {
     (mark.session == BOB).then_some(mark.reply)
 }
 
-/// How a session ended.
-#[derive(Drop)]
-struct Served {
-    end: SessionEnd,
-    written: Vec<u8>,
-    launched: bool,
-    /// What Bob's steps were replied, by the places of their marks.
-    replies: [Option<MarkReply>; 4],
+/// What Bob's steps were replied, by the places of their marks.
+fn bobs_replies<C: Clock>(alloc: Global, desk: &Solo<'_, C>) -> Result<String, AllocError> {
+    let mut all = String::new(alloc);
+    for place in 0..16 {
+        if let Some(reply) = bobs_reply(desk, place) {
+            all.push_str(&format!(in alloc; "\n{place} {reply:?}")?)?;
+        }
+    }
+    Ok(all)
 }
 
-/// Serves a session whose clock goes on by so many seconds from each reading to the next.
-fn serve_with(
+/// Serves a session of Alice's whose clock goes on by so many seconds from each reading to the next: what comes of it, and of Bob's steps.
+fn served_beside(
     alloc: Global,
     seconds: u64,
     does: &[Option<Bob>],
-    input: &[u8],
-) -> Result<Served, Fail> {
-    let child = PlannedChild {
-        gives: Vec::from_slice(alloc, b"OK\nOK\nOK\nOK\nOK\nD new\nOK\n")?,
-        piece: 3,
-        failing_reads: Vec::new(alloc),
-        failing_writes: Vec::new(alloc),
-    };
-    let mut launcher = MemLauncher::new(alloc, vec![in alloc; child]?, Vec::new(alloc));
-    let source = MemSource::new(Vec::from_slice(alloc, input)?, 5, Vec::new(alloc));
-    let mut link = MemLink::new(source, MemSink::new(alloc, 0, Vec::new(alloc)));
-    let mut keys = MapKeys::new(alloc, Vec::new(alloc));
-    let mut dice = ListDice::new(Vec::new(alloc), Vec::new(alloc));
-    let rules = Rules::default();
+    row: &Row,
+) -> Result<String, Fail> {
+    let launches = Vec::from_slice(alloc, row.launches)?;
+    let mut launcher = MemLauncher::new(alloc, planned(alloc, row, 3)?, launches);
+    let mut link = client(alloc, row, 5)?;
+    let mut keys = keys_of(alloc, row)?;
+    let mut dice = ListDice::new(Vec::from_slice(alloc, row.dice)?, Vec::new(alloc));
+    let rules = rules_of(row);
     let mut clock = StepClock::new(0, seconds);
     let script = script_of(alloc, does)?;
     let mut desk = Solo::new(alloc, LIMITS, &mut clock, ALICE, script)?;
-    let mut pinentry = Pinentry::new(alloc, &mut launcher, Word::new());
+    let mut pinentry = Pinentry::new(alloc, &mut launcher, program());
     let end = serve_session(
         alloc,
         &rules,
@@ -142,52 +138,90 @@ fn serve_with(
         &mut keys,
         &mut dice,
     );
-    let replies = [
-        bobs_reply(&desk, 0),
-        bobs_reply(&desk, 1),
-        bobs_reply(&desk, 2),
-        bobs_reply(&desk, 3),
-    ];
+    let replies = bobs_replies(alloc, &desk);
     desk.end();
     let _ = pinentry.into_launcher();
-    Ok(Served {
-        end,
-        written: Vec::from_slice(alloc, link.written())?,
-        launched: launcher.launched(0).is_some(),
-        replies,
-    })
+    let replies = replies?;
+    let status = u8::from(end != SessionEnd::Ended);
+    let written = String::from_utf8_lossy(alloc, link.written())?;
+    let children = children_text(alloc, &launcher)?;
+    let kept = kept_text(alloc, row, &mut keys);
+    Ok(format!(in alloc; "{written}{status}{children}{kept}{replies}")?)
+}
+
+/// The usual pinentry.
+fn program() -> Word {
+    let mut word = Word::new();
+    let _ = word.try_extend_from_slice(b"/usr/bin/pinentry");
+    word
+}
+
+/// What Bob does before each turn and while it stands, in how many seconds each, what he is replied, and Alice's sessions.
+type Beside = (&'static [Option<Bob>], u64, &'static str, &'static [Row]);
+
+const BESIDES: [Beside; 5] = [
+    // What is typed is given where it was cleared meanwhile, and it is what is kept.
+    (
+        &[None, Some(Bob::Clears), Some(Bob::Asks(Way::Quiet))],
+        1,
+        "\n1 Done\n3 Given(2)",
+        &[Row {
+            sent: "GET_PASSPHRASE --data id1 X X X\nGET_PASSPHRASE --no-ask id1\n",
+            answered: "D new\nOK\nOK 6E6577\n",
+            children: &[(PIN, "D new\nOK\n", "GETPIN\nBYE\n")],
+            ..PLAIN
+        }],
+    ),
+    // Bob asks at 0 seconds, and Alice at 31, 62 and 93: a request that stood for a minute is a timeout.
+    (
+        &[Some(Bob::Asks(Way::Prompt)), None, None, Some(Bob::Closes)],
+        31,
+        "\n0 Open",
+        &[Row {
+            sent: "GET_PASSPHRASE --data id1 X X X\n",
+            answered: "ERR 67108926 Timeout <GPG Agent>\n",
+            ..PLAIN
+        }],
+    ),
+    // So is one on keys, and the next one has the seat that Bob lets go.
+    (
+        &[Some(Bob::Asks(Way::Prompt)), None, None, Some(Bob::Closes)],
+        31,
+        "\n0 Open\n2 Done",
+        LATE,
+    ),
+    // One that asks nobody doesn't stand.
+    (HOLDS, 1, "\n0 Open\n6 Done", BESIDE),
+    (HOLDS, 1, "\n0 Open\n5 Done", BEHIND),
+];
+
+/// Bob has the seat through five turns.
+const HOLDS: &[Option<Bob>] = &[
+    Some(Bob::Asks(Way::Prompt)),
+    None,
+    None,
+    None,
+    None,
+    Some(Bob::Closes),
+];
+
+/// The first of the sessions that comes out otherwise.
+fn first_wrong(alloc: Global, beside: &Beside) -> Result<Option<String>, Fail> {
+    let (does, seconds, replies, rows) = beside;
+    for row in rows.iter() {
+        let got = served_beside(alloc, *seconds, does, row)?;
+        let wanted = wanted(alloc, row)?;
+        if got != format!(in alloc; "{wanted}{replies}")? {
+            return Ok(Some(format!(in alloc; "{}: {got}", row.sent)?));
+        }
+    }
+    Ok(None)
 }
 
 #[test]
-fn a_clear_under_an_open_prompt_leaves_what_is_typed(rt: HostRuntime) -> Result<(), Fail> {
-    let does = [None, Some(Bob::Clears), Some(Bob::Asks(Way::Quiet))];
-    let input = b"GET_PASSPHRASE --data id1 X X X\nGET_PASSPHRASE --no-ask id1\n";
-    let served = serve_with(rt.alloc(), 1, &does, input)?;
-    assert_eq!(rt; served.end, SessionEnd::Ended);
-    assert_eq!(rt;
-        served.written.as_slice(),
-        b"OK Pleased to meet you\nD new\nOK\nOK 6E6577\n".as_slice()
-    );
-    assert!(rt; served.launched);
-    // The entry is what the prompt's end kept, the third mark.
-    let replies = [None, Some(MarkReply::Done), None, Some(MarkReply::Given(2))];
-    assert_eq!(rt; served.replies, replies);
-    Ok(())
-}
-
-#[test]
-fn a_request_that_stood_for_a_minute_is_a_timeout(rt: HostRuntime) -> Result<(), Fail> {
-    // Bob asks at 0 seconds, and the request at 31, 62 and 93.
-    let does = [Some(Bob::Asks(Way::Prompt)), None, None, Some(Bob::Closes)];
-    let input = b"GET_PASSPHRASE --data id1 X X X\n";
-    let served = serve_with(rt.alloc(), 31, &does, input)?;
-    assert_eq!(rt; served.end, SessionEnd::Ended);
-    assert_eq!(rt;
-        served.written.as_slice(),
-        b"OK Pleased to meet you\nERR 67108926 Timeout <GPG Agent>\n".as_slice()
-    );
-    assert!(rt; !served.launched);
-    let replies = [Some(MarkReply::Open), None, None, None];
-    assert_eq!(rt; served.replies, replies);
+fn sessions_go_on_beside_another_at_the_seat(rt: HostRuntime) -> Result<(), Fail> {
+    for beside in BESIDES {
+        assert_eq!(rt; first_wrong(rt.alloc(), &beside)?, None);
+    }
     Ok(())
 }

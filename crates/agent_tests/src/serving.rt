@@ -1,11 +1,11 @@
 //! Sessions over links at passes of the counted lock.
 
-ghost use Rattle.std.specs.Prelude.{◌≡◌, ◌+◌, ◌<◌, ◌≤◌, length, vec_len};
+ghost use Rattle.std.specs.Prelude.{◌≡◌, ◌+◌, ◌<◌, ◌≤◌, length, vec_len, IfOk, IsSome};
 ghost use Rattle.counted_lock.specs.Passes.{AreOf};
 
 use agent_origin::Door;
 use agent_ports::{
-    Gate, Grip, HoldGate, Host, Launcher, ListClock, ListDice, ListedLinks, Listener,
+    Gate, GatePoint, Grip, HoldGate, Host, Launcher, ListClock, ListDice, ListedLinks, Listener,
     MAX_KEY_FILE_LEN, MapKeys, MemHost, MemLauncher, MemLink, MemParts, MemSink, MemSource, NoGate,
     Parts, PlannedChild, PlannedLink, SessionId,
 };
@@ -14,6 +14,7 @@ use cache_policy::{Limits, Tally};
 use counted_lock::{Counted, CountedPass};
 use session_options::Rules;
 use std::alloc::{AllocError, Global};
+use std::sync::atomic::{AtomicBool, Ordering};
 use std::sync::{Mutex, Wait};
 use std::test::Fail;
 use std::thread::Threads;
@@ -314,14 +315,58 @@ pub(crate) fn planned(
     })
 }
 
-/// What came of two workers, of whose sessions one is held at its open prompt until the other has ended: what the links were written, by the
-/// order of their ends, and whether the wait for that was given up.
-#[derive(Drop)]
-struct Pair {
-    first: String,
-    second: String,
+/// What came of two workers, of whose sessions one is held at its open prompt until one that began meanwhile has ended: how many links were
+/// written the answer of a prompt and how many that of the cache alone, and what the gate tells.
+#[derive(Debug, PartialEq, Eq, Drop)]
+struct Beside {
+    prompted: usize,
+    quiet: usize,
+    opened: u64,
+    held: bool,
     gave_up: bool,
-    tally: Tally,
+}
+
+/// A daemon as its sessions pass a gate: as it is, one that doesn't tell where a prompt is open, and one that serves one session at a time.
+#[derive(Clone, Copy, Debug, PartialEq, Eq)]
+enum Daemon {
+    AsItIs,
+    TellsNoPrompt,
+    OneAtATime,
+}
+
+/// The gate as sessions of such a daemon pass it.
+#[derive(Drop)]
+struct Passed {
+    gate: HoldGate,
+    daemon: Daemon,
+    busy: AtomicBool,
+}
+
+impl Passed {
+    fn wait_for_others(&self) {
+        for _ in 0..u64::MAX {
+            if !self.busy.swap(true, Ordering::SeqCst) {
+                return;
+            }
+        }
+    }
+}
+
+impl Gate for Passed {
+    fn at(&self, point: GatePoint, session: SessionId) {
+        match (self.daemon, point) {
+            (Daemon::TellsNoPrompt, GatePoint::PromptOpen) => {}
+            (Daemon::OneAtATime, GatePoint::Began) => {
+                self.wait_for_others();
+                self.gate.at(point, session);
+            }
+            (Daemon::OneAtATime, GatePoint::Ended) => {
+                self.gate.at(point, session);
+                self.busy.store(false, Ordering::SeqCst);
+            }
+            _ => self.gate.at(point, session),
+        }
+    }
 }
 
 fn written<W: Wait>(
@@ -344,7 +389,9 @@ pub(crate) fn host_of<'l, W: Wait, G: Gate + Drop>(
     sessions: Vec<MemParts>,
     failing: Vec<u64>,
     gate: G,
-) -> Result<MemHost<'l, W, G>, AllocError> {
+) -> Result<MemHost<'l, W, G>, AllocError>
+    ensures { IfOk result (λ host. IsSome (⟦<MemHost<'l, W, G> as Host>⟧.server host)) }
+{
     Ok(
         MemHost::new(rt, alloc, 17, parts(alloc)?)
             .with_gate(gate)
@@ -399,16 +446,18 @@ fn host_at_home<'l, W: Wait, G: Gate + Drop>(
     host_of(rt, alloc, links, extra, sessions, Vec::new(alloc), gate)
 }
 
-fn run_pair<W: Threads + Wait + Clock + Sync>(
+/// Runs two workers over a prompt and two requests of the cache alone.
+fn run_beside<W: Threads + Wait + Clock + Sync>(
     rt: &W,
     alloc: Global,
-) -> Result<Option<Pair>, AllocError> {
+    gate: Passed,
+) -> Result<Option<Beside>, AllocError> {
     let prompted = planned(alloc, "GET_PASSPHRASE --data id1 X X X\n", &[], &[])?;
     let quiet = planned(alloc, "GET_PASSPHRASE --no-ask id2\n", &[], &[])?;
-    let coming = vec![in alloc; prompted, quiet]?;
+    let other = planned(alloc, "GET_PASSPHRASE --no-ask id2\n", &[], &[])?;
+    let coming = vec![in alloc; prompted, quiet, other]?;
     let links = Mutex::new(ListedLinks::new(alloc, coming, Vec::new(alloc))?);
-    let sessions = vec![in alloc; parts(alloc)?, parts(alloc)?]?;
-    let gate = HoldGate::new(2_000_000_000);
+    let sessions = vec![in alloc; parts(alloc)?, parts(alloc)?, parts(alloc)?]?;
     let mut host = host_at_home(rt, alloc, &links, sessions, gate)?;
     let Some(listener) = host.listen() else {
         return Ok(None);
@@ -416,33 +465,110 @@ fn run_pair<W: Threads + Wait + Clock + Sync>(
     let ears = vec![in alloc; listener.ear(), listener.ear()]?;
     let (counted, passes) = Counted::new(alloc, LIMITS, 2)?;
     let passes = run_at_home(rt, alloc, &host, &listener, &counted, passes, ears);
-    let tally = counted.close(passes);
-    Ok(Some(Pair {
-        first: written(rt, alloc, &links, 0)?,
-        second: written(rt, alloc, &links, 1)?,
-        gave_up: host.gate().gave_up(),
-        tally,
+    let opened = counted.close(passes).opened;
+    let gate = &host.gate().gate;
+    // The first session of the other worker may have ended before the prompt was open, and its second one began behind that.
+    let late = gate.held() && gate.ended_before() > 1;
+    Ok(Some(Beside {
+        prompted: how_many(rt, alloc, &links, "D pin\nOK\n")?,
+        quiet: how_many(rt, alloc, &links, "ERR 67108922 No data <GPG Agent>\n")?,
+        opened,
+        held: gate.held(),
+        gave_up: gate.gave_up() || late,
     }))
+}
+
+/// How many of the links were written the greeting and this.
+fn how_many<W: Wait>(
+    rt: &W,
+    alloc: Global,
+    links: &Mutex<ListedLinks>,
+    answer: &str,
+) -> Result<usize, AllocError> {
+    let wanted = format!(in alloc; "OK Pleased to meet you\n{answer}")?;
+    let mut count = 0usize;
+    for place in 0..3usize {
+        if written(rt, alloc, links, place)? == wanted {
+            count = count.saturating_add(1);
+        }
+    }
+    Ok(count)
 }
 
 #[test]
 fn a_second_session_is_answered_while_the_first_prompt_is_open(
     rt: HostRuntime,
 ) -> Result<(), Fail> {
-    let pair = run_pair(&rt, rt.alloc())?.ok_or("no listener")?;
-    assert!(rt; !pair.gave_up);
-    let quiet = "OK Pleased to meet you\nERR 67108922 No data <GPG Agent>\n";
-    let prompted = "OK Pleased to meet you\nD pin\nOK\n";
-    assert!(rt;
-        pair.first.as_str() == quiet || pair.second.as_str() == quiet,
-        "{}",
-        pair.first
-    );
-    assert!(rt;
-        pair.first.as_str() == prompted || pair.second.as_str() == prompted,
-        "{}",
-        pair.second
-    );
-    assert_eq!(rt; pair.tally.opened, 1);
+    for (daemon, turns, held, gave_up) in [
+        (Daemon::AsItIs, 2_000_000_000u64, true, false),
+        (Daemon::TellsNoPrompt, 1000, false, true),
+        (Daemon::OneAtATime, 1000, true, true),
+    ] {
+        let gate = Passed {
+            gate: HoldGate::for_later_sessions(turns),
+            daemon,
+            busy: AtomicBool::new(false),
+        };
+        let wanted = Beside {
+            prompted: 1,
+            quiet: 2,
+            opened: 1,
+            held,
+            gave_up,
+        };
+        assert_eq!(rt;
+            run_beside(&rt, rt.alloc(), gate)?,
+            Some(wanted),
+            "{daemon:?}"
+        );
+    }
+    Ok(())
+}
+
+/// Has one worker serve so many links: how many sessions its pass has had, and how many links were answered.
+fn run_many<W: Threads + Wait + Clock + Sync>(
+    rt: &W,
+    alloc: Global,
+    count: usize,
+) -> Result<Option<(u64, usize)>, AllocError> {
+    let mut coming = Vec::new(alloc);
+    let mut sessions = Vec::new(alloc);
+    for _ in 0..count {
+        coming.push(planned(alloc, "NOP\n", &[], &[])?)?;
+        sessions.push(parts(alloc)?)?;
+    }
+    let links = Mutex::new(ListedLinks::new(alloc, coming, Vec::new(alloc))?);
+    let mut host = host_at_home(rt, alloc, &links, sessions, NoGate)?;
+    let Some(listener) = host.listen() else {
+        return Ok(None);
+    };
+    let ears = vec![in alloc; listener.ear()]?;
+    let (counted, passes) = Counted::new(alloc, LIMITS, 1)?;
+    let passes = run_at_home(rt, alloc, &host, &listener, &counted, passes, ears);
+    let served = passes.first().map_or(0, |pass| pass.sessions());
+    counted.close(passes);
+    let answered = how_many_answered(rt, alloc, &links, count)?;
+    Ok(Some((served, answered)))
+}
+
+/// How many of so many links were answered as a NOP is.
+fn how_many_answered<W: Wait>(
+    rt: &W,
+    alloc: Global,
+    links: &Mutex<ListedLinks>,
+    count: usize,
+) -> Result<usize, AllocError> {
+    let mut answered = 0usize;
+    for place in 0..count {
+        if written(rt, alloc, links, place)?.as_str() == "OK Pleased to meet you\nOK\n" {
+            answered = answered.saturating_add(1);
+        }
+    }
+    Ok(answered)
+}
+
+#[test]
+fn one_worker_serves_three_hundred_links(rt: HostRuntime) -> Result<(), Fail> {
+    assert_eq!(rt; run_many(&rt, rt.alloc(), 300)?, Some((300, 300)));
     Ok(())
 }

@@ -1,18 +1,13 @@
-ghost use Rattle.std.specs.Prelude.{◌≤◌, IfOk, IsSome};
+//! Sessions and runs of the agent go as their rows say.
 
 use crate::dialogues::DIALOGUES;
-use crate::key_sessions::{
-    CHANGES, DESCRIPTIONS, EXPORTS, IMPORTS, INQUIRIES, LAUNCHES, LISTS, OTHERS, REFUSALS,
-    WITH_A_KEY,
+use crate::key_files::WITH_A_KEY;
+use crate::prompts::{CONSENT, PIN, PROMPTS};
+use crate::rows::{
+    PLAIN, Row, children_text, client, first_wrong, keys_of, machine, planned, rules_of, wrong,
 };
-use crate::prompts::{CONSENT, Child, PIN, PROMPTS};
-use agent_ports::{
-    Got, Grip, Host, KeyNames, KeyRead, Keys, Link, ListClock, ListDice, MAX_KEY_FILE_LEN, MapKeys,
-    MemHost, MemLauncher, MemLink, MemSink, MemSource, NoGate, Parts, PlannedChild, Sent, Sink,
-    Source,
-};
+use agent_ports::{Got, Link, MemHost, NoGate, Sent, Sink, Source};
 use agent_top::{Status, run_agent, run_server};
-use session_options::Rules;
 use std::alloc::{AllocError, Global};
 use std::rt;
 use std::sync::Wait;
@@ -22,64 +17,6 @@ use std::thread::Threads;
 const NO_DATA: &str = "ERR 67108922 No data <GPG Agent>\n";
 
 const TOO_LONG: &str = "ERR 67109127 Line passed to IPC too long <GPG Agent>\n";
-
-/// The file of a key, by its grip.
-pub(crate) type KeyFile = (&'static str, &'static [u8]);
-
-/// A session over memory: what it is given, and what comes of it. In a text `{part*3}` stands for three times that part.
-#[derive(Clone, Copy)]
-pub(crate) struct Row {
-    pub(crate) sent: &'static str,
-    /// What is written at first, and then.
-    pub(crate) greeting: &'static str,
-    pub(crate) answered: &'static str,
-    pub(crate) status: u8,
-    pub(crate) allow_preset: bool,
-    pub(crate) allow_loopback: bool,
-    pub(crate) children: &'static [Child],
-    /// The key files before the session, by their grips, and those behind it, where they are looked at.
-    pub(crate) files: &'static [KeyFile],
-    pub(crate) files_after: Option<&'static [KeyFile]>,
-    /// The bytes to draw.
-    pub(crate) dice: &'static [u8],
-    /// The calls of the keys and the draws that fail.
-    pub(crate) key_faults: &'static [u64],
-    pub(crate) draw_faults: &'static [u64],
-    /// The launches, reads and writes that fail.
-    pub(crate) launches: &'static [u64],
-    pub(crate) reads: &'static [u64],
-    pub(crate) writes: &'static [u64],
-    /// What the clock gives.
-    pub(crate) readings: &'static [u64],
-    /// The most bytes that a read gives, of the client and of the children, each in a session of its own.
-    pub(crate) pieces: &'static [usize],
-}
-
-pub(crate) const PLAIN: Row = Row {
-    sent: "",
-    greeting: "OK Pleased to meet you\n",
-    answered: "",
-    status: 0,
-    allow_preset: true,
-    allow_loopback: false,
-    children: &[],
-    files: &[],
-    files_after: None,
-    dice: &[],
-    key_faults: &[],
-    draw_faults: &[],
-    launches: &[],
-    reads: &[],
-    writes: &[],
-    readings: &[],
-    pieces: &[1, 7, 4096],
-};
-
-/// A session on keys, whose client may give passphrases itself.
-pub(crate) const KEYS: Row = Row {
-    allow_loopback: true,
-    ..PLAIN
-};
 
 /// What is sent, and what is answered. Presets are allowed.
 const ANSWERS: [(&str, &str); 48] = [
@@ -365,187 +302,6 @@ const SESSIONS: &[Row] = &[
     },
 ];
 
-/// A text with its repeated parts.
-pub(crate) fn text_of(alloc: Global, text: &str) -> Result<String, AllocError> {
-    let mut all = String::new(alloc);
-    for part in text.split('{') {
-        let (repeated, plain) = part.split_once('}').unwrap_or(("", part));
-        let (what, count) = repeated.split_once('*').unwrap_or(("", "0"));
-        for _ in 0..count.parse::<usize>().unwrap_or(0) {
-            all.push_str(what)?;
-        }
-        all.push_str(plain)?;
-    }
-    Ok(all)
-}
-
-/// A machine with these children, whose clock gives these readings. Its process has the number 17.
-fn machine<'a, W: Wait>(
-    rt: &'a W,
-    alloc: Global,
-    children: Vec<PlannedChild>,
-    row: &Row,
-) -> Result<MemHost<'a, W, NoGate>, AllocError>
-    ensures { IfOk result (λ host. IsSome (⟦<MemHost<'a, W, NoGate> as Host>⟧.server host)) }
-{
-    let failing = Vec::from_slice(alloc, row.launches)?;
-    let parts = Parts {
-        launcher: MemLauncher::new(alloc, children, failing),
-        clock: ListClock::new(Vec::from_slice(alloc, row.readings)?),
-        dice: ListDice::new(
-            Vec::from_slice(alloc, row.dice)?,
-            Vec::from_slice(alloc, row.draw_faults)?,
-        ),
-        keys: keys_of(alloc, row)?,
-    };
-    Ok(MemHost::new(rt, alloc, 17, parts))
-}
-
-fn keys_of(alloc: Global, row: &Row) -> Result<MapKeys, AllocError> {
-    let mut keys = MapKeys::new(alloc, Vec::from_slice(alloc, row.key_faults)?);
-    for (grip, file) in row.files.iter() {
-        if let Some(grip) = Grip::of_hex(grip.as_bytes())
-            && file.len() <= MAX_KEY_FILE_LEN
-        {
-            keys.insert(grip, Vec::from_slice(alloc, file)?)?;
-        }
-    }
-    Ok(keys)
-}
-
-/// Whether these are the keys' files, each of them and no other.
-fn are_files(alloc: Global, keys: &mut MapKeys, files: &[KeyFile]) -> bool {
-    let KeyNames::Names(names) = keys.list(alloc) else {
-        return false;
-    };
-    names.len() == files.len()
-        && files
-            .iter()
-            .all(|(grip, file)| is_file(alloc, keys, grip, file))
-}
-
-fn is_file(alloc: Global, keys: &mut MapKeys, grip: &str, file: &[u8]) -> bool {
-    let Some(grip) = Grip::of_hex(grip.as_bytes()) else {
-        return false;
-    };
-    match keys.read(alloc, &grip) {
-        KeyRead::Found(bytes) => bytes.as_slice() == file,
-        _ => false,
-    }
-}
-
-/// The client's link, whose failing writes put two bytes.
-fn client(alloc: Global, row: &Row, piece: usize) -> Result<MemLink, AllocError> {
-    let input = text_of(alloc, row.sent)?.into_bytes();
-    let reads = Vec::from_slice(alloc, row.reads)?;
-    let writes = Vec::from_slice(alloc, row.writes)?;
-    let sink = MemSink::new(alloc, 2, writes);
-    Ok(MemLink::new(MemSource::new(input, piece, reads), sink))
-}
-
-fn planned(alloc: Global, row: &Row, piece: usize) -> Result<Vec<PlannedChild>, AllocError> {
-    let mut children = Vec::new(alloc);
-    for ((opening, _), behind, _) in row.children.iter() {
-        let gives = format!(in alloc; "{opening}{behind}")?;
-        children.push(PlannedChild {
-            gives: text_of(alloc, &gives)?.into_bytes(),
-            piece,
-            failing_reads: Vec::new(alloc),
-            failing_writes: Vec::new(alloc),
-        })?;
-    }
-    Ok(children)
-}
-
-fn rules_of(row: &Row) -> Rules {
-    let mut rules = Rules::default();
-    rules.allow_preset = row.allow_preset;
-    rules.allow_loopback = row.allow_loopback;
-    rules
-}
-
-/// What is to come of a row: what the client is written, the status, and for each child the usual program and what it is written, of
-/// the last one first.
-fn wanted(alloc: Global, row: &Row) -> Result<String, AllocError> {
-    let answered = text_of(alloc, row.answered)?;
-    let mut all = format!(in alloc; "{}{answered}{}", row.greeting, row.status)?;
-    for ((_, opening), _, behind) in row.children.iter().rev() {
-        all.push_str(format!(in alloc; "\n/usr/bin/pinentry {opening}{behind}")?.as_str())?;
-    }
-    Ok(all)
-}
-
-/// What comes of it.
-fn outcome<W: Wait>(rt: &W, alloc: Global, row: &Row, piece: usize) -> Result<String, AllocError> {
-    let mut stdio = client(alloc, row, piece)?;
-    served(rt, alloc, row, planned(alloc, row, piece)?, &mut stdio)
-}
-
-/// What comes of a row with these children and this client.
-pub(crate) fn served<W: Wait>(
-    rt: &W,
-    alloc: Global,
-    row: &Row,
-    children: Vec<PlannedChild>,
-    stdio: &mut MemLink,
-) -> Result<String, AllocError> {
-    let mut host = machine(rt, alloc, children, row)?;
-    let status = serve(alloc, &rules_of(row), stdio, &mut host);
-    let answered = String::from_utf8_lossy(alloc, stdio.written())?;
-    let mut parts = host.server_parts();
-    let children = children_text(alloc, &parts.launcher)?;
-    let kept = match row.files_after {
-        Some(files) if !are_files(alloc, &mut parts.keys, files) => "\nother key files",
-        _ => "",
-    };
-    format!(in alloc; "{answered}{status}{children}{kept}")
-}
-
-fn serve<H: Host>(alloc: Global, rules: &Rules, stdio: &mut MemLink, host: &mut H) -> u8
-    requires { IsSome (H.server host.old) }
-    ensures { IsSome (H.server host.new) }
-{
-    run_server(alloc, rules, stdio, host)
-}
-
-/// The programs that were launched, and what they were written, of the last one first.
-fn children_text(alloc: Global, launcher: &MemLauncher) -> Result<String, AllocError> {
-    let mut all = String::new(alloc);
-    for back in 0..9usize {
-        if let Some(written) = launcher.written(back) {
-            let text = String::from_utf8_lossy(alloc, written)?;
-            let program = launcher.launched(back).unwrap_or(b"");
-            let program = String::from_utf8_lossy(alloc, program)?;
-            all.push_str(format!(in alloc; "\n{program} {text}")?.as_str())?;
-        }
-    }
-    Ok(all)
-}
-
-/// What comes of a row that isn't as it should be, in some pieces.
-fn wrong<W: Wait>(rt: &W, alloc: Global, row: &Row) -> Result<Option<String>, AllocError> {
-    let wanted = wanted(alloc, row)?;
-    for piece in row.pieces.iter() {
-        let got = outcome(rt, alloc, row, *piece)?;
-        if got != wanted {
-            let text = format!(in alloc; "{} in pieces of {piece}: {got}", row.sent)?;
-            return Ok(Some(text));
-        }
-    }
-    Ok(None)
-}
-
-/// The first of the rows that comes out otherwise.
-fn first_wrong<W: Wait>(rt: &W, alloc: Global, rows: &[Row]) -> Result<Option<String>, AllocError> {
-    for row in rows.iter() {
-        let wrong = wrong(rt, alloc, row)?;
-        if wrong.is_some() {
-            return Ok(wrong);
-        }
-    }
-    Ok(None)
-}
-
 #[test]
 fn sessions_go_as_their_rows_say(rt: HostRuntime) -> Result<(), Fail> {
     assert_eq!(rt; first_wrong(&rt, rt.alloc(), SESSIONS)?, None);
@@ -571,60 +327,6 @@ fn requests_are_answered_as_in_the_protocol(rt: HostRuntime) -> Result<(), Fail>
 }
 
 #[test]
-fn keys_are_looked_at_and_listed(rt: HostRuntime) -> Result<(), Fail> {
-    assert_eq!(rt; first_wrong(&rt, rt.alloc(), LISTS)?, None);
-    Ok(())
-}
-
-#[test]
-fn keys_are_exported(rt: HostRuntime) -> Result<(), Fail> {
-    assert_eq!(rt; first_wrong(&rt, rt.alloc(), EXPORTS)?, None);
-    Ok(())
-}
-
-#[test]
-fn keys_come_in(rt: HostRuntime) -> Result<(), Fail> {
-    assert_eq!(rt; first_wrong(&rt, rt.alloc(), IMPORTS)?, None);
-    Ok(())
-}
-
-#[test]
-fn passphrases_are_changed(rt: HostRuntime) -> Result<(), Fail> {
-    assert_eq!(rt; first_wrong(&rt, rt.alloc(), CHANGES)?, None);
-    Ok(())
-}
-
-#[test]
-fn other_sessions_on_keys_go_as_their_rows_say(rt: HostRuntime) -> Result<(), Fail> {
-    assert_eq!(rt; first_wrong(&rt, rt.alloc(), OTHERS)?, None);
-    Ok(())
-}
-
-#[test]
-fn a_request_fails_alone_where_keys_or_dice_fail(rt: HostRuntime) -> Result<(), Fail> {
-    assert_eq!(rt; first_wrong(&rt, rt.alloc(), REFUSALS)?, None);
-    Ok(())
-}
-
-#[test]
-fn a_request_fails_alone_where_no_pinentry_can_be_launched(rt: HostRuntime) -> Result<(), Fail> {
-    assert_eq!(rt; first_wrong(&rt, rt.alloc(), LAUNCHES)?, None);
-    Ok(())
-}
-
-#[test]
-fn inquiries_on_keys_decide_their_requests(rt: HostRuntime) -> Result<(), Fail> {
-    assert_eq!(rt; first_wrong(&rt, rt.alloc(), INQUIRIES)?, None);
-    Ok(())
-}
-
-#[test]
-fn prompts_say_what_the_client_described(rt: HostRuntime) -> Result<(), Fail> {
-    assert_eq!(rt; first_wrong(&rt, rt.alloc(), DESCRIPTIONS)?, None);
-    Ok(())
-}
-
-#[test]
 fn prompts_go_as_their_rows_say(rt: HostRuntime) -> Result<(), Fail> {
     for (sent, answered, children) in PROMPTS {
         let row = Row {
@@ -644,7 +346,7 @@ const PRESETS: &str =
     "GETINFO pid\nPRESET_PASSPHRASE id1 -1 736563726574\nGET_PASSPHRASE --no-ask --data id1\nBYE\nNOP\n";
 
 /// The words, what the client sends, the status, and a part of what it is answered, with the programs that were launched.
-const WORDS: [(&[&str], &str, u8, &str); 9] = [
+const WORDS: [(&[&str], &str, u8, &str); 12] = [
     (
         &["--server", "--allow-preset-passphrase"],
         PRESETS,
@@ -667,6 +369,8 @@ const WORDS: [(&[&str], &str, u8, &str); 9] = [
         "sessions 64 requests 12864 marks ",
     ),
     (&["--load=4294967296"], PRESETS, 2, ""),
+    (&["--load", "4294967296"], PRESETS, 2, ""),
+    (&["--server", "--homedir="], PRESETS, 2, ""),
     (
         &["--server"],
         "GET_PASSPHRASE id1 X X X\n",
@@ -679,6 +383,21 @@ const WORDS: [(&[&str], &str, u8, &str); 9] = [
         0,
         "OK 61\n\n/opt/a b ",
     ),
+    (
+        &["--server", "--pinentry-program", "/opt/a b"],
+        "GET_PASSPHRASE id1 X X X\n",
+        0,
+        "OK 61\n\n/opt/a b ",
+    ),
+];
+
+/// The words, and the folder at which they have the host settled.
+const FOLDERS: [(&[&str], &str); 5] = [
+    (&["--server"], "."),
+    (&["--server", "--homedir", "/h"], "/h"),
+    (&["--homedir=a b", "--server"], "a b"),
+    (&["--load", "1", "--homedir=/h"], "/h"),
+    (&["--server", "--homedir="], ""),
 ];
 
 /// A session whose pinentry gives a passphrase.
@@ -687,6 +406,14 @@ const PROMPTED: Row = Row {
     ..PLAIN
 };
 
+/// What came of a run of the agent: its status, what was written and launched, and where the host was settled.
+#[derive(Drop)]
+struct Run {
+    status: u8,
+    written: String,
+    homedir: String,
+}
+
 /// The status of the agent with these words, and what is written and launched.
 pub(crate) fn with_words<W: Threads + Wait + rt::Clock + Sync>(
     rt: &W,
@@ -694,17 +421,45 @@ pub(crate) fn with_words<W: Threads + Wait + rt::Clock + Sync>(
     words: &[&'static str],
     sent: &'static str,
 ) -> Result<(u8, String), AllocError> {
+    let Run {
+        status,
+        written,
+        homedir: _,
+    } = run_words(rt, alloc, words, sent)?;
+    Ok((status, written))
+}
+
+fn run_words<W: Threads + Wait + rt::Clock + Sync>(
+    rt: &W,
+    alloc: Global,
+    words: &[&'static str],
+    sent: &'static str,
+) -> Result<Run, AllocError> {
     let mut given = Vec::new(alloc);
     for word in words.iter() {
         given.push(String::from_str(alloc, word)?)?;
     }
     let row = Row { sent, ..PROMPTED };
     let mut stdio = client(alloc, &row, 64)?;
-    let mut host = machine(rt, alloc, planned(alloc, &row, 64)?, &row)?;
+    let keys = keys_of(alloc, &row)?;
+    let mut host = machine(rt, alloc, planned(alloc, &row, 64)?, keys, &row)?;
     let status = run_agent(rt, alloc, &given, &mut stdio, &mut host);
+    let homedir = String::from_utf8_lossy(alloc, host.homedir())?;
     let mut written = String::from_utf8_lossy(alloc, stdio.written())?;
-    written.push_str(&children_text(alloc, &host.server_parts().launcher)?)?;
-    Ok((status, written))
+    written.push_str(&launched(alloc, host)?)?;
+    Ok(Run {
+        status,
+        written,
+        homedir,
+    })
+}
+
+/// What was launched by a host that may have no parts.
+fn launched<W: Wait>(alloc: Global, host: MemHost<'_, W, NoGate>) -> Result<String, AllocError> {
+    match host.into_parts() {
+        Some(parts) => children_text(alloc, &parts.launcher),
+        None => Ok(String::new(alloc)),
+    }
 }
 
 #[test]
@@ -715,6 +470,15 @@ fn the_words_decide(rt: HostRuntime) -> Result<(), Fail> {
         // Status 2 comes where nothing was written.
         assert_eq!(rt; written.is_empty(), status == 2, "{part}");
         assert!(rt; written.contains(part), "{written}");
+    }
+    Ok(())
+}
+
+#[test]
+fn the_host_is_settled_at_the_folder_of_the_words(rt: HostRuntime) -> Result<(), Fail> {
+    for (words, folder) in FOLDERS {
+        let got = run_words(&rt, rt.alloc(), words, "BYE\n")?;
+        assert_eq!(rt; got.homedir.as_str(), folder);
     }
     Ok(())
 }
@@ -808,7 +572,8 @@ fn each_answer_is_written_before_more_is_read(rt: HostRuntime) -> Result<(), Fai
         read_faults: 0,
         write_faults: 0,
     };
-    let mut host = machine(&rt, alloc, Vec::new(alloc), &PLAIN)?;
+    let keys = keys_of(alloc, &PLAIN)?;
+    let mut host = machine(&rt, alloc, Vec::new(alloc), keys, &PLAIN)?;
     assert_eq!(rt;
         run_server(alloc, &rules_of(&PLAIN), &mut stdio, &mut host),
         0

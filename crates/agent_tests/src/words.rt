@@ -1,4 +1,4 @@
-use crate::sessions::text_of;
+use crate::rows::text_of;
 use agent_top::{WordsFault, read_words};
 use session_options::Rules;
 use std::alloc::{AllocError, Global};

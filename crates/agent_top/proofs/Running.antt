@@ -16,7 +16,7 @@ use Rattle.agent_top.proofs.Stopping.{stays_stopped}
 use Rattle.agent_serve.specs.Working.{HostViews}
 use Rattle.agent_top.specs.Load.{RunsLoad, no_memory as no_memory_for_load}
 use Rattle.agent_top.specs.Daemon.{RunsDaemon, no_memory as no_memory_for_it, IsFirstStopped}
-use Rattle.agent_top.specs.Top.{IfServer, IfDaemon, IfLoad, UsesParts, RunsServer, no_memory, machine, with_pid, exit_number}
+use Rattle.agent_top.specs.Top.{IfServer, IfDaemon, IfLoad, UsesParts, AreSettledIn, HadNoMemory, RunsServer, no_memory, machine, with_pid, exit_number}
 use Rattle.agent_top.specs.declared.status.Status.TheVariants as status
 
 pub if_server : (run : RunMode) {P : Type 0} → P → IfServer run P
@@ -46,6 +46,12 @@ module _ {La C R K : Type 0} (views : Views La C R K) where
     some_is e = cc e
   uses_settled rules input output number input_now output_now (Some had) None after there alike uses = absurd alike
   uses_settled rules input output number input_now output_now None mid after there alike uses = absurd (cc there)
+
+  -- and its parts were settled in the folder
+  pub settled_in : (keys_of_folder : K → Type 0) (before mid : Option (Parts La C R K)) → AreSettled views before mid → IfSome mid (λ parts. keys_of_folder parts.keys) → IfSome before (AreSettledIn views keys_of_folder)
+  settled_in keys_of_folder (Some had) (Some settled) alike folder = record { settled = settled; alike = alike; in_folder = folder }
+  settled_in keys_of_folder (Some had) None alike folder = absurd alike
+  settled_in keys_of_folder None mid alike folder = tt
 
 if_daemon : (run : RunMode) {P : Type 0} → P → IfDaemon run P
 if_daemon Server p = tt
@@ -83,10 +89,17 @@ no_words_served views rules pid number input output parts some is =
     any_rules rules (λ given. if_server given.run (record { had = had.0; has = had.0; had_is = had.1; has_is = had.1; goes_on = rw is no_memory }))
 
 -- nor the daemon
-pub no_words_for_daemon : {Ls Li La C R K T : Type 0} (host : HostViews Ls Li La C R K T) (rules : Option Rules) (pid number listens : ℕ) (input output : Side) (parts : Option (Parts La C R K)) → number ≡ exit_number status.NoMemory
-    → IfSome rules (λ given. IfDaemon given.run (RunsDaemon host (with_pid pid given) listens output number listens output × (input ≡ input) × AreSettled host.parts parts parts))
+pub no_words_for_daemon : {Ls Li La C R K T : Type 0} (host : Rules → HostViews Ls Li La C R K T) (rules : Option Rules) (pid number listens : ℕ) (input output : Side) (parts : Option (Parts La C R K)) → number ≡ exit_number status.NoMemory
+    → IfSome rules (λ given. IfDaemon given.run (RunsDaemon (host given) (with_pid pid given) listens output number listens output × (input ≡ input) × AreSettled (host given).parts parts parts))
 no_words_for_daemon host rules pid number listens input output parts is =
-    any_rules rules (λ given. if_daemon given.run (rw is no_memory_for_it, refl, settled_already host.parts parts))
+    any_rules rules (λ given. if_daemon given.run (rw is no_memory_for_it, refl, settled_already (host given).parts parts))
+
+-- nor was the host settled: it is as it was
+pub no_words_to_settle : {H : Type 0} (rules : Option Rules) (number : ℕ) (host : H) (path : List ℕ) → HadNoMemory number → IfSome rules (λ given. (path ≡ given.homedir.items) ⊎ (HadNoMemory number × (host ≡ host)))
+no_words_to_settle rules number host path is = any_rules rules (λ given. inr (is, refl))
+
+pub no_words_in_folder : (rules : Option Rules) (number : ℕ) (InFolder : Rules → Type 0) → HadNoMemory number → IfSome rules (λ given. IfServer given.run (HadNoMemory number ⊎ InFolder given))
+no_words_in_folder rules number InFolder is = any_rules rules (λ given. if_server given.run (inl is))
 
 -- a pass that has seen a stop stands in a run that is stopped
 stopped_tally : (counted : AtCounted) (passes : List AtPass) (tally : Tally) → IsClosed counted passes tally → IsFirstStopped passes → tally.stopped ≡ true

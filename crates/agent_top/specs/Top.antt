@@ -2,6 +2,7 @@
 use Rattle.std.specs.Prelude.{◌≡◌, ◌⊎◌, ℕ, List, [], ◌∷◌, Option, None, Some, ⊤}
 use Rattle.std.specs.List.{AllByRecursion}
 use Rattle.agent_core.specs.Solos.{AtSolo, TurnsSolo}
+use Rattle.agent_ports.specs.HostParts.{Views, AreAlike}
 use Rattle.agent_ports.specs.KeyFiles.{KeyFiles}
 use Rattle.agent_ports.specs.Readings.{Readings, HasGiven}
 use Rattle.agent_ports.specs.Sides.{Side}
@@ -112,6 +113,16 @@ pub record UsesParts {La C R K : Type 0} (GoesOn : Parts La C R K → Parts La C
   pub had_is : before ≡ Some had
   pub has_is : after ≡ Some has
   pub goes_on : GoesOn had has
+
+-- The host's parts were settled: what shows of them is as it was, and their key files are those of the folder.
+pub record AreSettledIn {La C R K : Type 0} (views : Views La C R K) (keys_of_folder : K → Type 0) (had : Parts La C R K) : Type 0 where
+  pub settled : Parts La C R K
+  pub alike : AreAlike views had settled
+  pub in_folder : keys_of_folder settled.keys
+
+-- there was no memory for the words or the session
+abbrev pub HadNoMemory : ℕ → Type 0
+HadNoMemory number = number ≡ exit_number status.NoMemory
 
 -- the words were refused, unless there was no memory to read them
 abbrev pub IsRefusal : ℕ → Type 0

@@ -60,7 +60,7 @@ pub fn each_error_of_a_server_has_its_cause()
 
 /// Where no call for a link and no write failed, a daemon that ends does so with status 0, or with 1 for want of memory.
 pub fn a_daemon_without_faults_ends_well<H: Host>()
-    ensures { (rules : Rules) (listens listens_now : ℕ) (before after : Side) (number : ℕ)
+    ensures { (path : List ℕ) (rules : Rules) (listens listens_now : ℕ) (before after : Side) (number : ℕ)
         → RunsDaemon (record {
           gives = H.Listener.gives;
           is_home = H.is_home;
@@ -69,6 +69,7 @@ pub fn a_daemon_without_faults_ends_well<H: Host>()
           output = H.Link.output;
           parts = record { launches = H.Launcher.launches; readings = H.Clock.readings; draws = H.Dice.draws; keys = H.Keys.keys };
           trust = H.Trust.trust;
+          folder = H.of_folder path;
         })
         rules listens before number listens_now after
         → ¬ Rose listens listens_now → ¬ Rose before.faults after.faults → DaemonEndsWell number }
@@ -77,8 +78,8 @@ pub fn a_daemon_without_faults_ends_well<H: Host>()
 /// Where no count rose that a session of a daemon has to do with, and no memory was wanted, it ends by no fault, and each of its requests has its one
 /// answer, but a last one whose own inquiry ended the session. `serve_one` says of its sessions what is supposed here.
 pub fn a_session_of_a_daemon_without_faults_is_answered<H: Host>()
-    ensures { (rules : Rules) (door : Door) (session : SessionId) (before after : LinkSides) (pass now : AtPass) (end : Ends)
-        (one : ServesOne (record { launches = H.Launcher.launches; readings = H.Clock.readings; draws = H.Dice.draws; keys = H.Keys.keys }) H.Trust.trust rules door session before pass end after now)
+    ensures { (path : List ℕ) (rules : Rules) (door : Door) (session : SessionId) (before after : LinkSides) (pass now : AtPass) (end : Ends)
+        (one : ServesOne (record { launches = H.Launcher.launches; readings = H.Clock.readings; draws = H.Dice.draws; keys = H.Keys.keys }) H.Trust.trust (H.of_folder path) rules door session before pass end after now)
         → NoFaultOfOne one → Remembers one.served.events → AnswersAllAtDoor door rules one.served.events end }
 {
     a_pinentry_is_a_prompter();
@@ -86,8 +87,8 @@ pub fn a_session_of_a_daemon_without_faults_is_answered<H: Host>()
 
 /// Each error line of a session of a daemon has its cause among what was done for its own request, whatever failed.
 pub fn each_error_of_a_daemon_has_its_cause<H: Host>()
-    ensures { (rules : Rules) (door : Door) (session : SessionId) (before after : LinkSides) (pass now : AtPass) (end : Ends)
-        (one : ServesOne (record { launches = H.Launcher.launches; readings = H.Clock.readings; draws = H.Dice.draws; keys = H.Keys.keys }) H.Trust.trust rules door session before pass end after now)
+    ensures { (path : List ℕ) (rules : Rules) (door : Door) (session : SessionId) (before after : LinkSides) (pass now : AtPass) (end : Ends)
+        (one : ServesOne (record { launches = H.Launcher.launches; readings = H.Clock.readings; draws = H.Dice.draws; keys = H.Keys.keys }) H.Trust.trust (H.of_folder path) rules door session before pass end after now)
         → Session (CausedAtDoor door rules) (kept_at_start rules) one.served.events end }
 {
     a_pinentry_is_a_prompter();

@@ -25,7 +25,8 @@ use std::thread::Threads;
 /// More bytes than a summary has: its words, seven numbers of at most 20 digits, and a line feed.
 pub(crate) const SUMMARY_ROOM: usize = 256;
 
-/// Serves the links of the host's listener until a session stops the agent, and writes a line that says what was done. Where the rules ask for
+/// Serves the links of the host's listener until a session stops the agent, and writes a line that says what was done. Each session has the key
+/// files and the trust file of the folder at which the host was settled. Where the rules ask for
 /// an extra listener one more worker serves its links, each as a restricted session.
 ///
 /// Its answer is the status of the process: 0 where a session stopped the agent, 1 where there is no memory for the workers, 4 where the line
@@ -57,11 +58,13 @@ where
       output = H.Link.output;
       parts = record { launches = H.Launcher.launches; readings = H.Clock.readings; draws = H.Dice.draws; keys = H.Keys.keys };
       trust = H.Trust.trust;
+      folder = H.of_folder (H.homedir host.old);
     })
         rules.now (H.listens host.old) (S.output stdio.old) result (H.listens host.new) (S.output stdio.new) }
     ensures input { S.input stdio.new ≡ S.input stdio.old }
     ensures server { H.server host.new ≡ H.server host.old }
     ensures process { H.process host.new ≡ H.process host.old }
+    ensures homedir { H.homedir host.new ≡ H.homedir host.old }
 {
     let Ok((counted, passes)) = Counted::new(alloc, limits_of(rules), workers_of(rules)) else {
         return Status::NoMemory.number();
@@ -107,6 +110,7 @@ where
     ensures listens { H.listens host.old ≤ H.listens host.new }
     ensures server { H.server host.new ≡ H.server host.old }
     ensures process { H.process host.new ≡ H.process host.old }
+    ensures homedir { H.homedir host.new ≡ H.homedir host.old }
 {
     let listener = host.listen()?;
     if !rules.extra {
@@ -173,6 +177,7 @@ where
           output = H.Link.output;
           parts = record { launches = H.Launcher.launches; readings = H.Clock.readings; draws = H.Dice.draws; keys = H.Keys.keys };
           trust = H.Trust.trust;
+          folder = H.of_folder (H.homedir host.now);
         })
         rules.now Door.Home listener.now)
         (ServesLinks (record {
@@ -183,6 +188,7 @@ where
           output = H.Link.output;
           parts = record { launches = H.Launcher.launches; readings = H.Clock.readings; draws = H.Dice.draws; keys = H.Keys.keys };
           trust = H.Trust.trust;
+          folder = H.of_folder (H.homedir host.now);
         })
         rules.now (last_door (is_some extra.entry)) (last_listener listener.now (option_copied extra.entry)))
         passes.items result.0.items }
@@ -234,6 +240,7 @@ where
     ensures listens { H.listens host.old ≤ H.listens host.new }
     ensures server { H.server host.new ≡ H.server host.old }
     ensures process { H.process host.new ≡ H.process host.old }
+    ensures homedir { H.homedir host.new ≡ H.homedir host.old }
 {
     while let Some(ear) = ears.pop() {
         host.ear_back(ear);

@@ -1,4 +1,4 @@
-ghost use Rattle.std.specs.Prelude.{◌≡◌, map, string_bytes, IfSome, IfNone, IsSome, is_some, false};
+ghost use Rattle.std.specs.Prelude.{◌≡◌, ◌⊎◌, map, string_bytes, IfSome, IfNone, IsSome, is_some, false};
 ghost use Rattle.agent_core.specs.Solos.{seen};
 ghost use Rattle.pinentry_client.specs.States.{at_pinentry};
 ghost use Rattle.agent_top.specs.Cache.{limits_of, fresh_desk};
@@ -6,7 +6,7 @@ ghost use Rattle.agent_top.specs.Words.{rules_of};
 ghost use Rattle.agent_ports.specs.HostParts.{AreSettled};
 ghost use Rattle.agent_top.specs.Daemon.{RunsDaemon};
 ghost use Rattle.agent_top.specs.Load.{RunsLoad};
-ghost use Rattle.agent_top.specs.Top.{exit_number, machine, with_pid, IsRefusal, no_child, UsesParts, RunsServer, IfServer, IfDaemon, IfLoad};
+ghost use Rattle.agent_top.specs.Top.{exit_number, machine, with_pid, IsRefusal, no_child, UsesParts, RunsServer, AreSettledIn, HadNoMemory, IfServer, IfDaemon, IfLoad};
 
 use crate::Status;
 use crate::daemon::run_daemon;
@@ -74,6 +74,7 @@ where
           output = H.Link.output;
           parts = record { launches = H.Launcher.launches; readings = H.Clock.readings; draws = H.Dice.draws; keys = H.Keys.keys };
           trust = H.Trust.trust;
+          folder = H.of_folder rules.homedir.items;
         })
         (with_pid (H.process host.old) rules) (H.listens host.old) (S.output stdio.old) result (H.listens host.new) (S.output stdio.new)
         × (S.input stdio.new ≡ S.input stdio.old)
@@ -82,12 +83,17 @@ where
     ensures load { IfSome (rules_of (map string_bytes words.now)) (λ rules. IfLoad rules.run (λ number. RunsLoad number (S.output stdio.old) result (S.output stdio.new)
         × (S.input stdio.new ≡ S.input stdio.old)
         × AreSettled (record { launches = H.Launcher.launches; readings = H.Clock.readings; draws = H.Dice.draws; keys = H.Keys.keys }) (H.server host.old) (H.server host.new))) }
+    // The folder is that of the words: the host stays settled there, and a session on standard input and output has its key files, as each session
+    // of a daemon has.
+    ensures homedir { IfSome (rules_of (map string_bytes words.now)) (λ rules. (H.homedir host.new ≡ rules.homedir.items) ⊎ (HadNoMemory result × (host.new ≡ host.old))) }
+    ensures folder { IfSome (rules_of (map string_bytes words.now)) (λ rules. IfServer rules.run (HadNoMemory result ⊎ IfSome (H.server host.old) (AreSettledIn
+        (record { launches = H.Launcher.launches; readings = H.Clock.readings; draws = H.Dice.draws; keys = H.Keys.keys }) (H.of_folder rules.homedir.items).keys))) }
     ensures process { H.process host.new ≡ H.process host.old }
 {
     match read_words(alloc, words) {
         Ok(rules) => {
             let rules = with_pid(rules, host.pid());
-            host.settle(&rules.homedir);
+            settle(&rules, host);
             if rules.run == RunMode::Daemon {
                 return run_daemon(rt, alloc, &rules, stdio, host);
             }
@@ -101,6 +107,18 @@ where
     }
 }
 
+/// Settles the host at the folder of the rules.
+fn settle<H: Host>(rules: &Rules, host: &mut H)
+    ensures homedir { H.homedir host.new ≡ rules.now.homedir.items }
+    ensures folder { IfSome (H.server host.new) (λ parts. (H.of_folder rules.now.homedir.items).keys parts.keys) }
+    ensures parts { AreSettled (record { launches = H.Launcher.launches; readings = H.Clock.readings; draws = H.Dice.draws; keys = H.Keys.keys })
+        (H.server host.old) (H.server host.new) }
+    ensures process { H.process host.new ≡ H.process host.old }
+    ensures listens { H.listens host.new ≡ H.listens host.old }
+{
+    host.settle(&rules.homedir);
+}
+
 /// Serves one session on standard input and output, and gives its status, as `run_agent` does. It always returns. Meanwhile it has the
 /// host's parts.
 pub fn run_server<S: Link, H: Host>(alloc: Global, rules: &Rules, stdio: &mut S, host: &mut H) -> u8
@@ -110,6 +128,7 @@ pub fn run_server<S: Link, H: Host>(alloc: Global, rules: &Rules, stdio: &mut S,
         (machine (S.input stdio.new) (S.output stdio.new) (H.Clock.readings has.clock) (H.Launcher.launches has.launcher) (H.Keys.keys has.keys) (H.Dice.draws has.dice)))
         (H.server host.old) (H.server host.new) }
     ensures process { H.process host.new ≡ H.process host.old }
+    ensures homedir { H.homedir host.new ≡ H.homedir host.old }
 {
     let mut parts = host.server_parts();
     let status = serve_alone(

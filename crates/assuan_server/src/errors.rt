@@ -11,9 +11,9 @@ use std::fmt;
 /// What went wrong, as an error line says it. The command that it answers has done nothing more.
 #[derive(Clone, Copy, Debug, PartialEq, Eq)]
 pub enum Code {
-    /// A failure with no code of its own, as of a key file that can't be read or of random bytes.
+    /// A failure with no code of its own, as of a key file or trust list that can't be read, or of random bytes.
     General,
-    /// A key that isn't in the form of a secret key.
+    /// A key that isn't in the form of a secret key, or is too long for a file.
     BadSecKey,
     /// A wrapped key that doesn't come out whole: another key wrapped it, or it was changed.
     Checksum,
@@ -27,7 +27,7 @@ pub enum Code {
     NotSupported,
     /// The user didn't answer in time, or another prompt didn't end in time.
     Timeout,
-    /// Bytes that aren't one canonical expression.
+    /// Bytes that aren't one canonical expression, or an extended key file that stands for none.
     InvSexp,
     /// The user can't be asked: the client wants it so, or no pinentry answers.
     NoPinentry,
@@ -43,7 +43,7 @@ pub enum Code {
     Forbidden,
     /// A line of more than 1,000 bytes. The session ends.
     LineTooLong,
-    /// More bytes in an inquiry than it takes. They were read and dropped.
+    /// More bytes in an inquiry than it takes, which were read and dropped, or a trust list that would be too long.
     TooMuch,
     /// A line within an inquiry that is no line of one. It isn't run as a command.
     Unexpected,

@@ -14,7 +14,7 @@ use std::thread::Threads;
 use std::time::Clock;
 
 /// The manual's lifetimes.
-const LIMITS: Limits = Limits {
+pub(crate) const LIMITS: Limits = Limits {
     ttl: 600,
     max: 7200,
     ttl_ssh: 1800,
@@ -34,7 +34,7 @@ const NOTHING: Tally = Tally {
 
 /// What is asked of a desk, all of one id.
 #[derive(Clone, Copy)]
-enum Asked {
+pub(crate) enum Asked {
     Put(Life),
     Quiet,
     /// A prompt, in which the passphrase is typed that a Put stores.
@@ -46,7 +46,7 @@ enum Asked {
 
 /// What a turn was answered, without what it hands over.
 #[derive(Clone, Copy, Debug, PartialEq, Eq)]
-enum Kind {
+pub(crate) enum Kind {
     Given,
     Empty,
     Open,
@@ -59,7 +59,7 @@ fn id() -> CacheId {
     CacheId::of(b"id1").unwrap()
 }
 
-fn step(asked: Asked) -> Step
+pub(crate) fn step(asked: Asked) -> Step
     ensures { (closes (asked_step result) ≡ None) × (wait_of result ≡ None) }
 {
     match asked {
@@ -112,7 +112,7 @@ fn given_kind(bytes: &[u8]) -> Kind {
 }
 
 /// Says what came of a turn. Its ticket goes, which no desk takes any more.
-fn kind_of(answer: Result<Reply, Refused>) -> Kind {
+pub(crate) fn kind_of(answer: Result<Reply, Refused>) -> Kind {
     let (kind, ticket) = outcome(answer);
     if let Some(ticket) = ticket {
         let _ = Seat::new().give(ticket);
@@ -121,7 +121,10 @@ fn kind_of(answer: Result<Reply, Refused>) -> Kind {
 }
 
 /// Takes a turn, and ends the prompt that it opens.
-fn taken<W: Wait + Clock>(desk: &mut CountedDesk<W, StepClock>, asked: Asked) -> Kind
+pub(crate) fn taken<W: Wait + Clock, C: agent_ports::Clock>(
+    desk: &mut CountedDesk<W, C>,
+    asked: Asked,
+) -> Kind
     requires free { desk.old.out ≡ None }
     ensures free { desk.new.out ≡ None }
     ensures same { IsSamePass desk.old.pass desk.new.pass }
@@ -140,7 +143,7 @@ fn taken<W: Wait + Clock>(desk: &mut CountedDesk<W, StepClock>, asked: Asked) ->
 type Row = (usize, u64, Asked, Kind);
 
 /// Takes a turn at a desk of its own.
-fn plain<W: Wait + Clock>(
+pub(crate) fn plain<W: Wait + Clock>(
     rt: &W,
     counted: &Counted,
     pass: CountedPass,
@@ -363,12 +366,13 @@ fn the_marks_of_two_threads_are_all_in_one_run(rt: HostRuntime) -> Result<(), Fa
     Ok(())
 }
 
-/// One session holds the seat while another wants it, whose clock goes on by 30 seconds with each reading.
-fn stood<W: Wait + Clock>(
+/// One session holds the seat while another wants it, which has this clock.
+fn stood<W: Wait + Clock, C: agent_ports::Clock + Drop>(
     rt: &W,
     counted: &Counted,
     first: CountedPass,
     second: CountedPass,
+    clock: C,
 ) -> (Kind, CountedPass, CountedPass)
     requires own { (first.table ≡ counted.now.table) × (second.table ≡ counted.now.table) }
     requires first { (first.sessions ≡ 0) × (second.sessions ≡ 0) }
@@ -383,7 +387,7 @@ fn stood<W: Wait + Clock>(
         count: 0,
     };
     let mut holder = CountedDesk::new(rt, counted, first, session, StepClock::new(0, 0));
-    let mut waiter = CountedDesk::new(rt, counted, second, other, StepClock::new(0, 30));
+    let mut waiter = CountedDesk::new(rt, counted, second, other, clock);
     let kind = match holder.turn(step(Asked::Prompt)) {
         Ok(Reply::Open(ticket)) => {
             let kind = taken(&mut waiter, Asked::Prompt);
@@ -395,12 +399,16 @@ fn stood<W: Wait + Clock>(
     (kind, holder.into_pass(), waiter.into_pass())
 }
 
-fn run_stood<W: Wait + Clock>(rt: &W, alloc: Global) -> Result<Option<(Kind, Tally)>, AllocError> {
+pub(crate) fn run_stood<W: Wait + Clock, C: agent_ports::Clock + Drop>(
+    rt: &W,
+    alloc: Global,
+    clock: C,
+) -> Result<Option<(Kind, Tally)>, AllocError> {
     let (counted, mut all) = Counted::new(alloc, LIMITS, 2)?;
     let (Some(second), Some(first)) = (all.pop(), all.pop()) else {
         return Ok(None);
     };
-    let (kind, first, second) = stood(rt, &counted, first, second);
+    let (kind, first, second) = stood(rt, &counted, first, second, clock);
     all.push_reserved(first);
     all.push_reserved(second);
     Ok(Some((kind, counted.close(all))))
@@ -414,6 +422,10 @@ fn a_prompt_that_has_stood_for_a_minute_is_late(rt: HostRuntime) -> Result<(), F
         opened: 1,
         ..NOTHING
     };
-    assert_eq!(rt; run_stood(&rt, rt.alloc())?, Some((Kind::Late, tally)));
+    let clock = StepClock::new(0, 30);
+    assert_eq!(rt;
+        run_stood(&rt, rt.alloc(), clock)?,
+        Some((Kind::Late, tally))
+    );
     Ok(())
 }

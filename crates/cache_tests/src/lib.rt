@@ -19,3 +19,5 @@ mod policy;
 mod shelves;
 #[cfg(test)]
 mod solo;
+#[cfg(test)]
+mod waits;

@@ -9,6 +9,7 @@ ghost use Rattle.counted_lock.specs.Keeping.{PassesFit};
 ghost use Rattle.counted_lock.specs.Trying.{Tries};
 
 use crate::board::{About, Board, Cored, MARKS, Place};
+use crate::front::Front;
 use crate::pass::CountedPass;
 use crate::plays::{Cut, Glue};
 use crate::steps::{enter, leave};
@@ -21,10 +22,11 @@ use std::marker::Model;
 use std::sync::Wait;
 use std::time;
 
-/// A core at which threads take turns. They are served in the order in which they draw their numbers.
+/// A core at which threads take turns. They are served in the order in which they draw their numbers, and one draws once no other is at its turn.
 #[derive(Drop)]
 pub struct Counted {
     table: Board,
+    pub(crate) front: Front,
 }
 
 impl Model for Counted {
@@ -76,10 +78,16 @@ impl Counted {
             };
             all.push_reserved(pass);
         }
-        Ok((Counted { table }, all))
+        Ok((
+            Counted {
+                table,
+                front: Front::new(),
+            },
+            all,
+        ))
     }
 
-    /// Tries a step once. It waits for the turns before its own, and where the seat is held it is replied Stand.
+    /// Tries a step once, at the front. Where the seat is held it is replied Stand.
     pub(crate) fn attempt<W: Wait + time::Clock, C: Clock>(
         &self,
         rt: &W,
@@ -113,6 +121,7 @@ impl Counted {
         requires own { pass.old.table ≡ self.now.table }
         ensures looks { HasLooked pass.old pass.new }
     {
+        let _here = self.front.come(rt);
         let cored = enter(rt, &self.table, &mut pass.seat);
         pass.front = cored.tally.marks;
         pass.stopped = cored.core.stopped();
@@ -125,7 +134,7 @@ impl Counted {
         requires own { AreOf self.table passes.items }
         ensures { IsClosed self passes.items result }
     {
-        let Counted { table } = self;
+        let Counted { table, front: _ } = self;
         let seat = gather(&table, passes);
         let mut closed = table.close_with(seat);
         let marks = closed.word(MARKS);

@@ -6,7 +6,6 @@ ghost use Rattle.agent_core.specs.Openings.{opening_step};
 ghost use Rattle.counted_lock.specs.Turns.{CountedTurn, at_counted};
 ghost use Rattle.counted_lock.specs.Trying.{TriesAt};
 
-use crate::patience::Pauses;
 use crate::{Counted, CountedPass};
 use agent_core::{Opening, without_wait};
 use agent_ports::{Clock, SessionId};
@@ -79,7 +78,7 @@ impl<'a, W: Wait + time::Clock, C: Clock> CountedDesk<'a, W, C> {
         pass
     }
 
-    /// Tries a step once.
+    /// Tries a step once, at the front.
     fn attempt(&mut self, step: Step) -> Result<Reply, Refused>
         ensures tries { TriesAt C.readings self.old (asked_step step) (mark_step self.old.session step) (turn_of result) self.new }
         ensures back { IfErr result (λ refused. refused.step ≡ step) }
@@ -118,6 +117,11 @@ fn is_close(step: &Step) -> bool
     matches!(step, Step::Close { .. })
 }
 
+/// Whether a step may let another go on that stands: it frees the seat, ends the agent, or stores what is asked for.
+fn may_end_stands(step: &Step) -> bool {
+    matches!(step, Step::Close { .. } | Step::Stop | Step::Put { .. })
+}
+
 /// The ticket that the session has after a turn, whose step is a Close or isn't.
 fn out_then(out: Option<u64>, gives_back: bool, answer: &Result<Reply, Refused>) -> Option<u64>
     ensures { (asked : AskedStep) → gives_back ≡ is_some (closes asked) → result ≡ out_after out asked (turn_of answer.now) }
@@ -134,20 +138,28 @@ impl<'a, W: Wait + time::Clock, C: Clock> Desk for CountedDesk<'a, W, C> {
 
     ghost turned = { λ before asked turn after. CountedTurn C.readings before asked turn after };
 
-    /// Where the reply is Stand, it draws a new number after a pause, and tries again.
+    /// Where the reply is Stand, it draws a new number once a turn may have ended that, or a second has passed, and tries again.
     fn turn(&mut self, step: Step) -> Result<Reply, Refused> {
-        let rt = self.rt;
+        let (rt, counted) = (self.rt, self.counted);
+        let front = &counted.front;
         let opening = Opening::of(&step);
+        let wakes = may_end_stands(&step);
+        let mut here = front.come(rt);
         let mut stood = match self.attempt(step)? {
             Reply::Stand(stood) => stood,
-            reply => return Ok(reply),
+            reply => {
+                drop(here);
+                if wakes {
+                    front.wake();
+                }
+                return Ok(reply);
+            }
         };
         let Some(opening) = opening else {
             unreachable!()
         };
-        let mut pauses = Pauses::new();
         for _ in rt.forever() {
-            pauses.sleep(rt);
+            here = front.stand(rt, here);
             match self.try_again(&opening, stood)? {
                 Reply::Stand(still) => stood = still,
                 reply => return Ok(reply),

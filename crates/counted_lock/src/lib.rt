@@ -9,8 +9,8 @@
 mod board;
 mod counted;
 mod desk;
+mod front;
 mod pass;
-mod patience;
 mod plays;
 mod settle;
 mod steps;

@@ -9,29 +9,27 @@ ghost use Rattle.counted_lock.specs.Plays.{IsIdle, Works, Enters, Counts, Gives,
 ghost use Rattle.counted_lock.specs.Claims.{own};
 
 use crate::board::{Board, Cored, DRAWN, MARKS, Place, SERVING};
-use crate::patience::Patience;
 use crate::plays::{Count, Draw, Give, Look, Naming};
 use agent_ports::SessionId;
 use cache_policy::{Reply, Step};
+use std::hint;
 use std::snapshot::Snapshot;
 use std::sync::Wait;
-use std::time;
 
-/// Draws a number, waits for it, and takes the core.
-pub(crate) fn enter<W: Wait + time::Clock>(rt: &W, board: &Board, seat: &mut Place) -> Cored
+/// Draws a number, waits for it, and takes the core. Who comes from the front waits no time, since all numbers before are served.
+pub(crate) fn enter<W: Wait>(rt: &W, board: &Board, seat: &mut Place) -> Cored
     requires own { IsSeatOf board.now.shared.table_id seat.old.table_id }
     requires idle { IsIdle seat.old.me }
     ensures own { seat.new.table_id ≡ seat.old.table_id }
     ensures enters { Enters seat.old.me seat.new.me result }
 {
     let number = board.shared.fetch_add::<Draw>(seat, DRAWN, 1);
-    let mut patience = Patience::new();
     for _ in rt.forever() {
         let serving = board.shared.load::<Look>(seat, SERVING);
         if serving == number {
             return board.shared.exchange(seat, 0, None).unwrap();
         }
-        patience.wait(rt, number.wrapping_sub(serving) == 1);
+        hint::spin_loop();
     }
     unreachable!()
 }

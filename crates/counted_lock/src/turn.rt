@@ -13,7 +13,6 @@ use agent_ports::{Clock, SessionId};
 use cache_policy::{Refused, Reply, Step};
 use std::snapshot::Snapshot;
 use std::sync::Wait;
-use std::time;
 
 /// How a try came out: the answer, whether it made a mark, and how many marks there are then and whether they stop.
 pub(crate) struct Tried {
@@ -24,7 +23,7 @@ pub(crate) struct Tried {
 }
 
 /// Takes the core for one step, and reads the clock while it has it.
-pub(crate) fn take_turn<W: Wait + time::Clock, C: Clock>(
+pub(crate) fn take_turn<W: Wait, C: Clock>(
     rt: &W,
     board: &Board,
     seat: &mut Place,

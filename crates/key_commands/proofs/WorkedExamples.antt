@@ -1,11 +1,13 @@
 -- The definition of requests on worked examples, each by computation.
-use Rattle.std.specs.Prelude.{◌≡◌, ℕ, List, [], ◌∷◌, ◌++◌, replicate, codes, true, false, Some, None, refl}
+use Rattle.std.specs.Prelude.{◌≡◌, ℕ, List, [], ◌∷◌, ◌++◌, replicate, map, codes, true, false, Some, None, refl}
+use Rattle.std.proofs.Common.{◌≤◌, length, arith}
 use Rattle.hex.proofs.OnLiterals.{hex_on_literals}
 use Rattle.agent_ports.specs.declared.grip.Grip.{Grip}
 use Rattle.assuan_server.specs.declared.errors.Code.TheVariants.{NotSupported, UnknownCommand, Parameter}
 use Rattle.key_commands.specs.Names.{command_named}
-use Rattle.key_commands.specs.Requests.{key_request_of}
+use Rattle.key_commands.specs.Requests.{key_request_of, ends_description}
 use Rattle.key_commands.specs.declared.request.Direction.TheVariants.{Import, Export}
+use Rattle.key_commands.specs.declared.wrapping.TheConstants.{MAX_LIST_LEN}
 use Rattle.key_commands.specs.declared.request.KeyRequest.TheVariants.{HaveKey, KeyInfo, ListKeys, KeyWrap, ImportKey, ExportKey, Passwd, DeleteKey, Bad}
 
 -- a key, and its name with digits of both cases
@@ -109,3 +111,20 @@ delete_stub = refl
 delete_nothing : key_request_of (codes "DELETE_KEY --stub-only") ≡ Bad Parameter
 unfolding key_request_of command_named
 delete_nothing = refl
+
+-- ---- what ends a description
+
+it_stays : map ends_description (codes "HAVEKEY" ∷ codes "KEYINFO --list" ∷ codes "keywrap_key --export" ∷ codes "PASSWDS" ∷ []) ≡ false ∷ false ∷ false ∷ false ∷ []
+unfolding ends_description command_named
+it_stays = refl
+
+it_ends : map ends_description (codes " export_key" ∷ codes "IMPORT_KEY" ∷ codes "PASSWD --verify 00" ∷ codes "DELETE_KEY --stub-only" ∷ []) ≡ true ∷ true ∷ true ∷ true ∷ []
+unfolding ends_description command_named
+it_ends = refl
+
+-- the longest list of a key
+longest_list : (list : List ℕ) → length list ≡ 65000 → length list ≤ MAX_LIST_LEN
+longest_list list len = omega (arith, len)
+
+longer_list : (list : List ℕ) → length list ≡ 65001 → length list ≤ MAX_LIST_LEN → ⊥
+longer_list list len within = omega (arith, len, within)

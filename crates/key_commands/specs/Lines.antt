@@ -41,7 +41,7 @@ limit_line limit = line_of (status_text (codes "INQUIRE_MAXLEN") (decimal limit)
 abbrev pub text : List ℕ → ArrayVec ℕ
 text bytes = record { items = bytes }
 
--- what prompts about a key say: what the client set for this request (SETKEYDESC of gpg-agent), or what they usually do
+-- what prompts about a key as it is say: what the client set for this request (SETKEYDESC of gpg-agent), or what they usually do
 abbrev pub described : Option (List ℕ) → List ℕ → List ℕ
 described None usual = usual
 described (Some own) usual = own

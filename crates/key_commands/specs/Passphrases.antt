@@ -187,13 +187,14 @@ module _ (rules : Rules) (options : OptionValues) (grip : Grip) where
 
   -- ---- a new passphrase
 
-  -- one prompt under the ticket that the request holds, for a passphrase that meets the check and is repeated once
+  -- One prompt under the ticket that the request holds, for a passphrase that meets the check and is repeated once. It says so in words of its own, whatever
+  -- the client set for the request: these are about the key as it is.
   pub data PromptsNew : Option ℕ → List Event → Result (List ℕ) Refusal → Option ℕ → Type 0 where
-    given : {ticket : ℕ} {shown : List Event} {pin : List ℕ} (spec : PromptSpec) → IsSpec rules options (text (described options.description (new_description grip))) (text field_text) true spec
+    given : {ticket : ℕ} {shown : List Event} {pin : List ℕ} (spec : PromptSpec) → IsSpec rules options (text (new_description grip)) (text field_text) true spec
         → PromptsPin spec (plan_of rules options (text []) true 1) (λ pin. ⊤) shown (asked.Pin pin)
         → PromptsNew (Some ticket) shown (Ok pin) (Some ticket)
     refused : {ticket : ℕ} {shown : List Event} {answer : Asked} {why : Refusal} (spec : PromptSpec)
-        → IsSpec rules options (text (described options.description (new_description grip))) (text field_text) true spec
+        → IsSpec rules options (text (new_description grip)) (text field_text) true spec
         → PromptsPin spec (plan_of rules options (text []) true 1) (λ pin. ⊤) shown answer → pin_refusal answer ≡ Some why
         → PromptsNew (Some ticket) shown (Err why) (Some ticket)
 

@@ -135,3 +135,15 @@ request_by None line = Bad UnknownCommand
 
 unfoldable pub key_request_of : List ℕ → KeyRequest
 key_request_of line = request_by (command_named (command_of line)) line
+
+-- the commands whose prompts a client may describe (SETKEYDESC of gpg-agent). The others ask nobody.
+abbrev pub is_described : Option KeyCommandName → Bool
+is_described (Some name.ImportKey) = true
+is_described (Some name.ExportKey) = true
+is_described (Some name.Passwd) = true
+is_described (Some name.DeleteKey) = true
+is_described _ = false
+
+-- a line with such a command, in form or not, ends the description
+unfoldable pub ends_description : List ℕ → Bool
+ends_description line = is_described (command_named (command_of line))

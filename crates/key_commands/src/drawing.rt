@@ -1,6 +1,6 @@
 //! Draws of random bytes, as parts of a request.
 
-ghost use Rattle.std.specs.Prelude.{◌≡◌};
+ghost use Rattle.std.specs.Prelude.{◌≡◌, replicate};
 ghost use Rattle.key_commands.specs.Parts.{Draws};
 ghost use Rattle.key_commands.specs.Steps.{DoesDrawing};
 
@@ -40,7 +40,9 @@ impl<const N: usize> Drawn<N> {
     }
 
     /// Overwrites the bytes where they lie.
-    pub(crate) fn clear(&mut self) {
+    pub(crate) fn clear(&mut self)
+        ensures { self.new ≡ replicate N 0 }
+    {
         wipe(&mut self.bytes);
     }
 }

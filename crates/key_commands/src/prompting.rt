@@ -61,7 +61,8 @@ pub(crate) fn prompt_old<L: Link, P: Prompter>(
     }
 }
 
-/// Asks the user for a new passphrase of a key, which meets the check and is repeated.
+/// Asks the user for a new passphrase of a key, which meets the check and is repeated. The prompt says so whatever the client set: a user who is asked
+/// "to unlock the key" would type the old one.
 pub(crate) fn prompt_new<L: Link, P: Prompter>(
     asking: &Asking<'_>,
     held: &Held,
@@ -79,7 +80,7 @@ pub(crate) fn prompt_new<L: Link, P: Prompter>(
         unreachable!()
     };
     let spec = prompt_spec(
-        &described(asking.options, new_description(asking.grip)),
+        &new_description(asking.grip),
         &field_text(),
         true,
         asking.rules,

@@ -39,7 +39,7 @@ fn digits_of(grip: &Grip) -> Text
     upper_hex(&grip.0)
 }
 
-/// What a prompt about a key says: what the client set for this request, or what it usually does.
+/// What a prompt about a key as it is says: what the client set for this request, or what it usually does.
 pub(crate) fn described(options: &Options, usual: Text) -> Text
     ensures { result.items ≡ described options.now.description usual.items }
 {
@@ -62,7 +62,7 @@ pub(crate) fn old_description(grip: &Grip) -> Text
     text
 }
 
-/// What the prompt for a new passphrase of a key usually says.
+/// What the prompt for a new passphrase of a key says.
 pub(crate) fn new_description(grip: &Grip) -> Text
     ensures { result.items ≡ new_description grip.now }
 {

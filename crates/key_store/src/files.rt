@@ -5,15 +5,21 @@ ghost use Rattle.std.specs.Io.KnownBytes.{Consumes, IsAtEnd};
 
 use crate::fault::Fault;
 use std::alloc::Global;
-use std::fs::{File, OpenOptions};
+use std::fs::{File, OpenFile, OpenOptions, TryLockError};
 use std::io::{ErrorKind, Read, Write};
 use std::os::unix::fs::OpenOptionsExt;
-use std::rt::Files;
-use std::{fs, io};
+use std::rt::{Clock, Files};
+use std::time::Duration;
+use std::{fs, io, thread};
 use wiping::wipe;
 
-/// Reads a regular file of at most so many bytes, with one allocation. Anything else that has this name is a fault,
-/// and so is a file whose length changes meanwhile. A file of another kind isn't opened, since that may wait.
+/// How long a change pauses between two tries for the lock that another program holds, and how often: ten seconds in all.
+const LOCK_PAUSE_MILLIS: u64 = 10;
+
+const MAX_LOCK_PAUSES: u32 = 1_000;
+
+/// Reads a regular file of at most so many bytes. Anything else that has this name is a fault. One that takes its name
+/// meanwhile is none: the file that was opened is read.
 pub(crate) fn read_file<R: Files<File = File>>(
     rt: &R,
     alloc: Global,
@@ -22,36 +28,55 @@ pub(crate) fn read_file<R: Files<File = File>>(
 ) -> Result<Vec<u8>, Fault>
     ensures { IfOk result (λ bytes. length bytes.items ≤ max_len) }
 {
-    let len = file_len(rt, path, max_len)?;
-    let mut file = File::open(rt, path)?;
+    let mut file = open_file(rt, path)?;
+    read_open(&mut file, alloc, max_len)
+}
+
+// Opens what has this name. Another kind than a regular file isn't opened, since that may wait.
+fn open_file<R: Files<File = File>>(rt: &R, path: &str) -> Result<File, Fault> {
+    match fs::metadata(rt, path) {
+        Ok(metadata) if metadata.is_file() => Ok(File::open(rt, path)?),
+        Ok(_) => Err(Fault::Failed),
+        Err(error) => Err(missing(rt, path, error)),
+    }
+}
+
+// A link that leads to nothing is a fault, and not absent. A file that has the name by now wasn't there before.
+fn missing<R: Files<File = File>>(rt: &R, path: &str, error: io::Error) -> Fault {
+    match fs::symlink_metadata(rt, path) {
+        Ok(metadata) if metadata.is_symlink() => Fault::Failed,
+        _ => error.into(),
+    }
+}
+
+// All of an open file, with one allocation. It is a fault where it is no regular file, is too long, or where its length changes meanwhile.
+fn read_open<F: Read + OpenFile>(
+    file: &mut F,
+    alloc: Global,
+    max_len: usize,
+) -> Result<Vec<u8>, Fault>
+    ensures fits { IfOk result (λ bytes. length bytes.items ≤ max_len) }
+    ensures whole { IfOk result (λ bytes. Consumes (F.remaining file.old) (F.remaining file.new) bytes.items) }
+    ensures ended { IfOk result (λ bytes. IsAtEnd (F.remaining file.new)) }
+{
+    let len = file_len(file, max_len)?;
     let mut bytes = vec![in alloc; 0u8; len]?;
-    if is_whole(&mut file, &mut bytes) {
+    if is_whole(file, &mut bytes) {
         return Ok(bytes);
     }
     wipe(&mut bytes);
     Err(Fault::Failed)
 }
 
-// The length of a regular file that isn't too long.
-fn file_len<R: Files<File = File>>(rt: &R, path: &str, max_len: usize) -> Result<usize, Fault>
+// The length of an open regular file that isn't too long.
+fn file_len<F: OpenFile>(file: &F, max_len: usize) -> Result<usize, Fault>
     ensures { IfOk result (λ len. len ≤ max_len) }
 {
-    let metadata = match fs::metadata(rt, path) {
-        Ok(metadata) => metadata,
-        Err(error) => return Err(missing(rt, path, error)),
-    };
+    let metadata = file.metadata()?;
     match usize::try_from(metadata.len()) {
         Ok(len) if metadata.is_file() && len <= max_len => Ok(len),
         _ => Err(Fault::Failed),
     }
-}
-
-// A name behind which there is no file is a fault, and not absent.
-fn missing<R: Files<File = File>>(rt: &R, path: &str, error: io::Error) -> Fault {
-    if fs::symlink_metadata(rt, path).is_ok() {
-        return Fault::Failed;
-    }
-    error.into()
 }
 
 /// Whether a reader has exactly as many bytes left as the buffer has room for, which then holds them. At most one byte more is
@@ -67,7 +92,7 @@ fn is_whole<R: Read>(reader: &mut R, buf: &mut [u8]) -> bool
 
 /// Makes these bytes the file at the path, as a whole, under the folder's lock: they are written and synced under the other name in that
 /// folder, which is then renamed. Where it fails the file is as it was.
-pub(crate) fn replace_file<R: Files<File = File>>(
+pub(crate) fn replace_file<R: Files<File = File> + Clock>(
     rt: &R,
     folder: &str,
     path: &str,
@@ -87,9 +112,18 @@ pub(crate) fn replace_file<R: Files<File = File>>(
 }
 
 /// The folder, locked until it is dropped: changes in it come one after another, whichever program makes them by this crate.
-pub(crate) fn lock_folder<R: Files<File = File>>(rt: &R, folder: &str) -> io::Result<File> {
+/// It is a fault where another program still holds the lock after ten seconds.
+pub(crate) fn lock_folder<R: Files<File = File> + Clock>(rt: &R, folder: &str) -> io::Result<File> {
     let folder = File::open(rt, folder)?;
-    folder.lock()?;
+    let mut locked = folder.try_lock();
+    for _ in 0..MAX_LOCK_PAUSES {
+        if !matches!(locked, Err(TryLockError::WouldBlock)) {
+            break;
+        }
+        thread::sleep(rt, Duration::from_millis(LOCK_PAUSE_MILLIS));
+        locked = folder.try_lock();
+    }
+    locked?;
     Ok(folder)
 }
 

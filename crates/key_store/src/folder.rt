@@ -12,10 +12,11 @@ use std::collections::BTreeSet;
 use std::fs::{DirBuilder, File};
 use std::io::ErrorKind;
 use std::os::unix::fs::DirBuilderExt;
-use std::rt::Files;
+use std::rt::{Clock, Files};
 use std::{fs, io};
 
-/// The keys of a home directory. Changes hold the lock of the keys' folder; a read needs none.
+/// The keys of a home directory. Changes hold the lock of the keys' folder, and fail where another program holds it for ten seconds;
+/// a read needs none.
 #[derive(Drop)]
 pub struct FolderKeys<'a, R> {
     rt: &'a R,
@@ -23,7 +24,7 @@ pub struct FolderKeys<'a, R> {
     faults: u64,
 }
 
-impl<'a, R: Files<File = File>> FolderKeys<'a, R> {
+impl<'a, R: Files<File = File> + Clock> FolderKeys<'a, R> {
     /// The keys under a home directory. Their folder is made by the first `replace`, and the home directory must be there by then.
     pub fn new(rt: &'a R, alloc: Global, homedir: &str) -> Result<Self, AllocError>
         ensures { IfOk result (λ keys. ⟦<FolderKeys<'a, R> as Keys>⟧.keys keys ≡ record { files = None; faults = 0 }) }
@@ -91,7 +92,7 @@ impl<'a, R: Files<File = File>> FolderKeys<'a, R> {
     }
 }
 
-impl<R: Files<File = File>> Keys for FolderKeys<'_, R> {
+impl<R: Files<File = File> + Clock> Keys for FolderKeys<'_, R> {
     ghost keys = { λ k. record { files = None; faults = k.faults } };
 
     fn read(&mut self, alloc: Global, grip: &Grip) -> KeyRead {

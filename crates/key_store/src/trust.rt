@@ -7,11 +7,11 @@ use crate::names::{NEW_TRUST_NAME, TRUST_NAME, path_in};
 use agent_ports::{TrustDone, TrustFile, TrustRead};
 use std::alloc::{AllocError, Global};
 use std::fs::File;
-use std::rt::Files;
+use std::rt::{Clock, Files};
 use trust_list::MAX_TRUST_FILE_LEN;
 
-/// The trust list of a home directory. A change holds the lock of the directory; a read needs none. A file of more than
-/// `MAX_TRUST_FILE_LEN` bytes is a fault, read or written.
+/// The trust list of a home directory. A change holds the lock of the directory, and fails where another program holds it for ten
+/// seconds; a read needs none. A file of more than `MAX_TRUST_FILE_LEN` bytes is a fault, read or written.
 #[derive(Drop)]
 pub struct FolderTrust<'a, R> {
     rt: &'a R,
@@ -19,7 +19,7 @@ pub struct FolderTrust<'a, R> {
     faults: u64,
 }
 
-impl<'a, R: Files<File = File>> FolderTrust<'a, R> {
+impl<'a, R: Files<File = File> + Clock> FolderTrust<'a, R> {
     /// The trust list of a home directory, which must be there by the first `replace`.
     pub fn new(rt: &'a R, alloc: Global, homedir: &str) -> Result<Self, AllocError>
         ensures { IfOk result (λ trust. ⟦<FolderTrust<'a, R> as TrustFile>⟧.trust trust ≡ record { file = None; faults = 0 }) }
@@ -38,7 +38,9 @@ impl<'a, R: Files<File = File>> FolderTrust<'a, R> {
         read_file(self.rt, alloc, path.as_str(), MAX_TRUST_FILE_LEN)
     }
 
-    fn replace_list(&self, alloc: Global, file: &[u8]) -> Result<(), Fault> {
+    fn replace_list(&self, alloc: Global, file: &[u8]) -> Result<(), Fault>
+        ensures { IfOk result (λ done. length file.now ≤ MAX_TRUST_FILE_LEN) }
+    {
         // It couldn't be read again.
         if file.len() > MAX_TRUST_FILE_LEN {
             return Err(Fault::Failed);
@@ -51,8 +53,8 @@ impl<'a, R: Files<File = File>> FolderTrust<'a, R> {
     }
 }
 
-impl<'a, R: Files<File = File>> TrustFile for FolderTrust<'a, R> {
-    ghost use Rattle.agent_ports.specs.TrustFiles.{ReadsTrust};
+impl<'a, R: Files<File = File> + Clock> TrustFile for FolderTrust<'a, R> {
+    ghost use Rattle.agent_ports.specs.TrustFiles.{ReadsTrust, ReplacesTrust};
 
     ghost trust = { λ t. record { file = None; faults = t.faults } };
 
@@ -71,7 +73,10 @@ impl<'a, R: Files<File = File>> TrustFile for FolderTrust<'a, R> {
         }
     }
 
-    fn replace(&mut self, alloc: Global, file: &[u8]) -> TrustDone {
+    fn replace(&mut self, alloc: Global, file: &[u8]) -> TrustDone
+        ensures replaces { ReplacesTrust (⟦<FolderTrust<'a, R> as TrustFile>⟧.trust self.old) file.now result (⟦<FolderTrust<'a, R> as TrustFile>⟧.trust self.new) }
+        ensures within { result ≡ TrustDone.Done → length file.now ≤ MAX_TRUST_FILE_LEN }
+    {
         match self.replace_list(alloc, file) {
             Ok(()) => TrustDone::Done,
             Err(Fault::NoMemory) => TrustDone::NoMemory,

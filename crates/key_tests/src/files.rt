@@ -430,6 +430,20 @@ fn a_clear_key_is_protected_as_others_do(rt: HostRuntime) -> Result<(), Fail> {
     Ok(())
 }
 
+#[test]
+fn a_protected_file_with_one_byte_more_is_no_expression(rt: HostRuntime) -> Result<(), Fail> {
+    let (sealed, chained) = protected_files(&rt)?;
+    for file in [&sealed, &chained] {
+        assert!(rt; answers(&rt, file, b"abc", "key"));
+        for byte in *b"\n )(0" {
+            let mut longer = Vec::from_slice(rt.alloc(), file)?;
+            longer.push(byte)?;
+            assert!(rt; answers(&rt, &longer, b"abc", "no expression"), "at {byte}");
+        }
+    }
+    Ok(())
+}
+
 // The key of a file by its passphrase `abc`, protected anew by another; no bytes where the file doesn't open.
 fn written_anew(rt: &HostRuntime, file: &[u8], pass: &[u8]) -> Result<Vec<u8>, Fail> {
     let Unlocked::Key(key) = unprotect(rt.alloc(), file, b"abc") else {

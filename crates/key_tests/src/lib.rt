@@ -6,6 +6,8 @@
 #[cfg(test)]
 mod advanced;
 #[cfg(test)]
+mod beside;
+#[cfg(test)]
 mod blocks;
 #[cfg(test)]
 mod derivation;

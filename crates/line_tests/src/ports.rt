@@ -409,38 +409,60 @@ fn prompts<G: Gate>(gate: &G) {
 }
 
 /// A session without a prompt.
-fn passes_by<G: Gate>(gate: &G) {
-    gate.at(GatePoint::Began, SESSION);
-    gate.at(GatePoint::Ended, SESSION);
+fn passes_by<G: Gate>(gate: &G, session: SessionId) {
+    gate.at(GatePoint::Began, session);
+    gate.at(GatePoint::Ended, session);
 }
 
-/// Whether a gate of so many turns gives up on so many prompts, behind so many sessions that ended without one.
-fn gives_up(turns: u64, ended: usize, prompted: usize) -> bool {
-    let gate = HoldGate::new(turns);
-    for _ in 0..ended {
-        passes_by(&gate);
+/// What a gate tells of so many prompts behind these sessions, which ended without one.
+fn told(gate: HoldGate, ended: &[SessionId], prompted: usize) -> (bool, u64, bool) {
+    for session in ended {
+        passes_by(&gate, *session);
     }
     for _ in 0..prompted {
         prompts(&gate);
     }
-    gate.gave_up()
+    all_told(&gate)
 }
+
+/// Whether it held a session, how many had ended before, and whether it gave up.
+fn all_told(gate: &HoldGate) -> (bool, u64, bool) {
+    (gate.held(), gate.ended_before(), gate.gave_up())
+}
+
+/// Another worker's first session, and its second one.
+const FIRST: SessionId = SessionId { pass: 1, count: 0 };
+
+const SECOND: SessionId = SessionId { pass: 1, count: 1 };
+
+/// The sessions that end without a prompt, and how many prompts come behind them; what a gate tells, and what one for later sessions does.
+const GATES: [(&[SessionId], usize, (bool, u64, bool), (bool, u64, bool)); 5] = [
+    (&[], 1, (true, 0, true), (true, 0, true)),
+    (&[FIRST], 1, (true, 1, false), (true, 1, true)),
+    (&[FIRST], 2, (true, 1, false), (true, 1, true)),
+    (&[FIRST], 0, (false, 1, false), (false, 1, false)),
+    // A later session waits for one that is held.
+    (&[SECOND], 0, (false, 1, false), (false, 1, true)),
+];
 
 #[test]
 fn a_gate_holds_the_first_prompt_until_another_session_ended(rt: HostRuntime) {
     prompts(&NoGate);
-    for (turns, ended, prompted, want) in [
-        (3u64, 0usize, 1usize, true),
-        (3, 1, 1, false),
-        (3, 1, 2, false),
-        (3, 1, 0, false),
-    ] {
-        assert_eq!(rt; gives_up(turns, ended, prompted), want);
+    for (ended, prompted, want, want_of_later) in GATES {
+        assert_eq!(rt; told(HoldGate::new(3), ended, prompted), want);
+        assert_eq!(rt;
+            told(HoldGate::for_later_sessions(3), ended, prompted),
+            want_of_later
+        );
     }
     // Another session ends in a thread of its own, or before this one where there is none.
     let gate = HoldGate::new(2_000_000_000);
-    thread::join(&rt, || passes_by(&gate), || prompts(&gate));
+    thread::join(&rt, || passes_by(&gate, FIRST), || prompts(&gate));
     assert!(rt; !gate.gave_up());
+    // It begins once the first one is held.
+    let gate = HoldGate::for_later_sessions(2_000_000_000);
+    thread::join(&rt, || passes_by(&gate, SECOND), || prompts(&gate));
+    assert_eq!(rt; all_told(&gate), (true, 0, false));
 }
 
 /// What the calls on a trust file give, one after another.

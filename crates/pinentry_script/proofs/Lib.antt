@@ -1,3 +1,4 @@
 pub mod Files
 mod Saying
 mod Serving
+mod WorkedExamples

@@ -26,8 +26,7 @@ words_of env = record {
   lc_messages = env.lc_messages.items;
 }
 
--- the option values, what the prompts of the next request on keys say, where the client set it (SETKEYDESC of gpg-agent), and what the
--- rules said
+-- the option values, what the next prompts about a key say, where the client set it (SETKEYDESC of gpg-agent), and what the rules said
 pub record OptionValues : Type 0 where
   pub env : EnvWords
   pub notify : Bool

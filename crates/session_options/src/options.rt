@@ -169,21 +169,21 @@ impl Options {
         self.description = None;
     }
 
-    /// Sets what the prompts of the next request on keys say.
+    /// Sets what the next prompts about a key say.
     pub fn describe(&mut self, text: Text)
         ensures { self.new ≡ with_description self.old text.items }
     {
         self.description = Some(text);
     }
 
-    /// What the prompts of the next request on keys say, where it is set.
+    /// What the next prompts about a key say, where it is set.
     pub fn description(&self) -> Option<&Text>
         ensures { option_map (λ text. text.now.items) result ≡ self.now.description }
     {
         self.description.as_ref()
     }
 
-    /// The prompts of the next request on keys say what they usually do.
+    /// The next prompts about a key say what they usually do.
     pub fn end_description(&mut self)
         ensures { self.new ≡ without_description self.old }
     {

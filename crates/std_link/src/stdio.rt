@@ -1,10 +1,14 @@
-ghost use Rattle.std.specs.Prelude.{◌≡◌, None, refl};
+ghost use Rattle.std.specs.Prelude.{◌≡◌, ◌≤◌, ◌<◌, ◌↔◌, ◌⊎◌, None, false, length, refl, take, true};
+ghost use Rattle.std.specs.Io.KnownBytes.{Appends, Consumes, IsAtEnd};
+ghost use Rattle.agent_ports.specs.Counts.{Rose};
+ghost use Rattle.agent_ports.specs.Sides.{taken_by, IfBytes, sent_part, IfCut, IsCut};
 
 use crate::link_state::LinkState;
 use agent_ports::{Got, Link, Sent, Sink, Source};
 use std::io::{Read, Write};
+use std::marker::Model;
 
-/// A reader and a writer as a link. It doesn't show what they hold.
+/// A reader and a writer as a link. As a link it doesn't show what they hold; its own calls say what they do to them.
 #[derive(Drop)]
 pub struct StdLink<R, W> {
     reader: R,
@@ -12,9 +16,18 @@ pub struct StdLink<R, W> {
     state: LinkState,
 }
 
+impl<R, W> Model for StdLink<R, W> {
+    ghost use Rattle.std_link.specs.Streams.{AtStdio};
+
+    ghost Value = { AtStdio R W };
+
+    ghost view = { λ link. record { reader = link.reader; writer = link.writer; ended = link.state.ended; read_faults = link.state.read_faults; write_faults = link.state.write_faults } };
+}
+
 impl<R: Read, W: Write> StdLink<R, W> {
     /// A link over these, of which no call has failed.
     pub fn new(reader: R, writer: W) -> Self
+        ensures link { result ≡ record { reader = reader; writer = writer; ended = false; read_faults = 0; write_faults = 0 } }
         ensures input { ⟦<StdLink<R, W> as Source>⟧.input result ≡ record { bytes = None; faults = 0 } }
         ensures output { ⟦<StdLink<R, W> as Sink>⟧.output result ≡ record { bytes = None; faults = 0 } }
     {
@@ -35,21 +48,39 @@ impl<R: Read, W: Write> StdLink<R, W> {
 }
 
 impl<R: Read, W: Write> Source for StdLink<R, W> {
-    ghost input = { λ l. record { bytes = None; faults = l.state.read_faults } };
+    ghost input = { λ link. record { bytes = None; faults = link.read_faults } };
 
-    ghost beside_input = { λ l. record { bytes = None; faults = l.state.write_faults } };
+    ghost beside_input = { λ link. record { bytes = None; faults = link.write_faults } };
 
-    fn read(&mut self, buf: &mut [u8]) -> Got {
+    /// What the reader gave is what this gives. Behind the end the reader isn't asked again.
+    fn read(&mut self, buf: &mut [u8]) -> Got
+        requires { 0 < length buf.old }
+        ensures count { IfBytes result (λ n. (1 ≤ n) × (n ≤ length buf.old)) }
+        ensures taken { Consumes (R.remaining self.old.reader) (R.remaining self.new.reader) (take (taken_by result) buf.new) }
+        ensures end { result ≡ Got.End → (self.old.ended ≡ true) ⊎ IsAtEnd (R.remaining self.new.reader) }
+        ensures ended { (result ≡ Got.End) ↔ (self.new.ended ≡ true) }
+        ensures ever_after { self.old.ended ≡ true → self.new ≡ self.old }
+        ensures failed { result ≡ Got.Failed → Rose self.old.read_faults self.new.read_faults }
+        ensures faults { self.old.read_faults ≤ self.new.read_faults }
+        ensures beside { (self.new.writer ≡ self.old.writer) × (self.new.write_faults ≡ self.old.write_faults) }
+    {
         self.state.read(&mut self.reader, buf)
     }
 }
 
 impl<R: Read, W: Write> Sink for StdLink<R, W> {
-    ghost output = { λ l. record { bytes = None; faults = l.state.write_faults } };
+    ghost output = { λ link. record { bytes = None; faults = link.write_faults } };
 
-    ghost beside_output = { λ l. record { bytes = None; faults = l.state.read_faults } };
+    ghost beside_output = { λ link. record { bytes = None; faults = link.read_faults } };
 
-    fn put(&mut self, bytes: &[u8]) -> Sent {
+    /// The writer is given the bytes and flushed, or given a prefix of them where it failed.
+    fn put(&mut self, bytes: &[u8]) -> Sent
+        ensures cut { IfCut result (λ sent. sent ≤ length bytes.now) }
+        ensures written { Appends (W.contents self.old.writer) (W.contents self.new.writer) (sent_part bytes.now result) }
+        ensures failed { IsCut result → Rose self.old.write_faults self.new.write_faults }
+        ensures faults { self.old.write_faults ≤ self.new.write_faults }
+        ensures beside { (self.new.reader ≡ self.old.reader) × (self.new.read_faults ≡ self.old.read_faults) × (self.new.ended ≡ self.old.ended) }
+    {
         self.state.put(&mut self.writer, bytes)
     }
 }
@@ -129,6 +160,57 @@ mod tests {
 
         fn flush(&mut self) -> io::Result<()> {
             Err(ErrorKind::BrokenPipe.into())
+        }
+    }
+
+    /// A signal interrupts each other call, the first one too, and the rest moves at most three bytes.
+    #[derive(Drop)]
+    struct Interrupted<'a> {
+        bytes: &'a [u8],
+        written: Vec<u8>,
+        calls: u32,
+    }
+
+    impl<'a> Interrupted<'a> {
+        fn new(alloc: Global, bytes: &'a [u8]) -> Self {
+            Interrupted {
+                bytes,
+                written: Vec::new(alloc),
+                calls: 0,
+            }
+        }
+
+        fn is_interrupted(&mut self) -> bool {
+            self.calls = self.calls.saturating_add(1);
+            self.calls % 2 == 1
+        }
+    }
+
+    impl Read for Interrupted<'_> {
+        fn read(&mut self, buf: &mut [u8]) -> io::Result<usize> {
+            if self.is_interrupted() {
+                return Err(ErrorKind::Interrupted.into());
+            }
+            let count = self.bytes.len().min(buf.len()).min(3);
+            let (front, rest) = self.bytes.split_at(count);
+            buf[..count].copy_from_slice(front);
+            self.bytes = rest;
+            Ok(count)
+        }
+    }
+
+    impl Write for Interrupted<'_> {
+        fn write(&mut self, buf: &[u8]) -> io::Result<usize> {
+            if self.is_interrupted() {
+                return Err(ErrorKind::Interrupted.into());
+            }
+            let count = buf.len().min(3);
+            self.written.extend_from_slice(&buf[..count])?;
+            Ok(count)
+        }
+
+        fn flush(&mut self) -> io::Result<()> {
+            Ok(())
         }
     }
 
@@ -220,6 +302,20 @@ mod tests {
         assert_eq!(rt; link.read(&mut buf), Got::Bytes(1));
         assert_eq!(rt; link.read(&mut buf), Got::End);
         assert_eq!(rt; link.read(&mut buf), Got::End);
+        Ok(())
+    }
+
+    #[test]
+    fn a_call_that_a_signal_interrupts_is_made_again(rt: HostRuntime) -> Result<(), Fail> {
+        let alloc = rt.alloc();
+        let reader = Interrupted::new(alloc, b"abcdefg");
+        let mut link = StdLink::new(reader, Interrupted::new(alloc, b""));
+        let (got, reads) = read_to_end(alloc, &mut link, 7)?;
+        assert_eq!(rt; got.as_slice(), b"abcdefg".as_slice());
+        assert_eq!(rt; reads, 4);
+        assert_eq!(rt; link.put(b"hello\n"), Sent::All);
+        assert_eq!(rt; link.writer.written.as_slice(), b"hello\n".as_slice());
+        assert_eq!(rt; link.faults(), (0, 0));
         Ok(())
     }
 }

@@ -52,7 +52,8 @@ const ENOTSOCK: i32 = 88;
 
 const EOPNOTSUPP: i32 = 95;
 
-/// Waits for the next client, and tries again after a fault that passes. A client that was queued when the listener was stopped isn't taken.
+/// Waits for the next client, and tries again after a fault that passes. Once the listener is stopped it doesn't wait: those that are queued are
+/// taken and let go, until accept fails, which it does where none is left (Linux: EINVAL).
 pub(crate) fn accept_next(
     clock: &impl Clock,
     listener: &UnixListener,
@@ -60,13 +61,13 @@ pub(crate) fn accept_next(
 ) -> Accepted {
     for _ in 0..u64::MAX {
         let accepted = listener.accept();
-        if stopped.load(Ordering::SeqCst) {
-            return Accepted::Stopped;
-        }
+        let is_stopped = stopped.load(Ordering::SeqCst);
         match accepted {
+            Ok((client, _)) if is_stopped => drop(client),
             Ok((client, _)) => return Accepted::Client(client),
             Err(fault) => match AcceptFault::of(&fault) {
                 AcceptFault::OfOneClient => {}
+                _ if is_stopped => return Accepted::Stopped,
                 AcceptFault::Passing => thread::sleep(clock, Duration::from_millis(PAUSE_MILLIS)),
                 AcceptFault::Lasting => return Accepted::Failed,
             },

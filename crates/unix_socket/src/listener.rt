@@ -110,9 +110,41 @@ impl<R: Files + Clock> Listener for SocketListener<'_, R> {
         drop(link);
     }
 
-    /// Workers that wait are woken, for good. What a client sent that was queued isn't read.
+    /// Workers that wait are woken, for good. Clients that are queued are let go at once, also where each worker is in a session, and what they sent
+    /// isn't read.
     fn stop(&self) {
         self.stopped.store(true, Ordering::SeqCst);
-        let _ = self.bound.waker.shutdown(Shutdown::Both);
+        if self.bound.waker.shutdown(Shutdown::Both).is_ok() {
+            // No client is queued any more, and accept doesn't wait.
+            drop(accept_next(self.rt, &self.bound.listener, &self.stopped));
+        }
+    }
+}
+
+#[cfg(test)]
+mod tests {
+    use super::*;
+    use std::test::Fail;
+    use std::{env, process};
+
+    #[test]
+    fn a_listener_that_fails_for_good_isnt_a_stopped_one(rt: HostRuntime) -> Result<(), Fail> {
+        let temporary = env::temp_dir(&rt)?;
+        let number = process::id(rt.process());
+        let temporary = temporary.as_path().to_str().ok_or("no text")?;
+        let folder = format!(in rt.alloc(); "{temporary}/us_six{number}")?;
+        let listener = SocketListener::bind(&rt, rt.alloc(), &folder, SocketName::Standard)?;
+        let mut ear = listener.ear();
+        assert!(rt; !ear.failed());
+        // Nobody has stopped it, and accept fails with EINVAL from now on.
+        listener.bound.waker.shutdown(Shutdown::Both)?;
+        for faults in 1..3u64 {
+            assert!(rt; matches!(listener.next(&mut ear), Next::Failed));
+            assert_eq!(rt; ear.faults(), faults);
+        }
+        assert!(rt; ear.failed());
+        drop(listener);
+        fs::remove_dir(&rt, &folder)?;
+        Ok(())
     }
 }

@@ -7,6 +7,7 @@ use std::io::{ErrorKind, Read, Write};
 use std::os::unix::fs::{DirBuilderExt, MetadataExt};
 use std::os::unix::net::UnixStream;
 use std::test::Fail;
+use std::time::Duration;
 use std::{env, fs, io, process, thread};
 
 /// A path that is this test's own, below the folder for what is temporary.
@@ -68,7 +69,7 @@ fn last_of<L: Listener<Ear = SocketEar>>(listener: &L) -> (bool, bool) {
 }
 
 #[test]
-fn a_stop_wakes_all_workers_and_no_queued_client_is_taken(rt: HostRuntime) -> Result<(), Fail> {
+fn a_stop_wakes_all_workers_and_lets_each_queued_client_go(rt: HostRuntime) -> Result<(), Fail> {
     let folder = own_path(&rt, "us_two")?;
     let socket = format!(in rt.alloc(); "{folder}/S.gpg-agent")?;
     let listener = SocketListener::bind(&rt, rt.alloc(), &folder, Standard)?;
@@ -80,10 +81,19 @@ fn a_stop_wakes_all_workers_and_no_queued_client_is_taken(rt: HostRuntime) -> Re
     assert_eq!(rt; (first, second), ((true, false), (true, false)));
     drop(listener);
     let listener = SocketListener::bind(&rt, rt.alloc(), &folder, Standard)?;
-    let client = UnixStream::connect(&rt, &socket)?;
+    let mut clients = Vec::new(rt.alloc());
+    for _ in 0..4u32 {
+        clients.push(UnixStream::connect(&rt, &socket)?)?;
+    }
     listener.stop();
+    // No worker is needed for that, and the listener is still there.
+    for client in &mut clients {
+        client.set_read_timeout(Some(Duration::from_secs(5)))?;
+        assert_eq!(rt; client.read(&mut [0u8; 1])?, 0);
+    }
+    assert!(rt; UnixStream::connect(&rt, &socket).is_err());
     assert_eq!(rt; last_of(&listener), (true, false));
-    drop(client);
+    drop(clients);
     drop(listener);
     fs::remove_dir(&rt, &folder)?;
     Ok(())
@@ -175,6 +185,41 @@ fn the_longer_name_has_the_shorter_folder(rt: HostRuntime) -> Result<(), Fail> {
     assert!(rt; SocketListener::bind(&rt, rt.alloc(), &folder, Extra).is_err());
     assert!(rt; !fs::exists(&rt, &folder)?);
     drop(SocketListener::bind(&rt, rt.alloc(), &folder, Standard)?);
+    fs::remove_dir(&rt, &folder)?;
+    Ok(())
+}
+
+#[test]
+fn the_longest_line_goes_whole_each_way(rt: HostRuntime) -> Result<(), Fail> {
+    let folder = own_path(&rt, "us_seven")?;
+    let socket = format!(in rt.alloc(); "{folder}/S.gpg-agent")?;
+    let listener = SocketListener::bind(&rt, rt.alloc(), &folder, Standard)?;
+    // 1,000 bytes and a line feed (Assuan manual, "Server responses").
+    let line = format!(in rt.alloc(); "D {}\n", "x".repeat(rt.alloc(), 998)?)?;
+    let mut client = UnixStream::connect(&rt, &socket)?;
+    client.set_read_timeout(Some(Duration::from_secs(5)))?;
+    client.write_all(line.as_bytes())?;
+    let Next::Link(mut link) = listener.next(&mut listener.ear()) else {
+        return Err(Fail::new("no link"));
+    };
+    let mut came = Vec::new(rt.alloc());
+    let mut buf = [0u8; 1002];
+    for _ in 0..line.len() {
+        if came.len() >= line.len() {
+            break;
+        }
+        match link.read(&mut buf) {
+            Got::Bytes(count) if count <= buf.len() => came.extend_from_slice(&buf[..count])?,
+            _ => return Err(Fail::new("no line")),
+        }
+    }
+    assert!(rt; came.as_slice() == line.as_bytes());
+    assert_eq!(rt; link.put(line.as_bytes()), Sent::All);
+    let mut answer = [0u8; 1001];
+    client.read_exact(&mut answer)?;
+    assert!(rt; answer.as_slice() == line.as_bytes());
+    listener.done(link);
+    drop(listener);
     fs::remove_dir(&rt, &folder)?;
     Ok(())
 }

@@ -1,7 +1,7 @@
 use Rattle.std.proofs.lemmas.Result.{err_from_is_err_and}
 use Rattle.std.proofs.Common.{ℕ, List, ◌++◌, map}
 use Rattle.agent_commands.specs.Answers.{comments}
-use Rattle.agent_commands.specs.declared.names.TheConstants.{COMMANDS, KEY_COMMANDS, PROMPT_COMMANDS}
+use Rattle.agent_commands.specs.declared.names.TheConstants.{COMMANDS, KEY_COMMANDS}
 use Rattle.assuan_server.proofs.Saying.{said_then, said_first}
 use Rattle.agent_commands.proofs.response.write_commands.Goals as goal
 
@@ -11,21 +11,10 @@ cache_lines = comments (map (λ row. row.0.now) COMMANDS)
 abbrev key_lines : List ℕ
 key_lines = comments (map (λ row. row.0.now) KEY_COMMANDS)
 
-abbrev prompt_lines : List ℕ
-prompt_lines = comments (map (λ row. row.0.now) PROMPT_COMMANDS)
-
 pub returns-in_err-write_names : goal.returns-in_err-write_names
 returns-in_err-write_names g c =
     let p = err_from_is_err_and c.from_residual.result c.from_residual.ensures.1 in
-    rw p.1 (said_first cache_lines (key_lines ++ prompt_lines) _ _ _ (rw c.in_err-write_names.was at c.write_names.ensures))
-
-pub returns-in_err-write_names-2 : goal.returns-in_err-write_names-2
-returns-in_err-write_names-2 g c =
-    let p = err_from_is_err_and c.from_residual-in_err-write_names-2.result c.from_residual-in_err-write_names-2.ensures.1 in
-    rw p.1 (said_then cache_lines (key_lines ++ prompt_lines) _ _ _ _ (rw c.in_ok-write_names.was at c.write_names.ensures)
-    (said_first key_lines prompt_lines _ _ _ (rw c.in_err-write_names-2.was at c.write_names-2.ensures)))
+    rw p.1 (said_first cache_lines key_lines _ _ _ (rw c.in_err-write_names.was at c.write_names.ensures))
 
 pub returns : goal.returns
-returns g c =
-    said_then cache_lines (key_lines ++ prompt_lines) _ _ _ _ (rw c.in_ok-write_names.was at c.write_names.ensures)
-    (said_then key_lines prompt_lines _ _ _ _ (rw c.in_ok-write_names-2.was at c.write_names-2.ensures) c.write_names-3.ensures)
+returns g c = said_then cache_lines key_lines _ _ _ _ (rw c.in_ok-write_names.was at c.write_names.ensures) c.write_names-2.ensures

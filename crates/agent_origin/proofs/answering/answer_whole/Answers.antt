@@ -18,8 +18,8 @@ returns-in-Cache-clause-answers g c =
 
 pub returns-in-Key-clause-answers : goal.returns-in-Key-clause-answers
 returns-in-Key-clause-answers g c =
-    rw (c.went_after_key.ensures, c.end_description.ensures, sym c.whole.ensures ∙ c.in-Key.is)
-    (keyed_beside g.D.Desk.turned g.P.Prompter.prompted c.args.rules.now c.args.kept.now.options (rw (c.read_key-request.ensures, c.deref.ensures.0) at c.run_key-went.ensures.answers))
+    rw (c.went_after_key.ensures, c.end_description.ensures, c.deref-line.ensures.0, sym c.whole.ensures ∙ c.in-Key.is)
+    (keyed_beside g.D.Desk.turned g.P.Prompter.prompted c.args.rules.now c.args.kept.now.options (rw (c.read_key-request.ensures, c.deref-line.ensures.0) at c.run_key-went.ensures.answers))
 
 pub returns-in-Bad-clause-answers : goal.returns-in-Bad-clause-answers
 returns-in-Bad-clause-answers g c =

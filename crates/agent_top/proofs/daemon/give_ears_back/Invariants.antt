@@ -6,6 +6,7 @@ abbrev pub invariant-loop-ear : goal.invariant-loop-ear
 invariant-loop-ear g l =
     GaveBack g.H.Ear.Ear.faults l.fn.ears.items (g.H.Host.listens l.fn.host) l.ears.items (g.H.Host.listens l.host)
     × (g.H.Host.server l.host ≡ g.H.Host.server l.fn.host) × (g.H.Host.process l.host ≡ g.H.Host.process l.fn.host)
+    × (g.H.Host.homedir l.host ≡ g.H.Host.homedir l.fn.host)
 
 abbrev pub decreases-loop-ear : goal.decreases-loop-ear
 decreases-loop-ear g l = goal.left-loop-ear g l

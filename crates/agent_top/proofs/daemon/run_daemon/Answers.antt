@@ -31,7 +31,7 @@ returns-clause-runs g c =
       is_extra = c.in-Some.ensures.extra.0;
       extra_as = c.in-Some.ensures.extra.1;
       ran = by_listeners _ c.args.rules.now c.in-Some.listener c.in-Ok.passes.items r.0.items _ _ _ _ (c.as_ref-further.ensures.variant ∙ c.in-Some.ensures.extra.1) c.as_ref-further.ensures.value
-          c.serve_rounds-passes.ensures.ran;
+          (rw c.in-Some.ensures.homedir at c.serve_rounds-passes.ensures.ran);
       tally = c.close-tally.result;
       closed = c.close-tally.ensures;
       sent = c.write_summary-sent.result;

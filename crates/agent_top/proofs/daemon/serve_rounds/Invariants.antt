@@ -20,6 +20,7 @@ invariant-loop g l = record {
     output = g.H.Link.Sink.output;
     parts = record { launches = g.H.Launcher.Launcher.launches; readings = g.H.Clock.Clock.readings; draws = g.H.Dice.Dice.draws; keys = g.H.Keys.Keys.keys };
     trust = g.H.Trust.TrustFile.trust;
+    folder = g.H.Host.of_folder (g.H.Host.homedir l.host);
   }) l.rules Home l.listener) (ServesLinks (record {
     gives = g.H.Listener.Listener.gives;
     is_home = g.H.Host.is_home;
@@ -28,5 +29,6 @@ invariant-loop g l = record {
     output = g.H.Link.Sink.output;
     parts = record { launches = g.H.Launcher.Launcher.launches; readings = g.H.Clock.Clock.readings; draws = g.H.Dice.Dice.draws; keys = g.H.Keys.Keys.keys };
     trust = g.H.Trust.TrustFile.trust;
+    folder = g.H.Host.of_folder (g.H.Host.homedir l.host);
   }) l.rules (last_door (is_some l.extra)) (last_listener l.listener (option_copied l.extra))) l.fn.passes.items l.passes.items;
 }

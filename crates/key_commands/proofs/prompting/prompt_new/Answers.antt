@@ -8,14 +8,14 @@ pin_refusal-requires g c = pin_refuses c.ask_user.result c.ask_user.ensures.unhe
 
 pub returns-in-Pin-clause-prompts : goal.returns-in-Pin-clause-prompts
 returns-in-Pin-clause-prompts g c =
-    let spec = spec_says (rw c.new_description.ensures at c.described.ensures) c.field_text.ensures c.prompt_spec-spec.ensures in
+    let spec = spec_says c.new_description.ensures c.field_text.ensures c.prompt_spec-spec.ensures in
     let plan = plan_says c.args.asking.now.rules.now c.args.asking.now.options.now true 1 c.ask_plan-plan.ensures c.new.ensures in
     rw (← c.ticket.ensures, c.in-Some.is)
     (prompt_gave g.P.Prompter.prompted c.in-Pin.ensures.asked c.in-Pin.ensures.left (λ events prompts. given c.prompt_spec-spec.result spec (planned plan prompts)))
 
 pub returns-in_default-ask_user-clause-prompts : goal.returns-in_default-ask_user-clause-prompts
 returns-in_default-ask_user-clause-prompts g c =
-    let spec = spec_says (rw c.new_description.ensures at c.described.ensures) c.field_text.ensures c.prompt_spec-spec.ensures in
+    let spec = spec_says c.new_description.ensures c.field_text.ensures c.prompt_spec-spec.ensures in
     let plan = plan_says c.args.asking.now.rules.now c.args.asking.now.options.now true 1 c.ask_plan-plan.ensures c.new.ensures in
     rw (← c.ticket.ensures, c.in-Some.is)
     (prompt_refused g.P.Prompter.prompted c.ask_user.ensures.asked c.pin_refusal.ensures c.ask_user.ensures.left

@@ -12,6 +12,7 @@ invariant-loop g l = record {
     output = g.H.Link.Sink.output;
     parts = record { launches = g.H.Launcher.Launcher.launches; readings = g.H.Clock.Clock.readings; draws = g.H.Dice.Dice.draws; keys = g.H.Keys.Keys.keys };
     trust = g.H.Trust.TrustFile.trust;
+    folder = g.H.Host.of_folder (g.H.Host.homedir l.self.host.now);
   }) l.self.rules.now l.self.door l.self.listener.now l.fn.pass l.pass;
   own : l.pass.table ≡ l.fn.pass.table;
   faults : g.H.Ear.Ear.faults l.fn.ear ≤ g.H.Ear.Ear.faults l.ear;

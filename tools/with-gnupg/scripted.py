@@ -1,0 +1,128 @@
+"""A home folder with the installed scripts and a pinentry without a user, which answers by a file, for the scripts that try `passphrase`."""
+import os
+import pathlib
+import shutil
+import subprocess
+import time
+import urllib.parse
+
+SCRIPTS = pathlib.Path(__file__).resolve().parent.parent / "daemon"
+
+# How many seconds a program has.
+LIMIT = 300
+
+# It answers GETPIN by the next line of the file `answers`, escaped as a data line is: none, or `-`, is a cancel, `timeout` is one,
+# and `wait` stays until it is ended, each after the seconds of the file `delay`. It tells each prompt in a file: the terminal that it was named, and what the user reads.
+PINENTRY = """#!/usr/bin/env python3
+import pathlib, sys, time, urllib.parse
+folder, tty, description, prompt = pathlib.Path(__file__).parent, "", "", ""
+print("OK", flush=True)
+for line in sys.stdin.buffer:
+    line = line.rstrip(b"\\n").decode(errors="surrogateescape")
+    command, _, rest = line.partition(" ")
+    if line.startswith("OPTION ttyname="):
+        tty = line.partition("=")[2]
+    elif command == "SETDESC":
+        description = rest
+    elif command == "SETPROMPT":
+        prompt = rest
+    elif command == "SETREPEAT":
+        # The agent asks twice then.
+        print("ERR 536871187 Unknown IPC command", flush=True)
+        continue
+    elif command == "GETPIN":
+        with open(folder / "prompts", "a") as told:
+            told.write(f"{tty}\\t{prompt}\\t{description}\\n")
+        answers = (folder / "answers").read_text().splitlines()
+        (folder / "answers").write_text("".join(answer + "\\n" for answer in answers[1:]))
+        if (folder / "delay").exists():
+            time.sleep(float((folder / "delay").read_text()))
+        if not answers or answers[0] == "-":
+            print("ERR 83886179 Operation cancelled", flush=True)
+            continue
+        if answers[0] == "timeout":
+            print("ERR 83886142 Timeout", flush=True)
+            continue
+        if answers[0] == "wait":
+            time.sleep(600)
+        print(f"D {answers[0]}", flush=True)
+    print("OK", flush=True)
+    if command == "BYE":
+        break
+"""
+
+
+def escaped(passphrase):
+    """Bytes as a data line may have them."""
+    return "".join(f"%{byte:02X}" if byte in b"%" or not 32 <= byte < 127 else chr(byte) for byte in passphrase)
+
+
+def as_bytes(environment):
+    """An environment of texts or bytes."""
+    return {(name.encode() if isinstance(name, str) else name): (value.encode() if isinstance(value, str) else value) for name, value in environment.items()}
+
+
+class ScriptedHome:
+    """`passphrase`, the stand-in and the agent side by side, as they are installed, and a home folder whose agent they start."""
+
+    def __init__(self, agent, place, conf=()):
+        self.place, self.failed, self.installed, self.home = place, False, place / "installed", place / "home"
+        self.files, self.asked = place / "files", place / "pinentry"
+        for folder in (self.installed, self.home, self.files, self.asked):
+            folder.mkdir(mode=0o700)
+        for name in ("gpg-agent", "passphrase"):
+            shutil.copy(SCRIPTS / name, self.installed / name)
+        (self.installed / "agent_program").symlink_to(agent)
+        pinentry = self.asked / "program"
+        pinentry.write_text(PINENTRY)
+        pinentry.chmod(0o755)
+        (self.home / "gpg-agent.conf").write_text("".join(line + "\n" for line in (f"pinentry-program {pinentry}", *conf)))
+        # What a job of cron has.
+        self.environment = {"HOME": str(place), "PATH": f"{self.installed}:/usr/bin:/bin", "GNUPGHOME": str(self.home), "LC_ALL": "C.UTF-8"}
+        self.answers()
+
+    def answers(self, *passphrases):
+        """What the user types next: texts or bytes; `-` is a cancel, `timeout` the end of a prompt, and `wait` nothing at all."""
+        spelled = [escaped(text.encode() if isinstance(text, str) else text) for text in passphrases]
+        (self.asked / "answers").write_text("".join(text + "\n" for text in spelled), encoding="utf-8")
+
+    def prompts(self):
+        """The prompts since this was called last: the terminal, the prompt and the description of each."""
+        path = self.asked / "prompts"
+        lines = path.read_bytes().decode(errors="replace").split("\n")[:-1] if path.exists() else []
+        path.unlink(missing_ok=True)
+        rows = [line.split("\t") for line in lines]
+        return [(tty, urllib.parse.unquote(prompt), urllib.parse.unquote(text)) for tty, prompt, text in rows]
+
+    def run(self, *words, data=b"", environment=None, **more):
+        """Runs a program that no terminal has. What it did, its texts as bytes."""
+        return subprocess.run([str(word) for word in words], cwd=self.files, input=data, capture_output=True, timeout=LIMIT, start_new_session=True,
+                              env=as_bytes({**self.environment, **(environment or {})}), check=False, **more)
+
+    def shown(self, *words, hides=(), **more):
+        """As `run`, and tells of it, but for what it wrote where that is hidden."""
+        print("$ " + " ".join(str(word) for word in words), flush=True)
+        done = self.run(*words, **more)
+        text = (done.stdout + done.stderr).decode(errors="replace")
+        for passphrase in hides:
+            text = text.replace(passphrase, "(the passphrase)")
+        print("".join(f"    {line}\n" for line in text.splitlines()[:12]) + f"    status {done.returncode}", flush=True)
+        return done
+
+    def told(self, *lines):
+        """What the agent answers to these lines."""
+        return self.run("gpg-connect-agent", "--no-autostart", *lines, "/bye").stdout.decode()
+
+    def expect(self, what, is_so):
+        print(f"{'ok' if is_so else 'FAILED'}: {what}", flush=True)
+        self.failed |= not is_so
+        return is_so
+
+    def end(self):
+        """Ends the daemon, and waits until it is gone."""
+        self.run("gpgconf", "--kill", "gpg-agent")
+        end = time.monotonic() + LIMIT
+        while (self.home / "S.gpg-agent").exists() and time.monotonic() < end:
+            time.sleep(0.05)
+        self.run("gpgconf", "--remove-socketdir")
+        return not os.path.exists(self.home / "S.gpg-agent")
