@@ -1,7 +1,5 @@
 ghost use Rattle.std.specs.Prelude.{◌≡◌, ℕ, List, [], ◌∷◌, ◌++◌, true, false, IsSome};
-ghost use Rattle.agent_ask.specs.Further.{FurtherEvent};
 ghost use Rattle.agent_ask.specs.SessionEvents.{Sent, turns_in};
-ghost use Rattle.agent_commands.specs.Events.{Event as SessionEvent};
 ghost use Rattle.agent_commands.specs.Exchanges.{LineExchange};
 ghost use Rattle.agent_commands.specs.Names.{command_named as cache_command_named};
 ghost use Rattle.agent_commands.specs.Requests.{request_of};
@@ -12,6 +10,7 @@ ghost use Rattle.agent_commands.specs.declared.went.Went.TheVariants.{On};
 ghost use Rattle.arrayvec.specs.ArrayVec.{ArrayVec};
 ghost use Rattle.assuan_server.specs.Written.{failed};
 ghost use Rattle.assuan_server.specs.declared.errors.Code.TheVariants.{Forbidden};
+ghost use Rattle.key_commands.specs.Events.{Event};
 ghost use Rattle.key_commands.specs.Exchanges.{Exchange as KeyExchange};
 ghost use Rattle.key_commands.specs.Names.{command_named as key_command_named};
 ghost use Rattle.key_commands.specs.Requests.{key_request_of};
@@ -24,8 +23,7 @@ ghost use Rattle.agent_origin.specs.Doors.{rule_named, allowed};
 ghost use Rattle.agent_origin.specs.Exchanges.{TrustExchange};
 ghost use Rattle.agent_origin.specs.Names.{command_named as trust_command_named};
 ghost use Rattle.agent_origin.specs.NewTrustFiles.{replaced, HasConsents, HasConsentsIn};
-ghost use Rattle.agent_origin.specs.OriginEvents.{Event};
-ghost use Rattle.agent_origin.specs.Origins.{origin_world};
+ghost use Rattle.agent_origin.specs.FurtherStates.{FurtherWorld};
 ghost use Rattle.agent_origin.specs.OuterRuns.{LeavesDesk};
 ghost use Rattle.agent_origin.specs.OuterTurns.{LeavesCache, GiveNothing};
 ghost use Rattle.agent_origin.specs.Requests.{trust_request_of};
@@ -40,9 +38,9 @@ use cache_policy::Desk;
 /// A law: what is done for a line that is allowed at the outer door takes the seat for a prompt of which nothing is kept, gives it back, or
 /// looks whether a passphrase is cached. It stores and forgets nothing, and is given no passphrase of the cache.
 pub fn the_outer_door_leaves_the_cache()
-    ensures cache { (rules : Rules) (before after : OptionValues) (line : List ℕ) (events : List (SessionEvent FurtherEvent)) (went : Goes)
+    ensures cache { (rules : Rules) (before after : OptionValues) (line : List ℕ) (events : List Event) (went : Goes)
         → allowed Outer line ≡ true → LineExchange rules before line events after went → LeavesCache events }
-    ensures keys { (rules : Rules) (options : OptionValues) (before after : WrapKeys) (line : List ℕ) (handed : ArrayVec ℕ) (events : List (SessionEvent FurtherEvent)) (went : KeyWent)
+    ensures keys { (rules : Rules) (options : OptionValues) (before after : WrapKeys) (line : List ℕ) (handed : ArrayVec ℕ) (events : List Event) (went : KeyWent)
         → allowed Outer line ≡ true → request_of line ≡ Key handed → KeyExchange rules options before (key_request_of line) events after went → LeavesCache events }
     ensures trust { (rules : Rules) (options : OptionValues) (line : List ℕ) (events : List Event) (went : Goes)
         → allowed Outer line ≡ true → TrustExchange rules options (trust_request_of line) events went → LeavesCache events }
@@ -50,9 +48,9 @@ pub fn the_outer_door_leaves_the_cache()
 
 /// A law: so does a whole session that came in by the outer door.
 pub fn an_outer_session_leaves_the_cache<D: Desk, P: Prompter>()
-    ensures leaves { (rules : Rules) (before after : Surroundings (origin_world D.turned P.prompted)) (end : Ends)
+    ensures leaves { (rules : Rules) (before after : Surroundings (FurtherWorld D.turned P.prompted)) (end : Ends)
         → (served : ServesDoor D.turned P.prompted Outer rules before end after) → LeavesCache served.events }
-    ensures ungiven { (rules : Rules) (before after : Surroundings (origin_world D.turned P.prompted)) (end : Ends)
+    ensures ungiven { (rules : Rules) (before after : Surroundings (FurtherWorld D.turned P.prompted)) (end : Ends)
         → (served : ServesDoor D.turned P.prompted Outer rules before end after) → GiveNothing (turns_in served.events) }
 {}
 
@@ -60,7 +58,7 @@ pub fn an_outer_session_leaves_the_cache<D: Desk, P: Prompter>()
 /// of which nothing is kept, gives its ticket back, or looks whether a passphrase is cached; none was given one, and in a legal run none stores
 /// an entry. So it clears and forgets nothing either.
 pub fn an_outer_session_leaves_the_run<D: Desk, P: Prompter>()
-    ensures { (rules : Rules) (before after : Surroundings (origin_world D.turned P.prompted)) (end : Ends)
+    ensures { (rules : Rules) (before after : Surroundings (FurtherWorld D.turned P.prompted)) (end : Ends)
         → (served : ServesDoor D.turned P.prompted Outer rules before end after) → LeavesDesk (D.at before.desk) (turns_in served.events) (D.at after.desk) }
 {}
 
@@ -84,7 +82,7 @@ pub fn a_new_trust_file_has_two_consents<D: Desk, P: Prompter>()
     ensures exchange { (door : By) (rules : Rules) (prior then : Kept) (line : List ℕ) (events before later : List Event) (file : List ℕ) (went : Goes)
         → DoorExchange door rules prior line events then went → events ≡ before ++ replaced file ∷ later
         → HasConsents rules prior.options (trust_request_of line) before file later × (door ≡ Home) }
-    ensures session { (door : By) (rules : Rules) (start now : Surroundings (origin_world D.turned P.prompted)) (end : Ends) (before later : List Event) (file : List ℕ)
+    ensures session { (door : By) (rules : Rules) (start now : Surroundings (FurtherWorld D.turned P.prompted)) (end : Ends) (before later : List Event) (file : List ℕ)
         → (served : ServesDoor D.turned P.prompted door rules start end now) → served.events ≡ before ++ replaced file ∷ later
         → HasConsentsIn rules before file later × (door ≡ Home) }
 {}

@@ -54,6 +54,7 @@ use Rattle.key_commands.specs.declared.request.KeyRequest.{KeyRequest}
 use Rattle.key_commands.specs.declared.request.KeyRequest.TheVariants as on
 use Rattle.key_commands.specs.declared.went.KeyWent.{KeyWent}
 use Rattle.key_commands.specs.declared.wrap_keys.WrapKeys.{WrapKeys}
+use Rattle.key_commands.proofs.EachEvent.{each_append}
 use Rattle.agent_session.specs.Causes.{on_keys}
 use Rattle.assuan_escape.specs.Escapes.{hex_text}
 use Rattle.agent_session.specs.Completeness.{EndsInOk, error, done}
@@ -65,7 +66,6 @@ use Rattle.agent_session.proofs.Courses.{by_turn, WorkEnd, no_more, refused, Wor
 use Rattle.agent_session.proofs.PromptCourses.{ShownEnd, no_more as no_shown, stopped, Shows, pin_shows_work, consent_shows_work, pin_code, consent_code}
 use Rattle.agent_session.proofs.Asides.{info_status, nonce_status, status_aside}
 use Rattle.agent_session.proofs.Replying.{IsReply, begins, ends_in_ok, reply_keys}
-use Rattle.agent_session.proofs.Standing.{each_append}
 
 module _ (request : Request) where
   abbrev Here : {A : Type 0} → List (Event FurtherEvent) → Result A Refusal → Type 0

@@ -15,13 +15,12 @@ mod refusals;
 mod session;
 
 pub use completeness::{
-    a_session_without_faults_is_answered, each_error_has_its_cause, failures_raise_counts,
+    a_session_without_faults_is_answered, each_error_has_its_cause, each_failure_is_counted, failures_raise_counts,
     requests_without_a_prompt_are_answered, without_a_cause_the_answer_is_ok,
 };
 pub use doors::{
     a_session_at_a_door_without_faults_is_answered, an_exchange_at_a_door_is_a_sessions,
-    each_error_at_a_door_has_its_cause, failures_at_a_door_raise_counts,
-    without_a_cause_the_answer_at_a_door_is_ok,
+    each_error_at_a_door_has_its_cause, without_a_cause_the_answer_at_a_door_is_ok,
 };
 pub use laws::{a_session_at_a_door_extends_a_run, a_session_extends_a_run, key_commands_are_read};
 pub use refusals::{

@@ -8,8 +8,7 @@ ghost use Rattle.agent_commands.specs.declared.went.Went.{Went};
 ghost use Rattle.agent_origin.specs.DoorSessions.{DoorExchange};
 ghost use Rattle.agent_origin.specs.Doors.{allowed};
 ghost use Rattle.agent_origin.specs.Names.{door_command_named};
-ghost use Rattle.agent_origin.specs.OriginEvents.{Event};
-ghost use Rattle.agent_origin.specs.Origins.{origin_world};
+ghost use Rattle.agent_origin.specs.FurtherStates.{FurtherWorld};
 ghost use Rattle.agent_origin.specs.SessionExchanges.{kept_at_start};
 ghost use Rattle.agent_origin.specs.declared.door.Door.{Door};
 ghost use Rattle.agent_origin.specs.declared.kept.Kept.{Kept};
@@ -18,9 +17,8 @@ ghost use Rattle.agent_ports.specs.Leads.{Leads};
 ghost use Rattle.agent_ports.specs.Sides.{Side};
 ghost use Rattle.agent_ports.specs.declared.session.SessionId.{SessionId};
 ghost use Rattle.agent_serve.specs.Serves.{LinkSides, ServesOne};
-ghost use Rattle.agent_session.specs.Completeness.{IsStopped};
-ghost use Rattle.agent_session.specs.DoorCauses.{beside_trust};
-ghost use Rattle.agent_session.specs.DoorCompleteness.{AnswersAllAtDoor, CausedAtDoor, Remembers};
+ghost use Rattle.agent_session.specs.Completeness.{AnswersAll, IsStopped, Remembers};
+ghost use Rattle.agent_session.specs.DoorCompleteness.{CausedAtDoor, FaultlessAtDoor};
 ghost use Rattle.agent_session.specs.Refusals.{AnswersAlone};
 ghost use Rattle.agent_top.specs.Completeness.{NoLinkFault, NoFault, NoFaultOfOne, SessionEndsWell, IsAnsweredRun, IsCausedRun, DaemonEndsWell, LoadEndsWell};
 ghost use Rattle.agent_top.specs.Daemon.{RunsDaemon};
@@ -30,6 +28,7 @@ ghost use Rattle.assuan_server.specs.Reading.{Supply};
 ghost use Rattle.assuan_text.specs.Words.{command_of};
 ghost use Rattle.counted_lock.specs.Passes.{AtPass};
 ghost use Rattle.counted_lock.specs.Turns.{CountedTurn};
+ghost use Rattle.key_commands.specs.Events.{Event};
 ghost use Rattle.pinentry_client.specs.Dialogues.{PinentryDoes};
 ghost use Rattle.session_options.specs.declared.rules.Rules.{Rules};
 
@@ -80,7 +79,7 @@ pub fn a_daemon_without_faults_ends_well<H: Host>()
 pub fn a_session_of_a_daemon_without_faults_is_answered<H: Host>()
     ensures { (path : List ℕ) (rules : Rules) (door : Door) (session : SessionId) (before after : LinkSides) (pass now : AtPass) (end : Ends)
         (one : ServesOne (record { launches = H.Launcher.launches; readings = H.Clock.readings; draws = H.Dice.draws; keys = H.Keys.keys }) H.Trust.trust (H.of_folder path) rules door session before pass end after now)
-        → NoFaultOfOne one → Remembers one.served.events → AnswersAllAtDoor door rules one.served.events end }
+        → NoFaultOfOne one → AllByRecursion Remembers one.served.events → AnswersAll (FaultlessAtDoor door rules) rules one.served.events end }
 {
     a_pinentry_is_a_prompter();
 }
@@ -98,9 +97,9 @@ pub fn each_error_of_a_daemon_has_its_cause<H: Host>()
 /// passphrase or No data, or OK, is their answer, unless a turn was replied Stopping.
 pub fn a_daemon_wants_no_memory_for_the_cache_alone()
     ensures { (door : Door) (rules : Rules) (kept now : Kept) (line : List ℕ) (events : List Event) (went : Went) (supply : Supply)
-        (before after : Outside (origin_world (CountedTurn (λ readings. readings)) PinentryDoes)) → DoorExchange door rules kept line events now went → allowed door line ≡ true
-        → door_command_named (command_of line) ≡ None → Leads (Does (origin_world (CountedTurn (λ readings. readings)) PinentryDoes) supply) before events after
-        → AllByRecursion (λ event. ¬ IsStopped event) (beside_trust events) → AnswersAlone (request_of line) (beside_trust events) }
+        (before after : Outside (FurtherWorld (CountedTurn (λ readings. readings)) PinentryDoes)) → DoorExchange door rules kept line events now went → allowed door line ≡ true
+        → door_command_named (command_of line) ≡ None → Leads (Does (FurtherWorld (CountedTurn (λ readings. readings)) PinentryDoes) supply) before events after
+        → AllByRecursion (λ event. ¬ IsStopped event) events → AnswersAlone (request_of line) events }
 {}
 
 /// Where no write failed, a load ends with status 0, or with 1 for want of memory.
