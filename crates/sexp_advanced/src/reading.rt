@@ -1,12 +1,13 @@
 ghost use Rattle.std.specs.Prelude.{◌≡◌, ◌⊎◌, ◌≤◌, [], ◌++◌, ℕ, List, length, take, drop, Some, Result, IfOk, IfErr};
 ghost use Rattle.sexp_canonical.specs.View.{tree_of};
 ghost use Rattle.sexp_canonical.specs.Spelling.{most_depth, depth};
+ghost use Rattle.sexp_canonical.specs.Adding.{AddsTree, lists_of};
 ghost use Rattle.sexp_canonical.specs.declared.tree.Sexp.{Sexp};
 ghost use Rattle.sexp_advanced.specs.Bytes.{is_space_byte, without_front};
 ghost use Rattle.sexp_advanced.specs.Writing.{advanced_of, EndsToken};
 ghost use Rattle.sexp_advanced.specs.Octets.{IsOfOctets};
 ghost use Rattle.sexp_advanced.specs.Reading.{Reads, IsExpression, IsFirstFault, sign_fault};
-ghost use Rattle.sexp_advanced.specs.Steps.{Adds, AddsTree, lists_of};
+ghost use Rattle.sexp_advanced.specs.Steps.{Adds};
 ghost use Rattle.sexp_advanced.specs.declared.fault.AdvFault.{AdvFault};
 
 use crate::bytes::after_blanks;

@@ -2,10 +2,11 @@ ghost use Rattle.std.specs.Prelude.{◌≡◌, ◌+◌, ◌-◌, ◌*◌, ◌<�
 ghost use Rattle.sexp_canonical.specs.Tree.{leaf, row};
 ghost use Rattle.sexp_canonical.specs.View.{tree_of, trees};
 ghost use Rattle.sexp_canonical.specs.Spelling.{most_depth, depth};
+ghost use Rattle.sexp_canonical.specs.Writing.{begun_lists};
 ghost use Rattle.sexp_advanced.specs.Reading.{Reads};
 ghost use Rattle.sexp_advanced.specs.Writing.{advanced, advanced_of, is_token, are_token_bytes, hex_pairs, hex_glyph};
 ghost use Rattle.sexp_advanced.specs.Octets.{AreOctets, IsOfOctets, AreOfOctets};
-ghost use Rattle.sexp_advanced.specs.Left.{next_tree, text_left, spaced_text, begun_lists, list_steps, steps_left, AreLeftOfOctets};
+ghost use Rattle.sexp_advanced.specs.Left.{next_tree, text_left, spaced_text, list_steps, steps_left, AreLeftOfOctets};
 
 use crate::bytes::{is_token_byte, is_token_start};
 use sexp_canonical::{Bytes, Sexp};

@@ -1,7 +1,9 @@
 ghost use Rattle.std.specs.Prelude.{◌≡◌, ◌⊎◌, ◌+◌, ◌-◌, ◌*◌, ◌++◌, ◌<◌, ◌≤◌, ℕ, List, length, take, drop, Result, IfOk, IfErr, MatchOption};
 ghost use Rattle.sexp_canonical.specs.Reading.{Reads, IsFirstFault, IsLengthFault};
 ghost use Rattle.sexp_canonical.specs.Spelling.{IsReadable, most_bytes, spelling_of};
-ghost use Rattle.sexp_canonical.specs.Steps.{IsDigit, HasLength, HasAtom, HasExpression, Adds};
+ghost use Rattle.sexp_canonical.specs.View.{tree_of};
+ghost use Rattle.sexp_canonical.specs.Adding.{AddsTree, lists_of};
+ghost use Rattle.sexp_canonical.specs.Steps.{IsDigit, HasLength, HasAtom, HasExpression};
 ghost use Rattle.sexp_canonical.specs.declared.tree.Sexp.{Sexp};
 ghost use Rattle.sexp_canonical.specs.declared.fault.SexpFault.{SexpFault};
 
@@ -73,7 +75,7 @@ fn read_front(alloc: Global, text: &[u8]) -> Result<(Sexp, usize), SexpFault>
 
 // Adds a finished expression to the innermost open list. Where none is open it is the whole, and comes back.
 fn add(lists: &mut Vec<Vec<Sexp>>, tree: Sexp) -> Result<Option<Sexp>, AllocError>
-    ensures { IfOk result (Adds lists.old.items lists.new.items tree) }
+    ensures { IfOk result (AddsTree (lists_of lists.old.items) (lists_of lists.new.items) (tree_of tree)) }
 {
     let Some(items) = lists.last_mut() else {
         return Ok(Some(tree));

@@ -1,22 +1,25 @@
 //! The lists of a key.
 
-ghost use Rattle.std.specs.Prelude.{◌≡◌, ◌≤◌, ◌∷◌, ◌++◌, length, IfOk, OnOk, IsTrue};
+ghost use Rattle.std.specs.Prelude.{◌≡◌, ◌<◌, ◌≤◌, ◌∷◌, ◌++◌, length, IfOk, IfNone, IfSome, OnOk, IsTrue};
 ghost use Rattle.std.specs.Option.{option_copied};
 ghost use Rattle.std.specs.List.{flat_map};
 ghost use Rattle.sexp_canonical.specs.Tree.{leaf, list_of};
 ghost use Rattle.sexp_canonical.specs.View.{trees};
-ghost use Rattle.sexp_canonical.specs.Spelling.{spelling};
+ghost use Rattle.sexp_canonical.specs.Spelling.{most_bytes, most_depth, depth, spelling};
 ghost use Rattle.sexp_keys.specs.Names.{form_name};
-ghost use Rattle.sexp_keys.specs.Key.{IsFormed, algorithm_list, protected_with};
+ghost use Rattle.sexp_keys.specs.Key.{IsFormed, algorithm_list, key_tree, protected_with};
 ghost use Rattle.sexp_keys.specs.Lists.{public_list_of, key_list_of, grip_of, timed_list_of, hashed_list_of, associated_list_of, time_lists};
 
 use crate::algorithm::Algorithm;
 use crate::key_list::KeyList;
 use crate::parameters::PROTECTED_AT;
 use agent_ports::Grip;
-use sexp_canonical::{Bytes, Sexp, append_all, append_atom};
+use sexp_canonical::{Bytes, Sexp, append_all, append_atom, atom_len, items_len};
 use sha1::Sha1;
 use std::alloc::{AllocError, Global};
+
+/// The parentheses of a key's list and of its algorithm's within it.
+const PARENTHESES: usize = 4;
 
 impl KeyList {
     /// Whether its secret parameters are clear.
@@ -74,6 +77,21 @@ impl KeyList {
             self.further.as_slice(),
         )?;
         Ok(text.into_vec())
+    }
+
+    /// How many bytes the whole key has as it stands in a file, where its parts are within the limits of an expression that is
+    /// read. Its list isn't written for that, and no memory is taken.
+    pub fn list_len(&self) -> Option<usize>
+        ensures len { IfSome result (λ len. len ≡ length (key_list_of self.now)) }
+
+        // A key that is shallow enough is too long where that isn't known.
+        ensures long { IfNone result (depth (key_tree self.now) ≤ most_depth → most_bytes < length (key_list_of self.now)) }
+    {
+        let names = atom_len(form_name(self.is_clear)) + atom_len(self.algorithm.name());
+        let public = items_len(self.public.as_slice())?;
+        let private = items_len(self.private.as_slice())?;
+        let further = items_len(self.further.as_slice())?;
+        Some(names + public + private + further + PARENTHESES)
     }
 
     /// The whole key with these lists in place of its secret parameters, as a protected key stands in a file.
