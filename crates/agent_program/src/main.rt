@@ -1,20 +1,11 @@
 //! The agent as a program: standard input, standard output and the machine, handed to `run_agent`.
 //!
-//! Begin with `main`. The clock, the launcher, the dice and the host keep the promises of `agent_ports` and leave their contents unknown:
-//! faults are counted, the rest is tested (`tools/statuses`, `tools/with-gnupg`). There are no definitions.
+//! Begin with `main`. What the machine gives is `agent_host`'s; here are the words of the command line and what a status says on the error
+//! stream, which are tested (`tools/statuses`). There are no definitions.
 #![tactic(auto)]
 
-mod clock;
-mod dice;
-mod faults;
-mod host;
-mod keys;
-mod launcher;
-mod no_folder;
-mod trust;
-
+use agent_host::SystemHost;
 use agent_top::{Status, run_agent};
-use host::SystemHost;
 use std::io::ErrorKind;
 use std::process::ExitCode;
 use std::{env, process};

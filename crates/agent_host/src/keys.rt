@@ -13,6 +13,7 @@ use std::rt;
 #[derive(Drop)]
 pub struct SystemKeys<'a, R> {
     rt: &'a R,
+    /// The folder.
     pub homedir: Homedir,
     faults: u64,
 }

@@ -16,15 +16,17 @@ use std::process::Processes;
 use std::rt;
 use unix_socket::{SocketEar, SocketLink, SocketListener, SocketName};
 
-type SystemParts<'a, R> = Parts<
+/// What a session needs of this machine.
+pub type SystemParts<'a, R> = Parts<
     PipeLauncher<'a, R>,
     SystemClock<'a, R>,
     SystemDice<'a, R>,
     SystemKeys<'a, R>,
 >;
 
-/// The machine that the program runs on. It listens on two Unix sockets in the folder that was settled, and has the key files and the trust
-/// list of that folder.
+/// The machine that the program runs on. It listens on two Unix sockets in the folder that was settled, `S.gpg-agent` and
+/// `S.gpg-agent.extra`, and has the key files and the trust list of that folder. Before one was settled there are none, and each call for
+/// them fails.
 #[derive(Drop)]
 pub struct SystemHost<'a, R> {
     rt: &'a R,
@@ -37,6 +39,7 @@ pub struct SystemHost<'a, R> {
 }
 
 impl<'a, R: rt::Clock + Processes + Files<File = File> + Net> SystemHost<'a, R> {
+    /// The machine, with its server's parts and no folder yet. `pid` is the number of the process, as `GETINFO pid` tells it.
     pub fn new(rt: &'a R, alloc: Global, pid: u32) -> Self
         ensures { IsSome (⟦<SystemHost<'a, R> as Host>⟧.server result) }
     {

@@ -12,6 +12,7 @@ use std::rt;
 #[derive(Drop)]
 pub struct SystemTrust<'a, R> {
     rt: &'a R,
+    /// The folder.
     pub homedir: Homedir,
     faults: u64,
 }

@@ -23,6 +23,7 @@ pub struct PipeLauncher<'a, R> {
 }
 
 impl<'a, R: rt::Clock + Processes> PipeLauncher<'a, R> {
+    /// A launcher that has started nothing yet. A launch takes memory for the program's path.
     pub fn new(rt: &'a R, alloc: Global) -> Self
         ensures { (⟦<PipeLauncher<'a, R> as Launcher>⟧.launches result).faults ≡ 0 }
     {
@@ -34,7 +35,7 @@ impl<'a, R: rt::Clock + Processes> PipeLauncher<'a, R> {
     }
 }
 
-/// A program that was started. It is handed to `finish`, which sees to its end.
+/// A program that was started: what it writes is read, and what is written it reads. It is handed to `finish`, which sees to its end.
 pub struct PipedChild<P: OpenProcess> {
     process: Child<P>,
     pipes: StdLink<P::Stdout, P::Stdin>,
