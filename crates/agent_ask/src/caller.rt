@@ -10,10 +10,15 @@ use session_client::{Gone, Unheard};
 pub enum Heard {
     /// It has taken note.
     Fine,
+    /// It gave a passphrase.
     Secret(Secret),
+    /// It cancelled.
     Cancelled,
+    /// It sent more bytes than the limit.
     TooMuch,
+    /// It sent a line that belongs to no answer.
     Unexpected,
+    /// Its connection was lost.
     Gone(Gone),
 }
 

@@ -11,7 +11,9 @@ use prompt_seat::Ticket;
 /// What asking for consent came to.
 #[derive(Drop)]
 pub enum Agreed {
+    /// The user said yes.
     Yes,
+    /// The user said no.
     No,
     /// The user cancelled.
     Cancelled,

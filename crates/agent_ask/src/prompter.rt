@@ -21,21 +21,32 @@ pub enum Opened {
 /// What came of asking for a passphrase. It may hold one, so it isn't printed.
 #[derive(Drop)]
 pub enum Outcome {
+    /// What the user typed.
     Pin(Secret),
+    /// The user cancelled.
     Cancelled,
+    /// The user didn't answer in time.
     TimedOut,
+    /// There is no child, or its link failed.
     Failed,
+    /// The child broke the protocol.
     Broken(Breach),
 }
 
 /// What came of asking for consent.
 #[derive(Drop)]
 pub enum Consent {
+    /// The user said yes.
     Yes,
+    /// The user said no.
     No,
+    /// The user cancelled.
     Cancelled,
+    /// The user didn't answer in time.
     TimedOut,
+    /// There is no child, or its link failed.
     Failed,
+    /// The child broke the protocol.
     Broken(Breach),
 }
 

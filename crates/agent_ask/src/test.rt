@@ -6,8 +6,11 @@ use cache_policy::Secret;
 /// What a test says of a passphrase.
 #[derive(Clone, Copy, Debug, PartialEq, Eq)]
 pub enum Tested {
+    /// It is right.
     Yes,
+    /// It is wrong.
     No,
+    /// There was no memory for the test.
     NoMemory,
 }
 

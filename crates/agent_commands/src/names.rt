@@ -8,18 +8,31 @@ use assuan_text::{found, found_in_any_case, has_pair};
 /// The commands that are known.
 #[derive(Clone, Copy, Debug, PartialEq, Eq)]
 pub enum CommandName {
+    /// NOP, which does nothing.
     Nop,
+    /// RESET, which sets the session's options to their start.
     Reset,
+    /// BYE, which ends the session.
     Bye,
+    /// HELP, which tells the commands.
     Help,
+    /// OPTION, which sets an option of the session.
     SetOption,
+    /// GETINFO, which tells of the agent itself.
     GetInfo,
+    /// GET_PASSPHRASE, which asks the cache, and maybe the user, for a passphrase.
     GetPassphrase,
+    /// PRESET_PASSPHRASE, which stores a passphrase.
     PresetPassphrase,
+    /// CLEAR_PASSPHRASE, which forgets what is stored under an id.
     ClearPassphrase,
+    /// GET_CONFIRMATION, which asks the user for consent.
     GetConfirmation,
+    /// RELOADAGENT, which forgets all passphrases.
     ReloadAgent,
+    /// KILLAGENT, which stops the agent.
     KillAgent,
+    /// SETKEYDESC, which sets what the next prompts about a key say.
     SetKeyDesc,
 }
 

@@ -4,7 +4,9 @@ use cache_policy::{CacheId, Life, Mode, Secret, Under, Way};
 /// A step that another session takes at a desk.
 #[derive(Drop)]
 pub struct Foreign {
+    /// The session that takes it, which isn't the desk's own.
     pub session: SessionId,
+    /// What it asks for.
     pub step: ForeignStep,
 }
 

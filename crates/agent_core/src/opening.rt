@@ -8,7 +8,9 @@ use cache_policy::{CacheId, Mode, Step, Under, Wait, Way};
 /// A step that wants the prompt. It may have to stand, and is taken again then.
 #[derive(Drop)]
 pub enum Opening {
+    /// Asks for a passphrase, which the cache may have.
     Ask { id: CacheId, mode: Mode },
+    /// Asks for the seat at the prompt, whatever the cache has.
     Seat { under: Option<Under> },
 }
 

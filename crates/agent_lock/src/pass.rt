@@ -19,8 +19,11 @@ impl Marks for Brand {
 pub struct Counts {
     /// How many of them made a mark.
     pub calls: u64,
+    /// How many of them were replied Given.
     pub given: u64,
+    /// How many of them were replied Empty.
     pub empty: u64,
+    /// How many of them were replied Open.
     pub opened: u64,
 }
 

@@ -14,9 +14,13 @@ use std::sync::{Condvar, Mutex};
 /// A new ledger for each of the four counts, with as many parts as there are passes.
 #[derive(Drop)]
 pub struct Blanks {
+    /// For the marks.
     pub calls: Blank,
+    /// For the marks that were replied Given.
     pub given: Blank,
+    /// For the marks that were replied Empty.
     pub empty: Blank,
+    /// For the marks that were replied Open.
     pub opened: Blank,
 }
 

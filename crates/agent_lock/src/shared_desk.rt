@@ -54,6 +54,7 @@ impl<'a, W: Wait + time::Clock, C: Clock, M: Marks, G: Ledger, E: Ledger, O: Led
     E,
     O,
 > {
+    /// The desk of a session that has no ticket, whose turns are counted by this pass.
     pub fn new(
         rt: &'a W,
         shared: &'a Shared<M, G, E, O>,

@@ -4,9 +4,11 @@ use std::sync::atomic::{AtomicBool, AtomicU64, Ordering};
 /// A point in a session's life.
 #[derive(Clone, Copy, Debug, PartialEq, Eq)]
 pub enum GatePoint {
+    /// The session begins, and nothing of it is read yet.
     Began,
     /// Its pinentry was started.
     PromptOpen,
+    /// The session has ended.
     Ended,
 }
 

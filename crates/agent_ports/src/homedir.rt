@@ -50,6 +50,7 @@ impl Homedir {
         Homedir { path }
     }
 
+    /// The bytes of the folder's path, none where there is no folder.
     pub fn bytes(&self) -> &[u8]
         ensures { result.now ≡ self.now }
     {

@@ -8,9 +8,13 @@ use crate::{Clock, Dice, Ear, Gate, Keys, Launcher, Link, Listener, TrustFile};
 /// What a session needs of the machine, beside its link.
 #[derive(Drop)]
 pub struct Parts<La, C, R, K> {
+    /// Starts pinentries.
     pub launcher: La,
+    /// Gives the time of day, in seconds.
     pub clock: C,
+    /// Gives random bytes.
     pub dice: R,
+    /// The user's key files.
     pub keys: K,
 }
 

@@ -18,6 +18,7 @@ impl<'a, C: Clock> Model for LentClock<'a, C> {
 impl<'a, C: Clock> LentClock<'a, C> {
     ghost use Rattle.std.specs.Prelude.{◌≡◌};
 
+    /// A clock that passes its calls on to this one.
     pub fn new(clock: &'a mut C) -> Self
         ensures clock { result.clock ≡ clock.old }
         ensures name { result.name ≡ clock.entry.ghost_name }

@@ -17,6 +17,7 @@ pub enum Got {
 /// What became of the bytes of a write.
 #[derive(Clone, Copy, Debug, PartialEq, Eq)]
 pub enum Sent {
+    /// All of them went.
     All,
     /// The write failed after that many first bytes.
     Failed { sent: usize },

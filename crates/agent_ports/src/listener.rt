@@ -19,6 +19,7 @@ pub trait Ear {
 pub enum Next<L> {
     /// A peer that wants a session.
     Link(L),
+    /// The listener failed, which the ear has heard.
     Failed,
     /// No more links are taken.
     Stopped,

@@ -12,6 +12,7 @@ pub struct ListClock {
 }
 
 impl ListClock {
+    /// A clock that gives these readings, in seconds.
     pub fn new(readings: Vec<u64>) -> Self
         ensures later { (k : ℕ) → (⟦<ListClock as Clock>⟧.readings result).later k ≡ Some (reading_at readings.items k) }
         ensures none { (⟦<ListClock as Clock>⟧.readings result).count ≡ 0 }
@@ -55,6 +56,7 @@ pub struct StepClock {
 }
 
 impl StepClock {
+    /// A clock whose first reading and whose step are these, in seconds.
     pub fn new(first: u64, step: u64) -> Self
         ensures later { (k : ℕ) → (⟦<StepClock as Clock>⟧.readings result).later k ≡ Some (min (first + k * step) (2 ^ 64 - 1)) }
         ensures none { (⟦<StepClock as Clock>⟧.readings result).count ≡ 0 }

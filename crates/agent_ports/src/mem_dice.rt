@@ -16,6 +16,7 @@ pub struct ListDice {
 impl ListDice {
     ghost use Rattle.agent_ports.specs.MemPlans.{dice_plan};
 
+    /// Dice that give these bytes, and fail at the draws of these numbers, from 0.
     pub fn new(bytes: Vec<u8>, failing: Vec<u64>) -> Self
         ensures draws { ⟦<ListDice as Dice>⟧.draws result ≡ record { bytes = Some bytes.items; faults = 0 } }
         ensures plan { dice_plan result ≡ record { failing = failing.items; calls = 0; size = 0 } }

@@ -113,6 +113,7 @@ pub struct MemLauncher {
 }
 
 impl MemLauncher {
+    /// A launcher of these children, which fails at the launches of these numbers, from 0.
     pub fn new(alloc: Global, children: Vec<PlannedChild>, failing: Vec<u64>) -> Self
         ensures launches { ⟦<MemLauncher as Launcher>⟧.launches result ≡ record {
           coming = Some (gives_of children.items);

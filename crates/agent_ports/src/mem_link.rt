@@ -147,9 +147,13 @@ impl Sink for MemSink {
 /// their number from 0. A write that fails keeps nothing.
 #[derive(Debug, Drop)]
 pub struct PlannedLink {
+    /// The bytes that it gives.
     pub gives: Vec<u8>,
+    /// The most bytes that a read gives. 0 stands for one.
     pub piece: usize,
+    /// The numbers, from 0, of the reads that fail.
     pub failing_reads: Vec<u64>,
+    /// The numbers, from 0, of the writes that fail.
     pub failing_writes: Vec<u64>,
 }
 
@@ -181,6 +185,7 @@ pub struct MemLink {
 impl MemLink {
     ghost use Rattle.agent_ports.specs.MemPlans.{source_plan, sink_plan, read_plan, write_plan};
 
+    /// A link that reads from this source and writes to this sink.
     pub fn new(source: MemSource, sink: MemSink) -> Self
         ensures input { ⟦<MemLink as Source>⟧.input result ≡ ⟦<MemSource as Source>⟧.input source }
         ensures output { ⟦<MemLink as Sink>⟧.output result ≡ ⟦<MemSink as Sink>⟧.output sink }

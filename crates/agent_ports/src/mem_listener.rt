@@ -143,6 +143,7 @@ pub struct ListListener<'l, W> {
 }
 
 impl<'l, W: Wait> ListListener<'l, W> {
+    /// One whose links are those of the user's own sessions.
     pub fn new(rt: &'l W, links: &'l Mutex<ListedLinks>) -> Self {
         ListListener::at(rt, links, false)
     }

@@ -14,6 +14,7 @@ pub struct MemTrust {
 }
 
 impl MemTrust {
+    /// A file of these bytes, or none, of which the calls of these numbers, from 0, fail.
     pub fn new(file: Option<Vec<u8>>, failing: Vec<u64>) -> Self
         ensures trust { ⟦<MemTrust as TrustFile>⟧.trust result ≡ record { file = Some (option_map (λ bytes. bytes.items) file); faults = 0 } }
         ensures plan { trust_plan result ≡ record { failing = failing.items; calls = 0; size = 0 } }

@@ -20,7 +20,9 @@ pub enum Answer {
         word: Wiped<MAX_LINE_LEN>,
         text: Wiped<MAX_LINE_LEN>,
     },
+    /// The server broke the protocol.
     Broken(Breach),
+    /// A read failed.
     ReadFault,
     /// The lines couldn't be written whole, and nothing was read.
     WriteFault,

@@ -43,6 +43,7 @@ impl Line {
         Some(line)
     }
 
+    /// Its bytes, without the line feed.
     pub fn bytes(&self) -> &[u8]
         ensures bytes { result.now ≡ self.now }
         ensures is_line { IsLine self.now }

@@ -19,6 +19,7 @@ pub const BUDGET: u64 = 1 << 40;
 /// What a read of a line gave.
 #[derive(Drop)]
 pub enum Took {
+    /// The next line.
     Line(Line),
     /// No line feed stands where a line of at most 1,000 bytes would end.
     TooLong,
@@ -26,6 +27,7 @@ pub enum Took {
     End,
     /// The budget was taken, and holds no whole line more.
     Spent,
+    /// A read failed.
     ReadFault,
 }
 

@@ -68,7 +68,9 @@ impl Error for Code {}
 /// Where an error comes from.
 #[derive(Clone, Copy, Debug, PartialEq, Eq)]
 pub enum Origin {
+    /// The agent itself.
     Agent,
+    /// Its pinentry.
     Pinentry,
 }
 

@@ -41,6 +41,7 @@ pub enum Inquired {
     TooLong,
     /// The budget was taken, and holds no whole line more.
     Spent,
+    /// A read failed.
     ReadFault,
     /// The line `INQUIRE` couldn't be written whole, and nothing was read.
     WriteFault,
@@ -51,15 +52,23 @@ pub enum Inquired {
 /// What an inquiry for a secret came to, as `Inquired`.
 #[derive(Drop)]
 pub enum InquiredSecret {
+    /// The bytes that the client sent.
     Secret(Secret),
+    /// The client sent `CAN`.
     Cancelled,
     /// The client sent `END` behind more than 255 bytes.
     TooMuch,
+    /// The client sent a line that belongs to no inquiry. It is consumed.
     Unexpected,
+    /// The source ended.
     Ended,
+    /// A line was too long.
     TooLong,
+    /// The budget was taken, and holds no whole line more.
     Spent,
+    /// A read failed.
     ReadFault,
+    /// The line `INQUIRE` couldn't be written whole, and nothing was read.
     WriteFault,
 }
 
@@ -68,13 +77,21 @@ pub enum InquiredSecret {
 pub enum Dropped {
     /// The client sent `END` behind no more bytes than the limit.
     Done,
+    /// The client sent `CAN`.
     Cancelled,
+    /// The client sent `END` behind more bytes than the limit.
     TooMuch,
+    /// The client sent a line that belongs to no inquiry. It is consumed.
     Unexpected,
+    /// The source ended.
     Ended,
+    /// A line was too long.
     TooLong,
+    /// The budget was taken, and holds no whole line more.
     Spent,
+    /// A read failed.
     ReadFault,
+    /// The line `INQUIRE` couldn't be written whole, and nothing was read.
     WriteFault,
 }
 

@@ -6,6 +6,7 @@ use cache_policy::{CacheId, Entry, Mode};
 /// An entry that can still be given.
 #[derive(Drop)]
 pub struct Slot {
+    /// The entry itself.
     pub entry: Entry,
     /// The moment at which it was last given, or else stored, in seconds.
     pub last: u64,

@@ -8,7 +8,9 @@ use crate::{CacheId, Entry, Mode, Secret};
 pub struct Grant {
     /// The id and the mode that were asked for.
     pub id: CacheId,
+    /// The mode that was asked for, which the entry's own covers.
     pub mode: Mode,
+    /// The entry that may be used.
     pub entry: Entry,
     /// When the entry was last used before, or else stored.
     pub last: u64,
@@ -43,6 +45,7 @@ impl Grant {
         }
     }
 
+    /// The passphrase of the entry.
     pub fn secret(&self) -> &Secret
         ensures { result.now ≡ self.now.entry.secret }
     {

@@ -38,6 +38,7 @@ impl CacheId {
         Some(CacheId { bytes })
     }
 
+    /// Its bytes, from 1 to `MAX_ID_LEN`.
     pub fn bytes(&self) -> &[u8]
         ensures value { result.now ≡ self.now }
         ensures some { 0 < length self.now }

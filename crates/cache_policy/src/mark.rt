@@ -6,7 +6,9 @@ use agent_ports::SessionId;
 /// What the passphrase of a prompt is kept under.
 #[derive(Debug, PartialEq, Eq, Drop)]
 pub struct Under {
+    /// The id of the entry that it becomes.
     pub id: CacheId,
+    /// The mode of that entry.
     pub mode: Mode,
 }
 
@@ -98,8 +100,11 @@ pub enum MarkReply {
 /// One step that was made: by whom, which, with which answer and at which moment.
 #[derive(Drop)]
 pub struct Mark {
+    /// The session that took the step.
     pub session: SessionId,
+    /// What it asked for.
     pub step: MarkStep,
+    /// What it was replied.
     pub reply: MarkReply,
     /// In seconds. It never falls from one mark to the next.
     pub moment: u64,

@@ -37,6 +37,7 @@ impl Secret {
         Some(Secret { bytes })
     }
 
+    /// Its bytes, at most `MAX_SECRET_LEN`.
     pub fn bytes(&self) -> &[u8]
         ensures value { result.now ≡ self.now }
         ensures within { length self.now ≤ MAX_SECRET_LEN }

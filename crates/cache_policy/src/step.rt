@@ -99,5 +99,6 @@ pub enum Reply {
 
 /// There was no memory for a step, which is handed back. Nothing has changed.
 pub struct Refused {
+    /// The step, to be taken again or ended.
     pub step: Step,
 }

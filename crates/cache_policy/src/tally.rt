@@ -13,12 +13,19 @@ use crate::{Held, Life, Limits, MarkReply, Trace, TraceStep, Under};
 /// how many steps cleared an id and forgot everything.
 #[derive(Clone, Copy, Debug, PartialEq, Eq)]
 pub struct Tally {
+    /// How many marks there are.
     pub marks: u64,
+    /// How many of them were replied Given.
     pub given: u64,
+    /// How many of them were replied Empty.
     pub empty: u64,
+    /// How many of them were replied Open.
     pub opened: u64,
+    /// How many entries were stored.
     pub stored: u64,
+    /// How many steps cleared an id.
     pub cleared: u64,
+    /// How many steps forgot everything.
     pub flushed: u64,
     /// Whether the agent has stopped opening prompts.
     pub stopped: bool,

@@ -19,6 +19,7 @@ pub enum LinesFault {
     BadKey(AdvFault),
     /// The key's canonical spelling has more than 65,536 bytes.
     TooLong,
+    /// There was no memory for the file's key.
     NoMemory,
 }
 

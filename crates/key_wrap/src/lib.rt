@@ -29,6 +29,7 @@ pub enum WrapFault {
     Length,
     /// The bytes were not wrapped under this key, or were changed since.
     Check,
+    /// There was no memory for the unwrapped bytes.
     NoMemory,
 }
 

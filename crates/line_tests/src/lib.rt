@@ -19,5 +19,3 @@ mod script;
 mod server;
 #[cfg(test)]
 mod texts;
-#[cfg(test)]
-mod trust;

@@ -190,7 +190,7 @@ const ASKINGS: [Asking; 37] = [
 ];
 
 /// A text with its repeated parts.
-pub(crate) fn text_of(alloc: Global, text: &str) -> Result<String, AllocError> {
+fn text_of(alloc: Global, text: &str) -> Result<String, AllocError> {
     let mut all = String::new(alloc);
     for part in text.split('{') {
         let (repeated, plain) = part.split_once('}').unwrap_or(("", part));

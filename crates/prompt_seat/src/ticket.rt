@@ -24,6 +24,7 @@ impl Ticket {
         Ticket { number }
     }
 
+    /// The number by which it was taken, and frees the seat.
     pub fn number(&self) -> u64
         ensures { result ≡ self.now }
     {

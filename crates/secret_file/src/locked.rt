@@ -50,6 +50,7 @@ pub enum Opened {
     Key(KeyList),
     /// What is decrypted isn't the locked key.
     BadPassphrase,
+    /// There was no memory for the clear key.
     NoMemory,
 }
 

@@ -27,6 +27,7 @@ pub enum Unlocked {
     NotSupported,
     /// The file isn't one expression to its last byte, or no private key.
     InvSexp,
+    /// There was no memory for the key.
     NoMemory,
 }
 

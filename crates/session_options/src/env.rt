@@ -7,9 +7,13 @@ use crate::Word;
 /// end of a line.
 #[derive(Debug, Drop)]
 pub struct Env {
+    /// The path of the terminal.
     pub ttyname: Word,
+    /// The terminal's type, as `TERM` has it.
     pub ttytype: Word,
+    /// The locale of characters, as `LC_CTYPE` has it.
     pub lc_ctype: Word,
+    /// The locale of messages, as `LC_MESSAGES` has it.
     pub lc_messages: Word,
     ghost one_line_ttyname: { has_line_end ttyname.items ≡ false },
     ghost one_line_ttytype: { has_line_end ttytype.items ≡ false },

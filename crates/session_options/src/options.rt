@@ -28,6 +28,7 @@ pub enum PinMode {
 /// What an option is answered.
 #[derive(Clone, Copy, Debug, PartialEq, Eq)]
 pub enum OptionAnswer {
+    /// The option has its value.
     Set,
     /// There is no option of this name.
     Unknown,
@@ -190,6 +191,7 @@ impl Options {
         self.description = None;
     }
 
+    /// The terminal and the locale that the client named.
     pub fn env(&self) -> Env
         ensures { words_of result ≡ self.now.env }
     {
@@ -203,6 +205,7 @@ impl Options {
         self.notify
     }
 
+    /// How prompts are answered.
     pub fn mode(&self) -> PinMode
         ensures { result ≡ self.now.mode }
     {

@@ -13,8 +13,11 @@ use std::alloc::{AllocError, Global};
 /// An item of a text: a mark of a list, or an atom.
 #[derive(Drop)]
 pub enum Sign {
+    /// `(`, which opens a list.
     Open,
+    /// `)`, which closes one.
     Close,
+    /// The bytes of an atom.
     Atom(Bytes),
 }
 

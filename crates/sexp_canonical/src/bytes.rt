@@ -29,6 +29,7 @@ impl Bytes {
         Bytes(Vec::new(alloc))
     }
 
+    /// The bytes, in place.
     pub fn as_slice(&self) -> &[u8]
         ensures { result.now ≡ self.now }
     {

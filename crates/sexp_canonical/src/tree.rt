@@ -11,7 +11,9 @@ use std::marker::Model;
 #[cycle(sexp)]
 #[derive(Drop)]
 pub enum Sexp {
+    /// Its bytes.
     Atom(Bytes),
+    /// Its items.
     List(Items),
 }
 
@@ -40,6 +42,7 @@ impl Model for Items {
 }
 
 impl Items {
+    /// The items, in their order.
     pub fn as_slice(&self) -> &[Sexp]
         ensures { trees result.now ≡ self.now }
     {

@@ -30,6 +30,7 @@ impl KeyList {
         self.is_clear
     }
 
+    /// The algorithm that it belongs to.
     pub fn algorithm(&self) -> Algorithm
         ensures { result ≡ self.now.algorithm }
     {

@@ -23,6 +23,7 @@ pub struct SocketEar {
 }
 
 impl SocketEar {
+    /// How often the worker found the listener broken.
     pub fn faults(&self) -> u64
         ensures { result ≡ ⟦<SocketEar as Ear>⟧.faults self.now }
     {

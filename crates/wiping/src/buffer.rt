@@ -39,6 +39,7 @@ impl<const N: usize> Wiped<N> {
         Some(buffer)
     }
 
+    /// Its bytes, at most `N`.
     #[inline]
     pub fn bytes(&self) -> &[u8]
         ensures value { result.now ≡ self.now }
@@ -47,6 +48,7 @@ impl<const N: usize> Wiped<N> {
         self.bytes.as_slice()
     }
 
+    /// How many bytes it has.
     #[inline]
     pub fn len(&self) -> usize
         ensures value { result ≡ length self.now }
@@ -55,6 +57,7 @@ impl<const N: usize> Wiped<N> {
         self.bytes.len()
     }
 
+    /// Whether it has no byte.
     #[inline]
     pub fn is_empty(&self) -> bool
         ensures { IsTrue result ↔ (self.now ≡ []) }
@@ -62,6 +65,7 @@ impl<const N: usize> Wiped<N> {
         self.bytes().is_empty()
     }
 
+    /// Whether there is no room for a further byte.
     #[inline]
     pub fn is_full(&self) -> bool
         ensures full { IsTrue result ↔ (length self.now ≡ N) }

@@ -1,4 +1,3 @@
-use crate::server::text_of;
 use agent_ports::Grip;
 use std::alloc::{AllocError, Global};
 use std::test::Fail;
@@ -64,6 +63,20 @@ const FILES: [(&str, Option<bool>); 48] = [
     ("!{A*40} S {x*65492}", Some(false)),
     ("{x*65493}\n{A*40} S", Some(true)),
 ];
+
+/// A text with its repeated parts.
+fn text_of(alloc: Global, text: &str) -> Result<String, AllocError> {
+    let mut all = String::new(alloc);
+    for part in text.split('{') {
+        let (repeated, plain) = part.split_once('}').unwrap_or(("", part));
+        let (what, count) = repeated.split_once('*').unwrap_or(("", "0"));
+        for _ in 0..count.parse::<usize>().unwrap_or(0) {
+            all.push_str(what)?;
+        }
+        all.push_str(plain)?;
+    }
+    Ok(all)
+}
 
 /// The first file of which something else is said.
 fn first_wrong(alloc: Global) -> Result<Option<&'static str>, AllocError> {
