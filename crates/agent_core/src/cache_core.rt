@@ -1,18 +1,20 @@
-ghost use Rattle.std.specs.Prelude.{◌≡◌, ◌+◌, ◌<◌, ◌≤◌, ◌↔◌, [], false, None, IsTrue, OnErr, IfErr};
+ghost use Rattle.std.specs.Prelude.{◌≡◌, ℕ, ◌+◌, ◌<◌, ◌≤◌, ◌↔◌, [], length, false, None, IsTrue, OnErr, IfErr};
 ghost use Rattle.std.specs.Option.{is_some};
 ghost use Rattle.cache_policy.specs.declared.bounds.TheConstants.{MAX_MARKS};
+ghost use Rattle.cache_policy.specs.Entries.{stored};
 ghost use Rattle.cache_policy.specs.Histories.{History};
 ghost use Rattle.cache_policy.specs.Turns.{asked_step, mark_step, turn_of, FitsReply, MayWantMemory};
 ghost use Rattle.cache_policy.specs.Policy.{policy};
 ghost use Rattle.cache_policy.specs.Runs.{last_base, moment_of, next_history};
 ghost use Rattle.cache_policy.specs.Legal.{IsLegal};
+ghost use Rattle.cache_policy.specs.Seat.{seat};
+ghost use Rattle.cache_policy.specs.Tallies.{one_if};
 ghost use Rattle.agent_core.specs.Cores.{StandsFor, IsStep, IsAsBefore};
 ghost use Rattle.agent_core.specs.Adding.{comes_to_seat};
 
 use crate::state::{CacheShelf, State};
-use crate::stepped::copy_under;
 use agent_ports::SessionId;
-use cache_policy::{Held, Limits, Refused, Reply, Step};
+use cache_policy::{Held, Limits, Refused, Reply, Step, TraceStep, Under};
 use prompt_seat::Seat;
 use std::alloc::Global;
 use std::marker::Model;
@@ -90,6 +92,14 @@ impl Core {
         self.state.comes_to_seat(moment, session, step)
     }
 
+    /// Whether a step of a session stores an entry, where it makes its mark.
+    pub fn stores(&self, session: SessionId, step: &Step) -> bool
+        ensures { (before : History) (moment : ℕ) → seat before ≡ self.now.held
+            → length (stored self.now.limits before (mark_step session step.now) moment) ≡ one_if result }
+    {
+        TraceStep::of(session, step).stores(&self.limits(), &self.held())
+    }
+
     /// Whether there is no number left for a mark. Each step is then replied `Stopping`, and changes nothing.
     pub fn spent(&self) -> bool
         ensures { IsTrue result ↔ (self.now.base + self.now.count ≡ last_base) }
@@ -126,7 +136,7 @@ impl Core {
         match self.state.seat.holder() {
             Some(ticket) => Some(Held {
                 ticket,
-                under: copy_under(&self.state.under),
+                under: self.state.under.as_ref().map(Under::copy),
             }),
             None => None,
         }

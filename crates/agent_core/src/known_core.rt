@@ -18,12 +18,12 @@ ghost use Rattle.agent_core.specs.Stepped.{turn_of_stepped, HandsBack};
 use crate::Core;
 use crate::cache_core::give_up;
 use crate::opening::Opening;
-use crate::stepped::{Stepped, mark_reply_of, mark_step_of};
-use crate::tally::{counted, stores};
+use crate::stepped::{Stepped, mark_step_of};
+use crate::tally::counted;
 use agent_ports::SessionId;
 use cache_policy::{
-    Held, History, Limits, MAX_MARKS, Mark, MarkStep, Marks, NoMemory, Refused, Reply, Step, Tally,
-    Wait,
+    Held, History, Limits, MAX_MARKS, Mark, MarkReply, MarkStep, Marks, NoMemory, Refused, Reply,
+    Step, Tally, Wait,
 };
 use std::alloc::Global;
 use std::marker::Model;
@@ -107,7 +107,7 @@ impl KnownCore {
         let start = start_after(&self.core);
         let opening = Opening::of(&step);
         let asked = mark_step_of(session, &step);
-        let stores = stores(&self.core, &asked);
+        let stores = self.core.stores(session, &step);
         match self.core.step(reading, session, step) {
             Ok(reply) => match reply {
                 Reply::Stand(wait) => {
@@ -169,7 +169,7 @@ fn mark_of(core: &Core, session: SessionId, step: MarkStep, reply: &Reply) -> Ma
     Mark {
         session,
         step,
-        reply: mark_reply_of(reply),
+        reply: MarkReply::of(reply).unwrap_or(MarkReply::Done),
         moment: core.moment(),
     }
 }

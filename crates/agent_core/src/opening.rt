@@ -2,7 +2,6 @@ ghost use Rattle.std.specs.Prelude.{◌≡◌, false, None, IfSome, IsNone};
 ghost use Rattle.cache_policy.specs.Turns.{asked_step, opens};
 ghost use Rattle.agent_core.specs.Openings.{opening_step, without_wait};
 
-use crate::stepped::copy_under;
 use cache_policy::{CacheId, Mode, Step, Under, Wait, Way};
 
 /// A step that wants the prompt. It may have to stand, and is taken again then.
@@ -31,7 +30,7 @@ impl Opening {
                 mode: *mode,
             }),
             Step::Seat { under, wait: _ } => Some(Opening::Seat {
-                under: copy_under(under),
+                under: under.as_ref().map(Under::copy),
             }),
             _ => None,
         }
@@ -49,7 +48,7 @@ impl Opening {
                 wait,
             },
             Opening::Seat { under } => Step::Seat {
-                under: copy_under(under),
+                under: under.as_ref().map(Under::copy),
                 wait,
             },
         }

@@ -1,5 +1,6 @@
-ghost use Rattle.std.specs.Prelude.{◌≡◌, ◌+◌, ◌<◌, ◌≤◌, ◌^◌, ℕ, List, length, IfOk, IfErr, OnErr, vec_len, if◌then◌else◌};
+ghost use Rattle.std.specs.Prelude.{◌≡◌, ◌+◌, ◌<◌, ◌≤◌, ◌^◌, ℕ, List, length, IfOk, IfErr, OnErr, vec_len};
 ghost use Rattle.cache_policy.specs.declared.mark.Mark.{Mark as AnyMark};
+ghost use Rattle.cache_policy.specs.Tallies.{one_if};
 ghost use Rattle.cache_policy.specs.Turns.{asked_step, mark_step, turn_of, FitsReply, MayWantMemory};
 ghost use Rattle.counted_lock.specs.declared.board.About.{About as AboutOf};
 ghost use Rattle.counted_lock.specs.Plays.{IsPlace};
@@ -152,9 +153,9 @@ impl Counted {
 /// One mark more, if one was made.
 fn raised(calls: u64, made: bool) -> u64
     requires { calls < 2 ^ 63 }
-    ensures { result ≡ calls + (if made then 1 else 0) }
+    ensures { result ≡ calls + one_if made }
 {
-    if made { calls + 1 } else { calls }
+    calls + u64::from(made)
 }
 
 /// The seats of all passes, as one.

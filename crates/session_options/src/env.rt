@@ -2,6 +2,7 @@ ghost use Rattle.std.specs.Prelude.{◌≡◌, [], false};
 ghost use Rattle.session_options.specs.Text.{has_line_end};
 
 use crate::Word;
+use crate::text::copied;
 
 /// Where a pinentry is to ask: the terminal and the locale of the client. An empty word means none, and no word holds an
 /// end of a line.
@@ -47,12 +48,4 @@ impl Env {
             lc_messages: copied(&self.lc_messages),
         }
     }
-}
-
-fn copied(word: &Word) -> Word
-    ensures { result.items ≡ word.now.items }
-{
-    let mut copy = Word::new();
-    copy.try_extend_from_slice(word).unwrap();
-    copy
 }

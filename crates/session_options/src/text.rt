@@ -4,7 +4,17 @@ ghost use Rattle.assuan_text.specs.Blanks.{without_blanks};
 ghost use Rattle.session_options.specs.Text.{ends_name, without, name_of, option_value, ends_line, has_line_end, can_be_kept};
 
 use crate::Word;
+use arrayvec::ArrayVec;
 use assuan_text::{is_blank, without_blanks};
+
+/// The same bytes once more, without taking memory.
+pub fn copied<const N: usize>(bytes: &ArrayVec<u8, N>) -> ArrayVec<u8, N>
+    ensures { result ≡ bytes.now }
+{
+    let mut copy = ArrayVec::new();
+    copy.try_extend_from_slice(bytes).unwrap();
+    copy
+}
 
 /// An option's name, and its value.
 pub(crate) fn name_and_value(text: &[u8]) -> (&[u8], &[u8])
