@@ -15,8 +15,9 @@ mod refusals;
 mod session;
 
 pub use completeness::{
-    a_session_without_faults_is_answered, each_error_has_its_cause, each_failure_is_counted, failures_raise_counts,
-    requests_without_a_prompt_are_answered, without_a_cause_the_answer_is_ok,
+    a_session_without_faults_is_answered, each_error_has_its_cause, each_failure_is_counted,
+    failures_raise_counts, requests_without_a_prompt_are_answered,
+    without_a_cause_the_answer_is_ok,
 };
 pub use doors::{
     a_session_at_a_door_without_faults_is_answered, an_exchange_at_a_door_is_a_sessions,
