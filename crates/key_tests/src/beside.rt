@@ -9,7 +9,6 @@ use std::io::{ErrorKind, Read};
 use std::rt::{Clock, Files};
 use std::sync::atomic::{AtomicBool, Ordering};
 use std::test::Fail;
-use std::thread::Threads;
 use std::time::Duration;
 use std::{fs, io, thread};
 
@@ -268,6 +267,15 @@ fn changes<K: Keys>(alloc: Global, keys: &mut K, removes: bool) -> bool {
     all_done
 }
 
+fn is_one_of(text: &str, wanted: &[&str]) -> bool {
+    for one in wanted {
+        if *one == text {
+            return true;
+        }
+    }
+    false
+}
+
 // The first answer to a read that isn't one of these, until the changes are made.
 fn first_other<K: Keys>(
     alloc: Global,
@@ -280,43 +288,39 @@ fn first_other<K: Keys>(
             break;
         }
         let text = text_of(alloc, keys.read(alloc, &GRIP))?;
-        if !wanted.contains(&text.as_str()) {
+        if !is_one_of(&text, wanted) {
             return Ok(Some(text));
         }
     }
     Ok(None)
 }
 
-// Whether one thread made its changes, and the first answer that another had meanwhile and that isn't wanted.
-fn at_once<R: Threads + Files<File = File> + Clock + Sync>(
-    rt: &R,
-    alloc: Global,
-    removes: bool,
-    wanted: &[&str],
-) -> Result<(bool, Option<String>), AllocError> {
-    let mut changing = FolderKeys::new(rt, alloc, "shared")?;
-    let mut reading = FolderKeys::new(rt, alloc, "shared")?;
-    let ended = AtomicBool::new(false);
-    let (other, done) = thread::join(
-        rt,
-        || first_other(alloc, &mut reading, wanted, &ended),
-        || {
-            let done = changes(alloc, &mut changing, removes);
-            ended.store(true, Ordering::SeqCst);
-            done
-        },
-    );
-    Ok((done, other?))
-}
+// Whether the file is removed in between, and what a read beside its changes may answer.
+const CHANGED_BESIDE: [(bool, &[&str]); 2] = [
+    (false, &["short", "much longer"]),
+    (true, &["short", "much longer", "absent"]),
+];
 
+// One thread makes its changes, and another reads meanwhile.
 #[test]
 fn a_file_is_read_whole_while_it_is_replaced(rt: HostRuntime) -> Result<(), Fail> {
     let alloc = rt.alloc();
     make_home(&rt, "shared")?;
-    let lengths = ["short", "much longer"];
-    assert_eq!(rt; at_once(&rt, alloc, false, &lengths)?, (true, None));
-    let or_none = ["short", "much longer", "absent"];
-    assert_eq!(rt; at_once(&rt, alloc, true, &or_none)?, (true, None));
+    for (removes, wanted) in CHANGED_BESIDE {
+        let mut changing = FolderKeys::new(&rt, alloc, "shared")?;
+        let mut reading = FolderKeys::new(&rt, alloc, "shared")?;
+        let ended = AtomicBool::new(false);
+        let (other, done) = thread::join(
+            &rt,
+            || first_other(alloc, &mut reading, wanted, &ended),
+            || {
+                let done = changes(alloc, &mut changing, removes);
+                ended.store(true, Ordering::SeqCst);
+                done
+            },
+        );
+        assert_eq!(rt; (done, other?), (true, None));
+    }
     fs::remove_dir_all(&rt, "shared")?;
     Ok(())
 }
