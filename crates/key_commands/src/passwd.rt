@@ -120,7 +120,7 @@ fn change_opened<L: Link, D: Desk, P: Prompter, K: Keys, R: Dice>(
     ensures out { (D.at desk.new).out ≡ held.new }
     ensures shut { IsShut (P.at prompter.new) }
 {
-    check_len(asking.alloc, key)?;
+    check_len(key)?;
     let pass = renewed_passphrase(asking, nonce, held, conn, desk, prompter)?;
     rewrite_file(asking, file, key, &pass, held, desk, keys, dice)
 }

@@ -1,12 +1,14 @@
 //! Keys under a session's wrapping key.
 
-ghost use Rattle.std.specs.Prelude.{◌≡◌, ◌==◌, ◌≤◌, ◌⊎◌, length, IfOk, IfErr, IfSome, IfNone, IsTrue, OnOk};
+ghost use Rattle.std.specs.Prelude.{◌≡◌, ◌==◌, ◌≤◌, ◌⊎◌, ◌↔◌, length, IfOk, IfErr, IfSome, IfNone, IsTrue, OnOk};
 ghost use Rattle.std.specs.List.{list_all};
-ghost use Rattle.sexp_canonical.specs.Spelling.{most_bytes};
+ghost use Rattle.sexp_canonical.specs.Spelling.{most_bytes, most_depth, depth};
 ghost use Rattle.sexp_canonical.specs.declared.tree.Sexp.{Sexp as Expression};
+ghost use Rattle.sexp_keys.specs.Key.{key_tree};
 ghost use Rattle.sexp_keys.specs.Lists.{key_list_of};
 ghost use Rattle.key_commands.specs.Wrapping.{zero_padded, wrapped_key, ArePadded, PlainSays, WrappedSays};
 ghost use Rattle.key_commands.specs.Steps.{are_padding};
+ghost use Rattle.key_commands.specs.declared.wrapping.TheConstants.{MAX_LIST_LEN};
 
 use crate::faults::fault_code;
 use assuan_server::Code;
@@ -80,7 +82,7 @@ fn plain_key(alloc: Global, plain: &[u8]) -> Result<KeyList, Code>
     if !key.is_clear() {
         return Err(Code::BadSecKey);
     }
-    if list_len(alloc, &key)? > MAX_LIST_LEN {
+    if !has_short_list(&key) {
         return Err(Code::BadSecKey);
     }
     Ok(key)
@@ -118,14 +120,13 @@ fn are_zeros(bytes: &[u8]) -> bool
     bytes.iter().all(|byte| *byte == 0)
 }
 
-/// How many bytes the whole list of a clear key has.
-pub(crate) fn list_len(alloc: Global, key: &KeyList) -> Result<usize, Code>
-    requires { IsTrue key.now.is_clear }
-    ensures len { IfOk result (λ len. len ≡ length (key_list_of key.now)) }
-    ensures fault { IfErr result (λ code. code ≡ Code.NoMemory) }
+/// Whether the whole list of a key within the limits of one that is read is short enough to be written to a file.
+pub(crate) fn has_short_list(key: &KeyList) -> bool
+    requires { depth (key_tree key.now) ≤ most_depth }
+    ensures { IsTrue result ↔ (length (key_list_of key.now) ≤ MAX_LIST_LEN) }
 {
-    match key.private_list(alloc) {
-        Ok(list) => Ok(Bytes::from(list).as_slice().len()),
-        Err(_) => Err(Code::NoMemory),
+    match key.list_len() {
+        Some(len) => len <= MAX_LIST_LEN,
+        None => false,
     }
 }
