@@ -8,8 +8,8 @@ use agent_commands::SessionEnd;
 use agent_origin::{Door, serve_door};
 use agent_ports::{Gate, GatePoint, Host, Launcher, Parts, SessionId};
 use counted_lock::{Counted, CountedDesk, CountedPass};
-use pinentry_client::{Pinentry, Word};
-use session_options::Rules;
+use pinentry_client::Pinentry;
+use session_options::{Rules, copied};
 use std::alloc::Global;
 use std::sync::Wait;
 use std::time;
@@ -108,12 +108,4 @@ where
     // No child is left.
     prompter.into_prompter().into_launcher();
     (desk.into_pass(), end)
-}
-
-fn copied(word: &Word) -> Word
-    ensures { result.items ≡ word.now.items }
-{
-    let mut copy = Word::new();
-    copy.try_extend_from_slice(word).unwrap();
-    copy
 }

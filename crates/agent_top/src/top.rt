@@ -16,8 +16,8 @@ use agent_core::{KnownCore, Solo};
 use agent_ports::{Clock, Dice, Host, Keys, Launcher, Link, SessionId};
 use agent_session::serve_session;
 use cache_policy::Limits;
-use pinentry_client::{Pinentry, Word};
-use session_options::{Rules, RunMode};
+use pinentry_client::Pinentry;
+use session_options::{Rules, RunMode, copied};
 use std::alloc::Global;
 use std::rt;
 use std::sync::Wait;
@@ -190,14 +190,6 @@ fn serve<S: Link, C: Clock, La: Launcher, K: Keys, R: Dice>(
     ensures childless { is_some pinentry.new.child ≡ false }
 {
     Status::of(serve_session(alloc, rules, stdio, desk, pinentry, keys, dice))
-}
-
-fn copied(word: &Word) -> Word
-    ensures { result.items ≡ word.now.items }
-{
-    let mut copy = Word::new();
-    copy.try_extend_from_slice(word).unwrap();
-    copy
 }
 
 /// The lifetimes that the rules say.
