@@ -247,7 +247,6 @@ module _ (request : Request) where
   is_short_of : (key : Key) (before : Option ℕ) (events : List (Event FurtherEvent)) (result : Result (Unit {0}) Refusal) (after : Option ℕ) → IsShort key before events result after → Here events result
   is_short_of key before events result after (parts.short few) = works request tt
   is_short_of key before events result after (parts.long many) = works request tt
-  is_short_of key before events result after parts.no_memory = refused_by tt refl refl
 
   rewrites_of : (file list : List ℕ) (before : Option ℕ) (events : List (Event FurtherEvent)) (result : Result (List ℕ) Refusal) (after : Option ℕ) → Rewrites file list before events result after → Here events result
   rewrites_of file list before events result after (files.canonical_file is) = works request tt

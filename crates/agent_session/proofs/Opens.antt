@@ -221,7 +221,6 @@ module _ {A B : Type 0} {part : Part A} {next : A → Part B} (first : Seated pa
 short_stays : (key : Key) (number : ℕ) (events : List (Event FurtherEvent)) (result : Result (Unit {0}) Refusal) (after : Option ℕ) → IsShort key (Some number) events result after → after ≡ Some number
 short_stays key number events result after (parts.short few) = refl
 short_stays key number events result after (parts.long many) = refl
-short_stays key number events result after parts.no_memory = refl
 
 nonce_stays : (id : Option (List ℕ)) (number : ℕ) (events : List (Event FurtherEvent)) (result : Result (Option (List ℕ)) Refusal) (after : Option ℕ) → LooksForNonce id (Some number) events result after → after ≡ Some number
 nonce_stays None number events result after small.returns = refl

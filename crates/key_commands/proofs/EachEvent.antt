@@ -228,7 +228,6 @@ module _ (Is : Event → Type 0) where
     is_short_of : (key : Key) (before : Option ℕ) (events : List Event) (result : Result (Unit {0}) Refusal) (after : Option ℕ) → IsShort key before events result after → All events
     is_short_of key before events result after (parts.short few) = tt
     is_short_of key before events result after (parts.long many) = tt
-    is_short_of key before events result after parts.no_memory = one _ tt
 
     pub is_short : (key : Key) → EachSo (IsShort key)
     is_short key = record { of = is_short_of key }

@@ -26,4 +26,4 @@ pub use rules::{
     DEFAULT_TTL, DEFAULT_TTL_SSH, DEFAULT_WORKERS, MAX_S2K_COUNT, MAX_WORKERS, MIN_S2K_COUNT,
     MIN_WORKERS, Rules, RunMode,
 };
-pub use text::copied;
+pub use text::{copied, name_and_value};

@@ -16,8 +16,8 @@ pub fn copied<const N: usize>(bytes: &ArrayVec<u8, N>) -> ArrayVec<u8, N>
     copy
 }
 
-/// An option's name, and its value.
-pub(crate) fn name_and_value(text: &[u8]) -> (&[u8], &[u8])
+/// The name of an option, up to the first blank, tab or `=`, and its value, as OPTION gives them; two dashes may stand before both.
+pub fn name_and_value(text: &[u8]) -> (&[u8], &[u8])
     ensures name { result.0.now ≡ name_of text.now }
     ensures value { result.1.now ≡ option_value text.now }
 {
