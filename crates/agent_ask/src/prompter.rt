@@ -55,7 +55,8 @@ pub trait Prompter {
     /// Whether it is ready for a question, whether a child stands, and how many calls failed.
     ghost at: { Self → AtPrompter };
 
-    /// A prompter shows its prompts by this relation between itself before a call, the call with its answer, and itself after.
+    /// A prompter shows its prompts by this relation between itself before a call, the call with
+    /// its answer, and itself after.
     ghost prompted: { Self → Call → Self → Type 0 };
 
     /// Whether a prompt is open that can be asked.
@@ -82,5 +83,6 @@ pub trait Prompter {
         ensures { prompted self.old Shut self.new };
 
     /// What every call does.
-    ghost promise: { (before : Self) (call : Call) (after : Self) → prompted before call after → IsCall (at before) call (at after) };
+    ghost promise: { (before : Self) (call : Call) (after : Self) → prompted before call after
+        → IsCall (at before) call (at after) };
 }

@@ -29,7 +29,8 @@ pub struct AskPlan {
     pub notify: bool,
     /// What the first try shows as an error. An empty text is not shown.
     pub first_error: Text,
-    /// How many bytes a new passphrase has at least, and how many of them that are no ASCII letters.
+    /// How many bytes a new passphrase has at least, and how many of them that are no ASCII
+    /// letters.
     pub check: Option<(u8, u8)>,
     /// How often an accepted passphrase is asked for again.
     pub repeat: u8,

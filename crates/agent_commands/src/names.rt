@@ -1,6 +1,8 @@
 ghost use Rattle.std.specs.Prelude.{◌≡◌, map};
-ghost use Rattle.agent_commands.specs.declared.names.TheConstants.{COMMANDS, KEY_COMMANDS, PROMPT_COMMANDS};
-ghost use Rattle.agent_commands.specs.Names.{commands, key_commands, prompt_commands, command_named, is_key_command, info_named, is_listed};
+ghost use Rattle.agent_commands.specs.declared.names.TheConstants.{COMMANDS, KEY_COMMANDS};
+ghost use Rattle.agent_commands.specs.declared.names.TheConstants.{PROMPT_COMMANDS};
+ghost use Rattle.agent_commands.specs.Names.{commands, key_commands, prompt_commands};
+ghost use Rattle.agent_commands.specs.Names.{command_named, is_key_command, info_named, is_listed};
 
 use crate::Info;
 use assuan_text::{found, found_in_any_case, has_pair};
@@ -66,7 +68,8 @@ pub const KEY_COMMANDS: [(&[u8], ()); 7] = [
 /// The commands on the prompts of those on keys. They are served, and HELP doesn't tell them.
 pub const PROMPT_COMMANDS: [(&[u8], CommandName); 1] = [(b"SETKEYDESC", CommandName::SetKeyDesc)];
 
-/// A law: `COMMANDS`, `KEY_COMMANDS` and `PROMPT_COMMANDS` have the names as they are defined, in this order.
+/// A law: `COMMANDS`, `KEY_COMMANDS` and `PROMPT_COMMANDS` have the names as they are defined, in
+/// this order.
 pub fn commands_are_as_defined()
     ensures cache { map (λ row. (row.0.now, row.1)) COMMANDS ≡ commands }
     ensures keys { map (λ row. (row.0.now, row.1)) KEY_COMMANDS ≡ key_commands }

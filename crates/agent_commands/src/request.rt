@@ -73,7 +73,8 @@ pub enum CacheCommand {
     },
 }
 
-/// A GET_PASSPHRASE that asks the cache alone, without the texts that its line may have: no prompt shows them.
+/// A GET_PASSPHRASE that asks the cache alone, without the texts that its line may have: no prompt
+/// shows them.
 #[derive(Drop)]
 pub struct QuietRequest {
     /// The passphrase is answered by data lines, and else in hexadecimal digits.

@@ -13,7 +13,8 @@ pub struct Foreign {
 /// A step that is told before it is taken, and so without a ticket.
 #[derive(Drop)]
 pub enum ForeignStep {
-    /// Asks for a passphrase. Where it opens a prompt, the passphrase can be kept under its id and mode.
+    /// Asks for a passphrase. Where it opens a prompt, the passphrase can be kept under its id and
+    /// mode.
     Ask {
         id: CacheId,
         mode: Mode,
@@ -23,7 +24,8 @@ pub enum ForeignStep {
     Seat {
         under: Option<Under>,
     },
-    /// Gives back the ticket that its session has, and may keep what was typed. It is passed over where that session has none.
+    /// Gives back the ticket that its session has, and may keep what was typed. It is passed over
+    /// where that session has none.
     CloseHeld {
         keep: Option<Secret>,
     },

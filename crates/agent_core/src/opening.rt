@@ -16,7 +16,8 @@ pub enum Opening {
 impl Opening {
     /// The step once more, if it wants the prompt.
     pub fn of(step: &Step) -> Option<Opening>
-        ensures same { IfSome result (λ opening. opening_step opening None ≡ without_wait step.now) }
+        ensures same { IfSome result
+            (λ opening. opening_step opening None ≡ without_wait step.now) }
         ensures none { IsNone result → opens (asked_step step.now) ≡ false }
     {
         match step {

@@ -4,8 +4,9 @@ use agent_ports::Clock;
 use std::rt;
 use std::time::{SystemTime, UNIX_EPOCH};
 
-/// The system's clock in seconds since 1970 (POSIX, "Seconds Since the Epoch"). None of its later readings are known. Where the system gives
-/// no time, the last reading stands, which is 0 before the first.
+/// The system's clock in seconds since 1970 (POSIX, "Seconds Since the Epoch"). None of its later
+/// readings are known. Where the system gives no time, the last reading stands, which is 0 before
+/// the first.
 #[derive(Drop)]
 pub struct SystemClock<'a, R> {
     rt: &'a R,

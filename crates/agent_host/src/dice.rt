@@ -9,8 +9,8 @@ use std::io::Read;
 /// Where the system gives random bytes.
 const SOURCE: &str = "/dev/urandom";
 
-/// The system's random bytes, of `/dev/urandom`, which is opened for each draw. None of them are known. A draw that can't be read whole is a
-/// fault, and leaves zeros.
+/// The system's random bytes, of `/dev/urandom`, which is opened for each draw. None of them are
+/// known. A draw that can't be read whole is a fault, and leaves zeros.
 #[derive(Drop)]
 pub struct SystemDice<'a, R> {
     rt: &'a R,

@@ -1,8 +1,10 @@
-//! The agent's host on this system: the clock, child programs, random bytes, the folder's key files and trust list, and its two sockets.
+//! The agent's host on this system: the clock, child programs, random bytes, the folder's key files
+//! and trust list, and its two sockets.
 //!
-//! Begin with [`SystemHost::new`]. Each part keeps the promise of its trait in `agent_ports`, and leaves its contents unknown: faults are
-//! counted, by clauses; the rest is shown by tests, here and of the built program (`tools/statuses`, `tools/with-gnupg`). The definitions
-//! are those of `agent_ports` (`specs/HostParts`, `Launches`, `Counts`).
+//! Begin with [`SystemHost::new`]. Each part keeps the promise of its trait in `agent_ports`, and
+//! leaves its contents unknown: faults are counted, by clauses; the rest is shown by tests, here
+//! and of the built program (`tools/statuses`, `tools/with-gnupg`). The definitions are those of
+//! `agent_ports` (`specs/HostParts`, `Launches`, `Counts`).
 #![tactic(auto)]
 
 mod clock;

@@ -1,7 +1,8 @@
 ghost use Rattle.std.specs.Prelude.{◌≡◌, map};
 ghost use Rattle.assuan_text.specs.Words.{words};
 ghost use Rattle.agent_commands.specs.Requests.{get_fields, request_of};
-ghost use Rattle.agent_origin.specs.Doors.{rules, rule_named, is_about_the_agent, leaves_cache, passes, allowed};
+ghost use Rattle.agent_origin.specs.Doors.{rules, rule_named, is_about_the_agent, leaves_cache};
+ghost use Rattle.agent_origin.specs.Doors.{passes, allowed};
 ghost use Rattle.agent_origin.specs.declared.door.TheConstants.{RULES};
 
 use agent_commands::{CacheCommand, Request, read_request};
@@ -22,17 +23,20 @@ const HAS_OPTION: &[u8] = b"cmd_has_option";
 pub enum Door {
     /// The user's own.
     Home,
-    /// The one that is handed to other machines. Their sessions see which keys are here, and may prompt the user. They use no key, change nothing that the
-    /// agent keeps, and are given no passphrase of its cache.
+    /// The one that is handed to other machines. Their sessions see which keys are here, and may
+    /// prompt the user. They use no key, change nothing that the agent keeps, and are given no
+    /// passphrase of its cache.
     Outer,
 }
 
-/// What the line of a command has to be at the outer door. Which rule a command has is this project's own.
+/// What the line of a command has to be at the outer door. Which rule a command has is this
+/// project's own.
 #[derive(Clone, Copy, Debug, PartialEq, Eq)]
 pub(crate) enum Rule {
     /// Any line, in form or not.
     Always,
-    /// An OPTION of any name but `pinentry-mode`, by which a session says how its prompts are answered.
+    /// An OPTION of any name but `pinentry-mode`, by which a session says how its prompts are
+    /// answered.
     NotTheMode,
     /// A GETINFO of what the agent is and can do: `version` or `cmd_has_option`.
     AboutTheAgent,
@@ -70,8 +74,8 @@ const RULES: [(&[u8], Rule); 22] = [
     (b"MARKTRUSTED", Rule::Never),
 ];
 
-/// Whether a line is allowed to a session that came in by this door. One that begins with no known command is: it isn't forbidden, but
-/// answered as an unknown command.
+/// Whether a line is allowed to a session that came in by this door. One that begins with no known
+/// command is: it isn't forbidden, but answered as an unknown command.
 pub fn allowed(door: Door, line: &Line) -> bool
     ensures { result ≡ allowed door line.now }
 {

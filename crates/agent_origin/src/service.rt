@@ -26,7 +26,8 @@ use wiping::wipe_stack;
 pub trait Answers {
     ghost exchange: { Service Self };
 
-    /// Answers the request of a line, and says how the session goes on. No ticket is out and no prompt is open when it returns.
+    /// Answers the request of a line, and says how the session goes on. No ticket is out and no
+    /// prompt is open when it returns.
     fn answer<L: Link, D: Desk, P: Prompter, K: Keys, R: Dice, T: TrustFile>(
         &self,
         alloc: Global,
@@ -43,15 +44,19 @@ pub trait Answers {
         requires open { IsOpen conn.old }
         requires free { (D.at desk.old).out ≡ None }
         requires shut { IsShut (P.at prompter.old) }
-        ensures answers { AnswersRequest {w = FurtherWorld D.turned P.prompted} (λ before. exchange self.now rules.now before line.now) kept.old
-            (further_state D.turned P.prompted conn.old desk.old prompter.old (K.keys keys.old) (R.draws dice.old) (T.trust trust.old)) result kept.new
-            (further_state D.turned P.prompted conn.new desk.new prompter.new (K.keys keys.new) (R.draws dice.new) (T.trust trust.new)) }
+        ensures answers { AnswersRequest {w = FurtherWorld D.turned P.prompted}
+            (λ before. exchange self.now rules.now before line.now) kept.old
+            (further_state D.turned P.prompted conn.old desk.old prompter.old
+            (K.keys keys.old) (R.draws dice.old) (T.trust trust.old)) result kept.new
+            (further_state D.turned P.prompted conn.new desk.new prompter.new (K.keys keys.new)
+            (R.draws dice.new) (T.trust trust.new)) }
         ensures free { (D.at desk.new).out ≡ None }
         ensures shut { IsShut (P.at prompter.new) };
 }
 
-/// Serves a session on a link: greets, and answers request after request so until the session ends. No ticket of the session is out and no prompt is
-/// open when it returns. Its wrapping keys are overwritten in the end.
+/// Serves a session on a link: greets, and answers request after request so until the session ends.
+/// No ticket of the session is out and no prompt is open when it returns. Its wrapping keys are
+/// overwritten in the end.
 pub fn serve<A: Answers, L: Link, D: Desk, P: Prompter, K: Keys, R: Dice, T: TrustFile>(
     so: &A,
     alloc: Global,
@@ -65,9 +70,12 @@ pub fn serve<A: Answers, L: Link, D: Desk, P: Prompter, K: Keys, R: Dice, T: Tru
 ) -> SessionEnd
     requires free { (D.at desk.old).out ≡ None }
     requires shut { IsShut (P.at prompter.old) }
-    ensures serves { ServesSession {w = FurtherWorld D.turned P.prompted} (A.exchange so.now rules.now) (kept_at_start rules.now)
-        (surroundings D.turned P.prompted (L.input link.old) (L.output link.old) desk.old prompter.old (K.keys keys.old) (R.draws dice.old) (T.trust trust.old)) result
-        (surroundings D.turned P.prompted (L.input link.new) (L.output link.new) desk.new prompter.new (K.keys keys.new) (R.draws dice.new) (T.trust trust.new)) }
+    ensures serves { ServesSession {w = FurtherWorld D.turned P.prompted}
+        (A.exchange so.now rules.now) (kept_at_start rules.now)
+        (surroundings D.turned P.prompted (L.input link.old) (L.output link.old)
+        desk.old prompter.old (K.keys keys.old) (R.draws dice.old) (T.trust trust.old)) result
+        (surroundings D.turned P.prompted (L.input link.new) (L.output link.new) desk.new
+        prompter.new (K.keys keys.new) (R.draws dice.new) (T.trust trust.new)) }
     ensures free { (D.at desk.new).out ≡ None }
     ensures shut { IsShut (P.at prompter.new) }
 {
@@ -96,9 +104,11 @@ fn serve_conn<A: Answers, L: Link, D: Desk, P: Prompter, K: Keys, R: Dice, T: Tr
     requires fresh { conn.old.reader ≡ record { ahead = []; left = budget; ended = None } }
     requires free { (D.at desk.old).out ≡ None }
     requires shut { IsShut (P.at prompter.old) }
-    ensures serves { ServesConn {w = FurtherWorld D.turned P.prompted} (A.exchange so.now rules.now) (kept_at_start rules.now)
-        (further_state D.turned P.prompted conn.old desk.old prompter.old (K.keys keys.old) (R.draws dice.old) (T.trust trust.old)) result
-        (further_state D.turned P.prompted conn.new desk.new prompter.new (K.keys keys.new) (R.draws dice.new) (T.trust trust.new)) }
+    ensures serves { ServesConn {w = FurtherWorld D.turned P.prompted} (A.exchange so.now rules.now)
+        (kept_at_start rules.now) (further_state D.turned P.prompted conn.old desk.old prompter.old
+        (K.keys keys.old) (R.draws dice.old) (T.trust trust.old)) result
+        (further_state D.turned P.prompted conn.new desk.new prompter.new (K.keys keys.new)
+        (R.draws dice.new) (T.trust trust.new)) }
     ensures free { (D.at desk.new).out ≡ None }
     ensures shut { IsShut (P.at prompter.new) }
 {
@@ -131,9 +141,12 @@ fn serve_requests<A: Answers, L: Link, D: Desk, P: Prompter, K: Keys, R: Dice, T
     requires open { IsOpen conn.old }
     requires free { (D.at desk.old).out ≡ None }
     requires shut { IsShut (P.at prompter.old) }
-    ensures serves { ServesRequests {w = FurtherWorld D.turned P.prompted} (A.exchange so.now rules.now) kept.old
-        (further_state D.turned P.prompted conn.old desk.old prompter.old (K.keys keys.old) (R.draws dice.old) (T.trust trust.old)) result
-        (further_state D.turned P.prompted conn.new desk.new prompter.new (K.keys keys.new) (R.draws dice.new) (T.trust trust.new)) }
+    ensures serves { ServesRequests
+        {w = FurtherWorld D.turned P.prompted} (A.exchange so.now rules.now) kept.old
+        (further_state D.turned P.prompted conn.old desk.old prompter.old
+        (K.keys keys.old) (R.draws dice.old) (T.trust trust.old)) result
+        (further_state D.turned P.prompted conn.new desk.new prompter.new (K.keys keys.new)
+        (R.draws dice.new) (T.trust trust.new)) }
     ensures free { (D.at desk.new).out ≡ None }
     ensures shut { IsShut (P.at prompter.new) }
 {

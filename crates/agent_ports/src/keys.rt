@@ -1,6 +1,7 @@
 ghost use Rattle.std.specs.Prelude.{◌≤◌, length};
 ghost use Rattle.agent_ports.specs.declared.keys.TheConstants.{MAX_KEY_FILE_LEN};
-ghost use Rattle.agent_ports.specs.KeyFiles.{KeyFiles, ReadsKey, ListsKeys, ReplacesKey, RemovesKey};
+ghost use Rattle.agent_ports.specs.KeyFiles.{KeyFiles, ReadsKey, ListsKeys, ReplacesKey};
+ghost use Rattle.agent_ports.specs.KeyFiles.{RemovesKey};
 
 use crate::Grip;
 use std::alloc::Global;

@@ -1,11 +1,12 @@
 //! A session from bytes to bytes, over any link and any desk.
 //!
-//! Begin with [`serve_session`], whose loop is in `agent_origin` (`serve`): what a session reads, writes and does is one list of events,
-//! the greeting and then each request with its exchange, and it leaves no ticket out and no prompt open. The laws say when a request is
-//! answered: each error has its cause ([`each_error_has_its_cause`]), and without one there is an answer
+//! Begin with [`serve_session`], whose loop is in `agent_origin` (`serve`): what a session reads,
+//! writes and does is one list of events, the greeting and then each request with its exchange, and
+//! it leaves no ticket out and no prompt open. The laws say when a request is answered: each error
+//! has its cause ([`each_error_has_its_cause`]), and without one there is an answer
 //! ([`a_session_without_faults_is_answered`]). They say the same of sessions that came in by a door
-//! ([`each_error_at_a_door_has_its_cause`]). Definitions begin in `specs/Sessions`, the causes in `specs/Causes`, and at a door in
-//! `specs/DoorCauses`.
+//! ([`each_error_at_a_door_has_its_cause`]). Definitions begin in `specs/Sessions`, the causes in
+//! `specs/Causes`, and at a door in `specs/DoorCauses`.
 #![tactic(auto)]
 
 mod completeness;

@@ -54,8 +54,9 @@ impl TrustFile for NoTrust {
     }
 }
 
-/// Serves a session on a link: greets, and answers request after request until the session ends. No ticket of the session is out and no
-/// prompt is open when it returns. Its wrapping keys are overwritten in the end.
+/// Serves a session on a link: greets, and answers request after request until the session ends. No
+/// ticket of the session is out and no prompt is open when it returns. Its wrapping keys are
+/// overwritten in the end.
 pub fn serve_session<L: Link, D: Desk, P: Prompter, K: Keys, R: Dice>(
     alloc: Global,
     rules: &Rules,
@@ -68,8 +69,10 @@ pub fn serve_session<L: Link, D: Desk, P: Prompter, K: Keys, R: Dice>(
     requires free { (D.at desk.old).out ≡ None }
     requires shut { IsShut (P.at prompter.old) }
     ensures serves { ServesRules D.turned P.prompted rules.now
-        (without_trust D.turned P.prompted (L.input link.old) (L.output link.old) desk.old prompter.old (K.keys keys.old) (R.draws dice.old)) result
-        (without_trust D.turned P.prompted (L.input link.new) (L.output link.new) desk.new prompter.new (K.keys keys.new) (R.draws dice.new)) }
+        (without_trust D.turned P.prompted (L.input link.old)
+        (L.output link.old) desk.old prompter.old (K.keys keys.old) (R.draws dice.old)) result
+        (without_trust D.turned P.prompted (L.input link.new)
+        (L.output link.new) desk.new prompter.new (K.keys keys.new) (R.draws dice.new)) }
     ensures free { (D.at desk.new).out ≡ None }
     ensures shut { IsShut (P.at prompter.new) }
 {

@@ -6,7 +6,8 @@ use assuan_text::MAX_LINE_LEN;
 use cache_policy::Secret;
 use wiping::Wiped;
 
-/// What a server answers to a command, to a reply or to a cancel. It may hold what was typed, so it isn't printed.
+/// What a server answers to a command, to a reply or to a cancel. It may hold what was typed, so it
+/// isn't printed.
 #[derive(Drop)]
 pub enum Answer {
     /// `OK`, and no byte of data before it.

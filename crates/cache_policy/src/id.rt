@@ -28,7 +28,8 @@ impl Model for CacheId {
 impl CacheId {
     /// `None` for no bytes, and for more than 50.
     pub fn of(bytes: &[u8]) -> Option<CacheId>
-        ensures within { IsSome result ↔ ((0 < length bytes.now) × (length bytes.now ≤ MAX_ID_LEN)) }
+        ensures within { IsSome result
+            ↔ ((0 < length bytes.now) × (length bytes.now ≤ MAX_ID_LEN)) }
         ensures bytes { IfSome result (λ id. id ≡ bytes.now) }
     {
         if bytes.is_empty() {

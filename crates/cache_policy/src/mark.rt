@@ -33,7 +33,8 @@ pub enum Way {
     Prompt,
 }
 
-/// One step of a session, with the number of its ticket in place of a ticket, and the moment of its first try in place of a wait.
+/// One step of a session, with the number of its ticket in place of a ticket, and the moment of its
+/// first try in place of a wait.
 #[derive(Drop)]
 pub enum MarkStep {
     /// Asks for a passphrase.

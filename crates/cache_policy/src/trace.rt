@@ -7,8 +7,8 @@ use crate::wait::since_by;
 use crate::{CacheId, Life, MarkReply, Mode, Reply, Step, Under, Way};
 use agent_ports::SessionId;
 
-/// One step of a session, with the number of its ticket in place of a ticket, the moment of its first try in place of a wait, and without
-/// the bytes of a secret.
+/// One step of a session, with the number of its ticket in place of a ticket, the moment of its
+/// first try in place of a wait, and without the bytes of a secret.
 #[derive(Debug, PartialEq, Eq, Drop)]
 pub enum TraceStep {
     /// Asks for a passphrase.

@@ -1,5 +1,5 @@
-//! The table that threads share. One word counts the numbers that were drawn, one those that were served, and one the
-//! marks. The slot has the core, but for the time of a turn.
+//! The table that threads share. One word counts the numbers that were drawn, one those that were
+//! served, and one the marks. The slot has the core, but for the time of a turn.
 use agent_core::Core;
 use atomic_table::{Seat, Table, TableRule};
 use cache_policy::{Limits, Mark, Tally};
@@ -41,7 +41,8 @@ pub struct Claim {
     pub seen: LinkedList<Mark>,
 }
 
-/// Where a turn is: it has no number; it waits for this number; or it has the core. The numbers go beyond those of a word.
+/// Where a turn is: it has no number; it waits for this number; or it has the core. The numbers go
+/// beyond those of a word.
 pub enum Stage {
     /// It has no number.
     Idle,

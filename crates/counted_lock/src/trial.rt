@@ -1,4 +1,5 @@
-//! What is noted of a step before the core takes it, so that its mark can be counted without a copy of the step.
+//! What is noted of a step before the core takes it, so that its mark can be counted without a copy
+//! of the step.
 ghost use Rattle.std.specs.Prelude.{◌≡◌, Ok};
 ghost use Rattle.cache_policy.specs.Turns.{mark_step, turn_of};
 ghost use Rattle.agent_core.specs.Recording.{reply_of};
@@ -9,7 +10,8 @@ use crate::board::Cored;
 use agent_ports::SessionId;
 use cache_policy::{Reply, Step, Tally};
 
-/// A step that is tried: whose it is, the reading of the clock, the tally before it, and what it adds to that where it makes its mark.
+/// A step that is tried: whose it is, the reading of the clock, the tally before it, and what it
+/// adds to that where it makes its mark.
 #[derive(Clone, Copy)]
 pub(crate) struct Trial {
     pub(crate) session: SessionId,

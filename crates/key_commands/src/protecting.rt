@@ -36,7 +36,8 @@ pub(crate) fn check_len(key: &KeyList) -> Result<(), Refusal>
     Ok(())
 }
 
-/// The file of a clear key that is protected by a passphrase, with this salt, initialization vector and count.
+/// The file of a clear key that is protected by a passphrase, with this salt, initialization vector
+/// and count.
 pub(crate) fn protected_key(
     alloc: Global,
     key: &KeyList,
@@ -70,7 +71,8 @@ pub(crate) fn salt_and_iv(drawn: &[u8; 20]) -> ([u8; 8], [u8; 12])
     (salt, iv)
 }
 
-/// Keeps the passphrase of a key's new file: by the ticket that is held, or else by a turn of its own.
+/// Keeps the passphrase of a key's new file: by the ticket that is held, or else by a turn of its
+/// own.
 pub(crate) fn keep_new<D: Desk>(
     grip: &Grip,
     pass: &Secret,
@@ -78,7 +80,8 @@ pub(crate) fn keep_new<D: Desk>(
     desk: &mut D,
 ) -> Result<(), Refusal>
     requires out { (D.at desk.old).out ≡ held.old }
-    ensures turn { DoesTurns D.turned (KeepsNew grip.now pass.now) held.old desk.old result held.new desk.new }
+    ensures turn { DoesTurns D.turned
+        (KeepsNew grip.now pass.now) held.old desk.old result held.new desk.new }
     ensures out { (D.at desk.new).out ≡ held.new }
 {
     if held.is_held() {

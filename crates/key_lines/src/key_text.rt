@@ -16,7 +16,8 @@ use std::alloc::Global;
 /// The key that the value of its item is.
 pub(crate) fn key_in(alloc: Global, value: &[u8]) -> Result<Sexp, LinesFault>
     ensures found { IfOk result (IsKeyText value.now) }
-    ensures fault { IfErr result (λ fault. (fault ≡ LinesFault.NoMemory) ⊎ IsKeyFault value.now fault) }
+    ensures fault { IfErr result
+        (λ fault. (fault ≡ LinesFault.NoMemory) ⊎ IsKeyFault value.now fault) }
 {
     match expression_in(alloc, value) {
         Ok(tree) => {
@@ -34,7 +35,8 @@ pub(crate) fn key_in(alloc: Global, value: &[u8]) -> Result<Sexp, LinesFault>
 // The expression that the value is, with blanks around it.
 fn expression_in(alloc: Global, value: &[u8]) -> Result<Sexp, AdvFault>
     ensures found { IfOk result (IsExpression value.now) }
-    ensures fault { IfErr result (λ fault. (fault ≡ AdvFault.NoMemory) ⊎ IsTextFault value.now fault) }
+    ensures fault { IfErr result
+        (λ fault. (fault ≡ AdvFault.NoMemory) ⊎ IsTextFault value.now fault) }
 {
     let (tree, len) = read_advanced(alloc, value)?;
     let behind = &value[len..];

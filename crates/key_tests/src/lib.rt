@@ -1,4 +1,5 @@
-//! Tests of key files and what opens them: outside vectors of the cipher and its modes, expressions, lists of a key, whole files, and the trust list.
+//! Tests of key files and what opens them: outside vectors of the cipher and its modes,
+//! expressions, lists of a key, whole files, and the trust list.
 //!
 //! They stand in a crate of their own since a crate with tests is proved twice.
 #![tactic(auto)]

@@ -5,10 +5,12 @@ use trust_list::{MAX_TRUST_FILE_LEN, TrustFault, add_trust, trusted};
 
 const CERTIFICATE: Grip = Grip([0xAA; 20]);
 
-/// A file, and what it says of the certificate, whose fingerprint is 40 times `A`. A text may have repeated parts, as `{part*3}`. No file is longer than one may be.
+/// A file, and what it says of the certificate, whose fingerprint is 40 times `A`. A text may have
+/// repeated parts, as `{part*3}`. No file is longer than one may be.
 const FILES: [(&str, Option<bool>); 48] = [
     ("", None),
-    // Digits are of either case, blanks are tabs too, and further words are skipped. The last line needs no end.
+    // Digits are of either case, blanks are tabs too, and further words are skipped. The last line
+    // needs no end.
     ("{A*40} S", Some(true)),
     ("{A*40} S\n", Some(true)),
     ("{a*40} S\n", Some(true)),
@@ -51,7 +53,8 @@ const FILES: [(&str, Option<bool>); 48] = [
     ("!AA::{A*38} S\n{A*40} S", Some(true)),
     ("!BB{A*38} S\n{A*40} S", Some(true)),
     ("!{A*40} s\n{A*40} S", Some(true)),
-    // Files of 65,536 bytes: one line that is no entry, or one behind blanks, before words, or behind another line.
+    // Files of 65,536 bytes: one line that is no entry, or one behind blanks, before words, or
+    // behind another line.
     ("{A*65536}", None),
     ("{:*65536}", None),
     ("{ *65536}", None),

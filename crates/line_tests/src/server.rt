@@ -36,7 +36,8 @@ type Failing = (usize, &'static [u64]);
 
 const NEVER: Failing = (0, &[]);
 
-/// What is said, which writes fail, what is written, and what of it went. In a text `{part*3}` stands for three times that part.
+/// What is said, which writes fail, what is written, and what of it went. In a text `{part*3}`
+/// stands for three times that part.
 type Saying = (&'static [Said], Failing, &'static str, &'static str);
 
 /// Every line that is used, and writes that fail.

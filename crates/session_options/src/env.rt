@@ -4,8 +4,8 @@ ghost use Rattle.session_options.specs.Text.{has_line_end};
 use crate::Word;
 use crate::text::copied;
 
-/// Where a pinentry is to ask: the terminal and the locale of the client. An empty word means none, and no word holds an
-/// end of a line.
+/// Where a pinentry is to ask: the terminal and the locale of the client. An empty word means none,
+/// and no word holds an end of a line.
 #[derive(Debug, Drop)]
 pub struct Env {
     /// The path of the terminal.
@@ -27,7 +27,8 @@ impl Env {
 
     /// No terminal and no locale.
     pub(crate) fn none() -> Self
-        ensures { words_of result ≡ record { ttyname = []; ttytype = []; lc_ctype = []; lc_messages = [] } }
+        ensures { words_of result
+            ≡ record { ttyname = []; ttytype = []; lc_ctype = []; lc_messages = [] } }
     {
         Env {
             ttyname: Word::new(),

@@ -7,7 +7,8 @@ use crate::Word;
 /// The fewest bytes that a passphrase is hashed to.
 pub const MIN_S2K_COUNT: u64 = 65_536;
 
-/// The most bytes that a passphrase is hashed to: what the octet 255 stands for (RFC 4880, 3.7.1.3).
+/// The most bytes that a passphrase is hashed to: what the octet 255 stands for (RFC 4880,
+/// 3.7.1.3).
 pub const MAX_S2K_COUNT: u64 = 65_011_712;
 
 /// The bytes that a passphrase is hashed to where nothing is said.

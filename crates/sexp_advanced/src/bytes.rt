@@ -1,5 +1,6 @@
 ghost use Rattle.std.specs.Prelude.{◌≡◌, ◌<◌, IfSome};
-ghost use Rattle.sexp_advanced.specs.Bytes.{is_space_byte, is_token_mark, is_token_start, is_token_byte, hex_value, without_front, class_of};
+ghost use Rattle.sexp_advanced.specs.Bytes.{is_space_byte, is_token_mark, is_token_start};
+ghost use Rattle.sexp_advanced.specs.Bytes.{is_token_byte, hex_value, without_front, class_of};
 ghost use Rattle.sexp_advanced.specs.declared.bytes.Class.{Class};
 
 /// What a byte begins, where an item may begin.

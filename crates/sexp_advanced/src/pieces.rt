@@ -1,6 +1,8 @@
 ghost use Rattle.std.specs.Prelude.{◌≡◌, ◌<◌, ◌≤◌, ◌⊎◌, MatchBool};
 ghost use Rattle.std.specs.Int.{is_in_range};
-ghost use Rattle.sexp_advanced.specs.Pieces.{low_digit, pair, hex_escape, second_octal, third_octal, letter, escape, quoted_piece, piece_at, piece_of};
+ghost use Rattle.sexp_advanced.specs.Pieces.{low_digit, pair, hex_escape, second_octal};
+ghost use Rattle.sexp_advanced.specs.Pieces.{third_octal, letter, escape, quoted_piece, piece_at};
+ghost use Rattle.sexp_advanced.specs.Pieces.{piece_of};
 
 use crate::bytes::{after_blanks, hex_value};
 

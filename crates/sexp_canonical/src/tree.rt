@@ -58,7 +58,8 @@ impl Items {
     }
 }
 
-// A derived drop would call itself once for each level, and a tree of many levels would run out of stack.
+// A derived drop would call itself once for each level, and a tree of many levels would run out of
+// stack.
 impl Drop for Items {
     fn drop(self) {
         let mut left = self.into_vec();
@@ -72,10 +73,12 @@ impl Drop for Items {
     }
 }
 
-// One vector that holds what both hold, in places that they have: the outer items go into a list before the inner ones.
+// One vector that holds what both hold, in places that they have: the outer items go into a list
+// before the inner ones.
 fn joined(mut outer: Vec<Sexp>, mut inner: Vec<Sexp>) -> Vec<Sexp>
     requires { vec_len outer < vec_capacity outer }
-    ensures { drop_steps (trees result.items) < drop_steps (trees outer.items ++ list_of (trees inner.items) ∷ []) }
+    ensures { drop_steps (trees result.items)
+        < drop_steps (trees outer.items ++ list_of (trees inner.items) ∷ []) }
 {
     if outer.is_empty() {
         outer.destroy_empty();

@@ -1,10 +1,12 @@
-ghost use Rattle.std.specs.Prelude.{◌≡◌, ◌↔◌, ◌+◌, ◌<◌, ◌≤◌, [], ◌∷◌, ◌++◌, length, IsOk, IsTrue, OnOk, OnErr, IsSome, IfSome};
+ghost use Rattle.std.specs.Prelude.{◌≡◌, ◌↔◌, ◌+◌, ◌<◌, ◌≤◌, [], ◌∷◌, ◌++◌, length, IsOk, IsTrue};
+ghost use Rattle.std.specs.Prelude.{OnOk, OnErr, IsSome, IfSome};
 
 use crate::wipe;
 use arrayvec::{ArrayVec, CapacityError};
 use std::marker::Model;
 
-/// At most `N` bytes, in the value itself. They are overwritten when it is dropped, and it is neither cloned nor printed.
+/// At most `N` bytes, in the value itself. They are overwritten when it is dropped, and it is
+/// neither cloned nor printed.
 pub struct Wiped<const N: usize> {
     bytes: ArrayVec<u8, N>,
 }
