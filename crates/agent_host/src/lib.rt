@@ -14,6 +14,7 @@ mod host;
 mod keys;
 mod launcher;
 mod no_folder;
+mod told;
 mod trust;
 
 pub use clock::SystemClock;
