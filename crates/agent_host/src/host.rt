@@ -24,9 +24,9 @@ pub type SystemParts<'a, R> = Parts<
     SystemKeys<'a, R>,
 >;
 
-/// The machine that the program runs on. It listens on two Unix sockets in the folder that was settled, `S.gpg-agent` and
-/// `S.gpg-agent.extra`, and has the key files and the trust list of that folder. Before one was settled there are none, and each call for
-/// them fails.
+/// The machine that the program runs on. It listens on two Unix sockets in the folder that was
+/// settled, `S.gpg-agent` and `S.gpg-agent.extra`, and has the key files and the trust list of that
+/// folder. Before one was settled there are none, and each call for them fails.
 #[derive(Drop)]
 pub struct SystemHost<'a, R> {
     rt: &'a R,
@@ -39,7 +39,8 @@ pub struct SystemHost<'a, R> {
 }
 
 impl<'a, R: rt::Clock + Processes + Files<File = File> + Net + Eprint> SystemHost<'a, R> {
-    /// The machine, with its server's parts and no folder yet. `pid` is the number of the process, as `GETINFO pid` tells it.
+    /// The machine, with its server's parts and no folder yet. `pid` is the number of the process,
+    /// as `GETINFO pid` tells it.
     pub fn new(rt: &'a R, alloc: Global, pid: u32) -> Self
         ensures { IsSome (⟦<SystemHost<'a, R> as Host>⟧.server result) }
     {
@@ -123,7 +124,8 @@ impl<'a, R: rt::Clock + Processes + Files<File = File> + Net + Eprint> Host for 
 
     ghost homedir = { λ h. h.homedir };
 
-    ghost of_folder = { λ path. record { keys = λ keys. keys.homedir ≡ path; trust = λ trust. trust.homedir ≡ path } };
+    ghost of_folder = { λ path.
+        record { keys = λ keys. keys.homedir ≡ path; trust = λ trust. trust.homedir ≡ path } };
 
     ghost is_home = { λ l. l.name ≡ Named.Standard };
 
@@ -148,9 +150,12 @@ impl<'a, R: rt::Clock + Processes + Files<File = File> + Net + Eprint> Host for 
 
     fn parts_back(&mut self, parts: SystemParts<'a, R>)
         ensures back { ⟦<SystemHost<'a, R> as Host>⟧.server self.new ≡ Some parts.entry }
-        ensures process { ⟦<SystemHost<'a, R> as Host>⟧.process self.new ≡ ⟦<SystemHost<'a, R> as Host>⟧.process self.old }
-        ensures listens { ⟦<SystemHost<'a, R> as Host>⟧.listens self.new ≡ ⟦<SystemHost<'a, R> as Host>⟧.listens self.old }
-        ensures homedir { ⟦<SystemHost<'a, R> as Host>⟧.homedir self.new ≡ ⟦<SystemHost<'a, R> as Host>⟧.homedir self.old }
+        ensures process { ⟦<SystemHost<'a, R> as Host>⟧.process self.new
+            ≡ ⟦<SystemHost<'a, R> as Host>⟧.process self.old }
+        ensures listens { ⟦<SystemHost<'a, R> as Host>⟧.listens self.new
+            ≡ ⟦<SystemHost<'a, R> as Host>⟧.listens self.old }
+        ensures homedir { ⟦<SystemHost<'a, R> as Host>⟧.homedir self.new
+            ≡ ⟦<SystemHost<'a, R> as Host>⟧.homedir self.old }
     {
         self.parts = Some(parts);
     }

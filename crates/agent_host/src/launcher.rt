@@ -11,12 +11,15 @@ use std::time::Duration;
 use std::{io, rt, str, thread};
 use std_link::StdLink;
 
-/// How often a child that is to end is looked at, before it is killed. Each look is followed by a nap of twice the one before, of 1 microsecond at first: together
-/// they take a second, and an end is seen after at most twice the time that it took.
+/// How often a child that is to end is looked at, before it is killed. Each look is followed by a
+/// nap of twice the one before, of 1 microsecond at first: together they take a second, and an end
+/// is seen after at most twice the time that it took.
 const LOOKS: u32 = 20;
 
-/// Starts programs without arguments, whose standard input and output are pipes. It doesn't show what they give and are written. A child that is finished has a second
-/// to end by itself. Why a program couldn't be started, and what a child failed by, is said on the error stream, in one line.
+/// Starts programs without arguments, whose standard input and output are pipes. It doesn't show
+/// what they give and are written. A child that is finished has a second to end by itself. Why a
+/// program couldn't be started, and what a child failed by, is said on the error stream, in one
+/// line.
 #[derive(Drop)]
 pub struct PipeLauncher<'a, R> {
     rt: &'a R,
@@ -37,7 +40,8 @@ impl<'a, R: rt::Clock + Processes + Eprint> PipeLauncher<'a, R> {
     }
 }
 
-/// A program that was started: what it writes is read, and what is written it reads. It is handed to `finish`, which sees to its end.
+/// A program that was started: what it writes is read, and what is written it reads. It is handed
+/// to `finish`, which sees to its end.
 pub struct PipedChild<P: OpenProcess> {
     process: Child<P>,
     pipes: StdLink<P::Stdout, P::Stdin>,
@@ -79,7 +83,8 @@ impl<P: OpenProcess> Link for PipedChild<P> {
 impl<R: rt::Clock + Processes + Eprint> Launcher for PipeLauncher<'_, R> {
     type Child = PipedChild<R::Started>;
 
-    ghost launches = { λ l. record { coming = None; launched = None; finished = None; faults = l.faults } };
+    ghost launches = { λ l.
+        record { coming = None; launched = None; finished = None; faults = l.faults } };
 
     fn launch(&mut self, program: &[u8]) -> Option<PipedChild<R::Started>> {
         let child = start(self.rt, self.alloc, program);
@@ -114,7 +119,8 @@ fn start<R: rt::Clock + Processes>(
     alloc: Global,
     program: &[u8],
 ) -> io::Result<PipedChild<R::Started>>
-    ensures { IfOk result (λ child. IsFresh (⟦<PipedChild<R::Started> as Source>⟧.input child) (⟦<PipedChild<R::Started> as Sink>⟧.output child)) }
+    ensures { IfOk result (λ child. IsFresh (⟦<PipedChild<R::Started> as Source>⟧.input child)
+        (⟦<PipedChild<R::Started> as Sink>⟧.output child)) }
 {
     let path = str::from_utf8(program).map_err(|_| ErrorKind::InvalidFilename)?;
     let mut command = Command::new(alloc, path)?;
@@ -135,7 +141,8 @@ fn start<R: rt::Clock + Processes>(
     }
 }
 
-/// Takes the end of a child whose pipes are closed. One that heeds neither, and is still there behind a second, is killed.
+/// Takes the end of a child whose pipes are closed. One that heeds neither, and is still there
+/// behind a second, is killed.
 fn end<P: OpenProcess>(rt: &impl rt::Clock, process: &mut Child<P>) -> io::Result<()> {
     for look in 0..LOOKS {
         if process.try_wait()?.is_some() {
@@ -206,7 +213,8 @@ mod tests {
         }
     }
 
-    /// A program of this test's own, which is a script of the shell. It is closed, so that it may be started.
+    /// A program of this test's own, which is a script of the shell. It is closed, so that it may
+    /// be started.
     fn script(rt: &HostRuntime, name: &str, lines: &str) -> Result<String, Fail> {
         let temporary = env::temp_dir(rt)?;
         let Some(temporary) = temporary.as_path().to_str() else {

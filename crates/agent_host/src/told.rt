@@ -12,7 +12,8 @@ const MAX_KEPT: usize = 200;
 /// The number of an error is its source, and in its 16 low bits its code.
 const CODES: u32 = 65_536;
 
-/// By these codes a pinentry says what its user did, or that none did in time: timeout, cancelled, not confirmed, fully cancelled.
+/// By these codes a pinentry says what its user did, or that none did in time: timeout, cancelled,
+/// not confirmed, fully cancelled.
 const USERS: [u32; 4] = [62, 99, 114, 198];
 
 /// Where a child's output stands.
@@ -28,8 +29,8 @@ enum Place {
     End,
 }
 
-/// What is kept of a child's output: its last response where that is an error (Assuan manual, "server responses"), and no byte of any
-/// other line. So no passphrase is kept.
+/// What is kept of a child's output: its last response where that is an error (Assuan manual,
+/// "server responses"), and no byte of any other line. So no passphrase is kept.
 #[derive(Drop)]
 pub(crate) struct LastError {
     line: ArrayVec<u8, MAX_KEPT>,
@@ -67,8 +68,10 @@ impl LastError {
 
     /// What is kept is of lines that begin as an error's.
     fn read_byte(&mut self, byte: u8)
-        ensures begun { self.new.place ≡ Place.Error → (self.old.place ≡ Place.Error) ⊎ ((self.old.place ≡ Place.Start) × (byte ≡ 69)) }
-        ensures kept { (self.new.place ≡ Place.Error) ⊎ (self.new.line.items ≡ self.old.line.items) ⊎ (self.new.line.items ≡ []) }
+        ensures begun { self.new.place ≡ Place.Error
+            → (self.old.place ≡ Place.Error) ⊎ ((self.old.place ≡ Place.Start) × (byte ≡ 69)) }
+        ensures kept { (self.new.place ≡ Place.Error) ⊎ (self.new.line.items ≡ self.old.line.items)
+            ⊎ (self.new.line.items ≡ []) }
     {
         self.place = match (self.place, byte) {
             (_, b'\n') => Place::Start,
