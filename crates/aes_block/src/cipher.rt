@@ -10,12 +10,14 @@ use std::{fmt, hint};
 
 /// A key of 128 bits, expanded once for any number of blocks. A contract sees its 16 bytes.
 ///
-/// A move leaves the expanded key where it was, as in Rust, and `drop` is given its value by a move: `clear` overwrites it where
-/// it lies. What the compiler keeps of it in other places while it works isn't overwritten.
+/// A move leaves the expanded key where it was, as in Rust, and `drop` is given its value by a
+/// move: `clear` overwrites it where it lies. What the compiler keeps of it in other places while
+/// it works isn't overwritten.
 pub struct Aes128 {
     round_keys: [[u32; 4]; 11],
 
-    // The keys of rounds 1 to 9, unmixed: what the equivalent inverse cipher adds (FIPS 197, 5.3.5).
+    // The keys of rounds 1 to 9, unmixed: what the equivalent inverse cipher adds (FIPS 197,
+    // 5.3.5).
     unmixed_keys: [[u32; 4]; 9],
 }
 
@@ -27,7 +29,8 @@ impl Model for Aes128 {
     ghost invariant = { λ cipher. let key = bytes_of (slice_index_or cipher.round_keys 0 []) in
         IsBytes 16 key
         × ((r : ℕ) → r < 11 → bytes_of (slice_index_or cipher.round_keys r []) ≡ round_key key r)
-        × ((r : ℕ) → r < 9 → bytes_of (slice_index_or cipher.unmixed_keys r []) ≡ inv_mix_columns (round_key key (r + 1))) };
+        × ((r : ℕ) → r < 9 → bytes_of (slice_index_or cipher.unmixed_keys r [])
+        ≡ inv_mix_columns (round_key key (r + 1))) };
 }
 
 impl Aes128 {
@@ -49,7 +52,8 @@ impl Aes128 {
     }
 
     /// Overwrites the expanded key where it lies, by that of a key of zeros.
-    // Inlined, so that the frame of this `new` lies where that of the first lay, and overwrites what it left.
+    // Inlined, so that the frame of this `new` lies where that of the first lay, and overwrites
+    // what it left.
     #[inline(always)]
     pub fn clear(&mut self)
         ensures { self.new ≡ replicate 16 0 }
@@ -82,7 +86,8 @@ impl Aes128 {
         ensures value { result ≡ decrypted self.now block.now }
 
         // It undoes the encryption of every block under this key.
-        ensures undoes { (plain : List ℕ) → IsBytes 16 plain → block.now ≡ encrypted self.now plain → result ≡ plain }
+        ensures undoes { (plain : List ℕ) → IsBytes 16 plain → block.now ≡ encrypted self.now plain
+            → result ≡ plain }
     {
         let mut state = add(&state_of(block), &self.round_keys[10]);
         for round in (1..10).rev() {
@@ -108,12 +113,14 @@ impl Drop for Aes128 {
     }
 }
 
-// The toolchain has no volatile write. A call that is not inlined, and that has an effect which the optimiser may not drop,
-// stands in for it: so the call stays, and its writes with it.
+// The toolchain has no volatile write. A call that is not inlined, and that has an effect which the
+// optimiser may not drop, stands in for it: so the call stays, and its writes with it.
 #[inline(never)]
 fn wipe(round_keys: &mut [[u32; 4]; 11], unmixed_keys: &mut [[u32; 4]; 9])
-    ensures rounds { round_keys.new ≡ map (λ _. map (λ _. 0) (range_with_len 0 4)) (range_with_len 0 11) }
-    ensures unmixed { unmixed_keys.new ≡ map (λ _. map (λ _. 0) (range_with_len 0 4)) (range_with_len 0 9) }
+    ensures rounds { round_keys.new ≡ map (λ _. map (λ _. 0) (range_with_len 0 4))
+        (range_with_len 0 11) }
+    ensures unmixed { unmixed_keys.new ≡ map (λ _. map (λ _. 0) (range_with_len 0 4))
+        (range_with_len 0 9) }
 {
     *round_keys = [[0; 4]; 11];
     *unmixed_keys = [[0; 4]; 9];

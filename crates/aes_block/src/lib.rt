@@ -1,8 +1,9 @@
 //! AES with keys of 128 bits (FIPS 197), by tables and without memory of its own.
 //!
-//! Begin with [`Aes128::new`]: `encrypt` and `decrypt` are the standard's cipher and inverse cipher, and each undoes the other
-//! ([`decryption_undoes_encryption`]). `clear` overwrites the expanded key where it lies. The time of a call depends on the key and the
-//! block, as it does for every cipher by tables. Definitions begin in `specs/Aes`.
+//! Begin with [`Aes128::new`]: `encrypt` and `decrypt` are the standard's cipher and inverse
+//! cipher, and each undoes the other ([`decryption_undoes_encryption`]). `clear` overwrites the
+//! expanded key where it lies. The time of a call depends on the key and the block, as it does for
+//! every cipher by tables. Definitions begin in `specs/Aes`.
 #![tactic(auto)]
 
 ghost use Rattle.std.specs.Prelude.{◌≡◌};

@@ -1,5 +1,5 @@
-//! What each byte of a column adds to the mixed column, once it is substituted: a word, its byte of the first row lowest. A
-//! proof computes each table's rule over the whole table.
+//! What each byte of a column adds to the mixed column, once it is substituted: a word, its byte of
+//! the first row lowest. A proof computes each table's rule over the whole table.
 
 ghost use Rattle.std.specs.Prelude.{◌≡◌, [], ◌∷◌};
 ghost use Rattle.std.specs.Int.{w32, to_le_bytes};

@@ -44,8 +44,8 @@ pub(crate) fn write_round_keys(key: &[u8; 16], keys: &mut [[u32; 4]; 11])
 
 /// Writes the keys of rounds 1 to 9, each by the inverse of MixColumns.
 pub(crate) fn write_unmixed_keys(round_keys: &[[u32; 4]; 11], keys: &mut [[u32; 4]; 9])
-    ensures { (r : ℕ) → r < 9
-        → bytes_of (slice_index_or keys.new r []) ≡ inv_mix_columns (bytes_of (slice_index_or round_keys.now (r + 1) [])) }
+    ensures { (r : ℕ) → r < 9 → bytes_of (slice_index_or keys.new r [])
+        ≡ inv_mix_columns (bytes_of (slice_index_or round_keys.now (r + 1) [])) }
 {
     for round in 0..9 {
         keys[round] = unmix_columns(&round_keys[round + 1]);

@@ -4,7 +4,8 @@ ghost use Rattle.std.specs.Prelude.{◌≡◌, [], ◌∷◌, slice_index};
 ghost use Rattle.std.specs.Int.{w32, to_le_bytes};
 ghost use Rattle.aes_block.specs.Field.{sub_byte, inv_sub_byte};
 ghost use Rattle.aes_block.specs.Columns.{bytes_of};
-ghost use Rattle.aes_block.specs.Aes.{xor_of, sub_bytes, inv_sub_bytes, shift_rows, inv_shift_rows, mix_column, inv_mix_column, mix_columns, inv_mix_columns};
+ghost use Rattle.aes_block.specs.Aes.{xor_of, sub_bytes, inv_sub_bytes, shift_rows, inv_shift_rows};
+ghost use Rattle.aes_block.specs.Aes.{mix_column, inv_mix_column, mix_columns, inv_mix_columns};
 
 use crate::mixed::{mixed_first, mixed_fourth, mixed_second, mixed_third};
 use crate::tables::{original, substitute};
@@ -48,7 +49,8 @@ pub(crate) fn add(state: &[u32; 4], key: &[u32; 4]) -> [u32; 4]
 }
 
 fn mixed_column(a: u8, b: u8, c: u8, d: u8) -> u32
-    ensures { to_le_bytes w32 result ≡ mix_column (sub_byte a) (sub_byte b) (sub_byte c) (sub_byte d) }
+    ensures { to_le_bytes w32 result ≡ mix_column (sub_byte a) (sub_byte b) (sub_byte c)
+        (sub_byte d) }
 {
     mixed_first(a) ^ mixed_second(b) ^ mixed_third(c) ^ mixed_fourth(d)
 }
@@ -93,14 +95,16 @@ pub(crate) fn substituted_word(a: u8, b: u8, c: u8, d: u8) -> u32
 }
 
 fn unmixed_column(a: u8, b: u8, c: u8, d: u8) -> u32
-    ensures { to_le_bytes w32 result ≡ inv_mix_column (inv_sub_byte a) (inv_sub_byte b) (inv_sub_byte c) (inv_sub_byte d) }
+    ensures { to_le_bytes w32 result ≡ inv_mix_column (inv_sub_byte a) (inv_sub_byte b)
+        (inv_sub_byte c) (inv_sub_byte d) }
 {
     unmixed_first(a) ^ unmixed_second(b) ^ unmixed_third(c) ^ unmixed_fourth(d)
 }
 
 /// The inverses of ShiftRows, SubBytes and MixColumns.
 pub(crate) fn unmix(state: &[u32; 4]) -> [u32; 4]
-    ensures { bytes_of result ≡ inv_mix_columns (inv_sub_bytes (inv_shift_rows (bytes_of state.now))) }
+    ensures { bytes_of result
+        ≡ inv_mix_columns (inv_sub_bytes (inv_shift_rows (bytes_of state.now))) }
 {
     let [a0, a1, a2, a3] = state[0].to_le_bytes();
     let [b0, b1, b2, b3] = state[1].to_le_bytes();
@@ -131,7 +135,8 @@ pub(crate) fn shift_and_restore(state: &[u32; 4]) -> [u32; 4]
 }
 
 fn restored_word(a: u8, b: u8, c: u8, d: u8) -> u32
-    ensures { to_le_bytes w32 result ≡ inv_sub_byte a ∷ inv_sub_byte b ∷ inv_sub_byte c ∷ inv_sub_byte d ∷ [] }
+    ensures { to_le_bytes w32 result
+        ≡ inv_sub_byte a ∷ inv_sub_byte b ∷ inv_sub_byte c ∷ inv_sub_byte d ∷ [] }
 {
     u32::from_le_bytes([original(a), original(b), original(c), original(d)])
 }
@@ -150,7 +155,8 @@ pub(crate) fn unmix_columns(state: &[u32; 4]) -> [u32; 4]
 
 fn unmixed_word(word: u32) -> u32
     ensures { let bytes = to_le_bytes w32 word in
-        to_le_bytes w32 result ≡ inv_mix_column (slice_index bytes 0) (slice_index bytes 1) (slice_index bytes 2) (slice_index bytes 3) }
+        to_le_bytes w32 result ≡ inv_mix_column (slice_index bytes 0) (slice_index bytes 1)
+        (slice_index bytes 2) (slice_index bytes 3) }
 {
     let [a, b, c, d] = word.to_le_bytes();
     unmixed_column(substitute(a), substitute(b), substitute(c), substitute(d))

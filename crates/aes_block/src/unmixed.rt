@@ -1,5 +1,5 @@
-//! What each byte of a column adds to the unmixed column, once it is restored: a word, its byte of the first row lowest. A
-//! proof computes each table's rule over the whole table.
+//! What each byte of a column adds to the unmixed column, once it is restored: a word, its byte of
+//! the first row lowest. A proof computes each table's rule over the whole table.
 
 ghost use Rattle.std.specs.Prelude.{◌≡◌, [], ◌∷◌};
 ghost use Rattle.std.specs.Int.{w32, to_le_bytes};
@@ -147,25 +147,29 @@ const FOURTH: [u32; 256] = [
 ];
 
 pub(crate) fn unmixed_first(byte: u8) -> u32
-    ensures { to_le_bytes w32 result ≡ products (0x0E ∷ 0x09 ∷ 0x0D ∷ 0x0B ∷ []) (inv_sub_byte byte) }
+    ensures { to_le_bytes w32 result
+        ≡ products (0x0E ∷ 0x09 ∷ 0x0D ∷ 0x0B ∷ []) (inv_sub_byte byte) }
 {
     FIRST[usize::from(byte)]
 }
 
 pub(crate) fn unmixed_second(byte: u8) -> u32
-    ensures { to_le_bytes w32 result ≡ products (0x0B ∷ 0x0E ∷ 0x09 ∷ 0x0D ∷ []) (inv_sub_byte byte) }
+    ensures { to_le_bytes w32 result
+        ≡ products (0x0B ∷ 0x0E ∷ 0x09 ∷ 0x0D ∷ []) (inv_sub_byte byte) }
 {
     SECOND[usize::from(byte)]
 }
 
 pub(crate) fn unmixed_third(byte: u8) -> u32
-    ensures { to_le_bytes w32 result ≡ products (0x0D ∷ 0x0B ∷ 0x0E ∷ 0x09 ∷ []) (inv_sub_byte byte) }
+    ensures { to_le_bytes w32 result
+        ≡ products (0x0D ∷ 0x0B ∷ 0x0E ∷ 0x09 ∷ []) (inv_sub_byte byte) }
 {
     THIRD[usize::from(byte)]
 }
 
 pub(crate) fn unmixed_fourth(byte: u8) -> u32
-    ensures { to_le_bytes w32 result ≡ products (0x09 ∷ 0x0D ∷ 0x0B ∷ 0x0E ∷ []) (inv_sub_byte byte) }
+    ensures { to_le_bytes w32 result
+        ≡ products (0x09 ∷ 0x0D ∷ 0x0B ∷ 0x0E ∷ []) (inv_sub_byte byte) }
 {
     FOURTH[usize::from(byte)]
 }

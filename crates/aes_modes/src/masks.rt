@@ -1,8 +1,10 @@
-//! What is added to the blocks of OCB: the masks L of a key, and the first offset of a nonce (RFC 7253, 4.1 and 4.2).
+//! What is added to the blocks of OCB: the masks L of a key, and the first offset of a nonce (RFC
+//! 7253, 4.1 and 4.2).
 
 ghost use Rattle.std.specs.Prelude.{◌≡◌, ℕ, ◌+◌, ◌/◌, ◌<◌, List};
 ghost use Rattle.std.specs.Int.{w64, trailing_zeros};
-ghost use Rattle.aes_modes.specs.Ocb.{block_from, double, l_mask, stretch, first_offset, eight_bits};
+ghost use Rattle.aes_modes.specs.Ocb.{block_from, double, l_mask, stretch, first_offset};
+ghost use Rattle.aes_modes.specs.Ocb.{eight_bits};
 ghost use Rattle.aes_modes.specs.Masks.{masks_of};
 
 use aes_block::{Aes128, xor};
@@ -32,9 +34,11 @@ impl Masks {
     }
 
     /// The mask of a block by its number, counted from 1.
-    // It is made again for each block, by one doubling on average, in place of a table on the stack.
+    // It is made again for each block, by one doubling on average, in place of a table on the
+    // stack.
     pub(crate) fn of_block(&self, number: usize) -> [u8; 16]
-        ensures { (key : List ℕ) → self.now ≡ masks_of key → result ≡ l_mask key (trailing_zeros w64 number) }
+        ensures { (key : List ℕ) → self.now ≡ masks_of key
+            → result ≡ l_mask key (trailing_zeros w64 number) }
     {
         let mut mask = self.first;
         for _ in 0..number.trailing_zeros() {

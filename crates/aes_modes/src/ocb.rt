@@ -1,10 +1,15 @@
-//! OCB: each block is added an offset, encrypted, and added the offset again; the sum of the plaintext gives the tag.
+//! OCB: each block is added an offset, encrypted, and added the offset again; the sum of the
+//! plaintext gives the tag.
 
-ghost use Rattle.std.specs.Prelude.{◌≡◌, ◌↔◌, [], ◌∷◌, ℕ, ◌+◌, ◌*◌, ◌/◌, ◌<◌, ◌≤◌, List, ◌++◌, length, take, drop, replicate, IsTrue, false};
+ghost use Rattle.std.specs.Prelude.{◌≡◌, ◌↔◌, [], ◌∷◌, ℕ, ◌+◌, ◌*◌, ◌/◌, ◌<◌, ◌≤◌, List, ◌++◌};
+ghost use Rattle.std.specs.Prelude.{length, take, drop, replicate, IsTrue, false};
 ghost use Rattle.std.specs.List.{concat};
 ghost use Rattle.aes_block.specs.Aes.{IsBytes, xor_of, encrypted};
 ghost use Rattle.aes_modes.specs.Cbc.{blocks_of};
-ghost use Rattle.aes_modes.specs.Ocb.{zeros, partial_block, padded, offset, offset_after, last_offset, masked_blocks, masked, checksum, hash, sum_from, hashed_blocks, ocb_encrypted, ocb_decrypted, ocb_tag, l_dollar};
+ghost use Rattle.aes_modes.specs.Ocb.{zeros, partial_block, padded, offset, offset_after};
+ghost use Rattle.aes_modes.specs.Ocb.{last_offset, masked_blocks, masked, checksum, hash, sum_from};
+ghost use Rattle.aes_modes.specs.Ocb.{hashed_blocks, ocb_encrypted, ocb_decrypted, ocb_tag};
+ghost use Rattle.aes_modes.specs.Ocb.{l_dollar};
 ghost use Rattle.aes_modes.specs.Masks.{masks_of, cipher_of};
 
 use crate::blocks::{BLOCK_LEN, block_at, put_block};
@@ -12,7 +17,8 @@ use crate::masks::{Masks, first_offset};
 use aes_block::{Aes128, xor};
 use wiping::wipe;
 
-/// Encrypts bytes under a key and a nonce, and answers their tag (RFC 7253, 4.2). The tag speaks for the associated data too.
+/// Encrypts bytes under a key and a nonce, and answers their tag (RFC 7253, 4.2). The tag speaks
+/// for the associated data too.
 ///
 /// A nonce is used once under a key.
 pub fn ocb_encrypt(key: &[u8; 16], nonce: &[u8; 12], assoc: &[u8], bytes: &mut [u8]) -> [u8; 16]
@@ -31,8 +37,8 @@ pub fn ocb_encrypt(key: &[u8; 16], nonce: &[u8; 12], assoc: &[u8], bytes: &mut [
     tag
 }
 
-/// Decrypts bytes under a key and a nonce, and answers whether the tag is that of the plaintext and the associated data
-/// (RFC 7253, 4.3). The bytes are zeros where it isn't.
+/// Decrypts bytes under a key and a nonce, and answers whether the tag is that of the plaintext and
+/// the associated data (RFC 7253, 4.3). The bytes are zeros where it isn't.
 ///
 /// Tags are compared without an early exit.
 pub fn ocb_decrypt(
@@ -44,13 +50,16 @@ pub fn ocb_decrypt(
 ) -> bool
     requires assoc { length assoc.now ≤ 65536 }
     requires bytes { length bytes.old ≤ 65536 }
-    ensures opens { IsTrue result ↔ (ocb_tag key.now nonce.now assoc.now (ocb_decrypted key.now nonce.now bytes.old) ≡ tag.now) }
+    ensures opens { IsTrue result ↔ (ocb_tag key.now nonce.now assoc.now
+        (ocb_decrypted key.now nonce.now bytes.old) ≡ tag.now) }
     ensures plain { IsTrue result → bytes.new ≡ ocb_decrypted key.now nonce.now bytes.old }
     ensures zeros { result ≡ false → bytes.new ≡ replicate (length bytes.old) 0 }
 
-    // It is true of all bytes that were encrypted under this key and this nonce with this data, and undoes their encryption.
-    ensures undoes { (plain : List ℕ) → IsBytes (length bytes.old) plain → bytes.old ≡ ocb_encrypted key.now nonce.now plain
-        → tag.now ≡ ocb_tag key.now nonce.now assoc.now plain → IsTrue result × (bytes.new ≡ plain) }
+    // It is true of all bytes that were encrypted under this key and this nonce with this data, and
+    // undoes their encryption.
+    ensures undoes { (plain : List ℕ) → IsBytes (length bytes.old) plain
+        → bytes.old ≡ ocb_encrypted key.now nonce.now plain → tag.now
+        ≡ ocb_tag key.now nonce.now assoc.now plain → IsTrue result × (bytes.new ≡ plain) }
 
     // Where it is true, the bytes and the tag are the encryption of what it leaves.
     ensures encrypted { IsTrue result → (bytes.old ≡ ocb_encrypted key.now nonce.now bytes.new)
@@ -76,7 +85,8 @@ enum Direction {
     Decrypt,
 }
 
-// Adds their offsets to all bytes, with the cipher between in whole blocks, and answers the last offset.
+// Adds their offsets to all bytes, with the cipher between in whole blocks, and answers the last
+// offset.
 fn mask(
     cipher: &Aes128,
     masks: &Masks,
@@ -85,7 +95,8 @@ fn mask(
     bytes: &mut [u8],
 ) -> [u8; 16]
     requires { masks.now ≡ masks_of cipher.now }
-    ensures bytes { bytes.new ≡ masked (cipher_of direction cipher.now) cipher.now first.now bytes.old }
+    ensures bytes { bytes.new
+        ≡ masked (cipher_of direction cipher.now) cipher.now first.now bytes.old }
     ensures last { result ≡ last_offset cipher.now first.now bytes.old }
     ensures old { IsBytes (length bytes.old) bytes.old }
 {
@@ -101,8 +112,9 @@ fn mask_blocks(
     bytes: &mut [u8],
 ) -> [u8; 16]
     requires { masks.now ≡ masks_of cipher.now }
-    ensures bytes { bytes.new ≡ concat (masked_blocks (cipher_of direction cipher.now) cipher.now first.now 0 (blocks_of bytes.old))
-        ++ partial_block bytes.old }
+    ensures bytes { bytes.new
+        ≡ concat (masked_blocks (cipher_of direction cipher.now) cipher.now first.now 0
+        (blocks_of bytes.old)) ++ partial_block bytes.old }
     ensures offset { result ≡ offset cipher.now first.now (length bytes.old / 16) }
     ensures old { IsBytes (length bytes.old) bytes.old }
 {
@@ -122,7 +134,8 @@ fn mask_blocks(
 fn mask_rest(cipher: &Aes128, masks: &Masks, before: &[u8; 16], bytes: &mut [u8]) -> [u8; 16]
     requires { masks.now ≡ masks_of cipher.now }
     ensures bytes { let last = offset_after cipher.now before.now (partial_block bytes.old) in
-        bytes.new ≡ take (16 * (length bytes.old / 16)) bytes.old ++ xor_of (partial_block bytes.old) (encrypted cipher.now last) }
+        bytes.new ≡ take (16 * (length bytes.old / 16)) bytes.old
+        ++ xor_of (partial_block bytes.old) (encrypted cipher.now last) }
     ensures last { result ≡ offset_after cipher.now before.now (partial_block bytes.old) }
 {
     let start = bytes.len() / BLOCK_LEN * BLOCK_LEN;
@@ -193,7 +206,9 @@ fn hash(cipher: &Aes128, masks: &Masks, assoc: &[u8]) -> [u8; 16]
 fn tag_of(cipher: &Aes128, masks: &Masks, last: &[u8; 16], sum: &[u8; 16], assoc: &[u8]) -> [u8; 16]
     requires masks { masks.now ≡ masks_of cipher.now }
     requires len { length assoc.now ≤ 65536 }
-    ensures { result ≡ xor_of (encrypted cipher.now (xor_of (xor_of sum.now last.now) (l_dollar cipher.now))) (hash cipher.now assoc.now) }
+    ensures { result
+        ≡ xor_of (encrypted cipher.now (xor_of (xor_of sum.now last.now) (l_dollar cipher.now)))
+        (hash cipher.now assoc.now) }
 {
     let masked = xor(&xor(sum, last), &masks.dollar);
     xor(&cipher.encrypt(&masked), &hash(cipher, masks, assoc))

@@ -4,6 +4,7 @@ use Rattle.std.specs.Prelude.{ℕ, List, true, false, replicate}
 use Rattle.agent_ports.specs.Draws.{IsDrawn}
 use Rattle.agent_ports.specs.KeyFiles.{KeyFiles, ReadsKey, ListsKeys, ReplacesKey, RemovesKey}
 use Rattle.agent_ports.specs.Sides.{Side}
+use Rattle.agent_ports.specs.TrustFiles.{TrustState}
 use Rattle.agent_ports.specs.declared.grip.Grip.{Grip}
 use Rattle.agent_ports.specs.declared.keys.KeyRead.{KeyRead}
 use Rattle.agent_ports.specs.declared.keys.KeyNames.{KeyNames}
@@ -11,6 +12,7 @@ use Rattle.agent_ports.specs.declared.keys.KeyDone.{KeyDone}
 use Rattle.agent_ask.specs.Doing.{DoesCall}
 use Rattle.agent_ask.specs.Events.{Call, PromptEvent}
 use Rattle.agent_ask.specs.SessionEvents.{AnyEvent}
+use Rattle.agent_ask.specs.TrustCalls.{TrustCall, DoesTrust}
 use Rattle.agent_ask.specs.Worlds.{AnyWorld}
 use Rattle.cache_policy.specs.declared.mark.MarkStep.{MarkStep}
 use Rattle.cache_policy.specs.Turns.{Turn}
@@ -33,6 +35,7 @@ pub data FurtherEvent : Type 0 where
   Prompt : PromptEvent → FurtherEvent
   Keys : KeyCall → FurtherEvent
   Dice : Draw → FurtherEvent
+  Trust : TrustCall → FurtherEvent
   -- the command found no memory for work of its own
   NoMemory : FurtherEvent
 
@@ -48,11 +51,12 @@ abbrev pub DoesDraw : Side → Draw → Side → Type 0
 DoesDraw before (Drew bytes) after = IsDrawn before true bytes after
 DoesDraw before (NotDrawn count) after = IsDrawn before false (replicate count 0) after
 
--- the further ends: a prompter, the keys and the dice
+-- the further ends: a prompter, the keys, the dice and the trust file
 pub record FurtherEnds (P : Type 0) : Type 0 where
   pub prompter : P
   pub keys : KeyFiles
   pub dice : Side
+  pub trust : TrustState
 
 -- what an event does: it leaves the other ends as they are
 pub data DoesFurther {P : Type 0} (prompted : P → Call → P → Type 0) : FurtherEnds P → FurtherEvent → FurtherEnds P → Type 0 where
@@ -62,6 +66,8 @@ pub data DoesFurther {P : Type 0} (prompted : P → Call → P → Type 0) : Fur
       → DoesFurther prompted before (Keys call) (record before { keys = files })
   dice : {before : FurtherEnds P} {draw : Draw} {side : Side} → DoesDraw before.dice draw side
       → DoesFurther prompted before (Dice draw) (record before { dice = side })
+  trust : {before : FurtherEnds P} {call : TrustCall} {file : TrustState} → DoesTrust before.trust call file
+      → DoesFurther prompted before (Trust call) (record before { trust = file })
   no_memory : {now : FurtherEnds P} → DoesFurther prompted now NoMemory now
 
 -- an event of a session with these lines
@@ -73,6 +79,6 @@ module _ {lines : Lines} {D : Type 0} (turned : D → MarkStep → Turn → D �
   abbrev pub world_with : {E : Type 0} → (E → FurtherEvent → E → Type 0) → AnyWorld lines
   world_with {E} does = record { Desk = D; turned = turned; Ends = E; Further = FurtherEvent; does = does }
 
-  -- a desk, and a prompter that shows its calls so, the keys and the dice
+  -- a desk, and a prompter that shows its calls so, the keys, the dice and the trust file
   abbrev pub further_world : {P : Type 0} → (P → Call → P → Type 0) → AnyWorld lines
   further_world prompted = world_with (DoesFurther prompted)

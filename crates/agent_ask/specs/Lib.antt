@@ -8,6 +8,7 @@ pub mod Consents
 pub mod Trying
 pub mod Listening
 pub mod Clients
+pub mod TrustCalls
 pub mod Further
 pub mod SessionEvents
 pub mod Worlds

@@ -32,8 +32,9 @@ pub enum Asked {
 
 /// Asks for a passphrase by one prompt, and has shut the prompter when it returns.
 ///
-/// The client is told of the prompt where `plan` says so. A try is one passphrase and, where the check and then the test accept it, its
-/// repeats. What failed a try is shown by the next one; there are three.
+/// The client is told of the prompt where `plan` says so. A try is one passphrase and, where the
+/// check and then the test accept it, its repeats. What failed a try is shown by the next one;
+/// there are three.
 pub fn ask_pin<P: Prompter, C: Caller, T: Test>(
     ticket: &Ticket,
     spec: &PromptSpec,
@@ -44,11 +45,13 @@ pub fn ask_pin<P: Prompter, C: Caller, T: Test>(
 ) -> Asked
     requires shut { IsShut (P.at prompter.old) }
     requires listens { C.listens caller.old }
-    ensures asked { HasEvents (DoesPrompt P.prompted C.heard) (λ events. AsksPinBy T.tested test.old test.new spec.now plan.now (T.rule test.old) events result)
+    ensures asked { HasEvents (DoesPrompt P.prompted C.heard) (λ events.
+        AsksPinBy T.tested test.old test.new spec.now plan.now (T.rule test.old) events result)
         (ends prompter.old caller.old) (ends prompter.new caller.new) }
     ensures shut { IsShut (P.at prompter.new) }
     ensures listens { ListensAfterPin result (C.listens caller.new) }
-    ensures accepted { (pin : List ℕ) → result ≡ Asked.Pin pin → EndsAccepted T.tested pin test.old test.new }
+    ensures accepted { (pin : List ℕ) → result ≡ Asked.Pin pin
+        → EndsAccepted T.tested pin test.old test.new }
     ensures no_memory { result ≡ Asked.NoMemory → EndsOutOfMemory T.tested test.old test.new }
 {
     let asked = ask_before_shut(ticket, spec, plan, test, prompter, caller);
@@ -68,7 +71,8 @@ fn ask_before_shut<P: Prompter, C: Caller, T: Test>(
     requires shut { IsShut (P.at prompter.old) }
     requires listens { C.listens caller.old }
     ensures asked { HasEvents (DoesPrompt P.prompted C.heard)
-        (λ events. WithTests T.tested test.old test.new (λ tests. AsksBefore spec.now plan.now (T.rule test.old) events tests result))
+        (λ events. WithTests T.tested test.old test.new
+        (λ tests. AsksBefore spec.now plan.now (T.rule test.old) events tests result))
         (ends prompter.old caller.old) (ends prompter.new caller.new) }
     ensures listens { ListensAfterPin result (C.listens caller.new) }
 {

@@ -10,10 +10,15 @@ use session_client::{Gone, Unheard};
 pub enum Heard {
     /// It has taken note.
     Fine,
+    /// It gave a passphrase.
     Secret(Secret),
+    /// It cancelled.
     Cancelled,
+    /// It sent more bytes than the limit.
     TooMuch,
+    /// It sent a line that belongs to no answer.
     Unexpected,
+    /// Its connection was lost.
     Gone(Gone),
 }
 
@@ -56,7 +61,8 @@ pub trait Caller {
     /// It can be asked: no answer so far was `Gone`.
     ghost listens: { Self → Type 0 };
 
-    /// A caller shows what it was asked by this relation between itself before a question, the question, the answer, and itself after.
+    /// A caller shows what it was asked by this relation between itself before a question, the
+    /// question, the answer, and itself after.
     ghost heard: { Self → Question → Heard → Self → Type 0 };
 
     /// Tells it that a prompt was opened, in the process of this number.
@@ -70,6 +76,7 @@ pub trait Caller {
         ensures { heard self.old (Wanted word.now) result self.new };
 
     /// What every answer means.
-    ghost promise: { (before : Self) (question : Question) (answer : Heard) (after : Self) → listens before → heard before question answer after
+    ghost promise: { (before : Self) (question : Question) (answer : Heard) (after : Self)
+        → listens before → heard before question answer after
         → IsHearing question answer (listens after) };
 }

@@ -44,7 +44,8 @@ impl<'c, C: Client<Secret>> Caller for LentClient<'c, C> {
 
     ghost listens = { λ lent. IsOpen C.views lent.client };
 
-    ghost heard = { λ before question answer after. LentHears C.views C.wished before question answer after };
+    ghost heard = { λ before question answer after.
+        LentHears C.views C.wished before question answer after };
 
     ghost promise = { λ before question answer after listens heard. heard.is };
 

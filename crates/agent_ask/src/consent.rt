@@ -11,7 +11,9 @@ use prompt_seat::Ticket;
 /// What asking for consent came to.
 #[derive(Drop)]
 pub enum Agreed {
+    /// The user said yes.
     Yes,
+    /// The user said no.
     No,
     /// The user cancelled.
     Cancelled,
@@ -23,7 +25,8 @@ pub enum Agreed {
     Heard(Heard),
 }
 
-/// Asks for consent by one prompt, and has shut the prompter when it returns. The user is asked once.
+/// Asks for consent by one prompt, and has shut the prompter when it returns. The user is asked
+/// once.
 pub fn ask_consent<P: Prompter, C: Caller>(
     ticket: &Ticket,
     spec: &PromptSpec,
@@ -33,7 +36,8 @@ pub fn ask_consent<P: Prompter, C: Caller>(
 ) -> Agreed
     requires shut { IsShut (P.at prompter.old) }
     requires listens { C.listens caller.old }
-    ensures asked { HasEvents (DoesPrompt P.prompted C.heard) (λ events. AsksConsent spec.now notify events result)
+    ensures asked { HasEvents
+        (DoesPrompt P.prompted C.heard) (λ events. AsksConsent spec.now notify events result)
         (ends prompter.old caller.old) (ends prompter.new caller.new) }
     ensures shut { IsShut (P.at prompter.new) }
     ensures listens { ListensAfterConsent result (C.listens caller.new) }
@@ -53,7 +57,8 @@ fn ask_before_shut<P: Prompter, C: Caller>(
 ) -> Agreed
     requires shut { IsShut (P.at prompter.old) }
     requires listens { C.listens caller.old }
-    ensures asked { HasEvents (DoesPrompt P.prompted C.heard) (λ events. ConsentBefore spec.now notify events result)
+    ensures asked { HasEvents
+        (DoesPrompt P.prompted C.heard) (λ events. ConsentBefore spec.now notify events result)
         (ends prompter.old caller.old) (ends prompter.new caller.new) }
     ensures listens { ListensAfterConsent result (C.listens caller.new) }
 {

@@ -13,18 +13,20 @@ use crate::{Agreed, AskPlan, Asked, PromptSpec, Prompter, Test};
 
 /// The events of a prompt determine its answer.
 pub fn a_prompt_has_one_answer<T: Test>()
-    ensures { (spec : PromptSpec) (plan : AskPlan) (test : T) (events : List PromptEvent) (first second : Asked)
-        → AsksPin spec plan (T.rule test) events first → AsksPin spec plan (T.rule test) events second → first ≡ second }
+    ensures { (spec : PromptSpec) (plan : AskPlan) (test : T) (events : List PromptEvent)
+        (first second : Asked) → AsksPin spec plan (T.rule test) events first
+        → AsksPin spec plan (T.rule test) events second → first ≡ second }
 {}
 
 /// The events of a prompt for consent determine its answer.
 pub fn a_consent_has_one_answer()
-    ensures { (spec : PromptSpec) (notify : Bool) (events : List PromptEvent) (first second : Agreed)
-        → AsksConsent spec notify events first → AsksConsent spec notify events second → first ≡ second }
+    ensures { (spec : PromptSpec) (notify : Bool) (events : List PromptEvent)
+        (first second : Agreed) → AsksConsent spec notify events first
+        → AsksConsent spec notify events second → first ≡ second }
 {}
 
-/// Of a prompter's calls, one after another, at most as many fail as its count of faults rises by, as long as that is below its last
-/// value.
+/// Of a prompter's calls, one after another, at most as many fail as its count of faults rises by,
+/// as long as that is below its last value.
 pub fn failures_are_counted<P: Prompter>()
     ensures { (before after : P) (calls : List Call) → Leads P.prompted before calls after
         → RoseBy (count_by is_failed calls) (P.at before).faults (P.at after).faults }

@@ -38,7 +38,8 @@ impl Test for AnyPin {
     }
 }
 
-/// Asks the user for a passphrase by one prompt, as `ask_pin` does, and tells the client of the prompt where it wants to know.
+/// Asks the user for a passphrase by one prompt, as `ask_pin` does, and tells the client of the
+/// prompt where it wants to know.
 pub fn ask_user<C: Client<Secret>, P: Prompter, T: Test>(
     ticket: &Ticket,
     spec: &PromptSpec,
@@ -49,12 +50,14 @@ pub fn ask_user<C: Client<Secret>, P: Prompter, T: Test>(
 ) -> Asked
     requires open { IsOpen C.views client.old }
     requires shut { IsShut (P.at prompter.old) }
-    ensures asked { HasEvents (DoesPrompt P.prompted (Hears C.views C.wished)) (λ events. AsksPinBy T.tested test.old test.new spec.now plan.now (T.rule test.old) events result)
+    ensures asked { HasEvents (DoesPrompt P.prompted (Hears C.views C.wished)) (λ events.
+        AsksPinBy T.tested test.old test.new spec.now plan.now (T.rule test.old) events result)
         (ends prompter.old client.old) (ends prompter.new client.new) }
     ensures shut { IsShut (P.at prompter.new) }
     ensures left { LeftByPin C.views result client.old client.new }
     ensures unheard { (heard : Says) → result ≡ Asked.Heard heard → IsUnheardBy heard }
-    ensures accepted { (pin : List ℕ) → result ≡ Asked.Pin pin → EndsAccepted T.tested pin test.old test.new }
+    ensures accepted { (pin : List ℕ) → result ≡ Asked.Pin pin
+        → EndsAccepted T.tested pin test.old test.new }
     ensures no_memory { result ≡ Asked.NoMemory → EndsOutOfMemory T.tested test.old test.new }
 {
     let mut lent = LentClient::new(client);
@@ -74,19 +77,22 @@ fn ask_pin_of<C: Client<Secret>, P: Prompter, T: Test>(
 ) -> Asked
     requires open { IsOpen C.views lent.old.client }
     requires shut { IsShut (P.at prompter.old) }
-    ensures asked { HasEvents (DoesPrompt P.prompted (Hears C.views C.wished)) (λ events. AsksPinBy T.tested test.old test.new spec.now plan.now (T.rule test.old) events result)
+    ensures asked { HasEvents (DoesPrompt P.prompted (Hears C.views C.wished)) (λ events.
+        AsksPinBy T.tested test.old test.new spec.now plan.now (T.rule test.old) events result)
         (ends prompter.old lent.old.client) (ends prompter.new lent.new.client) }
     ensures shut { IsShut (P.at prompter.new) }
     ensures left { LeftByPin C.views result lent.old.client lent.new.client }
     ensures unheard { (heard : Says) → result ≡ Asked.Heard heard → IsUnheardBy heard }
-    ensures accepted { (pin : List ℕ) → result ≡ Asked.Pin pin → EndsAccepted T.tested pin test.old test.new }
+    ensures accepted { (pin : List ℕ) → result ≡ Asked.Pin pin
+        → EndsAccepted T.tested pin test.old test.new }
     ensures no_memory { result ≡ Asked.NoMemory → EndsOutOfMemory T.tested test.old test.new }
     ensures name { lent.new.name ≡ lent.old.name }
 {
     ask_pin(ticket, spec, plan, test, prompter, lent)
 }
 
-/// Asks the user for consent by one prompt, as `ask_consent` does, and tells the client of the prompt where it wants to know.
+/// Asks the user for consent by one prompt, as `ask_consent` does, and tells the client of the
+/// prompt where it wants to know.
 pub fn ask_leave<C: Client<Secret>, P: Prompter>(
     ticket: &Ticket,
     spec: &PromptSpec,
@@ -96,7 +102,8 @@ pub fn ask_leave<C: Client<Secret>, P: Prompter>(
 ) -> Agreed
     requires open { IsOpen C.views client.old }
     requires shut { IsShut (P.at prompter.old) }
-    ensures asked { HasEvents (DoesPrompt P.prompted (Hears C.views C.wished)) (λ events. AsksConsent spec.now notify events result)
+    ensures asked { HasEvents (DoesPrompt P.prompted (Hears C.views C.wished))
+        (λ events. AsksConsent spec.now notify events result)
         (ends prompter.old client.old) (ends prompter.new client.new) }
     ensures shut { IsShut (P.at prompter.new) }
     ensures left { LeftByConsent C.views result client.old client.new }
@@ -118,7 +125,8 @@ fn ask_consent_of<C: Client<Secret>, P: Prompter>(
 ) -> Agreed
     requires open { IsOpen C.views lent.old.client }
     requires shut { IsShut (P.at prompter.old) }
-    ensures asked { HasEvents (DoesPrompt P.prompted (Hears C.views C.wished)) (λ events. AsksConsent spec.now notify events result)
+    ensures asked { HasEvents (DoesPrompt P.prompted (Hears C.views C.wished))
+        (λ events. AsksConsent spec.now notify events result)
         (ends prompter.old lent.old.client) (ends prompter.new lent.new.client) }
     ensures shut { IsShut (P.at prompter.new) }
     ensures left { LeftByConsent C.views result lent.old.client lent.new.client }

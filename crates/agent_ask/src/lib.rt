@@ -1,8 +1,11 @@
-//! One prompt under a ticket: what is asked of a pinentry, of the client and of the test of a passphrase, and what comes of it.
+//! One prompt under a ticket: what is asked of a pinentry, of the client and of the test of a
+//! passphrase, and what comes of it.
 //!
-//! Begin with [`ask_pin`] and [`ask_consent`], or with [`ask_user`] and [`ask_leave`], which lend them a session's client. The answer is
-//! the one that the prompt's events come to, in at most [`MAX_TRIES`] tries, and the prompter is shut whatever came. [`Prompter`] is what
-//! asks the user, [`Test`] what a passphrase is tried on. Definitions begin in `specs/Prompts` and `specs/Consents`.
+//! Begin with [`ask_pin`] and [`ask_consent`], or with [`ask_user`] and [`ask_leave`], which lend
+//! them a session's client. The answer is the one that the prompt's events come to, in at most
+//! [`MAX_TRIES`] tries, and the prompter is shut whatever came. [`Prompter`] is what asks the user,
+//! [`Test`] what a passphrase is tried on. Definitions begin in `specs/Prompts` and
+//! `specs/Consents`.
 #![tactic(auto)]
 
 mod ask;

@@ -27,7 +27,8 @@ pub(crate) fn open_prompt<P: Prompter, C: Caller>(
 ) -> Opening
     requires shut { IsShut (P.at prompter.old) }
     requires listens { C.listens caller.old }
-    ensures opened { HasEvents (DoesPrompt P.prompted C.heard) (λ events. Opens spec.now notify events result)
+    ensures opened { HasEvents
+        (DoesPrompt P.prompted C.heard) (λ events. Opens spec.now notify events result)
         (ends prompter.old caller.old) (ends prompter.new caller.new) }
     ensures ready { result ≡ Opening.Ready → (P.at prompter.new).ready ≡ true }
     ensures listens { ListensAfterOpening result (C.listens caller.new) }

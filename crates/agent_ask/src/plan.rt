@@ -3,7 +3,7 @@ ghost use Rattle.agent_ask.specs.Plans.{IsSpec, plan_of};
 
 use crate::{AskPlan, PromptSpec};
 use assuan_text::Text;
-use session_options::{Options, Rules};
+use session_options::{Options, Rules, copied};
 
 /// What a prompt shows. Its title and its buttons are the pinentry's own.
 pub fn prompt_spec(
@@ -37,12 +37,4 @@ pub fn ask_plan(error: &Text, check: bool, repeat: u8, rules: &Rules, options: &
         check: check.then_some((rules.min_len, rules.min_nonalpha)),
         repeat,
     }
-}
-
-fn copied(text: &Text) -> Text
-    ensures { result ≡ text.now }
-{
-    let mut copy = Text::new();
-    copy.try_extend_from_slice(text).unwrap();
-    copy
 }

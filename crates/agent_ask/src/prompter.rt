@@ -21,21 +21,32 @@ pub enum Opened {
 /// What came of asking for a passphrase. It may hold one, so it isn't printed.
 #[derive(Drop)]
 pub enum Outcome {
+    /// What the user typed.
     Pin(Secret),
+    /// The user cancelled.
     Cancelled,
+    /// The user didn't answer in time.
     TimedOut,
+    /// There is no child, or its link failed.
     Failed,
+    /// The child broke the protocol.
     Broken(Breach),
 }
 
 /// What came of asking for consent.
 #[derive(Drop)]
 pub enum Consent {
+    /// The user said yes.
     Yes,
+    /// The user said no.
     No,
+    /// The user cancelled.
     Cancelled,
+    /// The user didn't answer in time.
     TimedOut,
+    /// There is no child, or its link failed.
     Failed,
+    /// The child broke the protocol.
     Broken(Breach),
 }
 
@@ -44,7 +55,8 @@ pub trait Prompter {
     /// Whether it is ready for a question, whether a child stands, and how many calls failed.
     ghost at: { Self → AtPrompter };
 
-    /// A prompter shows its prompts by this relation between itself before a call, the call with its answer, and itself after.
+    /// A prompter shows its prompts by this relation between itself before a call, the call with
+    /// its answer, and itself after.
     ghost prompted: { Self → Call → Self → Type 0 };
 
     /// Whether a prompt is open that can be asked.
@@ -71,5 +83,6 @@ pub trait Prompter {
         ensures { prompted self.old Shut self.new };
 
     /// What every call does.
-    ghost promise: { (before : Self) (call : Call) (after : Self) → prompted before call after → IsCall (at before) call (at after) };
+    ghost promise: { (before : Self) (call : Call) (after : Self) → prompted before call after
+        → IsCall (at before) call (at after) };
 }

@@ -4,12 +4,15 @@ use session_options::Env;
 /// What a prompt shows, and where (pinentry manual, "protocol"). An empty text is not shown.
 #[derive(Debug, Drop)]
 pub struct PromptSpec {
+    /// The title of the window.
     pub title: Text,
+    /// What the user is told or asked.
     pub description: Text,
     /// What stands before the field of the passphrase.
     pub prompt: Text,
     /// What stands on the button that accepts, and on the one that cancels.
     pub ok: Text,
+    /// What stands on the button that cancels.
     pub cancel: Text,
     /// A bar shows how good the passphrase is.
     pub quality: bool,
@@ -26,7 +29,8 @@ pub struct AskPlan {
     pub notify: bool,
     /// What the first try shows as an error. An empty text is not shown.
     pub first_error: Text,
-    /// How many bytes a new passphrase has at least, and how many of them that are no ASCII letters.
+    /// How many bytes a new passphrase has at least, and how many of them that are no ASCII
+    /// letters.
     pub check: Option<(u8, u8)>,
     /// How often an accepted passphrase is asked for again.
     pub repeat: u8,

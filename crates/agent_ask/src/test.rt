@@ -6,8 +6,11 @@ use cache_policy::Secret;
 /// What a test says of a passphrase.
 #[derive(Clone, Copy, Debug, PartialEq, Eq)]
 pub enum Tested {
+    /// It is right.
     Yes,
+    /// It is wrong.
     No,
+    /// There was no memory for the test.
     NoMemory,
 }
 
@@ -18,7 +21,8 @@ pub trait Test {
     /// Which passphrases are right.
     ghost rule: { Self → List ℕ → Type 0 };
 
-    /// A test shows its answers by this relation between itself before a call, the passphrase, the answer, and itself after.
+    /// A test shows its answers by this relation between itself before a call, the passphrase, the
+    /// answer, and itself after.
     ghost tested: { Self → List ℕ → Tested → Self → Type 0 };
 
     /// Whether the passphrase is right.
@@ -26,6 +30,6 @@ pub trait Test {
         ensures { tested self.old pin.now result self.new };
 
     /// What every answer means.
-    ghost promise: { (before : Self) (pin : List ℕ) (answer : Tested) (after : Self) → tested before pin answer after
-        → IsTest (rule before) pin answer (rule after) };
+    ghost promise: { (before : Self) (pin : List ℕ) (answer : Tested) (after : Self)
+        → tested before pin answer after → IsTest (rule before) pin answer (rule after) };
 }

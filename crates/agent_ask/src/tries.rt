@@ -1,6 +1,7 @@
 ghost use Rattle.std.specs.Prelude.{◌≡◌, ◌≤◌, ◌↔◌, true, None, IsTrue, length};
 ghost use Rattle.agent_ask.specs.Doing.{HasEvents, DoesCall};
-ghost use Rattle.agent_ask.specs.Prompts.{MeetsCheck, IsTry, Repeats, Tries, failure_words, try_text, pin_or_stop};
+ghost use Rattle.agent_ask.specs.Prompts.{MeetsCheck, IsTry, Repeats, Tries, failure_words};
+ghost use Rattle.agent_ask.specs.Prompts.{try_text, pin_or_stop};
 ghost use Rattle.agent_ask.specs.Tests.{WithTests};
 ghost use Rattle.agent_ask.specs.Trying.{GoesOn};
 
@@ -41,7 +42,8 @@ pub(crate) fn ask_tries<P: Prompter, T: Test>(
     prompter: &mut P,
 ) -> Asked
     requires { (P.at prompter.old).ready ≡ true }
-    ensures { HasEvents (DoesCall P.prompted) (λ events. WithTests T.tested test.old test.new (λ tests. Tries plan.now (T.rule test.old) 1 None events tests result))
+    ensures { HasEvents (DoesCall P.prompted) (λ events. WithTests T.tested test.old test.new
+        (λ tests. Tries plan.now (T.rule test.old) 1 None events tests result))
         prompter.old prompter.new }
 {
     let mut failure = None;
@@ -97,7 +99,8 @@ fn ask_once<P: Prompter, T: Test>(
     prompter: &mut P,
 ) -> Result<Secret, Stop>
     requires { (P.at prompter.old).ready ≡ true }
-    ensures tried { HasEvents (DoesCall P.prompted) (λ events. WithTests T.tested test.old test.new (λ tests. IsTry plan.now (T.rule test.old) error.now events tests result))
+    ensures tried { HasEvents (DoesCall P.prompted) (λ events. WithTests T.tested test.old test.new
+        (λ tests. IsTry plan.now (T.rule test.old) error.now events tests result))
         prompter.old prompter.new }
     ensures ready { GoesOn result → (P.at prompter.new).ready ≡ true }
 {
@@ -130,7 +133,8 @@ fn ask_repeats<P: Prompter>(
     prompter: &mut P,
 ) -> Result<Secret, Stop>
     requires { (P.at prompter.old).ready ≡ true }
-    ensures repeated { HasEvents (DoesCall P.prompted) (λ events. Repeats repeat pin events result) prompter.old prompter.new }
+    ensures repeated { HasEvents (DoesCall P.prompted)
+        (λ events. Repeats repeat pin events result) prompter.old prompter.new }
     ensures ready { GoesOn result → (P.at prompter.new).ready ≡ true }
 {
     for _ in 0..repeat {

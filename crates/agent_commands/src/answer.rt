@@ -34,7 +34,8 @@ impl Answer {
 
     /// The pinentry's error is handed on.
     pub(crate) fn failed_at_pinentry(code: Code) -> Answer
-        ensures { result ≡ record { response = Some (Response.FailedAtPinentry code); went = went.On } }
+        ensures { result
+            ≡ record { response = Some (Response.FailedAtPinentry code); went = went.On } }
     {
         Answer::on(Response::FailedAtPinentry(code))
     }

@@ -6,11 +6,13 @@ ghost use Rattle.cache_policy.specs.Turns.{asked_step, closes, wait_of};
 ghost use Rattle.session_options.specs.OptionValues.{OptionValues};
 ghost use Rattle.session_options.specs.declared.rules.Rules.{Rules as TheRules};
 ghost use Rattle.agent_commands.specs.Answers.{IsInfo};
-ghost use Rattle.agent_commands.specs.Exchanges.{Exchange, LineExchange, quiet_of, option_text, put};
+ghost use Rattle.agent_commands.specs.Exchanges.{Exchange, LineExchange, quiet_of, option_text};
+ghost use Rattle.agent_commands.specs.Exchanges.{put};
 ghost use Rattle.agent_commands.specs.Outside.{world, prompt_world};
 ghost use Rattle.agent_commands.specs.Requests.{request_of};
 ghost use Rattle.agent_commands.specs.States.{session_state, prompt_state, AnswersRequest};
-ghost use Rattle.agent_commands.specs.Steps.{AsksNobody, CarriesOut, RespondsTo, IsChange, TakesTurn, AsksSecret, IsText};
+ghost use Rattle.agent_commands.specs.Steps.{AsksNobody, CarriesOut, RespondsTo, IsChange};
+ghost use Rattle.agent_commands.specs.Steps.{TakesTurn, AsksSecret, IsText};
 ghost use Rattle.agent_commands.specs.declared.request.CacheCommand.TheVariants as command;
 ghost use Rattle.agent_commands.specs.declared.request.Request.TheVariants as request;
 ghost use Rattle.agent_commands.specs.declared.went.Went.TheVariants as went;
@@ -28,7 +30,8 @@ use cache_policy::{CacheId, Desk, Life, MAX_SECRET_LEN, Mode, Refused, Reply, Se
 use itoa::Buffer;
 use session_options::{OptionAnswer, Options, Rules};
 
-/// Does what a command asks for, answers it, and says how the session goes on. No ticket is out and no prompt is open when it returns.
+/// Does what a command asks for, answers it, and says how the session goes on. No ticket is out and
+/// no prompt is open when it returns.
 // Apart from the session's loop, where its places would be filled anew for each line.
 #[inline(never)]
 pub fn run_cache<L: Link, D: Desk, P: Prompter>(
@@ -42,8 +45,10 @@ pub fn run_cache<L: Link, D: Desk, P: Prompter>(
     requires open { IsOpen conn.old }
     requires free { (D.at desk.old).out ≡ None }
     requires shut { IsShut (P.at prompter.old) }
-    ensures answers { AnswersRequest {w = prompt_world D.turned P.prompted} (λ before. Exchange rules.now before (request.Cache command.now)) options.old
-        (prompt_state D.turned P.prompted conn.old desk.old prompter.old) result options.new (prompt_state D.turned P.prompted conn.new desk.new prompter.new) }
+    ensures answers { AnswersRequest {w = prompt_world D.turned P.prompted}
+        (λ before. Exchange rules.now before (request.Cache command.now)) options.old
+        (prompt_state D.turned P.prompted conn.old desk.old prompter.old) result options.new
+        (prompt_state D.turned P.prompted conn.new desk.new prompter.new) }
     ensures free { (D.at desk.new).out ≡ None }
     ensures shut { IsShut (P.at prompter.new) }
 {
@@ -58,9 +63,11 @@ pub fn run_quiet<L: Link, D: Desk>(
     desk: &mut D,
 ) -> Went
     requires { IsOpen conn.old }
-    ensures answers { (rules : TheRules) (options : OptionValues) (line : List ℕ) → quiet_of (request_of line) ≡ Some request.now
-        → AnswersRequest {w = world D.turned} (λ before. LineExchange rules before line) options (session_state D.turned conn.old desk.old)
-        result options (session_state D.turned conn.new desk.new) }
+    ensures answers { (rules : TheRules) (options : OptionValues) (line : List ℕ)
+        → quiet_of (request_of line) ≡ Some request.now
+        → AnswersRequest {w = world D.turned} (λ before. LineExchange rules before line) options
+        (session_state D.turned conn.old desk.old) result options
+        (session_state D.turned conn.new desk.new) }
     ensures out { (D.at desk.new).out ≡ (D.at desk.old).out }
 {
     let answer = ask_cache(request.plain, &request.id, desk);
@@ -92,8 +99,10 @@ fn carry_out<L: Link, D: Desk, P: Prompter>(
     requires open { IsOpen conn.old }
     requires free { (D.at desk.old).out ≡ None }
     requires shut { IsShut (P.at prompter.old) }
-    ensures carries { CarriesOut {w = prompt_world D.turned P.prompted} (Exchange rules.now options.old (request.Cache command.now))
-        (prompt_state D.turned P.prompted conn.old desk.old prompter.old) result options.new (prompt_state D.turned P.prompted conn.new desk.new prompter.new) }
+    ensures carries { CarriesOut {w = prompt_world D.turned P.prompted}
+        (Exchange rules.now options.old (request.Cache command.now))
+        (prompt_state D.turned P.prompted conn.old desk.old prompter.old) result options.new
+        (prompt_state D.turned P.prompted conn.new desk.new prompter.new) }
     ensures free { (D.at desk.new).out ≡ None }
     ensures shut { IsShut (P.at prompter.new) }
 {
@@ -119,8 +128,10 @@ fn carry_alone<D: Desk>(
     desk: &mut D,
 ) -> Answer
     requires { AsksNobody command.now }
-    ensures carries { (conn : Connection) → IsOpen conn → CarriesOut {w = world D.turned} (Exchange rules.now options.old (request.Cache command.now))
-        (session_state D.turned conn desk.old) result options.new (session_state D.turned conn desk.new) }
+    ensures carries { (conn : Connection) → IsOpen conn → CarriesOut {w = world D.turned}
+        (Exchange rules.now options.old (request.Cache command.now))
+        (session_state D.turned conn desk.old) result options.new
+        (session_state D.turned conn desk.new) }
     ensures out { (D.at desk.new).out ≡ (D.at desk.old).out }
 {
     match command {
@@ -180,8 +191,11 @@ fn preset_passphrase<L: Link, D: Desk>(
     desk: &mut D,
 ) -> Answer
     requires { IsOpen conn.old }
-    ensures carries { (before : OptionValues) → CarriesOut {w = world D.turned} (Exchange rules.now before (request.Cache (command.PresetPassphrase id.now life secret.now)))
-        (session_state D.turned conn.old desk.old) result before (session_state D.turned conn.new desk.new) }
+    ensures carries { (before : OptionValues)
+        → CarriesOut {w = world D.turned} (Exchange rules.now before
+        (request.Cache (command.PresetPassphrase id.now life secret.now)))
+        (session_state D.turned conn.old desk.old) result before
+        (session_state D.turned conn.new desk.new) }
     ensures out { (D.at desk.new).out ≡ (D.at desk.old).out }
 {
     if !rules.allow_preset {
@@ -202,8 +216,10 @@ fn preset_inquired<L: Link, D: Desk>(
 ) -> Answer
     requires { IsOpen conn.old }
     ensures carries { (rules : TheRules) (before : OptionValues) → rules.allow_preset ≡ true
-        → CarriesOut {w = world D.turned} (Exchange rules before (request.Cache (command.PresetPassphrase id.now life None)))
-        (session_state D.turned conn.old desk.old) result before (session_state D.turned conn.new desk.new) }
+        → CarriesOut {w = world D.turned}
+        (Exchange rules before (request.Cache (command.PresetPassphrase id.now life None)))
+        (session_state D.turned conn.old desk.old) result before
+        (session_state D.turned conn.new desk.new) }
     ensures out { (D.at desk.new).out ≡ (D.at desk.old).out }
 {
     match inquire_passphrase(conn) {
@@ -214,7 +230,8 @@ fn preset_inquired<L: Link, D: Desk>(
 
 /// Stores a passphrase for every mode.
 fn store<D: Desk>(id: &CacheId, life: Life, secret: Secret, desk: &mut D) -> Answer
-    ensures takes { TakesTurn D.turned (put id.now life secret) (record { response = Some Response.Ok; went = went.On }) desk.old result desk.new }
+    ensures takes { TakesTurn D.turned (put id.now life secret)
+        (record { response = Some Response.Ok; went = went.On }) desk.old result desk.new }
     ensures out { (D.at desk.new).out ≡ (D.at desk.old).out }
 {
     let step = Step::Put {
@@ -228,7 +245,8 @@ fn store<D: Desk>(id: &CacheId, life: Life, secret: Secret, desk: &mut D) -> Ans
 
 /// CLEAR_PASSPHRASE.
 fn clear_passphrase<D: Desk>(id: &CacheId, mode: Mode, desk: &mut D) -> Answer
-    ensures takes { TakesTurn D.turned (Clear id.now mode) (record { response = Some Response.Ok; went = went.On }) desk.old result desk.new }
+    ensures takes { TakesTurn D.turned (Clear id.now mode)
+        (record { response = Some Response.Ok; went = went.On }) desk.old result desk.new }
     ensures out { (D.at desk.new).out ≡ (D.at desk.old).out }
 {
     let step = Step::Clear {
@@ -253,7 +271,8 @@ pub(crate) fn take_turn<D: Desk>(step: Step, done: Answer, desk: &mut D) -> Answ
     }
 }
 
-/// Asks the client for a passphrase. Where none comes, it gives how the request is answered without one.
+/// Asks the client for a passphrase. Where none comes, it gives how the request is answered without
+/// one.
 pub(crate) fn inquire_passphrase<L: Link>(conn: &mut Conn<'_, L>) -> Result<Secret, Answer>
     requires { IsOpen conn.old }
     ensures { AsksSecret conn.old result conn.new }

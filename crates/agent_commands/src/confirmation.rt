@@ -36,8 +36,10 @@ pub(crate) fn get_confirmation<L: Link, D: Desk, P: Prompter>(
     requires open { IsOpen conn.old }
     requires free { (D.at desk.old).out ≡ None }
     requires shut { IsShut (P.at prompter.old) }
-    ensures carries { CarriesOut {w = prompt_world D.turned P.prompted} (Exchange rules.now options.now (request.Cache (command.GetConfirmation description.now)))
-        (prompt_state D.turned P.prompted conn.old desk.old prompter.old) result options.now (prompt_state D.turned P.prompted conn.new desk.new prompter.new) }
+    ensures carries { CarriesOut {w = prompt_world D.turned P.prompted}
+        (Exchange rules.now options.now (request.Cache (command.GetConfirmation description.now)))
+        (prompt_state D.turned P.prompted conn.old desk.old prompter.old) result options.now
+        (prompt_state D.turned P.prompted conn.new desk.new prompter.new) }
     ensures free { (D.at desk.new).out ≡ None }
     ensures shut { IsShut (P.at prompter.new) }
 {
@@ -62,8 +64,10 @@ fn confirm<L: Link, D: Desk, P: Prompter>(
     requires open { IsOpen conn.old }
     requires free { (D.at desk.old).out ≡ None }
     requires shut { IsShut (P.at prompter.old) }
-    ensures carries { Carries {w = prompt_world D.turned P.prompted} (WantsPrompt (Seat None None) (UnderTicket (AsksConsent spec.now notify) EndsConsent))
-        (prompt_state D.turned P.prompted conn.old desk.old prompter.old) result (prompt_state D.turned P.prompted conn.new desk.new prompter.new) }
+    ensures carries { Carries {w = prompt_world D.turned P.prompted}
+        (WantsPrompt (Seat None None) (UnderTicket (AsksConsent spec.now notify) EndsConsent))
+        (prompt_state D.turned P.prompted conn.old desk.old prompter.old) result
+        (prompt_state D.turned P.prompted conn.new desk.new prompter.new) }
     ensures free { (D.at desk.new).out ≡ None }
     ensures shut { IsShut (P.at prompter.new) }
 {
@@ -91,8 +95,10 @@ fn confirm_under<L: Link, D: Desk, P: Prompter>(
     requires open { IsOpen conn.old }
     requires out { (D.at desk.old).out ≡ Some ticket }
     requires shut { IsShut (P.at prompter.old) }
-    ensures carries { Carries {w = prompt_world D.turned P.prompted} (UnderTicket (AsksConsent spec.now notify) EndsConsent ticket)
-        (prompt_state D.turned P.prompted conn.old desk.old prompter.old) result (prompt_state D.turned P.prompted conn.new desk.new prompter.new) }
+    ensures carries { Carries {w = prompt_world D.turned P.prompted}
+        (UnderTicket (AsksConsent spec.now notify) EndsConsent ticket)
+        (prompt_state D.turned P.prompted conn.old desk.old prompter.old) result
+        (prompt_state D.turned P.prompted conn.new desk.new prompter.new) }
     ensures free { (D.at desk.new).out ≡ None }
     ensures shut { IsShut (P.at prompter.new) }
 {

@@ -4,7 +4,9 @@ ghost use Rattle.hex.specs.Hex.{decode_of};
 ghost use Rattle.assuan_text.specs.Words.{words};
 ghost use Rattle.assuan_text.specs.Options.{options_of, last_option, last_value};
 ghost use Rattle.assuan_text.specs.declared.TheConstants.{MAX_LINE_LEN};
-ghost use Rattle.agent_commands.specs.Fields.{cache_id, is_cache_id, unless_placeholder, text_or, texts, repeats, life, life_of_seconds, cleared_mode, passphrase, given_passphrase};
+ghost use Rattle.agent_commands.specs.Fields.{cache_id, is_cache_id, unless_placeholder, text_or};
+ghost use Rattle.agent_commands.specs.Fields.{texts, repeats, life, life_of_seconds, cleared_mode};
+ghost use Rattle.agent_commands.specs.Fields.{passphrase, given_passphrase};
 
 use crate::Texts;
 use assuan_escape::unescape;
@@ -72,12 +74,14 @@ impl<'a> Model for TextWords<'a> {
 
     ghost view = { λ words. texts_by words.error.now words.prompt.now words.description.now };
 
-    ghost invariant = { λ words. (length words.error.now ≤ MAX_LINE_LEN) × (length words.prompt.now ≤ MAX_LINE_LEN)
+    ghost invariant = { λ words. (length words.error.now ≤ MAX_LINE_LEN)
+        × (length words.prompt.now ≤ MAX_LINE_LEN)
         × (length words.description.now ≤ MAX_LINE_LEN) };
 }
 
 impl<'a> TextWords<'a> {
-    /// The first words of the text: `Some(None)` where there is no word, and `None` where there are one or two.
+    /// The first words of the text: `Some(None)` where there is no word, and `None` where there are
+    /// one or two.
     pub(crate) fn of(text: &'a [u8]) -> Option<Option<TextWords<'a>>>
         requires { length text.now ≤ MAX_LINE_LEN }
         ensures { result ≡ texts (words text.now) }

@@ -11,8 +11,8 @@ use crate::{CacheCommand, QuietRequest};
 use assuan_text::{arguments, has_option, next_word};
 use std::marker::Model;
 
-/// What comes after GET_PASSPHRASE, where its fields are in form. It borrows the line: the texts are long, and most requests need none.
-/// Contracts see the fields.
+/// What comes after GET_PASSPHRASE, where its fields are in form. It borrows the line: the texts
+/// are long, and most requests need none. Contracts see the fields.
 #[derive(Drop)]
 pub(crate) struct GetLine<'a> {
     /// All that comes after the command, which its options are found in.
@@ -48,7 +48,8 @@ impl<'a> GetLine<'a> {
     /// `None` where a field is missing or out of form.
     pub(crate) fn of(text: &'a [u8]) -> Option<GetLine<'a>>
         requires { length text.now ≤ MAX_LINE_LEN }
-        ensures { get_of (options_of (words text.now)) (arguments_of (words text.now)) ≡ needed (option_map get_passphrase result) }
+        ensures { get_of (options_of (words text.now)) (arguments_of (words text.now))
+            ≡ needed (option_map get_passphrase result) }
     {
         let (id, rest) = next_word(arguments(text))?;
         let repeat = repeats(text)?;

@@ -1,9 +1,10 @@
-//! The commands on the agent's cache: a line of the client read as a request, or refused by a code, and carried out and answered
-//! over any link, any desk and any prompter.
+//! The commands on the agent's cache: a line of the client read as a request, or refused by a code,
+//! and carried out and answered over any link, any desk and any prompter.
 //!
-//! Begin with [`LineRequest::of`] and [`run_cache`]. What a line asks for, or its first refusal, is exactly its definition; a request is
-//! answered as its exchange says, takes the turns that its command names and no others, and leaves no ticket out and no prompt open.
-//! Definitions begin in `specs/Requests` and `specs/Exchanges`.
+//! Begin with [`LineRequest::of`] and [`run_cache`]. What a line asks for, or its first refusal, is
+//! exactly its definition; a request is answered as its exchange says, takes the turns that its
+//! command names and no others, and leaves no ticket out and no prompt open. Definitions begin in
+//! `specs/Requests` and `specs/Exchanges`.
 #![tactic(auto)]
 
 mod answer;

@@ -10,8 +10,8 @@ use assuan_line::Line;
 use assuan_text::command_and_rest;
 use std::marker::Model;
 
-/// A line that is read but for what is long: its command is found, and a GET_PASSPHRASE has its fields, whose texts are words of the line yet.
-/// Contracts see what the line asks for.
+/// A line that is read but for what is long: its command is found, and a GET_PASSPHRASE has its
+/// fields, whose texts are words of the line yet. Contracts see what the line asks for.
 #[derive(Drop)]
 pub struct LineRequest<'a> {
     line: &'a [u8],
@@ -30,7 +30,8 @@ impl<'a> Model for LineRequest<'a> {
 
     ghost view = { λ begun. request_of begun.line.now };
 
-    ghost invariant = { λ begun. BeginsRequest begun.line.now begun.word.now begun.rest.now begun.command begun.get };
+    ghost invariant = { λ begun.
+        BeginsRequest begun.line.now begun.word.now begun.rest.now begun.command begun.get };
 }
 
 impl<'a> LineRequest<'a> {
@@ -54,7 +55,8 @@ impl<'a> LineRequest<'a> {
         }
     }
 
-    /// The request, where it asks the cache alone for a passphrase, as GET_PASSPHRASE does with `--no-ask` or without texts.
+    /// The request, where it asks the cache alone for a passphrase, as GET_PASSPHRASE does with
+    /// `--no-ask` or without texts.
     // The texts of a line are long, and most requests are quiet: so no text is made for these.
     pub fn quiet(&self) -> Option<QuietRequest>
         ensures { result ≡ quiet_of self.now }

@@ -1,6 +1,8 @@
 ghost use Rattle.std.specs.Prelude.{◌≡◌, map};
-ghost use Rattle.agent_commands.specs.declared.names.TheConstants.{COMMANDS, KEY_COMMANDS, PROMPT_COMMANDS};
-ghost use Rattle.agent_commands.specs.Names.{commands, key_commands, prompt_commands, command_named, is_key_command, info_named, is_listed};
+ghost use Rattle.agent_commands.specs.declared.names.TheConstants.{COMMANDS, KEY_COMMANDS};
+ghost use Rattle.agent_commands.specs.declared.names.TheConstants.{PROMPT_COMMANDS};
+ghost use Rattle.agent_commands.specs.Names.{commands, key_commands, prompt_commands};
+ghost use Rattle.agent_commands.specs.Names.{command_named, is_key_command, info_named, is_listed};
 
 use crate::Info;
 use assuan_text::{found, found_in_any_case, has_pair};
@@ -8,18 +10,31 @@ use assuan_text::{found, found_in_any_case, has_pair};
 /// The commands that are known.
 #[derive(Clone, Copy, Debug, PartialEq, Eq)]
 pub enum CommandName {
+    /// NOP, which does nothing.
     Nop,
+    /// RESET, which sets the session's options to their start.
     Reset,
+    /// BYE, which ends the session.
     Bye,
+    /// HELP, which tells the commands.
     Help,
+    /// OPTION, which sets an option of the session.
     SetOption,
+    /// GETINFO, which tells of the agent itself.
     GetInfo,
+    /// GET_PASSPHRASE, which asks the cache, and maybe the user, for a passphrase.
     GetPassphrase,
+    /// PRESET_PASSPHRASE, which stores a passphrase.
     PresetPassphrase,
+    /// CLEAR_PASSPHRASE, which forgets what is stored under an id.
     ClearPassphrase,
+    /// GET_CONFIRMATION, which asks the user for consent.
     GetConfirmation,
+    /// RELOADAGENT, which forgets all passphrases.
     ReloadAgent,
+    /// KILLAGENT, which stops the agent.
     KillAgent,
+    /// SETKEYDESC, which sets what the next prompts about a key say.
     SetKeyDesc,
 }
 
@@ -53,7 +68,8 @@ pub const KEY_COMMANDS: [(&[u8], ()); 7] = [
 /// The commands on the prompts of those on keys. They are served, and HELP doesn't tell them.
 pub const PROMPT_COMMANDS: [(&[u8], CommandName); 1] = [(b"SETKEYDESC", CommandName::SetKeyDesc)];
 
-/// A law: `COMMANDS`, `KEY_COMMANDS` and `PROMPT_COMMANDS` have the names as they are defined, in this order.
+/// A law: `COMMANDS`, `KEY_COMMANDS` and `PROMPT_COMMANDS` have the names as they are defined, in
+/// this order.
 pub fn commands_are_as_defined()
     ensures cache { map (λ row. (row.0.now, row.1)) COMMANDS ≡ commands }
     ensures keys { map (λ row. (row.0.now, row.1)) KEY_COMMANDS ≡ key_commands }

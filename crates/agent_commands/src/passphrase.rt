@@ -6,12 +6,14 @@ ghost use Rattle.agent_ask.specs.Prompts.{AsksPin};
 ghost use Rattle.assuan_server.specs.Connections.{Connection, IsOpen};
 ghost use Rattle.cache_policy.specs.Turns.{asked_step, wait_of};
 ghost use Rattle.session_options.specs.declared.options.PinMode.TheVariants as pin_mode;
-ghost use Rattle.agent_commands.specs.Exchanges.{Exchange, LooksFirst, Refuses, WithoutPrompt, ByPrompt, EndsPin, want};
+ghost use Rattle.agent_commands.specs.Exchanges.{Exchange, LooksFirst, Refuses, WithoutPrompt};
+ghost use Rattle.agent_commands.specs.Exchanges.{ByPrompt, EndsPin, want};
 ghost use Rattle.agent_commands.specs.Outside.{world, prompt_world};
 ghost use Rattle.agent_commands.specs.Prompting.{UnderTicket};
 ghost use Rattle.agent_commands.specs.States.{session_state, prompt_state};
 ghost use Rattle.agent_commands.specs.declared.request.Request.TheVariants as request;
-ghost use Rattle.agent_commands.specs.Steps.{IsGet, Carries, CarriesOut, LooksUp, KeepsSecret, HasNoPin, answer_without_pin};
+ghost use Rattle.agent_commands.specs.Steps.{IsGet, Carries, CarriesOut, LooksUp, KeepsSecret};
+ghost use Rattle.agent_commands.specs.Steps.{HasNoPin, answer_without_pin};
 
 use crate::CacheCommand;
 use crate::answer::Answer;
@@ -28,7 +30,8 @@ use session_options::{Options, PinMode, Rules};
 
 /// A passphrase from the cache alone.
 pub(crate) fn ask_cache<D: Desk>(plain: bool, id: &Option<CacheId>, desk: &mut D) -> Answer
-    ensures carries { (conn : Connection) → IsOpen conn → Carries {w = world D.turned} (LooksFirst plain id.now (Refuses Code.NoData))
+    ensures carries { (conn : Connection)
+        → IsOpen conn → Carries {w = world D.turned} (LooksFirst plain id.now (Refuses Code.NoData))
         (session_state D.turned conn desk.old) result (session_state D.turned conn desk.new) }
     ensures out { (D.at desk.new).out ≡ (D.at desk.old).out }
 {
@@ -51,8 +54,10 @@ pub(crate) fn get_passphrase<L: Link, D: Desk, P: Prompter>(
     requires open { IsOpen conn.old }
     requires free { (D.at desk.old).out ≡ None }
     requires shut { IsShut (P.at prompter.old) }
-    ensures carries { CarriesOut {w = prompt_world D.turned P.prompted} (Exchange rules.now options.now (request.Cache command.now))
-        (prompt_state D.turned P.prompted conn.old desk.old prompter.old) result options.now (prompt_state D.turned P.prompted conn.new desk.new prompter.new) }
+    ensures carries { CarriesOut {w = prompt_world D.turned P.prompted}
+        (Exchange rules.now options.now (request.Cache command.now))
+        (prompt_state D.turned P.prompted conn.old desk.old prompter.old) result options.now
+        (prompt_state D.turned P.prompted conn.new desk.new prompter.new) }
     ensures free { (D.at desk.new).out ≡ None }
     ensures shut { IsShut (P.at prompter.new) }
 {
@@ -81,7 +86,8 @@ pub(crate) fn get_passphrase<L: Link, D: Desk, P: Prompter>(
     }
 }
 
-/// Looks into the cache, where there is an id. Where that ends the request, it gives how it is answered.
+/// Looks into the cache, where there is an id. Where that ends the request, it gives how it is
+/// answered.
 fn look<D: Desk>(plain: bool, id: &Option<CacheId>, desk: &mut D) -> Option<Answer>
     ensures looks { LooksUp D.turned plain id.now desk.old result desk.new }
     ensures out { (D.at desk.new).out ≡ (D.at desk.old).out }
@@ -113,8 +119,10 @@ fn without_prompt<L: Link, D: Desk>(
 ) -> Answer
     requires open { IsOpen conn.old }
     requires mode { mode ≢ pin_mode.Ask }
-    ensures carries { Carries {w = world D.turned} (LooksFirst plain id.now (WithoutPrompt plain id.now mode))
-        (session_state D.turned conn.old desk.old) result (session_state D.turned conn.new desk.new) }
+    ensures carries { Carries
+        {w = world D.turned} (LooksFirst plain id.now (WithoutPrompt plain id.now mode))
+        (session_state D.turned conn.old desk.old) result
+        (session_state D.turned conn.new desk.new) }
     ensures out { (D.at desk.new).out ≡ (D.at desk.old).out }
 {
     if let Some(answer) = look(plain, id, desk) {
@@ -137,7 +145,8 @@ fn ask_client<L: Link, D: Desk>(
 ) -> Answer
     requires open { IsOpen conn.old }
     ensures carries { Carries {w = world D.turned} (WithoutPrompt plain id.now pin_mode.Loopback)
-        (session_state D.turned conn.old desk.old) result (session_state D.turned conn.new desk.new) }
+        (session_state D.turned conn.old desk.old) result
+        (session_state D.turned conn.new desk.new) }
     ensures out { (D.at desk.new).out ≡ (D.at desk.old).out }
 {
     match inquire_passphrase(conn) {
@@ -180,8 +189,10 @@ fn by_prompt<L: Link, D: Desk, P: Prompter>(
     requires open { IsOpen conn.old }
     requires free { (D.at desk.old).out ≡ None }
     requires shut { IsShut (P.at prompter.old) }
-    ensures carries { Carries {w = prompt_world D.turned P.prompted} (ByPrompt spec.now plan.now plain id.now)
-        (prompt_state D.turned P.prompted conn.old desk.old prompter.old) result (prompt_state D.turned P.prompted conn.new desk.new prompter.new) }
+    ensures carries { Carries
+        {w = prompt_world D.turned P.prompted} (ByPrompt spec.now plan.now plain id.now)
+        (prompt_state D.turned P.prompted conn.old desk.old prompter.old) result
+        (prompt_state D.turned P.prompted conn.new desk.new prompter.new) }
     ensures free { (D.at desk.new).out ≡ None }
     ensures shut { IsShut (P.at prompter.new) }
 {
@@ -195,7 +206,8 @@ fn by_prompt<L: Link, D: Desk, P: Prompter>(
     }
 }
 
-/// The step that wants the prompt for a passphrase. Without an id the cache has nothing to do with it.
+/// The step that wants the prompt for a passphrase. Without an id the cache has nothing to do with
+/// it.
 fn wanting(id: &Option<CacheId>) -> Step
     ensures wants { asked_step result ≡ want id.now }
     ensures first { wait_of result ≡ None }
@@ -227,8 +239,10 @@ fn prompt_under<L: Link, D: Desk, P: Prompter>(
     requires open { IsOpen conn.old }
     requires out { (D.at desk.old).out ≡ Some ticket }
     requires shut { IsShut (P.at prompter.old) }
-    ensures carries { Carries {w = prompt_world D.turned P.prompted} (UnderTicket (AsksPin spec.now plan.now (λ pin. ⊤)) (EndsPin plain) ticket)
-        (prompt_state D.turned P.prompted conn.old desk.old prompter.old) result (prompt_state D.turned P.prompted conn.new desk.new prompter.new) }
+    ensures carries { Carries {w = prompt_world D.turned P.prompted}
+        (UnderTicket (AsksPin spec.now plan.now (λ pin. ⊤)) (EndsPin plain) ticket)
+        (prompt_state D.turned P.prompted conn.old desk.old prompter.old) result
+        (prompt_state D.turned P.prompted conn.new desk.new prompter.new) }
     ensures free { (D.at desk.new).out ≡ None }
     ensures shut { IsShut (P.at prompter.new) }
 {

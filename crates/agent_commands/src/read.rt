@@ -5,7 +5,9 @@ ghost use Rattle.assuan_text.specs.Words.{words};
 ghost use Rattle.agent_commands.specs.Exchanges.{quiet_of};
 ghost use Rattle.agent_commands.specs.Fields.{text};
 ghost use Rattle.agent_commands.specs.Names.{is_key_command};
-ghost use Rattle.agent_commands.specs.Requests.{request_of, asked_by, ReadsGet, info_of, listed_info, preset_of, clear_of, confirmation_of, description_of};
+ghost use Rattle.agent_commands.specs.Requests.{request_of, asked_by, ReadsGet, info_of};
+ghost use Rattle.agent_commands.specs.Requests.{listed_info, preset_of, clear_of, confirmation_of};
+ghost use Rattle.agent_commands.specs.Requests.{description_of};
 
 use crate::fields::{cache_id, cleared_mode, given_passphrase, life, text_or};
 use crate::get_line::GetLine;
@@ -18,15 +20,17 @@ use assuan_text::{Text, arguments, has_option, next_word};
 
 /// Reads a line as what it asks for.
 ///
-/// A line that a session passes over, an empty one or a comment, has no command, and is refused here.
+/// A line that a session passes over, an empty one or a comment, has no command, and is refused
+/// here.
 pub fn read_request(line: &Line) -> Request
     ensures { result ≡ request_of line.now }
 {
     LineRequest::of(line).whole()
 }
 
-/// Reads a line that asks the cache alone for a passphrase, as GET_PASSPHRASE does with `--no-ask` or without texts. `None` for any
-/// other line, which `read_request` reads. Where both may be wanted, `LineRequest` reads the line once.
+/// Reads a line that asks the cache alone for a passphrase, as GET_PASSPHRASE does with `--no-ask`
+/// or without texts. `None` for any other line, which `read_request` reads. Where both may be
+/// wanted, `LineRequest` reads the line once.
 pub fn read_quiet(line: &Line) -> Option<QuietRequest>
     ensures { result ≡ quiet_of (request_of line.now) }
 {
@@ -36,7 +40,8 @@ pub fn read_quiet(line: &Line) -> Option<QuietRequest>
 /// A line that begins with none of the commands on the cache.
 pub(crate) fn read_other(word: &[u8], line: &[u8]) -> Request
     requires { length line.now ≤ MAX_LINE_LEN }
-    ensures { result ≡ (if is_key_command word.now then Request.Key (text line.now) else Request.Bad Code.UnknownCommand) }
+    ensures { result ≡ (if is_key_command word.now then Request.Key (text line.now)
+        else Request.Bad Code.UnknownCommand) }
 {
     if is_key_command(word) {
         Request::Key(text_of(line))

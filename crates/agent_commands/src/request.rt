@@ -5,6 +5,7 @@ use cache_policy::{CacheId, Life, Mode, Secret};
 /// What a line asks for.
 #[derive(Drop)]
 pub enum Request {
+    /// A command on the cache or on the session.
     Cache(CacheCommand),
     /// A line whose word is a command on keys. The rest of it isn't read.
     Key(Text),
@@ -15,15 +16,21 @@ pub enum Request {
 /// The commands on the cache and on the session (GnuPG manual, "Agent's Assuan protocol").
 #[derive(Drop)]
 pub enum CacheCommand {
+    /// Does nothing.
     Nop,
+    /// Sets the session's options to their start.
     Reset,
+    /// Ends the session.
     Bye,
+    /// Tells the commands.
     Help,
     /// What comes after OPTION. The session's options judge it.
     SetOption {
         text: Text,
     },
+    /// Tells of the agent itself.
     GetInfo(Info),
+    /// Asks the cache, and maybe the user, for a passphrase.
     GetPassphrase {
         /// The passphrase is answered by data lines, and else in hexadecimal digits.
         plain: bool,
@@ -40,16 +47,19 @@ pub enum CacheCommand {
         /// `None` where the line names an id alone.
         texts: Option<Texts>,
     },
+    /// Stores a passphrase.
     PresetPassphrase {
         id: CacheId,
         life: Life,
         /// `None` where the client is asked for it.
         secret: Option<Secret>,
     },
+    /// Forgets what is stored under an id, in the modes that cover the named one.
     ClearPassphrase {
         id: CacheId,
         mode: Mode,
     },
+    /// Asks the user for consent.
     GetConfirmation {
         description: Text,
     },
@@ -63,7 +73,8 @@ pub enum CacheCommand {
     },
 }
 
-/// A GET_PASSPHRASE that asks the cache alone, without the texts that its line may have: no prompt shows them.
+/// A GET_PASSPHRASE that asks the cache alone, without the texts that its line may have: no prompt
+/// shows them.
 #[derive(Drop)]
 pub struct QuietRequest {
     /// The passphrase is answered by data lines, and else in hexadecimal digits.
@@ -75,8 +86,11 @@ pub struct QuietRequest {
 /// What GETINFO is asked for.
 #[derive(Clone, Copy, Debug, PartialEq, Eq)]
 pub enum Info {
+    /// The agent's version.
     Version,
+    /// The number of the agent's process.
     Pid,
+    /// How many bytes a passphrase is hashed to.
     S2kCount,
     /// A command and an option of it that are listed.
     Listed,
@@ -87,6 +101,8 @@ pub enum Info {
 pub struct Texts {
     /// Empty where there was no error.
     pub error: Text,
+    /// What stands before the field of the passphrase.
     pub prompt: Text,
+    /// What the user is told or asked.
     pub description: Text,
 }

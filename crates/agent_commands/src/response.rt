@@ -50,7 +50,8 @@ pub(crate) fn write_response<L: Link>(
     conn: &mut Conn<'_, L>,
     response: &Response,
 ) -> Result<(), WriteFault>
-    ensures { (text : List ℕ) × IsText response.now text × WritesText text conn.old result conn.new }
+    ensures { (text : List ℕ) × IsText response.now text
+        × WritesText text conn.old result conn.new }
 {
     match response {
         Response::Ok => conn.ok(b"").whole(),
@@ -71,7 +72,8 @@ fn write_passphrase<L: Link>(
     secret: &Secret,
     plain: bool,
 ) -> Result<(), WriteFault>
-    ensures { (text : List ℕ) × IsPassphrase plain secret.now text × WritesText text conn.old result conn.new }
+    ensures { (text : List ℕ) × IsPassphrase plain secret.now text
+        × WritesText text conn.old result conn.new }
 {
     if plain {
         write_data(conn, secret.bytes())
@@ -82,7 +84,8 @@ fn write_passphrase<L: Link>(
 
 /// Writes these bytes as data lines, and that this is all.
 fn write_data<L: Link>(conn: &mut Conn<'_, L>, bytes: &[u8]) -> Result<(), WriteFault>
-    ensures { (text : List ℕ) × IsDataAnswer bytes.now text × WritesText text conn.old result conn.new }
+    ensures { (text : List ℕ) × IsDataAnswer bytes.now text
+        × WritesText text conn.old result conn.new }
 {
     conn.last_data(bytes).whole()
 }
@@ -98,7 +101,8 @@ fn write_digits<L: Link>(conn: &mut Conn<'_, L>, secret: &Secret) -> Result<(), 
     sent.whole()
 }
 
-/// Writes a comment for each command that HELP tells and, behind these, for each further one that a server has, and that this is all.
+/// Writes a comment for each command that HELP tells and, behind these, for each further one that a
+/// server has, and that this is all.
 pub fn write_help<L: Link, T>(
     conn: &mut Conn<'_, L>,
     further: &[(&[u8], T)],

@@ -16,14 +16,18 @@ pub enum SessionEnd {
     TooLong,
     /// As many bytes were taken as a session may take.
     Spent,
+    /// A read failed.
     ReadFault,
+    /// A write failed.
     WriteFault,
 }
 
 /// How a session goes on after a request.
 #[derive(Clone, Copy, Debug, PartialEq, Eq)]
 pub enum Went {
+    /// It goes on with the next line.
     On,
+    /// It has ended.
     End(SessionEnd),
 }
 

@@ -1,9 +1,9 @@
 -- The tally of a run with one mark more.
-use Rattle.std.specs.Prelude.{◌≡◌, ℕ, ◌+◌, ◌<◌, ◌≤◌, ◌==◌, List, [], ◌∷◌, ◌++◌, length, filter, Bool, true, false, ◌&&◌, not, Option, Some, None, refl, if◌then◌else◌}
+use Rattle.std.specs.Prelude.{◌≡◌, ℕ, ◌+◌, ◌<◌, ◌≤◌, ◌==◌, List, [], ◌∷◌, ◌++◌, length, filter, Bool, true, false, not, Option, Some, None, refl, if◌then◌else◌}
 use Rattle.std.proofs.Common.{ap, sym, ◌∙◌, subst, arith, length-append}
 use Rattle.std.proofs.lemmas.List.Elements.{filter-append}
 use Rattle.std.specs.List.{flat_map}
-use Rattle.std.specs.Option.{is_some}
+use Rattle.std.specs.Option.{option_map}
 use Rattle.cache_policy.specs.declared.bounds.TheConstants.{MAX_MARKS}
 use Rattle.cache_policy.specs.declared.entry.Entry.{Entry}
 use Rattle.cache_policy.specs.declared.life.Life.{Life}
@@ -14,6 +14,7 @@ use Rattle.cache_policy.specs.declared.mark.Under.{Under}
 use Rattle.cache_policy.specs.declared.mark.Mark.{Mark}
 use Rattle.cache_policy.specs.declared.mark.MarkStep.{MarkStep}
 use Rattle.cache_policy.specs.declared.mark.MarkStep.TheVariants.{Ask, Seat, Close, Put, Clear, Flush, Peek, Stop}
+use Rattle.cache_policy.specs.Bare.{bare_step}
 use Rattle.cache_policy.specs.Entries.{entry_of, kept_under, kept, stored, entries, entries_after}
 use Rattle.cache_policy.specs.Histories.{History, next_number, start_of, with_mark}
 use Rattle.cache_policy.specs.Legal.{IsLegalRun}
@@ -23,15 +24,15 @@ use Rattle.cache_policy.specs.Seat.{seat, stopped, is_open}
 use Rattle.cache_policy.proofs.EntriesLemmas.{entries-with_mark}
 use Rattle.cache_policy.proofs.GrowingRuns.{joined-run_with_mark}
 use Rattle.cache_policy.specs.declared.tally.Tally.{Tally}
-use Rattle.cache_policy.specs.Tallies.{is_given, is_empty, is_clear, is_flush, how_many}
-use Rattle.agent_core.specs.Tallies.{tally_of, one, counted, CanCount, keeps_under, stores, Tallied}
+use Rattle.cache_policy.specs.Tallies.{is_given, is_empty, is_clear, is_flush, how_many, one_if}
+use Rattle.agent_core.specs.Tallies.{tally_of, counted, CanCount, Tallied}
 
 -- one mark more that is counted or not
-count_push : (test : Mark → Bool) (marks : List Mark) (mark : Mark) → how_many test (marks ++ mark ∷ []) ≡ how_many test marks + one (test mark)
+count_push : (test : Mark → Bool) (marks : List Mark) (mark : Mark) → how_many test (marks ++ mark ∷ []) ≡ how_many test marks + one_if (test mark)
 count_push test marks mark =
     ap (λ (l : List Mark). length l) (filter-append test marks (mark ∷ []))
     ∙ (length-append (filter test marks) (filter test (mark ∷ []))
-    ∙ ap (λ (n : ℕ). how_many test marks + n) (elim (test mark) as (λ b. length (if b then mark ∷ [] else []) ≡ one b) [ true ↦ refl | false ↦ refl ]))
+    ∙ ap (λ (n : ℕ). how_many test marks + n) (elim (test mark) as (λ b. length (if b then mark ∷ [] else []) ≡ one_if b) [ true ↦ refl | false ↦ refl ]))
 
 count_less : (test : Mark → Bool) (marks : List Mark) → how_many test marks ≤ length marks
 count_less test [] = omega arith
@@ -42,43 +43,63 @@ count_less test (mark ∷ later) =
     ]
 
 -- what a step stores is one entry or none
-length_cond : {A : Type 0} (b : Bool) (x : A) → length (if b then [] else x ∷ []) ≡ one (not b)
+length_cond : {A : Type 0} (b : Bool) (x : A) → length (if b then [] else x ∷ []) ≡ one_if (not b)
 length_cond true x = refl
 length_cond false x = refl
 
 entry_one : (limits : Limits) (number moment : ℕ) (id : List ℕ) (mode : Mode) (life : Life) (secret : List ℕ)
-    → length (entry_of limits number moment id mode life secret) ≡ one (not (is_zero (ttl_of limits mode life)))
+    → length (entry_of limits number moment id mode life secret) ≡ one_if (not (is_zero (ttl_of limits mode life)))
 entry_one limits number moment id mode life secret = length_cond (is_zero (ttl_of limits mode life)) _
 
-kept_one : (limits : Limits) (number moment : ℕ) (under : Option Under) (keep : Option (List ℕ))
-    → length (kept limits number moment under keep) ≡ one (is_some keep && keeps_under limits under)
-kept_one limits number moment None None = refl
-kept_one limits number moment None (Some secret) = refl
-kept_one limits number moment (Some under) None = refl
-kept_one limits number moment (Some under) (Some secret) = entry_one limits number moment under.id under.mode Default secret
+entry_less : (limits : Limits) (number moment : ℕ) (id : List ℕ) (mode : Mode) (life : Life) (secret : List ℕ)
+    → length (entry_of limits number moment id mode life secret) ≤ 1
+entry_less limits number moment id mode life secret =
+    let same = entry_one limits number moment id mode life secret in
+    elim (is_zero (ttl_of limits mode life)) as (λ b. length (entry_of limits number moment id mode life secret) ≡ one_if (not b) → length (entry_of limits number moment id mode life secret) ≤ 1)
+    [ true ↦ λ e. omega (arith, e) | false ↦ λ e. omega (arith, e) ] same
 
-stored_one : (limits : Limits) (next : History) (asked : MarkStep) (moment : ℕ) → length (stored limits next asked moment) ≡ one (stores limits (seat next) asked)
-stored_one limits next (Ask id mode way since) moment = refl
-stored_one limits next (Seat under since) moment = refl
-stored_one limits next (Close ticket keep) moment = kept_one limits (next_number next) moment (kept_under (seat next) ticket) keep
-stored_one limits next (Put id mode life secret) moment = entry_one limits (next_number next) moment id mode life secret
-stored_one limits next (Clear id mode) moment = refl
-stored_one limits next Flush moment = refl
-stored_one limits next (Peek id mode) moment = refl
-stored_one limits next Stop moment = refl
+kept_less : (limits : Limits) (number moment : ℕ) (under : Option Under) (keep : Option (List ℕ)) → length (kept limits number moment under keep) ≤ 1
+kept_less limits number moment None keep = omega arith
+kept_less limits number moment (Some under) None = omega arith
+kept_less limits number moment (Some under) (Some secret) = entry_less limits number moment under.id under.mode Default secret
 
-one_less : (b : Bool) → one b ≤ 1
-one_less true = omega arith
-one_less false = omega arith
+stored_less_two : (limits : Limits) (next : History) (asked : MarkStep) (moment : ℕ) → length (stored limits next asked moment) ≤ 1
+stored_less_two limits next (Ask id mode way since) moment = omega arith
+stored_less_two limits next (Seat under since) moment = omega arith
+stored_less_two limits next (Close ticket keep) moment = kept_less limits (next_number next) moment (kept_under (seat next) ticket) keep
+stored_less_two limits next (Put id mode life secret) moment = entry_less limits (next_number next) moment id mode life secret
+stored_less_two limits next (Clear id mode) moment = omega arith
+stored_less_two limits next Flush moment = omega arith
+stored_less_two limits next (Peek id mode) moment = omega arith
+stored_less_two limits next Stop moment = omega arith
+
+-- as many without the bytes of its secret
+kept_bare : (limits : Limits) (number moment : ℕ) (under : Option Under) (keep : Option (List ℕ))
+    → length (kept limits number moment under (option_map (λ secret. []) keep)) ≡ length (kept limits number moment under keep)
+kept_bare limits number moment None None = refl
+kept_bare limits number moment None (Some secret) = refl
+kept_bare limits number moment (Some under) None = refl
+kept_bare limits number moment (Some under) (Some secret) =
+    entry_one limits number moment under.id under.mode Default [] ∙ sym (entry_one limits number moment under.id under.mode Default secret)
+
+pub stored_bare : (limits : Limits) (next : History) (asked : MarkStep) (moment : ℕ) → length (stored limits next (bare_step asked) moment) ≡ length (stored limits next asked moment)
+stored_bare limits next (Ask id mode way since) moment = refl
+stored_bare limits next (Seat under since) moment = refl
+stored_bare limits next (Close ticket keep) moment = kept_bare limits (next_number next) moment (kept_under (seat next) ticket) keep
+stored_bare limits next (Put id mode life secret) moment =
+    entry_one limits (next_number next) moment id mode life [] ∙ sym (entry_one limits (next_number next) moment id mode life secret)
+stored_bare limits next (Clear id mode) moment = refl
+stored_bare limits next Flush moment = refl
+stored_bare limits next (Peek id mode) moment = refl
+stored_bare limits next Stop moment = refl
 
 entries_less : (limits : Limits) (before : History) (marks : List Mark) → length (entries_after limits before marks) ≤ length marks
 entries_less limits before [] = omega arith
 entries_less limits before (mark ∷ later) =
     let a = length-append (stored limits before mark.step mark.moment) (entries_after limits (with_mark before mark) later) in
-    let b = stored_one limits before mark.step mark.moment in
-    let c = one_less (stores limits (seat before) mark.step) in
-    let d = entries_less limits (with_mark before mark) later in
-    omega (arith, a, b, c, d)
+    let b = stored_less_two limits before mark.step mark.moment in
+    let c = entries_less limits (with_mark before mark) later in
+    omega (arith, a, b, c)
 
 stored_less : (limits : Limits) (run : List History) → length (flat_map (entries limits) run) ≤ length (joined run)
 stored_less limits [] = omega arith
@@ -161,12 +182,12 @@ can_count limits run last tally legal last_is below few is =
     }
 
 added : (test : Mark → Bool) (run : List History) (mark : Mark) (before : ℕ) → IsRun run → before ≡ how_many test (joined run)
-    → before + one (test mark) ≡ how_many test (joined (run_with_mark run mark))
+    → before + one_if (test mark) ≡ how_many test (joined (run_with_mark run mark))
 added test run mark before is same =
-    ap (λ (n : ℕ). n + one (test mark)) same ∙ (sym (count_push test (joined run) mark) ∙ ap (how_many test) (sym (joined-run_with_mark run mark is)))
+    ap (λ (n : ℕ). n + one_if (test mark)) same ∙ (sym (count_push test (joined run) mark) ∙ ap (how_many test) (sym (joined-run_with_mark run mark is)))
 
 pub tally_counted : (limits : Limits) (run : List History) (last : History) (mark : Mark) (tally : Tally) (stored_now : Bool) → IsRun run → last_history run ≡ Some last
-    → Tallied limits run tally → stored_now ≡ stores limits (seat (next_history last)) mark.step → Tallied limits (run_with_mark run mark) (counted tally mark stored_now)
+    → Tallied limits run tally → length (stored limits (next_history last) mark.step mark.moment) ≡ one_if stored_now → Tallied limits (run_with_mark run mark) (counted tally mark stored_now)
 tally_counted limits run last mark tally stored_now is last_is tallied now = record {
   marks =
       let a = ap (λ (l : List Mark). length l) (joined-run_with_mark run mark is) in
@@ -176,10 +197,9 @@ tally_counted limits run last mark tally stored_now is last_is tallied now = rec
   empty = added (λ mark. is_empty mark.reply) run mark tally.empty is tallied.empty;
   opened = added (λ mark. is_open mark.reply) run mark tally.opened is tallied.opened;
   stored =
-      ap (λ (n : ℕ). n + one stored_now) tallied.stored
-      ∙ (ap (λ (b : Bool). length (flat_map (entries limits) run) + one b) now
-      ∙ (ap (λ (n : ℕ). length (flat_map (entries limits) run) + n) (sym (stored_one limits (next_history last) mark.step mark.moment))
-      ∙ sym (stored_added limits run last mark last_is)));
+      ap (λ (n : ℕ). n + one_if stored_now) tallied.stored
+      ∙ (ap (λ (n : ℕ). length (flat_map (entries limits) run) + n) (sym now)
+      ∙ sym (stored_added limits run last mark last_is));
   cleared = added (λ mark. is_clear mark.step) run mark tally.cleared is tallied.cleared;
   flushed = added (λ mark. is_flush mark.step) run mark tally.flushed is tallied.flushed;
 }

@@ -1,15 +1,16 @@
 -- Private: how a core keeps its run, and the room for the marks to come.
-use Rattle.std.specs.Prelude.{◌≡◌, ◌<◌, ◌≤◌, List, [], ◌∷◌, Option, Some, None, IsSome, vec_len, vec_capacity, ⊤}
+use Rattle.std.specs.Prelude.{◌≡◌, ◌<◌, ◌≤◌, List, [], ◌∷◌, Option, Some, None, IsSome, unwrap_or, vec_len, vec_capacity, ⊤}
 use Rattle.std.specs.Global.{Vec}
 use Rattle.cache_policy.specs.declared.bounds.TheConstants.{MAX_MARKS}
 use Rattle.cache_policy.specs.declared.mark.Mark.{Mark}
 use Rattle.cache_policy.specs.declared.mark.MarkReply.{MarkReply}
-use Rattle.cache_policy.specs.declared.mark.MarkReply.TheVariants as reply
+use Rattle.cache_policy.specs.declared.mark.MarkReply.TheVariants.{Done}
 use Rattle.cache_policy.specs.declared.history.History.{History as HistoryInMemory}
 use Rattle.cache_policy.specs.Histories.{History, run_of}
 use Rattle.cache_policy.specs.Legal.{IsLegalRun}
 use Rattle.cache_policy.specs.Runs.{last_base, last_history, joined, moment_before}
-use Rattle.cache_policy.specs.Turns.{Turn, Given, Empty, Open, Held, Stopping, Late}
+use Rattle.cache_policy.specs.Traces.{reply_of as shown_of}
+use Rattle.cache_policy.specs.Turns.{Turn}
 use Rattle.agent_core.specs.Cores.{AtCore, StandsFor}
 
 -- the core stands for the last history of a legal run, which isn't spent yet
@@ -40,12 +41,6 @@ pub record Records (core : AtCore) (histories : Vec HistoryInMemory) (next : Opt
   pub room : IsRoom histories next
   pub ready : core.count ≡ MAX_MARKS → IsSome core.held → IsSome next
 
--- the reply of a mark that shows a turn
+-- the reply of a mark that shows a turn; a turn that makes none counts as done
 abbrev pub reply_of : Turn → MarkReply
-reply_of (Given grant) = reply.Given grant.entry.number
-reply_of Empty = reply.Empty
-reply_of (Open number) = reply.Open
-reply_of (Held held) = reply.Held held
-reply_of Stopping = reply.Stopping
-reply_of Late = reply.Late
-reply_of _ = reply.Done
+reply_of turn = unwrap_or (shown_of turn) Done

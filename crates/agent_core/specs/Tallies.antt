@@ -1,20 +1,14 @@
 -- Tallies: what the marks of a run come to. This is the project's own.
-use Rattle.std.specs.Prelude.{◌≡◌, ℕ, ◌+◌, ◌<◌, ◌^◌, List, length, Bool, false, ◌&&◌, not, Option, Some, None, if◌then◌else◌}
-use Rattle.std.specs.Option.{is_some, option_map_or}
+use Rattle.std.specs.Prelude.{◌≡◌, ◌+◌, ◌<◌, ◌^◌, List, length, Bool, false}
+use Rattle.std.specs.Option.{option_map_or}
 use Rattle.std.specs.List.{flat_map}
-use Rattle.cache_policy.specs.declared.life.Life.TheVariants.{Default}
 use Rattle.cache_policy.specs.declared.life.Limits.{Limits}
-use Rattle.cache_policy.specs.declared.mark.Under.{Under}
 use Rattle.cache_policy.specs.declared.mark.Mark.{Mark}
-use Rattle.cache_policy.specs.declared.mark.MarkStep.{MarkStep}
-use Rattle.cache_policy.specs.declared.mark.MarkStep.TheVariants.{Put, Close}
-use Rattle.cache_policy.specs.declared.history.Held.{Held}
 use Rattle.cache_policy.specs.Histories.{History}
-use Rattle.cache_policy.specs.Entries.{entries, kept_under}
-use Rattle.cache_policy.specs.Lifetimes.{ttl_of, is_zero}
+use Rattle.cache_policy.specs.Entries.{entries}
 use Rattle.cache_policy.specs.Runs.{joined, last_history}
 use Rattle.cache_policy.specs.Seat.{is_open, stopped}
-use Rattle.cache_policy.specs.Tallies.{is_given, is_empty, is_clear, is_flush, how_many}
+use Rattle.cache_policy.specs.Tallies.{is_given, is_empty, is_clear, is_flush, how_many, one_if}
 use Rattle.cache_policy.specs.declared.tally.Tally.{Tally}
 
 -- the tally of a run: its marks, those that were replied so, the entries that were stored, those steps, and whether it has stopped
@@ -32,18 +26,15 @@ tally_of limits run = record {
 
 -- what the code counts
 
-abbrev pub one : Bool → ℕ
-one counts = if counts then 1 else 0
-
 abbrev pub counted : Tally → Mark → Bool → Tally
 counted tally mark stores = record {
   marks = tally.marks + 1;
-  given = tally.given + one (is_given mark.reply);
-  empty = tally.empty + one (is_empty mark.reply);
-  opened = tally.opened + one (is_open mark.reply);
-  stored = tally.stored + one stores;
-  cleared = tally.cleared + one (is_clear mark.step);
-  flushed = tally.flushed + one (is_flush mark.step);
+  given = tally.given + one_if (is_given mark.reply);
+  empty = tally.empty + one_if (is_empty mark.reply);
+  opened = tally.opened + one_if (is_open mark.reply);
+  stored = tally.stored + one_if stores;
+  cleared = tally.cleared + one_if (is_clear mark.step);
+  flushed = tally.flushed + one_if (is_flush mark.step);
   stopped = tally.stopped;
 }
 
@@ -56,18 +47,6 @@ pub record CanCount (tally : Tally) : Type 0 where
   pub stored : tally.stored < 2 ^ 63
   pub cleared : tally.cleared < 2 ^ 63
   pub flushed : tally.flushed < 2 ^ 63
-
-abbrev pub keeps_under : Limits → Option Under → Bool
-keeps_under limits (Some under) = not (is_zero (ttl_of limits under.mode Default))
-keeps_under limits None = false
-
-abbrev pub keeps : Limits → Option Held → ℕ → Bool
-keeps limits held ticket = keeps_under limits (kept_under held ticket)
-
-abbrev pub stores : Limits → Option Held → MarkStep → Bool
-stores limits held (Put id mode life secret) = not (is_zero (ttl_of limits mode life))
-stores limits held (Close ticket keep) = is_some keep && keeps limits held ticket
-stores limits held asked = false
 
 -- the tally of a run, but for whether it has stopped
 pub record Tallied (limits : Limits) (run : List History) (tally : Tally) : Type 0 where

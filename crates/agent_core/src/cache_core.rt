@@ -1,18 +1,22 @@
-ghost use Rattle.std.specs.Prelude.{◌≡◌, ◌+◌, ◌<◌, ◌≤◌, ◌↔◌, [], false, None, IsTrue, OnErr, IfErr};
+ghost use Rattle.std.specs.Prelude.{◌≡◌, ℕ, ◌+◌, ◌<◌, ◌≤◌, ◌↔◌, [], length, false, None, IsTrue};
+ghost use Rattle.std.specs.Prelude.{OnErr, IfErr};
 ghost use Rattle.std.specs.Option.{is_some};
 ghost use Rattle.cache_policy.specs.declared.bounds.TheConstants.{MAX_MARKS};
+ghost use Rattle.cache_policy.specs.Entries.{stored};
 ghost use Rattle.cache_policy.specs.Histories.{History};
-ghost use Rattle.cache_policy.specs.Turns.{asked_step, mark_step, turn_of, FitsReply, MayWantMemory};
+ghost use Rattle.cache_policy.specs.Turns.{asked_step, mark_step, turn_of, FitsReply};
+ghost use Rattle.cache_policy.specs.Turns.{MayWantMemory};
 ghost use Rattle.cache_policy.specs.Policy.{policy};
 ghost use Rattle.cache_policy.specs.Runs.{last_base, moment_of, next_history};
 ghost use Rattle.cache_policy.specs.Legal.{IsLegal};
+ghost use Rattle.cache_policy.specs.Seat.{seat};
+ghost use Rattle.cache_policy.specs.Tallies.{one_if};
 ghost use Rattle.agent_core.specs.Cores.{StandsFor, IsStep, IsAsBefore};
 ghost use Rattle.agent_core.specs.Adding.{comes_to_seat};
 
 use crate::state::{CacheShelf, State};
-use crate::stepped::copy_under;
 use agent_ports::SessionId;
-use cache_policy::{Held, Limits, Refused, Reply, Step};
+use cache_policy::{Held, Limits, Refused, Reply, Step, TraceStep, Under};
 use prompt_seat::Seat;
 use std::alloc::Global;
 use std::marker::Model;
@@ -20,7 +24,8 @@ use std::marker::Model;
 /// The base of a history that can have no mark: an agent that gets there is spent.
 const LAST_BASE: u64 = 1 << 62;
 
-/// The cache of an agent, and the seat before its prompt. It keeps the entries that can still be given, and no past.
+/// The cache of an agent, and the seat before its prompt. It keeps the entries that can still be
+/// given, and no past.
 #[derive(Drop)]
 pub struct Core {
     state: State,
@@ -42,7 +47,8 @@ impl Core {
     pub fn new(alloc: Global, limits: Limits) -> Core
         ensures limits { result.limits ≡ limits }
         ensures moment { result.moment ≡ 0 }
-        ensures stands { StandsFor result (record { base = 0; held = None; stopped = false; marks = [] }) }
+        ensures stands { StandsFor result
+            (record { base = 0; held = None; stopped = false; marks = [] }) }
     {
         Core {
             state: State {
@@ -58,14 +64,15 @@ impl Core {
         }
     }
 
-    /// Takes a step of a session, with this reading of the clock. Where the seat is held, it answers `Stand`, and the step is to be
-    /// taken again later, with the wait that it was given; after 60 seconds it is answered `Late`. A step that finds no memory is
-    /// handed back.
+    /// Takes a step of a session, with this reading of the clock. Where the seat is held, it
+    /// answers `Stand`, and the step is to be taken again later, with the wait that it was given;
+    /// after 60 seconds it is answered `Late`. A step that finds no memory is handed back.
     pub fn step(&mut self, reading: u64, session: SessionId, step: Step) -> Result<Reply, Refused>
-        // For every legal history that the core stands for, the reply is the policy's, and the core stands for the history with the
-        // mark of this step then.
-        ensures step { (history : History) → IsLegal self.old.limits history → StandsFor self.old history
-            → IsStep self.old history session (moment_of self.old.moment reading) (mark_step session step) (turn_of result) self.new }
+        // For every legal history that the core stands for, the reply is the policy's, and the core
+        // stands for the history with the mark of this step then.
+        ensures step { (history : History) → IsLegal self.old.limits history
+            → StandsFor self.old history → IsStep self.old history session
+            (moment_of self.old.moment reading) (mark_step session step) (turn_of result) self.new }
         ensures fits { FitsReply (asked_step step) (turn_of result) }
         ensures memory { OnErr result (MayWantMemory (asked_step step)) }
         ensures refused { OnErr result (IsAsBefore self.old self.new) }
@@ -80,17 +87,28 @@ impl Core {
         self.state.take_step(moment, session, step)
     }
 
-    /// Whether a step comes to the seat: it opens a prompt where that is free, and has to stand where it is held. One that has stood for
-    /// too long does neither.
+    /// Whether a step comes to the seat: it opens a prompt where that is free, and has to stand
+    /// where it is held. One that has stood for too long does neither.
     pub(crate) fn comes_to_seat(&self, reading: u64, session: SessionId, step: &Step) -> bool
-        ensures { (history : History) → IsLegal self.now.limits history → StandsFor self.now history → result
-            ≡ comes_to_seat (policy self.now.limits (next_history history) (mark_step session step.now) (moment_of self.now.moment reading)) }
+        ensures { (history : History) → IsLegal self.now.limits history → StandsFor self.now history
+            → result ≡ comes_to_seat (policy self.now.limits (next_history history)
+            (mark_step session step.now) (moment_of self.now.moment reading)) }
     {
         let moment = self.state.moment_at(reading);
         self.state.comes_to_seat(moment, session, step)
     }
 
-    /// Whether there is no number left for a mark. Each step is then replied `Stopping`, and changes nothing.
+    /// Whether a step of a session stores an entry, where it makes its mark.
+    pub fn stores(&self, session: SessionId, step: &Step) -> bool
+        ensures { (before : History) (moment : ℕ) → seat before ≡ self.now.held
+            → length (stored self.now.limits before (mark_step session step.now) moment)
+            ≡ one_if result }
+    {
+        TraceStep::of(session, step).stores(&self.limits(), &self.held())
+    }
+
+    /// Whether there is no number left for a mark. Each step is then replied `Stopping`, and
+    /// changes nothing.
     pub fn spent(&self) -> bool
         ensures { IsTrue result ↔ (self.now.base + self.now.count ≡ last_base) }
     {
@@ -126,7 +144,7 @@ impl Core {
         match self.state.seat.holder() {
             Some(ticket) => Some(Held {
                 ticket,
-                under: copy_under(&self.state.under),
+                under: self.state.under.as_ref().map(Under::copy),
             }),
             None => None,
         }

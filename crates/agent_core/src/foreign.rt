@@ -4,14 +4,17 @@ use cache_policy::{CacheId, Life, Mode, Secret, Under, Way};
 /// A step that another session takes at a desk.
 #[derive(Drop)]
 pub struct Foreign {
+    /// The session that takes it, which isn't the desk's own.
     pub session: SessionId,
+    /// What it asks for.
     pub step: ForeignStep,
 }
 
 /// A step that is told before it is taken, and so without a ticket.
 #[derive(Drop)]
 pub enum ForeignStep {
-    /// Asks for a passphrase. Where it opens a prompt, the passphrase can be kept under its id and mode.
+    /// Asks for a passphrase. Where it opens a prompt, the passphrase can be kept under its id and
+    /// mode.
     Ask {
         id: CacheId,
         mode: Mode,
@@ -21,7 +24,8 @@ pub enum ForeignStep {
     Seat {
         under: Option<Under>,
     },
-    /// Gives back the ticket that its session has, and may keep what was typed. It is passed over where that session has none.
+    /// Gives back the ticket that its session has, and may keep what was typed. It is passed over
+    /// where that session has none.
     CloseHeld {
         keep: Option<Secret>,
     },

@@ -15,14 +15,17 @@ pub(crate) struct Holder {
     pub(crate) ticket: Ticket,
 }
 
-/// The step that another session takes. A CloseHeld takes the ticket of that session, and is none where it has none.
+/// The step that another session takes. A CloseHeld takes the ticket of that session, and is none
+/// where it has none.
 pub(crate) fn told_step(
     holder: &mut Option<Holder>,
     session: SessionId,
     step: ForeignStep,
 ) -> Option<Step>
-    ensures step { option_map (mark_step session) result ≡ told_step (ticket_of holder.old session) step }
-    ensures taken { holder.new ≡ (if is_some (option_and_then (λ s. closes (mark_step session s)) result) then None else holder.old) }
+    ensures step { option_map (mark_step session) result
+        ≡ told_step (ticket_of holder.old session) step }
+    ensures taken { holder.new ≡ (if is_some
+        (option_and_then (λ s. closes (mark_step session s)) result) then None else holder.old) }
 {
     match step {
         ForeignStep::Ask { id, mode, way } => Some(Step::Ask {

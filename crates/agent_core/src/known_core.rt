@@ -1,4 +1,5 @@
-ghost use Rattle.std.specs.Prelude.{◌≡◌, ◌+◌, ◌<◌, ◌∷◌, [], true, None, Ok, IsSome, IfSome, OnOk, OnErr, IfOk, vec_len, vec_capacity};
+ghost use Rattle.std.specs.Prelude.{◌≡◌, ◌+◌, ◌<◌, ◌∷◌, [], true, None, Ok, IsSome, IfSome, OnOk};
+ghost use Rattle.std.specs.Prelude.{OnErr, IfOk, vec_len, vec_capacity};
 ghost use Rattle.std.specs.Option.{is_some};
 ghost use Rattle.cache_policy.specs.declared.bounds.TheConstants.{MAX_MARKS};
 ghost use Rattle.cache_policy.specs.declared.step.Step.{Step as AskedOf};
@@ -9,7 +10,8 @@ ghost use Rattle.cache_policy.specs.Replay.{first_history};
 ghost use Rattle.cache_policy.specs.Runs.{last_base, moment_of, next_history, run_with_mark};
 ghost use Rattle.cache_policy.specs.Turns.{Stand, mark_step, turn_of, closes, FitsReply};
 ghost use Rattle.agent_ports.specs.declared.session.SessionId.{SessionId as Session};
-ghost use Rattle.agent_core.specs.Adding.{CanAdd, begun, added, next_start, HasPlace, comes_to_seat, leaves_ticket, needs_room};
+ghost use Rattle.agent_core.specs.Adding.{CanAdd, begun, added, next_start, HasPlace};
+ghost use Rattle.agent_core.specs.Adding.{comes_to_seat, leaves_ticket, needs_room};
 ghost use Rattle.agent_core.specs.Cores.{StandsFor, mark_of};
 ghost use Rattle.agent_core.specs.Openings.{opening_step, without_wait};
 ghost use Rattle.agent_core.specs.Recording.{IsRoom, LastHasRoom, reply_of};
@@ -18,17 +20,18 @@ ghost use Rattle.agent_core.specs.Stepped.{turn_of_stepped, HandsBack};
 use crate::Core;
 use crate::cache_core::give_up;
 use crate::opening::Opening;
-use crate::stepped::{Stepped, mark_reply_of, mark_step_of};
-use crate::tally::{counted, stores};
+use crate::stepped::{Stepped, mark_step_of};
+use crate::tally::counted;
 use agent_ports::SessionId;
 use cache_policy::{
-    Held, History, Limits, MAX_MARKS, Mark, MarkStep, Marks, NoMemory, Refused, Reply, Step, Tally,
-    Wait,
+    Held, History, Limits, MAX_MARKS, Mark, MarkReply, MarkStep, Marks, NoMemory, Refused, Reply,
+    Step, Tally, Wait,
 };
 use std::alloc::Global;
 use std::marker::Model;
 
-/// A core that keeps its run. The room for the marks of a history is reserved when that begins, and not touched.
+/// A core that keeps its run. The room for the marks of a history is reserved when that begins, and
+/// not touched.
 #[derive(Drop)]
 pub struct KnownCore {
     core: Core,
@@ -48,7 +51,8 @@ impl Model for KnownCore {
     ghost use Rattle.cache_policy.specs.Histories.{run_of};
     ghost use Rattle.agent_core.specs.Keeping.{IsKnown};
 
-    ghost view = { λ known. record { limits = known.core.limits; run = run_of known.histories.items } };
+    ghost view = { λ known.
+        record { limits = known.core.limits; run = run_of known.histories.items } };
 
     ghost invariant = { λ known. IsKnown known.core known.histories known.next known.tally };
 }
@@ -65,9 +69,11 @@ impl KnownCore {
     ghost use Rattle.agent_core.specs.Known.{IsOut, next_moment, TakesStep};
     ghost use Rattle.agent_core.specs.Tallies.{tally_of};
 
-    /// A core without entries, whose run has one history without marks. It reserves the room for them.
+    /// A core without entries, whose run has one history without marks. It reserves the room for
+    /// them.
     pub fn new(alloc: Global, limits: Limits) -> Result<KnownCore, NoMemory>
-        ensures { IfOk result (λ known. known ≡ record { limits = limits; run = first_history ∷ [] }) }
+        ensures { IfOk result
+            (λ known. known ≡ record { limits = limits; run = first_history ∷ [] }) }
     {
         let mut histories = Vec::with_capacity(alloc, 1)?;
         let marks = Vec::with_capacity(alloc, MAX_MARKS as usize)?;
@@ -89,7 +95,9 @@ impl KnownCore {
     /// Takes a step of a session, with this reading of the clock.
     pub(crate) fn step(&mut self, reading: u64, session: SessionId, step: Step) -> Stepped
         requires own { IfSome (closes (mark_step session step)) (IsOut self.old.run) }
-        ensures takes { TakesStep self.old.limits self.old.run session (next_moment self.old.run reading) (mark_step session step) (turn_of_stepped result) self.new.run }
+        ensures takes { TakesStep self.old.limits self.old.run session
+            (next_moment self.old.run reading) (mark_step session step)
+            (turn_of_stepped result) self.new.run }
         ensures fits { FitsReply (mark_step session step) (turn_of_stepped result) }
         ensures back { HandsBack step result }
         ensures limits { self.new.limits ≡ self.old.limits }
@@ -107,7 +115,7 @@ impl KnownCore {
         let start = start_after(&self.core);
         let opening = Opening::of(&step);
         let asked = mark_step_of(session, &step);
-        let stores = stores(&self.core, &asked);
+        let stores = self.core.stores(session, &step);
         match self.core.step(reading, session, step) {
             Ok(reply) => match reply {
                 Reply::Stand(wait) => {
@@ -154,7 +162,8 @@ fn let_go(_asked: MarkStep) {}
 fn stood(opening: Option<Opening>, wait: Wait) -> Stepped
     requires { IsSome opening }
     ensures turn { turn_of_stepped result ≡ Stand wait }
-    ensures back { (asked : AskedOf) → IfSome opening (λ opening. opening_step opening None ≡ without_wait asked) → HandsBack asked result }
+    ensures back { (asked : AskedOf) → IfSome opening
+        (λ opening. opening_step opening None ≡ without_wait asked) → HandsBack asked result }
 {
     match opening {
         Some(opening) => Stepped::Stood(opening, wait),
@@ -169,7 +178,7 @@ fn mark_of(core: &Core, session: SessionId, step: MarkStep, reply: &Reply) -> Ma
     Mark {
         session,
         step,
-        reply: mark_reply_of(reply),
+        reply: MarkReply::of(reply).unwrap_or(MarkReply::Done),
         moment: core.moment(),
     }
 }
@@ -286,11 +295,13 @@ fn reserve_next(
     Ok(())
 }
 
-/// Whether a step begins a history while no ticket is out, or makes the last mark of one and leaves a ticket out: the step after it has
-/// the room then. A Close does neither.
+/// Whether a step begins a history while no ticket is out, or makes the last mark of one and leaves
+/// a ticket out: the step after it has the room then. A Close does neither.
 fn needs_room(core: &Core, reading: u64, session: SessionId, step: &Step) -> bool
-    ensures { (history : OneHistory) → IsLegal core.now.limits history → StandsFor core.now history → result ≡ needs_room core.now (mark_step session step.now)
-        (comes_to_seat (policy core.now.limits (next_history history) (mark_step session step.now) (moment_of core.now.moment reading))) }
+    ensures { (history : OneHistory) → IsLegal core.now.limits history
+        → StandsFor core.now history → result ≡ needs_room core.now (mark_step session step.now)
+        (comes_to_seat (policy core.now.limits (next_history history) (mark_step session step.now)
+        (moment_of core.now.moment reading))) }
 {
     if is_close(step) {
         return false;

@@ -7,9 +7,11 @@ use crate::Solo;
 use agent_ports::Clock;
 use cache_policy::turns_extend_a_run;
 
-/// What turns do to the run of a desk in memory: the session's marks in it are those of the turns, in their order, and it stays legal.
+/// What turns do to the run of a desk in memory: the session's marks in it are those of the turns,
+/// in their order, and it stays legal.
 pub fn turns_extend_a_known_run<C: Clock>()
-    ensures { (before after : SoloState C) (turns : List TakenTurn) → Leads (TakesTurn (SoloTurn C.readings)) before turns after
+    ensures { (before after : SoloState C) (turns : List TakenTurn)
+        → Leads (TakesTurn (SoloTurn C.readings)) before turns after
         → IsExtended before.limits before.session before.run turns after.run }
 {
     turns_extend_a_run::<Solo<'_, C>>();

@@ -1,9 +1,11 @@
-//! The cache core: each step is replied by the policy over what came before it, which the core doesn't keep.
+//! The cache core: each step is replied by the policy over what came before it, which the core
+//! doesn't keep.
 //!
-//! Begin with [`Core::step`]: for every legal history that the core stands for, a step is replied by the policy at its moment, and the
-//! core then stands for that history with the step's mark. A step that makes no mark leaves the core as it was, but for room. [`Solo`] is
-//! the desk of a lone session, over a core that keeps its run ([`KnownCore`]). Definitions begin in `specs/Cores`, the desk's in
-//! `specs/Solos`.
+//! Begin with [`Core::step`]: for every legal history that the core stands for, a step is replied
+//! by the policy at its moment, and the core then stands for that history with the step's mark. A
+//! step that makes no mark leaves the core as it was, but for room. [`Solo`] is the desk of a lone
+//! session, over a core that keeps its run ([`KnownCore`]). Definitions begin in `specs/Cores`, the
+//! desk's in `specs/Solos`.
 #![tactic(auto)]
 
 mod cache_core;

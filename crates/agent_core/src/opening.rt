@@ -2,20 +2,22 @@ ghost use Rattle.std.specs.Prelude.{◌≡◌, false, None, IfSome, IsNone};
 ghost use Rattle.cache_policy.specs.Turns.{asked_step, opens};
 ghost use Rattle.agent_core.specs.Openings.{opening_step, without_wait};
 
-use crate::stepped::copy_under;
 use cache_policy::{CacheId, Mode, Step, Under, Wait, Way};
 
 /// A step that wants the prompt. It may have to stand, and is taken again then.
 #[derive(Drop)]
 pub enum Opening {
+    /// Asks for a passphrase, which the cache may have.
     Ask { id: CacheId, mode: Mode },
+    /// Asks for the seat at the prompt, whatever the cache has.
     Seat { under: Option<Under> },
 }
 
 impl Opening {
     /// The step once more, if it wants the prompt.
     pub fn of(step: &Step) -> Option<Opening>
-        ensures same { IfSome result (λ opening. opening_step opening None ≡ without_wait step.now) }
+        ensures same { IfSome result
+            (λ opening. opening_step opening None ≡ without_wait step.now) }
         ensures none { IsNone result → opens (asked_step step.now) ≡ false }
     {
         match step {
@@ -29,7 +31,7 @@ impl Opening {
                 mode: *mode,
             }),
             Step::Seat { under, wait: _ } => Some(Opening::Seat {
-                under: copy_under(under),
+                under: under.as_ref().map(Under::copy),
             }),
             _ => None,
         }
@@ -47,7 +49,7 @@ impl Opening {
                 wait,
             },
             Opening::Seat { under } => Step::Seat {
-                under: copy_under(under),
+                under: under.as_ref().map(Under::copy),
                 wait,
             },
         }

@@ -3,7 +3,8 @@ ghost use Rattle.std.specs.Option.{is_some};
 ghost use Rattle.cache_policy.specs.declared.mark.MarkStep.{MarkStep as AskedStep};
 ghost use Rattle.cache_policy.specs.declared.step.Step.{Step as AskedOf};
 ghost use Rattle.cache_policy.specs.Histories.{run_of};
-ghost use Rattle.cache_policy.specs.Turns.{asked_step, mark_step, turn_of, opens, closes, out_after, with_since};
+ghost use Rattle.cache_policy.specs.Turns.{asked_step, mark_step, turn_of, opens, closes};
+ghost use Rattle.cache_policy.specs.Turns.{out_after, with_since};
 ghost use Rattle.agent_core.specs.Openings.{opening_step, without_wait};
 ghost use Rattle.agent_core.specs.Stepped.{turn_of_stepped, IsSettled, HandsBack};
 ghost use Rattle.agent_core.specs.Foreigners.{opened};
@@ -20,11 +21,12 @@ use prompt_seat::{Seat, Ticket};
 use std::alloc::Global;
 use std::marker::Model;
 
-/// A desk in memory, whose run is known. Other sessions take the steps of a script at it: the first list before the first turn, the
-/// next one before the second, and so on.
+/// A desk in memory, whose run is known. Other sessions take the steps of a script at it: the first
+/// list before the first turn, the next one before the second, and so on.
 ///
-/// While the own step would have to wait for the seat, it takes further lists, and after the last one it takes the ticket back from the
-/// session that has it. A step that has waited for 60 seconds is answered. It isn't dropped, but ended by `end`.
+/// While the own step would have to wait for the seat, it takes further lists, and after the last
+/// one it takes the ticket back from the session that has it. A step that has waited for 60 seconds
+/// is answered. It isn't dropped, but ended by `end`.
 pub struct Solo<'a, C: Clock> {
     known: KnownCore,
     clock: LentClock<'a, C>,
@@ -55,7 +57,8 @@ impl<'a, C: Clock> Model for Solo<'a, C> {
       lent = solo.clock.name;
     } };
 
-    ghost invariant = { λ solo. IsSolo solo.session solo.known.run solo.out solo.holder (lists_of solo.script.items) };
+    ghost invariant = { λ solo. IsSolo solo.session solo.known.run solo.out solo.holder
+        (lists_of solo.script.items) };
 }
 
 impl<'a, C: Clock> Solo<'a, C> {
@@ -69,7 +72,8 @@ impl<'a, C: Clock> Solo<'a, C> {
     ghost use Rattle.agent_core.specs.Foreigners.{AllForeign, IsForeign};
     ghost use Rattle.agent_core.specs.Seating.{Seated};
     ghost use Rattle.agent_core.specs.Tallies.{tally_of};
-    ghost use Rattle.agent_core.specs.Solos.{seen, OwnStep, PlaysStep, PlaysNext, ClosesHolder, Waits};
+    ghost use Rattle.agent_core.specs.Solos.{seen, OwnStep, PlaysStep, PlaysNext, ClosesHolder};
+    ghost use Rattle.agent_core.specs.Solos.{Waits};
 
     /// A desk whose cache is empty. It takes the memory for the marks of its first history.
     pub fn new(
@@ -94,7 +98,8 @@ impl<'a, C: Clock> Solo<'a, C> {
         Ok(Solo::over(KnownCore::new(alloc, limits)?, clock, session, script))
     }
 
-    /// As `new`, over a core that already has its memory. It can't fail, so a caller without memory never lends its clock.
+    /// As `new`, over a core that already has its memory. It can't fail, so a caller without memory
+    /// never lends its clock.
     pub fn over(
         known: KnownCore,
         clock: &'a mut C,
@@ -129,7 +134,8 @@ impl<'a, C: Clock> Solo<'a, C> {
     pub fn begin_session(&mut self, session: SessionId)
         requires free { self.old.out ≡ None }
         requires foreign { AllForeign session self.old.script }
-        requires other { IfSome self.old.holder (λ holder. is_session session holder.session ≡ false) }
+        requires other { IfSome self.old.holder
+            (λ holder. is_session session holder.session ≡ false) }
         requires new { AllByRecursion (λ mark. is_of session mark ≡ false) (joined self.old.run) }
         ensures { self.new ≡ record self.old { session = session } }
     {
@@ -150,7 +156,8 @@ impl<'a, C: Clock> Solo<'a, C> {
         self.known.tally()
     }
 
-    /// Ends the desk, and gives its clock back. A ticket that another session still has is given up without a mark.
+    /// Ends the desk, and gives its clock back. A ticket that another session still has is given up
+    /// without a mark.
     pub fn end(self) -> &'a mut C
         ensures clock { result.now ≡ self.entry.clock }
         ensures lent { result.ghost_name ≡ self.entry.lent }
@@ -173,7 +180,8 @@ impl<'a, C: Clock> Solo<'a, C> {
     fn attempt(&mut self, step: Step) -> Stepped
         requires free { opens (asked_step step) ≡ true → self.old.out ≡ None }
         requires own { IfSome (closes (asked_step step)) (λ number. self.old.out ≡ Some number) }
-        ensures step { OwnStep (seen C.readings self.old) (mark_step self.old.session step) (turn_of_stepped result) (seen C.readings self.new) }
+        ensures step { OwnStep (seen C.readings self.old) (mark_step self.old.session step)
+            (turn_of_stepped result) (seen C.readings self.new) }
         ensures back { HandsBack step result }
         ensures seated { Seated self.new.run self.new.out self.new.holder }
         ensures lent { self.new.lent ≡ self.old.lent }
@@ -209,7 +217,8 @@ impl<'a, C: Clock> Solo<'a, C> {
     /// Takes the steps of a list.
     fn play(&mut self, list: Vec<Foreign>)
         requires { AllByRecursion (IsForeign self.old.session) list.items }
-        ensures steps { Leads PlaysStep (seen C.readings self.old) list.items (seen C.readings self.new) }
+        ensures steps { Leads PlaysStep (seen C.readings self.old) list.items
+            (seen C.readings self.new) }
         ensures lent { self.new.lent ≡ self.old.lent }
     {
         for foreign in list {
@@ -246,13 +255,15 @@ impl<'a, C: Clock> Solo<'a, C> {
         self.play_step(Foreign { session, step });
     }
 
-    /// Takes a step again that had to stand: behind each further list, and at last when the ticket was given back. Each try hands in what
-    /// the one before was given.
+    /// Takes a step again that had to stand: behind each further list, and at last when the ticket
+    /// was given back. Each try hands in what the one before was given.
     fn wait(&mut self, opening: Opening, first: Wait) -> Result<Reply, Refused>
         requires own { first.session ≡ self.old.session }
         requires free { self.old.out ≡ None }
         requires held { IsSome self.old.holder }
-        ensures waits { Waits (with_since (Some first.since) (asked_step (opening_step opening None))) (seen C.readings self.old) (turn_of result) (seen C.readings self.new) }
+        ensures waits { Waits
+            (with_since (Some first.since) (asked_step (opening_step opening None)))
+            (seen C.readings self.old) (turn_of result) (seen C.readings self.new) }
         ensures refused { IfErr result (λ refused. refused.step ≡ opening_step opening None) }
         ensures settled { IsSettled (turn_of result) }
         ensures lent { self.new.lent ≡ self.old.lent }
@@ -291,7 +302,8 @@ impl<'a, C: Clock> Desk for Solo<'a, C> {
 fn settled(outcome: Stepped) -> Result<Reply, Refused>
     requires { IsSettled (turn_of_stepped outcome) }
     ensures turn { turn_of result ≡ turn_of_stepped outcome }
-    ensures back { (asked : AskedOf) → HandsBack asked outcome → IfErr result (λ refused. refused.step ≡ without_wait asked) }
+    ensures back { (asked : AskedOf) → HandsBack asked outcome
+        → IfErr result (λ refused. refused.step ≡ without_wait asked) }
 {
     match outcome {
         Stepped::Replied(reply) => Ok(reply),
@@ -304,7 +316,8 @@ fn settled(outcome: Stepped) -> Result<Reply, Refused>
 
 /// The number of the ticket that the session has after a step.
 fn out_after(out: Option<u64>, gives_back: bool, outcome: &Stepped) -> Option<u64>
-    ensures { (asked : AskedStep) → gives_back ≡ is_some (closes asked) → result ≡ out_after out asked (turn_of_stepped outcome.now) }
+    ensures { (asked : AskedStep) → gives_back ≡ is_some (closes asked)
+        → result ≡ out_after out asked (turn_of_stepped outcome.now) }
 {
     match outcome {
         Stepped::Refused(_) => out,

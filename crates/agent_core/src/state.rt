@@ -28,7 +28,8 @@ pub(crate) struct State {
 
 impl State {
     ghost use Rattle.agent_core.specs.States.{IsState};
-    ghost use Rattle.agent_core.specs.Taking.{MayMark, HasMarkedAlone, Finds, next_base, next_count, next_slots, number_of};
+    ghost use Rattle.agent_core.specs.Taking.{MayMark, HasMarkedAlone, Finds, next_base};
+    ghost use Rattle.agent_core.specs.Taking.{next_count, next_slots, number_of};
 
     /// The base of the history on which the next step is taken.
     pub(crate) fn next_base(&self) -> u64

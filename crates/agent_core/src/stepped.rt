@@ -1,11 +1,10 @@
-ghost use Rattle.std.specs.Prelude.{◌≡◌, Ok};
-ghost use Rattle.cache_policy.specs.Turns.{mark_step, turn_of};
+ghost use Rattle.std.specs.Prelude.{◌≡◌};
+ghost use Rattle.cache_policy.specs.Turns.{mark_step};
 ghost use Rattle.agent_core.specs.Openings.{without_wait};
-ghost use Rattle.agent_core.specs.Recording.{reply_of};
 
 use crate::opening::Opening;
 use agent_ports::SessionId;
-use cache_policy::{MarkReply, MarkStep, Reply, Step, Under, Wait, since_by};
+use cache_policy::{MarkStep, Reply, Secret, Step, Under, Wait, since_by};
 
 /// How a step came out.
 pub(crate) enum Stepped {
@@ -14,18 +13,6 @@ pub(crate) enum Stepped {
     Stood(Opening, Wait),
     /// There was no memory for it.
     Refused(Step),
-}
-
-pub(crate) fn copy_under(under: &Option<Under>) -> Option<Under>
-    ensures { result ≡ under.now }
-{
-    match under {
-        Some(Under { id, mode }) => Some(Under {
-            id: id.copy(),
-            mode: *mode,
-        }),
-        None => None,
-    }
 }
 
 /// The step as it is first tried: it hands no wait in.
@@ -66,15 +53,12 @@ pub fn mark_step_of(session: SessionId, step: &Step) -> MarkStep
             since: since_by(session, wait),
         },
         Step::Seat { under, wait } => MarkStep::Seat {
-            under: copy_under(under),
+            under: under.as_ref().map(Under::copy),
             since: since_by(session, wait),
         },
         Step::Close { ticket, keep } => MarkStep::Close {
             ticket: ticket.number(),
-            keep: match keep {
-                Some(secret) => Some(secret.copy()),
-                None => None,
-            },
+            keep: keep.as_ref().map(Secret::copy),
         },
         Step::Put {
             id,
@@ -97,20 +81,5 @@ pub fn mark_step_of(session: SessionId, step: &Step) -> MarkStep
             mode: *mode,
         },
         Step::Stop => MarkStep::Stop,
-    }
-}
-
-/// The reply as a mark has it.
-pub(crate) fn mark_reply_of(reply: &Reply) -> MarkReply
-    ensures { result ≡ reply_of (turn_of (Ok reply.now)) }
-{
-    match reply {
-        Reply::Given(grant) => MarkReply::Given(grant.number()),
-        Reply::Empty => MarkReply::Empty,
-        Reply::Open(_) => MarkReply::Open,
-        Reply::Stand(_) | Reply::Done => MarkReply::Done,
-        Reply::Held(held) => MarkReply::Held(*held),
-        Reply::Stopping => MarkReply::Stopping,
-        Reply::Late => MarkReply::Late,
     }
 }

@@ -17,7 +17,10 @@ impl State {
     ghost use Rattle.std.specs.Prelude.{Option, []};
     ghost use Rattle.agent_core.specs.Taking.{Takes};
     ghost use Rattle.agent_core.specs.States.{IsState};
-    ghost use Rattle.agent_core.specs.Taking.{MayMark, HasMarked, HasMarkedAlone, Finds, ComesToSeat, may_open, Prompts, StandsAside, Asks, Puts, Closes, prompt_turn, held_at, next_slots, number_of, slots_at};
+    ghost use Rattle.agent_core.specs.Taking.{MayMark, HasMarked, HasMarkedAlone, Finds};
+    ghost use Rattle.agent_core.specs.Taking.{ComesToSeat, may_open, Prompts, StandsAside, Asks};
+    ghost use Rattle.agent_core.specs.Taking.{Puts, Closes, prompt_turn, held_at, next_slots};
+    ghost use Rattle.agent_core.specs.Taking.{number_of, slots_at};
 
     /// Takes a session's step at a moment.
     pub(crate) fn take_step(
@@ -27,7 +30,8 @@ impl State {
         step: Step,
     ) -> Result<Reply, Refused>
         requires { MayMark self.old moment }
-        ensures takes { Takes self.old moment session (mark_step session step) (turn_of result) self.new }
+        ensures takes { Takes self.old moment session (mark_step session step)
+            (turn_of result) self.new }
         ensures back { IfErr result (λ refused. refused.step ≡ step) }
         ensures state { IsState self.new }
     {
@@ -65,8 +69,8 @@ impl State {
         }
     }
 
-    /// Whether a step comes to the seat: it opens a prompt where that is free, and has to stand where it is held. One that has stood for
-    /// too long does neither.
+    /// Whether a step comes to the seat: it opens a prompt where that is free, and has to stand
+    /// where it is held. One that has stood for too long does neither.
     pub(crate) fn comes_to_seat(&self, moment: u64, session: SessionId, step: &Step) -> bool
         ensures { ComesToSeat self.now moment (mark_step session step.now) result }
     {
@@ -103,7 +107,8 @@ impl State {
         wait: Option<Wait>,
     ) -> Result<Reply, Refused>
         requires { MayMark self.old moment }
-        ensures asks { Asks self.old moment session id mode way (since_by session wait) (turn_of result) self.new }
+        ensures asks { Asks self.old moment session id mode way (since_by session wait)
+            (turn_of result) self.new }
         ensures back { IfErr result (λ refused. refused.step ≡ Step.Ask id mode way wait) }
         ensures state { IsState self.new }
     {
@@ -143,7 +148,8 @@ impl State {
         wait: Option<Wait>,
     ) -> Result<Reply, Refused>
         requires { MayMark self.old moment }
-        ensures prompts { Prompts self.old moment session (since_by session wait) under (turn_of result) self.new }
+        ensures prompts { Prompts self.old moment session (since_by session wait) under
+            (turn_of result) self.new }
         ensures back { IfErr result (λ refused. refused.step ≡ Step.Seat under wait) }
         ensures state { IsState self.new }
     {
@@ -156,8 +162,8 @@ impl State {
         }
     }
 
-    /// Opens a prompt where the seat is free. What is typed is kept under `under`, and there is room for it from now on. `since` is the
-    /// moment of the session's first try.
+    /// Opens a prompt where the seat is free. What is typed is kept under `under`, and there is
+    /// room for it from now on. `since` is the moment of the session's first try.
     fn prompt(
         &mut self,
         moment: u64,
@@ -166,7 +172,8 @@ impl State {
         under: Option<Under>,
     ) -> Result<Reply, Option<Under>>
         requires { MayMark self.old moment }
-        ensures prompts { Prompts self.old moment session since under (prompt_turn result) self.new }
+        ensures prompts { Prompts self.old moment session since under
+            (prompt_turn result) self.new }
         ensures back { IfErr result (λ back. back ≡ under) }
         ensures state { IsState self.new }
     {
@@ -199,7 +206,9 @@ impl State {
     /// Gives the entry with this number.
     fn use_entry(&mut self, moment: u64, number: u64)
         requires { MayMark self.old moment }
-        ensures marked { HasMarked self.old moment (touched number moment (slots_at self.old moment)) (held_at self.old) self.old.stopped self.new }
+        ensures marked { HasMarked self.old moment
+            (touched number moment (slots_at self.old moment))
+            (held_at self.old) self.old.stopped self.new }
         ensures state { IsState self.new }
     {
         self.begin(moment);
@@ -212,7 +221,8 @@ impl State {
         requires free { self.old.seat ≡ None }
         requires room { IsSome under → 1 ≤ self.old.shelf.spare }
         ensures number { result ≡ number_of self.old }
-        ensures marked { HasMarked self.old moment (slots_at self.old moment) (Some (record { ticket = result; under = under })) self.old.stopped self.new }
+        ensures marked { HasMarked self.old moment (slots_at self.old moment)
+            (Some (record { ticket = result; under = under })) self.old.stopped self.new }
         ensures state { IsState self.new }
     {
         let number = self.begin(moment);
@@ -254,7 +264,8 @@ impl State {
         Ok(Reply::Done)
     }
 
-    /// Takes a ticket back, and keeps what was typed where the ticket is the one that is out and names what to keep it under.
+    /// Takes a ticket back, and keeps what was typed where the ticket is the one that is out and
+    /// names what to keep it under.
     fn close(&mut self, moment: u64, ticket: Ticket, keep: Option<Secret>)
         requires { MayMark self.old moment }
         ensures closes { Closes self.old moment ticket keep self.new }
@@ -283,7 +294,8 @@ impl State {
     /// Forgets what is stored under an id in the modes that cover the named one.
     fn clear(&mut self, moment: u64, id: &CacheId, mode: Mode)
         requires { MayMark self.old moment }
-        ensures marked { HasMarked self.old moment (cleared id.now mode (slots_at self.old moment)) (held_at self.old) self.old.stopped self.new }
+        ensures marked { HasMarked self.old moment (cleared id.now mode (slots_at self.old moment))
+            (held_at self.old) self.old.stopped self.new }
         ensures state { IsState self.new }
     {
         self.begin(moment);
@@ -303,7 +315,8 @@ impl State {
     /// Whether a passphrase is there.
     fn peek(&mut self, moment: u64, id: &CacheId, mode: Mode) -> bool
         requires { MayMark self.old moment }
-        ensures found { (found : Option OneGrant) × Finds (next_slots self.old) id.now mode moment found × (result ≡ is_some found) }
+        ensures found { (found : Option OneGrant)
+            × Finds (next_slots self.old) id.now mode moment found × (result ≡ is_some found) }
         ensures marked { HasMarkedAlone self.old moment self.new }
         ensures state { IsState self.new }
     {
@@ -315,7 +328,8 @@ impl State {
     /// Opens no prompt from now on.
     fn stop(&mut self, moment: u64)
         requires { MayMark self.old moment }
-        ensures marked { HasMarked self.old moment (slots_at self.old moment) (held_at self.old) true self.new }
+        ensures marked { HasMarked self.old moment (slots_at self.old moment)
+            (held_at self.old) true self.new }
         ensures state { IsState self.new }
     {
         self.begin(moment);

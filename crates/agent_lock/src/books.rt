@@ -9,7 +9,8 @@ use cache_policy::Reply;
 use std::marker::Model;
 use std::sync::ledger::{Book, Ledger, Share};
 
-/// The totals of the four ledgers: of the marks, and of the turns that were answered Given, Empty and Open. Contracts see these.
+/// The totals of the four ledgers: of the marks, and of the turns that were answered Given, Empty
+/// and Open. Contracts see these.
 #[derive(Drop)]
 pub struct Books<M: Ledger, G: Ledger, E: Ledger, O: Ledger> {
     pub(crate) calls: Book<M>,
@@ -27,7 +28,12 @@ impl<M: Ledger, G: Ledger, E: Ledger, O: Ledger> Model for Books<M, G, E, O> {
 
     ghost use Rattle.agent_lock.specs.Shares.{AreNone};
 
-    ghost view = { λ books. record { calls = books.calls.total; given = books.given.total; empty = books.empty.total; opened = books.opened.total } };
+    ghost view = { λ books. record {
+      calls = books.calls.total;
+      given = books.given.total;
+      empty = books.empty.total;
+      opened = books.opened.total;
+    } };
 
     ghost invariant = { λ books. AreNone books.left };
 }
@@ -66,7 +72,8 @@ impl<M: Ledger, G: Ledger, E: Ledger, O: Ledger> Books<M, G, E, O> {
 
     /// Whoever has all passes learns that the totals are the sums of their counts.
     pub(crate) fn close(self, passes: Vec<Pass<M, G, E, O>>)
-        requires { (vec_len passes ≡ M.parts) × (vec_len passes ≡ G.parts) × (vec_len passes ≡ E.parts) × (vec_len passes ≡ O.parts) }
+        requires { (vec_len passes ≡ M.parts) × (vec_len passes ≡ G.parts)
+            × (vec_len passes ≡ E.parts) × (vec_len passes ≡ O.parts) }
         ensures { AreSums self passes.items }
     {
         let Books {

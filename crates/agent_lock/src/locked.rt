@@ -4,7 +4,8 @@ ghost use Rattle.cache_policy.specs.Legal.{IsLegal};
 ghost use Rattle.cache_policy.specs.Runs.{moment_of, next_history, is_spent};
 ghost use Rattle.cache_policy.specs.Seat.{stopped};
 ghost use Rattle.cache_policy.specs.Tallies.{nothing_yet};
-ghost use Rattle.cache_policy.specs.Turns.{asked_step, mark_step, turn_of, FitsReply, MayWantMemory};
+ghost use Rattle.cache_policy.specs.Turns.{asked_step, mark_step, turn_of, FitsReply};
+ghost use Rattle.cache_policy.specs.Turns.{MayWantMemory};
 ghost use Rattle.agent_core.specs.Cores.{StandsFor, IsStep};
 ghost use Rattle.agent_lock.specs.Attempts.{IfGiven};
 ghost use Rattle.agent_lock.specs.Counting.{counted, no_counts};
@@ -19,9 +20,11 @@ use std::alloc::{AllocError, Global};
 use std::marker::Model;
 use std::sync::ledger::Ledger;
 
-/// What lies under the lock: a core, the journal of what was done with it, and a book for each ledger.
+/// What lies under the lock: a core, the journal of what was done with it, and a book for each
+/// ledger.
 ///
-/// Contracts see the core, the journal as a history without the bytes of secrets, and the tally of what was done before the journal.
+/// Contracts see the core, the journal as a history without the bytes of secrets, and the tally of
+/// what was done before the journal.
 #[derive(Drop)]
 pub struct Locked<M: Marks, G: Ledger, E: Ledger, O: Ledger> {
     pub(crate) state: State,
@@ -47,7 +50,8 @@ impl<M: Marks, G: Ledger, E: Ledger, O: Ledger> Locked<M, G, E, O> {
     pub fn new(alloc: Global, limits: Limits, books: Books<M, G, E, O>) -> Result<Self, AllocError>
         requires limits { limits ≡ M.limits }
         requires books { books ≡ no_counts }
-        ensures { IfOk result (λ locked. (locked.journal ≡ record { base = 0; held = None; stopped = false; marks = [] })
+        ensures { IfOk result (λ locked.
+            (locked.journal ≡ record { base = 0; held = None; stopped = false; marks = [] })
             × (locked.carried ≡ nothing_yet) × (locked.core.limits ≡ limits)) }
     {
         Ok(Locked {
@@ -56,7 +60,8 @@ impl<M: Marks, G: Ledger, E: Ledger, O: Ledger> Locked<M, G, E, O> {
         })
     }
 
-    /// A law: the journal is legal, and the core stands for it but for the bytes of secrets. Its lifetimes are those that the ledger's type names.
+    /// A law: the journal is legal, and the core stands for it but for the bytes of secrets. Its
+    /// lifetimes are those that the ledger's type names.
     pub fn keeps(&self)
         ensures locked { IsLocked self.now }
         ensures limits { self.now.core.limits ≡ M.limits }
@@ -64,8 +69,8 @@ impl<M: Marks, G: Ledger, E: Ledger, O: Ledger> Locked<M, G, E, O> {
         self.state.keeps();
     }
 
-    /// Takes one step of the core, and adds its trace where it makes a mark. The pass counts the mark, and a reply Given, Empty or Open.
-    /// A step that finds no memory is handed back.
+    /// Takes one step of the core, and adds its trace where it makes a mark. The pass counts the
+    /// mark, and a reply Given, Empty or Open. A step that finds no memory is handed back.
     pub fn step(
         &mut self,
         pass: &mut Pass<M, G, E, O>,
@@ -73,13 +78,18 @@ impl<M: Marks, G: Ledger, E: Ledger, O: Ledger> Locked<M, G, E, O> {
         session: SessionId,
         step: Step,
     ) -> Result<Reply, Refused>
-        ensures journaled { IsJournaled self.old session (moment_of self.old.core.moment reading) (mark_step session step) (turn_of result) self.new }
-        // For every legal history with all its secrets for which the core stands, the step is the core's own, so that a passphrase that
-        // is given has the bytes that were stored.
-        ensures core { (history : History) → IsLegal self.old.core.limits history → StandsFor self.old.core history
-            → IsStep self.old.core history session (moment_of self.old.core.moment reading) (mark_step session step) (turn_of result) self.new.core }
-        ensures counts { pass.new ≡ counted (is_spent (next_history self.old.journal)) pass.old (turn_of result) }
-        ensures grant { IfGiven (turn_of result) (λ grant. grant.moment ≡ moment_of self.old.core.moment reading) }
+        ensures journaled { IsJournaled self.old session (moment_of self.old.core.moment reading)
+            (mark_step session step) (turn_of result) self.new }
+        // For every legal history with all its secrets for which the core stands, the step is the
+        // core's own, so that a passphrase that is given has the bytes that were stored.
+        ensures core { (history : History)
+            → IsLegal self.old.core.limits history → StandsFor self.old.core history
+            → IsStep self.old.core history session (moment_of self.old.core.moment reading)
+            (mark_step session step) (turn_of result) self.new.core }
+        ensures counts { pass.new ≡ counted (is_spent (next_history self.old.journal)) pass.old
+            (turn_of result) }
+        ensures grant { IfGiven (turn_of result)
+            (λ grant. grant.moment ≡ moment_of self.old.core.moment reading) }
         ensures fits { FitsReply (asked_step step) (turn_of result) }
         ensures memory { OnErr result (MayWantMemory (asked_step step)) }
         ensures back { IfErr result (λ refused. refused.step ≡ step) }

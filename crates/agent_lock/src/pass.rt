@@ -4,7 +4,8 @@ ghost use Rattle.cache_policy.specs.declared.life.Limits.{Limits};
 use std::marker::{Brand, Model};
 use std::sync::ledger::{Ledger, Share};
 
-/// The ledger of the marks. Its type also names the lifetimes by which they were made, as that of a lock shows nothing of what is under it.
+/// The ledger of the marks. Its type also names the lifetimes by which they were made, as that of a
+/// lock shows nothing of what is under it.
 pub trait Marks: Ledger {
     ghost limits: { Limits };
 }
@@ -19,8 +20,11 @@ impl Marks for Brand {
 pub struct Counts {
     /// How many of them made a mark.
     pub calls: u64,
+    /// How many of them were replied Given.
     pub given: u64,
+    /// How many of them were replied Empty.
     pub empty: u64,
+    /// How many of them were replied Open.
     pub opened: u64,
 }
 
@@ -43,9 +47,11 @@ impl<M: Ledger, G: Ledger, E: Ledger, O: Ledger> Model for Pass<M, G, E, O> {
     ghost view = { λ pass. pass.counts };
 
     ghost invariant = { λ pass. record {
-      parts : (pass.calls.parts ≡ 1) × (pass.given.parts ≡ 1) × (pass.empty.parts ≡ 1) × (pass.opened.parts ≡ 1);
-      amounts : (pass.calls.amount ≡ pass.counts.calls) × (pass.given.amount ≡ pass.counts.given)
-          × (pass.empty.amount ≡ pass.counts.empty) × (pass.opened.amount ≡ pass.counts.opened);
+      parts : (pass.calls.parts ≡ 1) × (pass.given.parts ≡ 1) × (pass.empty.parts
+          ≡ 1) × (pass.opened.parts ≡ 1);
+      amounts : (pass.calls.amount ≡ pass.counts.calls) × (pass.given.amount
+          ≡ pass.counts.given) × (pass.empty.amount ≡ pass.counts.empty) × (pass.opened.amount
+          ≡ pass.counts.opened);
     } };
 }
 

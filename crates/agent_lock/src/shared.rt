@@ -14,9 +14,13 @@ use std::sync::{Condvar, Mutex};
 /// A new ledger for each of the four counts, with as many parts as there are passes.
 #[derive(Drop)]
 pub struct Blanks {
+    /// For the marks.
     pub calls: Blank,
+    /// For the marks that were replied Given.
     pub given: Blank,
+    /// For the marks that were replied Empty.
     pub empty: Blank,
+    /// For the marks that were replied Open.
     pub opened: Blank,
 }
 
@@ -46,10 +50,14 @@ impl<M: Marks, G: Ledger, E: Ledger, O: Ledger> Shared<M, G, E, O> {
     ) -> Result<(Self, Vec<Pass<M, G, E, O>>), AllocError>
         requires limits { limits ≡ M.limits }
         requires some { 0 < passes }
-        requires calls { (blanks.calls.name ≡ M.name) × (blanks.calls.parts ≡ M.parts) × (passes ≡ M.parts) }
-        requires given { (blanks.given.name ≡ G.name) × (blanks.given.parts ≡ G.parts) × (passes ≡ G.parts) }
-        requires empty { (blanks.empty.name ≡ E.name) × (blanks.empty.parts ≡ E.parts) × (passes ≡ E.parts) }
-        requires opened { (blanks.opened.name ≡ O.name) × (blanks.opened.parts ≡ O.parts) × (passes ≡ O.parts) }
+        requires calls { (blanks.calls.name ≡ M.name) × (blanks.calls.parts ≡ M.parts)
+            × (passes ≡ M.parts) }
+        requires given { (blanks.given.name ≡ G.name) × (blanks.given.parts ≡ G.parts)
+            × (passes ≡ G.parts) }
+        requires empty { (blanks.empty.name ≡ E.name) × (blanks.empty.parts ≡ E.parts)
+            × (passes ≡ E.parts) }
+        requires opened { (blanks.opened.name ≡ O.name) × (blanks.opened.parts ≡ O.parts)
+            × (passes ≡ O.parts) }
         ensures all { IfOk result (λ made. vec_len made.1 ≡ passes) }
         ensures new { IfOk result (λ made. All (λ pass. pass ≡ no_counts) made.1.items) }
     {
@@ -99,7 +107,8 @@ impl<M: Marks, G: Ledger, E: Ledger, O: Ledger> Shared<M, G, E, O> {
 
     /// Closes with all its passes, and gives what was done. Its sums are the passes' own.
     pub fn close(self, passes: Vec<Pass<M, G, E, O>>) -> Tally
-        requires { (vec_len passes ≡ M.parts) × (vec_len passes ≡ G.parts) × (vec_len passes ≡ E.parts) × (vec_len passes ≡ O.parts) }
+        requires { (vec_len passes ≡ M.parts) × (vec_len passes ≡ G.parts)
+            × (vec_len passes ≡ E.parts) × (vec_len passes ≡ O.parts) }
         ensures { AreSums (totals result) passes.items }
     {
         let Shared { lock, changed: _ } = self;
@@ -108,8 +117,10 @@ impl<M: Marks, G: Ledger, E: Ledger, O: Ledger> Shared<M, G, E, O> {
 
     /// Closes as `close` does where the agent has stopped, and else gives all back.
     pub fn close_if_stopped(self, passes: Vec<Pass<M, G, E, O>>) -> Closing<M, G, E, O>
-        requires { (vec_len passes ≡ M.parts) × (vec_len passes ≡ G.parts) × (vec_len passes ≡ E.parts) × (vec_len passes ≡ O.parts) }
-        ensures stopped { IfStopped result (λ tally. AreSums (totals tally) passes.items × (tally.stopped ≡ true)) }
+        requires { (vec_len passes ≡ M.parts) × (vec_len passes ≡ G.parts)
+            × (vec_len passes ≡ E.parts) × (vec_len passes ≡ O.parts) }
+        ensures stopped { IfStopped result
+            (λ tally. AreSums (totals tally) passes.items × (tally.stopped ≡ true)) }
         ensures open { IfOpen result (λ back. back ≡ passes.items) }
     {
         let Shared { lock, changed: _ } = self;
@@ -120,7 +131,8 @@ impl<M: Marks, G: Ledger, E: Ledger, O: Ledger> Shared<M, G, E, O> {
 impl<M: Marks, G: Ledger, E: Ledger, O: Ledger> Locked<M, G, E, O> {
     /// Ends the core once all passes are back, and gives the totals of all its histories.
     pub fn close(self, passes: Vec<Pass<M, G, E, O>>) -> Tally
-        requires { (vec_len passes ≡ M.parts) × (vec_len passes ≡ G.parts) × (vec_len passes ≡ E.parts) × (vec_len passes ≡ O.parts) }
+        requires { (vec_len passes ≡ M.parts) × (vec_len passes ≡ G.parts)
+            × (vec_len passes ≡ E.parts) × (vec_len passes ≡ O.parts) }
         ensures tally { result ≡ tally_at self }
         ensures sums { AreSums (totals result) passes.items }
     {
@@ -131,9 +143,13 @@ impl<M: Marks, G: Ledger, E: Ledger, O: Ledger> Locked<M, G, E, O> {
 
     /// Closes where the agent has stopped, by the journal, and else locks all up anew.
     pub fn close_if_stopped(self, passes: Vec<Pass<M, G, E, O>>) -> Closing<M, G, E, O>
-        requires { (vec_len passes ≡ M.parts) × (vec_len passes ≡ G.parts) × (vec_len passes ≡ E.parts) × (vec_len passes ≡ O.parts) }
-        ensures stopped { IfStopped result (λ tally. (tally ≡ tally_at self) × AreSums (totals tally) passes.items × (stopped self.journal ≡ true) × (tally.stopped ≡ true)) }
-        ensures open { IfOpen result (λ back. (back ≡ passes.items) × (stopped self.journal ≡ false)) }
+        requires { (vec_len passes ≡ M.parts) × (vec_len passes ≡ G.parts)
+            × (vec_len passes ≡ E.parts) × (vec_len passes ≡ O.parts) }
+        ensures stopped { IfStopped result
+            (λ tally. (tally ≡ tally_at self) × AreSums (totals tally) passes.items
+            × (stopped self.journal ≡ true) × (tally.stopped ≡ true)) }
+        ensures open { IfOpen result
+            (λ back. (back ≡ passes.items) × (stopped self.journal ≡ false)) }
     {
         if !self.stopped() {
             return Closing::Open(Shared::over(self), passes);

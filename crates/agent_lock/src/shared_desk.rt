@@ -13,7 +13,8 @@ use std::sync::ledger::Ledger;
 use std::time;
 use std::time::Duration;
 
-/// A desk over the lock, for the turns of one session. It shows no run, and the lifetimes that the ledger's type names.
+/// A desk over the lock, for the turns of one session. It shows no run, and the lifetimes that the
+/// ledger's type names.
 ///
 /// Contracts see the pass's counts, the session, the ticket that it has, and the clock.
 #[derive(Drop)]
@@ -42,7 +43,8 @@ impl<'a, W: Wait + time::Clock, C: Clock, M: Marks, G: Ledger, E: Ledger, O: Led
 
     ghost Value = { AtSharedDesk C };
 
-    ghost view = { λ desk. record { counts = desk.pass; session = desk.session; out = desk.out; clock = desk.clock } };
+    ghost view = { λ desk.
+        record { counts = desk.pass; session = desk.session; out = desk.out; clock = desk.clock } };
 }
 
 impl<'a, W: Wait + time::Clock, C: Clock, M: Marks, G: Ledger, E: Ledger, O: Ledger> SharedDesk<
@@ -54,6 +56,7 @@ impl<'a, W: Wait + time::Clock, C: Clock, M: Marks, G: Ledger, E: Ledger, O: Led
     E,
     O,
 > {
+    /// The desk of a session that has no ticket, whose turns are counted by this pass.
     pub fn new(
         rt: &'a W,
         shared: &'a Shared<M, G, E, O>,
@@ -85,7 +88,8 @@ impl<'a, W: Wait + time::Clock, C: Clock, M: Marks, G: Ledger, E: Ledger, O: Led
 
     /// Tries a step once, under the lock.
     fn attempt(&mut self, locked: &mut Locked<M, G, E, O>, step: Step) -> Result<Reply, Refused>
-        ensures attempt { IsAttempt (C.readings self.old.clock) (C.readings self.new.clock) self.old.counts self.new.counts (asked_step step) (turn_of result) }
+        ensures attempt { IsAttempt (C.readings self.old.clock) (C.readings self.new.clock)
+            self.old.counts self.new.counts (asked_step step) (turn_of result) }
         ensures out { self.new.out ≡ out_after self.old.out (asked_step step) (turn_of result) }
         ensures session { self.new.session ≡ self.old.session }
         ensures back { IfErr result (λ refused. refused.step ≡ step) }
@@ -104,8 +108,11 @@ impl<'a, W: Wait + time::Clock, C: Clock, M: Marks, G: Ledger, E: Ledger, O: Led
         opening: &Opening,
         stood: SeatWait,
     ) -> Result<Reply, Refused>
-        ensures attempt { IsAttempt (C.readings self.old.clock) (C.readings self.new.clock) self.old.counts self.new.counts (asked_step (opening_step opening.now None)) (turn_of result) }
-        ensures out { self.new.out ≡ out_after self.old.out (asked_step (opening_step opening.now None)) (turn_of result) }
+        ensures attempt { IsAttempt
+            (C.readings self.old.clock) (C.readings self.new.clock) self.old.counts self.new.counts
+            (asked_step (opening_step opening.now None)) (turn_of result) }
+        ensures out { self.new.out ≡ out_after self.old.out
+            (asked_step (opening_step opening.now None)) (turn_of result) }
         ensures session { self.new.session ≡ self.old.session }
         ensures back { IfErr result (λ refused. refused.step ≡ opening_step opening.now None) }
     {
@@ -134,13 +141,12 @@ impl<'a, W: Wait + time::Clock, C: Clock, M: Marks, G: Ledger, E: Ledger, O: Led
     for SharedDesk<'a, W, C, M, G, E, O> {
     ghost at = { λ desk. at_lock M.limits desk.session desk.out };
 
-    ghost turned = { λ before asked turn after.
-        IsAttempt (C.readings before.clock) (C.readings after.clock) before.counts after.counts asked turn
-        × FitsStep asked turn
-        × (after.session ≡ before.session)
-        × (after.out ≡ out_after before.out asked turn) };
+    ghost turned = { λ before asked turn after. IsAttempt (C.readings before.clock)
+        (C.readings after.clock) before.counts after.counts asked turn × FitsStep asked turn
+        × (after.session ≡ before.session) × (after.out ≡ out_after before.out asked turn) };
 
-    /// Where the reply is Stand, it tries again once another turn was taken, or a second has passed.
+    /// Where the reply is Stand, it tries again once another turn was taken, or a second has
+    /// passed.
     fn turn(&mut self, step: Step) -> Result<Reply, Refused> {
         let (rt, shared) = (self.rt, self.shared);
         let opening = Opening::of(&step);
@@ -171,5 +177,6 @@ impl<'a, W: Wait + time::Clock, C: Clock, M: Marks, G: Ledger, E: Ledger, O: Led
         unreachable!()
     }
 
-    ghost promise = { λ before asked turn after does. record { fits = does.1; run = tt; limits = refl; session = does.2; out = does.3 } };
+    ghost promise = { λ before asked turn after does.
+        record { fits = does.1; run = tt; limits = refl; session = does.2; out = does.3 } };
 }

@@ -1,4 +1,5 @@
-ghost use Rattle.std.specs.Prelude.{◌≡◌, ◌<◌, ◌≤◌, ◌^◌, [], None, IfOk, IfErr, OnErr, vec_len, vec_capacity};
+ghost use Rattle.std.specs.Prelude.{◌≡◌, ◌<◌, ◌≤◌, ◌^◌, [], None, IfOk, IfErr, OnErr, vec_len};
+ghost use Rattle.std.specs.Prelude.{vec_capacity};
 ghost use Rattle.cache_policy.specs.declared.bounds.TheConstants.{MAX_MARKS as MAX};
 ghost use Rattle.cache_policy.specs.Histories.{History, with_mark};
 ghost use Rattle.cache_policy.specs.Legal.{IsLegal};
@@ -6,7 +7,8 @@ ghost use Rattle.cache_policy.specs.Runs.{last_base, moment_of, next_history, is
 ghost use Rattle.cache_policy.specs.Seat.{stopped};
 ghost use Rattle.cache_policy.specs.Tallies.{with_one, one_if, nothing_yet, IsSound};
 ghost use Rattle.cache_policy.specs.Traces.{trace_mark};
-ghost use Rattle.cache_policy.specs.Turns.{asked_step, mark_step, turn_of, FitsReply, MayWantMemory};
+ghost use Rattle.cache_policy.specs.Turns.{asked_step, mark_step, turn_of, FitsReply};
+ghost use Rattle.cache_policy.specs.Turns.{MayWantMemory};
 ghost use Rattle.agent_core.specs.Cores.{StandsFor, IsStep};
 ghost use Rattle.agent_lock.specs.Attempts.{IfGiven};
 ghost use Rattle.agent_lock.specs.Counting.{counted, totals, AreSmall};
@@ -40,12 +42,14 @@ pub(crate) struct State {
 
 impl State {
     ghost use Rattle.agent_lock.specs.Journals.{IsJournaled, IsLocked, AtLock};
-    ghost use Rattle.agent_lock.specs.Keeping.{IsKept, journal_of, next_start, seen, started, carried_to};
+    ghost use Rattle.agent_lock.specs.Keeping.{IsKept, journal_of, next_start, seen, started};
+    ghost use Rattle.agent_lock.specs.Keeping.{carried_to};
 
     /// Nothing was done. The journal's room is taken here, and used again and again.
     pub(crate) fn new(alloc: Global, limits: Limits) -> Result<State, AllocError>
         ensures kept { IfOk result IsKept }
-        ensures nothing { IfOk result (λ state. (state.carried ≡ nothing_yet) × (state.traces.items ≡ [])
+        ensures nothing { IfOk result
+            (λ state. (state.carried ≡ nothing_yet) × (state.traces.items ≡ [])
             × (state.total ≡ nothing_yet) × (state.core.limits ≡ limits)) }
     {
         Ok(State {
@@ -70,11 +74,18 @@ impl State {
     ) -> Result<Reply, Refused>
         requires { IsKept self.old }
         ensures kept { IsKept self.new }
-        ensures journaled { IsJournaled (seen self.old) session (moment_of self.old.core.moment reading) (mark_step session step) (turn_of result) (seen self.new) }
-        ensures core { (history : History) → IsLegal self.old.core.limits history → StandsFor self.old.core history
-            → IsStep self.old.core history session (moment_of self.old.core.moment reading) (mark_step session step) (turn_of result) self.new.core }
-        ensures totals { totals self.new.total ≡ counted (is_spent (next_history (seen self.old).journal)) (totals self.old.total) (turn_of result) }
-        ensures grant { IfGiven (turn_of result) (λ grant. grant.moment ≡ moment_of self.old.core.moment reading) }
+        ensures journaled { IsJournaled (seen self.old) session
+            (moment_of self.old.core.moment reading) (mark_step session step) (turn_of result)
+            (seen self.new) }
+        ensures core { (history : History)
+            → IsLegal self.old.core.limits history → StandsFor self.old.core history
+            → IsStep self.old.core history session (moment_of self.old.core.moment reading)
+            (mark_step session step) (turn_of result) self.new.core }
+        ensures totals { totals self.new.total
+            ≡ counted (is_spent (next_history (seen self.old).journal)) (totals self.old.total)
+            (turn_of result) }
+        ensures grant { IfGiven (turn_of result)
+            (λ grant. grant.moment ≡ moment_of self.old.core.moment reading) }
         ensures fits { FitsReply (asked_step step) (turn_of result) }
         ensures memory { OnErr result (MayWantMemory (asked_step step)) }
         ensures limits { self.new.core.limits ≡ self.old.core.limits }
@@ -146,7 +157,8 @@ impl State {
         })
     }
 
-    /// Adds a mark's trace, behind those of the journal or as the first of the next one, and counts it.
+    /// Adds a mark's trace, behind those of the journal or as the first of the next one, and counts
+    /// it.
     fn add(&mut self, next: Option<Start>, trace: Trace, stores: bool)
         requires room { MAX ≤ vec_capacity self.old.traces }
         requires few { next ≡ None → vec_len self.old.traces < MAX }
@@ -154,9 +166,11 @@ impl State {
         requires small { self.old.total.marks ≤ 2 ^ 63 }
         ensures core { self.new.core ≡ self.old.core }
         ensures journal { journal_of self.new.start self.new.traces.items
-            ≡ with_mark (started next (journal_of self.old.start self.old.traces.items)) (trace_mark trace) }
+            ≡ with_mark (started next (journal_of self.old.start self.old.traces.items))
+            (trace_mark trace) }
         ensures carried { self.new.carried ≡ carried_to next self.old.carried self.old.total }
-        ensures total { self.new.total ≡ with_one self.old.total (trace_mark trace) (one_if stores) }
+        ensures total { self.new.total ≡ with_one self.old.total (trace_mark trace)
+            (one_if stores) }
         ensures sound { IsSound self.new.total }
         ensures room { MAX ≤ vec_capacity self.new.traces }
     {

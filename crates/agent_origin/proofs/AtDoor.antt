@@ -1,52 +1,49 @@
 -- A line at a door, by each way that it is answered.
 use Rattle.std.proofs.Common.{◌≡◌, ℕ, List, true, false, None, Some}
 use Rattle.agent_ask.specs.Events.{Call}
-use Rattle.agent_ask.specs.Further.{FurtherEnds}
 use Rattle.agent_commands.specs.States.{AnswersRequest}
 use Rattle.agent_commands.specs.Talks.{WholeOrCut, whole, cut}
 use Rattle.agent_commands.specs.declared.went.Went.{Went}
-use Rattle.agent_ports.specs.TrustFiles.{TrustState}
 use Rattle.assuan_server.specs.Connections.{Connection}
 use Rattle.assuan_server.specs.Written.{failed}
 use Rattle.assuan_server.specs.declared.errors.Code.TheVariants.{Forbidden}
 use Rattle.assuan_text.specs.Words.{command_of}
 use Rattle.cache_policy.specs.declared.mark.MarkStep.{MarkStep}
 use Rattle.cache_policy.specs.Turns.{Turn}
-use Rattle.key_commands.specs.States.{KeyWorld, KeyState}
+use Rattle.key_commands.specs.Events.{Event}
 use Rattle.session_options.specs.declared.rules.Rules.{Rules}
 use Rattle.agent_origin.specs.DoorSessions.{door_help, helped, trusts, any, DoorExchange, forbidden, is_allowed}
 use Rattle.agent_origin.specs.Doors.{allowed}
 use Rattle.agent_origin.specs.Exchanges.{TrustExchange}
 use Rattle.agent_origin.specs.Names.{door_command_named}
-use Rattle.agent_origin.specs.OriginEvents.{Event, Session}
-use Rattle.agent_origin.specs.Origins.{session, origin_world, OriginState}
+use Rattle.agent_origin.specs.FurtherStates.{FurtherWorld, FurtherState}
 use Rattle.agent_origin.specs.Requests.{trust_request_of}
 use Rattle.agent_origin.specs.SessionExchanges.{SessionExchange}
 use Rattle.agent_origin.specs.States.{SaysText}
 use Rattle.agent_origin.specs.declared.door.Door.{Door}
 use Rattle.agent_origin.specs.declared.kept.Kept.{Kept}
 use Rattle.agent_origin.specs.declared.names.DoorCommand.TheVariants.{Help, Trust}
-use Rattle.agent_origin.proofs.Mapped.{answers_as}
+use Rattle.agent_commands.proofs.Beside.{exchange_as}
 use Rattle.agent_origin.proofs.Serving.{text_answers}
 
 module _ {D P : Type 0} (turned : D → MarkStep → Turn → D → Type 0) (prompted : P → Call → P → Type 0) (door : Door) (rules : Rules) (line : List ℕ) where
   -- the line was answered at the door
-  abbrev pub Answers : Kept → OriginState turned prompted → Went → Kept → OriginState turned prompted → Type 0
-  Answers before start went after now = AnswersRequest {w = origin_world turned prompted} (λ kept. DoorExchange door rules kept line) before start went after now
+  abbrev pub Answers : Kept → FurtherState turned prompted → Went → Kept → FurtherState turned prompted → Type 0
+  Answers before start went after now = AnswersRequest {w = FurtherWorld turned prompted} (λ kept. DoorExchange door rules kept line) before start went after now
 
-  pub forbidden_is_answered : (kept : Kept) (start : OriginState turned prompted) (now : Connection) {went : Went} → allowed door line ≡ false → start.conn.reader.ended ≡ None
+  pub forbidden_is_answered : (kept : Kept) (start : FurtherState turned prompted) (now : Connection) {went : Went} → allowed door line ≡ false → start.conn.reader.ended ≡ None
       → SaysText (failed Forbidden) start.conn went now → Answers kept start went kept (record start { conn = now })
   forbidden_is_answered kept start now not_allowed going said =
-      text_answers {w = origin_world turned prompted} (λ k. DoorExchange door rules k line) kept start now (forbidden not_allowed) going said
+      text_answers {w = FurtherWorld turned prompted} (λ k. DoorExchange door rules k line) kept start now (forbidden not_allowed) going said
 
   module _ (may : allowed door line ≡ true) where
-    pub help_is_answered : (kept : Kept) (start : OriginState turned prompted) (now : Connection) {went : Went} → door_command_named (command_of line) ≡ Some Help → start.conn.reader.ended ≡ None
+    pub help_is_answered : (kept : Kept) (start : FurtherState turned prompted) (now : Connection) {went : Went} → door_command_named (command_of line) ≡ Some Help → start.conn.reader.ended ≡ None
         → SaysText door_help start.conn went now → Answers kept start went kept (record start { conn = now })
     help_is_answered kept start now named going said =
-        text_answers {w = origin_world turned prompted} (λ k. DoorExchange door rules k line) kept start now (is_allowed may (rw named helped)) going said
+        text_answers {w = FurtherWorld turned prompted} (λ k. DoorExchange door rules k line) kept start now (is_allowed may (rw named helped)) going said
 
-    pub trust_is_answered : (kept : Kept) {start now : OriginState turned prompted} {went : Went} → door_command_named (command_of line) ≡ Some Trust
-        → AnswersRequest {w = origin_world turned prompted} {S = Unit {0}} (λ before events after went. TrustExchange rules kept.options (trust_request_of line) events went) tt start went tt now
+    pub trust_is_answered : (kept : Kept) {start now : FurtherState turned prompted} {went : Went} → door_command_named (command_of line) ≡ Some Trust
+        → AnswersRequest {w = FurtherWorld turned prompted} {S = Unit {0}} (λ before events after went. TrustExchange rules kept.options (trust_request_of line) events went) tt start went tt now
         → Answers kept start went kept now
     trust_is_answered kept named answered = record {
       events = answered.events;
@@ -62,10 +59,12 @@ module _ {D P : Type 0} (turned : D → MarkStep → Turn → D → Type 0) (pro
         as_door (cut {went} exchanged last) = cut {went = went} (is_allowed may (rw named (trusts exchanged))) last
 
     -- with the trust file beside
-    pub session_line_is_answered : (trust : TrustState) {before after : Kept} {start now : KeyState turned prompted} {went : Went} → door_command_named (command_of line) ≡ None
-        → AnswersRequest {w = KeyWorld turned prompted} (λ kept. SessionExchange rules kept line) before start went after now
-        → Answers before (record { conn = start.conn; desk = start.desk; ends = record { further = start.ends; trust = trust } }) went after
-        (record { conn = now.conn; desk = now.desk; ends = record { further = now.ends; trust = trust } })
-    session_line_is_answered trust named answered =
-        answers_as (KeyWorld turned prompted) (origin_world turned prompted) (λ desk. desk) (λ (further : FurtherEnds P). record { further = further; trust = trust }) Session
-        (λ before after step turn does. does) (λ before after what does. session does) (λ events went exchanged. is_allowed may (rw named (any exchanged))) answered
+    pub session_line_is_answered : {before after : Kept} {start now : FurtherState turned prompted} {went : Went} → door_command_named (command_of line) ≡ None
+        → AnswersRequest {w = FurtherWorld turned prompted} (λ kept. SessionExchange rules kept line) before start went after now → Answers before start went after now
+    session_line_is_answered named answered = record {
+      events = answered.events;
+      exchanges = exchange_as (λ events went exchanged. is_allowed may (rw named (any exchanged))) answered.exchanges;
+      done = answered.done;
+      fits = answered.fits;
+      faults = answered.faults;
+    }

@@ -1,10 +1,12 @@
--- Requests on the cache with the keys and the dice beside, and requests on keys with the option values beside.
+-- Requests on the cache with the keys and the dice beside, requests on keys with the option values beside, and both with the trust file beside.
 use Rattle.std.proofs.Common.{ℕ, List, refl}
 use Rattle.arrayvec.specs.ArrayVec.{ArrayVec}
 use Rattle.agent_ask.specs.Events.{Call}
-use Rattle.agent_ask.specs.Further.{FurtherEvent, FurtherEnds, DoesFurther, prompt}
+use Rattle.agent_ask.specs.Further.{FurtherEvent, FurtherEnds, DoesFurther}
+use Rattle.agent_ask.specs.Further as further
 use Rattle.agent_ports.specs.KeyFiles.{KeyFiles}
 use Rattle.agent_ports.specs.Sides.{Side}
+use Rattle.agent_ports.specs.TrustFiles.{TrustState}
 use Rattle.assuan_line.specs.Next.{Reader}
 use Rattle.assuan_server.specs.Connections.{Connection}
 use Rattle.cache_policy.specs.declared.mark.MarkStep.{MarkStep}
@@ -22,12 +24,15 @@ use Rattle.agent_commands.specs.declared.request.Request.TheVariants.{Key}
 use Rattle.agent_commands.specs.declared.went.Went.{Went}
 use Rattle.agent_commands.proofs.Beside.{answers_beside}
 use Rattle.key_commands.specs.Exchanges.{Exchange as KeyExchange}
+use Rattle.key_commands.specs.KeyEnds.{KeyEnds, DoesAtKeys, prompt}
+use Rattle.key_commands.specs.KeyEnds as at_keys
 use Rattle.key_commands.specs.Requests.{key_request_of}
 use Rattle.key_commands.specs.States.{KeyWorld, KeyState, key_state, AnswersKey}
 use Rattle.key_commands.specs.States as states
 use Rattle.key_commands.specs.declared.went.KeyWent.{KeyWent}
 use Rattle.key_commands.specs.declared.went.KeyWent.TheVariants as key
 use Rattle.key_commands.specs.declared.wrap_keys.WrapKeys.{WrapKeys}
+use Rattle.agent_origin.specs.FurtherStates.{further_ends, FurtherWorld}
 use Rattle.agent_origin.specs.SessionExchanges.{RequestExchange, cache, keys, went_after_key, described_after}
 use Rattle.agent_origin.specs.declared.kept.Kept.{Kept}
 
@@ -35,11 +40,11 @@ abbrev kept_with : OptionValues → WrapKeys → Kept
 kept_with options wraps = record { options = options; wraps = wraps }
 
 module _ {D P : Type 0} (turned : D → MarkStep → Turn → D → Type 0) (prompted : P → Call → P → Type 0) where
-  abbrev ends : KeyFiles → Side → P → FurtherEnds P
+  abbrev ends : KeyFiles → Side → P → KeyEnds P
   ends files dice prompter = record { prompter = prompter; keys = files; dice = dice }
 
   each : (files : KeyFiles) (dice : Side) (prompter prompter_now : P) (what : FurtherEvent) → DoesPrompts prompted prompter what prompter_now
-      → DoesFurther prompted (ends files dice prompter) what (ends files dice prompter_now)
+      → DoesAtKeys prompted (ends files dice prompter) what (ends files dice prompter_now)
   each files dice prompter prompter_now _ (prompts does) = prompt does
 
   module _ (rules : Rules) (files : KeyFiles) (dice : Side) (wraps : WrapKeys) (request : Request) {before after : OptionValues} {conn now : Connection} {desk desk_now : D} {went : Went} where
@@ -49,7 +54,7 @@ module _ {D P : Type 0} (turned : D → MarkStep → Turn → D → Type 0) (pro
         (prompt_state turned prompted now desk_now prompter_now)
         → AnswersRequest {w = KeyWorld turned prompted} (λ kept. RequestExchange rules kept request) (kept_with before wraps) (key_state turned prompted conn desk prompter files dice) went
         (kept_with after wraps) (key_state turned prompted now desk_now prompter_now files dice)
-    cached_beside = answers_beside turned (DoesPrompts prompted) (DoesFurther prompted) (ends files dice) (each files dice) (λ events then exchanged. cache exchanged)
+    cached_beside = answers_beside turned (DoesPrompts prompted) (DoesAtKeys prompted) (ends files dice) (each files dice) (λ events then exchanged. cache exchanged)
 
     -- by the cache alone, with the prompter beside too
     pub quiet_beside : (prompter : P)
@@ -57,7 +62,7 @@ module _ {D P : Type 0} (turned : D → MarkStep → Turn → D → Type 0) (pro
         → AnswersRequest {w = KeyWorld turned prompted} (λ kept. RequestExchange rules kept request) (kept_with before wraps) (key_state turned prompted conn desk prompter files dice) went
         (kept_with after wraps) (key_state turned prompted now desk_now prompter files dice)
     quiet_beside prompter =
-        answers_beside turned (λ prior what later. ⊥) (DoesFurther prompted) (λ none. ends files dice prompter) (λ prior later what never. absurd never) (λ events then exchanged. cache exchanged)
+        answers_beside turned (λ prior what later. ⊥) (DoesAtKeys prompted) (λ none. ends files dice prompter) (λ prior later what never. absurd never) (λ events then exchanged. cache exchanged)
 
   key_reader_fits : (went : KeyWent) (first now : Reader) → states.ReaderAfter went first now → ReaderAfter (went_after_key went) first now
   key_reader_fits key.On first now fits = fits
@@ -94,3 +99,22 @@ module _ {D P : Type 0} (turned : D → MarkStep → Turn → D → Type 0) (pro
       fits = key_reader_fits went _ _ answered.fits;
       faults = key_faults_rise went answered.faults;
     }
+
+-- ---- with the trust file beside
+
+module _ {D P : Type 0} (turned : D → MarkStep → Turn → D → Type 0) (prompted : P → Call → P → Type 0) (file : TrustState) where
+  abbrev with_file : KeyEnds P → FurtherEnds P
+  with_file ends = further_ends ends.prompter ends.keys ends.dice file
+
+  each_with_file : (before after : KeyEnds P) (what : FurtherEvent) → DoesAtKeys prompted before what after → DoesFurther prompted (with_file before) what (with_file after)
+  each_with_file _ _ _ (at_keys.prompt does) = further.prompt does
+  each_with_file _ _ _ (at_keys.keys does) = further.keys does
+  each_with_file _ _ _ (at_keys.dice does) = further.dice does
+  each_with_file _ _ _ at_keys.no_memory = further.no_memory
+
+  pub trust_beside : {S T : Type 0} {exchange : S → List (Event FurtherEvent) → S → Went → Type 0} {other : T → List (Event FurtherEvent) → T → Went → Type 0} {before after : S} {from to : T}
+      {start now : KeyState turned prompted} {went : Went} → ((events : List (Event FurtherEvent)) (went : Went) → exchange before events after went → other from events to went)
+      → AnswersRequest {w = KeyWorld turned prompted} exchange before start went after now
+      → AnswersRequest {w = FurtherWorld turned prompted} other from (record { conn = start.conn; desk = start.desk; ends = with_file start.ends }) went to
+      (record { conn = now.conn; desk = now.desk; ends = with_file now.ends })
+  trust_beside same = answers_beside turned (DoesAtKeys prompted) (DoesFurther prompted) with_file each_with_file same

@@ -1,25 +1,28 @@
 -- Parts of a request that were done, one after another.
-use Rattle.std.proofs.Common.{◌≡◌, ◌≤◌, ℕ, List, [], ◌∷◌, ◌++◌, None, Result, Ok, Err, subst, arith}
+use Rattle.std.proofs.Common.{◌≡◌, ◌≤◌, ℕ, List, [], ◌∷◌, ◌++◌, None, Result, Ok, Err, arith}
 use Rattle.agent_ask.specs.Events.{Call}
-use Rattle.agent_ask.specs.Further.{FurtherEnds, NoMemory, no_memory}
+use Rattle.agent_ask.specs.Further.{FurtherEnds, NoMemory, Trust, DoesFurther, trust, no_memory}
 use Rattle.agent_ask.specs.SessionEvents.{cache_turn}
+use Rattle.agent_ask.proofs.Beside.{done_in}
 use Rattle.agent_ask.proofs.Doing.{done_none, done_then, done_turned, done_further}
+use Rattle.agent_ask.specs.TrustCalls.{TrustCall, DoesTrust}
 use Rattle.agent_commands.specs.States.{EventsLead, ReaderAfter, FaultsRise}
 use Rattle.agent_commands.specs.declared.went.Went.{Went}
 use Rattle.agent_commands.specs.declared.went.Went.TheVariants.{On, End}
+use Rattle.agent_ports.specs.KeyFiles.{KeyFiles}
+use Rattle.agent_ports.specs.Sides.{Side}
 use Rattle.agent_ports.specs.TrustFiles.{TrustState}
 use Rattle.assuan_line.specs.Next.{Reader, held}
 use Rattle.assuan_server.specs.Connections.{Connection, IsOpen}
 use Rattle.cache_policy.specs.declared.mark.MarkStep.{MarkStep}
 use Rattle.cache_policy.specs.declared.mark.MarkStep.TheVariants.{Close}
 use Rattle.cache_policy.specs.Turns.{Turn}
+use Rattle.key_commands.specs.Events.{Event, out_of_memory}
 use Rattle.key_commands.specs.Partial.{NoTurn}
-use Rattle.agent_origin.specs.OriginEvents.{Event, TrustCall, Session, Trust, called, out_of_memory}
-use Rattle.agent_origin.specs.Origins.{DoesTrust, OriginEnds, session, trust, origin_world, OriginState}
-use Rattle.agent_origin.specs.Parts.{Part, ◌>>=◌, goes_on, stops, UnderTicket, given_back}
+use Rattle.agent_origin.specs.FurtherStates.{further_ends, FurtherWorld, FurtherState, further_state}
+use Rattle.agent_origin.specs.Parts.{Part, ◌>>=◌, goes_on, stops, UnderTicket, given_back, trust_called}
 use Rattle.agent_origin.specs.States.{went_by, DoesPart, TrustLead, none, calls, wants_memory, DoesTrustCalls, DoesTurn}
 use Rattle.agent_origin.specs.declared.refusal.Refusal.{Refusal}
-use Rattle.agent_origin.proofs.Mapped.{done_as, shown_alike}
 
 -- a reader that holds no more than another did
 reader_from : (went : Went) (start mid now : Reader) → held mid ≤ held start → ReaderAfter went mid now → ReaderAfter went start now
@@ -50,8 +53,8 @@ calls_stop first = record { events = first.events; lead = first.lead; does = sto
 
 -- one call
 pub one_call : {A : Type 0} {part : Part A} {result : Result A Refusal} {start now : TrustState} (call : TrustCall) → DoesTrust start call now → went_by result ≡ On
-    → part (called call ∷ []) result → DoesTrustCalls part start result now
-one_call call does on is = record { events = called call ∷ []; lead = calls does none; does = is; on = on }
+    → part (trust_called call ∷ []) result → DoesTrustCalls part start result now
+one_call call does on is = record { events = trust_called call ∷ []; lead = calls does none; does = is; on = on }
 
 -- none
 pub no_call : {A : Type 0} {part : Part A} {result : Result A Refusal} (start : TrustState) → went_by result ≡ On → part [] result → DoesTrustCalls part start result start
@@ -66,7 +69,7 @@ no_call_of_memory start on is = record { events = out_of_memory ∷ []; lead = w
 
 module _ {D P : Type 0} (turned : D → MarkStep → Turn → D → Type 0) (prompted : P → Call → P → Type 0) where
   -- a part came to a value, and then the next was done
-  pub part_then : {A B : Type 0} {part : Part A} {next : A → Part B} {start between now : OriginState turned prompted} {value : A} {result : Result B Refusal}
+  pub part_then : {A B : Type 0} {part : Part A} {next : A → Part B} {start between now : FurtherState turned prompted} {value : A} {result : Result B Refusal}
       → DoesPart turned prompted part start (Ok value) between → DoesPart turned prompted (next value) between result now → DoesPart turned prompted (part >>= next) start result now
   part_then {start} {between} {now} {result} first second = record {
     events = first.events ++ second.events;
@@ -80,7 +83,7 @@ module _ {D P : Type 0} (turned : D → MarkStep → Turn → D → Type 0) (pro
   }
 
   -- a part was refused, and nothing is done behind it
-  pub part_stops : {A B : Type 0} {part : Part A} {next : A → Part B} {start now : OriginState turned prompted} {why : Refusal}
+  pub part_stops : {A B : Type 0} {part : Part A} {next : A → Part B} {start now : FurtherState turned prompted} {why : Refusal}
       → DoesPart turned prompted part start (Err why) now → DoesPart turned prompted (part >>= next) start (Err why) now
   part_stops first = record { events = first.events; does = stops first.does; done = first.done; fits = first.fits; faults = first.faults }
 
@@ -88,11 +91,11 @@ module _ {D P : Type 0} (turned : D → MarkStep → Turn → D → Type 0) (pro
   still_open : (went : Went) → went ≡ On → (conn : Connection) → IsOpen conn → ReaderAfter went conn.reader conn.reader
   still_open went on conn going = rw on (going, omega arith)
 
-  no_fault : (went : Went) → went ≡ On → (start now : OriginState turned prompted) → FaultsRise {w = origin_world turned prompted} went start now
+  no_fault : (went : Went) → went ≡ On → (start now : FurtherState turned prompted) → FaultsRise {w = FurtherWorld turned prompted} went start now
   no_fault went on start now = rw on (record { read = λ e. absurd (cc e); write = λ e. absurd (cc e) })
 
-  module _ (conn : Connection) (ends : OriginEnds P) where
-    abbrev at_desk : D → OriginState turned prompted
+  module _ (conn : Connection) (ends : FurtherEnds P) where
+    abbrev at_desk : D → FurtherState turned prompted
     at_desk desk = record { conn = conn; desk = desk; ends = ends }
 
     -- one turn at the desk
@@ -101,7 +104,7 @@ module _ {D P : Type 0} (turned : D → MarkStep → Turn → D → Type 0) (pro
     part_turned {result} {desk} {now} going done = record {
       events = cache_turn done.step done.turn ∷ [];
       does = done.does;
-      done = done_turned {w = origin_world turned prompted} done.step done.turn conn desk now ends done.turned_so;
+      done = done_turned {w = FurtherWorld turned prompted} done.step done.turn conn desk now ends done.turned_so;
       fits = still_open (went_by result) done.on conn going;
       faults = no_fault (went_by result) done.on (at_desk desk) (at_desk now);
     }
@@ -118,29 +121,29 @@ module _ {D P : Type 0} (turned : D → MarkStep → Turn → D → Type 0) (pro
     }
 
     -- a part was done under a ticket, which was given back then
-    pub part_given_back : {A : Type 0} {part : Part A} {result : Result A Refusal} {start : OriginState turned prompted} {desk now : D} (ticket : ℕ) (turn : Turn)
+    pub part_given_back : {A : Type 0} {part : Part A} {result : Result A Refusal} {start : FurtherState turned prompted} {desk now : D} (ticket : ℕ) (turn : Turn)
         → turned desk (Close ticket None) turn now → DoesPart turned prompted part start result (at_desk desk)
         → DoesPart turned prompted (UnderTicket ticket part) start result (at_desk now)
     part_given_back {desk} {now} ticket turn closes under = record {
       events = under.events ++ cache_turn (Close ticket None) turn ∷ [];
       does = given_back turn under.does;
-      done = done_then under.done (done_turned {w = origin_world turned prompted} (Close ticket None) turn conn desk now ends closes);
+      done = done_then under.done (done_turned {w = FurtherWorld turned prompted} (Close ticket None) turn conn desk now ends closes);
       fits = under.fits;
       faults = record { read = λ e. under.faults.read e; write = λ e. under.faults.write e };
     }
 
   -- what is done at the trust file alone
-  module _ (conn : Connection) (desk : D) (further : FurtherEnds P) where
-    abbrev at_trust : TrustState → OriginState turned prompted
-    at_trust file = record { conn = conn; desk = desk; ends = record { further = further; trust = file } }
+  module _ (conn : Connection) (desk : D) (prompter : P) (files : KeyFiles) (side : Side) where
+    abbrev at_trust : TrustState → FurtherState turned prompted
+    at_trust file = further_state turned prompted conn desk prompter files side file
 
     trust_lead : {events : List Event} {start now : TrustState} → TrustLead start events now
-        → EventsLead {w = origin_world turned prompted} events (at_trust start) (at_trust now)
+        → EventsLead {w = FurtherWorld turned prompted} events (at_trust start) (at_trust now)
     trust_lead {start} none = done_none (at_trust start)
     trust_lead (calls {mid} {call} does more) =
-        done_then (done_further {w = origin_world turned prompted} (Trust call) conn desk _ (record { further = further; trust = mid }) (trust does)) (trust_lead more)
+        done_then (done_further {w = FurtherWorld turned prompted} (Trust call) conn desk _ (further_ends prompter files side mid) (trust does)) (trust_lead more)
     trust_lead {start} (wants_memory more) =
-        done_then (done_further {w = origin_world turned prompted} (Session NoMemory) conn desk (record { further = further; trust = start }) _ (session no_memory)) (trust_lead more)
+        done_then (done_further {w = FurtherWorld turned prompted} NoMemory conn desk (further_ends prompter files side start) _ no_memory) (trust_lead more)
 
     pub part_called : {A : Type 0} {part : Part A} {result : Result A Refusal} {start now : TrustState} → IsOpen conn → DoesTrustCalls part start result now
         → DoesPart turned prompted part (at_trust start) result (at_trust now)
@@ -154,15 +157,13 @@ module _ {D P : Type 0} (turned : D → MarkStep → Turn → D → Type 0) (pro
 
 -- a part that takes no turn, with a desk beside
 pub beside_desk : {D P : Type 0} (turned : D → MarkStep → Turn → D → Type 0) (prompted : P → Call → P → Type 0) (desk : D) {A : Type 0} {part : Part A} {result : Result A Refusal}
-    {conn conn_now : Connection} {ends ends_now : OriginEnds P}
+    {conn conn_now : Connection} {ends ends_now : FurtherEnds P}
     → DoesPart NoTurn prompted part (record { conn = conn; desk = tt; ends = ends }) result (record { conn = conn_now; desk = tt; ends = ends_now })
     → DoesPart turned prompted part (record { conn = conn; desk = desk; ends = ends }) result (record { conn = conn_now; desk = desk; ends = ends_now })
 beside_desk turned prompted desk done = record {
   events = done.events;
   does = done.does;
-  done = subst (λ (e : List Event). EventsLead {w = origin_world turned prompted} e _ _) (shown_alike done.events)
-      (done_as (origin_world NoTurn prompted) (origin_world turned prompted) (λ none. desk) (λ ends. ends) (λ what. what) (λ before after step turn never. absurd never)
-      (λ before after what does. does) done.done);
+  done = done_in NoTurn turned (DoesFurther prompted) (DoesFurther prompted) (λ none. desk) (λ ends. ends) (λ before after step turn never. absurd never) (λ before after what does. does) done.done;
   fits = done.fits;
   faults = record { read = λ e. done.faults.read e; write = λ e. done.faults.write e };
 }

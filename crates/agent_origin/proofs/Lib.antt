@@ -1,5 +1,4 @@
 pub mod Doing
-pub mod Mapped
 mod Trusting
 mod Outer
 mod OuterKeys
@@ -13,6 +12,7 @@ mod Replying
 mod WorkedExamples
 mod WorkedExchanges
 mod AtDoor
+pub mod EachLine
 pub mod Beside
 mod Meeting
 mod Served

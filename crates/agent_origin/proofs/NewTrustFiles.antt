@@ -1,17 +1,19 @@
 -- New trust files: each has its two consents.
 use Rattle.std.proofs.Common.{◌≡◌, ◌≤◌, ℕ, Bool, true, false, List, [], ◌∷◌, ◌++◌, length, Option, None, Some, Result, Ok, refl, ap, sym, ◌∙◌, subst, inl, inr}
+use Rattle.std.specs.List.{AllByRecursion}
 use Rattle.std.specs.Prelude.{◌⊎◌}
 use Rattle.std.proofs.lemmas.List.{append_assoc}
 use Rattle.arrayvec.specs.ArrayVec.{ArrayVec}
-use Rattle.agent_ask.specs.Further.{FurtherEvent}
+use Rattle.agent_ask.specs.Further.{Keys, Dice, NoMemory, Prompt, Trust}
 use Rattle.agent_ask.specs.Failing.{said_last}
 use Rattle.agent_ask.specs.SessionEvents.{Received, Sent, Cut, Inquiry, CacheTurn, Further, cache_turn, CutAtLast}
+use Rattle.agent_ask.specs.TrustCalls.{Read, Replaced}
 use Rattle.agent_commands.specs.Answers.{ok}
+use Rattle.agent_commands.specs.Requests.{request_of}
 use Rattle.agent_commands.specs.Talks.{WholeOrCut, whole, cut, Talk, over, ended, spent, read_fault, too_long as talk_too_long, cut_too_long, Session as SessionOf, greeted, cut_greeting}
 use Rattle.agent_commands.specs.Talks as talks
 use Rattle.agent_commands.specs.declared.went.SessionEnd.{SessionEnd}
 use Rattle.assuan_line.specs.declared.reader.Took.TheVariants as took
-use Rattle.agent_commands.specs.Events.{Event as SessionEvent}
 use Rattle.agent_commands.specs.declared.went.Went.{Went}
 use Rattle.agent_ports.specs.declared.grip.Grip.{Grip}
 use Rattle.agent_ports.specs.declared.trust.TrustDone.TheVariants.{Done}
@@ -19,6 +21,8 @@ use Rattle.agent_ports.specs.declared.trust.TrustRead.{TrustRead}
 use Rattle.assuan_server.specs.declared.errors.Code.TheVariants as code
 use Rattle.cache_policy.specs.Turns.{Turn, Open}
 use Rattle.cache_policy.specs.declared.mark.MarkStep.TheVariants.{Seat, Close}
+use Rattle.key_commands.specs.Events.{Event}
+use Rattle.key_commands.proofs.EachRequest.{IsBesideTrust}
 use Rattle.session_options.specs.OptionValues.{OptionValues}
 use Rattle.session_options.specs.declared.options.PinMode.{PinMode}
 use Rattle.session_options.specs.declared.options.PinMode.TheVariants as mode
@@ -29,8 +33,7 @@ use Rattle.agent_origin.specs.Exchanges.{flag_of, trust_question, fingerprint_qu
 use Rattle.agent_origin.specs.DoorSessions.{AllowedExchange, helped, trusts as on_trust, any, DoorExchange, forbidden, is_allowed}
 use Rattle.agent_origin.specs.Doors.{allowed}
 use Rattle.agent_origin.specs.NewTrustFiles.{replaced, HasConsents, HasConsentsIn}
-use Rattle.agent_origin.specs.OriginEvents.{Event, Read, Replaced, Trust, called, in_session}
-use Rattle.agent_origin.specs.Parts.{Part, goes_on, stops, returns, Refuses, refuses, Seats, opened, interrupted, UnderTicket, given_back, Agrees, consents, refused, prompts}
+use Rattle.agent_origin.specs.Parts.{Part, goes_on, stops, returns, Refuses, refuses, Seats, opened, interrupted, UnderTicket, given_back, Agrees, consents, refused, prompts, trust_called}
 use Rattle.agent_origin.specs.Parts.{file_in, ReadsFile, has_read, AddsEntry, added, too_long, Replaces, refusal_line, refusal_events}
 use Rattle.agent_origin.specs.Parts as parts
 use Rattle.agent_origin.specs.Requests.{trust_request_of}
@@ -43,6 +46,7 @@ use Rattle.agent_origin.specs.declared.refusal.Refusal.TheVariants.{Agent}
 use Rattle.agent_origin.specs.declared.request.TrustPurpose.{TrustPurpose}
 use Rattle.agent_origin.specs.declared.request.TrustRequest.{TrustRequest}
 use Rattle.agent_origin.specs.declared.request.TrustRequest.TheVariants.{IsTrusted, MarkTrusted, Bad}
+use Rattle.agent_origin.proofs.EachLine.{shown_so, each_request}
 use Rattle.agent_origin.proofs.OuterTrust.{IsOuterTrust, trust_outer}
 
 -- ---- the files that replaced others
@@ -62,14 +66,19 @@ files_then (event ∷ more) second = ap (λ (f : List (List ℕ)). file_by event
 none_then : (first second : List Event) → files first ≡ [] → files second ≡ [] → files (first ++ second) ≡ []
 none_then first second none none_too = files_then first second ∙ ap (λ (f : List (List ℕ)). f ++ files second) none ∙ none_too
 
-session_none : (events : List (SessionEvent FurtherEvent)) → files (in_session events) ≡ []
-session_none [] = refl
-session_none (Received took ∷ more) = session_none more
-session_none (Sent text ∷ more) = session_none more
-session_none (Cut text ∷ more) = session_none more
-session_none (Inquiry word params limit inquired ∷ more) = session_none more
-session_none (CacheTurn taken ∷ more) = session_none more
-session_none (Further what ∷ more) = session_none more
+-- events by which the trust file isn't called
+untrusting_none : (events : List Event) → AllByRecursion IsBesideTrust events → files events ≡ []
+untrusting_none [] each = refl
+untrusting_none (Received took ∷ more) each = absurd each.0
+untrusting_none (Sent text ∷ more) each = untrusting_none more each.1
+untrusting_none (Cut text ∷ more) each = untrusting_none more each.1
+untrusting_none (Inquiry word params limit inquired ∷ more) each = untrusting_none more each.1
+untrusting_none (CacheTurn taken ∷ more) each = untrusting_none more each.1
+untrusting_none (Further (Prompt event) ∷ more) each = untrusting_none more each.1
+untrusting_none (Further (Keys call) ∷ more) each = untrusting_none more each.1
+untrusting_none (Further (Dice draw) ∷ more) each = untrusting_none more each.1
+untrusting_none (Further NoMemory ∷ more) each = untrusting_none more each.1
+untrusting_none (Further (Trust call) ∷ more) each = absurd each.0
 
 both_none : (first second : List (List ℕ)) → first ++ second ≡ [] → (first ≡ []) × (second ≡ [])
 both_none [] second none = (refl, none)
@@ -83,7 +92,7 @@ some_file (event ∷ front) file back none = some_file front file back (both_non
 one_place : (front back other more : List Event) (file that : List ℕ) → files front ≡ [] → files back ≡ [] → front ++ replaced file ∷ back ≡ other ++ replaced that ∷ more
     → (other ≡ front) × (that ≡ file) × (more ≡ back)
 one_place [] back [] more file that none none_too is =
-    let same : called (Replaced file Done) ≡ called (Replaced that Done) = cc is in
+    let same : trust_called (Replaced file Done) ≡ trust_called (Replaced that Done) = cc is in
     let rest : back ≡ more = cc is in
     (refl, cc same, sym rest)
 one_place [] back (event ∷ other) more file that none none_too is =
@@ -101,8 +110,8 @@ one_place (event ∷ front) back (first ∷ other) more file that none none_too 
 -- ---- MARKTRUSTED
 
 agrees_none : {rules : Rules} {options : OptionValues} {question : List ℕ} (events : List Event) (result : Result (Unit {0}) Refusal) → Agrees rules options question events result → files events ≡ []
-agrees_none events result (consents spec is (prompts {shown} asks in_it)) = session_none shown
-agrees_none events result (refused spec is (prompts {shown} asks in_it) why) = session_none shown
+agrees_none events result (consents spec is (prompts {shown} asks in_it)) = untrusting_none shown (shown_so IsBesideTrust (λ event is. is) in_it)
+agrees_none events result (refused spec is (prompts {shown} asks in_it) why) = untrusting_none shown (shown_so IsBesideTrust (λ event is. is) in_it)
 
 module _ (fingerprint : Grip) (purpose : TrustPurpose) where
   abbrev new_file : List ℕ → List ℕ
@@ -122,17 +131,17 @@ module _ (fingerprint : Grip) (purpose : TrustPurpose) where
     pub old : List ℕ
     pub old_is : file_in read ≡ Some old
     pub unsaid : trust old fingerprint.0 ≡ None
-    pub whole : events ≡ called (Read read) ∷ replaced (new_file old) ∷ []
+    pub whole : events ≡ trust_called (Read read) ∷ replaced (new_file old) ∷ []
     pub fits : length (new_file old) ≤ MAX_TRUST_FILE_LEN
 
   unsaid_so : (answer : TrustRead) (file : List ℕ) → file_in answer ≡ Some file → (said : Option Bool) → trust file fingerprint.0 ≡ said → (events : List Event) (result : Result (Unit {0}) Refusal)
-      → unless_said said (Stores fingerprint purpose file) events result → (files events ≡ []) ⊎ Rewrites (called (Read answer) ∷ events)
+      → unless_said said (Stores fingerprint purpose file) events result → (files events ≡ []) ⊎ Rewrites (trust_called (Read answer) ∷ events)
   unsaid_so answer file is (Some true) says events result returns = inl refl
   unsaid_so answer file is (Some false) says events result refuses = inl refl
   unsaid_so answer file is None says events result stores =
       elim (stores_by file events result stores) [
         | inl none ↦ inl none
-        | inr by ↦ inr (record { read = answer; old = file; old_is = is; unsaid = says; whole = ap (λ (e : List Event). called (Read answer) ∷ e) by.0; fits = by.1 })
+        | inr by ↦ inr (record { read = answer; old = file; old_is = is; unsaid = says; whole = ap (λ (e : List Event). trust_called (Read answer) ∷ e) by.0; fits = by.1 })
       ]
 
   unsaid_by : (events : List Event) (result : Result (Unit {0}) Refusal) → StoresUnsaid fingerprint purpose events result → (files events ≡ []) ⊎ Rewrites events
@@ -183,10 +192,10 @@ module _ (fingerprint : Grip) (purpose : TrustPurpose) where
       pub early : TrustRead
       pub asked : List Event
       pub under : Under asked
-      pub whole : events ≡ called (Read early) ∷ asked
+      pub whole : events ≡ trust_called (Read early) ∷ asked
 
     marked_so : (answer : TrustRead) (said : Option Bool) (events : List Event) (result : Result (Unit {0}) Refusal) → unless_said said (asked_in rules options fingerprint purpose name options.mode) events result
-        → (files events ≡ []) ⊎ Marks (called (Read answer) ∷ events)
+        → (files events ≡ []) ⊎ Marks (trust_called (Read answer) ∷ events)
     marked_so answer (Some true) events result returns = inl refl
     marked_so answer (Some false) events result refuses = inl refl
     marked_so answer None events result asks =
@@ -229,20 +238,20 @@ module _ (rules : Rules) (options : OptionValues) where
       let new : List ℕ = with_entry rewrites.old fingerprint.0 (flag_of purpose) in
       let seat : Event = cache_turn (Seat None None) (Open under.ticket) in
       let close : Event = cache_turn (Close under.ticket None) under.turn in
-      let its : events ≡ called (Read marks.early) ∷ seat ∷ ((by.first ++ (by.second ++ called (Read rewrites.read) ∷ replaced new ∷ [])) ++ close ∷ []) =
+      let its : events ≡ trust_called (Read marks.early) ∷ seat ∷ ((by.first ++ (by.second ++ trust_called (Read rewrites.read) ∷ replaced new ∷ [])) ++ close ∷ []) =
       marks.whole
-      ∙ ap (λ (e : List Event). called (Read marks.early) ∷ e)
+      ∙ ap (λ (e : List Event). trust_called (Read marks.early) ∷ e)
       (under.whole ∙ ap (λ (c : List Event). seat ∷ (c ++ close ∷ [])) (by.whole ∙ ap (λ (r : List Event). by.first ++ (by.second ++ r)) rewrites.whole)) in
       record {
-        before = called (Read marks.early) ∷ seat ∷ (by.first ++ (by.second ++ called (Read rewrites.read) ∷ []));
+        before = trust_called (Read marks.early) ∷ seat ∷ (by.first ++ (by.second ++ trust_called (Read rewrites.read) ∷ []));
         file = new;
         after = close ∷ tail;
         whole =
             ap (λ (e : List Event). e ++ tail) its
-            ∙ ap (λ (e : List Event). called (Read marks.early) ∷ seat ∷ e) (laid_out by.first by.second (called (Read rewrites.read)) (replaced new) close tail);
+            ∙ ap (λ (e : List Event). trust_called (Read marks.early) ∷ seat ∷ e) (laid_out by.first by.second (trust_called (Read rewrites.read)) (replaced new) close tail);
         none =
-            none_then by.first (by.second ++ called (Read rewrites.read) ∷ []) (agrees_none by.first _ by.trusts)
-            (none_then by.second (called (Read rewrites.read) ∷ []) (agrees_none by.second _ by.is_right) refl);
+            none_then by.first (by.second ++ trust_called (Read rewrites.read) ∷ []) (agrees_none by.first _ by.trusts)
+            (none_then by.second (trust_called (Read rewrites.read) ∷ []) (agrees_none by.second _ by.is_right) refl);
         none_too = none;
         consents = record {
           fingerprint = fingerprint;
@@ -320,7 +329,7 @@ line_by door rules {prior} {after} line {events} (is_allowed may exchanged) = al
           | inl none ↦ inl none
           | inr placed ↦ inr (placed, at_home door line may placed)
         ]
-    allowed_by (any {events} exchanged) = inl (session_none events)
+    allowed_by (any {events} exchanged) = inl (untrusting_none events (each_request IsBesideTrust (λ event is. is) (request_of line) exchanged))
 
 -- at the place where a file became another's successor
 placed_there : {rules : Rules} {options : OptionValues} {request : TrustRequest} {events : List Event} (before : List Event) (file : List ℕ) (after : List Event) → events ≡ before ++ replaced file ∷ after

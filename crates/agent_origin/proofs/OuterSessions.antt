@@ -1,38 +1,25 @@
 -- Whole sessions at the outer door, and what they do to the cache.
 use Rattle.std.proofs.Common.{◌≡◌, ℕ, true, List, [], ◌∷◌, ◌++◌, refl, ap, sym, ◌∙◌, subst}
-use Rattle.agent_ask.specs.Further.{FurtherEvent}
-use Rattle.agent_ask.specs.SessionEvents.{AnyEvent, Received, Sent, Cut, Inquiry, CacheTurn, Further, turns_in, CutAtLast}
-use Rattle.agent_commands.specs.Events.{Event as SessionEvent}
+use Rattle.agent_ask.specs.SessionEvents.{AnyEvent, Sent, Cut, turns_in, CutAtLast}
 use Rattle.agent_commands.specs.Exchanges.{Exchange}
 use Rattle.agent_commands.specs.Requests.{request_of}
 use Rattle.agent_commands.specs.Talks.{WholeOrCut, whole, cut, Talk, goes_on, over, ended, spent, read_fault, too_long, cut_too_long, Session, greeted, cut_greeting}
 use Rattle.agent_commands.specs.declared.request.Request.{Request}
 use Rattle.agent_commands.specs.declared.went.SessionEnd.{SessionEnd}
 use Rattle.agent_commands.specs.declared.went.Went.{Went}
-use Rattle.cache_policy.specs.Extending.{Taken}
+use Rattle.key_commands.specs.Events.{Event}
 use Rattle.key_commands.specs.Exchanges.{Exchange as KeyExchange}
 use Rattle.key_commands.specs.Requests.{key_request_of}
 use Rattle.session_options.specs.declared.rules.Rules.{Rules}
 use Rattle.agent_origin.specs.DoorSessions.{AllowedExchange, helped, trusts, any, DoorExchange, forbidden, is_allowed}
 use Rattle.agent_origin.specs.Doors.{allowed}
-use Rattle.agent_origin.specs.OriginEvents.{Event, events_as, in_session}
 use Rattle.agent_origin.specs.OuterTurns.{AreOuterTurns, no_turns, LeavesCache}
-use Rattle.agent_origin.specs.SessionExchanges.{RequestExchange, SessionExchange, cache, keys}
+use Rattle.agent_origin.specs.SessionExchanges.{RequestExchange, cache, keys}
 use Rattle.agent_origin.specs.declared.door.Door.TheVariants.{Outer}
 use Rattle.agent_origin.specs.declared.kept.Kept.{Kept}
 use Rattle.agent_origin.proofs.Outer.{turns_then, leaves_then, line_leaves}
 use Rattle.agent_origin.proofs.OuterKeys.{handed_line, key_leaves}
 use Rattle.agent_origin.proofs.OuterTrust.{trust_leaves}
-
--- events that are shown otherwise have the same turns
-turns_as : {T O F G : Type 0} (further : F → G) (events : List (AnyEvent T O F)) → turns_in (events_as further events) ≡ turns_in events
-turns_as further [] = refl
-turns_as further (Received took ∷ more) = turns_as further more
-turns_as further (Sent text ∷ more) = turns_as further more
-turns_as further (Cut text ∷ more) = turns_as further more
-turns_as further (Inquiry word params limit inquired ∷ more) = turns_as further more
-turns_as further (CacheTurn taken ∷ more) = ap (λ (t : List Taken). taken ∷ t) (turns_as further more)
-turns_as further (Further what ∷ more) = turns_as further more
 
 -- a cut exchange has the turns of the whole one
 cut_turns : {T O F : Type 0} {events done : List (AnyEvent T O F)} → CutAtLast events done → turns_in done ≡ turns_in events
@@ -41,22 +28,18 @@ cut_turns last =
 
 module _ (rules : Rules) where
   request_leaves : (line : List ℕ) {before after : Kept} (request : Request) → request_of line ≡ request → allowed Outer line ≡ true
-      → {events : List (SessionEvent FurtherEvent)} {went : Went} → RequestExchange rules before request events after went → LeavesCache events
+      → {events : List Event} {went : Went} → RequestExchange rules before request events after went → LeavesCache events
   request_leaves line {before} request is allows {events} {went} (cache {options} exchanged) =
       line_leaves line allows (subst (λ (r : Request). Exchange rules before.options r events options went) (sym is) exchanged)
   request_leaves line {before} request is allows {events} (keys {line = handed} {wraps} {went} exchanged) =
       key_leaves rules before.options before.wraps line allows handed is
       (subst (λ (l : List ℕ). KeyExchange rules before.options before.wraps (key_request_of l) events wraps went) (handed_line line handed is) exchanged)
 
-  session_leaves : (line : List ℕ) {before after : Kept} → allowed Outer line ≡ true → {events : List (SessionEvent FurtherEvent)} {went : Went} → SessionExchange rules before line events after went
-      → LeavesCache (in_session events)
-  session_leaves line allows {events} exchanged = subst AreOuterTurns (sym (turns_as _ events)) (request_leaves line (request_of line) refl allows exchanged)
-
   allowed_leaves : (line : List ℕ) {before after : Kept} → allowed Outer line ≡ true → {named : _} {events : List Event} {went : Went} → AllowedExchange rules before line named events after went
       → LeavesCache events
   allowed_leaves line allows helped = no_turns
   allowed_leaves line allows (trusts exchanged) = trust_leaves line allows exchanged
-  allowed_leaves line allows (any exchanged) = session_leaves line allows exchanged
+  allowed_leaves line allows (any exchanged) = request_leaves line (request_of line) refl allows exchanged
 
   exchange_leaves : {line : List ℕ} {before after : Kept} {events : List Event} {went : Went} → DoorExchange Outer rules before line events after went → LeavesCache events
   exchange_leaves (forbidden not_allowed) = no_turns

@@ -9,6 +9,7 @@ use Rattle.agent_ports.specs.declared.grip.Grip.{Grip}
 use Rattle.assuan_server.specs.declared.errors.Code.{Code}
 use Rattle.assuan_server.specs.declared.errors.Code.TheVariants as code
 use Rattle.assuan_text.specs.Words.{command_of}
+use Rattle.key_commands.specs.Events.{Event}
 use Rattle.key_commands.specs.Requests.{◌>>=◌}
 use Rattle.session_options.specs.OptionValues.{OptionValues}
 use Rattle.session_options.specs.declared.rules.Rules.{Rules}
@@ -16,7 +17,6 @@ use Rattle.trust_list.specs.Trust.{trust}
 use Rattle.agent_origin.specs.Doors.{rules, rule_named, passes_by, allowed}
 use Rattle.agent_origin.specs.Exchanges.{TrustExchange, answered, refused, Carried, TrustedNow, unless_said}
 use Rattle.agent_origin.specs.Names.{command_named}
-use Rattle.agent_origin.specs.OriginEvents.{Event}
 use Rattle.agent_origin.specs.OuterTurns.{no_turns, LeavesCache}
 use Rattle.agent_origin.specs.Parts.{goes_on, stops, returns, Refuses, refuses, has_read, faulted, no_memory, refusal_line}
 use Rattle.agent_origin.specs.Requests.{either, request_by, trust_request_of}

@@ -7,7 +7,7 @@ use Rattle.agent_ask.specs.Clients.{Hears, LeftByHeard, LeftByConsent}
 use Rattle.agent_ask.specs.Consents.{AsksConsent}
 use Rattle.agent_ask.specs.Doing.{PromptEnds, DoesPrompt}
 use Rattle.agent_ask.specs.Events.{Call, PromptEvent}
-use Rattle.agent_ask.specs.Further.{FurtherEvent, DoesFurther, prompt as does_prompt, further_world}
+use Rattle.agent_ask.specs.Further.{DoesFurther, prompt as does_prompt}
 use Rattle.agent_ask.specs.Plans.{IsSpec}
 use Rattle.agent_ask.specs.UnderTickets.{AnyInSession}
 use Rattle.agent_ask.specs.declared.caller.Heard.{Heard}
@@ -16,7 +16,6 @@ use Rattle.agent_ask.specs.declared.consent.Agreed.{Agreed}
 use Rattle.agent_ask.specs.declared.consent.Agreed.TheVariants as agreed
 use Rattle.agent_ask.specs.declared.spec.PromptSpec.{PromptSpec}
 use Rattle.agent_ask.proofs.Prompting.{shown}
-use Rattle.agent_commands.specs.Events.{Event as SessionEvent}
 use Rattle.agent_commands.specs.States.{ReaderAfter, FaultsRise}
 use Rattle.assuan_line.specs.Next.{held}
 use Rattle.assuan_server.specs.Clients.{session_lines, connection_views, Wishes}
@@ -28,14 +27,13 @@ use Rattle.session_client.specs.declared.unheard.Unheard.{Unheard}
 use Rattle.session_client.specs.declared.unheard.Unheard.TheVariants as unheard
 use Rattle.session_options.specs.OptionValues.{OptionValues}
 use Rattle.session_options.specs.declared.rules.Rules.{Rules}
+use Rattle.key_commands.specs.Events.{Event}
 use Rattle.key_commands.specs.Partial.{NoTurn}
-use Rattle.agent_origin.specs.OriginEvents.{Session, in_session}
-use Rattle.agent_origin.specs.Origins.{session, origin_world, OriginState, origin_state}
+use Rattle.agent_origin.specs.FurtherStates.{further_ends, FurtherWorld, FurtherState, further_state}
 use Rattle.agent_origin.specs.Parts.{Part, prompts, Agrees, consents, refused, text, refusal_went}
 use Rattle.agent_origin.specs.States.{went_by, DoesAtPrompter, IsAgreed, IsConsented}
 use Rattle.agent_origin.specs.declared.refusal.Refusal.{Refusal}
 use Rattle.agent_origin.specs.declared.refusal.Refusal.TheVariants.{Agent, Pinentry, Client}
-use Rattle.agent_origin.proofs.Mapped.{done_as}
 
 -- how the connection is left by a part that came to this: open, but where the client is gone
 abbrev pub IsLeft : Result (Unit {0}) Refusal → Connection → Connection → Type 0
@@ -60,8 +58,8 @@ module _ (start now : Connection) (fewer : IsOpen now → held now.reader ≤ he
   reader_left (Err (Client why)) left = reader_unheard why left
 
 -- a fault of the link was told only where its count rose
-module _ {P : Type 0} (prompted : P → Call → P → Type 0) (start now : OriginState NoTurn prompted) where
-  faults_unheard : (why : Unheard) → LeftBy connection_views {A = List ℕ} (Err why) start.conn now.conn → FaultsRise {w = origin_world NoTurn prompted} (refusal_went (Client why)) start now
+module _ {P : Type 0} (prompted : P → Call → P → Type 0) (start now : FurtherState NoTurn prompted) where
+  faults_unheard : (why : Unheard) → LeftBy connection_views {A = List ℕ} (Err why) start.conn now.conn → FaultsRise {w = FurtherWorld NoTurn prompted} (refusal_went (Client why)) start now
   faults_unheard unheard.Cancelled left = record { read = λ e. absurd (cc e); write = λ e. absurd (cc e) }
   faults_unheard unheard.TooMuch left = record { read = λ e. absurd (cc e); write = λ e. absurd (cc e) }
   faults_unheard unheard.Unexpected left = record { read = λ e. absurd (cc e); write = λ e. absurd (cc e) }
@@ -71,7 +69,7 @@ module _ {P : Type 0} (prompted : P → Call → P → Type 0) (start now : Orig
   faults_unheard (unheard.Gone gone.ReadFault) left = record { read = λ e. left.read_fault refl; write = λ e. absurd (cc e) }
   faults_unheard (unheard.Gone gone.WriteFault) left = record { read = λ e. absurd (cc e); write = λ e. left.write_fault refl }
 
-  faults_left : (result : Result (Unit {0}) Refusal) → IsLeft result start.conn now.conn → FaultsRise {w = origin_world NoTurn prompted} (went_by result) start now
+  faults_left : (result : Result (Unit {0}) Refusal) → IsLeft result start.conn now.conn → FaultsRise {w = FurtherWorld NoTurn prompted} (went_by result) start now
   faults_left (Ok value) left = record { read = λ e. absurd (cc e); write = λ e. absurd (cc e) }
   faults_left (Err (Agent code)) left = record { read = λ e. absurd (cc e); write = λ e. absurd (cc e) }
   faults_left (Err (Pinentry code)) left = record { read = λ e. absurd (cc e); write = λ e. absurd (cc e) }
@@ -80,19 +78,17 @@ module _ {P : Type 0} (prompted : P → Call → P → Type 0) (start now : Orig
 -- A prompt was shown, and the session shows its events: a part that these are was done, and left the connection so.
 pub part_prompted : {P : Type 0} {prompted : P → Call → P → Type 0} {part : Part (Unit {0})} {result : Result (Unit {0}) Refusal} {start now : PromptEnds P Connection} {prompt : List PromptEvent}
     → Leads (DoesPrompt prompted (Hears connection_views Wishes)) start prompt now
-    → ((events : List (SessionEvent FurtherEvent)) → AnyInSession session_lines prompt events → part (in_session events) result)
+    → ((events : List Event) → AnyInSession session_lines prompt events → part events result)
     → IsLeft result start.caller now.caller → DoesAtPrompter prompted part start.caller start.prompter result now.caller now.prompter
 part_prompted {prompted} {result} {start} {now} leads does left trust_file keys dice =
-    let s = shown connection_views NoTurn prompted (DoesFurther prompted) (λ prompter. record { prompter = prompter; keys = keys; dice = dice }) (λ before after event called. does_prompt called) tt leads in
+    let s = shown connection_views NoTurn prompted (DoesFurther prompted) (λ prompter. further_ends prompter keys dice trust_file) (λ before after event called. does_prompt called) tt leads in
     record {
-      events = in_session s.events;
+      events = s.events;
       does = does s.events s.in_session;
-      done =
-          done_as (further_world NoTurn prompted) (origin_world NoTurn prompted) (λ none. none) (λ ends. record { further = ends; trust = trust_file }) Session (λ before after step turn does. does)
-          (λ before after what does. session does) s.done;
+      done = s.done;
       fits = reader_left start.caller now.caller s.fewer result left;
       faults =
-          faults_left prompted (origin_state NoTurn prompted start.caller tt start.prompter keys dice trust_file) (origin_state NoTurn prompted now.caller tt now.prompter keys dice trust_file) result
+          faults_left prompted (further_state NoTurn prompted start.caller tt start.prompter keys dice trust_file) (further_state NoTurn prompted now.caller tt now.prompter keys dice trust_file) result
           left;
     }
 
@@ -128,9 +124,9 @@ module _ (start now : Connection) where
   left_going answer result is left on = subst (λ (r : Result (Unit {0}) Refusal). IsLeft r start now) on (left_by_consent answer result is left)
 
 -- a prompt for consent, and how the request goes on
-module _ {rules : Rules} {options : OptionValues} {question : List ℕ} {prompt : List PromptEvent} {events : List (SessionEvent FurtherEvent)} where
+module _ {rules : Rules} {options : OptionValues} {question : List ℕ} {prompt : List PromptEvent} {events : List Event} where
   pub agrees : (answer : Agreed) (result : Result (Unit {0}) Refusal) (spec : PromptSpec) → IsSpec rules options (text question) (text []) false spec
-      → AsksConsent spec options.notify prompt answer → AnyInSession session_lines prompt events → IsConsented answer result → Agrees rules options question (in_session events) result
+      → AsksConsent spec options.notify prompt answer → AnyInSession session_lines prompt events → IsConsented answer result → Agrees rules options question (events) result
   agrees answer (Ok agreed) spec is asks in_session is_yes = consents spec is (prompts (subst (λ (a : Agreed). AsksConsent spec options.notify prompt a) is_yes asks) in_session)
   agrees answer (Err why) spec is asks in_session why_is = refused spec is (prompts asks in_session) why_is
 

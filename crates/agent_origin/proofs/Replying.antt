@@ -2,6 +2,7 @@
 use Rattle.std.proofs.Common.{ℕ, List, [], ◌∷◌, ◌++◌, Option, Some, None, Result, Ok, Err, refl, ap, sym, subst, arith}
 use Rattle.agent_ask.specs.Events.{Call}
 use Rattle.agent_ask.specs.Failing.{said_last}
+use Rattle.agent_ask.specs.Further.{FurtherEnds}
 use Rattle.agent_ask.specs.SessionEvents.{Sent, Cut}
 use Rattle.agent_ask.proofs.Doing.{done_none, done_then, done_said, done_cut}
 use Rattle.agent_commands.specs.Answers.{ok}
@@ -18,34 +19,34 @@ use Rattle.assuan_server.specs.Written.{WritesText}
 use Rattle.assuan_server.proofs.Clients.{said_so}
 use Rattle.cache_policy.specs.declared.mark.MarkStep.{MarkStep}
 use Rattle.cache_policy.specs.Turns.{Turn}
+use Rattle.key_commands.specs.Events.{Event}
 use Rattle.session_options.specs.OptionValues.{OptionValues}
 use Rattle.session_options.specs.declared.rules.Rules.{Rules}
 use Rattle.agent_origin.specs.Exchanges.{Carried, TrustExchange, answered, refused as is_refused}
-use Rattle.agent_origin.specs.OriginEvents.{Event}
-use Rattle.agent_origin.specs.Origins.{OriginEnds, origin_world, OriginState}
+use Rattle.agent_origin.specs.FurtherStates.{FurtherWorld, FurtherState}
 use Rattle.agent_origin.specs.Parts.{refusal_line, refusal_went}
 use Rattle.agent_origin.specs.States.{DoesPart, WritesLine, went_unless_cut, RespondsTo, carried, refused}
 use Rattle.agent_origin.specs.declared.refusal.Refusal.{Refusal}
 use Rattle.agent_origin.specs.declared.request.TrustRequest.{TrustRequest}
 
 module _ {D P : Type 0} (turned : D → MarkStep → Turn → D → Type 0) (prompted : P → Call → P → Type 0) (rules : Rules) (options : OptionValues) (request : TrustRequest)
-    (start : OriginState turned prompted) (mid : Connection) (desk : D) (ends : OriginEnds P) where
-  abbrev at_conn : Connection → OriginState turned prompted
+    (start : FurtherState turned prompted) (mid : Connection) (desk : D) (ends : FurtherEnds P) where
+  abbrev at_conn : Connection → FurtherState turned prompted
   at_conn conn = record { conn = conn; desk = desk; ends = ends }
 
   abbrev Answers : Went → Connection → Type 0
   Answers went now =
-      AnswersRequest {w = origin_world turned prompted} {S = Unit {0}} (λ before events after went. TrustExchange rules options request events went) tt start went tt (at_conn now)
+      AnswersRequest {w = FurtherWorld turned prompted} {S = Unit {0}} (λ before events after went. TrustExchange rules options request events went) tt start went tt (at_conn now)
 
   -- all was done for a request but to write a line, where there is one
-  module _ (went : Went) (first : List Event) (done : EventsLead {w = origin_world turned prompted} first start (at_conn mid)) (fits : ReaderAfter went start.conn.reader mid.reader)
-      (faults : FaultsRise {w = origin_world turned prompted} went start (at_conn mid)) where
+  module _ (went : Went) (first : List Event) (done : EventsLead {w = FurtherWorld turned prompted} first start (at_conn mid)) (fits : ReaderAfter went start.conn.reader mid.reader)
+      (faults : FaultsRise {w = FurtherWorld turned prompted} went start (at_conn mid)) where
     text_written : (text : List ℕ) → TrustExchange rules options request (first ++ Sent text ∷ []) went → (written : Result (Unit {0}) WriteFault) (now : Connection) → WritesText text mid written now
         → Answers (went_unless_cut went written) now
     text_written text is (Ok tt) now said = record {
       events = first ++ Sent text ∷ [];
       exchanges = whole is;
-      done = done_then done (done_said {w = origin_world turned prompted} desk ends (said_so said));
+      done = done_then done (done_said {w = FurtherWorld turned prompted} desk ends (said_so said));
       fits = subst (λ (r : Reader). ReaderAfter went start.conn.reader r) (sym said.reader) fits;
       faults = record {
         read = λ e. omega (arith, faults.read e, ap (λ (s : Side). s.faults) said.input);
@@ -57,7 +58,7 @@ module _ {D P : Type 0} (turned : D → MarkStep → Turn → D → Type 0) (pro
         record {
           events = first ++ Cut stops.sent ∷ [];
           exchanges = cut is (record { before = first; sent = stops.sent; unsent = stops.unsent; whole = ap (λ (t : List ℕ). first ++ Sent t ∷ []) stops.split; done_is = refl });
-          done = done_then done (done_cut {w = origin_world turned prompted} desk ends fault (said_so said));
+          done = done_then done (done_cut {w = FurtherWorld turned prompted} desk ends fault (said_so said));
           fits = tt;
           faults = record { read = λ e. absurd (cc e); write = λ e. omega (arith, done.output_faults, stops.rose) };
         }

@@ -17,7 +17,7 @@ use Rattle.session_options.specs.declared.options.PinMode.TheVariants as mode
 use Rattle.trust_list.specs.Trust.{trust, with_entry}
 use Rattle.trust_list.specs.declared.TheConstants.{MAX_TRUST_FILE_LEN}
 use Rattle.agent_origin.specs.Exchanges.{flag_of, trust_question, fingerprint_question, unless_said, TrustedNow, Stores, StoresUnsaid, Consented, asked_in, Marked}
-use Rattle.agent_origin.specs.Origins.{OriginState, origin_state}
+use Rattle.agent_origin.specs.FurtherStates.{further_ends, FurtherState, further_state}
 use Rattle.agent_origin.specs.Parts.{Part, ◌>>=◌, returns, Refuses, refuses, Seats, Agrees, ReadsFile, added, too_long, no_memory, Replaces}
 use Rattle.agent_origin.specs.States.{DoesPart, DoesTrustCalls, DoesTurn, LeavesDesk, LeavesKeys}
 use Rattle.agent_origin.specs.declared.refusal.Refusal.{Refusal}
@@ -112,18 +112,18 @@ module _ (fingerprint : Grip) (purpose : TrustPurpose) where
 
 module _ (rules : Rules) (options : OptionValues) (fingerprint : Grip) (purpose : TrustPurpose) (name : List ℕ) {D P : Type 0} (turned : D → MarkStep → Turn → D → Type 0)
     (prompted : P → Call → P → Type 0) where
-  pub first_refused : {start now : OriginState turned prompted} {why : Refusal} → DoesPart turned prompted (Agrees rules options (trust_question name)) start (Err why) now
+  pub first_refused : {start now : FurtherState turned prompted} {why : Refusal} → DoesPart turned prompted (Agrees rules options (trust_question name)) start (Err why) now
       → DoesPart turned prompted (Consented rules options fingerprint purpose name) start (Err why) now
   unfolding Consented
   first_refused first = part_stops turned prompted first
 
-  module _ {start mid : OriginState turned prompted} (first : DoesPart turned prompted (Agrees rules options (trust_question name)) start (Ok tt) mid) where
-    pub second_refused : {now : OriginState turned prompted} {why : Refusal} → DoesPart turned prompted (Agrees rules options (fingerprint_question fingerprint name)) mid (Err why) now
+  module _ {start mid : FurtherState turned prompted} (first : DoesPart turned prompted (Agrees rules options (trust_question name)) start (Ok tt) mid) where
+    pub second_refused : {now : FurtherState turned prompted} {why : Refusal} → DoesPart turned prompted (Agrees rules options (fingerprint_question fingerprint name)) mid (Err why) now
         → DoesPart turned prompted (Consented rules options fingerprint purpose name) start (Err why) now
     unfolding Consented
     second_refused second = part_then turned prompted first (part_stops turned prompted second)
 
-    pub both_given : {between now : OriginState turned prompted} {result : Result (Unit {0}) Refusal}
+    pub both_given : {between now : FurtherState turned prompted} {result : Result (Unit {0}) Refusal}
         → DoesPart turned prompted (Agrees rules options (fingerprint_question fingerprint name)) mid (Ok tt) between → DoesPart turned prompted (StoresUnsaid fingerprint purpose) between result now
         → DoesPart turned prompted (Consented rules options fingerprint purpose name) start result now
     unfolding Consented
@@ -135,13 +135,13 @@ module _ (rules : Rules) (options : OptionValues) (fingerprint : Grip) (purpose 
   module _ (conn : Connection) (prompter : P) (trust_file : TrustState) (going : IsOpen conn) where
     pub no_prompt : (desk : D) (why : Code) → Asked [] (Err (Agent why)) → LeavesKeys turned prompted Asked conn desk prompter trust_file (Err (Agent why)) conn desk prompter trust_file
     no_prompt desk why is keys dice =
-        part_still turned prompted conn (record { further = record { prompter = prompter; keys = keys; dice = dice }; trust = trust_file }) desk going refl is
+        part_still turned prompted conn (further_ends prompter keys dice trust_file) desk going refl is
 
     module _ {desk : D} (wants : options.mode ≡ mode.Ask) where
       pub no_seat : {now : D} {why : Refusal} → DoesTurn turned Seats desk (Err why) now → LeavesKeys turned prompted Asked conn desk prompter trust_file (Err why) conn now prompter trust_file
       no_seat turn keys dice =
           rw wants
-          (part_stops turned prompted (part_turned turned prompted conn (record { further = record { prompter = prompter; keys = keys; dice = dice }; trust = trust_file }) going turn))
+          (part_stops turned prompted (part_turned turned prompted conn (further_ends prompter keys dice trust_file) going turn))
 
       pub seat_given_back : {ticket : ℕ} {mid now : D} {result : Result (Unit {0}) Refusal} {conn_now : Connection} {prompter_now : P} {trust_now : TrustState} → DoesTurn turned Seats desk (Ok ticket) mid
           → LeavesDesk prompted (Consented rules options fingerprint purpose name) conn prompter trust_file result conn_now prompter_now trust_now
@@ -150,8 +150,8 @@ module _ (rules : Rules) (options : OptionValues) (fingerprint : Grip) (purpose 
       seat_given_back {ticket} {mid} {now} {result} {conn_now} {prompter_now} {trust_now} seats consented closes =
           subst (λ (m : PinMode). LeavesKeys turned prompted (asked_in rules options fingerprint purpose name m) conn desk prompter trust_file result conn_now now prompter_now trust_now) (sym wants)
           (λ keys dice.
-          part_then turned prompted (part_turned turned prompted conn (record { further = record { prompter = prompter; keys = keys; dice = dice }; trust = trust_file }) going seats)
-          (part_given_back turned prompted conn_now (record { further = record { prompter = prompter_now; keys = keys; dice = dice }; trust = trust_now }) ticket closes.0 closes.1
+          part_then turned prompted (part_turned turned prompted conn (further_ends prompter keys dice trust_file) going seats)
+          (part_given_back turned prompted conn_now (further_ends prompter_now keys dice trust_now) ticket closes.0 closes.1
           (beside_desk turned prompted mid (consented keys dice))))
 
     abbrev MarkedSo : D → Result (Unit {0}) Refusal → Connection → D → P → TrustState → Type 0
@@ -160,7 +160,7 @@ module _ (rules : Rules) (options : OptionValues) (fingerprint : Grip) (purpose 
 
     pub marked_alone : {result : Result (Unit {0}) Refusal} {now : TrustState} (desk : D) → DoesTrustCalls (Marked rules options fingerprint purpose name) trust_file result now
         → MarkedSo desk result conn desk prompter now
-    marked_alone desk calls keys dice = part_called turned prompted conn desk (record { prompter = prompter; keys = keys; dice = dice }) going calls
+    marked_alone desk calls keys dice = part_called turned prompted conn desk prompter keys dice going calls
 
     pub marked_unread : {why : Refusal} {now : TrustState} (desk : D) → DoesTrustCalls ReadsFile trust_file (Err why) now → MarkedSo desk (Err why) conn desk prompter now
     unfolding Marked
@@ -179,7 +179,7 @@ module _ (rules : Rules) (options : OptionValues) (fingerprint : Grip) (purpose 
           → LeavesKeys turned prompted Asked conn desk prompter mid result conn_now desk_now prompter_now now → MarkedSo desk result conn_now desk_now prompter_now now
       unfolding Marked
       marked_asked {result} {desk} {desk_now} {conn_now} {prompter_now} {now} is asks keys dice =
-          let from : OriginState turned prompted = origin_state turned prompted conn desk prompter keys dice mid in
-          let to : OriginState turned prompted = origin_state turned prompted conn_now desk_now prompter_now keys dice now in
-          part_then turned prompted (part_called turned prompted conn desk (record { prompter = prompter; keys = keys; dice = dice }) going read)
+          let from : FurtherState turned prompted = further_state turned prompted conn desk prompter keys dice mid in
+          let to : FurtherState turned prompted = further_state turned prompted conn_now desk_now prompter_now keys dice now in
+          part_then turned prompted (part_called turned prompted conn desk prompter keys dice going read)
           (subst (λ (s : Option Bool). DoesPart turned prompted (unless_said s Asked) from result to) (sym is) (asks keys dice))

@@ -9,6 +9,7 @@ use Rattle.agent_ask.specs.Further.{Prompt}
 use Rattle.agent_ask.specs.Plans.{IsSpec}
 use Rattle.agent_ask.specs.Prompts.{quiet}
 use Rattle.agent_ask.specs.SessionEvents.{Sent, Further, cache_turn}
+use Rattle.agent_ask.specs.TrustCalls.{Read, Replaced}
 use Rattle.agent_ask.specs.UnderTickets.{none, called as shown}
 use Rattle.agent_ask.specs.declared.prompter.Consent.{Consent}
 use Rattle.agent_ask.specs.declared.prompter.Consent.TheVariants.{Yes, No}
@@ -22,13 +23,13 @@ use Rattle.agent_ports.specs.declared.trust.TrustRead.{TrustRead}
 use Rattle.agent_ports.specs.declared.trust.TrustRead.TheVariants.{Absent, Failed}
 use Rattle.cache_policy.specs.declared.mark.MarkStep.TheVariants.{Seat, Close}
 use Rattle.cache_policy.specs.Turns.{Open, Done}
+use Rattle.key_commands.specs.Events.{Event}
 use Rattle.session_options.specs.OptionValues.{OptionValues}
 use Rattle.session_options.specs.declared.options.PinMode.TheVariants as mode
 use Rattle.session_options.specs.declared.rules.Rules.{Rules}
 use Rattle.trust_list.specs.Trust.{with_entry}
 use Rattle.agent_origin.specs.Exchanges.{trust_question, fingerprint_question, TrustExchange, answered, refused, TrustedNow, Stores, StoresUnsaid, Consented, Marked}
-use Rattle.agent_origin.specs.OriginEvents.{Event, Read, Replaced, Session, called}
-use Rattle.agent_origin.specs.Parts.{goes_on, stops, returns, refuses, opened, given_back, consents, refused as dissents, prompts, text, has_read, faulted, added, replaced, file_in}
+use Rattle.agent_origin.specs.Parts.{goes_on, stops, returns, refuses, opened, given_back, consents, refused as dissents, prompts, text, has_read, faulted, added, replaced, file_in, trust_called}
 use Rattle.agent_origin.specs.declared.refusal.Refusal.TheVariants.{Agent, Pinentry}
 use Rattle.agent_origin.specs.declared.request.TrustPurpose.TheVariants.{X509}
 use Rattle.agent_origin.specs.declared.request.TrustRequest.{TrustRequest}
@@ -72,7 +73,7 @@ new_file = refl
 -- one prompt that says this, and is answered so
 abbrev prompt : PromptSpec → Consent → List Event
 prompt spec consent =
-    Further (Session (Prompt (Called (Start spec (Pid 7))))) ∷ Further (Session (Prompt (Called (Confirm consent)))) ∷ Further (Session (Prompt (Called Shut))) ∷ []
+    Further (Prompt (Called (Start spec (Pid 7)))) ∷ Further (Prompt (Called (Confirm consent))) ∷ Further (Prompt (Called Shut)) ∷ []
 
 asks : (spec : PromptSpec) (notify : Bool) → notify ≡ false → (consent : Consent)
     → AsksConsent spec notify (Called (Start spec (Pid 7)) ∷ Called (Confirm consent) ∷ Called Shut ∷ []) (agreed_of consent)
@@ -80,18 +81,18 @@ asks spec notify is consent = record { before = Called (Start spec (Pid 7)) ∷ 
 
 module _ (rules : Rules) (values : OptionValues) where
   -- there is no file
-  nothing_trusted : TrustExchange rules values (IsTrusted certificate) (called (Read Absent) ∷ Sent (failed NotTrusted) ∷ []) On
+  nothing_trusted : TrustExchange rules values (IsTrusted certificate) (trust_called (Read Absent) ∷ Sent (failed NotTrusted) ∷ []) On
   unfolding TrustedNow encode_with
-  nothing_trusted = refused (called (Read Absent) ∷ []) (Agent NotTrusted) (goes_on (has_read refl) refuses)
+  nothing_trusted = refused (trust_called (Read Absent) ∷ []) (Agent NotTrusted) (goes_on (has_read refl) refuses)
 
   -- there is one
-  trusted : (answer : TrustRead) → file_in answer ≡ Some file → TrustExchange rules values (IsTrusted certificate) (called (Read answer) ∷ Sent ok ∷ []) On
+  trusted : (answer : TrustRead) → file_in answer ≡ Some file → TrustExchange rules values (IsTrusted certificate) (trust_called (Read answer) ∷ Sent ok ∷ []) On
   unfolding TrustedNow encode_with
-  trusted answer is = answered (called (Read answer) ∷ []) (goes_on (has_read is) returns)
+  trusted answer is = answered (trust_called (Read answer) ∷ []) (goes_on (has_read is) returns)
 
-  unread : TrustExchange rules values (IsTrusted certificate) (called (Read Failed) ∷ Sent (failed General) ∷ []) On
+  unread : TrustExchange rules values (IsTrusted certificate) (trust_called (Read Failed) ∷ Sent (failed General) ∷ []) On
   unfolding TrustedNow
-  unread = refused (called (Read Failed) ∷ []) (Agent General) (stops faulted)
+  unread = refused (trust_called (Read Failed) ∷ []) (Agent General) (stops faulted)
 
   module _ (first second : PromptSpec) where
     abbrev asking : OptionValues
@@ -103,16 +104,16 @@ module _ (rules : Rules) (values : OptionValues) where
     module _ (is_first : IsSpec rules asking (text (trust_question name)) (text []) false first) (is_second : IsSpec rules asking (text (fingerprint_question certificate name)) (text []) false second) where
       -- both consents are given, and the file is made
       marked : TrustExchange rules asking mark
-          (called (Read Absent) ∷ cache_turn (Seat None None) (Open 3)
-          ∷ (prompt first Yes ++ (prompt second Yes ++ (called (Read Absent) ∷ called (Replaced (with_entry [] certificate.0 83) IsDone) ∷ cache_turn (Close 3 None) Done ∷ Sent ok ∷ [])))) On
+          (trust_called (Read Absent) ∷ cache_turn (Seat None None) (Open 3)
+          ∷ (prompt first Yes ++ (prompt second Yes ++ (trust_called (Read Absent) ∷ trust_called (Replaced (with_entry [] certificate.0 83) IsDone) ∷ cache_turn (Close 3 None) Done ∷ Sent ok ∷ [])))) On
       unfolding Marked Consented StoresUnsaid Stores encode_with
       marked =
           answered
-          (called (Read Absent) ∷ cache_turn (Seat None None) (Open 3)
-          ∷ (prompt first Yes ++ (prompt second Yes ++ (called (Read Absent) ∷ called (Replaced (with_entry [] certificate.0 83) IsDone) ∷ cache_turn (Close 3 None) Done ∷ []))))
+          (trust_called (Read Absent) ∷ cache_turn (Seat None None) (Open 3)
+          ∷ (prompt first Yes ++ (prompt second Yes ++ (trust_called (Read Absent) ∷ trust_called (Replaced (with_entry [] certificate.0 83) IsDone) ∷ cache_turn (Close 3 None) Done ∷ []))))
           (goes_on (has_read refl)
           (goes_on opened
-          (given_back {events = prompt first Yes ++ (prompt second Yes ++ (called (Read Absent) ∷ called (Replaced (with_entry [] certificate.0 83) IsDone) ∷ []))} Done
+          (given_back {events = prompt first Yes ++ (prompt second Yes ++ (trust_called (Read Absent) ∷ trust_called (Replaced (with_entry [] certificate.0 83) IsDone) ∷ []))} Done
           (goes_on {first = prompt first Yes} (consents first is_first (prompts (asks first false refl Yes) (shown (shown (shown none)))))
           (goes_on {first = prompt second Yes} (consents second is_second (prompts (asks second false refl Yes) (shown (shown (shown none)))))
           (goes_on (has_read refl)
@@ -120,12 +121,12 @@ module _ (rules : Rules) (values : OptionValues) where
 
       -- the second one isn't: no file is made, and the seat is free
       unmarked : TrustExchange rules asking mark
-          (called (Read Absent) ∷ cache_turn (Seat None None) (Open 3)
+          (trust_called (Read Absent) ∷ cache_turn (Seat None None) (Open 3)
           ∷ (prompt first Yes ++ (prompt second No ++ (cache_turn (Close 3 None) Done ∷ Sent (failed_at_pinentry NotConfirmed) ∷ [])))) On
       unfolding Marked Consented encode_with
       unmarked =
           refused
-          (called (Read Absent) ∷ cache_turn (Seat None None) (Open 3) ∷ (prompt first Yes ++ (prompt second No ++ (cache_turn (Close 3 None) Done ∷ []))))
+          (trust_called (Read Absent) ∷ cache_turn (Seat None None) (Open 3) ∷ (prompt first Yes ++ (prompt second No ++ (cache_turn (Close 3 None) Done ∷ []))))
           (Pinentry NotConfirmed)
           (goes_on (has_read refl)
           (goes_on opened

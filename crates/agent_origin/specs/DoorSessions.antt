@@ -3,27 +3,22 @@
 -- done. This is the project's own.
 use Rattle.std.specs.Prelude.{◌≡◌, ℕ, true, false, List, [], ◌∷◌, map, Option, Some, None}
 use Rattle.agent_ask.specs.Events.{Call}
-use Rattle.agent_ask.specs.Further.{FurtherEvent}
 use Rattle.agent_ask.specs.SessionEvents.{Sent}
 use Rattle.agent_commands.specs.Answers.{help_with}
-use Rattle.agent_commands.specs.Events.{Event as SessionEvent}
 use Rattle.agent_commands.specs.declared.went.SessionEnd.{SessionEnd}
 use Rattle.agent_commands.specs.declared.went.Went.{Went}
 use Rattle.agent_commands.specs.declared.went.Went.TheVariants.{On}
-use Rattle.agent_ports.specs.KeyFiles.{KeyFiles}
-use Rattle.agent_ports.specs.Sides.{Side}
-use Rattle.agent_ports.specs.TrustFiles.{TrustState}
 use Rattle.assuan_server.specs.Written.{failed}
 use Rattle.assuan_server.specs.declared.errors.Code.TheVariants.{Forbidden}
 use Rattle.assuan_text.specs.Words.{command_of}
 use Rattle.cache_policy.specs.declared.mark.MarkStep.{MarkStep}
 use Rattle.cache_policy.specs.Turns.{Turn}
+use Rattle.key_commands.specs.Events.{Event}
 use Rattle.session_options.specs.declared.rules.Rules.{Rules}
 use Rattle.agent_origin.specs.Doors.{allowed}
 use Rattle.agent_origin.specs.Exchanges.{TrustExchange}
+use Rattle.agent_origin.specs.FurtherStates.{FurtherWorld}
 use Rattle.agent_origin.specs.Names.{commands, door_command_named}
-use Rattle.agent_origin.specs.OriginEvents.{Event, in_session}
-use Rattle.agent_origin.specs.Origins.{origin_world}
 use Rattle.agent_origin.specs.Requests.{trust_request_of}
 use Rattle.agent_origin.specs.SessionExchanges.{SessionExchange, kept_at_start}
 use Rattle.agent_origin.specs.Sessions.{Surroundings, ServesSession}
@@ -41,8 +36,8 @@ pub data AllowedExchange (rules : Rules) (before : Kept) (line : List ℕ) : Opt
   helped : AllowedExchange rules before line (Some Help) (Sent door_help ∷ []) before On
   trusts : {events : List Event} {went : Went} → TrustExchange rules before.options (trust_request_of line) events went
       → AllowedExchange rules before line (Some Trust) events before went
-  any : {events : List (SessionEvent FurtherEvent)} {after : Kept} {went : Went} → SessionExchange rules before line events after went
-      → AllowedExchange rules before line None (in_session events) after went
+  any : {events : List Event} {after : Kept} {went : Went} → SessionExchange rules before line events after went
+      → AllowedExchange rules before line None events after went
 
 -- the exchange of a line
 pub data DoorExchange (door : Door) (rules : Rules) (before : Kept) (line : List ℕ) : List Event → Kept → Went → Type 0 where
@@ -51,15 +46,6 @@ pub data DoorExchange (door : Door) (rules : Rules) (before : Kept) (line : List
       → AllowedExchange rules before line (door_command_named (command_of line)) events after went → DoorExchange door rules before line events after went
 
 module _ {D P : Type 0} (turned : D → MarkStep → Turn → D → Type 0) (prompted : P → Call → P → Type 0) where
-  -- what a session has to do with, where that is a prompter, the keys, the dice and the trust file
-  abbrev pub door_surroundings : Side → Side → D → P → KeyFiles → Side → TrustState → Surroundings (origin_world turned prompted)
-  door_surroundings input output desk prompter keys dice trust_file = record {
-    input = input;
-    output = output;
-    desk = desk;
-    ends = record { further = record { prompter = prompter; keys = keys; dice = dice }; trust = trust_file };
-  }
-
   -- a session that came in by this door, before whose first line nothing was kept
-  abbrev pub ServesDoor : Door → Rules → Surroundings (origin_world turned prompted) → SessionEnd → Surroundings (origin_world turned prompted) → Type 0
-  ServesDoor door rules before end after = ServesSession {w = origin_world turned prompted} (DoorExchange door rules) (kept_at_start rules) before end after
+  abbrev pub ServesDoor : Door → Rules → Surroundings (FurtherWorld turned prompted) → SessionEnd → Surroundings (FurtherWorld turned prompted) → Type 0
+  ServesDoor door rules before end after = ServesSession {w = FurtherWorld turned prompted} (DoorExchange door rules) (kept_at_start rules) before end after

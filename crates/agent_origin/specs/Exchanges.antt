@@ -16,13 +16,13 @@ use Rattle.assuan_server.specs.declared.errors.Code.TheVariants as code
 use Rattle.cache_policy.specs.Turns.{Turn}
 use Rattle.cache_policy.specs.declared.mark.MarkStep.{MarkStep}
 use Rattle.hex.specs.Hex.{encode_upper}
+use Rattle.key_commands.specs.Events.{Event}
 use Rattle.session_options.specs.OptionValues.{OptionValues}
 use Rattle.session_options.specs.declared.options.PinMode.{PinMode}
 use Rattle.session_options.specs.declared.options.PinMode.TheVariants as mode
 use Rattle.session_options.specs.declared.rules.Rules.{Rules}
 use Rattle.trust_list.specs.Trust.{trust}
-use Rattle.agent_origin.specs.OriginEvents.{Event}
-use Rattle.agent_origin.specs.Origins.{origin_world, origin_state}
+use Rattle.agent_origin.specs.FurtherStates.{FurtherWorld, further_state}
 use Rattle.agent_origin.specs.Parts.{Part, ◌>>=◌, Returns, Refuses, Seats, UnderTicket, Agrees, ReadsFile, AddsEntry, Replaces, refusal_events, refusal_went}
 use Rattle.agent_origin.specs.declared.refusal.Refusal.{Refusal}
 use Rattle.agent_origin.specs.declared.refusal.Refusal.TheVariants.{Agent}
@@ -107,5 +107,5 @@ module _ {D P : Type 0} (turned : D → MarkStep → Turn → D → Type 0) (pro
   abbrev pub AnswersTrust : Connection → D → P → TrustState → Went → Connection → D → P → TrustState → Type 0
   AnswersTrust conn desk prompter trust went conn_now desk_now prompter_now trust_now =
       (keys : KeyFiles) (dice : Side)
-      → AnswersRequest {w = origin_world turned prompted} (λ before events after went. TrustExchange rules options request events went) (tt {0})
-      (origin_state turned prompted conn desk prompter keys dice trust) went (tt {0}) (origin_state turned prompted conn_now desk_now prompter_now keys dice trust_now)
+      → AnswersRequest {w = FurtherWorld turned prompted} (λ before events after went. TrustExchange rules options request events went) (tt {0})
+      (further_state turned prompted conn desk prompter keys dice trust) went (tt {0}) (further_state turned prompted conn_now desk_now prompter_now keys dice trust_now)

@@ -3,8 +3,8 @@ pub mod OuterTurns
 pub mod OuterRuns
 pub mod Names
 pub mod Requests
-pub mod OriginEvents
-pub mod Origins
+pub mod Sessions
+pub mod FurtherStates
 pub mod Parts
 pub mod Exchanges
 pub mod NewTrustFiles
@@ -13,4 +13,3 @@ pub mod DoorSessions
 pub mod Services
 pub mod Serving
 pub mod SessionExchanges
-pub mod Sessions

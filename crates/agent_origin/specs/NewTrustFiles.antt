@@ -2,19 +2,20 @@
 use Rattle.std.specs.Prelude.{◌≡◌, ◌≤◌, ℕ, List, [], ◌∷◌, ◌++◌, length, Some, None, Ok}
 use Rattle.arrayvec.specs.ArrayVec.{ArrayVec}
 use Rattle.agent_ask.specs.SessionEvents.{Received, cache_turn}
+use Rattle.agent_ask.specs.TrustCalls.{Read, Replaced}
 use Rattle.agent_ports.specs.declared.grip.Grip.{Grip}
 use Rattle.agent_ports.specs.declared.trust.TrustDone.TheVariants.{Done}
 use Rattle.agent_ports.specs.declared.trust.TrustRead.{TrustRead}
 use Rattle.assuan_line.specs.declared.reader.Took.TheVariants.{Line}
 use Rattle.cache_policy.specs.Turns.{Turn, Open}
 use Rattle.cache_policy.specs.declared.mark.MarkStep.TheVariants.{Seat, Close}
+use Rattle.key_commands.specs.Events.{Event}
 use Rattle.session_options.specs.OptionValues.{OptionValues}
 use Rattle.session_options.specs.declared.rules.Rules.{Rules}
 use Rattle.trust_list.specs.Trust.{trust, with_entry}
 use Rattle.trust_list.specs.declared.TheConstants.{MAX_TRUST_FILE_LEN}
 use Rattle.agent_origin.specs.Exchanges.{flag_of, trust_question, fingerprint_question}
-use Rattle.agent_origin.specs.OriginEvents.{Event, Read, Replaced, called}
-use Rattle.agent_origin.specs.Parts.{Agrees, file_in}
+use Rattle.agent_origin.specs.Parts.{Agrees, file_in, trust_called}
 use Rattle.agent_origin.specs.Requests.{trust_request_of}
 use Rattle.agent_origin.specs.declared.request.TrustPurpose.{TrustPurpose}
 use Rattle.agent_origin.specs.declared.request.TrustRequest.{TrustRequest}
@@ -22,7 +23,7 @@ use Rattle.agent_origin.specs.declared.request.TrustRequest.TheVariants.{MarkTru
 
 -- these bytes became the file
 abbrev pub replaced : List ℕ → Event
-replaced file = called (Replaced file Done)
+replaced file = trust_called (Replaced file Done)
 
 -- What a request did before and after these bytes became the file. It was MARKTRUSTED. The user agreed to both questions, each by a prompt of its
 -- own, under one ticket. Behind them, while the ticket was held, the file was read, which said nothing of the certificate. The new file is that
@@ -37,7 +38,7 @@ pub record HasConsents (rules : Rules) (options : OptionValues) (request : Trust
   pub first : List Event
   pub second : List Event
   pub read : TrustRead
-  pub in_order : before ≡ called (Read early) ∷ cache_turn (Seat None None) (Open ticket) ∷ (first ++ (second ++ called (Read read) ∷ []))
+  pub in_order : before ≡ trust_called (Read early) ∷ cache_turn (Seat None None) (Open ticket) ∷ (first ++ (second ++ trust_called (Read read) ∷ []))
   pub trusts : Agrees rules options (trust_question name.items) first (Ok tt)
   pub is_right : Agrees rules options (fingerprint_question fingerprint name.items) second (Ok tt)
   pub old : List ℕ

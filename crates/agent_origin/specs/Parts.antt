@@ -6,15 +6,15 @@ use Rattle.agent_ask.specs.Callers.{unheard_of}
 use Rattle.agent_ask.specs.Consents.{AsksConsent}
 use Rattle.agent_ask.specs.Events.{PromptEvent}
 use Rattle.agent_ask.specs.Failing.{said_last}
-use Rattle.agent_ask.specs.Further.{FurtherEvent}
+use Rattle.agent_ask.specs.Further.{Trust}
 use Rattle.agent_ask.specs.Plans.{IsSpec}
-use Rattle.agent_ask.specs.SessionEvents.{cache_turn}
+use Rattle.agent_ask.specs.SessionEvents.{Further, cache_turn}
+use Rattle.agent_ask.specs.TrustCalls.{TrustCall, Read, Replaced}
 use Rattle.agent_ask.specs.UnderTickets.{AnyInSession}
 use Rattle.agent_ask.specs.declared.consent.Agreed.{Agreed}
 use Rattle.agent_ask.specs.declared.consent.Agreed.TheVariants as agreed
 use Rattle.agent_ask.specs.declared.spec.PromptSpec.{PromptSpec}
 use Rattle.agent_commands.specs.Endings.{went_after}
-use Rattle.agent_commands.specs.Events.{Event as SessionEvent}
 use Rattle.agent_commands.specs.Exchanges.{Interrupts}
 use Rattle.agent_commands.specs.declared.went.Went.{Went}
 use Rattle.agent_commands.specs.declared.went.Went.TheVariants.{On}
@@ -29,12 +29,12 @@ use Rattle.assuan_server.specs.declared.errors.Code.{Code}
 use Rattle.assuan_server.specs.declared.errors.Code.TheVariants as code
 use Rattle.cache_policy.specs.declared.mark.MarkStep.TheVariants.{Seat, Close}
 use Rattle.cache_policy.specs.Turns.{Turn, Open}
+use Rattle.key_commands.specs.Events.{Event, out_of_memory}
 use Rattle.session_client.specs.Asking.{gone_of}
 use Rattle.session_options.specs.OptionValues.{OptionValues}
 use Rattle.session_options.specs.declared.rules.Rules.{Rules}
 use Rattle.trust_list.specs.Trust.{with_entry}
 use Rattle.trust_list.specs.declared.TheConstants.{MAX_TRUST_FILE_LEN}
-use Rattle.agent_origin.specs.OriginEvents.{Event, Read, Replaced, called, in_session, out_of_memory}
 use Rattle.agent_origin.specs.declared.refusal.Refusal.{Refusal}
 use Rattle.agent_origin.specs.declared.refusal.Refusal.TheVariants.{Agent, Pinentry, Client}
 
@@ -75,8 +75,8 @@ pub data UnderTicket {A : Type 0} (ticket : ℕ) (part : Part A) : List Event �
 
 -- one prompt for consent, in the session: its events, and its answer
 pub data PromptsConsent (spec : PromptSpec) (notify : Bool) : List Event → Agreed → Type 0 where
-  prompts : {prompt : List PromptEvent} {shown : List (SessionEvent FurtherEvent)} {answer : Agreed} → AsksConsent spec notify prompt answer
-      → AnyInSession session_lines prompt shown → PromptsConsent spec notify (in_session shown) answer
+  prompts : {prompt : List PromptEvent} {shown : List Event} {answer : Agreed} → AsksConsent spec notify prompt answer
+      → AnyInSession session_lines prompt shown → PromptsConsent spec notify shown answer
 
 -- how a request is refused whose prompt gave no consent
 abbrev pub consent_refusal : Agreed → Option Refusal
@@ -100,6 +100,10 @@ pub data Agrees (rules : Rules) (options : OptionValues) (question : List ℕ) :
 
 -- ---- the trust file
 
+-- it was called, and answered so
+abbrev pub trust_called : TrustCall → Event
+trust_called call = Further (Trust call)
+
 -- the bytes that a read gave: one that is absent is empty
 abbrev pub file_in : TrustRead → Option (List ℕ)
 file_in (read.Found file) = Some file.items
@@ -108,9 +112,9 @@ file_in _ = None
 
 -- the file is read
 pub data ReadsFile : List Event → Result (List ℕ) Refusal → Type 0 where
-  has_read : {answer : TrustRead} {file : List ℕ} → file_in answer ≡ Some file → ReadsFile (called (Read answer) ∷ []) (Ok file)
-  faulted : ReadsFile (called (Read read.Failed) ∷ []) (Err (Agent code.General))
-  no_memory : ReadsFile (called (Read read.NoMemory) ∷ []) (Err (Agent code.NoMemory))
+  has_read : {answer : TrustRead} {file : List ℕ} → file_in answer ≡ Some file → ReadsFile (trust_called (Read answer) ∷ []) (Ok file)
+  faulted : ReadsFile (trust_called (Read read.Failed) ∷ []) (Err (Agent code.General))
+  no_memory : ReadsFile (trust_called (Read read.NoMemory) ∷ []) (Err (Agent code.NoMemory))
 
 -- the file with one entry more at its end, where it isn't too long
 pub data AddsEntry (file : List ℕ) (fingerprint : Grip) (flag : ℕ) : List Event → Result (List ℕ) Refusal → Type 0 where
@@ -120,9 +124,9 @@ pub data AddsEntry (file : List ℕ) (fingerprint : Grip) (flag : ℕ) : List Ev
 
 -- these bytes become the file
 pub data Replaces (file : List ℕ) : List Event → Result (Unit {0}) Refusal → Type 0 where
-  replaced : Replaces file (called (Replaced file done.Done) ∷ []) (Ok tt)
-  faulted : Replaces file (called (Replaced file done.Failed) ∷ []) (Err (Agent code.General))
-  no_memory : Replaces file (called (Replaced file done.NoMemory) ∷ []) (Err (Agent code.NoMemory))
+  replaced : Replaces file (trust_called (Replaced file done.Done) ∷ []) (Ok tt)
+  faulted : Replaces file (trust_called (Replaced file done.Failed) ∷ []) (Err (Agent code.General))
+  no_memory : Replaces file (trust_called (Replaced file done.NoMemory) ∷ []) (Err (Agent code.NoMemory))
 
 -- ---- refusals
 

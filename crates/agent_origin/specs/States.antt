@@ -3,6 +3,7 @@ use Rattle.std.specs.Prelude.{◌≡◌, ℕ, List, [], ◌∷◌, Option, Some,
 use Rattle.agent_ask.specs.Callers.{IsUnheardBy}
 use Rattle.agent_ask.specs.Events.{Call}
 use Rattle.agent_ask.specs.SessionEvents.{cache_turn}
+use Rattle.agent_ask.specs.TrustCalls.{TrustCall, DoesTrust}
 use Rattle.agent_ask.specs.declared.consent.Agreed.{Agreed}
 use Rattle.agent_ask.specs.declared.consent.Agreed.TheVariants as agreed
 use Rattle.agent_commands.specs.Answers.{ok}
@@ -18,10 +19,10 @@ use Rattle.assuan_server.specs.Connections.{Connection}
 use Rattle.assuan_server.specs.Written.{WritesText}
 use Rattle.cache_policy.specs.declared.mark.MarkStep.{MarkStep}
 use Rattle.cache_policy.specs.Turns.{Turn}
+use Rattle.key_commands.specs.Events.{Event, out_of_memory}
 use Rattle.key_commands.specs.Partial.{NoTurn}
-use Rattle.agent_origin.specs.OriginEvents.{Event, TrustCall, called, out_of_memory}
-use Rattle.agent_origin.specs.Origins.{DoesTrust, origin_world, OriginState, origin_state}
-use Rattle.agent_origin.specs.Parts.{Part, consent_refusal, refusal_line, refusal_went}
+use Rattle.agent_origin.specs.FurtherStates.{FurtherWorld, FurtherState, further_state}
+use Rattle.agent_origin.specs.Parts.{Part, consent_refusal, refusal_line, refusal_went, trust_called}
 use Rattle.agent_origin.specs.declared.refusal.Refusal.{Refusal}
 
 -- how the session goes on after a part that came to this
@@ -31,12 +32,12 @@ went_by (Err why) = refusal_went why
 
 module _ {D P : Type 0} (turned : D → MarkStep → Turn → D → Type 0) (prompted : P → Call → P → Type 0) where
   -- a part of a request was done: by these events, which led there
-  pub record DoesPart {A : Type 0} (part : Part A) (start : OriginState turned prompted) (result : Result A Refusal) (now : OriginState turned prompted) : Type 0 where
+  pub record DoesPart {A : Type 0} (part : Part A) (start : FurtherState turned prompted) (result : Result A Refusal) (now : FurtherState turned prompted) : Type 0 where
     pub events : List Event
     pub does : part events result
-    pub done : EventsLead {w = origin_world turned prompted} events start now
+    pub done : EventsLead {w = FurtherWorld turned prompted} events start now
     pub fits : ReaderAfter (went_by result) start.conn.reader now.conn.reader
-    pub faults : FaultsRise {w = origin_world turned prompted} (went_by result) start now
+    pub faults : FaultsRise {w = FurtherWorld turned prompted} (went_by result) start now
 
 -- what a prompt for consent comes to: where it isn't yes or no, the client gave nothing
 abbrev pub IsAgreed : Agreed → Type 0
@@ -63,7 +64,7 @@ went_unless_cut whole (Err fault) = End ends.WriteFault
 -- calls of the trust file, one after another, by which memory may be wanted
 pub data TrustLead : TrustState → List Event → TrustState → Type 0 where
   none : {trust : TrustState} → TrustLead trust [] trust
-  calls : {before mid after : TrustState} {call : TrustCall} {events : List Event} → DoesTrust before call mid → TrustLead mid events after → TrustLead before (called call ∷ events) after
+  calls : {before mid after : TrustState} {call : TrustCall} {events : List Event} → DoesTrust before call mid → TrustLead mid events after → TrustLead before (trust_called call ∷ events) after
   wants_memory : {before after : TrustState} {events : List Event} → TrustLead before events after → TrustLead before (out_of_memory ∷ events) after
 
 -- a part in which the trust file alone is called
@@ -86,7 +87,7 @@ module _ {P : Type 0} (prompted : P → Call → P → Type 0) {A : Type 0} (par
   abbrev pub LeavesDesk : Connection → P → TrustState → Result A Refusal → Connection → P → TrustState → Type 0
   LeavesDesk conn prompter trust result conn_now prompter_now trust_now =
       (keys : KeyFiles) (dice : Side)
-      → DoesPart NoTurn prompted part (origin_state NoTurn prompted conn tt prompter keys dice trust) result (origin_state NoTurn prompted conn_now tt prompter_now keys dice trust_now)
+      → DoesPart NoTurn prompted part (further_state NoTurn prompted conn tt prompter keys dice trust) result (further_state NoTurn prompted conn_now tt prompter_now keys dice trust_now)
 
   -- nor is the trust file called
   abbrev pub DoesAtPrompter : Connection → P → Result A Refusal → Connection → P → Type 0
@@ -97,7 +98,7 @@ module _ {D P : Type 0} (turned : D → MarkStep → Turn → D → Type 0) (pro
   abbrev pub LeavesKeys : Connection → D → P → TrustState → Result A Refusal → Connection → D → P → TrustState → Type 0
   LeavesKeys conn desk prompter trust result conn_now desk_now prompter_now trust_now =
       (keys : KeyFiles) (dice : Side)
-      → DoesPart turned prompted part (origin_state turned prompted conn desk prompter keys dice trust) result (origin_state turned prompted conn_now desk_now prompter_now keys dice trust_now)
+      → DoesPart turned prompted part (further_state turned prompted conn desk prompter keys dice trust) result (further_state turned prompted conn_now desk_now prompter_now keys dice trust_now)
 
 -- ---- replies
 

@@ -2,11 +2,14 @@
 
 ghost use Rattle.std.specs.Prelude.{◌≡◌, None};
 ghost use Rattle.agent_ask.specs.Prompters.{IsShut};
+ghost use Rattle.agent_ports.specs.TrustFiles.{TrustState};
 ghost use Rattle.assuan_server.specs.Connections.{IsOpen};
 ghost use Rattle.assuan_server.specs.Written.{failed};
 ghost use Rattle.agent_commands.specs.States.{AnswersRequest};
 ghost use Rattle.key_commands.specs.States.{KeyWorld, key_state};
-ghost use Rattle.agent_origin.specs.SessionExchanges.{went_after_key, described_after, RequestExchange, SessionExchange};
+ghost use Rattle.agent_origin.specs.FurtherStates.{FurtherWorld, further_state};
+ghost use Rattle.agent_origin.specs.SessionExchanges.{went_after_key, described_after};
+ghost use Rattle.agent_origin.specs.SessionExchanges.{RequestExchange, SessionExchange};
 ghost use Rattle.agent_origin.specs.States.{SaysText};
 
 use crate::Kept;
@@ -22,11 +25,12 @@ use session_options::{Options, Rules};
 use std::alloc::Global;
 use wiping::wipe_stack;
 
-/// Answers one request on the cache, on the session or on keys. Its line is read once; for one that asks the cache alone the texts, which are long, are not
-/// made.
+/// Answers one request on the cache, on the session or on keys, whatever trust file there is
+/// beside: none is called. Its line is read once; for one that asks the cache alone the texts,
+/// which are long, are not made.
 ///
-/// Behind any other one the stack that it used is overwritten: it may have had a passphrase in hand. Behind one that asks the cache alone that
-/// would take longer than the request.
+/// Behind any other one the stack that it used is overwritten: it may have had a passphrase in
+/// hand. Behind one that asks the cache alone that would take longer than the request.
 pub fn answer<L: Link, D: Desk, P: Prompter, K: Keys, R: Dice>(
     alloc: Global,
     line: &Line,
@@ -41,8 +45,12 @@ pub fn answer<L: Link, D: Desk, P: Prompter, K: Keys, R: Dice>(
     requires open { IsOpen conn.old }
     requires free { (D.at desk.old).out ≡ None }
     requires shut { IsShut (P.at prompter.old) }
-    ensures answers { AnswersRequest {w = KeyWorld D.turned P.prompted} (λ before. SessionExchange rules.now before line.now) kept.old
-        (key_state D.turned P.prompted conn.old desk.old prompter.old (K.keys keys.old) (R.draws dice.old)) result kept.new (key_state D.turned P.prompted conn.new desk.new prompter.new (K.keys keys.new) (R.draws dice.new)) }
+    ensures answers { (trust : TrustState) → AnswersRequest {w = FurtherWorld D.turned P.prompted}
+        (λ before. SessionExchange rules.now before line.now) kept.old
+        (further_state D.turned P.prompted conn.old desk.old prompter.old
+        (K.keys keys.old) (R.draws dice.old) trust) result kept.new
+        (further_state D.turned P.prompted conn.new desk.new prompter.new (K.keys keys.new)
+        (R.draws dice.new) trust) }
     ensures free { (D.at desk.new).out ≡ None }
     ensures shut { IsShut (P.at prompter.new) }
 {
@@ -76,8 +84,12 @@ fn answer_whole<L: Link, D: Desk, P: Prompter, K: Keys, R: Dice>(
     requires open { IsOpen conn.old }
     requires free { (D.at desk.old).out ≡ None }
     requires shut { IsShut (P.at prompter.old) }
-    ensures answers { AnswersRequest {w = KeyWorld D.turned P.prompted} (λ before. RequestExchange rules.now before request.now) kept.old
-        (key_state D.turned P.prompted conn.old desk.old prompter.old (K.keys keys.old) (R.draws dice.old)) result kept.new (key_state D.turned P.prompted conn.new desk.new prompter.new (K.keys keys.new) (R.draws dice.new)) }
+    ensures answers { AnswersRequest {w = KeyWorld D.turned P.prompted}
+        (λ before. RequestExchange rules.now before request.now) kept.old
+        (key_state D.turned P.prompted conn.old desk.old prompter.old
+        (K.keys keys.old) (R.draws dice.old)) result kept.new
+        (key_state D.turned P.prompted conn.new desk.new prompter.new (K.keys keys.new)
+        (R.draws dice.new)) }
     ensures free { (D.at desk.new).out ≡ None }
     ensures shut { IsShut (P.at prompter.new) }
 {

@@ -25,7 +25,8 @@ pub(crate) fn ask_consent<L: Link, P: Prompter>(
 ) -> Result<(), Refusal>
     requires open { IsOpen conn.old }
     requires shut { IsShut (P.at prompter.old) }
-    ensures agrees { DoesAtPrompter P.prompted (Agrees rules.now options.now question.now.items) conn.old prompter.old result conn.new prompter.new }
+    ensures agrees { DoesAtPrompter P.prompted (Agrees rules.now options.now question.now.items)
+        conn.old prompter.old result conn.new prompter.new }
     ensures open { result ≡ Ok tt → IsOpen conn.new }
     ensures shut { IsShut (P.at prompter.new) }
 {

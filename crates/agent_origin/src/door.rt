@@ -1,22 +1,17 @@
-ghost use Rattle.std.specs.Prelude.{◌≡◌, ◌≤◌, length, map};
-ghost use Rattle.std.specs.List.{position_or_len};
+ghost use Rattle.std.specs.Prelude.{◌≡◌, map};
 ghost use Rattle.assuan_text.specs.Words.{words};
-ghost use Rattle.session_options.specs.Text.{ends_name, name_of};
 ghost use Rattle.agent_commands.specs.Requests.{get_fields, request_of};
-ghost use Rattle.agent_origin.specs.Doors.{rules, rule_named, is_about_the_agent, leaves_cache, passes, allowed};
+ghost use Rattle.agent_origin.specs.Doors.{rules, rule_named, is_about_the_agent, leaves_cache};
+ghost use Rattle.agent_origin.specs.Doors.{passes, allowed};
 ghost use Rattle.agent_origin.specs.declared.door.TheConstants.{RULES};
 
 use agent_commands::{CacheCommand, Request, read_request};
 use assuan_line::Line;
-use assuan_text::{
-    arguments, command_and_rest, found_in_any_case, has_option, is_blank, next_word,
-};
+use assuan_text::{arguments, command_and_rest, found_in_any_case, has_option, next_word};
+use session_options::name_and_value;
 
 /// The option that says how a session wants its prompts.
 const PINENTRY_MODE: &[u8] = b"pinentry-mode";
-
-/// What may precede it.
-const DASHES: &[u8] = b"--";
 
 /// What GETINFO may be asked for by anyone.
 const VERSION: &[u8] = b"version";
@@ -28,17 +23,20 @@ const HAS_OPTION: &[u8] = b"cmd_has_option";
 pub enum Door {
     /// The user's own.
     Home,
-    /// The one that is handed to other machines. Their sessions see which keys are here, and may prompt the user. They use no key, change nothing that the
-    /// agent keeps, and are given no passphrase of its cache.
+    /// The one that is handed to other machines. Their sessions see which keys are here, and may
+    /// prompt the user. They use no key, change nothing that the agent keeps, and are given no
+    /// passphrase of its cache.
     Outer,
 }
 
-/// What the line of a command has to be at the outer door. Which rule a command has is this project's own.
+/// What the line of a command has to be at the outer door. Which rule a command has is this
+/// project's own.
 #[derive(Clone, Copy, Debug, PartialEq, Eq)]
 pub(crate) enum Rule {
     /// Any line, in form or not.
     Always,
-    /// An OPTION of any name but `pinentry-mode`, by which a session says how its prompts are answered.
+    /// An OPTION of any name but `pinentry-mode`, by which a session says how its prompts are
+    /// answered.
     NotTheMode,
     /// A GETINFO of what the agent is and can do: `version` or `cmd_has_option`.
     AboutTheAgent,
@@ -76,8 +74,8 @@ const RULES: [(&[u8], Rule); 22] = [
     (b"MARKTRUSTED", Rule::Never),
 ];
 
-/// Whether a line is allowed to a session that came in by this door. One that begins with no known command is: it isn't forbidden, but
-/// answered as an unknown command.
+/// Whether a line is allowed to a session that came in by this door. One that begins with no known
+/// command is: it isn't forbidden, but answered as an unknown command.
 pub fn allowed(door: Door, line: &Line) -> bool
     ensures { result ≡ allowed door line.now }
 {
@@ -111,34 +109,12 @@ fn passes(rule: Rule, line: &Line) -> bool
     let (_, rest) = command_and_rest(line.bytes());
     match rule {
         Rule::Always => true,
-        Rule::NotTheMode => option_name(rest) != PINENTRY_MODE,
+        Rule::NotTheMode => name_and_value(rest).0 != PINENTRY_MODE,
         Rule::AboutTheAgent => is_about_the_agent(arguments(rest)),
         Rule::Uncached => leaves_cache(&read_request(line)),
         Rule::OneKey => !has_option(rest, b"--list"),
         Rule::Never => false,
     }
-}
-
-/// The name of an option, as the session's options read it: up to the first blank, tab or `=`, behind the dashes that may precede it.
-fn option_name(text: &[u8]) -> &[u8]
-    ensures { result.now ≡ name_of text.now }
-{
-    let text = text.strip_prefix(DASHES).unwrap_or(text);
-    text.split_at(name_len(text)).0
-}
-
-/// How many bytes stand before the first blank, tab or `=`.
-fn name_len(text: &[u8]) -> usize
-    ensures place { result ≡ position_or_len ends_name text.now }
-    ensures within { result ≤ length text.now }
-{
-    text.iter().take_while(|byte| !ends_name(**byte)).count()
-}
-
-fn ends_name(byte: u8) -> bool
-    ensures { result ≡ ends_name byte }
-{
-    is_blank(byte) || byte == b'='
 }
 
 /// Whether GETINFO is asked for what the agent is, or which options it has.

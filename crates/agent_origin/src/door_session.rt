@@ -3,8 +3,9 @@
 ghost use Rattle.std.specs.Prelude.{◌≡◌, None};
 ghost use Rattle.agent_ask.specs.Prompters.{IsShut};
 ghost use Rattle.assuan_server.specs.Connections.{IsOpen};
-ghost use Rattle.agent_origin.specs.DoorSessions.{door_help, door_surroundings, ServesDoor};
+ghost use Rattle.agent_origin.specs.DoorSessions.{door_help, ServesDoor};
 ghost use Rattle.agent_origin.specs.Exchanges.{AnswersTrust};
+ghost use Rattle.agent_origin.specs.FurtherStates.{surroundings};
 ghost use Rattle.agent_origin.specs.Requests.{trust_request_of};
 ghost use Rattle.agent_origin.specs.States.{SaysText};
 
@@ -25,16 +26,8 @@ use std::alloc::Global;
 
 impl Answers for Door {
     ghost use Rattle.agent_origin.specs.DoorSessions.{DoorExchange};
-    ghost use Rattle.agent_origin.specs.OriginEvents.{OriginEvent};
-    ghost use Rattle.agent_origin.specs.Origins.{OriginEnds, DoesOrigin};
 
-    ghost service = { record {
-      Further = OriginEvent;
-      Ends = OriginEnds;
-      does = λ prompted. DoesOrigin prompted;
-      ends = λ prompter keys dice trust. record { further = record { prompter = prompter; keys = keys; dice = dice }; trust = trust };
-      exchange = DoorExchange;
-    } };
+    ghost exchange = { DoorExchange };
 
     fn answer<L: Link, D: Desk, P: Prompter, K: Keys, R: Dice, T: TrustFile>(
         &self,
@@ -93,8 +86,9 @@ fn answer_trust<L: Link, D: Desk, P: Prompter, T: TrustFile>(
     requires open { IsOpen conn.old }
     requires free { (D.at desk.old).out ≡ None }
     requires shut { IsShut (P.at prompter.old) }
-    ensures answers { AnswersTrust D.turned P.prompted rules.now options.now (trust_request_of line.now)
-        conn.old desk.old prompter.old (T.trust trust.old) result conn.new desk.new prompter.new (T.trust trust.new) }
+    ensures answers { AnswersTrust D.turned P.prompted rules.now options.now
+        (trust_request_of line.now) conn.old desk.old prompter.old
+        (T.trust trust.old) result conn.new desk.new prompter.new (T.trust trust.new) }
     ensures free { (D.at desk.new).out ≡ None }
     ensures shut { IsShut (P.at prompter.new) }
 {
@@ -102,10 +96,12 @@ fn answer_trust<L: Link, D: Desk, P: Prompter, T: TrustFile>(
     run_trust(alloc, &request, rules, options, conn, desk, prompter, trust)
 }
 
-/// Serves a session that came in by this door: greets, and answers request after request until the session ends. No ticket of the session is out
-/// and no prompt is open when it returns. Its wrapping keys are overwritten in the end.
+/// Serves a session that came in by this door: greets, and answers request after request until the
+/// session ends. No ticket of the session is out and no prompt is open when it returns. Its
+/// wrapping keys are overwritten in the end.
 ///
-/// At the outer door a known command that isn't allowed there is answered `Forbidden`, and nothing else is done.
+/// At the outer door a known command that isn't allowed there is answered `Forbidden`, and nothing
+/// else is done.
 pub fn serve_door<L: Link, D: Desk, P: Prompter, K: Keys, R: Dice, T: TrustFile>(
     alloc: Global,
     door: Door,
@@ -120,8 +116,10 @@ pub fn serve_door<L: Link, D: Desk, P: Prompter, K: Keys, R: Dice, T: TrustFile>
     requires free { (D.at desk.old).out ≡ None }
     requires shut { IsShut (P.at prompter.old) }
     ensures serves { ServesDoor D.turned P.prompted door rules.now
-        (door_surroundings D.turned P.prompted (L.input link.old) (L.output link.old) desk.old prompter.old (K.keys keys.old) (R.draws dice.old) (T.trust trust.old)) result
-        (door_surroundings D.turned P.prompted (L.input link.new) (L.output link.new) desk.new prompter.new (K.keys keys.new) (R.draws dice.new) (T.trust trust.new)) }
+        (surroundings D.turned P.prompted (L.input link.old) (L.output link.old)
+        desk.old prompter.old (K.keys keys.old) (R.draws dice.old) (T.trust trust.old)) result
+        (surroundings D.turned P.prompted (L.input link.new) (L.output link.new) desk.new
+        prompter.new (K.keys keys.new) (R.draws dice.new) (T.trust trust.new)) }
     ensures free { (D.at desk.new).out ≡ None }
     ensures shut { IsShut (P.at prompter.new) }
 {

@@ -4,10 +4,12 @@ use session_options::{Options, Rules};
 /// What a session keeps between its requests.
 #[derive(Drop)]
 pub struct Kept {
-    /// What OPTION has set (GnuPG manual, "Agent's Assuan protocol"), and the description that SETKEYDESC gave for the next prompts about
-    /// a key. RESET puts all of it back to what stood at the session's start.
+    /// What OPTION has set (GnuPG manual, "Agent's Assuan protocol"), and the description that
+    /// SETKEYDESC gave for the next prompts about a key. RESET puts all of it back to what stood at
+    /// the session's start.
     pub options: Options,
-    /// The keys of 16 bytes under which others enter and leave the agent (RFC 3394), where KEYWRAP_KEY drew them. RESET leaves them.
+    /// The keys of 16 bytes under which others enter and leave the agent (RFC 3394), where
+    /// KEYWRAP_KEY drew them. RESET leaves them.
     pub wraps: WrapKeys,
 }
 

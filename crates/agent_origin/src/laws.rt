@@ -1,7 +1,5 @@
 ghost use Rattle.std.specs.Prelude.{◌≡◌, ℕ, List, [], ◌∷◌, ◌++◌, true, false, IsSome};
-ghost use Rattle.agent_ask.specs.Further.{FurtherEvent};
 ghost use Rattle.agent_ask.specs.SessionEvents.{Sent, turns_in};
-ghost use Rattle.agent_commands.specs.Events.{Event as SessionEvent};
 ghost use Rattle.agent_commands.specs.Exchanges.{LineExchange};
 ghost use Rattle.agent_commands.specs.Names.{command_named as cache_command_named};
 ghost use Rattle.agent_commands.specs.Requests.{request_of};
@@ -12,6 +10,7 @@ ghost use Rattle.agent_commands.specs.declared.went.Went.TheVariants.{On};
 ghost use Rattle.arrayvec.specs.ArrayVec.{ArrayVec};
 ghost use Rattle.assuan_server.specs.Written.{failed};
 ghost use Rattle.assuan_server.specs.declared.errors.Code.TheVariants.{Forbidden};
+ghost use Rattle.key_commands.specs.Events.{Event};
 ghost use Rattle.key_commands.specs.Exchanges.{Exchange as KeyExchange};
 ghost use Rattle.key_commands.specs.Names.{command_named as key_command_named};
 ghost use Rattle.key_commands.specs.Requests.{key_request_of};
@@ -24,8 +23,7 @@ ghost use Rattle.agent_origin.specs.Doors.{rule_named, allowed};
 ghost use Rattle.agent_origin.specs.Exchanges.{TrustExchange};
 ghost use Rattle.agent_origin.specs.Names.{command_named as trust_command_named};
 ghost use Rattle.agent_origin.specs.NewTrustFiles.{replaced, HasConsents, HasConsentsIn};
-ghost use Rattle.agent_origin.specs.OriginEvents.{Event};
-ghost use Rattle.agent_origin.specs.Origins.{origin_world};
+ghost use Rattle.agent_origin.specs.FurtherStates.{FurtherWorld};
 ghost use Rattle.agent_origin.specs.OuterRuns.{LeavesDesk};
 ghost use Rattle.agent_origin.specs.OuterTurns.{LeavesCache, GiveNothing};
 ghost use Rattle.agent_origin.specs.Requests.{trust_request_of};
@@ -37,54 +35,74 @@ ghost use Rattle.agent_origin.specs.declared.kept.Kept.{Kept};
 use agent_ask::Prompter;
 use cache_policy::Desk;
 
-/// A law: what is done for a line that is allowed at the outer door takes the seat for a prompt of which nothing is kept, gives it back, or
-/// looks whether a passphrase is cached. It stores and forgets nothing, and is given no passphrase of the cache.
+/// A law: what is done for a line that is allowed at the outer door takes the seat for a prompt of
+/// which nothing is kept, gives it back, or looks whether a passphrase is cached. It stores and
+/// forgets nothing, and is given no passphrase of the cache.
 pub fn the_outer_door_leaves_the_cache()
-    ensures cache { (rules : Rules) (before after : OptionValues) (line : List ℕ) (events : List (SessionEvent FurtherEvent)) (went : Goes)
-        → allowed Outer line ≡ true → LineExchange rules before line events after went → LeavesCache events }
-    ensures keys { (rules : Rules) (options : OptionValues) (before after : WrapKeys) (line : List ℕ) (handed : ArrayVec ℕ) (events : List (SessionEvent FurtherEvent)) (went : KeyWent)
-        → allowed Outer line ≡ true → request_of line ≡ Key handed → KeyExchange rules options before (key_request_of line) events after went → LeavesCache events }
-    ensures trust { (rules : Rules) (options : OptionValues) (line : List ℕ) (events : List Event) (went : Goes)
-        → allowed Outer line ≡ true → TrustExchange rules options (trust_request_of line) events went → LeavesCache events }
+    ensures cache { (rules : Rules) (before after : OptionValues) (line : List ℕ)
+        (events : List Event) (went : Goes) → allowed Outer line ≡ true
+        → LineExchange rules before line events after went → LeavesCache events }
+    ensures keys { (rules : Rules) (options : OptionValues) (before after : WrapKeys)
+        (line : List ℕ) (handed : ArrayVec ℕ) (events : List Event) (went : KeyWent)
+        → allowed Outer line ≡ true → request_of line ≡ Key handed
+        → KeyExchange rules options before (key_request_of line) events after went
+        → LeavesCache events }
+    ensures trust { (rules : Rules) (options : OptionValues) (line : List ℕ)
+        (events : List Event) (went : Goes) → allowed Outer line ≡ true
+        → TrustExchange rules options (trust_request_of line) events went → LeavesCache events }
 {}
 
 /// A law: so does a whole session that came in by the outer door.
 pub fn an_outer_session_leaves_the_cache<D: Desk, P: Prompter>()
-    ensures leaves { (rules : Rules) (before after : Surroundings (origin_world D.turned P.prompted)) (end : Ends)
-        → (served : ServesDoor D.turned P.prompted Outer rules before end after) → LeavesCache served.events }
-    ensures ungiven { (rules : Rules) (before after : Surroundings (origin_world D.turned P.prompted)) (end : Ends)
-        → (served : ServesDoor D.turned P.prompted Outer rules before end after) → GiveNothing (turns_in served.events) }
+    ensures leaves { (rules : Rules)
+        (before after : Surroundings (FurtherWorld D.turned P.prompted)) (end : Ends)
+        → (served : ServesDoor D.turned P.prompted Outer rules before end after)
+        → LeavesCache served.events }
+    ensures ungiven { (rules : Rules)
+        (before after : Surroundings (FurtherWorld D.turned P.prompted)) (end : Ends)
+        → (served : ServesDoor D.turned P.prompted Outer rules before end after)
+        → GiveNothing (turns_in served.events) }
 {}
 
-/// A law: what that means to its desk's run, where it is known. The session's own marks are those of its turns. Each takes the seat for a prompt
-/// of which nothing is kept, gives its ticket back, or looks whether a passphrase is cached; none was given one, and in a legal run none stores
-/// an entry. So it clears and forgets nothing either.
+/// A law: what that means to its desk's run, where it is known. The session's own marks are those
+/// of its turns. Each takes the seat for a prompt of which nothing is kept, gives its ticket back,
+/// or looks whether a passphrase is cached; none was given one, and in a legal run none stores an
+/// entry. So it clears and forgets nothing either.
 pub fn an_outer_session_leaves_the_run<D: Desk, P: Prompter>()
-    ensures { (rules : Rules) (before after : Surroundings (origin_world D.turned P.prompted)) (end : Ends)
-        → (served : ServesDoor D.turned P.prompted Outer rules before end after) → LeavesDesk (D.at before.desk) (turns_in served.events) (D.at after.desk) }
+    ensures { (rules : Rules) (before after : Surroundings (FurtherWorld D.turned P.prompted))
+        (end : Ends) → (served : ServesDoor D.turned P.prompted Outer rules before end after)
+        → LeavesDesk (D.at before.desk) (turns_in served.events) (D.at after.desk) }
 {}
 
-/// A law: each command that is known has its rule at the outer door, whichever of the agent's tables names it: that of the cache, of the keys or of the
-/// trust list. One without a rule would be allowed there as an unknown one is, and then be carried out.
+/// A law: each command that is known has its rule at the outer door, whichever of the agent's
+/// tables names it: that of the cache, of the keys or of the trust list. One without a rule would
+/// be allowed there as an unknown one is, and then be carried out.
 pub fn each_known_command_has_a_rule()
     ensures cache { (word : List ℕ) → IsSome (cache_command_named word) → IsSome (rule_named word) }
     ensures keys { (word : List ℕ) → IsSome (key_command_named word) → IsSome (rule_named word) }
     ensures trust { (word : List ℕ) → IsSome (trust_command_named word) → IsSome (rule_named word) }
 {}
 
-/// A law: a line that isn't allowed at its session's door is answered by the one error, nothing else is done or kept, and the session goes on.
+/// A law: a line that isn't allowed at its session's door is answered by the one error, nothing
+/// else is done or kept, and the session goes on.
 pub fn a_forbidden_line_does_nothing()
-    ensures { (door : By) (rules : Rules) (before after : Kept) (line : List ℕ) (events : List Event) (went : Goes) → allowed door line ≡ false
-        → DoorExchange door rules before line events after went → (events ≡ Sent (failed Forbidden) ∷ []) × (after ≡ before) × (went ≡ On) }
+    ensures { (door : By) (rules : Rules) (before after : Kept) (line : List ℕ)
+        (events : List Event) (went : Goes) → allowed door line ≡ false
+        → DoorExchange door rules before line events after went
+        → (events ≡ Sent (failed Forbidden) ∷ []) × (after ≡ before) × (went ≡ On) }
 {}
 
-/// A law: a new trust file stands in a MARKTRUSTED of a session that came in by the user's own door, behind two consents and a read of the file that
-/// was there.
+/// A law: a new trust file stands in a MARKTRUSTED of a session that came in by the user's own
+/// door, behind two consents and a read of the file that was there.
 pub fn a_new_trust_file_has_two_consents<D: Desk, P: Prompter>()
-    ensures exchange { (door : By) (rules : Rules) (prior then : Kept) (line : List ℕ) (events before later : List Event) (file : List ℕ) (went : Goes)
-        → DoorExchange door rules prior line events then went → events ≡ before ++ replaced file ∷ later
-        → HasConsents rules prior.options (trust_request_of line) before file later × (door ≡ Home) }
-    ensures session { (door : By) (rules : Rules) (start now : Surroundings (origin_world D.turned P.prompted)) (end : Ends) (before later : List Event) (file : List ℕ)
-        → (served : ServesDoor D.turned P.prompted door rules start end now) → served.events ≡ before ++ replaced file ∷ later
-        → HasConsentsIn rules before file later × (door ≡ Home) }
+    ensures exchange { (door : By) (rules : Rules) (prior then : Kept) (line : List ℕ)
+        (events before later : List Event) (file : List ℕ) (went : Goes)
+        → DoorExchange door rules prior line events then went
+        → events ≡ before ++ replaced file ∷ later → HasConsents rules prior.options
+        (trust_request_of line) before file later × (door ≡ Home) }
+    ensures session { (door : By)
+        (rules : Rules) (start now : Surroundings (FurtherWorld D.turned P.prompted))
+        (end : Ends) (before later : List Event) (file : List ℕ)
+        → (served : ServesDoor D.turned P.prompted door rules start end now) → served.events
+        ≡ before ++ replaced file ∷ later → HasConsentsIn rules before file later × (door ≡ Home) }
 {}

@@ -1,10 +1,13 @@
-//! Sessions from bytes to bytes: their frame, over whatever answers their requests, and those that came in by a door, with the commands on the
-//! agent's trust list.
+//! Sessions from bytes to bytes: their frame, over whatever answers their requests, and those that
+//! came in by a door, with the commands on the agent's trust list.
 //!
-//! Begin with [`serve_door`]: a session's events lead its link, desk, prompter, keys, dice and trust file from before to after, exactly. [`allowed`]
-//! is one table with a rule for each known command; a session at the outer door leaves the cache as it is ([`an_outer_session_leaves_the_run`]).
-//! [`read_trust`] and [`run_trust`] read a request on the trust list and answer it, and a new list has two consents
-//! ([`a_new_trust_file_has_two_consents`]). Definitions begin in `specs/Sessions` and `specs/DoorSessions`.
+//! Begin with [`serve_door`]: a session's events lead its link, desk, prompter, keys, dice and
+//! trust file from before to after, exactly. [`allowed`] is one table with a rule for each known
+//! command; a session at the outer door leaves the cache as it is
+//! ([`an_outer_session_leaves_the_run`]). [`read_trust`] and [`run_trust`] read a request on the
+//! trust list and answer it, and a new list has two consents
+//! ([`a_new_trust_file_has_two_consents`]). Definitions begin in `specs/Sessions` and
+//! `specs/DoorSessions`.
 #![tactic(auto)]
 
 mod answering;

@@ -45,8 +45,9 @@ pub(crate) fn mark_trusted<L: Link, D: Desk, P: Prompter, T: TrustFile>(
     requires free { (D.at desk.old).out ≡ None }
     requires shut { IsShut (P.at prompter.old) }
     ensures marks { LeavesKeys D.turned P.prompted
-        (Marked marking.now.rules.now marking.now.options.now marking.now.fingerprint.now marking.now.purpose marking.now.name.now.items)
-        conn.old desk.old prompter.old (T.trust trust.old) result conn.new desk.new prompter.new (T.trust trust.new) }
+        (Marked marking.now.rules.now marking.now.options.now marking.now.fingerprint.now
+        marking.now.purpose marking.now.name.now.items) conn.old desk.old prompter.old
+        (T.trust trust.old) result conn.new desk.new prompter.new (T.trust trust.new) }
     ensures free { (D.at desk.new).out ≡ None }
     ensures shut { IsShut (P.at prompter.new) }
 {
@@ -70,8 +71,10 @@ fn ask<L: Link, D: Desk, P: Prompter, T: TrustFile>(
     requires free { (D.at desk.old).out ≡ None }
     requires shut { IsShut (P.at prompter.old) }
     ensures asks { LeavesKeys D.turned P.prompted
-        (asked_in marking.now.rules.now marking.now.options.now marking.now.fingerprint.now marking.now.purpose marking.now.name.now.items marking.now.options.now.mode)
-        conn.old desk.old prompter.old (T.trust trust.old) result conn.new desk.new prompter.new (T.trust trust.new) }
+        (asked_in marking.now.rules.now marking.now.options.now marking.now.fingerprint.now
+        marking.now.purpose marking.now.name.now.items marking.now.options.now.mode)
+        conn.old desk.old prompter.old (T.trust trust.old) result conn.new desk.new prompter.new
+        (T.trust trust.new) }
     ensures free { (D.at desk.new).out ≡ None }
     ensures shut { IsShut (P.at prompter.new) }
 {
@@ -118,7 +121,8 @@ fn without_memory(step: Step) -> Refusal
     }
 }
 
-/// Asks the user twice under the ticket, and only then reads the file from which the new one is made.
+/// Asks the user twice under the ticket, and only then reads the file from which the new one is
+/// made.
 fn mark_consented<L: Link, P: Prompter, T: TrustFile>(
     marking: &Marking<'_>,
     ticket: &Ticket,
@@ -128,8 +132,8 @@ fn mark_consented<L: Link, P: Prompter, T: TrustFile>(
 ) -> Result<(), Refusal>
     requires open { IsOpen conn.old }
     requires shut { IsShut (P.at prompter.old) }
-    ensures marks { LeavesDesk P.prompted
-        (Consented marking.now.rules.now marking.now.options.now marking.now.fingerprint.now marking.now.purpose marking.now.name.now.items)
+    ensures marks { LeavesDesk P.prompted (Consented marking.now.rules.now marking.now.options.now
+        marking.now.fingerprint.now marking.now.purpose marking.now.name.now.items)
         conn.old prompter.old (T.trust trust.old) result conn.new prompter.new (T.trust trust.new) }
     ensures shut { IsShut (P.at prompter.new) }
 {

@@ -19,7 +19,8 @@ pub const TRUST_COMMANDS: [(&[u8], TrustCommandName); 2] = [
     (b"MARKTRUSTED", TrustCommandName::MarkTrusted),
 ];
 
-/// What a session that came in by a door does with a command for itself. All others are those of every session.
+/// What a session that came in by a door does with a command for itself. All others are those of
+/// every session.
 #[derive(Clone, Copy, Debug, PartialEq, Eq)]
 pub(crate) enum DoorCommand {
     /// HELP, which tells the commands on the trust list too.

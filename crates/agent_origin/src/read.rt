@@ -3,7 +3,8 @@ ghost use Rattle.assuan_text.specs.Options.{arguments_of};
 ghost use Rattle.assuan_text.specs.Words.{words};
 ghost use Rattle.assuan_text.specs.declared.TheConstants.{MAX_LINE_LEN};
 ghost use Rattle.key_commands.specs.Requests.{needed, grip};
-ghost use Rattle.agent_origin.specs.Requests.{purpose, owner, is_trusted_of, mark_trusted_of, asked_by, trust_request_of};
+ghost use Rattle.agent_origin.specs.Requests.{purpose, owner, is_trusted_of, mark_trusted_of};
+ghost use Rattle.agent_origin.specs.Requests.{asked_by, trust_request_of};
 
 use crate::names::{TrustCommandName, command_named};
 use crate::{OwnerName, TrustPurpose, TrustRequest};
@@ -13,7 +14,8 @@ use assuan_line::Line;
 use assuan_server::Code;
 use assuan_text::{arguments, command_and_rest, next_word};
 
-/// Reads a line whose word is a command on the trust list. Another line is refused as an unknown command.
+/// Reads a line whose word is a command on the trust list. Another line is refused as an unknown
+/// command.
 #[tactic(auto, unfolding(crate::specs::Requests::trust_request_of))]
 pub fn read_trust(line: &Line) -> TrustRequest
     ensures { result ≡ trust_request_of line.now }

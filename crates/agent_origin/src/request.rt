@@ -23,7 +23,8 @@ pub enum TrustRequest {
     Bad(Code),
 }
 
-/// What a certificate is trusted for, by the flag of its entry (GnuPG manual, "Agent Configuration", `trustlist.txt`).
+/// What a certificate is trusted for, by the flag of its entry (GnuPG manual, "Agent
+/// Configuration", `trustlist.txt`).
 #[derive(Clone, Copy, Debug, PartialEq, Eq)]
 pub enum TrustPurpose {
     /// `S`: as the root of a chain of X.509 certificates.

@@ -19,7 +19,8 @@ use cache_policy::Desk;
 use session_options::{Options, Rules};
 use std::alloc::Global;
 
-/// Does what a request asks for, answers it, and says how the session goes on. No ticket is out and no prompt is open when it returns.
+/// Does what a request asks for, answers it, and says how the session goes on. No ticket is out and
+/// no prompt is open when it returns.
 pub fn run_trust<L: Link, D: Desk, P: Prompter, T: TrustFile>(
     alloc: Global,
     request: &TrustRequest,
@@ -34,7 +35,8 @@ pub fn run_trust<L: Link, D: Desk, P: Prompter, T: TrustFile>(
     requires free { (D.at desk.old).out ≡ None }
     requires shut { IsShut (P.at prompter.old) }
     ensures answers { AnswersTrust D.turned P.prompted rules.now options.now request.now
-        conn.old desk.old prompter.old (T.trust trust.old) result conn.new desk.new prompter.new (T.trust trust.new) }
+        conn.old desk.old prompter.old (T.trust trust.old) result conn.new desk.new prompter.new
+        (T.trust trust.new) }
     ensures free { (D.at desk.new).out ≡ None }
     ensures shut { IsShut (P.at prompter.new) }
 {
@@ -56,8 +58,9 @@ fn carry_out<L: Link, D: Desk, P: Prompter, T: TrustFile>(
     requires open { IsOpen conn.old }
     requires free { (D.at desk.old).out ≡ None }
     requires shut { IsShut (P.at prompter.old) }
-    ensures carries { LeavesKeys D.turned P.prompted (Carried rules.now options.now request.now)
-        conn.old desk.old prompter.old (T.trust trust.old) result conn.new desk.new prompter.new (T.trust trust.new) }
+    ensures carries { LeavesKeys D.turned P.prompted
+        (Carried rules.now options.now request.now) conn.old desk.old prompter.old
+        (T.trust trust.old) result conn.new desk.new prompter.new (T.trust trust.new) }
     ensures free { (D.at desk.new).out ≡ None }
     ensures shut { IsShut (P.at prompter.new) }
 {

@@ -5,7 +5,8 @@ ghost use Rattle.agent_ask.specs.Prompters.{IsShut};
 ghost use Rattle.assuan_server.specs.Connections.{IsOpen};
 ghost use Rattle.assuan_server.specs.Reading.{budget};
 ghost use Rattle.agent_commands.specs.States.{AnswersRequest};
-ghost use Rattle.agent_origin.specs.Services.{Service, service_world, service_state, service_surroundings};
+ghost use Rattle.agent_origin.specs.FurtherStates.{FurtherWorld, further_state, surroundings};
+ghost use Rattle.agent_origin.specs.Services.{Service};
 ghost use Rattle.agent_origin.specs.Serving.{ServesConn, ServesRequests};
 ghost use Rattle.agent_origin.specs.SessionExchanges.{kept_at_start};
 ghost use Rattle.agent_origin.specs.Sessions.{ServesSession};
@@ -23,9 +24,10 @@ use wiping::wipe_stack;
 
 /// How the requests of a session are answered.
 pub trait Answers {
-    ghost service: { Service Self };
+    ghost exchange: { Service Self };
 
-    /// Answers the request of a line, and says how the session goes on. No ticket is out and no prompt is open when it returns.
+    /// Answers the request of a line, and says how the session goes on. No ticket is out and no
+    /// prompt is open when it returns.
     fn answer<L: Link, D: Desk, P: Prompter, K: Keys, R: Dice, T: TrustFile>(
         &self,
         alloc: Global,
@@ -42,15 +44,19 @@ pub trait Answers {
         requires open { IsOpen conn.old }
         requires free { (D.at desk.old).out ≡ None }
         requires shut { IsShut (P.at prompter.old) }
-        ensures answers { AnswersRequest {w = service_world service D.turned P.prompted} (λ before. service.exchange self.now rules.now before line.now) kept.old
-            (service_state service D.turned P.prompted conn.old desk.old prompter.old (K.keys keys.old) (R.draws dice.old) (T.trust trust.old)) result kept.new
-            (service_state service D.turned P.prompted conn.new desk.new prompter.new (K.keys keys.new) (R.draws dice.new) (T.trust trust.new)) }
+        ensures answers { AnswersRequest {w = FurtherWorld D.turned P.prompted}
+            (λ before. exchange self.now rules.now before line.now) kept.old
+            (further_state D.turned P.prompted conn.old desk.old prompter.old
+            (K.keys keys.old) (R.draws dice.old) (T.trust trust.old)) result kept.new
+            (further_state D.turned P.prompted conn.new desk.new prompter.new (K.keys keys.new)
+            (R.draws dice.new) (T.trust trust.new)) }
         ensures free { (D.at desk.new).out ≡ None }
         ensures shut { IsShut (P.at prompter.new) };
 }
 
-/// Serves a session on a link: greets, and answers request after request so until the session ends. No ticket of the session is out and no prompt is
-/// open when it returns. Its wrapping keys are overwritten in the end.
+/// Serves a session on a link: greets, and answers request after request so until the session ends.
+/// No ticket of the session is out and no prompt is open when it returns. Its wrapping keys are
+/// overwritten in the end.
 pub fn serve<A: Answers, L: Link, D: Desk, P: Prompter, K: Keys, R: Dice, T: TrustFile>(
     so: &A,
     alloc: Global,
@@ -64,9 +70,12 @@ pub fn serve<A: Answers, L: Link, D: Desk, P: Prompter, K: Keys, R: Dice, T: Tru
 ) -> SessionEnd
     requires free { (D.at desk.old).out ≡ None }
     requires shut { IsShut (P.at prompter.old) }
-    ensures serves { ServesSession {w = service_world A.service D.turned P.prompted} (A.service.exchange so.now rules.now) (kept_at_start rules.now)
-        (service_surroundings A.service D.turned P.prompted (L.input link.old) (L.output link.old) desk.old prompter.old (K.keys keys.old) (R.draws dice.old) (T.trust trust.old)) result
-        (service_surroundings A.service D.turned P.prompted (L.input link.new) (L.output link.new) desk.new prompter.new (K.keys keys.new) (R.draws dice.new) (T.trust trust.new)) }
+    ensures serves { ServesSession {w = FurtherWorld D.turned P.prompted}
+        (A.exchange so.now rules.now) (kept_at_start rules.now)
+        (surroundings D.turned P.prompted (L.input link.old) (L.output link.old)
+        desk.old prompter.old (K.keys keys.old) (R.draws dice.old) (T.trust trust.old)) result
+        (surroundings D.turned P.prompted (L.input link.new) (L.output link.new) desk.new
+        prompter.new (K.keys keys.new) (R.draws dice.new) (T.trust trust.new)) }
     ensures free { (D.at desk.new).out ≡ None }
     ensures shut { IsShut (P.at prompter.new) }
 {
@@ -95,9 +104,11 @@ fn serve_conn<A: Answers, L: Link, D: Desk, P: Prompter, K: Keys, R: Dice, T: Tr
     requires fresh { conn.old.reader ≡ record { ahead = []; left = budget; ended = None } }
     requires free { (D.at desk.old).out ≡ None }
     requires shut { IsShut (P.at prompter.old) }
-    ensures serves { ServesConn {w = service_world A.service D.turned P.prompted} (A.service.exchange so.now rules.now) (kept_at_start rules.now)
-        (service_state A.service D.turned P.prompted conn.old desk.old prompter.old (K.keys keys.old) (R.draws dice.old) (T.trust trust.old)) result
-        (service_state A.service D.turned P.prompted conn.new desk.new prompter.new (K.keys keys.new) (R.draws dice.new) (T.trust trust.new)) }
+    ensures serves { ServesConn {w = FurtherWorld D.turned P.prompted} (A.exchange so.now rules.now)
+        (kept_at_start rules.now) (further_state D.turned P.prompted conn.old desk.old prompter.old
+        (K.keys keys.old) (R.draws dice.old) (T.trust trust.old)) result
+        (further_state D.turned P.prompted conn.new desk.new prompter.new (K.keys keys.new)
+        (R.draws dice.new) (T.trust trust.new)) }
     ensures free { (D.at desk.new).out ≡ None }
     ensures shut { IsShut (P.at prompter.new) }
 {
@@ -130,9 +141,12 @@ fn serve_requests<A: Answers, L: Link, D: Desk, P: Prompter, K: Keys, R: Dice, T
     requires open { IsOpen conn.old }
     requires free { (D.at desk.old).out ≡ None }
     requires shut { IsShut (P.at prompter.old) }
-    ensures serves { ServesRequests {w = service_world A.service D.turned P.prompted} (A.service.exchange so.now rules.now) kept.old
-        (service_state A.service D.turned P.prompted conn.old desk.old prompter.old (K.keys keys.old) (R.draws dice.old) (T.trust trust.old)) result
-        (service_state A.service D.turned P.prompted conn.new desk.new prompter.new (K.keys keys.new) (R.draws dice.new) (T.trust trust.new)) }
+    ensures serves { ServesRequests
+        {w = FurtherWorld D.turned P.prompted} (A.exchange so.now rules.now) kept.old
+        (further_state D.turned P.prompted conn.old desk.old prompter.old
+        (K.keys keys.old) (R.draws dice.old) (T.trust trust.old)) result
+        (further_state D.turned P.prompted conn.new desk.new prompter.new (K.keys keys.new)
+        (R.draws dice.new) (T.trust trust.new)) }
     ensures free { (D.at desk.new).out ≡ None }
     ensures shut { IsShut (P.at prompter.new) }
 {

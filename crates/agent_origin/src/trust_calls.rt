@@ -14,8 +14,10 @@ use trust_list::{TrustFault, add_trust, trusted};
 
 /// Reads the file. One that is absent is empty.
 pub(crate) fn read_file<T: TrustFile>(alloc: Global, trust: &mut T) -> Result<Vec<u8>, Refusal>
-    ensures read { IfOk result (λ file. DoesTrustCalls ReadsFile (T.trust trust.old) (Ok file.items) (T.trust trust.new)) }
-    ensures refused { IfErr result (λ why. DoesTrustCalls ReadsFile (T.trust trust.old) (Err why) (T.trust trust.new)) }
+    ensures read { IfOk result
+        (λ file. DoesTrustCalls ReadsFile (T.trust trust.old) (Ok file.items) (T.trust trust.new)) }
+    ensures refused { IfErr result
+        (λ why. DoesTrustCalls ReadsFile (T.trust trust.old) (Err why) (T.trust trust.new)) }
 {
     match trust.read(alloc) {
         TrustRead::Found(file) => Ok(file),
@@ -31,7 +33,8 @@ pub(crate) fn trusted_now<T: TrustFile>(
     fingerprint: &Grip,
     trust: &mut T,
 ) -> Result<(), Refusal>
-    ensures { DoesTrustCalls (TrustedNow fingerprint.now) (T.trust trust.old) result (T.trust trust.new) }
+    ensures { DoesTrustCalls (TrustedNow fingerprint.now) (T.trust trust.old) result
+        (T.trust trust.new) }
 {
     let file = read_file(alloc, trust)?;
     if trusted(&file, fingerprint).unwrap_or(false) {
@@ -48,7 +51,8 @@ pub(crate) fn store_unsaid<T: TrustFile>(
     purpose: TrustPurpose,
     trust: &mut T,
 ) -> Result<(), Refusal>
-    ensures { DoesTrustCalls (StoresUnsaid fingerprint.now purpose) (T.trust trust.old) result (T.trust trust.new) }
+    ensures { DoesTrustCalls (StoresUnsaid fingerprint.now purpose) (T.trust trust.old) result
+        (T.trust trust.new) }
 {
     let file = read_file(alloc, trust)?;
     match trusted(&file, fingerprint) {
@@ -66,7 +70,8 @@ fn store<T: TrustFile>(
     purpose: TrustPurpose,
     trust: &mut T,
 ) -> Result<(), Refusal>
-    ensures { DoesTrustCalls (Stores fingerprint.now purpose file.now) (T.trust trust.old) result (T.trust trust.new) }
+    ensures { DoesTrustCalls (Stores fingerprint.now purpose file.now) (T.trust trust.old) result
+        (T.trust trust.new) }
 {
     match add_trust(alloc, file, fingerprint, purpose.flag()) {
         Ok(new) => replace(alloc, &new, trust),

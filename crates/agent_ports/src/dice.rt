@@ -6,7 +6,8 @@ pub trait Dice {
     /// The bytes to come, where they are known, and how many draws failed.
     ghost draws: { Self → Side };
 
-    /// Fills the buffer with the next bytes, and says whether it could. A draw that failed leaves zeros in it.
+    /// Fills the buffer with the next bytes, and says whether it could. A draw that failed leaves
+    /// zeros in it.
     fn fill(&mut self, out: &mut [u8]) -> bool
         ensures { IsDrawn (draws self.old) result out.new (draws self.new) };
 }

@@ -4,9 +4,11 @@ use std::sync::atomic::{AtomicBool, AtomicU64, Ordering};
 /// A point in a session's life.
 #[derive(Clone, Copy, Debug, PartialEq, Eq)]
 pub enum GatePoint {
+    /// The session begins, and nothing of it is read yet.
     Began,
     /// Its pinentry was started.
     PromptOpen,
+    /// The session has ended.
     Ended,
 }
 
@@ -24,8 +26,8 @@ impl Gate for NoGate {
     fn at(&self, _point: GatePoint, _session: SessionId) {}
 }
 
-/// Holds the first session at its open prompt until another one has ended, for so many turns at most. A turn is one look at whether
-/// one has.
+/// Holds the first session at its open prompt until another one has ended, for so many turns at
+/// most. A turn is one look at whether one has.
 #[derive(Drop)]
 pub struct HoldGate {
     turns: u64,
@@ -55,8 +57,9 @@ impl HoldGate {
         }
     }
 
-    /// Only a session that begins while one is held lets it go. So that there is one, a session that isn't the first of its worker waits
-    /// where it begins until one is held, for as many turns.
+    /// Only a session that begins while one is held lets it go. So that there is one, a session
+    /// that isn't the first of its worker waits where it begins until one is held, for as many
+    /// turns.
     pub fn for_later_sessions(turns: u64) -> Self {
         let mut gate = HoldGate::new(turns);
         gate.later_alone = true;

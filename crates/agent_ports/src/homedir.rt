@@ -8,8 +8,8 @@ use std::str;
 /// The most bytes of a folder's path that a host keeps: as many as an option's value may have.
 pub const MAX_HOMEDIR_LEN: usize = 255;
 
-/// The folder that a host was settled at, if it was. It is kept in place, since settling may take no memory. Contracts see the bytes of its
-/// path, none where there is no folder.
+/// The folder that a host was settled at, if it was. It is kept in place, since settling may take
+/// no memory. Contracts see the bytes of its path, none where there is no folder.
 #[derive(Drop)]
 pub struct Homedir {
     path: ArrayVec<u8, MAX_HOMEDIR_LEN>,
@@ -50,6 +50,7 @@ impl Homedir {
         Homedir { path }
     }
 
+    /// The bytes of the folder's path, none where there is no folder.
     pub fn bytes(&self) -> &[u8]
         ensures { result.now ≡ self.now }
     {

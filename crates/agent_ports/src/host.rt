@@ -8,9 +8,13 @@ use crate::{Clock, Dice, Ear, Gate, Keys, Launcher, Link, Listener, TrustFile};
 /// What a session needs of the machine, beside its link.
 #[derive(Drop)]
 pub struct Parts<La, C, R, K> {
+    /// Starts pinentries.
     pub launcher: La,
+    /// Gives the time of day, in seconds.
     pub clock: C,
+    /// Gives random bytes.
     pub dice: R,
+    /// The user's key files.
     pub keys: K,
 }
 
@@ -34,7 +38,8 @@ pub trait Host {
 
     type Gate: Gate;
 
-    /// The parts for the session on standard input and output, where the host has them, as a new one does.
+    /// The parts for the session on standard input and output, where the host has them, as a new
+    /// one does.
     ghost server: { Self → Option (HostParts Self.Launcher Self.Clock Self.Dice Self.Keys) };
 
     /// The number of the process.
@@ -43,7 +48,8 @@ pub trait Host {
     /// The path of the folder that was settled last, without a byte where there is none.
     ghost homedir: { Self → List ℕ };
 
-    /// Whether the key files of parts, and a trust file, are those of the folder at a path, as far as the host shows it.
+    /// Whether the key files of parts, and a trust file, are those of the folder at a path, as far
+    /// as the host shows it.
     ghost of_folder: { List ℕ → InFolder Self.Keys Self.Trust };
 
     /// Whether a listener is the daemon's own.
@@ -55,12 +61,18 @@ pub trait Host {
     /// How many calls for a listener failed, and how many calls with the ears that came back.
     ghost listens: { Self → ℕ };
 
-    /// The folder that is used from now on. The server's parts are of it then, and stay as they are, as far as they show it.
+    /// The folder that is used from now on. The server's parts are of it then, and stay as they
+    /// are, as far as they show it.
     fn settle(&mut self, path: &[u8])
         ensures homedir { homedir self.new ≡ kept_path path.now }
-        ensures folder { IfSome (server self.new) (λ parts. (of_folder (homedir self.new)).keys parts.keys) }
-        ensures parts { AreSettled (record { launches = Self.Launcher.launches; readings = Self.Clock.readings; draws = Self.Dice.draws; keys = Self.Keys.keys })
-            (server self.old) (server self.new) }
+        ensures folder { IfSome (server self.new)
+            (λ parts. (of_folder (homedir self.new)).keys parts.keys) }
+        ensures parts { AreSettled (record {
+          launches = Self.Launcher.launches;
+          readings = Self.Clock.readings;
+          draws = Self.Dice.draws;
+          keys = Self.Keys.keys;
+        }) (server self.old) (server self.new) }
         ensures process { process self.new ≡ process self.old }
         ensures listens { listens self.new ≡ listens self.old };
 
@@ -86,7 +98,12 @@ pub trait Host {
 
     /// New parts, for one session of a daemon, with the key files of the folder.
     fn session_parts(&self) -> Parts<Self::Launcher, Self::Clock, Self::Dice, Self::Keys>
-        ensures new { AreNew (record { launches = Self.Launcher.launches; readings = Self.Clock.readings; draws = Self.Dice.draws; keys = Self.Keys.keys }) result }
+        ensures new { AreNew (record {
+          launches = Self.Launcher.launches;
+          readings = Self.Clock.readings;
+          draws = Self.Dice.draws;
+          keys = Self.Keys.keys;
+        }) result }
         ensures folder { (of_folder (homedir self.now)).keys result.keys };
 
     /// The folder's trust file, for one session of a daemon.

@@ -1,6 +1,7 @@
 ghost use Rattle.std.specs.Prelude.{◌≤◌, length};
 ghost use Rattle.agent_ports.specs.declared.keys.TheConstants.{MAX_KEY_FILE_LEN};
-ghost use Rattle.agent_ports.specs.KeyFiles.{KeyFiles, ReadsKey, ListsKeys, ReplacesKey, RemovesKey};
+ghost use Rattle.agent_ports.specs.KeyFiles.{KeyFiles, ReadsKey, ListsKeys, ReplacesKey};
+ghost use Rattle.agent_ports.specs.KeyFiles.{RemovesKey};
 
 use crate::Grip;
 use std::alloc::Global;
@@ -11,10 +12,13 @@ pub const MAX_KEY_FILE_LEN: usize = 65_536;
 /// What a read of a key's file gave. It may hold a secret key, so it isn't printed.
 #[derive(Drop)]
 pub enum KeyRead {
+    /// The bytes of its file.
     Found(Vec<u8>),
     /// There is no such key.
     Absent,
+    /// The read failed.
     Failed,
+    /// There was no memory for the file.
     NoMemory,
 }
 
@@ -23,17 +27,22 @@ pub enum KeyRead {
 pub enum KeyNames {
     /// Their grips, ascending.
     Names(Vec<Grip>),
+    /// The keys couldn't be listed.
     Failed,
+    /// There was no memory for the grips.
     NoMemory,
 }
 
 /// What became of a change. All but `Done` leave the files as they were.
 #[derive(Clone, Copy, Debug, PartialEq, Eq)]
 pub enum KeyDone {
+    /// The change was made.
     Done,
     /// There is no such key.
     Absent,
+    /// The change failed.
     Failed,
+    /// There was no memory for the change.
     NoMemory,
 }
 

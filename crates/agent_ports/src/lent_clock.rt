@@ -1,7 +1,8 @@
 use crate::Clock;
 use std::marker::Model;
 
-/// A clock that passes its calls on to the clock that it was lent. Contracts see that clock, and which one it is.
+/// A clock that passes its calls on to the clock that it was lent. Contracts see that clock, and
+/// which one it is.
 #[derive(Drop)]
 pub struct LentClock<'a, C: Clock> {
     clock: &'a mut C,
@@ -18,6 +19,7 @@ impl<'a, C: Clock> Model for LentClock<'a, C> {
 impl<'a, C: Clock> LentClock<'a, C> {
     ghost use Rattle.std.specs.Prelude.{◌≡◌};
 
+    /// A clock that passes its calls on to this one.
     pub fn new(clock: &'a mut C) -> Self
         ensures clock { result.clock ≡ clock.old }
         ensures name { result.name ≡ clock.entry.ghost_name }
@@ -25,7 +27,8 @@ impl<'a, C: Clock> LentClock<'a, C> {
         LentClock { clock }
     }
 
-    /// Gives the clock back. A caller whose own contract speaks of it ends with this call: what was read is then known of it.
+    /// Gives the clock back. A caller whose own contract speaks of it ends with this call: what was
+    /// read is then known of it.
     pub fn into_clock(self) -> &'a mut C
         ensures clock { result.now ≡ self.entry.clock }
         ensures name { result.ghost_name ≡ self.entry.name }

@@ -1,10 +1,11 @@
-//! What the agent asks of the outside: bytes in and out, child programs, the time of day, random bytes, key files, and the machine that
-//! has them.
+//! What the agent asks of the outside: bytes in and out, child programs, the time of day, random
+//! bytes, key files, and the machine that has them.
 //!
-//! Begin with [`Source`], [`Sink`] and [`Host`], and for tests with [`MemLink`] and [`MemHost`]. Each trait has its contents, which an
-//! implementation shows or doesn't, and counts that never fall: an answer that something failed comes only where its count rose in that
-//! call. The forms in memory show their contents, and fail at the calls that a test names. Definitions begin in `specs/Sides` and
-//! `specs/Counts`.
+//! Begin with [`Source`], [`Sink`] and [`Host`], and for tests with [`MemLink`] and [`MemHost`].
+//! Each trait has its contents, which an implementation shows or doesn't, and counts that never
+//! fall: an answer that something failed comes only where its count rose in that call. The forms in
+//! memory show their contents, and fail at the calls that a test names. Definitions begin in
+//! `specs/Sides` and `specs/Counts`.
 #![tactic(auto)]
 
 mod clock;

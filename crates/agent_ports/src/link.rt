@@ -1,7 +1,8 @@
 ghost use Rattle.std.specs.Prelude.{◌≡◌, ◌<◌, ◌≤◌, length, take, IfSome, []};
 ghost use Rattle.agent_ports.specs.Counts.{Rose};
 ghost use Rattle.agent_ports.specs.Writing.{whole_of};
-ghost use Rattle.agent_ports.specs.Sides.{Side, followed_by, with_bytes, taken_by, IfBytes, sent_part, IfCut, IsCut};
+ghost use Rattle.agent_ports.specs.Sides.{Side, followed_by, with_bytes, taken_by, IfBytes};
+ghost use Rattle.agent_ports.specs.Sides.{sent_part, IfCut, IsCut};
 
 /// What a read gave.
 #[derive(Clone, Copy, Debug, PartialEq, Eq)]
@@ -17,6 +18,7 @@ pub enum Got {
 /// What became of the bytes of a write.
 #[derive(Clone, Copy, Debug, PartialEq, Eq)]
 pub enum Sent {
+    /// All of them went.
     All,
     /// The write failed after that many first bytes.
     Failed { sent: usize },
@@ -50,9 +52,11 @@ pub trait Source {
     fn read(&mut self, buf: &mut [u8]) -> Got
         requires { 0 < length buf.old }
         ensures count { IfBytes result (λ n. (1 ≤ n) × (n ≤ length buf.old)) }
-        ensures taken { (input self.old).bytes ≡ followed_by (take (taken_by result) buf.new) (input self.new).bytes }
+        ensures taken { (input self.old).bytes ≡ followed_by (take (taken_by result) buf.new)
+            (input self.new).bytes }
         ensures end { result ≡ Got.End → IfSome (input self.old).bytes (λ rest. rest ≡ []) }
-        ensures failed { result ≡ Got.Failed → Rose (input self.old).faults (input self.new).faults }
+        ensures failed { result ≡ Got.Failed
+            → Rose (input self.old).faults (input self.new).faults }
         ensures faults { (input self.old).faults ≤ (input self.new).faults }
         ensures beside { beside_input self.new ≡ beside_input self.old };
 }
@@ -68,7 +72,8 @@ pub trait Sink {
     /// Appends the bytes, or where the write fails some first ones of them.
     fn put(&mut self, bytes: &[u8]) -> Sent
         ensures cut { IfCut result (λ sent. sent ≤ length bytes.now) }
-        ensures written { (output self.new).bytes ≡ with_bytes (output self.old).bytes (sent_part bytes.now result) }
+        ensures written { (output self.new).bytes ≡ with_bytes (output self.old).bytes
+            (sent_part bytes.now result) }
         ensures failed { IsCut result → Rose (output self.old).faults (output self.new).faults }
         ensures faults { (output self.old).faults ≤ (output self.new).faults }
         ensures beside { beside_output self.new ≡ beside_output self.old };

@@ -19,6 +19,7 @@ pub trait Ear {
 pub enum Next<L> {
     /// A peer that wants a session.
     Link(L),
+    /// The listener failed, which the ear has heard.
     Failed,
     /// No more links are taken.
     Stopped,
@@ -39,11 +40,14 @@ pub trait Listener {
     fn ear(&self) -> Self::Ear
         ensures { Self.Ear.faults result ≡ 0 };
 
-    /// Waits for the next link. Whether the listener was stopped is in no clause, since any worker may stop it at any time.
+    /// Waits for the next link. Whether the listener was stopped is in no clause, since any worker
+    /// may stop it at any time.
     fn next(&self, ear: &mut Self::Ear) -> Next<Self::Link>
         ensures gives { IfLink result (λ link. gives self.now link) }
-        ensures link { IfLink result (λ link. NothingFailed (Self.Link.input link) (Self.Link.output link)) }
-        ensures failed { result ≡ Next.Failed → Rose (Self.Ear.faults ear.old) (Self.Ear.faults ear.new) }
+        ensures link { IfLink result
+            (λ link. NothingFailed (Self.Link.input link) (Self.Link.output link)) }
+        ensures failed { result ≡ Next.Failed
+            → Rose (Self.Ear.faults ear.old) (Self.Ear.faults ear.new) }
         ensures faults { Self.Ear.faults ear.old ≤ Self.Ear.faults ear.new };
 
     /// Takes a link back whose session has ended.

@@ -3,7 +3,8 @@ ghost use Rattle.agent_ports.specs.Readings.{reading_at};
 
 use crate::Clock;
 
-/// A clock that gives the readings of a list, the last of them again and again, and 0 where there is none.
+/// A clock that gives the readings of a list, the last of them again and again, and 0 where there
+/// is none.
 #[derive(Debug, Drop)]
 pub struct ListClock {
     readings: Vec<u64>,
@@ -12,8 +13,10 @@ pub struct ListClock {
 }
 
 impl ListClock {
+    /// A clock that gives these readings, in seconds.
     pub fn new(readings: Vec<u64>) -> Self
-        ensures later { (k : ℕ) → (⟦<ListClock as Clock>⟧.readings result).later k ≡ Some (reading_at readings.items k) }
+        ensures later { (k : ℕ) → (⟦<ListClock as Clock>⟧.readings result).later k
+            ≡ Some (reading_at readings.items k) }
         ensures none { (⟦<ListClock as Clock>⟧.readings result).count ≡ 0 }
     {
         ListClock {
@@ -55,8 +58,10 @@ pub struct StepClock {
 }
 
 impl StepClock {
+    /// A clock whose first reading and whose step are these, in seconds.
     pub fn new(first: u64, step: u64) -> Self
-        ensures later { (k : ℕ) → (⟦<StepClock as Clock>⟧.readings result).later k ≡ Some (min (first + k * step) (2 ^ 64 - 1)) }
+        ensures later { (k : ℕ) → (⟦<StepClock as Clock>⟧.readings result).later k
+            ≡ Some (min (first + k * step) (2 ^ 64 - 1)) }
         ensures none { (⟦<StepClock as Clock>⟧.readings result).count ≡ 0 }
     {
         StepClock {

@@ -12,9 +12,10 @@ use std::sync::{Mutex, Wait};
 /// The parts of a machine in memory.
 pub type MemParts = Parts<MemLauncher, ListClock, ListDice, MapKeys>;
 
-/// A machine in memory. It gives each session of a daemon the next parts and the next trust file of two lists, whose faults don't count
-/// there, and then parts that have nothing. A call for a listener fails where its number, from 0, is among those that are to fail, and
-/// where there are no links to listen for.
+/// A machine in memory. It gives each session of a daemon the next parts and the next trust file of
+/// two lists, whose faults don't count there, and then parts that have nothing. A call for a
+/// listener fails where its number, from 0, is among those that are to fail, and where there are no
+/// links to listen for.
 #[derive(Drop)]
 pub struct MemHost<'l, W, G> {
     rt: &'l W,
@@ -31,7 +32,8 @@ pub struct MemHost<'l, W, G> {
 }
 
 impl<'l, W: Wait> MemHost<'l, W, NoGate> {
-    /// A machine that has these parts for the session on standard input and output, and nothing for a daemon.
+    /// A machine that has these parts for the session on standard input and output, and nothing for
+    /// a daemon.
     pub fn new(rt: &'l W, alloc: Global, pid: u32, parts: MemParts) -> Self
         ensures server { ⟦<MemHost<'l, W, NoGate> as Host>⟧.server result ≡ Some parts }
         ensures process { ⟦<MemHost<'l, W, NoGate> as Host>⟧.process result ≡ pid }
@@ -55,8 +57,10 @@ impl<'l, W: Wait> MemHost<'l, W, NoGate> {
 
     /// With this gate.
     pub fn with_gate<N: Gate>(self, gate: N) -> MemHost<'l, W, N>
-        ensures server { ⟦<MemHost<'l, W, N> as Host>⟧.server result ≡ ⟦<MemHost<'l, W, NoGate> as Host>⟧.server self.entry }
-        ensures process { ⟦<MemHost<'l, W, N> as Host>⟧.process result ≡ ⟦<MemHost<'l, W, NoGate> as Host>⟧.process self.entry }
+        ensures server { ⟦<MemHost<'l, W, N> as Host>⟧.server result
+            ≡ ⟦<MemHost<'l, W, NoGate> as Host>⟧.server self.entry }
+        ensures process { ⟦<MemHost<'l, W, N> as Host>⟧.process result
+            ≡ ⟦<MemHost<'l, W, NoGate> as Host>⟧.process self.entry }
     {
         let MemHost {
             rt,
@@ -90,8 +94,10 @@ impl<'l, W: Wait> MemHost<'l, W, NoGate> {
 impl<'l, W: Wait, G: Gate> MemHost<'l, W, G> {
     /// With these parts and trust files for the sessions of a daemon.
     pub fn with_sessions(self, sessions: Vec<MemParts>, trusts: Vec<MemTrust>) -> Self
-        ensures server { ⟦<MemHost<'l, W, G> as Host>⟧.server result ≡ ⟦<MemHost<'l, W, G> as Host>⟧.server self.entry }
-        ensures process { ⟦<MemHost<'l, W, G> as Host>⟧.process result ≡ ⟦<MemHost<'l, W, G> as Host>⟧.process self.entry }
+        ensures server { ⟦<MemHost<'l, W, G> as Host>⟧.server result
+            ≡ ⟦<MemHost<'l, W, G> as Host>⟧.server self.entry }
+        ensures process { ⟦<MemHost<'l, W, G> as Host>⟧.process result
+            ≡ ⟦<MemHost<'l, W, G> as Host>⟧.process self.entry }
     {
         let mut host = self;
         host.sessions = Mutex::new(sessions);
@@ -99,15 +105,18 @@ impl<'l, W: Wait, G: Gate> MemHost<'l, W, G> {
         host
     }
 
-    /// With these links for a daemon's listener, and those for its extra one. The calls for a listener of these numbers, from 0, fail.
+    /// With these links for a daemon's listener, and those for its extra one. The calls for a
+    /// listener of these numbers, from 0, fail.
     pub fn with_links(
         self,
         links: &'l Mutex<ListedLinks>,
         extra: Option<&'l Mutex<ListedLinks>>,
         failing: Vec<u64>,
     ) -> Self
-        ensures server { ⟦<MemHost<'l, W, G> as Host>⟧.server result ≡ ⟦<MemHost<'l, W, G> as Host>⟧.server self.entry }
-        ensures process { ⟦<MemHost<'l, W, G> as Host>⟧.process result ≡ ⟦<MemHost<'l, W, G> as Host>⟧.process self.entry }
+        ensures server { ⟦<MemHost<'l, W, G> as Host>⟧.server result
+            ≡ ⟦<MemHost<'l, W, G> as Host>⟧.server self.entry }
+        ensures process { ⟦<MemHost<'l, W, G> as Host>⟧.process result
+            ≡ ⟦<MemHost<'l, W, G> as Host>⟧.process self.entry }
     {
         let mut host = self;
         host.links = Some(links);
@@ -133,18 +142,24 @@ impl<'l, W: Wait, G: Gate> MemHost<'l, W, G> {
         self.homedir.bytes()
     }
 
-    /// A listener for these links, which may be those of restricted sessions, where there are some and the call isn't one that is to fail.
+    /// A listener for these links, which may be those of restricted sessions, where there are some
+    /// and the call isn't one that is to fail.
     fn listener_of(
         &mut self,
         links: Option<&'l Mutex<ListedLinks>>,
         extra: bool,
     ) -> Option<ListListener<'l, W>>
         ensures extra { IfSome result (λ listener. listener.extra ≡ extra) }
-        ensures failed { IsNone result → Rose (⟦<MemHost<'l, W, G> as Host>⟧.listens self.old) (⟦<MemHost<'l, W, G> as Host>⟧.listens self.new) }
-        ensures listens { ⟦<MemHost<'l, W, G> as Host>⟧.listens self.old ≤ ⟦<MemHost<'l, W, G> as Host>⟧.listens self.new }
-        ensures server { ⟦<MemHost<'l, W, G> as Host>⟧.server self.new ≡ ⟦<MemHost<'l, W, G> as Host>⟧.server self.old }
-        ensures process { ⟦<MemHost<'l, W, G> as Host>⟧.process self.new ≡ ⟦<MemHost<'l, W, G> as Host>⟧.process self.old }
-        ensures homedir { ⟦<MemHost<'l, W, G> as Host>⟧.homedir self.new ≡ ⟦<MemHost<'l, W, G> as Host>⟧.homedir self.old }
+        ensures failed { IsNone result → Rose (⟦<MemHost<'l, W, G> as Host>⟧.listens self.old)
+            (⟦<MemHost<'l, W, G> as Host>⟧.listens self.new) }
+        ensures listens { ⟦<MemHost<'l, W, G> as Host>⟧.listens self.old
+            ≤ ⟦<MemHost<'l, W, G> as Host>⟧.listens self.new }
+        ensures server { ⟦<MemHost<'l, W, G> as Host>⟧.server self.new
+            ≡ ⟦<MemHost<'l, W, G> as Host>⟧.server self.old }
+        ensures process { ⟦<MemHost<'l, W, G> as Host>⟧.process self.new
+            ≡ ⟦<MemHost<'l, W, G> as Host>⟧.process self.old }
+        ensures homedir { ⟦<MemHost<'l, W, G> as Host>⟧.homedir self.new
+            ≡ ⟦<MemHost<'l, W, G> as Host>⟧.homedir self.old }
     {
         if self.plan.next_fails() {
             return None;
@@ -221,9 +236,12 @@ impl<'l, W: Wait, G: Gate> Host for MemHost<'l, W, G> {
 
     fn parts_back(&mut self, parts: MemParts)
         ensures back { ⟦<MemHost<'l, W, G> as Host>⟧.server self.new ≡ Some parts }
-        ensures process { ⟦<MemHost<'l, W, G> as Host>⟧.process self.new ≡ ⟦<MemHost<'l, W, G> as Host>⟧.process self.old }
-        ensures listens { ⟦<MemHost<'l, W, G> as Host>⟧.listens self.new ≡ ⟦<MemHost<'l, W, G> as Host>⟧.listens self.old }
-        ensures homedir { ⟦<MemHost<'l, W, G> as Host>⟧.homedir self.new ≡ ⟦<MemHost<'l, W, G> as Host>⟧.homedir self.old }
+        ensures process { ⟦<MemHost<'l, W, G> as Host>⟧.process self.new
+            ≡ ⟦<MemHost<'l, W, G> as Host>⟧.process self.old }
+        ensures listens { ⟦<MemHost<'l, W, G> as Host>⟧.listens self.new
+            ≡ ⟦<MemHost<'l, W, G> as Host>⟧.listens self.old }
+        ensures homedir { ⟦<MemHost<'l, W, G> as Host>⟧.homedir self.new
+            ≡ ⟦<MemHost<'l, W, G> as Host>⟧.homedir self.old }
     {
         self.parts = Some(parts);
     }

@@ -54,7 +54,8 @@ impl MapKeys {
 
     /// No files yet. It takes no memory.
     pub fn new(alloc: Global, failing: Vec<u64>) -> Self
-        ensures keys { ⟦<MapKeys as Keys>⟧.keys result ≡ record { files = Some map.empty; faults = 0 } }
+        ensures keys { ⟦<MapKeys as Keys>⟧.keys result
+            ≡ record { files = Some map.empty; faults = 0 } }
         ensures plan { keys_plan result ≡ record { failing = failing.items; calls = 0; size = 0 } }
     {
         MapKeys {
@@ -66,8 +67,10 @@ impl MapKeys {
     /// Makes this the file of a key, as `replace` does. It counts as no call.
     pub fn insert(&mut self, grip: Grip, file: Vec<u8>) -> Result<(), AllocError>
         requires { vec_len file ≤ MAX_KEY_FILE_LEN }
-        ensures ok { OnOk result (⟦<MapKeys as Keys>⟧.keys self.new ≡ inserted grip file.items (⟦<MapKeys as Keys>⟧.keys self.old)) }
-        ensures err { OnErr result (⟦<MapKeys as Keys>⟧.keys self.new ≡ ⟦<MapKeys as Keys>⟧.keys self.old) }
+        ensures ok { OnOk result (⟦<MapKeys as Keys>⟧.keys self.new ≡ inserted grip file.items
+            (⟦<MapKeys as Keys>⟧.keys self.old)) }
+        ensures err { OnErr result
+            (⟦<MapKeys as Keys>⟧.keys self.new ≡ ⟦<MapKeys as Keys>⟧.keys self.old) }
         ensures plan { keys_plan self.new ≡ keys_plan self.old }
     {
         self.files.insert(grip, KeyFile::new(file))?;
@@ -78,7 +81,8 @@ impl MapKeys {
 impl MapKeys {
     /// No fault counts from now on.
     pub(crate) fn forget_faults(&mut self)
-        ensures { ⟦<MapKeys as Keys>⟧.keys self.new ≡ record (⟦<MapKeys as Keys>⟧.keys self.old) { faults = 0 } }
+        ensures { ⟦<MapKeys as Keys>⟧.keys self.new ≡ record (⟦<MapKeys as Keys>⟧.keys self.old)
+            { faults = 0 } }
     {
         self.plan.forget();
     }
@@ -90,10 +94,12 @@ impl Keys for MapKeys {
     ghost use Rattle.agent_ports.specs.MemPlans.{keys_plan};
     ghost use Rattle.agent_ports.specs.Plans.{Fails, after_call};
 
-    ghost keys = { λ k. record { files = Some (files_of k.files.entries); faults = k.plan.faults } };
+    ghost keys = { λ k.
+        record { files = Some (files_of k.files.entries); faults = k.plan.faults } };
 
     fn read(&mut self, alloc: Global, grip: &Grip) -> KeyRead
-        ensures reads { ReadsKey (⟦<MapKeys as Keys>⟧.keys self.old) grip.now result (⟦<MapKeys as Keys>⟧.keys self.new) }
+        ensures reads { ReadsKey (⟦<MapKeys as Keys>⟧.keys self.old) grip.now result
+            (⟦<MapKeys as Keys>⟧.keys self.new) }
 
         // What the plan says.
         ensures planned { (result ≡ KeyRead.Failed) ↔ Fails (keys_plan self.old) }
@@ -112,7 +118,8 @@ impl Keys for MapKeys {
     }
 
     fn list(&mut self, alloc: Global) -> KeyNames
-        ensures lists { ListsKeys (⟦<MapKeys as Keys>⟧.keys self.old) result (⟦<MapKeys as Keys>⟧.keys self.new) }
+        ensures lists { ListsKeys (⟦<MapKeys as Keys>⟧.keys self.old) result
+            (⟦<MapKeys as Keys>⟧.keys self.new) }
 
         // What the plan says.
         ensures planned { (result ≡ KeyNames.Failed) ↔ Fails (keys_plan self.old) }
@@ -129,7 +136,8 @@ impl Keys for MapKeys {
 
     fn replace(&mut self, alloc: Global, grip: &Grip, file: &[u8]) -> KeyDone
         requires { length file.now ≤ MAX_KEY_FILE_LEN }
-        ensures replaces { ReplacesKey (⟦<MapKeys as Keys>⟧.keys self.old) grip.now file.now result (⟦<MapKeys as Keys>⟧.keys self.new) }
+        ensures replaces { ReplacesKey (⟦<MapKeys as Keys>⟧.keys self.old) grip.now file.now result
+            (⟦<MapKeys as Keys>⟧.keys self.new) }
 
         // What the plan says.
         ensures planned { (result ≡ KeyDone.Failed) ↔ Fails (keys_plan self.old) }
@@ -148,7 +156,8 @@ impl Keys for MapKeys {
     }
 
     fn remove(&mut self, _alloc: Global, grip: &Grip) -> KeyDone
-        ensures removes { RemovesKey (⟦<MapKeys as Keys>⟧.keys self.old) grip.now result (⟦<MapKeys as Keys>⟧.keys self.new) }
+        ensures removes { RemovesKey (⟦<MapKeys as Keys>⟧.keys self.old) grip.now result
+            (⟦<MapKeys as Keys>⟧.keys self.new) }
 
         // What the plan says.
         ensures planned { (result ≡ KeyDone.Failed) ↔ Fails (keys_plan self.old) }

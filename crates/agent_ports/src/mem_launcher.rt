@@ -1,11 +1,15 @@
-ghost use Rattle.std.specs.Prelude.{◌≡◌, ◌<◌, ◌≤◌, ◌+◌, ◌↔◌, ◌⊎◌, ◌∷◌, [], Some, None, IfSome, IsNone, MatchOption, length, map, min, reverse, slice_get, take, refl};
+ghost use Rattle.std.specs.Prelude.{◌≡◌, ◌<◌, ◌≤◌, ◌+◌, ◌↔◌, ◌⊎◌, ◌∷◌, [], Some, None, IfSome};
+ghost use Rattle.std.specs.Prelude.{IsNone, MatchOption, length, map, min, reverse, slice_get};
+ghost use Rattle.std.specs.Prelude.{take, refl};
 ghost use Rattle.std.specs.Option.{option_map};
 ghost use Rattle.agent_ports.specs.Counts.{Rose, RoseBy};
 ghost use Rattle.agent_ports.specs.Launches.{IsFresh, child_then, then_launched, then_finished};
-ghost use Rattle.agent_ports.specs.MemLaunches.{gives_of, programs_of, latest_of, latest_first, coming_children, open_child, launch_plan};
+ghost use Rattle.agent_ports.specs.MemLaunches.{gives_of, programs_of, latest_of, latest_first};
+ghost use Rattle.agent_ports.specs.MemLaunches.{coming_children, open_child, launch_plan};
 ghost use Rattle.agent_ports.specs.MemPlans.{planned_link};
 ghost use Rattle.agent_ports.specs.Plans.{Fails, after_call};
-ghost use Rattle.agent_ports.specs.Sides.{followed_by, with_bytes, taken_by, IfBytes, sent_part, IfCut, IsCut};
+ghost use Rattle.agent_ports.specs.Sides.{followed_by, with_bytes, taken_by, IfBytes, sent_part};
+ghost use Rattle.agent_ports.specs.Sides.{IfCut, IsCut};
 ghost use Rattle.agent_ports.specs.declared.mem_launcher.Place.{out-Place};
 
 use crate::fault_plan::FaultPlan;
@@ -15,7 +19,8 @@ use std::alloc::Global;
 /// A child to be launched.
 pub type PlannedChild = PlannedLink;
 
-/// A child's link, with a place in the list of the finished ones, so that finishing it takes no memory.
+/// A child's link, with a place in the list of the finished ones, so that finishing it takes no
+/// memory.
 #[derive(Drop)]
 struct Place {
     link: MemLink,
@@ -25,7 +30,8 @@ struct Place {
 impl Place {
     /// What was written to the link this number of places before this one.
     fn written(&self, back: usize) -> Option<&[u8]>
-        ensures { option_map (λ bytes. bytes.now) result ≡ option_map (λ child. child.written) (slice_get (latest_of self.now) back) }
+        ensures { option_map (λ bytes. bytes.now) result
+            ≡ option_map (λ child. child.written) (slice_get (latest_of self.now) back) }
     {
         if back == 0 {
             return Some(self.link.written());
@@ -53,11 +59,17 @@ impl Source for MemChild {
     fn read(&mut self, buf: &mut [u8]) -> Got
         requires { 0 < length buf.old }
         ensures count { IfBytes result (λ n. (1 ≤ n) × (n ≤ length buf.old)) }
-        ensures taken { (⟦<MemChild as Source>⟧.input self.old).bytes ≡ followed_by (take (taken_by result) buf.new) (⟦<MemChild as Source>⟧.input self.new).bytes }
-        ensures end { result ≡ Got.End → IfSome (⟦<MemChild as Source>⟧.input self.old).bytes (λ rest. rest ≡ []) }
-        ensures failed { result ≡ Got.Failed → Rose (⟦<MemChild as Source>⟧.input self.old).faults (⟦<MemChild as Source>⟧.input self.new).faults }
-        ensures faults { (⟦<MemChild as Source>⟧.input self.old).faults ≤ (⟦<MemChild as Source>⟧.input self.new).faults }
-        ensures beside { ⟦<MemChild as Source>⟧.beside_input self.new ≡ ⟦<MemChild as Source>⟧.beside_input self.old }
+        ensures taken { (⟦<MemChild as Source>⟧.input self.old).bytes
+            ≡ followed_by (take (taken_by result) buf.new)
+            (⟦<MemChild as Source>⟧.input self.new).bytes }
+        ensures end { result ≡ Got.End
+            → IfSome (⟦<MemChild as Source>⟧.input self.old).bytes (λ rest. rest ≡ []) }
+        ensures failed { result ≡ Got.Failed → Rose (⟦<MemChild as Source>⟧.input self.old).faults
+            (⟦<MemChild as Source>⟧.input self.new).faults }
+        ensures faults { (⟦<MemChild as Source>⟧.input self.old).faults
+            ≤ (⟦<MemChild as Source>⟧.input self.new).faults }
+        ensures beside { ⟦<MemChild as Source>⟧.beside_input self.new
+            ≡ ⟦<MemChild as Source>⟧.beside_input self.old }
 
         // What the plan says.
         ensures planned { (result ≡ Got.Failed) ↔ Fails (child_reads self.old) }
@@ -79,10 +91,14 @@ impl Sink for MemChild {
 
     fn put(&mut self, bytes: &[u8]) -> Sent
         ensures cut { IfCut result (λ sent. sent ≤ length bytes.now) }
-        ensures written { (⟦<MemChild as Sink>⟧.output self.new).bytes ≡ with_bytes (⟦<MemChild as Sink>⟧.output self.old).bytes (sent_part bytes.now result) }
-        ensures failed { IsCut result → Rose (⟦<MemChild as Sink>⟧.output self.old).faults (⟦<MemChild as Sink>⟧.output self.new).faults }
-        ensures faults { (⟦<MemChild as Sink>⟧.output self.old).faults ≤ (⟦<MemChild as Sink>⟧.output self.new).faults }
-        ensures beside { ⟦<MemChild as Sink>⟧.beside_output self.new ≡ ⟦<MemChild as Sink>⟧.beside_output self.old }
+        ensures written { (⟦<MemChild as Sink>⟧.output self.new).bytes
+            ≡ with_bytes (⟦<MemChild as Sink>⟧.output self.old).bytes (sent_part bytes.now result) }
+        ensures failed { IsCut result → Rose (⟦<MemChild as Sink>⟧.output self.old).faults
+            (⟦<MemChild as Sink>⟧.output self.new).faults }
+        ensures faults { (⟦<MemChild as Sink>⟧.output self.old).faults
+            ≤ (⟦<MemChild as Sink>⟧.output self.new).faults }
+        ensures beside { ⟦<MemChild as Sink>⟧.beside_output self.new
+            ≡ ⟦<MemChild as Sink>⟧.beside_output self.old }
 
         // What the plan says, but where memory is wanted.
         ensures planned { Fails (child_writes self.old) → IsCut result }
@@ -101,8 +117,8 @@ impl Link for MemChild {
     ghost input_beside = { λ _. refl };
 }
 
-/// Launches the children of a list, one after another. A launch fails where its number, from 0, is among those that are to
-/// fail, and where no child is left.
+/// Launches the children of a list, one after another. A launch fails where its number, from 0, is
+/// among those that are to fail, and where no child is left.
 #[derive(Drop)]
 pub struct MemLauncher {
     alloc: Global,
@@ -113,6 +129,7 @@ pub struct MemLauncher {
 }
 
 impl MemLauncher {
+    /// A launcher of these children, which fails at the launches of these numbers, from 0.
     pub fn new(alloc: Global, children: Vec<PlannedChild>, failing: Vec<u64>) -> Self
         ensures launches { ⟦<MemLauncher as Launcher>⟧.launches result ≡ record {
           coming = Some (gives_of children.items);
@@ -121,7 +138,8 @@ impl MemLauncher {
           faults = 0;
         } }
         ensures children { coming_children result ≡ map planned_link children.items }
-        ensures plan { launch_plan result ≡ record { failing = failing.items; calls = 0; size = 0 } }
+        ensures plan { launch_plan result
+            ≡ record { failing = failing.items; calls = 0; size = 0 } }
     {
         MemLauncher {
             alloc,
@@ -145,11 +163,16 @@ impl MemLauncher {
 
     /// The next child, or none where none is left or memory is wanted.
     fn start(&mut self, program: &[u8]) -> Option<MemChild>
-        ensures fresh { IfSome result (λ child. IsFresh (⟦<MemChild as Source>⟧.input child) (⟦<MemChild as Sink>⟧.output child)) }
-        ensures coming { MatchOption result (self.new.coming ≡ self.old.coming)
-            (λ child. Some (gives_of self.old.coming.items) ≡ child_then (⟦<MemChild as Source>⟧.input child).bytes (Some (gives_of self.new.coming.items))) }
-        ensures launched { MatchOption result (programs_of self.new.launched.items ≡ programs_of self.old.launched.items)
-            (λ child. Some (programs_of self.new.launched.items) ≡ then_launched (Some (programs_of self.old.launched.items)) program.now) }
+        ensures fresh { IfSome result (λ child.
+            IsFresh (⟦<MemChild as Source>⟧.input child) (⟦<MemChild as Sink>⟧.output child)) }
+        ensures coming { MatchOption result
+            (self.new.coming ≡ self.old.coming) (λ child. Some (gives_of self.old.coming.items)
+            ≡ child_then (⟦<MemChild as Source>⟧.input child).bytes
+            (Some (gives_of self.new.coming.items))) }
+        ensures launched { MatchOption result
+            (programs_of self.new.launched.items ≡ programs_of self.old.launched.items)
+            (λ child. Some (programs_of self.new.launched.items)
+            ≡ then_launched (Some (programs_of self.old.launched.items)) program.now) }
         ensures finished { self.new.finished ≡ self.old.finished }
         ensures plan { self.new.plan ≡ self.old.plan }
         ensures none_left { coming_children self.old ≡ [] → IsNone result }
@@ -172,8 +195,9 @@ impl MemLauncher {
 
     /// What was written to the finished child of this number, counted from 0 at the last one.
     pub fn written(&self, back: usize) -> Option<&[u8]>
-        ensures { IfSome (⟦<MemLauncher as Launcher>⟧.launches self.now).finished (λ finished.
-            option_map (λ bytes. bytes.now) result ≡ option_map (λ child. child.written) (slice_get (reverse finished) back)) }
+        ensures { IfSome (⟦<MemLauncher as Launcher>⟧.launches self.now).finished
+            (λ finished. option_map (λ bytes. bytes.now) result
+            ≡ option_map (λ child. child.written) (slice_get (reverse finished) back)) }
     {
         match &self.finished {
             Some(place) => place.written(back),
@@ -185,7 +209,8 @@ impl MemLauncher {
 impl MemLauncher {
     /// No fault counts from now on.
     pub(crate) fn forget_faults(&mut self)
-        ensures { ⟦<MemLauncher as Launcher>⟧.launches self.new ≡ record (⟦<MemLauncher as Launcher>⟧.launches self.old) { faults = 0 } }
+        ensures { ⟦<MemLauncher as Launcher>⟧.launches self.new
+            ≡ record (⟦<MemLauncher as Launcher>⟧.launches self.old) { faults = 0 } }
     {
         self.plan.forget();
     }
@@ -203,14 +228,24 @@ impl Launcher for MemLauncher {
 
     /// Running out of memory is a fault like any other.
     fn launch(&mut self, program: &[u8]) -> Option<MemChild>
-        ensures fresh { IfSome result (λ child. IsFresh (⟦<MemChild as Source>⟧.input child) (⟦<MemChild as Sink>⟧.output child)) }
-        ensures coming { MatchOption result ((⟦<MemLauncher as Launcher>⟧.launches self.new).coming ≡ (⟦<MemLauncher as Launcher>⟧.launches self.old).coming)
-            (λ child. (⟦<MemLauncher as Launcher>⟧.launches self.old).coming ≡ child_then (⟦<MemChild as Source>⟧.input child).bytes (⟦<MemLauncher as Launcher>⟧.launches self.new).coming) }
-        ensures launched { MatchOption result ((⟦<MemLauncher as Launcher>⟧.launches self.new).launched ≡ (⟦<MemLauncher as Launcher>⟧.launches self.old).launched)
-            (λ child. (⟦<MemLauncher as Launcher>⟧.launches self.new).launched ≡ then_launched (⟦<MemLauncher as Launcher>⟧.launches self.old).launched program.now) }
-        ensures finished { (⟦<MemLauncher as Launcher>⟧.launches self.new).finished ≡ (⟦<MemLauncher as Launcher>⟧.launches self.old).finished }
-        ensures failed { IsNone result → Rose (⟦<MemLauncher as Launcher>⟧.launches self.old).faults (⟦<MemLauncher as Launcher>⟧.launches self.new).faults }
-        ensures faults { (⟦<MemLauncher as Launcher>⟧.launches self.old).faults ≤ (⟦<MemLauncher as Launcher>⟧.launches self.new).faults }
+        ensures fresh { IfSome result (λ child.
+            IsFresh (⟦<MemChild as Source>⟧.input child) (⟦<MemChild as Sink>⟧.output child)) }
+        ensures coming { MatchOption result ((⟦<MemLauncher as Launcher>⟧.launches self.new).coming
+            ≡ (⟦<MemLauncher as Launcher>⟧.launches self.old).coming)
+            (λ child. (⟦<MemLauncher as Launcher>⟧.launches self.old).coming
+            ≡ child_then (⟦<MemChild as Source>⟧.input child).bytes
+            (⟦<MemLauncher as Launcher>⟧.launches self.new).coming) }
+        ensures launched { MatchOption result
+            ((⟦<MemLauncher as Launcher>⟧.launches self.new).launched
+            ≡ (⟦<MemLauncher as Launcher>⟧.launches self.old).launched)
+            (λ child. (⟦<MemLauncher as Launcher>⟧.launches self.new).launched
+            ≡ then_launched (⟦<MemLauncher as Launcher>⟧.launches self.old).launched program.now) }
+        ensures finished { (⟦<MemLauncher as Launcher>⟧.launches self.new).finished
+            ≡ (⟦<MemLauncher as Launcher>⟧.launches self.old).finished }
+        ensures failed { IsNone result → Rose (⟦<MemLauncher as Launcher>⟧.launches self.old).faults
+            (⟦<MemLauncher as Launcher>⟧.launches self.new).faults }
+        ensures faults { (⟦<MemLauncher as Launcher>⟧.launches self.old).faults
+            ≤ (⟦<MemLauncher as Launcher>⟧.launches self.new).faults }
 
         // What the plan says, but where memory is wanted.
         ensures planned { Fails (launch_plan self.old) → IsNone result }
@@ -230,11 +265,19 @@ impl Launcher for MemLauncher {
     }
 
     fn finish(&mut self, child: MemChild)
-        ensures finished { (⟦<MemLauncher as Launcher>⟧.launches self.new).finished ≡ then_finished (⟦<MemLauncher as Launcher>⟧.launches self.old).finished (⟦<MemChild as Source>⟧.input child).bytes (⟦<MemChild as Sink>⟧.output child).bytes }
-        ensures coming { (⟦<MemLauncher as Launcher>⟧.launches self.new).coming ≡ (⟦<MemLauncher as Launcher>⟧.launches self.old).coming }
-        ensures launched { (⟦<MemLauncher as Launcher>⟧.launches self.new).launched ≡ (⟦<MemLauncher as Launcher>⟧.launches self.old).launched }
-        ensures rose { RoseBy ((⟦<MemChild as Source>⟧.input child).faults + (⟦<MemChild as Sink>⟧.output child).faults) (⟦<MemLauncher as Launcher>⟧.launches self.old).faults (⟦<MemLauncher as Launcher>⟧.launches self.new).faults }
-        ensures faults { (⟦<MemLauncher as Launcher>⟧.launches self.old).faults ≤ (⟦<MemLauncher as Launcher>⟧.launches self.new).faults }
+        ensures finished { (⟦<MemLauncher as Launcher>⟧.launches self.new).finished
+            ≡ then_finished (⟦<MemLauncher as Launcher>⟧.launches self.old).finished
+            (⟦<MemChild as Source>⟧.input child).bytes (⟦<MemChild as Sink>⟧.output child).bytes }
+        ensures coming { (⟦<MemLauncher as Launcher>⟧.launches self.new).coming
+            ≡ (⟦<MemLauncher as Launcher>⟧.launches self.old).coming }
+        ensures launched { (⟦<MemLauncher as Launcher>⟧.launches self.new).launched
+            ≡ (⟦<MemLauncher as Launcher>⟧.launches self.old).launched }
+        ensures rose { RoseBy ((⟦<MemChild as Source>⟧.input child).faults
+            + (⟦<MemChild as Sink>⟧.output child).faults)
+            (⟦<MemLauncher as Launcher>⟧.launches self.old).faults
+            (⟦<MemLauncher as Launcher>⟧.launches self.new).faults }
+        ensures faults { (⟦<MemLauncher as Launcher>⟧.launches self.old).faults
+            ≤ (⟦<MemLauncher as Launcher>⟧.launches self.new).faults }
 
         // What the plan says.
         ensures children { coming_children self.new ≡ coming_children self.old }

@@ -1,7 +1,10 @@
-ghost use Rattle.std.specs.Prelude.{◌≡◌, ◌≤◌, ◌<◌, ◌+◌, ◌^◌, ◌-◌, ◌↔◌, ◌⊎◌, IsTrue, [], length, take, drop, Some, None, IfSome, vec_len, Contains, min, max, refl};
+ghost use Rattle.std.specs.Prelude.{◌≡◌, ◌≤◌, ◌<◌, ◌+◌, ◌^◌, ◌-◌, ◌↔◌, ◌⊎◌, IsTrue, [], length};
+ghost use Rattle.std.specs.Prelude.{take, drop, Some, None, IfSome, vec_len, Contains, min, max};
+ghost use Rattle.std.specs.Prelude.{refl};
 ghost use Rattle.std.specs.Bool.{OnTrue, OnFalse};
 ghost use Rattle.agent_ports.specs.Counts.{Rose, RoseBy};
-ghost use Rattle.agent_ports.specs.Sides.{Side, followed_by, with_bytes, taken_by, IfBytes, sent_part, IfCut, IsCut};
+ghost use Rattle.agent_ports.specs.Sides.{Side, followed_by, with_bytes, taken_by, IfBytes};
+ghost use Rattle.agent_ports.specs.Sides.{sent_part, IfCut, IsCut};
 
 use crate::fault_plan::FaultPlan;
 use crate::{Got, Link, Sent, Sink, Source};
@@ -21,11 +24,13 @@ pub struct MemSource {
 impl MemSource {
     ghost use Rattle.agent_ports.specs.MemPlans.{source_plan};
 
-    /// A source of these bytes. No read gives more of them than `piece`, or than one where that is 0, and the reads of these
-    /// numbers, from 0, fail.
+    /// A source of these bytes. No read gives more of them than `piece`, or than one where that is
+    /// 0, and the reads of these numbers, from 0, fail.
     pub fn new(bytes: Vec<u8>, piece: usize, failing: Vec<u64>) -> Self
-        ensures input { ⟦<MemSource as Source>⟧.input result ≡ record { bytes = Some bytes.items; faults = 0 } }
-        ensures plan { source_plan result ≡ record { failing = failing.items; calls = 0; size = max piece 1 } }
+        ensures input { ⟦<MemSource as Source>⟧.input result
+            ≡ record { bytes = Some bytes.items; faults = 0 } }
+        ensures plan { source_plan result
+            ≡ record { failing = failing.items; calls = 0; size = max piece 1 } }
     {
         MemSource {
             bytes,
@@ -40,18 +45,25 @@ impl Source for MemSource {
     ghost use Rattle.agent_ports.specs.Plans.{Fails, after_call};
     ghost use Rattle.agent_ports.specs.MemPlans.{source_plan};
 
-    ghost input = { λ s. record { bytes = Some (drop s.taken s.bytes.items); faults = s.plan.faults } };
+    ghost input = { λ s.
+        record { bytes = Some (drop s.taken s.bytes.items); faults = s.plan.faults } };
 
     ghost beside_input = { λ _. record { bytes = None; faults = 0 } };
 
     fn read(&mut self, buf: &mut [u8]) -> Got
         requires { 0 < length buf.old }
         ensures count { IfBytes result (λ n. (1 ≤ n) × (n ≤ length buf.old)) }
-        ensures taken { (⟦<MemSource as Source>⟧.input self.old).bytes ≡ followed_by (take (taken_by result) buf.new) (⟦<MemSource as Source>⟧.input self.new).bytes }
-        ensures end { result ≡ Got.End → IfSome (⟦<MemSource as Source>⟧.input self.old).bytes (λ rest. rest ≡ []) }
-        ensures failed { result ≡ Got.Failed → Rose (⟦<MemSource as Source>⟧.input self.old).faults (⟦<MemSource as Source>⟧.input self.new).faults }
-        ensures faults { (⟦<MemSource as Source>⟧.input self.old).faults ≤ (⟦<MemSource as Source>⟧.input self.new).faults }
-        ensures beside { ⟦<MemSource as Source>⟧.beside_input self.new ≡ ⟦<MemSource as Source>⟧.beside_input self.old }
+        ensures taken { (⟦<MemSource as Source>⟧.input self.old).bytes
+            ≡ followed_by (take (taken_by result) buf.new)
+            (⟦<MemSource as Source>⟧.input self.new).bytes }
+        ensures end { result ≡ Got.End
+            → IfSome (⟦<MemSource as Source>⟧.input self.old).bytes (λ rest. rest ≡ []) }
+        ensures failed { result ≡ Got.Failed → Rose (⟦<MemSource as Source>⟧.input self.old).faults
+            (⟦<MemSource as Source>⟧.input self.new).faults }
+        ensures faults { (⟦<MemSource as Source>⟧.input self.old).faults
+            ≤ (⟦<MemSource as Source>⟧.input self.new).faults }
+        ensures beside { ⟦<MemSource as Source>⟧.beside_input self.new
+            ≡ ⟦<MemSource as Source>⟧.beside_input self.old }
 
         // What the plan says.
         ensures planned { (result ≡ Got.Failed) ↔ Fails (source_plan self.old) }
@@ -86,8 +98,10 @@ impl MemSink {
 
     /// A sink with no bytes. The writes of these numbers, from 0, fail after at most `kept` bytes.
     pub fn new(alloc: Global, kept: usize, failing: Vec<u64>) -> Self
-        ensures output { ⟦<MemSink as Sink>⟧.output result ≡ record { bytes = Some []; faults = 0 } }
-        ensures plan { sink_plan result ≡ record { failing = failing.items; calls = 0; size = kept } }
+        ensures output { ⟦<MemSink as Sink>⟧.output result
+            ≡ record { bytes = Some []; faults = 0 } }
+        ensures plan { sink_plan result
+            ≡ record { failing = failing.items; calls = 0; size = kept } }
     {
         MemSink {
             bytes: Vec::new(alloc),
@@ -115,10 +129,14 @@ impl Sink for MemSink {
     /// Running out of memory is a fault like any other.
     fn put(&mut self, bytes: &[u8]) -> Sent
         ensures cut { IfCut result (λ sent. sent ≤ length bytes.now) }
-        ensures written { (⟦<MemSink as Sink>⟧.output self.new).bytes ≡ with_bytes (⟦<MemSink as Sink>⟧.output self.old).bytes (sent_part bytes.now result) }
-        ensures failed { IsCut result → Rose (⟦<MemSink as Sink>⟧.output self.old).faults (⟦<MemSink as Sink>⟧.output self.new).faults }
-        ensures faults { (⟦<MemSink as Sink>⟧.output self.old).faults ≤ (⟦<MemSink as Sink>⟧.output self.new).faults }
-        ensures beside { ⟦<MemSink as Sink>⟧.beside_output self.new ≡ ⟦<MemSink as Sink>⟧.beside_output self.old }
+        ensures written { (⟦<MemSink as Sink>⟧.output self.new).bytes
+            ≡ with_bytes (⟦<MemSink as Sink>⟧.output self.old).bytes (sent_part bytes.now result) }
+        ensures failed { IsCut result → Rose (⟦<MemSink as Sink>⟧.output self.old).faults
+            (⟦<MemSink as Sink>⟧.output self.new).faults }
+        ensures faults { (⟦<MemSink as Sink>⟧.output self.old).faults
+            ≤ (⟦<MemSink as Sink>⟧.output self.new).faults }
+        ensures beside { ⟦<MemSink as Sink>⟧.beside_output self.new
+            ≡ ⟦<MemSink as Sink>⟧.beside_output self.old }
 
         // What the plan says, but where memory is wanted.
         ensures planned { Fails (sink_plan self.old) → IsCut result }
@@ -143,13 +161,17 @@ impl Sink for MemSink {
     }
 }
 
-/// A link to be opened: what it gives, at most `piece` bytes a read, or one where that is 0, and the reads and writes that fail, by
-/// their number from 0. A write that fails keeps nothing.
+/// A link to be opened: what it gives, at most `piece` bytes a read, or one where that is 0, and
+/// the reads and writes that fail, by their number from 0. A write that fails keeps nothing.
 #[derive(Debug, Drop)]
 pub struct PlannedLink {
+    /// The bytes that it gives.
     pub gives: Vec<u8>,
+    /// The most bytes that a read gives. 0 stands for one.
     pub piece: usize,
+    /// The numbers, from 0, of the reads that fail.
     pub failing_reads: Vec<u64>,
+    /// The numbers, from 0, of the writes that fail.
     pub failing_writes: Vec<u64>,
 }
 
@@ -181,6 +203,7 @@ pub struct MemLink {
 impl MemLink {
     ghost use Rattle.agent_ports.specs.MemPlans.{source_plan, sink_plan, read_plan, write_plan};
 
+    /// A link that reads from this source and writes to this sink.
     pub fn new(source: MemSource, sink: MemSink) -> Self
         ensures input { ⟦<MemLink as Source>⟧.input result ≡ ⟦<MemSource as Source>⟧.input source }
         ensures output { ⟦<MemLink as Sink>⟧.output result ≡ ⟦<MemSink as Sink>⟧.output sink }
@@ -217,11 +240,17 @@ impl Source for MemLink {
     fn read(&mut self, buf: &mut [u8]) -> Got
         requires { 0 < length buf.old }
         ensures count { IfBytes result (λ n. (1 ≤ n) × (n ≤ length buf.old)) }
-        ensures taken { (⟦<MemLink as Source>⟧.input self.old).bytes ≡ followed_by (take (taken_by result) buf.new) (⟦<MemLink as Source>⟧.input self.new).bytes }
-        ensures end { result ≡ Got.End → IfSome (⟦<MemLink as Source>⟧.input self.old).bytes (λ rest. rest ≡ []) }
-        ensures failed { result ≡ Got.Failed → Rose (⟦<MemLink as Source>⟧.input self.old).faults (⟦<MemLink as Source>⟧.input self.new).faults }
-        ensures faults { (⟦<MemLink as Source>⟧.input self.old).faults ≤ (⟦<MemLink as Source>⟧.input self.new).faults }
-        ensures beside { ⟦<MemLink as Source>⟧.beside_input self.new ≡ ⟦<MemLink as Source>⟧.beside_input self.old }
+        ensures taken { (⟦<MemLink as Source>⟧.input self.old).bytes
+            ≡ followed_by (take (taken_by result) buf.new)
+            (⟦<MemLink as Source>⟧.input self.new).bytes }
+        ensures end { result ≡ Got.End
+            → IfSome (⟦<MemLink as Source>⟧.input self.old).bytes (λ rest. rest ≡ []) }
+        ensures failed { result ≡ Got.Failed → Rose (⟦<MemLink as Source>⟧.input self.old).faults
+            (⟦<MemLink as Source>⟧.input self.new).faults }
+        ensures faults { (⟦<MemLink as Source>⟧.input self.old).faults
+            ≤ (⟦<MemLink as Source>⟧.input self.new).faults }
+        ensures beside { ⟦<MemLink as Source>⟧.beside_input self.new
+            ≡ ⟦<MemLink as Source>⟧.beside_input self.old }
 
         // What the plan says.
         ensures planned { (result ≡ Got.Failed) ↔ Fails (read_plan self.old) }
@@ -244,10 +273,14 @@ impl Sink for MemLink {
 
     fn put(&mut self, bytes: &[u8]) -> Sent
         ensures cut { IfCut result (λ sent. sent ≤ length bytes.now) }
-        ensures written { (⟦<MemLink as Sink>⟧.output self.new).bytes ≡ with_bytes (⟦<MemLink as Sink>⟧.output self.old).bytes (sent_part bytes.now result) }
-        ensures failed { IsCut result → Rose (⟦<MemLink as Sink>⟧.output self.old).faults (⟦<MemLink as Sink>⟧.output self.new).faults }
-        ensures faults { (⟦<MemLink as Sink>⟧.output self.old).faults ≤ (⟦<MemLink as Sink>⟧.output self.new).faults }
-        ensures beside { ⟦<MemLink as Sink>⟧.beside_output self.new ≡ ⟦<MemLink as Sink>⟧.beside_output self.old }
+        ensures written { (⟦<MemLink as Sink>⟧.output self.new).bytes
+            ≡ with_bytes (⟦<MemLink as Sink>⟧.output self.old).bytes (sent_part bytes.now result) }
+        ensures failed { IsCut result → Rose (⟦<MemLink as Sink>⟧.output self.old).faults
+            (⟦<MemLink as Sink>⟧.output self.new).faults }
+        ensures faults { (⟦<MemLink as Sink>⟧.output self.old).faults
+            ≤ (⟦<MemLink as Sink>⟧.output self.new).faults }
+        ensures beside { ⟦<MemLink as Sink>⟧.beside_output self.new
+            ≡ ⟦<MemLink as Sink>⟧.beside_output self.old }
 
         // What the plan says, but where memory is wanted.
         ensures planned { Fails (write_plan self.old) → IsCut result }

@@ -1,8 +1,10 @@
-ghost use Rattle.std.specs.Prelude.{◌≡◌, ◌≤◌, ◌<◌, ◌↔◌, ◌⊎◌, ◌∷◌, ◌++◌, [], ⊤, true, false, IfOk, map, length, slice_get, vec_len};
+ghost use Rattle.std.specs.Prelude.{◌≡◌, ◌≤◌, ◌<◌, ◌↔◌, ◌⊎◌, ◌∷◌, ◌++◌, [], ⊤, true, false, IfOk};
+ghost use Rattle.std.specs.Prelude.{map, length, slice_get, vec_len};
 ghost use Rattle.std.specs.Option.{option_map};
 ghost use Rattle.agent_ports.specs.Counts.{Rose};
 ghost use Rattle.agent_ports.specs.Listening.{IfLink, MatchNext, NothingFailed};
-ghost use Rattle.agent_ports.specs.MemListening.{listen_plan, coming_links, ended_texts, is_stopped, room};
+ghost use Rattle.agent_ports.specs.MemListening.{listen_plan, coming_links, ended_texts};
+ghost use Rattle.agent_ports.specs.MemListening.{is_stopped, room};
 ghost use Rattle.agent_ports.specs.MemPlans.{open_link, planned_link, written_text};
 ghost use Rattle.agent_ports.specs.Plans.{Fails, after_call};
 
@@ -41,8 +43,8 @@ impl Ear for MemEar {
     }
 }
 
-/// The links that a `ListListener` gives, and those whose sessions have ended. A call for the next one fails where its number, from 0,
-/// is among those that are to fail, and where no link is left.
+/// The links that a `ListListener` gives, and those whose sessions have ended. A call for the next
+/// one fails where its number, from 0, is among those that are to fail, and where no link is left.
 #[derive(Drop)]
 pub struct ListedLinks {
     alloc: Global,
@@ -60,8 +62,11 @@ impl ListedLinks {
         failing: Vec<u64>,
     ) -> Result<Self, AllocError>
         ensures coming { IfOk result (λ made. coming_links made ≡ map planned_link links.items) }
-        ensures ended { IfOk result (λ made. (ended_texts made ≡ []) × (vec_len links ≤ room made)) }
-        ensures plan { IfOk result (λ made. (listen_plan made ≡ record { failing = failing.items; calls = 0; size = 0 }) × (is_stopped made ≡ false)) }
+        ensures ended { IfOk result
+            (λ made. (ended_texts made ≡ []) × (vec_len links ≤ room made)) }
+        ensures plan { IfOk result
+            (λ made. (listen_plan made ≡ record { failing = failing.items; calls = 0; size = 0 })
+            × (is_stopped made ≡ false)) }
     {
         let ended = Vec::with_capacity(alloc, links.len())?;
         Ok(ListedLinks {
@@ -80,7 +85,8 @@ impl ListedLinks {
         self.coming.len()
     }
 
-    /// What was written to the ended link of this number, counted from 0 in the order in which the sessions ended.
+    /// What was written to the ended link of this number, counted from 0 in the order in which the
+    /// sessions ended.
     pub fn written(&self, others: usize) -> Option<&[u8]>
         ensures { option_map (λ bytes. bytes.now) result ≡ slice_get (ended_texts self.now) others }
     {
@@ -93,12 +99,18 @@ impl ListedLinks {
     /// The next link, as `Listener::next` gives it.
     pub fn next(&mut self, ear: &mut MemEar) -> Next<MemLink>
         ensures stopped { (result ≡ Next.Stopped) ↔ (is_stopped self.old ≡ true) }
-        ensures failed { (result ≡ Next.Failed) ↔ ((is_stopped self.old ≡ false) × (Fails (listen_plan self.old) ⊎ (coming_links self.old ≡ []))) }
-        ensures given { MatchNext result (λ link. coming_links self.old ≡ open_link link ∷ coming_links self.new) (coming_links self.new ≡ coming_links self.old) }
-        ensures link { IfLink result (λ link. NothingFailed (⟦<MemLink as Source>⟧.input link) (⟦<MemLink as Sink>⟧.output link)) }
+        ensures failed { (result ≡ Next.Failed) ↔ ((is_stopped self.old ≡ false)
+            × (Fails (listen_plan self.old) ⊎ (coming_links self.old ≡ []))) }
+        ensures given { MatchNext result
+            (λ link. coming_links self.old ≡ open_link link ∷ coming_links self.new)
+            (coming_links self.new ≡ coming_links self.old) }
+        ensures link { IfLink result (λ link.
+            NothingFailed (⟦<MemLink as Source>⟧.input link) (⟦<MemLink as Sink>⟧.output link)) }
         ensures calls { listen_plan self.new ≡ after_call (listen_plan self.old) }
-        ensures others { (is_stopped self.new ≡ is_stopped self.old) × (ended_texts self.new ≡ ended_texts self.old) × (room self.new ≡ room self.old) }
-        ensures rose { result ≡ Next.Failed → Rose (⟦<MemEar as Ear>⟧.faults ear.old) (⟦<MemEar as Ear>⟧.faults ear.new) }
+        ensures others { (is_stopped self.new ≡ is_stopped self.old)
+            × (ended_texts self.new ≡ ended_texts self.old) × (room self.new ≡ room self.old) }
+        ensures rose { result ≡ Next.Failed
+            → Rose (⟦<MemEar as Ear>⟧.faults ear.old) (⟦<MemEar as Ear>⟧.faults ear.new) }
         ensures faults { ⟦<MemEar as Ear>⟧.faults ear.old ≤ ⟦<MemEar as Ear>⟧.faults ear.new }
     {
         let fails = self.plan.next_fails();
@@ -114,8 +126,10 @@ impl ListedLinks {
 
     /// Keeps a link whose session has ended, where there is room.
     pub fn done(&mut self, link: MemLink)
-        ensures kept { length (ended_texts self.old) < room self.old → ended_texts self.new ≡ ended_texts self.old ++ written_text link ∷ [] }
-        ensures others { (coming_links self.new ≡ coming_links self.old) × (is_stopped self.new ≡ is_stopped self.old)
+        ensures kept { length (ended_texts self.old) < room self.old
+            → ended_texts self.new ≡ ended_texts self.old ++ written_text link ∷ [] }
+        ensures others { (coming_links self.new ≡ coming_links self.old)
+            × (is_stopped self.new ≡ is_stopped self.old)
             × (listen_plan self.new ≡ listen_plan self.old) × (room self.new ≡ room self.old) }
     {
         if self.ended.len() < self.ended.capacity() {
@@ -126,15 +140,16 @@ impl ListedLinks {
     /// From now on no link is given.
     pub fn stop(&mut self)
         ensures stopped { is_stopped self.new ≡ true }
-        ensures others { (coming_links self.new ≡ coming_links self.old) × (ended_texts self.new ≡ ended_texts self.old)
+        ensures others { (coming_links self.new ≡ coming_links self.old)
+            × (ended_texts self.new ≡ ended_texts self.old)
             × (listen_plan self.new ≡ listen_plan self.old) × (room self.new ≡ room self.old) }
     {
         self.stopped = true;
     }
 }
 
-/// Gives the links of a list, which lies behind a lock, one after another. Whoever has the list reads in the end what the links were
-/// written.
+/// Gives the links of a list, which lies behind a lock, one after another. Whoever has the list
+/// reads in the end what the links were written.
 #[derive(Drop)]
 pub struct ListListener<'l, W> {
     rt: &'l W,
@@ -143,6 +158,7 @@ pub struct ListListener<'l, W> {
 }
 
 impl<'l, W: Wait> ListListener<'l, W> {
+    /// One whose links are those of the user's own sessions.
     pub fn new(rt: &'l W, links: &'l Mutex<ListedLinks>) -> Self {
         ListListener::at(rt, links, false)
     }

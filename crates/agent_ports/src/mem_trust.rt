@@ -14,8 +14,10 @@ pub struct MemTrust {
 }
 
 impl MemTrust {
+    /// A file of these bytes, or none, of which the calls of these numbers, from 0, fail.
     pub fn new(file: Option<Vec<u8>>, failing: Vec<u64>) -> Self
-        ensures trust { ⟦<MemTrust as TrustFile>⟧.trust result ≡ record { file = Some (option_map (λ bytes. bytes.items) file); faults = 0 } }
+        ensures trust { ⟦<MemTrust as TrustFile>⟧.trust result
+            ≡ record { file = Some (option_map (λ bytes. bytes.items) file); faults = 0 } }
         ensures plan { trust_plan result ≡ record { failing = failing.items; calls = 0; size = 0 } }
     {
         MemTrust {
@@ -26,7 +28,8 @@ impl MemTrust {
 
     /// The bytes of the file, or none where there is no file. It counts as no call.
     pub fn file(&self) -> Option<&[u8]>
-        ensures { (⟦<MemTrust as TrustFile>⟧.trust self.now).file ≡ Some (option_map (λ bytes. bytes.now) result) }
+        ensures { (⟦<MemTrust as TrustFile>⟧.trust self.now).file
+            ≡ Some (option_map (λ bytes. bytes.now) result) }
     {
         match &self.file {
             Some(bytes) => Some(bytes),
@@ -38,7 +41,8 @@ impl MemTrust {
 impl MemTrust {
     /// No fault counts from now on.
     pub(crate) fn forget_faults(&mut self)
-        ensures { ⟦<MemTrust as TrustFile>⟧.trust self.new ≡ record (⟦<MemTrust as TrustFile>⟧.trust self.old) { faults = 0 } }
+        ensures { ⟦<MemTrust as TrustFile>⟧.trust self.new
+            ≡ record (⟦<MemTrust as TrustFile>⟧.trust self.old) { faults = 0 } }
     {
         self.plan.forget();
     }
@@ -48,10 +52,12 @@ impl TrustFile for MemTrust {
     ghost use Rattle.agent_ports.specs.Plans.{Fails, after_call};
     ghost use Rattle.agent_ports.specs.TrustFiles.{ReadsTrust, ReplacesTrust};
 
-    ghost trust = { λ t. record { file = Some (option_map (λ bytes. bytes.items) t.file); faults = t.plan.faults } };
+    ghost trust = { λ t.
+        record { file = Some (option_map (λ bytes. bytes.items) t.file); faults = t.plan.faults } };
 
     fn read(&mut self, alloc: Global) -> TrustRead
-        ensures reads { ReadsTrust (⟦<MemTrust as TrustFile>⟧.trust self.old) result (⟦<MemTrust as TrustFile>⟧.trust self.new) }
+        ensures reads { ReadsTrust (⟦<MemTrust as TrustFile>⟧.trust self.old) result
+            (⟦<MemTrust as TrustFile>⟧.trust self.new) }
 
         // What the plan says.
         ensures planned { (result ≡ TrustRead.Failed) ↔ Fails (trust_plan self.old) }
@@ -70,7 +76,8 @@ impl TrustFile for MemTrust {
     }
 
     fn replace(&mut self, alloc: Global, file: &[u8]) -> TrustDone
-        ensures replaces { ReplacesTrust (⟦<MemTrust as TrustFile>⟧.trust self.old) file.now result (⟦<MemTrust as TrustFile>⟧.trust self.new) }
+        ensures replaces { ReplacesTrust (⟦<MemTrust as TrustFile>⟧.trust self.old) file.now result
+            (⟦<MemTrust as TrustFile>⟧.trust self.new) }
 
         // What the plan says.
         ensures planned { (result ≡ TrustDone.Failed) ↔ Fails (trust_plan self.old) }

@@ -5,18 +5,24 @@ use std::alloc::Global;
 /// What a read of the trust file gave.
 #[derive(Debug, Drop)]
 pub enum TrustRead {
+    /// The bytes of the file.
     Found(Vec<u8>),
     /// There is no such file.
     Absent,
+    /// The read failed.
     Failed,
+    /// There was no memory for the file.
     NoMemory,
 }
 
 /// What became of a new trust file. All but `Done` leave the one before as it was.
 #[derive(Clone, Copy, Debug, PartialEq, Eq)]
 pub enum TrustDone {
+    /// The file was replaced.
     Done,
+    /// The file couldn't be replaced.
     Failed,
+    /// There was no memory for the change.
     NoMemory,
 }
 

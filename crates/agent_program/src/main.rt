@@ -1,20 +1,12 @@
 //! The agent as a program: standard input, standard output and the machine, handed to `run_agent`.
 //!
-//! Begin with `main`. The clock, the launcher, the dice and the host keep the promises of `agent_ports` and leave their contents unknown:
-//! faults are counted, the rest is tested (`tools/statuses`, `tools/with-gnupg`). There are no definitions.
+//! Begin with `main`. What the machine gives is `agent_host`'s; here are the words of the command
+//! line and what a status says on the error stream, which are tested (`tools/statuses`). There are
+//! no definitions.
 #![tactic(auto)]
 
-mod clock;
-mod dice;
-mod faults;
-mod host;
-mod keys;
-mod launcher;
-mod no_folder;
-mod trust;
-
+use agent_host::SystemHost;
 use agent_top::{Status, run_agent};
-use host::SystemHost;
 use std::io::ErrorKind;
 use std::process::ExitCode;
 use std::{env, process};
@@ -31,7 +23,8 @@ fn main(rt: HostRuntime) -> ExitCode {
     end(&rt, status)
 }
 
-/// Ends with this status, and a line on the error stream that says why. Where that can't be written nobody is to be told.
+/// Ends with this status, and a line on the error stream that says why. Where that can't be written
+/// nobody is to be told.
 fn end(rt: &HostRuntime, status: u8) -> ExitCode {
     if let Some(reason) = reason(status) {
         let _ = eprintln!(rt; "agent: {reason} (status {status})");
@@ -53,8 +46,8 @@ fn reason(status: u8) -> Option<&'static str> {
     }
 }
 
-/// The words of the command line without the program's name, or the status where they can't be had. Words that can't be read are
-/// none that the agent takes.
+/// The words of the command line without the program's name, or the status where they can't be had.
+/// Words that can't be read are none that the agent takes.
 fn words_of(rt: &HostRuntime) -> Result<Vec<String>, Status> {
     let all = env::args(rt).map_err(|fault| match fault.kind() {
         ErrorKind::OutOfMemory => Status::NoMemory,

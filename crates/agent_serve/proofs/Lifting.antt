@@ -3,9 +3,8 @@ use Rattle.std.proofs.Common.{◌≡◌, List, [], ◌++◌, Option, None, Some,
 use Rattle.std.specs.Prelude.{is_some}
 use Rattle.agent_ask.specs.Doing.{called, out_of_memory}
 use Rattle.agent_ask.specs.Events.{Call}
-use Rattle.agent_ask.specs.Further.{prompt, keys, dice, no_memory}
-use Rattle.agent_origin.specs.OriginEvents.{Event}
-use Rattle.agent_origin.specs.Origins.{origin_world, session, trust}
+use Rattle.agent_ask.specs.Further.{prompt, keys, dice, trust, no_memory}
+use Rattle.agent_origin.specs.FurtherStates.{FurtherWorld, surroundings}
 use Rattle.agent_origin.specs.declared.door.Door.{Door}
 use Rattle.agent_ask.specs.SessionEvents.{turns_in}
 use Rattle.agent_ask.specs.Worlds.{Outside, Does, received, sent, cut, asked, not_asked, turned, further}
@@ -19,6 +18,7 @@ use Rattle.agent_ports.specs.Readings.{Readings}
 use Rattle.agent_ports.specs.Sides.{Side}
 use Rattle.cache_policy.specs.Extending.{Taken}
 use Rattle.cache_policy.specs.declared.mark.Mark.{Mark}
+use Rattle.key_commands.specs.Events.{Event}
 use Rattle.counted_lock.specs.Turns.{AtCountedDesk, CountedTurn}
 use Rattle.pinentry_client.specs.Dialogues.{PinentryDoes, PinentryCall}
 use Rattle.pinentry_client.specs.States.{PinentryState, AtPinentry, at_pinentry, at_prompter, idle}
@@ -27,7 +27,7 @@ use Rattle.agent_ask.specs.Prompters.{IsShut}
 use Rattle.agent_commands.specs.declared.went.SessionEnd.{SessionEnd}
 use Rattle.agent_ports.specs.declared.host.Parts.{Parts}
 use Rattle.agent_ports.specs.declared.session.SessionId.{SessionId}
-use Rattle.agent_origin.specs.DoorSessions.{door_surroundings, ServesDoor}
+use Rattle.agent_origin.specs.DoorSessions.{ServesDoor}
 use Rattle.agent_origin.specs.Sessions.{ends_with, supply_of}
 use Rattle.agent_ports.specs.TrustFiles.{TrustState}
 use Rattle.counted_lock.specs.Passes.{AtPass}
@@ -41,10 +41,10 @@ abbrev pub GatedCall : {La : Type 0} → (La → Launches) → Gated (PinentrySt
 GatedCall launches before call after = PinentryCall launches before.prompter call after.prompter
 
 abbrev pub held_world : {C La : Type 0} → (C → Readings) → (La → Launches) → World
-held_world readings launches = origin_world (CountedTurn readings) (GatedCall launches)
+held_world readings launches = FurtherWorld (CountedTurn readings) (GatedCall launches)
 
 abbrev pub seen_world : World
-seen_world = origin_world (CountedTurn (λ (clock : Readings). clock)) PinentryDoes
+seen_world = FurtherWorld (CountedTurn (λ (clock : Readings). clock)) PinentryDoes
 
 abbrev pub seen_desk : {C : Type 0} → (C → Readings) → AtCountedDesk C → AtCountedDesk Readings
 seen_desk readings desk = record { pass = desk.pass; session = desk.session; out = desk.out; clock = readings desk.clock }
@@ -57,11 +57,9 @@ module _ {C La : Type 0} (readings : C → Readings) (launches : La → Launches
     output = ends.output;
     desk = seen_desk readings ends.desk;
     ends = record {
-      further = record {
-        prompter = at_pinentry launches ends.ends.further.prompter.prompter;
-        keys = ends.ends.further.keys;
-        dice = ends.ends.further.dice;
-      };
+      prompter = at_pinentry launches ends.ends.prompter.prompter;
+      keys = ends.ends.keys;
+      dice = ends.ends.dice;
       trust = ends.ends.trust;
     };
   }
@@ -76,7 +74,7 @@ module _ {C La : Type 0} (readings : C → Readings) (launches : La → Launches
 
   pub record Lifts (before after : Outside (held_world readings launches)) (events : List Event) : Type 0 where
     pub leads : Leads (Does seen_world supply) (with_seen before) events (with_seen after)
-    pub goes : Goes before.desk before.ends.further.prompter.prompter (turns_in events) after.desk after.ends.further.prompter.prompter
+    pub goes : Goes before.desk before.ends.prompter.prompter (turns_in events) after.desk after.ends.prompter.prompter
 
   pub lifts : {before after : Outside (held_world readings launches)} {events : List Event}
       → Leads (Does (held_world readings launches) supply) before events after → Lifts before after events
@@ -100,16 +98,16 @@ module _ {C La : Type 0} (readings : C → Readings) (launches : La → Launches
               (subst (λ s. PassTurns s mid.desk.pass (readings mid.desk.clock) (turns_in later) r.goes.own after.desk.pass (readings after.desk.clock)) same r.goes.turns);
         };
       }
-  lifts (one (further (session (prompt (called does)))) more) =
+  lifts (one (further (prompt (called does))) more) =
       let r = lifts more in
       record {
-        leads = one (further (session (prompt (called does.does)))) r.leads;
+        leads = one (further (prompt (called does.does))) r.leads;
         goes = record { program = r.goes.program ∙ does.program; lent = r.goes.lent ∙ does.lent; session = r.goes.session; own = r.goes.own; turns = r.goes.turns };
       }
-  lifts (one (further (session (prompt out_of_memory))) more) = let r = lifts more in record { leads = one (further (session (prompt out_of_memory))) r.leads; goes = r.goes }
-  lifts (one (further (session (keys does))) more) = let r = lifts more in record { leads = one (further (session (keys does))) r.leads; goes = r.goes }
-  lifts (one (further (session (dice does))) more) = let r = lifts more in record { leads = one (further (session (dice does))) r.leads; goes = r.goes }
-  lifts (one (further (session no_memory)) more) = let r = lifts more in record { leads = one (further (session no_memory)) r.leads; goes = r.goes }
+  lifts (one (further (prompt out_of_memory)) more) = let r = lifts more in record { leads = one (further (prompt out_of_memory)) r.leads; goes = r.goes }
+  lifts (one (further (keys does)) more) = let r = lifts more in record { leads = one (further (keys does)) r.leads; goes = r.goes }
+  lifts (one (further (dice does)) more) = let r = lifts more in record { leads = one (further (dice does)) r.leads; goes = r.goes }
+  lifts (one (further no_memory) more) = let r = lifts more in record { leads = one (further no_memory) r.leads; goes = r.goes }
   lifts (one (further (trust does)) more) = let r = lifts more in record { leads = one (further (trust does)) r.leads; goes = r.goes }
 
 no_some : {A : Type 0} (child : Option A) → is_some child ≡ false → child ≡ None
@@ -133,16 +131,16 @@ module _ {C La R K T : Type 0} (views : Views La C R K) (trusts : T → TrustSta
     (trust_in : folder.trust trust_file)
     (own : gated.prompter.launcher ≡ parts.launcher)
     (served : ServesDoor (CountedTurn views.readings) (GatedCall views.launches) door rules
-    (door_surroundings (CountedTurn views.readings) (GatedCall views.launches) before.input before.output desk gated (views.keys parts.keys) (views.draws parts.dice) (trusts trust_file)) end
-    (door_surroundings (CountedTurn views.readings) (GatedCall views.launches) after.input after.output desk_now gated_now keys_now dice_now trust_now))
+    (surroundings (CountedTurn views.readings) (GatedCall views.launches) before.input before.output desk gated (views.keys parts.keys) (views.draws parts.dice) (trusts trust_file)) end
+    (surroundings (CountedTurn views.readings) (GatedCall views.launches) after.input after.output desk_now gated_now keys_now dice_now trust_now))
     (free : desk_now.out ≡ None)
     (shut : IsShut (at_prompter (at_pinentry views.launches gated_now.prompter))) where
   abbrev first : AtPass
   first = record pass { sessions = session.count + 1 }
 
   lifted : Lifts views.readings views.launches (supply_of before.input.bytes)
-      (ends_with before.input.bytes (door_surroundings (CountedTurn views.readings) (GatedCall views.launches) before.input before.output desk gated (views.keys parts.keys) (views.draws parts.dice) (trusts trust_file)))
-      (ends_with served.rest (door_surroundings (CountedTurn views.readings) (GatedCall views.launches) after.input after.output desk_now gated_now keys_now dice_now trust_now)) served.events
+      (ends_with before.input.bytes (surroundings (CountedTurn views.readings) (GatedCall views.launches) before.input before.output desk gated (views.keys parts.keys) (views.draws parts.dice) (trusts trust_file)))
+      (ends_with served.rest (surroundings (CountedTurn views.readings) (GatedCall views.launches) after.input after.output desk_now gated_now keys_now dice_now trust_now)) served.events
   lifted = lifts views.readings views.launches (supply_of before.input.bytes) served.leads
 
   idle_now : at_pinentry views.launches gated_now.prompter ≡ idle rules.pinentry.items (views.launches gated_now.prompter.launcher)
@@ -157,8 +155,8 @@ module _ {C La R K T : Type 0} (views : Views La C R K) (trusts : T → TrustSta
   abbrev leads_from : AtCountedDesk Readings → AtCountedDesk Readings → AtPinentry → AtPinentry → Type 0
   leads_from from to asks asks_now =
       Leads (Does seen_world (supply_of before.input.bytes))
-      (ends_with before.input.bytes (door_surroundings (CountedTurn (λ (c : Readings). c)) PinentryDoes before.input before.output from asks (views.keys parts.keys) (views.draws parts.dice) (trusts trust_file))) served.events
-      (ends_with served.rest (door_surroundings (CountedTurn (λ (c : Readings). c)) PinentryDoes after.input after.output to asks_now keys_now dice_now trust_now))
+      (ends_with before.input.bytes (surroundings (CountedTurn (λ (c : Readings). c)) PinentryDoes before.input before.output from asks (views.keys parts.keys) (views.draws parts.dice) (trusts trust_file))) served.events
+      (ends_with served.rest (surroundings (CountedTurn (λ (c : Readings). c)) PinentryDoes after.input after.output to asks_now keys_now dice_now trust_now))
 
   session_leads : leads_from (desk_at first session (views.readings parts.clock)) (desk_at desk_now.pass session (views.readings desk_now.clock))
       (idle rules.pinentry.items (views.launches gated.prompter.launcher)) (idle rules.pinentry.items (views.launches gated_now.prompter.launcher))

@@ -12,8 +12,8 @@ use Rattle.agent_ports.specs.declared.host.Parts.{Parts}
 use Rattle.agent_ports.specs.declared.session.SessionId.{SessionId}
 use Rattle.agent_ports.specs.TrustFiles.{TrustState}
 use Rattle.agent_origin.specs.declared.door.Door.{Door}
-use Rattle.agent_origin.specs.DoorSessions.{door_surroundings, ServesDoor}
-use Rattle.agent_origin.specs.Origins.{origin_world}
+use Rattle.agent_origin.specs.DoorSessions.{ServesDoor}
+use Rattle.agent_origin.specs.FurtherStates.{FurtherWorld, surroundings}
 use Rattle.agent_origin.specs.Sessions.{Surroundings}
 use Rattle.cache_policy.specs.declared.mark.Mark.{Mark}
 use Rattle.cache_policy.specs.Extending.{Taken}
@@ -71,9 +71,9 @@ abbrev pub desk_at : AtPass → SessionId → Readings → AtCountedDesk Reading
 desk_at pass session clock = record { pass = pass; session = session; out = None; clock = clock }
 
 -- the desk, the pinentry that the rules name, of which no child stands, the keys, the dice and the trust file, as what a session has to do with
-abbrev pub at_pass : Rules → SessionId → LinkSides → AtPass → Readings → Launches → KeyFiles → Side → TrustState → Surroundings (origin_world (CountedTurn (λ clock. clock)) PinentryDoes)
+abbrev pub at_pass : Rules → SessionId → LinkSides → AtPass → Readings → Launches → KeyFiles → Side → TrustState → Surroundings (FurtherWorld (CountedTurn (λ clock. clock)) PinentryDoes)
 at_pass rules session link pass clock launches keys dice trust_file =
-    door_surroundings (CountedTurn (λ readings. readings)) PinentryDoes link.input link.output (desk_at pass session clock) (idle rules.pinentry.items launches) keys dice trust_file
+    surroundings (CountedTurn (λ readings. readings)) PinentryDoes link.input link.output (desk_at pass session clock) (idle rules.pinentry.items launches) keys dice trust_file
 
 -- A session was served at this pass that came in by this door, with new parts of its own and a trust file of which no call had failed, all of the
 -- types that the host has: so by a clock, a launcher, keys, dice and a trust file of the host's. The keys and the trust file were those of the folder. It ended so, and no ticket and no child of it is

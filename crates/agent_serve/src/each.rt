@@ -18,8 +18,9 @@ pub(crate) trait Task<J, K> {
         ensures { did self.now job ear result };
 }
 
-/// Runs the task for each pair, but `last` for the last one: the first one in this thread, and each other one in a thread of its own. One for which no
-/// thread can be made is run when those before it are done, so the first one runs in any case. All come back, in their order.
+/// Runs the task for each pair, but `last` for the last one: the first one in this thread, and each
+/// other one in a thread of its own. One for which no thread can be made is run when those before
+/// it are done, so the first one runs in any case. All come back, in their order.
 pub(crate) fn run_each<W: Threads + Sync, J: Send + Drop, K: Send + Drop, T: Task<J, K> + Sync>(
     rt: &W,
     task: &T,
@@ -27,10 +28,13 @@ pub(crate) fn run_each<W: Threads + Sync, J: Send + Drop, K: Send + Drop, T: Tas
     jobs: Vec<J>,
     ears: Vec<K>,
 ) -> (Vec<J>, Vec<K>)
-    requires { Paired (T.takes task.now) jobs.items ears.items × Paired (T.takes last.now) jobs.items ears.items }
+    requires { Paired (T.takes task.now) jobs.items ears.items
+        × Paired (T.takes last.now) jobs.items ears.items }
     ensures lens { (vec_len result.0 ≡ vec_len jobs) × (vec_len result.1 ≡ vec_len ears) }
-    ensures room { (vec_capacity result.0 ≡ vec_capacity jobs) × (vec_capacity result.1 ≡ vec_capacity ears) }
-    ensures each { PairedTo (T.did task.now) (T.did last.now) jobs.items ears.items result.0.items result.1.items }
+    ensures room { (vec_capacity result.0 ≡ vec_capacity jobs)
+        × (vec_capacity result.1 ≡ vec_capacity ears) }
+    ensures each { PairedTo (T.did task.now)
+        (T.did last.now) jobs.items ears.items result.0.items result.1.items }
 {
     let mut jobs = jobs;
     let mut ears = ears;
@@ -48,10 +52,12 @@ pub(crate) fn run_each<W: Threads + Sync, J: Send + Drop, K: Send + Drop, T: Tas
         ensures { T.did last.entry.now job ear result }
     { last.run(job, ear) };
     let front = move || -> (Vec<J>, Vec<K>)
-        requires { IsSync W.row × IsSync T.row × IsSend J.row × IsSend K.row × Paired (T.takes task.now) jobs.items ears.items }
-        ensures { (vec_len result.0 ≡ vec_len jobs) × (vec_len result.1 ≡ vec_len ears) × (vec_capacity result.0 ≡ vec_capacity jobs)
-            × (vec_capacity result.1 ≡ vec_capacity ears)
-            × PairedTo (T.did task.entry.now) (T.did task.entry.now) jobs.items ears.items result.0.items result.1.items }
+        requires { IsSync W.row × IsSync T.row × IsSend J.row × IsSend K.row
+            × Paired (T.takes task.now) jobs.items ears.items }
+        ensures { (vec_len result.0 ≡ vec_len jobs) × (vec_len result.1 ≡ vec_len ears)
+            × (vec_capacity result.0 ≡ vec_capacity jobs)
+            × (vec_capacity result.1 ≡ vec_capacity ears) × PairedTo (T.did task.entry.now)
+            (T.did task.entry.now) jobs.items ears.items result.0.items result.1.items }
     { run_each(rt, task, task, jobs, ears) };
     // Where no thread can be made `join` calls its first closure last.
     let ((job, ear), (mut jobs, mut ears)) = thread::join(rt, back, front);
@@ -69,9 +75,12 @@ fn pop_pair<J: Drop, K: Drop, T: Task<J, K>>(
 ) -> Option<(J, K)>
     requires other { Paired (T.takes _task.now) jobs.old.items ears.old.items }
     requires last { Paired (T.takes _last.now) jobs.old.items ears.old.items }
-    ensures some { IfSome result (λ pair. HasPopped (T.takes _task.now) (T.takes _last.now) jobs.old.items ears.old.items pair.0 pair.1 jobs.new.items ears.new.items) }
-    ensures none { IfNone result ((jobs.old.items ≡ []) × (ears.old.items ≡ []) × (jobs.new.items ≡ []) × (ears.new.items ≡ [])) }
-    ensures room { (vec_capacity jobs.new ≡ vec_capacity jobs.old) × (vec_capacity ears.new ≡ vec_capacity ears.old) }
+    ensures some { IfSome result (λ pair. HasPopped (T.takes _task.now) (T.takes _last.now)
+        jobs.old.items ears.old.items pair.0 pair.1 jobs.new.items ears.new.items) }
+    ensures none { IfNone result ((jobs.old.items ≡ []) × (ears.old.items ≡ [])
+        × (jobs.new.items ≡ []) × (ears.new.items ≡ [])) }
+    ensures room { (vec_capacity jobs.new ≡ vec_capacity jobs.old)
+        × (vec_capacity ears.new ≡ vec_capacity ears.old) }
 {
     match (jobs.pop(), ears.pop()) {
         (Some(job), Some(ear)) => Some((job, ear)),

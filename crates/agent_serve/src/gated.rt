@@ -5,7 +5,8 @@ use agent_ports::{Gate, GatePoint, SessionId};
 use prompt_seat::Ticket;
 use std::marker::Model;
 
-/// A prompter that passes its calls on, and tells a gate where a prompt of its session is open. Contracts see the prompter alone.
+/// A prompter that passes its calls on, and tells a gate where a prompt of its session is open.
+/// Contracts see the prompter alone.
 pub struct GatedPrompter<'g, P: Prompter, G: Gate> {
     prompter: P,
     gate: &'g G,
@@ -50,7 +51,8 @@ impl<'g, P: Prompter, G: Gate> Prompter for GatedPrompter<'g, P, G> {
 
     ghost prompted = { λ before call after. P.prompted before.prompter call after.prompter };
 
-    ghost promise = { λ before call after does. P.promise before.prompter call after.prompter does };
+    ghost promise = { λ before call after does.
+        P.promise before.prompter call after.prompter does };
 
     fn ready(&self) -> bool {
         self.prompter.ready()

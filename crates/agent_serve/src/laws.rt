@@ -12,14 +12,25 @@ ghost use Rattle.agent_serve.specs.Serves.{LinkSides, ServesOne};
 
 use agent_ports::Host;
 
-/// A restricted session of the daemon takes the seat for prompts of which nothing is kept, gives it back, and looks whether passphrases are cached. So its
-/// marks in the one run store and clear nothing, and none of them was given a passphrase.
+/// A restricted session of the daemon takes the seat for prompts of which nothing is kept, gives it
+/// back, and looks whether passphrases are cached. So its marks in the one run store and clear
+/// nothing, and none of them was given a passphrase.
 pub fn a_restricted_session_leaves_the_run<H: Host>()
-    ensures cache { (path : List ℕ) (rules : Rules) (session : SessionId) (before after : LinkSides) (pass now : AtPass) (end : Ends)
-        → (serves : ServesOne (record { launches = H.Launcher.launches; readings = H.Clock.readings; draws = H.Dice.draws; keys = H.Keys.keys }) H.Trust.trust (H.of_folder path)
-        rules Outer session before pass end after now) → LeavesCache serves.served.events }
-    ensures run { (path : List ℕ) (rules : Rules) (session : SessionId) (before after : LinkSides) (pass now : AtPass) (end : Ends)
-        → (serves : ServesOne (record { launches = H.Launcher.launches; readings = H.Clock.readings; draws = H.Dice.draws; keys = H.Keys.keys }) H.Trust.trust (H.of_folder path)
-        rules Outer session before pass end after now)
-        → LeavesDesk (at_counted (record pass { sessions = session.count + 1 }) session None) (turns_in serves.served.events) (at_counted now session None) }
+    ensures cache { (path : List ℕ) (rules : Rules) (session : SessionId) (before after : LinkSides)
+        (pass now : AtPass) (end : Ends) → (serves : ServesOne (record {
+          launches = H.Launcher.launches;
+          readings = H.Clock.readings;
+          draws = H.Dice.draws;
+          keys = H.Keys.keys;
+        }) H.Trust.trust (H.of_folder path) rules Outer session before pass end after now)
+        → LeavesCache serves.served.events }
+    ensures run { (path : List ℕ) (rules : Rules) (session : SessionId) (before after : LinkSides)
+        (pass now : AtPass) (end : Ends) → (serves : ServesOne (record {
+          launches = H.Launcher.launches;
+          readings = H.Clock.readings;
+          draws = H.Dice.draws;
+          keys = H.Keys.keys;
+        }) H.Trust.trust (H.of_folder path) rules Outer session before pass end after now)
+        → LeavesDesk (at_counted (record pass { sessions = session.count + 1 }) session None)
+        (turns_in serves.served.events) (at_counted now session None) }
 {}

@@ -1,8 +1,10 @@
-//! Sessions over links, each at a pass of the counted lock, and workers that serve links until no more come.
+//! Sessions over links, each at a pass of the counted lock, and workers that serve links until no
+//! more come.
 //!
-//! Begin with [`serve_one`]: a session at a pass does to its link and its pinentry what a session alone does, and its turns are its pass's
-//! in the one run. [`run_workers`] gives all passes back, each led on by its worker's sessions alone. Definitions begin in `specs/Serves`
-//! and `specs/Working`.
+//! Begin with [`serve_one`]: a session at a pass does to its link and its pinentry what a session
+//! alone does, and its turns are its pass's in the one run. [`run_workers`] gives all passes back,
+//! each led on by its worker's sessions alone. Definitions begin in `specs/Serves` and
+//! `specs/Working`.
 #![tactic(auto)]
 
 mod each;

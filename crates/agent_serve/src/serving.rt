@@ -8,14 +8,14 @@ use agent_commands::SessionEnd;
 use agent_origin::{Door, serve_door};
 use agent_ports::{Gate, GatePoint, Host, Launcher, Parts, SessionId};
 use counted_lock::{Counted, CountedDesk, CountedPass};
-use pinentry_client::{Pinentry, Word};
-use session_options::Rules;
+use pinentry_client::Pinentry;
+use session_options::{Rules, copied};
 use std::alloc::Global;
 use std::sync::Wait;
 use std::time;
 
-/// Serves one session on a link that came in by this door, with parts of its own from the host, and gives the pass back. It may wait for the turns
-/// of other sessions.
+/// Serves one session on a link that came in by this door, with parts of its own from the host, and
+/// gives the pass back. It may wait for the turns of other sessions.
 pub fn serve_one<W: Wait + time::Clock, H: Host>(
     rt: &W,
     alloc: Global,
@@ -37,8 +37,13 @@ where
     requires by { session.pass ≡ pass.number }
     requires later { pass.sessions ≤ session.count }
     requires numbered { session.count < 2 ^ 64 - 1 }
-    ensures { ServesOne (record { launches = H.Launcher.launches; readings = H.Clock.readings; draws = H.Dice.draws; keys = H.Keys.keys }) H.Trust.trust
-        (H.of_folder (H.homedir host.now)) rules.now door session (link_of (H.Link.input link.old) (H.Link.output link.old)) pass result.1
+    ensures { ServesOne (record {
+      launches = H.Launcher.launches;
+      readings = H.Clock.readings;
+      draws = H.Dice.draws;
+      keys = H.Keys.keys;
+    }) H.Trust.trust (H.of_folder (H.homedir host.now)) rules.now door session
+        (link_of (H.Link.input link.old) (H.Link.output link.old)) pass result.1
         (link_of (H.Link.input link.new) (H.Link.output link.new)) result.0 }
 {
     let gate = host.gate();
@@ -76,12 +81,22 @@ where
     requires by { session.pass ≡ pass.number }
     requires later { pass.sessions ≤ session.count }
     requires numbered { session.count < 2 ^ 64 - 1 }
-    requires new { AreNew (record { launches = H.Launcher.launches; readings = H.Clock.readings; draws = H.Dice.draws; keys = H.Keys.keys }) parts }
+    requires new { AreNew (record {
+      launches = H.Launcher.launches;
+      readings = H.Clock.readings;
+      draws = H.Dice.draws;
+      keys = H.Keys.keys;
+    }) parts }
     requires unused { (H.Trust.trust trust).faults ≡ 0 }
     requires keys_in { (H.of_folder (H.homedir host.now)).keys parts.keys }
     requires trust_in { (H.of_folder (H.homedir host.now)).trust trust }
-    ensures { ServesOne (record { launches = H.Launcher.launches; readings = H.Clock.readings; draws = H.Dice.draws; keys = H.Keys.keys }) H.Trust.trust
-        (H.of_folder (H.homedir host.now)) rules.now door session (link_of (H.Link.input link.old) (H.Link.output link.old)) pass result.1
+    ensures { ServesOne (record {
+      launches = H.Launcher.launches;
+      readings = H.Clock.readings;
+      draws = H.Dice.draws;
+      keys = H.Keys.keys;
+    }) H.Trust.trust (H.of_folder (H.homedir host.now)) rules.now door session
+        (link_of (H.Link.input link.old) (H.Link.output link.old)) pass result.1
         (link_of (H.Link.input link.new) (H.Link.output link.new)) result.0 }
 {
     let Parts {
@@ -108,12 +123,4 @@ where
     // No child is left.
     prompter.into_prompter().into_launcher();
     (desk.into_pass(), end)
-}
-
-fn copied(word: &Word) -> Word
-    ensures { result.items ≡ word.now.items }
-{
-    let mut copy = Word::new();
-    copy.try_extend_from_slice(word).unwrap();
-    copy
 }

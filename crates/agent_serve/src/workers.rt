@@ -41,7 +41,8 @@ where
     H::Keys: Drop,
     H::Trust: Drop,
 {
-    /// Serves links with this pass until no more come, or the pass has no number for a further session.
+    /// Serves links with this pass until no more come, or the pass has no number for a further
+    /// session.
     fn work(&self, pass: CountedPass, ear: H::Ear) -> (CountedPass, H::Ear)
         requires { pass.table ≡ self.now.counted.now.table }
         ensures pass { ServesLinks (record {
@@ -50,11 +51,15 @@ where
           is_extra = H.is_extra;
           input = H.Link.input;
           output = H.Link.output;
-          parts = record { launches = H.Launcher.launches; readings = H.Clock.readings; draws = H.Dice.draws; keys = H.Keys.keys };
+          parts = record {
+            launches = H.Launcher.launches;
+            readings = H.Clock.readings;
+            draws = H.Dice.draws;
+            keys = H.Keys.keys;
+          };
           trust = H.Trust.trust;
           folder = H.of_folder (H.homedir self.now.host.now);
-        })
-            self.now.rules.now self.now.door self.now.listener.now pass result.0 }
+        }) self.now.rules.now self.now.door self.now.listener.now pass result.0 }
         ensures ear { H.Ear.faults ear ≤ H.Ear.faults result.1 }
     {
         let mut pass = pass;
@@ -71,7 +76,8 @@ where
         (pass, ear)
     }
 
-    /// Serves the session of one link. One that stopped the agent also stops the listeners, whether or not its client stayed for the answer.
+    /// Serves the session of one link. One that stopped the agent also stops the listeners, whether
+    /// or not its client stayed for the answer.
     fn serve(&self, pass: CountedPass, link: H::Link) -> CountedPass
         requires own { pass.table ≡ self.now.counted.now.table }
         requires numbered { pass.sessions < 2 ^ 64 - 1 }
@@ -83,11 +89,15 @@ where
           is_extra = H.is_extra;
           input = H.Link.input;
           output = H.Link.output;
-          parts = record { launches = H.Launcher.launches; readings = H.Clock.readings; draws = H.Dice.draws; keys = H.Keys.keys };
+          parts = record {
+            launches = H.Launcher.launches;
+            readings = H.Clock.readings;
+            draws = H.Dice.draws;
+            keys = H.Keys.keys;
+          };
           trust = H.Trust.trust;
           folder = H.of_folder (H.homedir self.now.host.now);
-        })
-            self.now.rules.now self.now.door self.now.listener.now pass result }
+        }) self.now.rules.now self.now.door self.now.listener.now pass result }
     {
         let mut link = link;
         let session = SessionId {
@@ -137,23 +147,30 @@ where
       is_extra = H.is_extra;
       input = H.Link.input;
       output = H.Link.output;
-      parts = record { launches = H.Launcher.launches; readings = H.Clock.readings; draws = H.Dice.draws; keys = H.Keys.keys };
+      parts = record {
+        launches = H.Launcher.launches;
+        readings = H.Clock.readings;
+        draws = H.Dice.draws;
+        keys = H.Keys.keys;
+      };
       trust = H.Trust.trust;
       folder = H.of_folder (H.homedir working.host.now);
-    })
-        working.rules.now working.door working.listener.now pass back.0 × (H.Ear.faults ear ≤ H.Ear.faults back.1) };
+    }) working.rules.now working.door working.listener.now pass back.0
+        × (H.Ear.faults ear ≤ H.Ear.faults back.1) };
 
     fn run(&self, job: CountedPass, ear: H::Ear) -> (CountedPass, H::Ear) {
         self.work(job, ear)
     }
 }
 
-/// Serves links by one worker for each pass and ear, the first one in this thread and each other one in a thread of its own; where no thread can be
-/// made they run one after another, the first one first. Where there is an extra listener the last worker takes its links, by the outer door, and all
-/// others take those of the first one. All passes and ears come back, in their order.
+/// Serves links by one worker for each pass and ear, the first one in this thread and each other
+/// one in a thread of its own; where no thread can be made they run one after another, the first
+/// one first. Where there is an extra listener the last worker takes its links, by the outer door,
+/// and all others take those of the first one. All passes and ears come back, in their order.
 ///
-/// A worker takes links until its listener is stopped or fails, and hands each link back whose session has ended. It stops both listeners
-/// where its session has stopped the agent, or has seen that another one did.
+/// A worker takes links until its listener is stopped or fails, and hands each link back whose
+/// session has ended. It stops both listeners where its session has stopped the agent, or has seen
+/// that another one did.
 pub fn run_workers<W: Threads + Wait + time::Clock + Sync, H: Host + Sync>(
     rt: &W,
     alloc: Global,
@@ -181,29 +198,38 @@ where
     ensures own { AreOf counted.now.table result.0.items }
     ensures all { (vec_len result.0 ≡ vec_len passes) × (vec_len result.1 ≡ vec_len ears) }
     // What each did to its pass and its ear, by its door, on links that came in at its listener.
-    ensures each { PairedTo (λ pass ear back. ServesLinks
-        (record {
-          gives = H.Listener.gives;
-          is_home = H.is_home;
-          is_extra = H.is_extra;
-          input = H.Link.input;
-          output = H.Link.output;
-          parts = record { launches = H.Launcher.launches; readings = H.Clock.readings; draws = H.Dice.draws; keys = H.Keys.keys };
-          trust = H.Trust.trust;
-          folder = H.of_folder (H.homedir host.now);
-        })
-        rules.now Door.Home listener.now pass back.0 × (H.Ear.faults ear ≤ H.Ear.faults back.1))
+    ensures each { PairedTo (λ pass ear back. ServesLinks (record {
+      gives = H.Listener.gives;
+      is_home = H.is_home;
+      is_extra = H.is_extra;
+      input = H.Link.input;
+      output = H.Link.output;
+      parts = record {
+        launches = H.Launcher.launches;
+        readings = H.Clock.readings;
+        draws = H.Dice.draws;
+        keys = H.Keys.keys;
+      };
+      trust = H.Trust.trust;
+      folder = H.of_folder (H.homedir host.now);
+    }) rules.now Door.Home listener.now pass back.0 × (H.Ear.faults ear ≤ H.Ear.faults back.1))
         (λ pass ear back. ServesLinks (record {
           gives = H.Listener.gives;
           is_home = H.is_home;
           is_extra = H.is_extra;
           input = H.Link.input;
           output = H.Link.output;
-          parts = record { launches = H.Launcher.launches; readings = H.Clock.readings; draws = H.Dice.draws; keys = H.Keys.keys };
+          parts = record {
+            launches = H.Launcher.launches;
+            readings = H.Clock.readings;
+            draws = H.Dice.draws;
+            keys = H.Keys.keys;
+          };
           trust = H.Trust.trust;
           folder = H.of_folder (H.homedir host.now);
-        })
-        rules.now (last_door (is_some extra.entry)) (last_listener listener.now (option_copied extra.entry)) pass back.0 × (H.Ear.faults ear ≤ H.Ear.faults back.1)) passes.items ears.items result.0.items result.1.items }
+        }) rules.now (last_door (is_some extra.entry)) (last_listener listener.now
+        (option_copied extra.entry)) pass back.0 × (H.Ear.faults ear ≤ H.Ear.faults back.1))
+        passes.items ears.items result.0.items result.1.items }
 {
     let home = Working {
         rt,

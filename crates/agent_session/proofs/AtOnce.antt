@@ -27,7 +27,7 @@ use Rattle.agent_commands.specs.declared.request.Request.{Request}
 use Rattle.agent_commands.specs.declared.request.Request.TheVariants.{Cache}
 use Rattle.agent_commands.specs.declared.request.Texts.{Texts}
 use Rattle.agent_commands.specs.declared.went.Went.{Went}
-use Rattle.key_commands.specs.States.{KeyWorld}
+use Rattle.agent_origin.specs.FurtherStates.{FurtherWorld}
 use Rattle.agent_session.specs.Causes.{WantsMemory}
 use Rattle.agent_session.specs.Completeness.{IsStopped, AnswersFromCache, given, empty, no_id, AnswersAtOnce, AnswersDone}
 use Rattle.agent_origin.specs.SessionExchanges.{RequestExchange, cache, keys}
@@ -40,7 +40,7 @@ FitsTurn _ = ⊤
 
 module _ {D P : Type 0} (turned : D → MarkStep → Turn → D → Type 0) (prompted : P → Call → P → Type 0) (at : D → AtDesk)
     (promise : (before : D) (asked : MarkStep) (turn : Turn) (after : D) → turned before asked turn after → IsTurn (at before) asked turn (at after)) {supply : Supply} where
-  event_fits : {before after : Outside (KeyWorld turned prompted)} {event : Event FurtherEvent} → Does (KeyWorld turned prompted) supply before event after → FitsTurn event
+  event_fits : {before after : Outside (FurtherWorld turned prompted)} {event : Event FurtherEvent} → Does (FurtherWorld turned prompted) supply before event after → FitsTurn event
   event_fits (worlds.received known needed) = tt
   event_fits worlds.sent = tt
   event_fits worlds.cut = tt
@@ -49,7 +49,7 @@ module _ {D P : Type 0} (turned : D → MarkStep → Turn → D → Type 0) (pro
   event_fits {before} (worlds.turned {taken} {desk} does) = (promise before.desk taken.asked taken.turn desk does).fits
   event_fits (worlds.further does) = tt
 
-  pub all_fit : {before after : Outside (KeyWorld turned prompted)} {events : List (Event FurtherEvent)} → Leads (Does (KeyWorld turned prompted) supply) before events after → AllByRecursion FitsTurn events
+  pub all_fit : {before after : Outside (FurtherWorld turned prompted)} {events : List (Event FurtherEvent)} → Leads (Does (FurtherWorld turned prompted) supply) before events after → AllByRecursion FitsTurn events
   all_fit none = tt
   all_fit (one does rest) = (event_fits does, all_fit rest)
 

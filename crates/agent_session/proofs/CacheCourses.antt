@@ -45,7 +45,7 @@ use Rattle.agent_session.specs.Refusals.{refuses, IsAllowed, IsWork, AreWork, Is
 use Rattle.agent_session.proofs.Courses.{by_turn}
 use Rattle.agent_session.proofs.PromptCourses.{ShownEnd, no_more as no_shown, stopped, Shows, pin_shows_work, consent_shows_work, pin_code, consent_code}
 use Rattle.agent_session.proofs.Replying.{IsReply, begins, reply_ok, reply_closing, reply_help, reply_cache, reply_passphrase}
-use Rattle.agent_session.proofs.Standing.{each_append}
+use Rattle.key_commands.proofs.EachEvent.{each_append}
 
 -- texts that answer
 is_reply : {text : List ℕ} → IsReply text → IsAnswer text

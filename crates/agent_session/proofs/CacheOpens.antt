@@ -29,9 +29,9 @@ use Rattle.agent_commands.specs.declared.went.Went.{Went}
 use Rattle.agent_origin.specs.SessionExchanges.{RequestExchange, cache, keys}
 use Rattle.agent_session.specs.Refusals.{IsUncalled, IsUnopening, OpensFirst}
 use Rattle.agent_origin.specs.declared.kept.Kept.{Kept}
-use Rattle.agent_session.proofs.EachEvent.{each_shown}
+use Rattle.key_commands.proofs.EachEvent.{each_shown}
 use Rattle.agent_session.proofs.Opens.{Uncalled, Unopening, still_unopening, uncalled_opens, unopening_opens, key_opens}
-use Rattle.agent_session.proofs.Standing.{each_append}
+use Rattle.key_commands.proofs.EachEvent.{each_append}
 
 -- what an error line is written behind
 said_unopening : (why : Unheard) → Unopening (said_last (session_lines.refusal why))

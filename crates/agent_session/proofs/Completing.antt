@@ -4,29 +4,34 @@ use Rattle.std.proofs.Common.{◌≡◌, ◌≤◌, true, List, refl, arith, ◌
 use Rattle.std.specs.Prelude.{⊤}
 use Rattle.agent_ask.specs.Doing.{DoesCall, called, out_of_memory}
 use Rattle.agent_ask.specs.Events.{Call, PromptEvent, Called}
-use Rattle.agent_ask.specs.Further.{FurtherEvent, FurtherEnds, KeyCall, Read, Listed, Replaced, Removed, Draw, Drew, NotDrawn, Prompt, Keys, Dice, NoMemory, DoesFurther, DoesKeys, DoesDraw}
+use Rattle.agent_ask.specs.Further.{FurtherEvent, FurtherEnds, KeyCall, Read, Listed, Replaced, Removed, Draw, Drew, NotDrawn, Prompt, Keys, Dice, Trust, NoMemory, DoesFurther, DoesKeys, DoesDraw}
 use Rattle.agent_ask.specs.Further as further
 use Rattle.agent_ask.specs.Prompters.{AtPrompter, IsCall, is_failed}
 use Rattle.agent_ask.specs.SessionEvents.{Further}
+use Rattle.agent_ask.specs.TrustCalls.{TrustCall, DoesTrust}
+use Rattle.agent_ask.specs.TrustCalls as trust_call
 use Rattle.agent_ask.specs.Worlds.{Outside, Does}
 use Rattle.agent_ask.specs.Worlds as worlds
 use Rattle.agent_ports.specs.Counts.{Rose}
 use Rattle.agent_ports.specs.KeyFiles.{KeyFiles}
 use Rattle.agent_ports.specs.Leads.{Leads, none, one}
 use Rattle.agent_ports.specs.Sides.{Side}
+use Rattle.agent_ports.specs.TrustFiles.{TrustState}
 use Rattle.agent_ports.specs.declared.keys.KeyDone.TheVariants as key_done
 use Rattle.agent_ports.specs.declared.keys.KeyNames.TheVariants as key_names
 use Rattle.agent_ports.specs.declared.keys.KeyRead.TheVariants as key_read
+use Rattle.agent_ports.specs.declared.trust.TrustDone.TheVariants as trust_done
+use Rattle.agent_ports.specs.declared.trust.TrustRead.TheVariants as trust_read
 use Rattle.assuan_server.specs.Reading.{Supply}
 use Rattle.cache_policy.specs.declared.mark.MarkStep.{MarkStep}
 use Rattle.cache_policy.specs.Turns.{Turn}
 use Rattle.agent_commands.specs.Events.{Event}
-use Rattle.agent_session.specs.Causes.{Has, here, later, FailsAtKeys, FailsAtKeysOrDice, HasOne, HasCall}
+use Rattle.agent_session.specs.Causes.{Has, here, later, FailsAtKeys, FailsAtTrust, FailsAtKeysOrDice, HasOne, HasCall, HasTrustCall}
 use Rattle.agent_session.specs.Causes as causes
 use Rattle.agent_session.specs.Completeness.{FailuresRise}
 use Rattle.agent_session.proofs.KeyExplained.{NeverAbsent}
 use Rattle.agent_session.proofs.Standing.{each_has}
-use Rattle.key_commands.specs.States.{KeyWorld}
+use Rattle.agent_origin.specs.FurtherStates.{FurtherWorld}
 
 -- ---- what no event of a session is
 
@@ -38,22 +43,28 @@ IsPossible _ = ⊤
 pub never_absent : {events : List (Event FurtherEvent)} → AllByRecursion IsPossible events → NeverAbsent events
 never_absent {events} each grip file has = each_has IsPossible events each has
 
--- an event in which neither the prompter nor the keys nor the dice failed
+-- an event in which neither the prompter nor the keys nor the dice nor the trust file failed
 abbrev pub IsSteady : Event FurtherEvent → Type 0
 IsSteady (Further (Prompt (Called call))) = ¬ (is_failed call ≡ true)
 IsSteady (Further (Keys call)) = ¬ FailsAtKeys call
 IsSteady (Further (Dice (NotDrawn count))) = ⊥
+IsSteady (Further (Trust call)) = ¬ FailsAtTrust call
 IsSteady _ = ⊤
+
+-- the event is a call of the trust file that failed
+abbrev FailsAtTrustFile : Event FurtherEvent → Type 0
+FailsAtTrustFile (Further (Trust call)) = FailsAtTrust call
+FailsAtTrustFile _ = ⊥
 
 -- the event is a call of the prompter that failed
 abbrev FailsAtPrompter : Event FurtherEvent → Type 0
 FailsAtPrompter (Further (Prompt (Called call))) = is_failed call ≡ true
 FailsAtPrompter _ = ⊥
 
-pub first_rose : (before mid after : ℕ) → Rose before mid → mid ≤ after → Rose before after
+first_rose : (before mid after : ℕ) → Rose before mid → mid ≤ after → Rose before after
 first_rose before mid after rose stays = omega (arith, rose, stays)
 
-pub last_rose : (before mid after : ℕ) → before ≤ mid → Rose mid after → Rose before after
+last_rose : (before mid after : ℕ) → before ≤ mid → Rose mid after → Rose before after
 last_rose before mid after stays rose = omega (arith, stays, rose)
 
 -- the counts of the keys and of the dice, and what a call that fails does to them
@@ -63,7 +74,7 @@ keys_move before after (Listed answer) does = does.leaves.never_falls
 keys_move before after (Replaced grip file answer) does = does.changes.never_falls
 keys_move before after (Removed grip answer) does = does.changes.never_falls
 
-keys_rise : (before after : KeyFiles) (call : KeyCall) → DoesKeys before call after → FailsAtKeys call → Rose before.faults after.faults
+pub keys_rise : (before after : KeyFiles) (call : KeyCall) → DoesKeys before call after → FailsAtKeys call → Rose before.faults after.faults
 keys_rise before after (Read grip key_read.Failed) does fails = does.failed refl
 keys_rise before after (Read grip (key_read.Found bytes)) does fails = absurd fails
 keys_rise before after (Read grip key_read.Absent) does fails = absurd fails
@@ -93,34 +104,51 @@ draw_moves : (before after : Side) (draw : Draw) → DoesDraw before draw after 
 draw_moves before after (Drew bytes) does = does.never_falls
 draw_moves before after (NotDrawn count) does = does.never_falls
 
+-- a call of the trust file that failed raised its count
+trust_moves : (before after : TrustState) (call : TrustCall) → DoesTrust before call after → before.faults ≤ after.faults
+trust_moves before after (trust_call.Read answer) does = does.never_falls
+trust_moves before after (trust_call.Replaced file answer) does = does.never_falls
+
+pub trust_rises : (before after : TrustState) (call : TrustCall) → DoesTrust before call after → FailsAtTrust call → Rose before.faults after.faults
+trust_rises before after (trust_call.Read trust_read.Failed) does fails = does.failed refl
+trust_rises before after (trust_call.Read (trust_read.Found file)) does fails = absurd fails
+trust_rises before after (trust_call.Read trust_read.Absent) does fails = absurd fails
+trust_rises before after (trust_call.Read trust_read.NoMemory) does fails = absurd fails
+trust_rises before after (trust_call.Replaced file trust_done.Failed) does fails = does.failed refl
+trust_rises before after (trust_call.Replaced file trust_done.Done) does fails = absurd fails
+trust_rises before after (trust_call.Replaced file trust_done.NoMemory) does fails = absurd fails
+
 module _ {D P : Type 0} (turned : D → MarkStep → Turn → D → Type 0) (prompted : P → Call → P → Type 0) (at : P → AtPrompter)
     (promise : (before : P) (call : Call) (after : P) → prompted before call after → IsCall (at before) call (at after)) where
-  abbrev DoesHere : Supply → Outside (KeyWorld turned prompted) → Event FurtherEvent → Outside (KeyWorld turned prompted) → Type 0
-  DoesHere = Does (KeyWorld turned prompted)
+  abbrev DoesHere : Supply → Outside (FurtherWorld turned prompted) → Event FurtherEvent → Outside (FurtherWorld turned prompted) → Type 0
+  DoesHere = Does (FurtherWorld turned prompted)
 
   -- the counts don't fall
-  record Moves (before after : FurtherEnds P) : Type 0 where
-    prompter : (at before.prompter).faults ≤ (at after.prompter).faults
-    keys : before.keys.faults ≤ after.keys.faults
-    dice : before.dice.faults ≤ after.dice.faults
+  pub record Moves (before after : FurtherEnds P) : Type 0 where
+    pub prompter : (at before.prompter).faults ≤ (at after.prompter).faults
+    pub keys : before.keys.faults ≤ after.keys.faults
+    pub dice : before.dice.faults ≤ after.dice.faults
+    pub trust : before.trust.faults ≤ after.trust.faults
 
   -- and none of them has risen
   pub record StandStill (before after : FurtherEnds P) : Type 0 where
     pub prompter : ¬ Rose (at before.prompter).faults (at after.prompter).faults
     pub keys : ¬ Rose before.keys.faults after.keys.faults
     pub dice : ¬ Rose before.dice.faults after.dice.faults
+    pub trust : ¬ Rose before.trust.faults after.trust.faults
 
   moves_none : (ends : FurtherEnds P) → Moves ends ends
-  moves_none ends = record { prompter = omega arith; keys = omega arith; dice = omega arith }
+  moves_none ends = record { prompter = omega arith; keys = omega arith; dice = omega arith; trust = omega arith }
 
   call_moves : {before after : P} {event : PromptEvent} → DoesCall prompted before event after → (at before).faults ≤ (at after).faults
   call_moves {before} {after} (called {call} does) = (promise before call after does).faults
   call_moves out_of_memory = omega arith
 
   further_moves : {before after : FurtherEnds P} {what : FurtherEvent} → DoesFurther prompted before what after → Moves before after
-  further_moves (further.prompt does) = record { prompter = call_moves does; keys = omega arith; dice = omega arith }
-  further_moves {before} (further.keys {call} {files} does) = record { prompter = omega arith; keys = keys_move before.keys files call does; dice = omega arith }
-  further_moves {before} (further.dice {draw} {side} does) = record { prompter = omega arith; keys = omega arith; dice = draw_moves before.dice side draw does }
+  further_moves (further.prompt does) = record { prompter = call_moves does; keys = omega arith; dice = omega arith; trust = omega arith }
+  further_moves {before} (further.keys {call} {files} does) = record { prompter = omega arith; keys = keys_move before.keys files call does; dice = omega arith; trust = omega arith }
+  further_moves {before} (further.dice {draw} {side} does) = record { prompter = omega arith; keys = omega arith; dice = draw_moves before.dice side draw does; trust = omega arith }
+  further_moves {before} (further.trust {call} {file} does) = record { prompter = omega arith; keys = omega arith; dice = omega arith; trust = trust_moves before.trust file call does }
   further_moves further.no_memory = moves_none _
 
   call_steady : {before after : P} {event : PromptEvent} → DoesCall prompted before event after → ¬ Rose (at before).faults (at after).faults → IsSteady (Further (Prompt event))
@@ -135,12 +163,14 @@ module _ {D P : Type 0} (turned : D → MarkStep → Turn → D → Type 0) (pro
   further_steady (further.prompt does) still = call_steady does still.prompter
   further_steady {before} (further.keys {call} {files} does) still = λ fails. still.keys (keys_rise before.keys files call does fails)
   further_steady {before} (further.dice {draw} {side} does) still = draw_steady before.dice side draw does still.dice
+  further_steady {before} (further.trust {call} {file} does) still = λ fails. still.trust (trust_rises before.trust file call does fails)
   further_steady further.no_memory still = tt
 
   further_possible : {before after : FurtherEnds P} {what : FurtherEvent} → DoesFurther prompted before what after → IsPossible (Further what)
   further_possible (further.prompt does) = tt
   further_possible {before} (further.keys {call} {files} does) = keys_possible before.keys files call does
   further_possible (further.dice does) = tt
+  further_possible (further.trust does) = tt
   further_possible further.no_memory = tt
 
   call_rises : {before after : P} {event : PromptEvent} → DoesCall prompted before event after → FailsAtPrompter (Further (Prompt event)) → Rose (at before).faults (at after).faults
@@ -148,7 +178,7 @@ module _ {D P : Type 0} (turned : D → MarkStep → Turn → D → Type 0) (pro
   call_rises out_of_memory fails = absurd fails
 
   module _ {supply : Supply} where
-    event_moves : {before after : Outside (KeyWorld turned prompted)} {event : Event FurtherEvent} → DoesHere supply before event after → Moves before.ends after.ends
+    pub event_moves : {before after : Outside (FurtherWorld turned prompted)} {event : Event FurtherEvent} → DoesHere supply before event after → Moves before.ends after.ends
     event_moves (worlds.received known needed) = moves_none _
     event_moves worlds.sent = moves_none _
     event_moves worlds.cut = moves_none _
@@ -157,7 +187,7 @@ module _ {D P : Type 0} (turned : D → MarkStep → Turn → D → Type 0) (pro
     event_moves (worlds.turned does) = moves_none _
     event_moves (worlds.further does) = further_moves does
 
-    event_steady : {before after : Outside (KeyWorld turned prompted)} {event : Event FurtherEvent} → DoesHere supply before event after → StandStill before.ends after.ends → IsSteady event
+    event_steady : {before after : Outside (FurtherWorld turned prompted)} {event : Event FurtherEvent} → DoesHere supply before event after → StandStill before.ends after.ends → IsSteady event
     event_steady (worlds.received known needed) still = tt
     event_steady worlds.sent still = tt
     event_steady worlds.cut still = tt
@@ -166,7 +196,7 @@ module _ {D P : Type 0} (turned : D → MarkStep → Turn → D → Type 0) (pro
     event_steady (worlds.turned does) still = tt
     event_steady (worlds.further does) still = further_steady does still
 
-    event_possible : {before after : Outside (KeyWorld turned prompted)} {event : Event FurtherEvent} → DoesHere supply before event after → IsPossible event
+    event_possible : {before after : Outside (FurtherWorld turned prompted)} {event : Event FurtherEvent} → DoesHere supply before event after → IsPossible event
     event_possible (worlds.received known needed) = tt
     event_possible worlds.sent = tt
     event_possible worlds.cut = tt
@@ -175,13 +205,13 @@ module _ {D P : Type 0} (turned : D → MarkStep → Turn → D → Type 0) (pro
     event_possible (worlds.turned does) = tt
     event_possible (worlds.further does) = further_possible does
 
-    all_move : {before after : Outside (KeyWorld turned prompted)} {events : List (Event FurtherEvent)} → Leads (DoesHere supply) before events after → Moves before.ends after.ends
+    all_move : {before after : Outside (FurtherWorld turned prompted)} {events : List (Event FurtherEvent)} → Leads (DoesHere supply) before events after → Moves before.ends after.ends
     all_move none = moves_none _
     all_move (one does rest_of) =
         let first = event_moves does in let rest = all_move rest_of in
-        record { prompter = omega (arith, first.prompter, rest.prompter); keys = omega (arith, first.keys, rest.keys); dice = omega (arith, first.dice, rest.dice) }
+        record { prompter = omega (arith, first.prompter, rest.prompter); keys = omega (arith, first.keys, rest.keys); dice = omega (arith, first.dice, rest.dice); trust = omega (arith, first.trust, rest.trust) }
 
-    pub all_steady : {before after : Outside (KeyWorld turned prompted)} {events : List (Event FurtherEvent)} → Leads (DoesHere supply) before events after → StandStill before.ends after.ends
+    pub all_steady : {before after : Outside (FurtherWorld turned prompted)} {events : List (Event FurtherEvent)} → Leads (DoesHere supply) before events after → StandStill before.ends after.ends
         → AllByRecursion IsSteady events
     all_steady none still = tt
     all_steady {before} {after} (one {mid} does rest_of) still =
@@ -190,21 +220,23 @@ module _ {D P : Type 0} (turned : D → MarkStep → Turn → D → Type 0) (pro
           prompter = λ rose. still.prompter (omega (arith, rose, rest.prompter));
           keys = λ rose. still.keys (omega (arith, rose, rest.keys));
           dice = λ rose. still.dice (omega (arith, rose, rest.dice));
+          trust = λ rose. still.trust (omega (arith, rose, rest.trust));
         } in
         let then : StandStill mid.ends after.ends = record {
           prompter = λ rose. still.prompter (omega (arith, rose, first.prompter));
           keys = λ rose. still.keys (omega (arith, rose, first.keys));
           dice = λ rose. still.dice (omega (arith, rose, first.dice));
+          trust = λ rose. still.trust (omega (arith, rose, first.trust));
         } in
         (event_steady does now, all_steady rest_of then)
 
-    pub all_possible : {before after : Outside (KeyWorld turned prompted)} {events : List (Event FurtherEvent)} → Leads (DoesHere supply) before events after → AllByRecursion IsPossible events
+    pub all_possible : {before after : Outside (FurtherWorld turned prompted)} {events : List (Event FurtherEvent)} → Leads (DoesHere supply) before events after → AllByRecursion IsPossible events
     all_possible none = tt
     all_possible (one does rest_of) = (event_possible does, all_possible rest_of)
 
     -- ---- a failure raises its count
 
-    event_rises : {before after : Outside (KeyWorld turned prompted)} {event : Event FurtherEvent} → DoesHere supply before event after → FailsAtKeysOrDice event
+    event_rises : {before after : Outside (FurtherWorld turned prompted)} {event : Event FurtherEvent} → DoesHere supply before event after → FailsAtKeysOrDice event
         → Rose before.ends.keys.faults after.ends.keys.faults ⊎ Rose before.ends.dice.faults after.ends.dice.faults
     event_rises (worlds.received known needed) fails = absurd fails
     event_rises worlds.sent fails = absurd fails
@@ -216,9 +248,10 @@ module _ {D P : Type 0} (turned : D → MarkStep → Turn → D → Type 0) (pro
     event_rises {before} (worlds.further (further.keys {call} {files} does)) fails = inl (keys_rise before.ends.keys files call does fails)
     event_rises (worlds.further (further.dice {draw = Drew bytes} does)) fails = absurd fails
     event_rises (worlds.further (further.dice {draw = NotDrawn count} does)) fails = inr does.failed
+    event_rises (worlds.further (further.trust does)) fails = absurd fails
     event_rises (worlds.further further.no_memory) fails = absurd fails
 
-    prompter_rises : {before after : Outside (KeyWorld turned prompted)} {event : Event FurtherEvent} → DoesHere supply before event after → FailsAtPrompter event
+    prompter_rises : {before after : Outside (FurtherWorld turned prompted)} {event : Event FurtherEvent} → DoesHere supply before event after → FailsAtPrompter event
         → Rose (at before.ends.prompter).faults (at after.ends.prompter).faults
     prompter_rises (worlds.received known needed) fails = absurd fails
     prompter_rises worlds.sent fails = absurd fails
@@ -229,28 +262,53 @@ module _ {D P : Type 0} (turned : D → MarkStep → Turn → D → Type 0) (pro
     prompter_rises (worlds.further (further.prompt does)) fails = call_rises does fails
     prompter_rises (worlds.further (further.keys does)) fails = absurd fails
     prompter_rises (worlds.further (further.dice does)) fails = absurd fails
+    prompter_rises (worlds.further (further.trust does)) fails = absurd fails
     prompter_rises (worlds.further further.no_memory) fails = absurd fails
 
-    all_rise : {before after : Outside (KeyWorld turned prompted)} {events : List (Event FurtherEvent)} {event : Event FurtherEvent} → Leads (DoesHere supply) before events after → Has event events
+    trust_event_rises : {before after : Outside (FurtherWorld turned prompted)} {event : Event FurtherEvent} → DoesHere supply before event after → FailsAtTrustFile event
+        → Rose before.ends.trust.faults after.ends.trust.faults
+    trust_event_rises (worlds.received known needed) fails = absurd fails
+    trust_event_rises worlds.sent fails = absurd fails
+    trust_event_rises worlds.cut fails = absurd fails
+    trust_event_rises (worlds.asked known needed) fails = absurd fails
+    trust_event_rises (worlds.not_asked unsent split) fails = absurd fails
+    trust_event_rises (worlds.turned does) fails = absurd fails
+    trust_event_rises (worlds.further (further.prompt does)) fails = absurd fails
+    trust_event_rises (worlds.further (further.keys does)) fails = absurd fails
+    trust_event_rises (worlds.further (further.dice does)) fails = absurd fails
+    trust_event_rises {before} (worlds.further (further.trust {call} {file} does)) fails = trust_rises before.ends.trust file call does fails
+    trust_event_rises (worlds.further further.no_memory) fails = absurd fails
+
+    all_rise : {before after : Outside (FurtherWorld turned prompted)} {events : List (Event FurtherEvent)} {event : Event FurtherEvent} → Leads (DoesHere supply) before events after → Has event events
         → FailsAtKeysOrDice event → Rose before.ends.keys.faults after.ends.keys.faults ⊎ Rose before.ends.dice.faults after.ends.dice.faults
     all_rise none has fails = elim has [ ]
     all_rise (one does rest) here fails = elim (event_rises does fails) [ inl keys ↦ inl (first_rose _ _ _ keys (all_move rest).keys) | inr dice ↦ inr (first_rose _ _ _ dice (all_move rest).dice) ]
     all_rise (one does rest) (later has) fails = elim (all_rise rest has fails) [ inl keys ↦ inl (last_rose _ _ _ (event_moves does).keys keys) | inr dice ↦ inr (last_rose _ _ _ (event_moves does).dice dice) ]
 
-    all_prompts_rise : {before after : Outside (KeyWorld turned prompted)} {events : List (Event FurtherEvent)} {event : Event FurtherEvent} → Leads (DoesHere supply) before events after → Has event events
+    all_prompts_rise : {before after : Outside (FurtherWorld turned prompted)} {events : List (Event FurtherEvent)} {event : Event FurtherEvent} → Leads (DoesHere supply) before events after → Has event events
         → FailsAtPrompter event → Rose (at before.ends.prompter).faults (at after.ends.prompter).faults
     all_prompts_rise none has fails = elim has [ ]
     all_prompts_rise (one does rest) here fails = first_rose _ _ _ (prompter_rises does fails) (all_move rest).prompter
     all_prompts_rise (one does rest) (later has) fails = last_rose _ _ _ (event_moves does).prompter (all_prompts_rise rest has fails)
 
-    has_risen : {before after : Outside (KeyWorld turned prompted)} {events : List (Event FurtherEvent)} → Leads (DoesHere supply) before events after → HasOne events FailsAtKeysOrDice
+    all_trust_rise : {before after : Outside (FurtherWorld turned prompted)} {events : List (Event FurtherEvent)} {event : Event FurtherEvent} → Leads (DoesHere supply) before events after → Has event events
+        → FailsAtTrustFile event → Rose before.ends.trust.faults after.ends.trust.faults
+    all_trust_rise none has fails = elim has [ ]
+    all_trust_rise (one does rest) here fails = first_rose _ _ _ (trust_event_rises does fails) (all_move rest).trust
+    all_trust_rise (one does rest) (later has) fails = last_rose _ _ _ (event_moves does).trust (all_trust_rise rest has fails)
+
+    has_risen : {before after : Outside (FurtherWorld turned prompted)} {events : List (Event FurtherEvent)} → Leads (DoesHere supply) before events after → HasOne events FailsAtKeysOrDice
         → Rose before.ends.keys.faults after.ends.keys.faults ⊎ Rose before.ends.dice.faults after.ends.dice.faults
     has_risen leads (causes.one event fails has) = all_rise leads has fails
 
-    has_prompt_risen : {before after : Outside (KeyWorld turned prompted)} {events : List (Event FurtherEvent)} → Leads (DoesHere supply) before events after → HasCall events is_failed
+    has_prompt_risen : {before after : Outside (FurtherWorld turned prompted)} {events : List (Event FurtherEvent)} → Leads (DoesHere supply) before events after → HasCall events is_failed
         → Rose (at before.ends.prompter).faults (at after.ends.prompter).faults
     has_prompt_risen leads (causes.called call fails has) = all_prompts_rise leads has fails
 
-    pub failures_rise : {before after : Outside (KeyWorld turned prompted)} {events : List (Event FurtherEvent)} → Leads (DoesHere supply) before events after
+    has_trust_risen : {before after : Outside (FurtherWorld turned prompted)} {events : List (Event FurtherEvent)} → Leads (DoesHere supply) before events after → HasTrustCall events FailsAtTrust
+        → Rose before.ends.trust.faults after.ends.trust.faults
+    has_trust_risen leads (causes.called_trust call fails has) = all_trust_rise leads has fails
+
+    pub failures_rise : {before after : Outside (FurtherWorld turned prompted)} {events : List (Event FurtherEvent)} → Leads (DoesHere supply) before events after
         → FailuresRise at events before.ends after.ends
-    failures_rise leads = record { keys_or_dice = has_risen leads; prompter = has_prompt_risen leads }
+    failures_rise leads = record { keys_or_dice = has_risen leads; prompter = has_prompt_risen leads; trust = has_trust_risen leads }

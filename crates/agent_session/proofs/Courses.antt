@@ -10,8 +10,8 @@ use Rattle.key_commands.specs.Parts.{Part, ◌>>=◌, Follows, goes_on, stops, R
 use Rattle.key_commands.specs.Parts as parts
 use Rattle.key_commands.specs.declared.refusal.Refusal.{Refusal}
 use Rattle.key_commands.specs.declared.refusal.Refusal.TheVariants.{Agent}
+use Rattle.key_commands.proofs.EachEvent.{each_append}
 use Rattle.agent_session.specs.Refusals.{turn_refuses, refuses, IsAllowed, IsWork, AreWork, shuts}
-use Rattle.agent_session.proofs.Standing.{each_append}
 
 -- a turn of a step that gives no ticket back refuses its request by its outcome alone
 pub by_turn : (asked : MarkStep) (turn : Turn) {said : Option Code} → closes asked ≡ None → turn_refuses None turn ≡ said → turn_refuses (closes asked) turn ≡ said

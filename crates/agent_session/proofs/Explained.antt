@@ -18,7 +18,8 @@ use Rattle.agent_session.specs.Causes.{IsSaid, Has, here, later}
 use Rattle.agent_session.specs.Completeness.{AnswersNothing, AnswersAtLast, IsAnsweredBy, HasError, EndsInOk, done, error}
 use Rattle.agent_session.proofs.ErrorLines.{same_code, same_origin, no_reply, no_status}
 use Rattle.agent_session.proofs.Replying.{IsReply, begins}
-use Rattle.agent_session.proofs.Standing.{each_append, each_has}
+use Rattle.agent_session.proofs.Standing.{each_has}
+use Rattle.key_commands.proofs.EachEvent.{each_append}
 
 -- a request that went so is answered, or its client is gone
 abbrev pub IsLast : Went → Type 0

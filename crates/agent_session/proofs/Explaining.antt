@@ -23,11 +23,12 @@ use Rattle.key_commands.specs.Parts as parts
 use Rattle.key_commands.specs.Lines.{limit_line}
 use Rattle.key_commands.specs.declared.refusal.Refusal.{Refusal}
 use Rattle.key_commands.specs.declared.refusal.Refusal.TheVariants.{Agent, Pinentry, Client}
+use Rattle.key_commands.proofs.EachEvent.{each_append}
 use Rattle.agent_session.specs.Causes.{Has, StandIn, IsCaused, IsSaid, said, IsSent, sent, IsUnread, IsDrawn, one, turned, by_stop, GivesNone, none_given}
 use Rattle.agent_session.specs.Completeness.{AnswersNothing, IsStatus}
 use Rattle.agent_session.proofs.Asides.{limit_status}
 use Rattle.agent_origin.specs.declared.kept.Kept.{Kept}
-use Rattle.agent_session.proofs.Standing.{has_first, has_second, stand_left, stand_right, each_append}
+use Rattle.agent_session.proofs.Standing.{has_first, has_second, stand_left, stand_right}
 
 -- whatever value
 abbrev pub Anything : {A : Type 0} → A → Type 0

@@ -13,7 +13,7 @@ use Rattle.assuan_server.specs.declared.errors.Code.TheVariants as code
 use Rattle.cache_policy.specs.Turns.{Turn, Given, Empty, Refused, MayWantMemory}
 use Rattle.cache_policy.specs.declared.mark.MarkStep.{MarkStep}
 use Rattle.cache_policy.specs.declared.mark.MarkStep.TheVariants.{Clear, Flush}
-use Rattle.key_commands.specs.States.{KeyWorld}
+use Rattle.agent_origin.specs.FurtherStates.{FurtherWorld}
 use Rattle.session_options.specs.OptionValues.{OptionValues}
 use Rattle.session_options.specs.declared.rules.Rules.{Rules}
 use Rattle.agent_commands.specs.Events.{Event}
@@ -34,7 +34,7 @@ IsFair _ = ⊤
 
 module _ {D P : Type 0} (turned : D → MarkStep → Turn → D → Type 0) (prompted : P → Call → P → Type 0)
     (wants : (before after : D) (asked : MarkStep) → turned before asked Refused after → MayWantMemory asked) {supply : Supply} where
-  event_fair : {before after : Outside (KeyWorld turned prompted)} {event : Event FurtherEvent} → Does (KeyWorld turned prompted) supply before event after → IsFair event
+  event_fair : {before after : Outside (FurtherWorld turned prompted)} {event : Event FurtherEvent} → Does (FurtherWorld turned prompted) supply before event after → IsFair event
   event_fair (worlds.received known needed) = tt
   event_fair worlds.sent = tt
   event_fair worlds.cut = tt
@@ -43,7 +43,7 @@ module _ {D P : Type 0} (turned : D → MarkStep → Turn → D → Type 0) (pro
   event_fair {before} (worlds.turned {taken} {desk} does) = λ refused. wants before.desk desk taken.asked (subst (λ t. turned before.desk taken.asked t desk) refused does)
   event_fair (worlds.further does) = tt
 
-  pub all_fair : {before after : Outside (KeyWorld turned prompted)} {events : List (Event FurtherEvent)} → Leads (Does (KeyWorld turned prompted) supply) before events after → AllByRecursion IsFair events
+  pub all_fair : {before after : Outside (FurtherWorld turned prompted)} {events : List (Event FurtherEvent)} → Leads (Does (FurtherWorld turned prompted) supply) before events after → AllByRecursion IsFair events
   all_fair none = tt
   all_fair (one does rest) = (event_fair does, all_fair rest)
 

@@ -54,6 +54,7 @@ use Rattle.key_commands.specs.declared.request.KeyRequest.{KeyRequest}
 use Rattle.key_commands.specs.declared.request.KeyRequest.TheVariants as on
 use Rattle.key_commands.specs.declared.went.KeyWent.{KeyWent}
 use Rattle.key_commands.specs.declared.wrap_keys.WrapKeys.{WrapKeys}
+use Rattle.key_commands.proofs.EachEvent.{each_append}
 use Rattle.agent_session.specs.Causes.{on_keys}
 use Rattle.assuan_escape.specs.Escapes.{hex_text}
 use Rattle.agent_session.specs.Completeness.{EndsInOk, error, done}
@@ -65,7 +66,6 @@ use Rattle.agent_session.proofs.Courses.{by_turn, WorkEnd, no_more, refused, Wor
 use Rattle.agent_session.proofs.PromptCourses.{ShownEnd, no_more as no_shown, stopped, Shows, pin_shows_work, consent_shows_work, pin_code, consent_code}
 use Rattle.agent_session.proofs.Asides.{info_status, nonce_status, status_aside}
 use Rattle.agent_session.proofs.Replying.{IsReply, begins, ends_in_ok, reply_keys}
-use Rattle.agent_session.proofs.Standing.{each_append}
 
 module _ (request : Request) where
   abbrev Here : {A : Type 0} → List (Event FurtherEvent) → Result A Refusal → Type 0
@@ -247,7 +247,6 @@ module _ (request : Request) where
   is_short_of : (key : Key) (before : Option ℕ) (events : List (Event FurtherEvent)) (result : Result (Unit {0}) Refusal) (after : Option ℕ) → IsShort key before events result after → Here events result
   is_short_of key before events result after (parts.short few) = works request tt
   is_short_of key before events result after (parts.long many) = works request tt
-  is_short_of key before events result after parts.no_memory = refused_by tt refl refl
 
   rewrites_of : (file list : List ℕ) (before : Option ℕ) (events : List (Event FurtherEvent)) (result : Result (List ℕ) Refusal) (after : Option ℕ) → Rewrites file list before events result after → Here events result
   rewrites_of file list before events result after (files.canonical_file is) = works request tt

@@ -24,7 +24,7 @@ use Rattle.key_commands.specs.declared.request.KeyRequest.{KeyRequest}
 use Rattle.key_commands.specs.declared.went.KeyWent.{KeyWent}
 use Rattle.key_commands.specs.declared.wrap_keys.WrapKeys.{WrapKeys}
 use Rattle.agent_session.specs.Causes.{Has, StandIn, IsCaused, IsRefusedBy, on_keys, IsSaid}
-use Rattle.agent_session.specs.Completeness.{CausedExchange}
+use Rattle.agent_session.specs.Completeness.{CausedInSession}
 use Rattle.agent_origin.specs.SessionExchanges.{RequestExchange, cache, keys, SessionExchange, went_after_key}
 use Rattle.agent_origin.specs.declared.kept.Kept.{Kept}
 use Rattle.agent_session.proofs.CacheRequests.{cache_explained, unheard_explained as cached_unheard_explained}
@@ -85,7 +85,7 @@ request_explained rules kept request whole caused never_absent (cache exchange) 
 request_explained rules kept request whole caused never_absent (keys exchange) stands = keys_explained rules kept request whole caused never_absent _ refl exchange stands
 
 pub exchange_caused : (rules : Rules) (kept : Kept) (line : List ℕ) {events : List (Event FurtherEvent)} {after : Kept} {went : Went} → NeverAbsent events → SessionExchange rules kept line events after went
-    → CausedExchange rules kept line events after went
+    → CausedInSession rules kept line events after went
 exchange_caused rules kept line {events} never_absent exchange =
     let explained = request_explained rules kept (request_of line) events (line_caused rules kept line events) never_absent exchange (stand_all events) in
     record { exchange = exchange; answered = is_answered events (IsCaused events rules kept (request_of line)) explained refl; caused = is_caused events (IsCaused events rules kept (request_of line)) explained }

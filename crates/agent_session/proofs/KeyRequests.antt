@@ -405,7 +405,6 @@ module _ (rules : Rules) (kept : Kept) (request : Request) (whole : List (Event 
           → Comes rules kept request whole Anything events result
       is_short_of before events result after (parts.short few) stands = record { silent = tt; explained = tt }
       is_short_of before events result after (parts.long many) stands = record { silent = tt; explained = long asked opens many }
-      is_short_of before events result after parts.no_memory stands = record { silent = (tt, tt); explained = out_of_memory_first rules kept request whole stands }
 
       is_short : Explains rules kept request whole (IsShort key) Anything
       is_short = record { of = is_short_of }

@@ -1,14 +1,13 @@
 pub mod Answering
 mod Asides
 pub mod AtOnce
-pub mod BesideTrust
 mod CacheCourses
 mod CacheOpens
 mod CacheRequests
 mod Completing
+mod Counting
 mod Courses
 pub mod DoorAnswering
-mod EachEvent
 mod ErrorLines
 mod Explained
 mod Explaining

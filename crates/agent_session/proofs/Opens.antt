@@ -1,7 +1,7 @@
 -- In a request a prompt is opened before the prompter is called, and once.
 use Rattle.std.specs.List.{AllByRecursion}
 use Rattle.std.proofs.Common.{◌≡◌, ℕ, Bool, true, false, List, [], ◌∷◌, ◌++◌, Option, Some, None, Result, Ok, Err, refl, subst, inl, inr, append-nil}
-use Rattle.agent_ask.specs.Further.{FurtherEvent, Keys, Dice, NoMemory, Prompt}
+use Rattle.agent_ask.specs.Further.{FurtherEvent, Keys, Dice, NoMemory, Prompt, Trust}
 use Rattle.agent_ask.specs.SessionEvents.{Received, Sent, Cut, Inquiry, CacheTurn, Further}
 use Rattle.agent_ports.specs.declared.grip.Grip.{Grip}
 use Rattle.assuan_server.specs.declared.errors.Code.TheVariants as code
@@ -29,13 +29,13 @@ use Rattle.key_commands.specs.declared.request.KeyRequest.{KeyRequest}
 use Rattle.key_commands.specs.declared.request.KeyRequest.TheVariants as on
 use Rattle.key_commands.specs.declared.went.KeyWent.{KeyWent}
 use Rattle.key_commands.specs.declared.wrap_keys.WrapKeys.{WrapKeys}
+use Rattle.key_commands.proofs.EachEvent.{each_append}
 use Rattle.session_client.specs.declared.unheard.Gone.TheVariants as gone
 use Rattle.session_client.specs.declared.unheard.Unheard.TheVariants as unheard
 use Rattle.agent_session.specs.Refusals.{IsUncalled, IsUnopening, OpensFirst}
-use Rattle.agent_session.proofs.EachEvent.{IsStill, EachSo, each_bind, each_returned, each_refused, each_needed, each_otherwise, each_wanted, each_looks, each_seats, each_changes, looks_nonce}
-use Rattle.agent_session.proofs.EachEvent.{looks_over, takes_seat, each_closes, finds, draws, reads_file, lists, told, is_short, names_key, wraps_key, receives_key, is_free, has_one, locks}
-use Rattle.agent_session.proofs.EachEvent.{tries_found, removes, tells_info, writes_infos, client_old, rewrites_file, stores_key, client_new, prompts_old, prompts_new, agrees}
-use Rattle.agent_session.proofs.Standing.{each_append}
+use Rattle.key_commands.proofs.EachEvent.{IsStill, EachSo, each_bind, each_returned, each_refused, each_needed, each_otherwise, each_wanted, each_looks, each_seats, each_changes, looks_nonce}
+use Rattle.key_commands.proofs.EachEvent.{looks_over, takes_seat, each_closes, finds, draws, reads_file, lists, told, is_short, names_key, wraps_key, receives_key, is_free, has_one, locks}
+use Rattle.key_commands.proofs.EachEvent.{tries_found, removes, tells_info, writes_infos, client_old, rewrites_file, stores_key, client_new, prompts_old, prompts_new, agrees}
 
 abbrev pub Uncalled : List (Event FurtherEvent) → Type 0
 Uncalled events = AllByRecursion IsUncalled events
@@ -55,6 +55,7 @@ still_uncalled (Cut text) still = tt
 still_uncalled (Inquiry word params limit inquired) still = tt
 still_uncalled (Further (Keys call)) still = tt
 still_uncalled (Further (Dice draw)) still = tt
+still_uncalled (Further (Trust call)) still = absurd still
 still_uncalled (Further NoMemory) still = tt
 still_uncalled (Further (Prompt event)) still = absurd still
 still_uncalled (CacheTurn taken) still = tt
@@ -66,6 +67,7 @@ still_unopening (Cut text) still = tt
 still_unopening (Inquiry word params limit inquired) still = tt
 still_unopening (Further (Keys call)) still = tt
 still_unopening (Further (Dice draw)) still = tt
+still_unopening (Further (Trust call)) still = absurd still
 still_unopening (Further NoMemory) still = tt
 still_unopening (Further (Prompt event)) still = tt
 still_unopening (CacheTurn taken) still = absurd still
@@ -219,7 +221,6 @@ module _ {A B : Type 0} {part : Part A} {next : A → Part B} (first : Seated pa
 short_stays : (key : Key) (number : ℕ) (events : List (Event FurtherEvent)) (result : Result (Unit {0}) Refusal) (after : Option ℕ) → IsShort key (Some number) events result after → after ≡ Some number
 short_stays key number events result after (parts.short few) = refl
 short_stays key number events result after (parts.long many) = refl
-short_stays key number events result after parts.no_memory = refl
 
 nonce_stays : (id : Option (List ℕ)) (number : ℕ) (events : List (Event FurtherEvent)) (result : Result (Option (List ℕ)) Refusal) (after : Option ℕ) → LooksForNonce id (Some number) events result after → after ≡ Some number
 nonce_stays None number events result after small.returns = refl

@@ -25,7 +25,7 @@ use Rattle.assuan_server.specs.declared.errors.Code.TheVariants as code
 use Rattle.agent_commands.specs.Events.{Event}
 use Rattle.agent_commands.specs.declared.request.Request.{Request}
 use Rattle.agent_session.specs.Refusals.{call_refuses, refuses, IsAllowed, IsWork, AreWork, shuts}
-use Rattle.agent_session.proofs.Standing.{each_append}
+use Rattle.key_commands.proofs.EachEvent.{each_append}
 
 -- the code by which an event of a prompt refuses its request
 abbrev pub prompt_refuses : PromptEvent → Option Code

@@ -2,12 +2,15 @@
 use Rattle.std.specs.List.{AllByRecursion}
 use Rattle.std.proofs.Common.{◌≡◌, List, [], ◌∷◌, ◌++◌, ℕ, Option, Some, None, refl, sym, ap, subst, inl, inr}
 use Rattle.agent_ask.specs.Events.{Called, OutOfMemory, Notified}
-use Rattle.agent_ask.specs.Further.{FurtherEvent, Read, Listed, Replaced, Removed, Drew, NotDrawn, Prompt, Keys, Dice, NoMemory}
+use Rattle.agent_ask.specs.Further.{FurtherEvent, Read, Listed, Replaced, Removed, Drew, NotDrawn, Prompt, Keys, Dice, NoMemory, Trust}
 use Rattle.agent_ask.specs.SessionEvents.{Received, Sent, Cut, Inquiry, CacheTurn, Further, cache_turn}
+use Rattle.agent_ask.specs.TrustCalls as trust_call
 use Rattle.agent_ports.specs.declared.grip.Grip.{Grip}
 use Rattle.agent_ports.specs.declared.keys.KeyDone.TheVariants as key_done
 use Rattle.agent_ports.specs.declared.keys.KeyNames.TheVariants as key_names
 use Rattle.agent_ports.specs.declared.keys.KeyRead.TheVariants as key_read
+use Rattle.agent_ports.specs.declared.trust.TrustDone.TheVariants as trust_done
+use Rattle.agent_ports.specs.declared.trust.TrustRead.TheVariants as trust_read
 use Rattle.assuan_server.specs.Written.{failed}
 use Rattle.assuan_server.specs.declared.errors.Code.{Code}
 use Rattle.assuan_server.specs.declared.errors.Code.TheVariants as code
@@ -60,6 +63,13 @@ wants_refuses (Further (Keys (Removed grip key_done.Done))) fits wants = absurd 
 wants_refuses (Further (Keys (Removed grip key_done.Absent))) fits wants = absurd wants
 wants_refuses (Further (Keys (Removed grip key_done.Failed))) fits wants = absurd wants
 wants_refuses (Further (Dice draw)) fits wants = absurd wants
+wants_refuses (Further (Trust (trust_call.Read trust_read.NoMemory))) fits wants = refl
+wants_refuses (Further (Trust (trust_call.Read trust_read.Failed))) fits wants = absurd wants
+wants_refuses (Further (Trust (trust_call.Read trust_read.Absent))) fits wants = absurd wants
+wants_refuses (Further (Trust (trust_call.Read (trust_read.Found bytes)))) fits wants = absurd wants
+wants_refuses (Further (Trust (trust_call.Replaced file trust_done.NoMemory))) fits wants = refl
+wants_refuses (Further (Trust (trust_call.Replaced file trust_done.Done))) fits wants = absurd wants
+wants_refuses (Further (Trust (trust_call.Replaced file trust_done.Failed))) fits wants = absurd wants
 wants_refuses (Received took) fits wants = absurd wants
 wants_refuses (Sent text) fits wants = absurd wants
 wants_refuses (Cut text) fits wants = absurd wants
@@ -84,6 +94,7 @@ fails_refuses (Further (Keys (Removed grip key_done.NoMemory))) fails = absurd f
 fails_refuses (Further (Dice (NotDrawn count))) fails = refl
 fails_refuses (Further (Dice (Drew bytes))) fails = absurd fails
 fails_refuses (Further (Prompt event)) fails = absurd fails
+fails_refuses (Further (Trust call)) fails = absurd fails
 fails_refuses (Further NoMemory) fails = absurd fails
 fails_refuses (CacheTurn taken) fails = absurd fails
 fails_refuses (Received took) fails = absurd fails
@@ -136,6 +147,7 @@ shut_goes : (event : Event FurtherEvent) (ending : List (Event FurtherEvent)) �
 shut_goes (Further (Prompt event)) ending each = (refl, each)
 shut_goes (Further (Keys call)) ending each = each
 shut_goes (Further (Dice draw)) ending each = each
+shut_goes (Further (Trust call)) ending each = each
 shut_goes (Further NoMemory) ending each = each
 shut_goes (CacheTurn taken) ending each = each
 shut_goes (Received took) ending each = each

@@ -39,10 +39,6 @@ pub has_second : {E : Type 0} {first event : E} {more whole : List E} → StandI
 has_second stands = has_in stands (later here)
 
 module _ {E : Type 0} (Is : E → Type 0) where
-  pub each_append : (first more : List E) → AllByRecursion Is first → AllByRecursion Is more → AllByRecursion Is (first ++ more)
-  each_append [] more each others = others
-  each_append (event ∷ first) more each others = (each.0, each_append first more each.1 others)
-
   pub each_left : (first more : List E) → AllByRecursion Is (first ++ more) → AllByRecursion Is first
   each_left [] more each = tt
   each_left (event ∷ first) more each = (each.0, each_left first more each.1)

@@ -1,16 +1,18 @@
 -- A request on the trust list is answered Not trusted wherever a read of the file says so.
+use Rattle.std.specs.List.{AllByRecursion}
 use Rattle.std.proofs.Common.{◌≡◌, ◌⊎◌, ◌∙◌, ℕ, Bool, true, false, List, [], ◌∷◌, ◌++◌, Option, Some, None, Ok, Err, refl, sym, subst, inl, inr}
 use Rattle.agent_ask.specs.Failing.{said_last}
-use Rattle.agent_ask.specs.Further.{FurtherEvent}
-use Rattle.agent_ask.specs.SessionEvents.{Received, Sent, Cut, Inquiry, CacheTurn, Further}
+use Rattle.agent_ask.specs.SessionEvents.{Sent, CacheTurn}
+use Rattle.agent_ask.specs.TrustCalls.{TrustCall}
 use Rattle.agent_commands.specs.Answers.{ok}
-use Rattle.agent_commands.specs.Events.{Event as SessionEvent}
 use Rattle.agent_commands.specs.declared.went.Went.{Went}
 use Rattle.agent_ports.specs.declared.grip.Grip.{Grip}
 use Rattle.assuan_server.specs.Written.{failed}
 use Rattle.assuan_server.specs.declared.errors.Code.TheVariants as code
 use Rattle.assuan_server.specs.declared.errors.Origin.TheVariants.{Agent}
 use Rattle.cache_policy.specs.Extending.{Taken}
+use Rattle.key_commands.specs.Events.{Event}
+use Rattle.key_commands.proofs.EachRequest.{IsBesideTrust}
 use Rattle.session_options.specs.OptionValues.{OptionValues}
 use Rattle.session_options.specs.declared.options.PinMode.{PinMode}
 use Rattle.session_options.specs.declared.options.PinMode.TheVariants as mode
@@ -18,26 +20,21 @@ use Rattle.session_options.specs.declared.rules.Rules.{Rules}
 use Rattle.trust_list.specs.Trust.{trust}
 use Rattle.agent_origin.specs.Exchanges.{flag_of, trust_question, fingerprint_question, unless_said, TrustedNow, Stores, StoresUnsaid, Consented, asked_in, Marked, Carried, TrustExchange}
 use Rattle.agent_origin.specs.Exchanges as trusts
-use Rattle.agent_origin.specs.OriginEvents.{Event, TrustCall, called, in_session}
-use Rattle.agent_origin.specs.Parts.{Part, ◌>>=◌, Follows, Returns, Refuses, Seats, UnderTicket, Agrees, ReadsFile, AddsEntry, Replaces, file_in, refusal_events, refusal_line}
+use Rattle.agent_origin.specs.Parts.{Part, ◌>>=◌, Follows, Returns, Refuses, Seats, UnderTicket, Agrees, ReadsFile, AddsEntry, Replaces, file_in, refusal_events, refusal_line, trust_called}
 use Rattle.agent_origin.specs.Parts as parts
 use Rattle.agent_origin.specs.declared.request.TrustPurpose.{TrustPurpose}
 use Rattle.agent_origin.specs.declared.request.TrustRequest.{TrustRequest}
+use Rattle.agent_origin.proofs.EachLine.{shown_so}
 use Rattle.agent_session.specs.Causes.{Has, here, later}
 use Rattle.agent_session.specs.Completeness.{HasError}
-use Rattle.agent_session.specs.DoorCauses.{beside_trust, IsReadTrust, read_trust, IsAsked, IsNotTrusted, unsaid, denied, denied_mark}
-use Rattle.agent_session.proofs.BesideTrust.{beside_append}
+use Rattle.agent_session.specs.DoorCauses.{IsReadTrust, read_trust, IsAsked, IsNotTrusted, unsaid, denied, denied_mark}
 use Rattle.agent_session.proofs.Standing.{has_right}
 
--- no call of the trust file is among a session's events that has none
-pub none_called : (events : List (SessionEvent FurtherEvent)) {call : TrustCall} → Has (called call) (in_session events) → ⊥
-none_called [] has = elim has [ ]
-none_called (Received took ∷ more) (later has) = none_called more has
-none_called (Sent text ∷ more) (later has) = none_called more has
-none_called (Cut text ∷ more) (later has) = none_called more has
-none_called (Inquiry word params limit inquired ∷ more) (later has) = none_called more has
-none_called (CacheTurn taken ∷ more) (later has) = none_called more has
-none_called (Further what ∷ more) (later has) = none_called more has
+-- no call of the trust file is among events that are beside it
+pub none_called : (events : List Event) → AllByRecursion IsBesideTrust events → {call : TrustCall} → Has (trust_called call) events → ⊥
+none_called [] each has = elim has [ ]
+none_called (event ∷ more) each here = each.0
+none_called (event ∷ more) each (later has) = none_called more each.1 has
 
 split : {E : Type 0} {event : E} (first more : List E) → Has event (first ++ more) → Has event first ⊎ Has event more
 split [] more has = inr has
@@ -87,8 +84,8 @@ module _ (fingerprint : Grip) (file : List ℕ) where
   agrees_never rules options question = record { never = none_of }
     where
       none_of : (events : List Event) {result : _} → Agrees rules options question events result → ¬ IsReadTrust events file
-      none_of events (parts.consents spec is (parts.prompts {shown} asks shows)) (read_trust found has) = none_called shown has
-      none_of events (parts.refused spec is (parts.prompts {shown} asks shows) refusal) (read_trust found has) = none_called shown has
+      none_of events (parts.consents spec is (parts.prompts {shown} asks shows)) (read_trust found has) = none_called shown (shown_so IsBesideTrust (λ event is. is) shows) has
+      none_of events (parts.refused spec is (parts.prompts {shown} asks shows) refusal) (read_trust found has) = none_called shown (shown_so IsBesideTrust (λ event is. is) shows) has
 
   adds_never : (old : List ℕ) (flag : ℕ) → ReadsNot (AddsEntry old fingerprint flag)
   adds_never old flag = record { never = none_of }
@@ -220,10 +217,9 @@ module _ (fingerprint : Grip) (file : List ℕ) where
 -- ---- requests
 
 -- a refusal's line is the last event
-refused_last : (events : List Event) {line : Option (List ℕ)} → line ≡ Some (failed code.NotTrusted) → HasError code.NotTrusted Agent (beside_trust (events ++ said_last line))
+refused_last : (events : List Event) {line : Option (List ℕ)} → line ≡ Some (failed code.NotTrusted) → HasError code.NotTrusted Agent (events ++ said_last line)
 refused_last events is =
-    subst (λ l. HasError code.NotTrusted Agent (beside_trust (events ++ said_last l))) (sym is)
-    (subst (HasError code.NotTrusted Agent) (sym (beside_append events (Sent (failed code.NotTrusted) ∷ []))) (has_right (beside_trust events) here))
+    subst (λ l. HasError code.NotTrusted Agent (events ++ said_last l)) (sym is) (has_right events here)
 
 -- what is said isn't a read
 none_said : (events : List Event) (line : Option (List ℕ)) {file : List ℕ} → IsReadTrust (events ++ said_last line) file → IsReadTrust events file
@@ -232,18 +228,18 @@ none_said events None is_read = elim (split_read events _ is_read) [ inl before 
 
 module _ (rules : Rules) (options : OptionValues) where
   heeded : (fingerprint : Grip) (file : List ℕ) {request : TrustRequest} → Heeds fingerprint file (Carried rules options request) → {events : List Event} {went : Went}
-      → TrustExchange rules options request events went → IsReadTrust events file → HasError code.NotTrusted Agent (beside_trust events)
+      → TrustExchange rules options request events went → IsReadTrust events file → HasError code.NotTrusted Agent events
   heeded fingerprint file heeds (trusts.answered events does) is_read = absurd (heeds.fine events tt does (none_said events (Some ok) is_read))
   heeded fingerprint file heeds (trusts.refused events why does) is_read = refused_last events (heeds.denies events does (none_said events (refusal_line why) is_read))
 
   asked_heeded : {fingerprint : Grip} {said : Option Bool} {request : TrustRequest} {events : List Event} {went : Went} → ¬ (said ≡ Some true) → IsAsked events request fingerprint said
-      → TrustExchange rules options request events went → HasError code.NotTrusted Agent (beside_trust events)
+      → TrustExchange rules options request events went → HasError code.NotTrusted Agent events
   asked_heeded {fingerprint} {events} {went} other asked exchanged =
       heeded fingerprint asked.file (asked_heeds fingerprint asked.file (λ is. other (sym asked.says_so ∙ is))) (subst (λ r. TrustExchange rules options r events went) asked.request_is exchanged)
       asked.is_read
 
   pub denial_is_said : {request : TrustRequest} {events : List Event} {went : Went} → TrustExchange rules options request events went → IsNotTrusted events request
-      → HasError code.NotTrusted Agent (beside_trust events)
+      → HasError code.NotTrusted Agent events
   denial_is_said exchanged (unsaid asked) = asked_heeded (λ is. absurd (cc is)) asked exchanged
   denial_is_said exchanged (denied asked) = asked_heeded (λ is. absurd (cc is)) asked exchanged
   denial_is_said {events} {went} exchanged (denied_mark {fingerprint} {purpose} {file} marked) =

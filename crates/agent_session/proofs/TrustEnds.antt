@@ -2,10 +2,11 @@
 use Rattle.std.specs.List.{AllByRecursion}
 use Rattle.std.proofs.Common.{◌≡◌, ◌∙◌, ℕ, Bool, true, false, List, [], ◌∷◌, ◌++◌, Option, Some, None, Result, Ok, Err, refl, sym, ap, subst, append_assoc}
 use Rattle.agent_ask.specs.Failing.{said_last}
-use Rattle.agent_ask.specs.Further.{FurtherEvent}
+use Rattle.agent_ask.specs.Further.{Keys, Dice, NoMemory, Prompt, Trust}
 use Rattle.agent_ask.specs.SessionEvents.{Received, Sent, Cut, Inquiry, CacheTurn, Further, cache_turn}
+use Rattle.agent_ask.specs.TrustCalls.{Read}
 use Rattle.agent_commands.specs.Answers.{ok}
-use Rattle.agent_commands.specs.Events.{Event as SessionEvent}
+use Rattle.agent_commands.specs.Requests.{request_of}
 use Rattle.agent_commands.specs.declared.went.Went.{Went}
 use Rattle.agent_ports.specs.declared.grip.Grip.{Grip}
 use Rattle.agent_ports.specs.declared.trust.TrustRead.{TrustRead}
@@ -21,8 +22,7 @@ use Rattle.agent_origin.specs.DoorSessions.{AllowedExchange, DoorExchange}
 use Rattle.agent_origin.specs.DoorSessions as doors
 use Rattle.agent_origin.specs.Exchanges.{flag_of, trust_question, fingerprint_question, unless_said, TrustedNow, Stores, StoresUnsaid, Consented, asked_in, Marked, Carried, TrustExchange}
 use Rattle.agent_origin.specs.Exchanges as trusts
-use Rattle.agent_origin.specs.OriginEvents.{Event, Read, called, in_session}
-use Rattle.agent_origin.specs.Parts.{Part, ◌>>=◌, Follows, Returns, Refuses, Seats, UnderTicket, Agrees, ReadsFile, AddsEntry, Replaces, file_in, refusal_events, refusal_line}
+use Rattle.agent_origin.specs.Parts.{Part, ◌>>=◌, Follows, Returns, Refuses, Seats, UnderTicket, Agrees, ReadsFile, AddsEntry, Replaces, file_in, refusal_events, refusal_line, trust_called}
 use Rattle.agent_origin.specs.Parts as parts
 use Rattle.agent_origin.specs.declared.door.Door.{Door}
 use Rattle.agent_origin.specs.declared.kept.Kept.{Kept}
@@ -30,7 +30,10 @@ use Rattle.agent_origin.specs.declared.request.TrustPurpose.{TrustPurpose}
 use Rattle.agent_origin.specs.declared.request.TrustRequest.{TrustRequest}
 use Rattle.agent_origin.specs.declared.request.TrustRequest.TheVariants.{IsTrusted, MarkTrusted, Bad}
 use Rattle.agent_session.specs.TrustCalls.{decided_line, IsLastLine, alone, given_back, EndsAtCalls}
-use Rattle.agent_session.proofs.Standing.{each_append}
+use Rattle.agent_origin.proofs.EachLine.{shown_so, each_request}
+use Rattle.key_commands.specs.Events.{Event}
+use Rattle.key_commands.proofs.EachEvent.{each_append}
+use Rattle.key_commands.proofs.EachRequest.{IsBesideTrust}
 
 -- ---- lists
 
@@ -41,14 +44,18 @@ Undecided events = AllByRecursion (λ event. decided_line event ≡ None) events
 both_undecided : (first more : List Event) → Undecided first → Undecided more → Undecided (first ++ more)
 both_undecided first more = each_append (λ event. decided_line event ≡ None) first more
 
-session_undecided : (events : List (SessionEvent FurtherEvent)) → Undecided (in_session events)
-session_undecided [] = tt
-session_undecided (Received took ∷ more) = (refl, session_undecided more)
-session_undecided (Sent text ∷ more) = (refl, session_undecided more)
-session_undecided (Cut text ∷ more) = (refl, session_undecided more)
-session_undecided (Inquiry word params limit inquired ∷ more) = (refl, session_undecided more)
-session_undecided (CacheTurn taken ∷ more) = (refl, session_undecided more)
-session_undecided (Further what ∷ more) = (refl, session_undecided more)
+beside_undecided : (events : List Event) → AllByRecursion IsBesideTrust events → Undecided events
+beside_undecided [] each = tt
+beside_undecided (Received took ∷ more) each = absurd each.0
+beside_undecided (Sent text ∷ more) each = (refl, beside_undecided more each.1)
+beside_undecided (Cut text ∷ more) each = (refl, beside_undecided more each.1)
+beside_undecided (Inquiry word params limit inquired ∷ more) each = (refl, beside_undecided more each.1)
+beside_undecided (CacheTurn taken ∷ more) each = (refl, beside_undecided more each.1)
+beside_undecided (Further (Prompt event) ∷ more) each = (refl, beside_undecided more each.1)
+beside_undecided (Further (Keys call) ∷ more) each = (refl, beside_undecided more each.1)
+beside_undecided (Further (Dice draw) ∷ more) each = (refl, beside_undecided more each.1)
+beside_undecided (Further NoMemory ∷ more) each = (refl, beside_undecided more each.1)
+beside_undecided (Further (Trust call) ∷ more) each = absurd each.0
 
 said_undecided : (line : Option (List ℕ)) → Undecided (said_last line)
 said_undecided None = tt
@@ -138,17 +145,17 @@ module _ (Back : List Event → Type 0) (none_back : Back []) where
 
   module _ (rules : Rules) (options : OptionValues) (question : List ℕ) where
     agrees_fine : {events : List Event} {value : Unit {0}} → Agrees rules options question events (Ok value) → Undecided events
-    agrees_fine (parts.consents spec is (parts.prompts {shown} asks shows)) = session_undecided shown
+    agrees_fine (parts.consents spec is (parts.prompts {shown} asks shows)) = beside_undecided shown (shown_so IsBesideTrust (λ event is. is) shows)
 
     agrees_stops : {events : List Event} {why : _} → Agrees rules options question events (Err why) → Come Back {A = Unit {0}} events (Err why)
-    agrees_stops (parts.refused spec is (parts.prompts {shown} asks shows) refusal) = goes (session_undecided shown)
+    agrees_stops (parts.refused spec is (parts.prompts {shown} asks shows) refusal) = goes (beside_undecided shown (shown_so IsBesideTrust (λ event is. is) shows))
 
     agrees : Steps (Agrees rules options question)
     agrees = record { fine = agrees_fine; stops = agrees_stops }
 
   -- ---- the trust file
 
-  read_undecided : (answer : TrustRead) {file : List ℕ} → file_in answer ≡ Some file → decided_line (called (Read answer)) ≡ None
+  read_undecided : (answer : TrustRead) {file : List ℕ} → file_in answer ≡ Some file → decided_line (trust_called (Read answer)) ≡ None
   read_undecided (read.Found file) is = refl
   read_undecided read.Absent is = refl
   read_undecided read.Failed is = absurd (cc is)
@@ -259,7 +266,7 @@ module _ {rules : Rules} {before : Kept} {line : List ℕ} where
   allowed_ends : {command : _} {events : List Event} {after : Kept} {went : Went} → AllowedExchange rules before line command events after went → EndsAtCalls events
   allowed_ends doors.helped = ((λ text is. absurd (cc is)), tt)
   allowed_ends (doors.trusts exchanged) = trust_ends _ exchanged
-  allowed_ends (doors.any {events = own} exchanged) = none_ends (in_session own) (session_undecided own)
+  allowed_ends (doors.any {events = own} exchanged) = none_ends own (beside_undecided own (each_request IsBesideTrust (λ event is. is) (request_of line) exchanged))
 
   pub door_ends : {door : Door} {events : List Event} {after : Kept} {went : Went} → DoorExchange door rules before line events after went → EndsAtCalls events
   door_ends (doors.forbidden refuses) = ((λ text is. absurd (cc is)), tt)

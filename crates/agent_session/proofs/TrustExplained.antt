@@ -5,8 +5,9 @@ use Rattle.std.specs.Option.{option_map}
 use Rattle.std.specs.Prelude.{⊤, IfSome}
 use Rattle.agent_ask.specs.Failing.{said_last}
 use Rattle.agent_ask.specs.Events.{PromptEvent}
-use Rattle.agent_ask.specs.Further.{FurtherEvent, NoMemory}
+use Rattle.agent_ask.specs.Further.{NoMemory}
 use Rattle.agent_ask.specs.SessionEvents.{Sent, Further, cache_turn}
+use Rattle.agent_ask.specs.TrustCalls.{Read, Replaced}
 use Rattle.agent_ask.specs.UnderTickets.{AnyInSession}
 use Rattle.agent_ask.specs.declared.caller.Heard.{Heard}
 use Rattle.agent_ask.specs.declared.caller.Heard.TheVariants as heard_as
@@ -14,7 +15,6 @@ use Rattle.agent_ask.specs.declared.consent.Agreed.{Agreed}
 use Rattle.agent_ask.specs.declared.consent.Agreed.TheVariants as agreed
 use Rattle.agent_commands.specs.Answers.{ok}
 use Rattle.agent_commands.specs.Endings.{went_after}
-use Rattle.agent_commands.specs.Events.{Event as SessionEvent}
 use Rattle.agent_commands.specs.Exchanges as exchanges
 use Rattle.agent_commands.specs.Exchanges.{Interrupts}
 use Rattle.agent_commands.specs.declared.request.Request.{Request}
@@ -35,8 +35,10 @@ use Rattle.cache_policy.specs.declared.mark.MarkStep.{MarkStep}
 use Rattle.cache_policy.specs.declared.mark.MarkStep.TheVariants.{Seat}
 use Rattle.assuan_text.specs.Options.{arguments_of}
 use Rattle.assuan_text.specs.Words.{command_of, rest_of, words}
+use Rattle.key_commands.specs.Events.{Event}
 use Rattle.key_commands.specs.Requests as requests
 use Rattle.key_commands.specs.Requests.{needed, grip, first_grip}
+use Rattle.key_commands.proofs.EachEvent.{each_append}
 use Rattle.session_client.specs.Asking.{gone_of}
 use Rattle.session_client.specs.declared.unheard.Gone.TheVariants as gone
 use Rattle.session_client.specs.declared.unheard.Unheard.{Unheard}
@@ -48,8 +50,7 @@ use Rattle.trust_list.specs.Trust.{trust, with_entry}
 use Rattle.trust_list.specs.declared.TheConstants.{MAX_TRUST_FILE_LEN}
 use Rattle.agent_origin.specs.Exchanges.{flag_of, trust_question, fingerprint_question, unless_said, TrustedNow, Stores, StoresUnsaid, Consented, asked_in, Marked, Carried, TrustExchange}
 use Rattle.agent_origin.specs.Exchanges as trusts
-use Rattle.agent_origin.specs.OriginEvents.{Event, Read, Replaced, in_session}
-use Rattle.agent_origin.specs.Parts.{Part, ◌>>=◌, Follows, Returns, Refuses, Seats, UnderTicket, PromptsConsent, consent_refusal, Agrees, ReadsFile, AddsEntry, Replaces, refusal_events, refusal_went}
+use Rattle.agent_origin.specs.Parts.{Part, ◌>>=◌, Follows, Returns, Refuses, Seats, UnderTicket, PromptsConsent, consent_refusal, Agrees, ReadsFile, AddsEntry, Replaces, refusal_events, refusal_went, trust_called}
 use Rattle.agent_origin.specs.Parts as parts
 use Rattle.agent_origin.specs.Names.{command_named}
 use Rattle.agent_origin.specs.Requests.{purpose, owner, mark_trusted_of, asked_by, either, request_by, trust_request_of}
@@ -59,16 +60,15 @@ use Rattle.agent_origin.specs.declared.names.TrustCommandName.TheVariants as nam
 use Rattle.agent_origin.specs.declared.request.TrustPurpose.{TrustPurpose}
 use Rattle.agent_origin.specs.declared.request.TrustRequest.{TrustRequest}
 use Rattle.agent_origin.specs.declared.request.TrustRequest.TheVariants.{IsTrusted, MarkTrusted, Bad}
-use Rattle.agent_session.specs.Causes.{StandIn, IsSaid, one, turned}
+use Rattle.agent_session.specs.Causes.{StandIn, IsSaid, one, called_trust, turned}
 use Rattle.agent_session.specs.Completeness.{AnswersNothing}
-use Rattle.agent_session.specs.DoorCauses.{beside_trust, IsReadTrust, read_trust, IsMarked, IsTrustCaused, called_trust, by_mode, by_client, by_stop, unsaid, denied, denied_mark, inquired, too_long, error, loopback}
-use Rattle.agent_session.proofs.BesideTrust.{beside_append, beside_session, beside_stands}
+use Rattle.agent_session.specs.DoorCauses.{IsReadTrust, read_trust, IsMarked, IsTrustCaused, by_mode, by_client, by_stop, unsaid, denied, denied_mark, inquired, too_long, error, loopback}
 use Rattle.agent_session.proofs.Explained.{Explained, replied, failed, silent, after_these}
 use Rattle.agent_session.proofs.KeyParts.{has_call, heard_caused, prompt_silent}
 use Rattle.agent_session.proofs.Prompted as prompted
 use Rattle.agent_session.proofs.Prompted.{ConsentShows, HasHeard, consent_shows}
 use Rattle.agent_session.proofs.Replying.{reply_ok}
-use Rattle.agent_session.proofs.Standing.{has_first, stand_left, stand_right, each_append}
+use Rattle.agent_session.proofs.Standing.{has_first, stand_left, stand_right}
 
 -- whatever value
 abbrev Anything : {A : Type 0} → A → Type 0
@@ -79,20 +79,20 @@ module _ (rules : Rules) (kept : Kept) (other : Request) (request : TrustRequest
   abbrev Caused : Code → Origin → Type 0
   Caused = IsTrustCaused whole request kept.options
 
-  abbrev Here : List (SessionEvent FurtherEvent) → Went → Type 0
-  Here = Explained (beside_trust whole) Caused
+  abbrev Here : List Event → Went → Type 0
+  Here = Explained whole Caused
 
   abbrev Silent : List Event → Type 0
-  Silent events = AllByRecursion AnswersNothing (beside_trust events)
+  Silent events = AllByRecursion AnswersNothing events
 
   -- a part whose value is good, and whose refusals have their causes
   record Explains {A : Type 0} (part : Part A) (Good : A → Type 0) : Type 0 where
     silent : (events : List Event) {result : _} → part events result → StandIn events whole → Silent events
     good : (events : List Event) (value : A) → part events (Ok value) → StandIn events whole → Good value
-    caused : (events : List Event) {why : _} → part events (Err why) → StandIn events whole → Here (beside_trust (refusal_events why)) (refusal_went why)
+    caused : (events : List Event) {why : _} → part events (Err why) → StandIn events whole → Here (refusal_events why) (refusal_went why)
 
   silent_append : (first more : List Event) → Silent first → Silent more → Silent (first ++ more)
-  silent_append first more each others = subst (AllByRecursion AnswersNothing) (sym (beside_append first more)) (each_append AnswersNothing (beside_trust first) (beside_trust more) each others)
+  silent_append first more each others = each_append AnswersNothing first more each others
 
   -- a part, and then what follows on its value
   module _ {A B : Type 0} {part : Part A} {next : A → Part B} (First : A → Type 0) (Good : B → Type 0) (first : Explains part First)
@@ -107,7 +107,7 @@ module _ (rules : Rules) (kept : Kept) (other : Request) (request : TrustRequest
     bind_good events value (parts.goes_on {first = some} {events = more} {value = mid} does next_does) stands =
         (then mid (first.good some mid does (stand_left some more stands))).good more value next_does (stand_right some more stands)
 
-    bind_caused : (events : List Event) {why : _} → Follows part next events (Err why) → StandIn events whole → Here (beside_trust (refusal_events why)) (refusal_went why)
+    bind_caused : (events : List Event) {why : _} → Follows part next events (Err why) → StandIn events whole → Here (refusal_events why) (refusal_went why)
     bind_caused events (parts.goes_on {first = some} {events = more} {value = mid} does next_does) stands =
         (then mid (first.good some mid does (stand_left some more stands))).caused more next_does (stand_right some more stands)
     bind_caused events (parts.stops does) stands = first.caused events does stands
@@ -124,7 +124,7 @@ module _ (rules : Rules) (kept : Kept) (other : Request) (request : TrustRequest
         comes_to : {events : List Event} {result : _} → Returns value events result → result ≡ Ok value
         comes_to parts.returns = refl
 
-        never : (events : List Event) {why : _} → Returns value events (Err why) → StandIn events whole → Here (beside_trust (refusal_events why)) (refusal_went why)
+        never : (events : List Event) {why : _} → Returns value events (Err why) → StandIn events whole → Here (refusal_events why) (refusal_went why)
         never events does stands = absurd (cc (comes_to does))
 
         is_silent : (events : List Event) {result : _} → Returns value events result → StandIn events whole → Silent events
@@ -133,7 +133,7 @@ module _ (rules : Rules) (kept : Kept) (other : Request) (request : TrustRequest
         is_good : (events : List Event) (other : A) → Returns value events (Ok other) → StandIn events whole → Good other
         is_good events other parts.returns stands = good
 
-    refused_by : {why : _} → Here (beside_trust (refusal_events why)) (refusal_went why) → Explains (Refuses {A = A} why) Good
+    refused_by : {why : _} → Here (refusal_events why) (refusal_went why) → Explains (Refuses {A = A} why) Good
     refused_by {why} explained = record { silent = is_silent; good = never; caused = is_caused }
       where
         comes_to : {events : List Event} {result : _} → Refuses {A = A} why events result → result ≡ Err why
@@ -145,7 +145,7 @@ module _ (rules : Rules) (kept : Kept) (other : Request) (request : TrustRequest
         is_silent : (events : List Event) {result : _} → Refuses {A = A} why events result → StandIn events whole → Silent events
         is_silent events parts.refuses stands = tt
 
-        is_caused : (events : List Event) {other : _} → Refuses {A = A} why events (Err other) → StandIn events whole → Here (beside_trust (refusal_events other)) (refusal_went other)
+        is_caused : (events : List Event) {other : _} → Refuses {A = A} why events (Err other) → StandIn events whole → Here (refusal_events other) (refusal_went other)
         is_caused events parts.refuses stands = explained
 
   is_unless : (said : Option Bool) (otherwise : Part (Unit {0})) → (said ≡ Some false → Caused code.NotTrusted Agent) → (said ≡ None → Explains otherwise Anything)
@@ -156,9 +156,9 @@ module _ (rules : Rules) (kept : Kept) (other : Request) (request : TrustRequest
 
   -- ---- the seat
 
-  interrupts : (step : MarkStep) → closes step ≡ None → {turn : Turn} {why : Code} {more : List (SessionEvent FurtherEvent)} → Interrupts turn why
-      → StandIn (cache_turn step turn ∷ more) (beside_trust whole) → Caused why Agent
-  interrupts step keeps exchanges.refused stands = inl (one (cache_turn step Refused) refl (has_first stands))
+  interrupts : (step : MarkStep) → closes step ≡ None → {turn : Turn} {why : Code} {more : List Event} → Interrupts turn why
+      → StandIn (cache_turn step turn ∷ more) whole → Caused why Agent
+  interrupts step keeps exchanges.refused stands = one (cache_turn step Refused) refl (has_first stands)
   interrupts step keeps exchanges.stopping stands = by_stop (turned step keeps (has_first stands))
   interrupts step keeps exchanges.late stands = turned step keeps (has_first stands)
 
@@ -169,8 +169,8 @@ module _ (rules : Rules) (kept : Kept) (other : Request) (request : TrustRequest
       is_silent events parts.opened stands = (tt, tt)
       is_silent events (parts.interrupted why) stands = (tt, tt)
 
-      is_caused : (events : List Event) {why : _} → Seats events (Err why) → StandIn events whole → Here (beside_trust (refusal_events why)) (refusal_went why)
-      is_caused events (parts.interrupted {code = why} is) stands = failed [] why Agent tt (interrupts (Seat None None) refl is (beside_stands stands)) tt
+      is_caused : (events : List Event) {why : _} → Seats events (Err why) → StandIn events whole → Here (refusal_events why) (refusal_went why)
+      is_caused events (parts.interrupted {code = why} is) stands = failed [] why Agent tt (interrupts (Seat None None) refl is stands) tt
 
   module _ {A : Type 0} {part : Part A} (Good : A → Type 0) (ticket : ℕ) (explains : Explains part Good) where
     under_ticket : Explains (UnderTicket ticket part) Good
@@ -182,12 +182,12 @@ module _ (rules : Rules) (kept : Kept) (other : Request) (request : TrustRequest
         is_good : (events : List Event) (value : A) → UnderTicket ticket part events (Ok value) → StandIn events whole → Good value
         is_good _ value (parts.given_back {events} turn does) stands = explains.good events value does (stand_left events _ stands)
 
-        is_caused : (events : List Event) {why : _} → UnderTicket ticket part events (Err why) → StandIn events whole → Here (beside_trust (refusal_events why)) (refusal_went why)
+        is_caused : (events : List Event) {why : _} → UnderTicket ticket part events (Err why) → StandIn events whole → Here (refusal_events why) (refusal_went why)
         is_caused _ (parts.given_back {events} turn does) stands = explains.caused events does (stand_left events _ stands)
 
   -- ---- the user
 
-  client_explained : (why : Unheard) → IsSaid (beside_trust whole) why → Here (beside_trust (said_last (option_map written.failed (refusal_code why)))) (went_after (gone_of why))
+  client_explained : (why : Unheard) → IsSaid whole why → Here (said_last (option_map written.failed (refusal_code why))) (went_after (gone_of why))
   client_explained unheard.Cancelled is = failed [] code.Cancelled Agent tt (by_client is) tt
   client_explained unheard.TooMuch is = failed [] code.TooMuch Agent tt (inquired is) tt
   client_explained unheard.Unexpected is = failed [] code.Unexpected Agent tt is tt
@@ -197,24 +197,24 @@ module _ (rules : Rules) (kept : Kept) (other : Request) (request : TrustRequest
   client_explained (unheard.Gone gone.ReadFault) is = silent tt is
   client_explained (unheard.Gone gone.WriteFault) is = silent tt tt
 
-  module _ {prompt : List PromptEvent} {shown : List (SessionEvent FurtherEvent)} (shows : AnyInSession session_lines prompt shown) (stands : StandIn shown (beside_trust whole)) where
-    heard_refused : (heard : Heard) → HasHeard heard prompt → IfSome (consent_refusal (agreed.Heard heard)) (λ why. Here (beside_trust (refusal_events why)) (refusal_went why))
+  module _ {prompt : List PromptEvent} {shown : List Event} (shows : AnyInSession session_lines prompt shown) (stands : StandIn shown whole) where
+    heard_refused : (heard : Heard) → HasHeard heard prompt → IfSome (consent_refusal (agreed.Heard heard)) (λ why. Here (refusal_events why) (refusal_went why))
     heard_refused heard_as.Fine has = tt
     heard_refused (heard_as.Secret secret) has = tt
-    heard_refused heard_as.Cancelled has = client_explained unheard.Cancelled (heard_caused rules kept other (beside_trust whole) shows stands heard_as.Cancelled unheard.Cancelled refl has)
-    heard_refused heard_as.TooMuch has = client_explained unheard.TooMuch (heard_caused rules kept other (beside_trust whole) shows stands heard_as.TooMuch unheard.TooMuch refl has)
-    heard_refused heard_as.Unexpected has = client_explained unheard.Unexpected (heard_caused rules kept other (beside_trust whole) shows stands heard_as.Unexpected unheard.Unexpected refl has)
-    heard_refused (heard_as.Gone how) has = client_explained (unheard.Gone how) (heard_caused rules kept other (beside_trust whole) shows stands (heard_as.Gone how) (unheard.Gone how) refl has)
+    heard_refused heard_as.Cancelled has = client_explained unheard.Cancelled (heard_caused rules kept other whole shows stands heard_as.Cancelled unheard.Cancelled refl has)
+    heard_refused heard_as.TooMuch has = client_explained unheard.TooMuch (heard_caused rules kept other whole shows stands heard_as.TooMuch unheard.TooMuch refl has)
+    heard_refused heard_as.Unexpected has = client_explained unheard.Unexpected (heard_caused rules kept other whole shows stands heard_as.Unexpected unheard.Unexpected refl has)
+    heard_refused (heard_as.Gone how) has = client_explained (unheard.Gone how) (heard_caused rules kept other whole shows stands (heard_as.Gone how) (unheard.Gone how) refl has)
 
     unopened : prompted.Unopened prompt → Caused code.NoPinentry Agent
-    unopened (inl fails) = inr (inl (has_call rules kept other (beside_trust whole) shows stands fails))
-    unopened (inr broken) = inr (inr (has_call rules kept other (beside_trust whole) shows stands broken))
+    unopened (inl fails) = inr (inl (has_call rules kept other whole shows stands fails))
+    unopened (inr broken) = inr (inr (has_call rules kept other whole shows stands broken))
 
-    consent_refused : (answer : Agreed) → ConsentShows answer prompt → IfSome (consent_refusal answer) (λ why. Here (beside_trust (refusal_events why)) (refusal_went why))
+    consent_refused : (answer : Agreed) → ConsentShows answer prompt → IfSome (consent_refusal answer) (λ why. Here (refusal_events why) (refusal_went why))
     consent_refused agreed.Yes so = tt
-    consent_refused agreed.No so = failed [] code.NotConfirmed Pinentry tt (has_call rules kept other (beside_trust whole) shows stands so) tt
-    consent_refused agreed.Cancelled so = failed [] code.Cancelled Pinentry tt (has_call rules kept other (beside_trust whole) shows stands so) tt
-    consent_refused agreed.TimedOut so = failed [] code.Timeout Pinentry tt (has_call rules kept other (beside_trust whole) shows stands so) tt
+    consent_refused agreed.No so = failed [] code.NotConfirmed Pinentry tt (has_call rules kept other whole shows stands so) tt
+    consent_refused agreed.Cancelled so = failed [] code.Cancelled Pinentry tt (has_call rules kept other whole shows stands so) tt
+    consent_refused agreed.TimedOut so = failed [] code.Timeout Pinentry tt (has_call rules kept other whole shows stands so) tt
     consent_refused agreed.NoPinentry so = failed [] code.NoPinentry Agent tt (unopened so) tt
     consent_refused (agreed.Heard heard) so = heard_refused heard so
 
@@ -225,17 +225,13 @@ module _ (rules : Rules) (kept : Kept) (other : Request) (request : TrustRequest
     agrees : Explains (Agrees rules kept.options question) Anything
     agrees = record { silent = is_silent; good = λ events value does stands. tt; caused = is_caused }
       where
-        shown_silent : {prompt : List PromptEvent} {shown : List (SessionEvent FurtherEvent)} → AnyInSession session_lines prompt shown → Silent (in_session shown)
-        shown_silent {shown} shows = subst (AllByRecursion AnswersNothing) (sym (beside_session shown)) (prompt_silent shows)
-
         is_silent : (events : List Event) {result : _} → Agrees rules kept.options question events result → StandIn events whole → Silent events
-        is_silent events (parts.consents spec is (parts.prompts asks shows)) stands = shown_silent shows
-        is_silent events (parts.refused spec is (parts.prompts asks shows) refusal) stands = shown_silent shows
+        is_silent events (parts.consents spec is (parts.prompts asks shows)) stands = prompt_silent shows
+        is_silent events (parts.refused spec is (parts.prompts asks shows) refusal) stands = prompt_silent shows
 
-        is_caused : (events : List Event) {why : _} → Agrees rules kept.options question events (Err why) → StandIn events whole → Here (beside_trust (refusal_events why)) (refusal_went why)
+        is_caused : (events : List Event) {why : _} → Agrees rules kept.options question events (Err why) → StandIn events whole → Here (refusal_events why) (refusal_went why)
         is_caused events (parts.refused {answer} spec is (parts.prompts {shown} asks shows) refusal) stands =
-            let beside_them : StandIn shown (beside_trust whole) = subst (λ e. StandIn e (beside_trust whole)) (beside_session shown) (beside_stands stands) in
-            if_some (λ why. Here (beside_trust (refusal_events why)) (refusal_went why)) refusal (consent_refused shows beside_them answer (consent_shows asks))
+            if_some (λ why. Here (refusal_events why) (refusal_went why)) refusal (consent_refused shows stands answer (consent_shows asks))
 
   -- ---- the trust file
 
@@ -243,29 +239,29 @@ module _ (rules : Rules) (kept : Kept) (other : Request) (request : TrustRequest
   reads_file = record { silent = is_silent; good = is_good; caused = is_caused }
     where
       is_silent : (events : List Event) {result : _} → ReadsFile events result → StandIn events whole → Silent events
-      is_silent events (parts.has_read is) stands = tt
-      is_silent events parts.faulted stands = tt
-      is_silent events parts.no_memory stands = tt
+      is_silent events (parts.has_read is) stands = (tt, tt)
+      is_silent events parts.faulted stands = (tt, tt)
+      is_silent events parts.no_memory stands = (tt, tt)
 
       is_good : (events : List Event) (file : List ℕ) → ReadsFile events (Ok file) → StandIn events whole → IsReadTrust whole file
       is_good events file (parts.has_read is) stands = read_trust is (has_first stands)
 
-      is_caused : (events : List Event) {why : _} → ReadsFile events (Err why) → StandIn events whole → Here (beside_trust (refusal_events why)) (refusal_went why)
+      is_caused : (events : List Event) {why : _} → ReadsFile events (Err why) → StandIn events whole → Here (refusal_events why) (refusal_went why)
       is_caused events parts.faulted stands = failed [] code.General Agent tt (called_trust (Read read.Failed) tt (has_first stands)) tt
-      is_caused events parts.no_memory stands = failed [] code.NoMemory Agent tt (inr (called_trust (Read read.NoMemory) tt (has_first stands))) tt
+      is_caused events parts.no_memory stands = failed [] code.NoMemory Agent tt (one (trust_called (Read read.NoMemory)) tt (has_first stands)) tt
 
   module _ (file : List ℕ) where
     replaces : Explains (Replaces file) Anything
     replaces = record { silent = is_silent; good = λ events value does stands. tt; caused = is_caused }
       where
         is_silent : (events : List Event) {result : _} → Replaces file events result → StandIn events whole → Silent events
-        is_silent events parts.replaced stands = tt
-        is_silent events parts.faulted stands = tt
-        is_silent events parts.no_memory stands = tt
+        is_silent events parts.replaced stands = (tt, tt)
+        is_silent events parts.faulted stands = (tt, tt)
+        is_silent events parts.no_memory stands = (tt, tt)
 
-        is_caused : (events : List Event) {why : _} → Replaces file events (Err why) → StandIn events whole → Here (beside_trust (refusal_events why)) (refusal_went why)
+        is_caused : (events : List Event) {why : _} → Replaces file events (Err why) → StandIn events whole → Here (refusal_events why) (refusal_went why)
         is_caused events parts.faulted stands = failed [] code.General Agent tt (called_trust (Replaced file done.Failed) tt (has_first stands)) tt
-        is_caused events parts.no_memory stands = failed [] code.NoMemory Agent tt (inr (called_trust (Replaced file done.NoMemory) tt (has_first stands))) tt
+        is_caused events parts.no_memory stands = failed [] code.NoMemory Agent tt (one (trust_called (Replaced file done.NoMemory)) tt (has_first stands)) tt
 
     module _ (fingerprint : Grip) (flag : ℕ) (too_much : MAX_TRUST_FILE_LEN < length (with_entry file fingerprint.0 flag) → Caused code.TooMuch Agent) where
       adds_entry : Explains (AddsEntry file fingerprint flag) Anything
@@ -276,9 +272,9 @@ module _ (rules : Rules) (kept : Kept) (other : Request) (request : TrustRequest
           is_silent events (parts.too_long long) stands = tt
           is_silent events parts.no_memory stands = (tt, tt)
 
-          is_caused : (events : List Event) {why : _} → AddsEntry file fingerprint flag events (Err why) → StandIn events whole → Here (beside_trust (refusal_events why)) (refusal_went why)
+          is_caused : (events : List Event) {why : _} → AddsEntry file fingerprint flag events (Err why) → StandIn events whole → Here (refusal_events why) (refusal_went why)
           is_caused events (parts.too_long long) stands = failed [] code.TooMuch Agent tt (too_much long) tt
-          is_caused events parts.no_memory stands = failed [] code.NoMemory Agent tt (inl (one (Further NoMemory) tt (has_first (beside_stands stands)))) tt
+          is_caused events parts.no_memory stands = failed [] code.NoMemory Agent tt (one (Further NoMemory) tt (has_first stands)) tt
 
   -- ---- whole requests
 
@@ -328,13 +324,11 @@ module _ (rules : Rules) (kept : Kept) (other : Request) (request : TrustRequest
     carried (MarkTrusted fingerprint purpose name) is = marked fingerprint purpose name is
     carried (Bad why) is = refused_by Anything (failed [] why Agent tt (line_caused why is) tt)
 
-    pub trust_explained : {events : List Event} {went : Went} → TrustExchange rules kept.options request events went → StandIn events whole → Here (beside_trust events) went
+    pub trust_explained : {events : List Event} {went : Went} → TrustExchange rules kept.options request events went → StandIn events whole → Here events went
     trust_explained (trusts.answered events does) stands =
-        subst (λ e. Here e On) (sym (beside_append events (Sent ok ∷ [])))
-        (after_these _ _ (beside_trust events) ((carried request refl).silent events does (stand_left events _ stands)) (replied [] ok tt reply_ok tt))
+        after_these _ _ events ((carried request refl).silent events does (stand_left events _ stands)) (replied [] ok tt reply_ok tt)
     trust_explained (trusts.refused events why does) stands =
-        subst (λ e. Here e (refusal_went why)) (sym (beside_append events (refusal_events why)))
-        (after_these _ _ (beside_trust events) ((carried request refl).silent events does (stand_left events _ stands)) ((carried request refl).caused events does (stand_left events _ stands)))
+        after_these _ _ events ((carried request refl).silent events does (stand_left events _ stands)) ((carried request refl).caused events does (stand_left events _ stands))
 
 -- ---- lines that are out of form
 

@@ -4,14 +4,12 @@ use Rattle.agent_ask.specs.Further.{FurtherEvent}
 use Rattle.agent_ask.specs.SessionEvents.{Sent}
 use Rattle.assuan_server.specs.declared.errors.Code.{Code}
 use Rattle.assuan_server.specs.declared.errors.Origin.{Origin}
-use Rattle.session_options.specs.declared.rules.Rules.{Rules}
 use Rattle.agent_commands.specs.Events.{Event}
 use Rattle.agent_commands.specs.declared.went.SessionEnd.TheVariants.{Bye, Killed, Ended, TooLong, Spent, ReadFault, WriteFault}
 use Rattle.agent_commands.specs.declared.went.Went.{Went}
 use Rattle.agent_commands.specs.declared.went.Went.TheVariants.{On, End}
 use Rattle.agent_session.specs.Causes.{Has, here}
-use Rattle.agent_session.specs.Completeness.{AnswersAtLast, IsAnswer, done, error, IsAnsweredBy, HasError, CausedExchange, IsUncaused, HasOk, IsAnsweredOk}
-use Rattle.agent_origin.specs.declared.kept.Kept.{Kept}
+use Rattle.agent_session.specs.Completeness.{AnswersAtLast, IsAnswer, done, error, IsAnsweredBy, HasError, HasOk, IsAnsweredOk}
 use Rattle.agent_session.proofs.Standing.{has_right}
 
 module _ (events : List (Event FurtherEvent)) (never : (why : Code) (origin : Origin) → HasError why origin events → ⊥) where
@@ -31,7 +29,3 @@ module _ (events : List (Event FurtherEvent)) (never : (why : Code) (origin : Or
   ok_by (End Spent) answers = tt
   ok_by (End ReadFault) answers = tt
   ok_by (End WriteFault) answers = tt
-
-pub uncaused_ok : {rules : Rules} {before : Kept} {line : List ℕ} {events : List (Event FurtherEvent)} {after : Kept} {went : Went} → CausedExchange rules before line events after went
-    → IsUncaused rules before line events → IsAnsweredOk went events
-uncaused_ok {events} {went} caused never = ok_by events (λ why origin has. never why origin (caused.caused why origin has)) went caused.answered

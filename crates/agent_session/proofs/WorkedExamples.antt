@@ -1,11 +1,13 @@
 -- Worked examples: error lines that have no cause.
-use Rattle.std.specs.List.{AllByRecursion}
+use Rattle.std.specs.List.{AllByRecursion, count_by}
 use Rattle.std.proofs.Common.{◌≡◌, ℕ, false, List, [], ◌∷◌, Some, None, refl, inl, inr}
 use Rattle.std.specs.Prelude.{⊤}
 use Rattle.agent_ask.specs.Events.{GetPin, Start, Shut, Called}
-use Rattle.agent_ask.specs.Further.{FurtherEvent, Prompt}
+use Rattle.agent_ask.specs.Further.{FurtherEvent, Prompt, Dice, Trust, Drew, NotDrawn}
 use Rattle.agent_ask.specs.Prompters.{is_failed}
 use Rattle.agent_ask.specs.SessionEvents.{Sent, Further, cache_turn}
+use Rattle.agent_ask.specs.TrustCalls.{Read}
+use Rattle.agent_ports.specs.declared.trust.TrustRead.TheVariants as trust_read
 use Rattle.agent_ask.specs.declared.prompter.Opened.TheVariants as opened
 use Rattle.agent_ask.specs.declared.prompter.Outcome.TheVariants as outcome
 use Rattle.agent_ask.specs.declared.spec.PromptSpec.{PromptSpec}
@@ -25,6 +27,7 @@ use Rattle.agent_commands.specs.declared.request.Request.{Request}
 use Rattle.agent_commands.specs.declared.request.Request.TheVariants.{Cache}
 use Rattle.agent_session.specs.Causes.{here, later, IsCaused, HasNoEntry, GivesNone, HasCall, is_broken}
 use Rattle.agent_session.specs.Causes as causes
+use Rattle.agent_session.specs.Counting.{fails_at_keys, fails_at_dice, fails_at_trust}
 use Rattle.agent_origin.specs.declared.kept.Kept.{Kept}
 use Rattle.agent_session.proofs.Standing.{each_has}
 
@@ -84,3 +87,16 @@ module _ (rules : Rules) (kept : Kept) where
     answered (causes.by_mode is none) = has_no_entry none
     answered (causes.by_client (causes.said says (later (later has)))) = elim has [ ]
     answered (causes.by_stop (causes.turned asked keeps (later (later has)))) = elim has [ ]
+
+-- a draw that failed, then one that didn't, and a trust file that couldn't be read: one failure on each of two ends
+abbrev failing : List (Event FurtherEvent)
+failing = Further (Dice (NotDrawn 32)) ∷ Further (Dice (Drew (0 ∷ []))) ∷ Further (Trust (Read trust_read.Failed)) ∷ []
+
+one_at_the_dice : count_by fails_at_dice failing ≡ 1
+one_at_the_dice = refl
+
+one_at_the_trust_file : count_by fails_at_trust failing ≡ 1
+one_at_the_trust_file = refl
+
+none_at_the_keys : count_by fails_at_keys failing ≡ 0
+none_at_the_keys = refl

@@ -4,10 +4,12 @@ use Rattle.std.specs.List.{AllByRecursion}
 use Rattle.std.specs.Prelude.{◌≡◌, ◌<◌, ◌⊎◌, ◌++◌, ℕ, Bool, true, false, List, [], ◌∷◌, length, take, drop, codes, Option, Some, None, Result, Ok, Err, ⊤}
 use Rattle.arrayvec.specs.ArrayVec.{ArrayVec}
 use Rattle.agent_ask.specs.Events.{Call, GetPin, Confirm, Start, Called, OutOfMemory, PromptEvent}
-use Rattle.agent_ask.specs.Further.{FurtherEvent, KeyCall, Read, Listed, Replaced, Removed, Drew, NotDrawn, Prompt, Keys, Dice, NoMemory}
+use Rattle.agent_ask.specs.Further.{FurtherEvent, KeyCall, Read, Listed, Replaced, Removed, Drew, NotDrawn, Prompt, Keys, Dice, Trust, NoMemory}
 use Rattle.agent_ask.specs.Prompters.{is_failed}
 use Rattle.agent_ask.specs.Prompts.{AsksPin}
 use Rattle.agent_ask.specs.SessionEvents.{Inquiry, CacheTurn, Further, cache_turn}
+use Rattle.agent_ask.specs.TrustCalls.{TrustCall}
+use Rattle.agent_ask.specs.TrustCalls as trust_call
 use Rattle.agent_ask.specs.UnderTickets.{AnyInSession}
 use Rattle.agent_ask.specs.declared.ask.Asked.TheVariants as asked
 use Rattle.agent_ask.specs.declared.prompter.Consent.TheVariants as consent
@@ -20,6 +22,8 @@ use Rattle.agent_ports.specs.declared.keys.KeyDone.TheVariants as key_done
 use Rattle.agent_ports.specs.declared.keys.KeyNames.TheVariants as key_names
 use Rattle.agent_ports.specs.declared.keys.KeyRead.{KeyRead}
 use Rattle.agent_ports.specs.declared.keys.KeyRead.TheVariants as key_read
+use Rattle.agent_ports.specs.declared.trust.TrustDone.TheVariants as trust_done
+use Rattle.agent_ports.specs.declared.trust.TrustRead.TheVariants as trust_read
 use Rattle.assuan_server.specs.Clients.{session_lines}
 use Rattle.assuan_server.specs.declared.errors.Code.{Code}
 use Rattle.assuan_server.specs.declared.errors.Code.TheVariants as code
@@ -94,12 +98,24 @@ FailsAtKeys (Replaced grip file key_done.Failed) = ⊤
 FailsAtKeys (Removed grip key_done.Failed) = ⊤
 FailsAtKeys _ = ⊥
 
--- an event that is a want of memory: a turn that was refused, a test of a passphrase, a call of the keys, or work of the command's own
+-- the same of a call of the trust file
+abbrev pub WantsMemoryAtTrust : TrustCall → Type 0
+WantsMemoryAtTrust (trust_call.Read trust_read.NoMemory) = ⊤
+WantsMemoryAtTrust (trust_call.Replaced file trust_done.NoMemory) = ⊤
+WantsMemoryAtTrust _ = ⊥
+
+abbrev pub FailsAtTrust : TrustCall → Type 0
+FailsAtTrust (trust_call.Read trust_read.Failed) = ⊤
+FailsAtTrust (trust_call.Replaced file trust_done.Failed) = ⊤
+FailsAtTrust _ = ⊥
+
+-- an event that is a want of memory: a turn that was refused, a test of a passphrase, a call of the keys or of the trust file, or work of the command's own
 abbrev pub WantsMemory : Event FurtherEvent → Type 0
 WantsMemory (CacheTurn taken) = taken.turn ≡ Refused
 WantsMemory (Further NoMemory) = ⊤
 WantsMemory (Further (Prompt OutOfMemory)) = ⊤
 WantsMemory (Further (Keys call)) = WantsMemoryAtKeys call
+WantsMemory (Further (Trust call)) = WantsMemoryAtTrust call
 WantsMemory _ = ⊥
 
 -- a call of the keys that failed, or a draw
@@ -170,6 +186,10 @@ module _ (events : List (Event FurtherEvent)) where
   -- a call of the prompter was answered so
   pub data HasCall (is : Call → Bool) : Type 0 where
     called : (call : Call) → is call ≡ true → Has (Further (Prompt (Called call))) events → HasCall is
+
+  -- a call of the trust file is so
+  pub data HasTrustCall (Is : TrustCall → Type 0) : Type 0 where
+    called_trust : (call : TrustCall) → Is call → Has (Further (Trust call)) events → HasTrustCall Is
 
   -- a turn came out so, but one that gives a ticket back
   pub data HasTurn (turn : Turn) : Type 0 where

@@ -2,7 +2,7 @@
 use Rattle.std.specs.List.{AllByRecursion}
 use Rattle.std.specs.Prelude.{◌≡◌, ◌⊎◌, ◌++◌, ℕ, Bool, true, List, [], ◌∷◌, codes, Option, Some, None, ⊤, false}
 use Rattle.agent_ask.specs.Events.{Call}
-use Rattle.agent_ask.specs.Further.{FurtherEvent, FurtherEnds}
+use Rattle.agent_ask.specs.Further.{FurtherEnds}
 use Rattle.agent_ask.specs.Prompters.{AtPrompter, is_failed}
 use Rattle.agent_ask.specs.SessionEvents.{Received, Sent, CacheTurn, cache_turn}
 use Rattle.agent_ports.specs.Counts.{Rose}
@@ -18,12 +18,12 @@ use Rattle.cache_policy.specs.Turns.{Turn, Given, Empty, Done, Stopping}
 use Rattle.cache_policy.specs.declared.grant.Grant.{Grant}
 use Rattle.cache_policy.specs.declared.mark.MarkStep.{MarkStep}
 use Rattle.cache_policy.specs.declared.mark.MarkStep.TheVariants.{Clear, Flush}
-use Rattle.key_commands.specs.States.{KeyWorld}
+use Rattle.key_commands.specs.Events.{Event}
 use Rattle.session_client.specs.declared.unheard.Gone.TheVariants as gone
 use Rattle.session_client.specs.declared.unheard.Unheard.TheVariants as unheard
 use Rattle.session_options.specs.declared.rules.Rules.{Rules}
 use Rattle.agent_commands.specs.Answers.{ok, IsPassphrase}
-use Rattle.agent_commands.specs.Events.{Event}
+use Rattle.agent_commands.specs.Events.{Event as SessionEvent}
 use Rattle.agent_commands.specs.Exchanges.{ask, put, is_quiet}
 use Rattle.agent_commands.specs.Requests.{request_of}
 use Rattle.agent_commands.specs.declared.request.CacheCommand.TheVariants.{GetPassphrase, PresetPassphrase, ClearPassphrase, ReloadAgent}
@@ -33,7 +33,8 @@ use Rattle.agent_commands.specs.declared.went.SessionEnd.{SessionEnd}
 use Rattle.agent_commands.specs.declared.went.SessionEnd.TheVariants.{Bye, Killed, Ended, TooLong, Spent, ReadFault, WriteFault}
 use Rattle.agent_commands.specs.declared.went.Went.{Went}
 use Rattle.agent_commands.specs.declared.went.Went.TheVariants.{On, End}
-use Rattle.agent_session.specs.Causes.{Has, IsCaused, HasOne, HasCall, FailsAtKeysOrDice, is_broken, IsUnprompted, IsSaid}
+use Rattle.agent_session.specs.Causes.{Has, IsCaused, HasOne, HasCall, HasTrustCall, WantsMemory, FailsAtKeysOrDice, FailsAtTrust, is_broken, IsUnprompted, IsSaid}
+use Rattle.agent_origin.specs.FurtherStates.{FurtherWorld}
 use Rattle.agent_origin.specs.SessionExchanges.{SessionExchange, kept_at_start}
 use Rattle.agent_origin.specs.Sessions.{Surroundings}
 use Rattle.agent_origin.specs.declared.kept.Kept.{Kept}
@@ -47,7 +48,7 @@ pub record IsStatus (text : List ℕ) : Type 0 where
   pub one_line : has_lf rest ≡ false
 
 -- by this event nothing is answered
-abbrev pub AnswersNothing : Event FurtherEvent → Type 0
+abbrev pub AnswersNothing : Event → Type 0
 AnswersNothing (Received took) = ⊥
 AnswersNothing (Sent text) = IsStatus text
 AnswersNothing _ = ⊤
@@ -77,8 +78,8 @@ pub data IsAnswer (text : List ℕ) : Type 0 where
   error : (why : Code) (origin : Origin) → text ≡ line_of (error_text why origin) → IsAnswer text
 
 -- the last event answers, and no other
-pub record AnswersAtLast (events : List (Event FurtherEvent)) : Type 0 where
-  pub before : List (Event FurtherEvent)
+pub record AnswersAtLast (events : List Event) : Type 0 where
+  pub before : List Event
   pub text : List ℕ
   pub is : events ≡ before ++ Sent text ∷ []
   pub nothing_before : AllByRecursion AnswersNothing before
@@ -86,7 +87,7 @@ pub record AnswersAtLast (events : List (Event FurtherEvent)) : Type 0 where
 
 -- Whether a request is answered, by how the session goes on: it is, unless its own inquiry ended the session, or a write failed. A client whose line
 -- was too long is told so.
-abbrev pub IsAnsweredBy : Went → List (Event FurtherEvent) → Type 0
+abbrev pub IsAnsweredBy : Went → List Event → Type 0
 IsAnsweredBy On events = AnswersAtLast events
 IsAnsweredBy (End Bye) events = AnswersAtLast events
 IsAnsweredBy (End Killed) events = AnswersAtLast events
@@ -97,25 +98,32 @@ IsAnsweredBy (End ReadFault) events = AllByRecursion AnswersNothing events × Is
 IsAnsweredBy (End WriteFault) events = AllByRecursion AnswersNothing events
 
 -- an error line was written
-abbrev pub HasError : Code → Origin → List (Event FurtherEvent) → Type 0
+abbrev pub HasError : Code → Origin → List Event → Type 0
 HasError why origin events = Has (Sent (line_of (error_text why origin))) events
 
+-- what is done for a line, as what is kept before and after it, its events, and how the session goes on show it; and when an error line has its cause
+abbrev pub Exchanges : Type 1
+Exchanges = Kept → List ℕ → List Event → Kept → Went → Type 0
+
+abbrev pub Causes : Type 1
+Causes = Kept → List ℕ → List Event → Code → Origin → Type 0
+
 -- The exchange of a line, in which the request has its one answer, and each error line its cause.
-pub record CausedExchange (rules : Rules) (before : Kept) (line : List ℕ) (events : List (Event FurtherEvent)) (after : Kept) (went : Went) : Type 0 where
-  pub exchange : SessionExchange rules before line events after went
+pub record CausedExchange (relation : Exchanges) (cause : Causes) (before : Kept) (line : List ℕ) (events : List Event) (after : Kept) (went : Went) : Type 0 where
+  pub exchange : relation before line events after went
   pub answered : IsAnsweredBy went events
-  pub caused : (why : Code) (origin : Origin) → HasError why origin events → IsCaused events rules before (request_of line) why origin
+  pub caused : (why : Code) (origin : Origin) → HasError why origin events → cause before line events why origin
 
 -- no error line has a cause in this exchange
-abbrev pub IsUncaused : Rules → Kept → List ℕ → List (Event FurtherEvent) → Type 0
-IsUncaused rules before line events = (why : Code) (origin : Origin) → ¬ IsCaused events rules before (request_of line) why origin
+abbrev pub IsUncaused : Causes → Kept → List ℕ → List Event → Type 0
+IsUncaused cause before line events = (why : Code) (origin : Origin) → ¬ cause before line events why origin
 
 -- the request is answered by a text that ends in an OK line
-abbrev pub HasOk : List (Event FurtherEvent) → Type 0
+abbrev pub HasOk : List Event → Type 0
 HasOk events = (text : List ℕ) × Has (Sent text) events × EndsInOk text
 
 -- it is, unless its inquiry ended the session, or a write failed
-abbrev pub IsAnsweredOk : Went → List (Event FurtherEvent) → Type 0
+abbrev pub IsAnsweredOk : Went → List Event → Type 0
 IsAnsweredOk On events = HasOk events
 IsAnsweredOk (End Bye) events = HasOk events
 IsAnsweredOk (End Killed) events = HasOk events
@@ -125,30 +133,31 @@ IsAnsweredOk (End Spent) events = ⊤
 IsAnsweredOk (End ReadFault) events = ⊤
 IsAnsweredOk (End WriteFault) events = ⊤
 
--- A failure among these events has raised its count, between these ends: that of the keys or of the dice, or the prompter's.
-pub record FailuresRise {P : Type 0} (at : P → AtPrompter) (events : List (Event FurtherEvent)) (before after : FurtherEnds P) : Type 0 where
+-- A failure among these events has raised its count, between these ends: that of the keys or of the dice, the prompter's, or the trust file's.
+pub record FailuresRise {P : Type 0} (at : P → AtPrompter) (events : List Event) (before after : FurtherEnds P) : Type 0 where
   pub keys_or_dice : HasOne events FailsAtKeysOrDice → Rose before.keys.faults after.keys.faults ⊎ Rose before.dice.faults after.dice.faults
   pub prompter : HasCall events is_failed → Rose (at before.prompter).faults (at after.prompter).faults
+  pub trust : HasTrustCall events FailsAtTrust → Rose before.trust.faults after.trust.faults
 
 -- ---- requests without a prompt
 
 -- a turn that was replied Stopping
-abbrev pub IsStopped : Event FurtherEvent → Type 0
+abbrev pub IsStopped : Event → Type 0
 IsStopped (CacheTurn taken) = taken.turn ≡ Stopping
 IsStopped _ = ⊥
 
 -- a passphrase by the cache alone: the live entry's, or none
-pub data AnswersFromCache (plain : Bool) : Option (List ℕ) → List (Event FurtherEvent) → Type 0 where
+pub data AnswersFromCache (plain : Bool) : Option (List ℕ) → List Event → Type 0 where
   given : {id text : List ℕ} {grant : Grant} → IsPassphrase plain grant.entry.secret text → AnswersFromCache plain (Some id) (cache_turn (ask id) (Given grant) ∷ Sent text ∷ [])
   empty : {id : List ℕ} → AnswersFromCache plain (Some id) (cache_turn (ask id) Empty ∷ Sent (failed code.NoData) ∷ [])
   no_id : AnswersFromCache plain None (Sent (failed code.NoData) ∷ [])
 
 -- one turn was done, and the request is answered OK
-abbrev pub AnswersDone : MarkStep → List (Event FurtherEvent) → Type 0
+abbrev pub AnswersDone : MarkStep → List Event → Type 0
 AnswersDone step events = events ≡ cache_turn step Done ∷ Sent ok ∷ []
 
 -- what is done for a request that asks nobody
-abbrev pub AnswersAtOnce : Rules → Request → List (Event FurtherEvent) → Type 0
+abbrev pub AnswersAtOnce : Rules → Request → List Event → Type 0
 AnswersAtOnce rules (Cache (GetPassphrase plain check no_ask repeat quality id texts)) events = is_quiet no_ask texts ≡ true → AnswersFromCache plain id events
 AnswersAtOnce rules (Cache (PresetPassphrase id life (Some secret))) events = rules.allow_preset ≡ true → AnswersDone (put id life secret) events
 AnswersAtOnce rules (Cache (ClearPassphrase id mode)) events = AnswersDone (Clear id mode) events
@@ -157,22 +166,26 @@ AnswersAtOnce rules _ events = ⊤
 
 -- ---- sessions without a fault
 
+-- no memory is wanted by it
+abbrev pub Remembers : Event → Type 0
+Remembers event = ¬ WantsMemory event
+
 -- such an exchange, in which nothing failed and no memory was wanted
-pub record FaultlessExchange (rules : Rules) (before : Kept) (line : List ℕ) (events : List (Event FurtherEvent)) (after : Kept) (went : Went) : Type 0 where
-  pub caused : CausedExchange rules before line events after went
+pub record FaultlessExchange (relation : Exchanges) (unprompted : Kept → List ℕ → List Event → Type 0) (before : Kept) (line : List ℕ) (events : List Event) (after : Kept) (went : Went) : Type 0 where
+  pub caused : relation before line events after went
   -- so no error is for want of memory, or without a code of its own
   pub remembers : ¬ HasError code.NoMemory Agent events
   pub specific : ¬ HasError code.General Agent events
   -- and No pinentry is answered only where the client wants no prompt, or the child broke the protocol
-  pub asks : HasError code.NoPinentry Agent events → IsUnprompted events rules before (request_of line) ⊎ HasCall events is_broken
+  pub asks : HasError code.NoPinentry Agent events → unprompted before line events ⊎ HasCall events is_broken
 
-module _ {S F : Type 0} (exchange : S → List ℕ → List (Event F) → S → Went → Type 0) where
+module _ {S F : Type 0} (exchange : S → List ℕ → List (SessionEvent F) → S → Went → Type 0) where
   -- a session's talk from some request on, in which no write failed
-  pub data WholeTalk : S → List (Event F) → SessionEnd → Type 0 where
-    goes_on : {before after : S} {events more : List (Event F)} {end : SessionEnd} (line : List ℕ) → exchange before line events after On → WholeTalk after more end
+  pub data WholeTalk : S → List (SessionEvent F) → SessionEnd → Type 0 where
+    goes_on : {before after : S} {events more : List (SessionEvent F)} {end : SessionEnd} (line : List ℕ) → exchange before line events after On → WholeTalk after more end
         → WholeTalk before (Received (took.Line line) ∷ (events ++ more)) end
     -- the request is the last one
-    over : {before after : S} {events : List (Event F)} {end : SessionEnd} (line : List ℕ) → exchange before line events after (End end)
+    over : {before after : S} {events : List (SessionEvent F)} {end : SessionEnd} (line : List ℕ) → exchange before line events after (End end)
         → WholeTalk before (Received (took.Line line) ∷ events) end
     -- no request comes
     ended : {before : S} → WholeTalk before (Received took.End ∷ []) Ended
@@ -180,8 +193,8 @@ module _ {S F : Type 0} (exchange : S → List ℕ → List (Event F) → S → 
     too_long : {before : S} → WholeTalk before (Received took.TooLong ∷ Sent (failed code.LineTooLong) ∷ []) TooLong
 
   -- a whole session
-  pub data WholeSession (start : S) : List (Event F) → SessionEnd → Type 0 where
-    greeted : {events : List (Event F)} {end : SessionEnd} → WholeTalk start events end → WholeSession start (Sent (line_of greeting) ∷ events) end
+  pub data WholeSession (start : S) : List (SessionEvent F) → SessionEnd → Type 0 where
+    greeted : {events : List (SessionEvent F)} {end : SessionEnd} → WholeTalk start events end → WholeSession start (Sent (line_of greeting) ∷ events) end
 
 -- the ends that are no fault of the link
 abbrev pub IsFaultless : SessionEnd → Type 0
@@ -189,16 +202,29 @@ IsFaultless ReadFault = ⊥
 IsFaultless WriteFault = ⊥
 IsFaultless _ = ⊤
 
--- no count of faults has risen: of neither side of the link, nor of the prompter, the keys and the dice
+-- no count of faults has risen: of neither side of the link, nor of the prompter, the keys, the dice and the trust file
 pub record NoCountRose {D P : Type 0} (turned : D → MarkStep → Turn → D → Type 0) (prompted : P → Call → P → Type 0) (at : P → AtPrompter)
-    (before after : Surroundings (KeyWorld turned prompted)) : Type 0 where
+    (before after : Surroundings (FurtherWorld turned prompted)) : Type 0 where
   pub input : ¬ Rose before.input.faults after.input.faults
   pub output : ¬ Rose before.output.faults after.output.faults
   pub prompter : ¬ Rose (at before.ends.prompter).faults (at after.ends.prompter).faults
   pub keys : ¬ Rose before.ends.keys.faults after.ends.keys.faults
   pub dice : ¬ Rose before.ends.dice.faults after.ends.dice.faults
+  pub trust : ¬ Rose before.ends.trust.faults after.ends.trust.faults
 
 -- The session ended by no fault of its link, and each of its requests was answered, but a last one whose own inquiry ended the session.
-pub record AnswersAll (rules : Rules) (events : List (Event FurtherEvent)) (end : SessionEnd) : Type 0 where
+pub record AnswersAll (faultless : Exchanges) (rules : Rules) (events : List Event) (end : SessionEnd) : Type 0 where
   pub ended : IsFaultless end
-  pub session : WholeSession (FaultlessExchange rules) (kept_at_start rules) events end
+  pub session : WholeSession faultless (kept_at_start rules) events end
+
+-- ---- the sessions of `serve_session`
+
+module _ (rules : Rules) where
+  abbrev pub SessionCauses : Causes
+  SessionCauses before line events why origin = IsCaused events rules before (request_of line) why origin
+
+  abbrev pub CausedInSession : Exchanges
+  CausedInSession = CausedExchange (SessionExchange rules) SessionCauses
+
+  abbrev pub FaultlessInSession : Exchanges
+  FaultlessInSession = FaultlessExchange CausedInSession (λ before line events. IsUnprompted events rules before (request_of line))

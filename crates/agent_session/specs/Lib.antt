@@ -5,3 +5,4 @@ pub mod DoorCompleteness
 pub mod Refusals
 pub mod Sessions
 pub mod TrustCalls
+pub mod Counting

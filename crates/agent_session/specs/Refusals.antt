@@ -3,8 +3,10 @@
 use Rattle.std.specs.List.{AllByRecursion}
 use Rattle.std.specs.Prelude.{◌≡◌, ◌≢◌, ◌⊎◌, ◌++◌, ℕ, Bool, true, false, List, [], ◌∷◌, Option, Some, None, ⊤}
 use Rattle.agent_ask.specs.Events.{Call, GetPin, Confirm, Start, Shut, Called, OutOfMemory}
-use Rattle.agent_ask.specs.Further.{FurtherEvent, KeyCall, Read, Listed, Replaced, Removed, NotDrawn, Prompt, Keys, Dice, NoMemory}
+use Rattle.agent_ask.specs.Further.{FurtherEvent, KeyCall, Read, Listed, Replaced, Removed, NotDrawn, Prompt, Keys, Dice, NoMemory, Trust}
 use Rattle.agent_ask.specs.SessionEvents.{Received, Sent, CacheTurn, Further, cache_turn}
+use Rattle.agent_ask.specs.TrustCalls.{TrustCall}
+use Rattle.agent_ask.specs.TrustCalls as trust_call
 use Rattle.agent_ask.specs.declared.prompter.Consent.TheVariants as consent
 use Rattle.agent_ask.specs.declared.prompter.Opened.TheVariants as opened
 use Rattle.agent_ask.specs.declared.prompter.Outcome.TheVariants as outcome
@@ -14,6 +16,8 @@ use Rattle.agent_ports.specs.declared.keys.KeyDone.TheVariants as key_done
 use Rattle.agent_ports.specs.declared.keys.KeyNames.TheVariants as key_names
 use Rattle.agent_ports.specs.declared.keys.KeyRead.{KeyRead}
 use Rattle.agent_ports.specs.declared.keys.KeyRead.TheVariants as key_read
+use Rattle.agent_ports.specs.declared.trust.TrustDone.TheVariants as trust_done
+use Rattle.agent_ports.specs.declared.trust.TrustRead.TheVariants as trust_read
 use Rattle.assuan_escape.specs.Escapes.{hex_text}
 use Rattle.assuan_server.specs.Written.{failed}
 use Rattle.assuan_server.specs.declared.errors.Code.{Code}
@@ -77,13 +81,22 @@ keys_refuse (Listed (key_names.Names grips)) = None
 keys_refuse (Replaced grip file answer) = change_refuses answer
 keys_refuse (Removed grip answer) = change_refuses answer
 
--- the code by which an event refuses its request, where it does: for want of memory, or since the prompter, the keys or the dice failed
+-- the same of a call of the trust file, of which there is none among the work of the requests that are meant here
+abbrev pub trust_refuses : TrustCall → Option Code
+trust_refuses (trust_call.Read trust_read.Failed) = Some code.General
+trust_refuses (trust_call.Read trust_read.NoMemory) = Some code.NoMemory
+trust_refuses (trust_call.Replaced file trust_done.Failed) = Some code.General
+trust_refuses (trust_call.Replaced file trust_done.NoMemory) = Some code.NoMemory
+trust_refuses _ = None
+
+-- the code by which an event refuses its request, where it does: for want of memory, or since the prompter, the keys, the dice or the trust file failed
 abbrev pub refuses : Event FurtherEvent → Option Code
 refuses (CacheTurn taken) = turn_refuses (closes taken.asked) taken.turn
 refuses (Further (Prompt (Called call))) = call_refuses call
 refuses (Further (Prompt OutOfMemory)) = Some code.NoMemory
 refuses (Further (Keys call)) = keys_refuse call
 refuses (Further (Dice (NotDrawn count))) = Some code.General
+refuses (Further (Trust call)) = trust_refuses call
 refuses (Further NoMemory) = Some code.NoMemory
 refuses _ = None
 
@@ -113,13 +126,14 @@ IsWorkStep request Stop = request ≡ Cache KillAgent
 IsWorkStep request (Close ticket keep) = ⊥
 IsWorkStep request _ = ⊤
 
--- what is done of a request: no key's file is changed by it, and no ticket is given back
+-- what is done of a request: no key's file is changed by it, the trust file isn't called, and no ticket is given back
 abbrev pub IsAllowed : Request → Event FurtherEvent → Type 0
 IsAllowed request (Received took) = ⊥
 IsAllowed request (Sent text) = IsNotice text
 IsAllowed request (CacheTurn taken) = IsWorkStep request taken.asked
 IsAllowed request (Further (Keys (Replaced grip file answer))) = answer ≢ key_done.Done
 IsAllowed request (Further (Keys (Removed grip answer))) = answer ≢ key_done.Done
+IsAllowed request (Further (Trust call)) = ⊥
 IsAllowed request _ = ⊤
 
 -- and it isn't refused by it

@@ -1,7 +1,9 @@
 -- What is done for a request behind a call of the trust file that decides it: one that failed or found no memory, or by which a new file took the old
 -- one's place. This is the project's own.
 use Rattle.std.specs.Prelude.{◌≡◌, ℕ, List, [], ◌∷◌, Option, Some, None, ⊤}
+use Rattle.agent_ask.specs.Further.{Trust}
 use Rattle.agent_ask.specs.SessionEvents.{Sent, Further, cache_turn}
+use Rattle.agent_ask.specs.TrustCalls.{TrustCall, Read, Replaced}
 use Rattle.agent_commands.specs.Answers.{ok}
 use Rattle.agent_ports.specs.declared.trust.TrustDone.TheVariants as done
 use Rattle.agent_ports.specs.declared.trust.TrustRead.TheVariants as read
@@ -9,7 +11,7 @@ use Rattle.assuan_server.specs.Written.{failed}
 use Rattle.assuan_server.specs.declared.errors.Code.TheVariants as code
 use Rattle.cache_policy.specs.Turns.{Turn}
 use Rattle.cache_policy.specs.declared.mark.MarkStep.TheVariants.{Close}
-use Rattle.agent_origin.specs.OriginEvents.{Event, TrustCall, Read, Replaced, Trust}
+use Rattle.key_commands.specs.Events.{Event}
 
 -- the line that answers a request which such a call decides
 abbrev pub line_after : TrustCall → Option (List ℕ)

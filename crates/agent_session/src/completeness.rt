@@ -1,18 +1,20 @@
 ghost use Rattle.std.specs.List.{AllByRecursion};
 ghost use Rattle.std.specs.Prelude.{List, ℕ};
-ghost use Rattle.agent_ask.specs.Further.{FurtherEvent};
 ghost use Rattle.agent_ask.specs.Worlds.{Outside, Does};
 ghost use Rattle.agent_ports.specs.Leads.{Leads};
 ghost use Rattle.assuan_server.specs.Reading.{Supply};
-ghost use Rattle.agent_commands.specs.Events.{Event};
 ghost use Rattle.agent_commands.specs.Requests.{request_of};
 ghost use Rattle.agent_commands.specs.Talks.{Session};
 ghost use Rattle.agent_commands.specs.declared.went.SessionEnd.{SessionEnd as Ends};
 ghost use Rattle.agent_commands.specs.declared.went.Went.{Went};
-ghost use Rattle.key_commands.specs.States.{KeyWorld};
+ghost use Rattle.key_commands.specs.Events.{Event};
 ghost use Rattle.session_options.specs.declared.rules.Rules.{Rules};
-ghost use Rattle.agent_session.specs.Causes.{WantsMemory};
-ghost use Rattle.agent_session.specs.Completeness.{CausedExchange, IsUncaused, IsAnsweredOk, FailuresRise, IsStopped, AnswersAtOnce, NoCountRose, AnswersAll};
+ghost use Rattle.agent_session.specs.Counting.{CountsFailures};
+ghost use Rattle.agent_session.specs.Completeness.{SessionCauses, CausedInSession};
+ghost use Rattle.agent_session.specs.Completeness.{FaultlessInSession, IsUncaused, IsAnsweredOk};
+ghost use Rattle.agent_session.specs.Completeness.{FailuresRise, IsStopped, AnswersAtOnce};
+ghost use Rattle.agent_session.specs.Completeness.{Remembers, NoCountRose, AnswersAll};
+ghost use Rattle.agent_origin.specs.FurtherStates.{FurtherWorld};
 ghost use Rattle.agent_origin.specs.SessionExchanges.{kept_at_start, SessionExchange};
 ghost use Rattle.agent_origin.specs.Sessions.{Surroundings};
 ghost use Rattle.agent_session.specs.Sessions.{ServesRules};
@@ -21,38 +23,62 @@ ghost use Rattle.agent_origin.specs.declared.kept.Kept.{Kept};
 use agent_ask::Prompter;
 use cache_policy::Desk;
 
-/// In each exchange of a session the request has its one answer, unless its own inquiry ended the session or a write failed, and each error
-/// line has its cause among the events of that exchange. Of an exchange that a failed write cut this is said of the whole one.
+/// In each exchange of a session the request has its one answer, unless its own inquiry ended the
+/// session or a write failed, and each error line has its cause among the events of that exchange.
+/// Of an exchange that a failed write cut this is said of the whole one.
 pub fn each_error_has_its_cause<D: Desk, P: Prompter>()
-    ensures { (rules : Rules) (before after : Surroundings (KeyWorld D.turned P.prompted)) (end : Ends) → (served : ServesRules D.turned P.prompted rules before end after)
-        → Session (CausedExchange rules) (kept_at_start rules) served.events end }
+    ensures { (rules : Rules) (before after : Surroundings (FurtherWorld D.turned P.prompted))
+        (end : Ends) → (served : ServesRules D.turned P.prompted rules before end after)
+        → Session (CausedInSession rules) (kept_at_start rules) served.events end }
 {}
 
-/// A request none of whose errors has a cause in its exchange is answered by OK, unless its own inquiry ended the session or a write failed.
+/// A request none of whose errors has a cause in its exchange is answered by OK, unless its own
+/// inquiry ended the session or a write failed.
 pub fn without_a_cause_the_answer_is_ok()
-    ensures { (rules : Rules) (kept now : Kept) (line : List ℕ) (events : List (Event FurtherEvent)) (went : Went) → CausedExchange rules kept line events now went
-        → IsUncaused rules kept line events → IsAnsweredOk went events }
+    ensures { (rules : Rules) (kept now : Kept) (line : List ℕ) (events : List Event) (went : Went)
+        → CausedInSession rules kept line events now went
+        → IsUncaused (SessionCauses rules) kept line events → IsAnsweredOk went events }
 {}
 
-/// A failure of the keys, of the dice or of the prompter that is among events has raised its count in between. So where it is the cause of an
-/// error line, the count rose in that command.
+/// A failure of the keys, of the dice, of the prompter or of the trust file that is among events
+/// has raised its count in between. So where it is the cause of an error line, the count rose in
+/// that command.
 pub fn failures_raise_counts<D: Desk, P: Prompter>()
-    ensures { (supply : Supply) (before after : Outside (KeyWorld D.turned P.prompted)) (events : List (Event FurtherEvent))
-        → Leads (Does (KeyWorld D.turned P.prompted) supply) before events after → FailuresRise P.at events before.ends after.ends }
+    ensures { (supply : Supply) (before after : Outside (FurtherWorld D.turned P.prompted))
+        (events : List Event)
+        → Leads (Does (FurtherWorld D.turned P.prompted) supply) before events after
+        → FailuresRise P.at events before.ends after.ends }
 {}
 
-/// A request that asks nobody is answered at once, unless a turn of it found no memory or was replied Stopping: a GET_PASSPHRASE for the cache
-/// alone by the live passphrase or No data; a PRESET_PASSPHRASE with its digits, where it is allowed, a CLEAR_PASSPHRASE and a RELOADAGENT by OK.
+/// On each end at most as many events failed as its count rose by, as long as that is below its
+/// last value: of the calls of the prompter, of the keys and of the trust file, and of the draws.
+pub fn each_failure_is_counted<D: Desk, P: Prompter>()
+    ensures { (supply : Supply) (before after : Outside (FurtherWorld D.turned P.prompted))
+        (events : List Event)
+        → Leads (Does (FurtherWorld D.turned P.prompted) supply) before events after
+        → CountsFailures P.at events before.ends after.ends }
+{}
+
+/// A request that asks nobody is answered at once, unless a turn of it found no memory or was
+/// replied Stopping: a GET_PASSPHRASE for the cache alone by the live passphrase or No data; a
+/// PRESET_PASSPHRASE with its digits, where it is allowed, a CLEAR_PASSPHRASE and a RELOADAGENT by
+/// OK.
 pub fn requests_without_a_prompt_are_answered<D: Desk, P: Prompter>()
-    ensures { (rules : Rules) (kept now : Kept) (line : List ℕ) (events : List (Event FurtherEvent)) (went : Went) (supply : Supply) (before after : Outside (KeyWorld D.turned P.prompted))
-        → SessionExchange rules kept line events now went → Leads (Does (KeyWorld D.turned P.prompted) supply) before events after
-        → AllByRecursion (λ event. ¬ WantsMemory event) events → AllByRecursion (λ event. ¬ IsStopped event) events → AnswersAtOnce rules (request_of line) events }
+    ensures { (rules : Rules) (kept now : Kept) (line : List ℕ) (events : List Event)
+        (went : Went) (supply : Supply) (before after : Outside (FurtherWorld D.turned P.prompted))
+        → SessionExchange rules kept line events now went
+        → Leads (Does (FurtherWorld D.turned P.prompted) supply) before events after
+        → AllByRecursion Remembers events → AllByRecursion (λ event. ¬ IsStopped event) events
+        → AnswersAtOnce rules (request_of line) events }
 {}
 
-/// Where no count of faults rose and no memory was wanted, a session ends by no fault, and each of its requests is answered, but a last one
-/// whose own inquiry ended the session: by no error without a code of its own, by none for want of memory, and by none for want of a pinentry but where the
-/// client wants no prompt or the pinentry broke its protocol.
+/// Where no count of faults rose and no memory was wanted, a session ends by no fault, and each of
+/// its requests is answered, but a last one whose own inquiry ended the session: by no error
+/// without a code of its own, by none for want of memory, and by none for want of a pinentry but
+/// where the client wants no prompt or the pinentry broke its protocol.
 pub fn a_session_without_faults_is_answered<D: Desk, P: Prompter>()
-    ensures { (rules : Rules) (before after : Surroundings (KeyWorld D.turned P.prompted)) (end : Ends) → (served : ServesRules D.turned P.prompted rules before end after)
-        → NoCountRose D.turned P.prompted P.at before after → AllByRecursion (λ event. ¬ WantsMemory event) served.events → AnswersAll rules served.events end }
+    ensures { (rules : Rules) (before after : Surroundings (FurtherWorld D.turned P.prompted))
+        (end : Ends) → (served : ServesRules D.turned P.prompted rules before end after)
+        → NoCountRose D.turned P.prompted P.at before after → AllByRecursion Remembers served.events
+        → AnswersAll (FaultlessInSession rules) rules served.events end }
 {}

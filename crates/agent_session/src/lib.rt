@@ -1,11 +1,12 @@
 //! A session from bytes to bytes, over any link and any desk.
 //!
-//! Begin with [`serve_session`], whose loop is in `agent_origin` (`serve`): what a session reads, writes and does is one list of events,
-//! the greeting and then each request with its exchange, and it leaves no ticket out and no prompt open. The laws say when a request is
-//! answered: each error has its cause ([`each_error_has_its_cause`]), and without one there is an answer
+//! Begin with [`serve_session`], whose loop is in `agent_origin` (`serve`): what a session reads,
+//! writes and does is one list of events, the greeting and then each request with its exchange, and
+//! it leaves no ticket out and no prompt open. The laws say when a request is answered: each error
+//! has its cause ([`each_error_has_its_cause`]), and without one there is an answer
 //! ([`a_session_without_faults_is_answered`]). They say the same of sessions that came in by a door
-//! ([`each_error_at_a_door_has_its_cause`]). Definitions begin in `specs/Sessions`, the causes in `specs/Causes`, and at a door in
-//! `specs/DoorCauses`.
+//! ([`each_error_at_a_door_has_its_cause`]). Definitions begin in `specs/Sessions`, the causes in
+//! `specs/Causes`, and at a door in `specs/DoorCauses`.
 #![tactic(auto)]
 
 mod completeness;
@@ -15,13 +16,13 @@ mod refusals;
 mod session;
 
 pub use completeness::{
-    a_session_without_faults_is_answered, each_error_has_its_cause, failures_raise_counts,
-    requests_without_a_prompt_are_answered, without_a_cause_the_answer_is_ok,
+    a_session_without_faults_is_answered, each_error_has_its_cause, each_failure_is_counted,
+    failures_raise_counts, requests_without_a_prompt_are_answered,
+    without_a_cause_the_answer_is_ok,
 };
 pub use doors::{
     a_session_at_a_door_without_faults_is_answered, an_exchange_at_a_door_is_a_sessions,
-    each_error_at_a_door_has_its_cause, failures_at_a_door_raise_counts,
-    without_a_cause_the_answer_at_a_door_is_ok,
+    each_error_at_a_door_has_its_cause, without_a_cause_the_answer_at_a_door_is_ok,
 };
 pub use laws::{a_session_at_a_door_extends_a_run, a_session_extends_a_run, key_commands_are_read};
 pub use refusals::{

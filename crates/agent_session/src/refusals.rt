@@ -1,70 +1,83 @@
 ghost use Rattle.std.specs.List.{AllByRecursion};
 ghost use Rattle.std.specs.Prelude.{List, ℕ};
-ghost use Rattle.agent_ask.specs.Further.{FurtherEvent};
 ghost use Rattle.agent_ask.specs.Worlds.{Outside, Does};
 ghost use Rattle.agent_ports.specs.Leads.{Leads};
 ghost use Rattle.assuan_server.specs.Reading.{Supply};
 ghost use Rattle.assuan_server.specs.declared.errors.Code.{Code};
 ghost use Rattle.assuan_server.specs.declared.errors.Origin.TheVariants.{Agent};
-ghost use Rattle.agent_commands.specs.Events.{Event};
 ghost use Rattle.agent_commands.specs.Requests.{request_of};
 ghost use Rattle.agent_commands.specs.declared.went.Went.{Went};
 ghost use Rattle.cache_policy.specs.Turns.{MayWantMemory, Refused};
 ghost use Rattle.cache_policy.specs.declared.mark.MarkStep.{MarkStep};
-ghost use Rattle.key_commands.specs.States.{KeyWorld};
+ghost use Rattle.key_commands.specs.Events.{Event};
 ghost use Rattle.session_options.specs.declared.rules.Rules.{Rules};
 ghost use Rattle.agent_session.specs.Completeness.{HasError, IsStopped};
 ghost use Rattle.agent_origin.specs.SessionExchanges.{SessionExchange};
-ghost use Rattle.agent_session.specs.Refusals.{AnswersAlone, Course, IsOwnCode, LeavesDesk, OpensFirst, RefusedCourse};
+ghost use Rattle.agent_session.specs.Refusals.{AnswersAlone, Course, IsOwnCode, LeavesDesk};
+ghost use Rattle.agent_session.specs.Refusals.{OpensFirst, RefusedCourse};
 ghost use Rattle.agent_session.specs.TrustCalls.{EndsAtCalls};
 ghost use Rattle.agent_origin.specs.DoorSessions.{DoorExchange};
-ghost use Rattle.agent_origin.specs.OriginEvents.{Event as DoorEvent};
+ghost use Rattle.agent_origin.specs.FurtherStates.{FurtherWorld};
 ghost use Rattle.agent_origin.specs.declared.door.Door.{Door};
 ghost use Rattle.agent_origin.specs.declared.kept.Kept.{Kept};
 
 use agent_ask::Prompter;
 use cache_policy::Desk;
 
-/// What is done for a request: its work, by which nothing is stored, cleared or stopped but by its own command, and no key's file is changed; and then
-/// its end. An event that refuses it, for want of memory or since a prompter, the keys or the dice failed, is the last thing that is done for it, but that the prompt is
-/// shut and its ticket given back, with nothing kept. A changed key's file is followed by one turn alone.
+/// What is done for a request: its work, by which nothing is stored, cleared or stopped but by its
+/// own command, no key's file is changed, and the trust file isn't called; and then its end, by
+/// which it isn't called either. An event that refuses it, for want of memory or since a prompter,
+/// the keys or the dice failed, is the last thing that is done for it, but that the prompt is shut
+/// and its ticket given back, with nothing kept. A changed key's file is followed by one turn
+/// alone.
 pub fn each_request_takes_its_course()
-    ensures { (rules : Rules) (kept now : Kept) (line : List ℕ) (events : List (Event FurtherEvent)) (went : Went) → SessionExchange rules kept line events now went
-        → Course (request_of line) events }
+    ensures { (rules : Rules) (kept now : Kept) (line : List ℕ) (events : List Event) (went : Went)
+        → SessionExchange rules kept line events now went → Course (request_of line) events }
 {}
 
-/// A request that is answered `Cannot allocate memory` or `General error` was refused by an event of its own: it changed no key's file and did nothing
-/// more; or it kept its prompt's passphrase before; or it changed a key's file, and the one turn behind that found no memory.
+/// A request that is answered `Cannot allocate memory` or `General error` was refused by an event
+/// of its own: it changed no key's file and did nothing more; or it kept its prompt's passphrase
+/// before; or it changed a key's file, and the one turn behind that found no memory.
 pub fn a_refused_request_does_nothing_more<D: Desk, P: Prompter>()
-    ensures { (rules : Rules) (kept now : Kept) (line : List ℕ) (events : List (Event FurtherEvent)) (went : Went) (supply : Supply) (before after : Outside (KeyWorld D.turned P.prompted)) (why : Code)
-        → SessionExchange rules kept line events now went → Leads (Does (KeyWorld D.turned P.prompted) supply) before events after → IsOwnCode why → HasError why Agent events
-        → RefusedCourse (request_of line) why events }
+    ensures { (rules : Rules) (kept now : Kept) (line : List ℕ) (events : List Event)
+        (went : Went) (supply : Supply) (before after : Outside (FurtherWorld D.turned P.prompted))
+        (why : Code) → SessionExchange rules kept line events now went
+        → Leads (Does (FurtherWorld D.turned P.prompted) supply) before events after → IsOwnCode why
+        → HasError why Agent events → RefusedCourse (request_of line) why events }
 {}
 
-/// A prompt is opened before the prompter is called, and no other one behind that. So where a turn that may open one is refused, no child was launched.
+/// A prompt is opened before the prompter is called, and no other one behind that. So where a turn
+/// that may open one is refused, no child was launched.
 pub fn a_prompt_is_opened_first()
-    ensures { (rules : Rules) (kept now : Kept) (line : List ℕ) (events : List (Event FurtherEvent)) (went : Went) → SessionExchange rules kept line events now went
-        → OpensFirst events }
+    ensures { (rules : Rules) (kept now : Kept) (line : List ℕ) (events : List Event) (went : Went)
+        → SessionExchange rules kept line events now went → OpensFirst events }
 {}
 
 /// A turn that found no memory gave no ticket back and made no mark.
 pub fn a_refused_turn_leaves_the_desk<D: Desk>()
-    ensures { (before after : D) (asked : MarkStep) → D.turned before asked Refused after → LeavesDesk (D.at before) asked (D.at after) }
+    ensures { (before after : D) (asked : MarkStep) → D.turned before asked Refused after
+        → LeavesDesk (D.at before) asked (D.at after) }
 {}
 
-/// At a desk that finds no memory only for steps that may want some, as the one at the counted lock, a GET_PASSPHRASE for the cache alone, a CLEAR_PASSPHRASE
-/// and a RELOADAGENT want none: the passphrase or No data, or OK, is their answer, unless a turn was replied Stopping.
+/// At a desk that finds no memory only for steps that may want some, as the one at the counted
+/// lock, a GET_PASSPHRASE for the cache alone, a CLEAR_PASSPHRASE and a RELOADAGENT want none: the
+/// passphrase or No data, or OK, is their answer, unless a turn was replied Stopping.
 pub fn requests_on_the_cache_alone_want_no_memory<D: Desk, P: Prompter>()
-    ensures { ((before after : D) (asked : MarkStep) → D.turned before asked Refused after → MayWantMemory asked)
-        → (rules : Rules) (kept now : Kept) (line : List ℕ) (events : List (Event FurtherEvent)) (went : Went) (supply : Supply) (before after : Outside (KeyWorld D.turned P.prompted))
-        → SessionExchange rules kept line events now went → Leads (Does (KeyWorld D.turned P.prompted) supply) before events after
-        → AllByRecursion (λ event. ¬ IsStopped event) events → AnswersAlone (request_of line) events }
+    ensures { ((before after : D) (asked : MarkStep)
+        → D.turned before asked Refused after → MayWantMemory asked)
+        → (rules : Rules) (kept now : Kept) (line : List ℕ) (events : List Event)
+        (went : Went) (supply : Supply) (before after : Outside (FurtherWorld D.turned P.prompted))
+        → SessionExchange rules kept line events now went
+        → Leads (Does (FurtherWorld D.turned P.prompted) supply) before events after
+        → AllByRecursion (λ event. ¬ IsStopped event) events
+        → AnswersAlone (request_of line) events }
 {}
 
-/// A call of the trust file that failed or found no memory is the last thing that is done for its request, but that its ticket is given back and the
-/// error line is written. So is one by which a new file took the old one's place, whose request is answered by OK: one that is answered by an error
-/// line has left the file as it was.
+/// A call of the trust file that failed or found no memory is the last thing that is done for its
+/// request, but that its ticket is given back and the error line is written. So is one by which a
+/// new file took the old one's place, whose request is answered by OK: one that is answered by an
+/// error line has left the file as it was.
 pub fn a_call_of_the_trust_file_decides_its_request()
-    ensures { (door : Door) (rules : Rules) (kept now : Kept) (line : List ℕ) (events : List DoorEvent) (went : Went) → DoorExchange door rules kept line events now went
-        → EndsAtCalls events }
+    ensures { (door : Door) (rules : Rules) (kept now : Kept) (line : List ℕ) (events : List Event)
+        (went : Went) → DoorExchange door rules kept line events now went → EndsAtCalls events }
 {}

@@ -1,6 +1,6 @@
 ghost use Rattle.std.specs.Prelude.{◌≡◌, None};
 ghost use Rattle.agent_ask.specs.Prompters.{IsShut};
-ghost use Rattle.agent_session.specs.Sessions.{surroundings, ServesRules};
+ghost use Rattle.agent_session.specs.Sessions.{no_trust, without_trust, ServesRules};
 
 use agent_ask::Prompter;
 use agent_commands::{SessionEnd, Went};
@@ -17,16 +17,9 @@ use std::alloc::Global;
 struct EveryLine;
 
 impl Answers for EveryLine {
-    ghost use Rattle.agent_ask.specs.Further.{FurtherEvent, FurtherEnds, DoesFurther};
     ghost use Rattle.agent_origin.specs.SessionExchanges.{SessionExchange};
 
-    ghost service = { record {
-      Further = FurtherEvent;
-      Ends = FurtherEnds;
-      does = λ prompted. DoesFurther prompted;
-      ends = λ prompter keys dice trust. record { prompter = prompter; keys = keys; dice = dice };
-      exchange = λ so. SessionExchange;
-    } };
+    ghost exchange = { λ so. SessionExchange };
 
     fn answer<L: Link, D: Desk, P: Prompter, K: Keys, R: Dice, T: TrustFile>(
         &self,
@@ -50,7 +43,7 @@ impl Answers for EveryLine {
 struct NoTrust;
 
 impl TrustFile for NoTrust {
-    ghost trust = { λ none. record { file = None; faults = 0 } };
+    ghost trust = { λ none. no_trust };
 
     fn read(&mut self, _alloc: Global) -> TrustRead {
         TrustRead::NoMemory
@@ -61,8 +54,9 @@ impl TrustFile for NoTrust {
     }
 }
 
-/// Serves a session on a link: greets, and answers request after request until the session ends. No ticket of the session is out and no
-/// prompt is open when it returns. Its wrapping keys are overwritten in the end.
+/// Serves a session on a link: greets, and answers request after request until the session ends. No
+/// ticket of the session is out and no prompt is open when it returns. Its wrapping keys are
+/// overwritten in the end.
 pub fn serve_session<L: Link, D: Desk, P: Prompter, K: Keys, R: Dice>(
     alloc: Global,
     rules: &Rules,
@@ -75,8 +69,10 @@ pub fn serve_session<L: Link, D: Desk, P: Prompter, K: Keys, R: Dice>(
     requires free { (D.at desk.old).out ≡ None }
     requires shut { IsShut (P.at prompter.old) }
     ensures serves { ServesRules D.turned P.prompted rules.now
-        (surroundings D.turned P.prompted (L.input link.old) (L.output link.old) desk.old prompter.old (K.keys keys.old) (R.draws dice.old)) result
-        (surroundings D.turned P.prompted (L.input link.new) (L.output link.new) desk.new prompter.new (K.keys keys.new) (R.draws dice.new)) }
+        (without_trust D.turned P.prompted (L.input link.old)
+        (L.output link.old) desk.old prompter.old (K.keys keys.old) (R.draws dice.old)) result
+        (without_trust D.turned P.prompted (L.input link.new)
+        (L.output link.new) desk.new prompter.new (K.keys keys.new) (R.draws dice.new)) }
     ensures free { (D.at desk.new).out ≡ None }
     ensures shut { IsShut (P.at prompter.new) }
 {

@@ -80,7 +80,8 @@ impl Prompter for ListPrompter {
 
     ghost at = { λ p. record { ready = p.ready; child = p.ready; faults = p.faults } };
 
-    ghost prompted = { λ before call after. IsCall (record { ready = before.ready; child = before.ready; faults = before.faults }) call
+    ghost prompted = { λ before call after.
+        IsCall (record { ready = before.ready; child = before.ready; faults = before.faults }) call
         (record { ready = after.ready; child = after.ready; faults = after.faults }) };
 
     ghost promise = { λ before call after does. does };
@@ -150,7 +151,8 @@ impl Caller for ListCaller {
 
     ghost heard = { λ before question answer after. FitsQuestion question answer };
 
-    ghost promise = { λ before question answer after listens fits. record { fits = fits; listens = λ there. tt } };
+    ghost promise = { λ before question answer after listens fits.
+        record { fits = fits; listens = λ there. tt } };
 
     fn launched(&mut self, _pid: u32) -> Heard {
         if self.fine {
@@ -177,7 +179,8 @@ impl Test for AllBut {
 
     ghost rule = { λ test pin. pin ≢ test.wrong.now };
 
-    ghost tested = { λ before pin answer after. IsTest (λ typed. typed ≢ before.wrong.now) pin answer (λ typed. typed ≢ after.wrong.now) };
+    ghost tested = { λ before pin answer after.
+        IsTest (λ typed. typed ≢ before.wrong.now) pin answer (λ typed. typed ≢ after.wrong.now) };
 
     ghost promise = { λ before pin answer after does. does };
 
@@ -227,7 +230,8 @@ fn told(asked: &Asked) -> &str {
     }
 }
 
-/// The prompter's start, the client's note, the repeats, the answers, what was shown, and what it came to.
+/// The prompter's start, the client's note, the repeats, the answers, what was shown, and what it
+/// came to.
 type Case = (
     bool,
     Option<bool>,

@@ -23,7 +23,8 @@ struct Row {
     links: &'static [Client],
     /// Those of the extra listener, where it is asked for.
     extra: Option<&'static [Client]>,
-    /// The calls that fail, by their number from 0: for a listener, for a link, reads and writes of the first link, and writes of the summary.
+    /// The calls that fail, by their number from 0: for a listener, for a link, reads and writes of
+    /// the first link, and writes of the summary.
     listens: &'static [u64],
     nexts: &'static [u64],
     reads: &'static [u64],
@@ -64,7 +65,8 @@ const KILL: Client = (
 );
 
 const ROWS: [Row; 15] = [
-    // A passphrase that one client presets is another's until it is forgotten. Behind KILLAGENT no link is taken.
+    // A passphrase that one client presets is another's until it is forgotten. Behind KILLAGENT no
+    // link is taken.
     Row {
         links: &[
             (
@@ -141,7 +143,8 @@ const ROWS: [Row; 15] = [
         reads: &[0],
         ..PLAIN
     },
-    // A client's read fails while it is told of a prompt: its passphrase isn't asked, and the seat is free.
+    // A client's read fails while it is told of a prompt: its passphrase isn't asked, and the seat
+    // is free.
     Row {
         links: &[
             (
@@ -158,7 +161,8 @@ const ROWS: [Row; 15] = [
         summary: "marks 6 given 0 empty 1 opened 2 stored 1 cleared 0 flushed 0\n",
         ..PLAIN
     },
-    // A passphrase can't be written to its client once it is typed: it is kept, and given to the next one.
+    // A passphrase can't be written to its client once it is typed: it is kept, and given to the
+    // next one.
     Row {
         links: &[
             ("GET_PASSPHRASE --data id1 X X X\n", GREETING),
@@ -203,9 +207,11 @@ const ROWS: [Row; 15] = [
     },
 ];
 
-/// Daemons at whose first link a prompt is open until another session has ended. One that ends with status 0 has stopped both its listeners.
+/// Daemons at whose first link a prompt is open until another session has ended. One that ends with
+/// status 0 has stopped both its listeners.
 const AT_TWO_DOORS: [Row; 5] = [
-    // A restricted session is served beside a prompt. It may not stop the agent: a session at home does, and no link is taken at either door.
+    // A restricted session is served beside a prompt. It may not stop the agent: a session at home
+    // does, and no link is taken at either door.
     Row {
         links: &[
             (

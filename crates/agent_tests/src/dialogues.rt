@@ -1,4 +1,5 @@
-//! The dialogues of docs/PROTOCOL.md: what the client sends, and what it is answered. Made by tools/dialogues.
+//! The dialogues of docs/PROTOCOL.md: what the client sends, and what it is answered.
+//! Made by tools/dialogues.
 
 pub(crate) const DIALOGUES: [(&str, &str); 20] = [
     ("NOP\n", "OK\n"),

@@ -1,4 +1,5 @@
-//! Sessions by the door that they came in, over a trust list in memory: what is answered, what the list has behind them, and what the user was asked.
+//! Sessions by the door that they came in, over a trust list in memory: what is answered, what the
+//! list has behind them, and what the user was asked.
 
 use crate::rows::text_of;
 use agent_core::Solo;
@@ -43,7 +44,8 @@ const PLAIN: Row = Row {
     faults: &[],
 };
 
-/// What a child with the number 9 is to ask, as it is written to it, what it gives behind that, and what it is written then.
+/// What a child with the number 9 is to ask, as it is written to it, what it gives behind that, and
+/// what it is written then.
 type Child = (&'static str, &'static str, &'static str);
 
 /// What it gives before that.
@@ -131,7 +133,8 @@ const LISTS: [Row; 13] = [
         answered: "OK\nOK\nERR 67108962 Not trusted <GPG Agent>\nERR 67109144 IPC parameter error <GPG Agent>\n",
         ..PLAIN
     },
-    // What is forbidden at the outer door is so before its form is looked at, and leaves all as it was.
+    // What is forbidden at the outer door is so before its form is looked at, and leaves all as it
+    // was.
     Row {
         door: Door::Outer,
         before: Some("{A*40} S\n"),
@@ -241,7 +244,8 @@ const MARKS: [Row; 18] = [
         launched: 3,
         ..PLAIN
     },
-    // The first child can't be launched, and then the second: nobody is trusted. The next time both can be.
+    // The first child can't be launched, and then the second: nobody is trusted. The next time both
+    // can be.
     Row {
         before: Some("# mine\n"),
         after: Some("# mine\n{A*40} S\n"),
@@ -303,7 +307,8 @@ const MARKS: [Row; 18] = [
         launched: 2,
         ..PLAIN
     },
-    // The escapes of a name are read. What doesn't fit in the line to a child is cut behind a whole escape.
+    // The escapes of a name are read. What doesn't fit in the line to a child is cut behind a whole
+    // escape.
     Row {
         after: Some("{A*40} S\n"),
         sent: "MARKTRUSTED {A*40} S Root%2BCA+%25%0a\n",
@@ -353,7 +358,8 @@ const MARKS: [Row; 18] = [
         faults: &[1],
         ..PLAIN
     },
-    // A list of 65,536 bytes has no place for an entry; one of 65,492 that lacks its last line feed has.
+    // A list of 65,536 bytes has no place for an entry; one of 65,492 that lacks its last line feed
+    // has.
     Row {
         before: Some("{# a comment\n*5461}#23\n"),
         after: Some("{# a comment\n*5461}#23\n"),

@@ -1,4 +1,5 @@
-//! One failure at each place of a session: what is answered there, and that what follows is answered as ever.
+//! One failure at each place of a session: what is answered there, and that what follows is
+//! answered as ever.
 
 use crate::prompts::{AFTER_GPG, Opening, PIN, QUALITY};
 use crate::rows::{PLAIN, Row, served, text_of};
@@ -7,7 +8,8 @@ use std::alloc::{AllocError, Global};
 use std::sync::Wait;
 use std::test::Fail;
 
-/// A line that a client sends, what is written behind it, and what the child of a prompt was written behind its opening where the input ends then.
+/// A line that a client sends, what is written behind it, and what the child of a prompt was
+/// written behind its opening where the input ends then.
 type Turn = (&'static str, &'static str, &'static str);
 
 /// A session line by line, and its child.
@@ -74,7 +76,8 @@ fn whole(alloc: Global, talk: &Talk) -> Result<(Vec<u8>, String), AllocError> {
     Ok((sent, written))
 }
 
-/// What is to come where the client's input has so many bytes, and the session ends with this status.
+/// What is to come where the client's input has so many bytes, and the session ends with this
+/// status.
 fn wanted_behind(alloc: Global, talk: &Talk, len: usize, status: u8) -> Result<String, AllocError> {
     let mut written = String::from_str(alloc, TALKING.greeting)?;
     let mut told = "";
@@ -153,7 +156,8 @@ fn the_input_may_end_or_fail_behind_each_byte(rt: HostRuntime) -> Result<(), Fai
     Ok(())
 }
 
-/// How many bytes are written where the write of this number fails behind at most so many, or none where there is no such write.
+/// How many bytes are written where the write of this number fails behind at most so many, or none
+/// where there is no such write.
 fn written_before<W: Wait>(
     rt: &W,
     alloc: Global,
@@ -176,7 +180,8 @@ fn written_before<W: Wait>(
     cut_text(&got, &written, len)
 }
 
-/// The length, where so much of what is to be written was written, the status is that of a failed write, and a child was told to go.
+/// The length, where so much of what is to be written was written, the status is that of a failed
+/// write, and a child was told to go.
 fn cut_text(got: &str, written: &str, len: usize) -> Result<Option<usize>, Fail> {
     let (Some(front), Some(wanted)) = (got.get(..len), written.get(..len)) else {
         return Err(Fail::new("more than is to be written"));
@@ -275,8 +280,8 @@ fn a_childs_output_may_fail_at_each_byte(rt: HostRuntime) -> Result<(), Fail> {
     Ok(())
 }
 
-/// The lines to a child, each a write: five settings, the question, and two that answer its inquiry. Behind them it is told to go, and whether that can be written is all
-/// one.
+/// The lines to a child, each a write: five settings, the question, and two that answer its
+/// inquiry. Behind them it is told to go, and whether that can be written is all one.
 #[test]
 fn a_childs_input_may_fail_at_each_write(rt: HostRuntime) -> Result<(), Fail> {
     let alloc = rt.alloc();

@@ -99,7 +99,8 @@ pub(crate) const CHANGED: &[Large] = &[
             behind: b")(9:protected20:openpgp-s2k3-ocb-aes((4:sha18:'&%$#\"! 5:65536)12:3210/.-,+*)()28:\xefn\n\x12\xd4\xac\x9f\xb4\xa3\x03\xf1\n=\x91\xc8\xe5s\xfe\xc8\x91]\x91\xa6\xaa>ue<)))",
         }),
     },
-    // With one more the user isn't asked for a new passphrase, and the old one isn't kept. It is verified nevertheless.
+    // With one more the user isn't asked for a new passphrase, and the old one isn't kept. It is
+    // verified nevertheless.
     Large {
         row: Row {
             sent: "OPTION s2k-count=65536\nPASSWD 991B4939D1B18937C2DEB2B1F0B5F3DA4D0862F3\nKEYINFO 991B4939D1B18937C2DEB2B1F0B5F3DA4D0862F3\nPASSWD --verify 991B4939D1B18937C2DEB2B1F0B5F3DA4D0862F3\nPASSWD 991B4939D1B18937C2DEB2B1F0B5F3DA4D0862F3\nKEYINFO 991B4939D1B18937C2DEB2B1F0B5F3DA4D0862F3\nKEYWRAP_KEY --export\n",

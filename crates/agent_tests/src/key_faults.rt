@@ -3,7 +3,8 @@
 use crate::key_files::{BY_CBC, BY_OCB, CHANGED, CLEAR, DSA, DSA_GRIP, GRIP};
 use crate::rows::{KEYS, Row};
 
-/// One call of the keys or of the dice fails, and what follows is answered as ever: what is sent and answered, with the key files before and behind it.
+/// One call of the keys or of the dice fails, and what follows is answered as ever: what is sent
+/// and answered, with the key files before and behind it.
 pub(crate) const REFUSALS: &[Row] = &[
     // Reads that fail, one in each request.
     Row {
@@ -15,7 +16,8 @@ pub(crate) const REFUSALS: &[Row] = &[
         key_faults: &[0, 2, 4, 5, 6, 7],
         ..KEYS
     },
-    // The read of a key that comes in fails: nobody is asked. Then no bytes are drawn, behind the prompt: no file is written, and the seat is free.
+    // The read of a key that comes in fails: nobody is asked. Then no bytes are drawn, behind the
+    // prompt: no file is written, and the seat is free.
     Row {
         sent: "OPTION s2k-count=65536\nKEYWRAP_KEY --import\nIMPORT_KEY\nD %EE%8F%72%ED%69%3D%2A%3F%65%6D%E4%D7%AF%42%3B%B8%47%D7%AC%29%8B%85%D7%E1%34%CB%F3%6C%26%D8%47%51%FB%63%46%67%BF%84%BF%4E%95%80%8D%5F%2E%AB%92%E0\nEND\nIMPORT_KEY\nD %EE%8F%72%ED%69%3D%2A%3F%65%6D%E4%D7%AF%42%3B%B8%47%D7%AC%29%8B%85%D7%E1%34%CB%F3%6C%26%D8%47%51%FB%63%46%67%BF%84%BF%4E%95%80%8D%5F%2E%AB%92%E0\nEND\nHAVEKEY 81594C58EF1286E89015A30A5CC2072D343B3307\nGET_PASSPHRASE --no-ask 81594C58EF1286E89015A30A5CC2072D343B3307\nIMPORT_KEY\nD %EE%8F%72%ED%69%3D%2A%3F%65%6D%E4%D7%AF%42%3B%B8%47%D7%AC%29%8B%85%D7%E1%34%CB%F3%6C%26%D8%47%51%FB%63%46%67%BF%84%BF%4E%95%80%8D%5F%2E%AB%92%E0\nEND\nKEYINFO 81594C58EF1286E89015A30A5CC2072D343B3307\n",
         answered: "OK\nD wraps a key 2415\nOK\nS INQUIRE_MAXLEN 65544\nINQUIRE KEYDATA\nERR 67108865 General error <GPG Agent>\nS INQUIRE_MAXLEN 65544\nINQUIRE KEYDATA\nERR 67108865 General error <GPG Agent>\nERR 67108881 No secret key <GPG Agent>\nERR 67108922 No data <GPG Agent>\nS INQUIRE_MAXLEN 65544\nINQUIRE KEYDATA\nS CACHE_NONCE A0A1A2A3A4A5A6A7A8A9AAAB\nOK\nS KEYINFO 81594C58EF1286E89015A30A5CC2072D343B3307 D - - 1 P - - -\nOK\n",
@@ -125,7 +127,8 @@ pub(crate) const REFUSALS: &[Row] = &[
     },
 ];
 
-/// No pinentry can be launched for a request on keys, and what follows is answered as ever: what is sent and answered, with the key files before and behind it.
+/// No pinentry can be launched for a request on keys, and what follows is answered as ever: what is
+/// sent and answered, with the key files before and behind it.
 pub(crate) const LAUNCHES: &[Row] = &[
     // Nothing is exported or kept, and what is cached stays. The next request prompts.
     Row {
@@ -145,7 +148,8 @@ pub(crate) const LAUNCHES: &[Row] = &[
         launches: &[0, 1],
         ..KEYS
     },
-    // For the old passphrase, and then for the new one: the file stays, and neither is kept. No bytes are drawn.
+    // For the old passphrase, and then for the new one: the file stays, and neither is kept. No
+    // bytes are drawn.
     Row {
         sent: "OPTION s2k-count=65536\nPASSWD --verify 81594C58EF1286E89015A30A5CC2072D343B3307\nPASSWD 81594C58EF1286E89015A30A5CC2072D343B3307\nKEYINFO 81594C58EF1286E89015A30A5CC2072D343B3307\nPASSWD 81594C58EF1286E89015A30A5CC2072D343B3307\nKEYINFO 81594C58EF1286E89015A30A5CC2072D343B3307\nPASSWD 81594C58EF1286E89015A30A5CC2072D343B3307\nKEYINFO 81594C58EF1286E89015A30A5CC2072D343B3307\nPASSWD --verify 81594C58EF1286E89015A30A5CC2072D343B3307\n",
         answered: "OK\nERR 67108950 No pinentry <GPG Agent>\nERR 67108950 No pinentry <GPG Agent>\nS KEYINFO 81594C58EF1286E89015A30A5CC2072D343B3307 D - - - P - - -\nOK\nERR 67108950 No pinentry <GPG Agent>\nS KEYINFO 81594C58EF1286E89015A30A5CC2072D343B3307 D - - - P - - -\nOK\nOK\nS KEYINFO 81594C58EF1286E89015A30A5CC2072D343B3307 D - - 1 P - - -\nOK\nOK\n",

@@ -3,7 +3,8 @@
 use crate::key_files::{BY_CBC, BY_OCB, CHANGED, GRIP};
 use crate::rows::{KEYS, Row};
 
-/// The client is asked by requests on keys: what is sent and answered, with the key files before and behind it.
+/// The client is asked by requests on keys: what is sent and answered, with the key files before
+/// and behind it.
 pub(crate) const INQUIRIES: &[Row] = &[
     // Another line, too many bytes, and then the passphrase, in parts. It is kept.
     Row {
@@ -118,9 +119,11 @@ pub(crate) const INQUIRIES: &[Row] = &[
     },
 ];
 
-/// What SETKEYDESC set is what prompts say about a key as it is: what is sent and answered, with the key files before and behind it.
+/// What SETKEYDESC set is what prompts say about a key as it is: what is sent and answered, with
+/// the key files before and behind it.
 pub(crate) const DESCRIPTIONS: &[Row] = &[
-    // A description is the one of the prompt for the old passphrase, of one command alone. That for the new one has its own.
+    // A description is the one of the prompt for the old passphrase, of one command alone. That for
+    // the new one has its own.
     Row {
         sent: "OPTION s2k-count=65536\nSETKEYDESC Unlock%0Ait+now\nPASSWD 81594C58EF1286E89015A30A5CC2072D343B3307\nPASSWD --verify 81594C58EF1286E89015A30A5CC2072D343B3307\n",
         answered: "OK\nOK\nOK\nOK\n",
@@ -306,7 +309,8 @@ pub(crate) const DESCRIPTIONS: &[Row] = &[
         dice: b"wraps a key 2415",
         ..KEYS
     },
-    // What is known of a key is asked between: the prompt for the old passphrase says what was described.
+    // What is known of a key is asked between: the prompt for the old passphrase says what was
+    // described.
     Row {
         sent: "OPTION s2k-count=65536\nSETKEYDESC Unlock%0Ait+now\nKEYINFO 81594C58EF1286E89015A30A5CC2072D343B3307\nPASSWD 81594C58EF1286E89015A30A5CC2072D343B3307\n",
         answered: "OK\nOK\nS KEYINFO 81594C58EF1286E89015A30A5CC2072D343B3307 D - - - P - - -\nOK\nOK\n",

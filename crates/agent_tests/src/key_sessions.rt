@@ -6,7 +6,8 @@ use crate::key_files::{
 };
 use crate::rows::{KEYS, Row};
 
-/// Keys are looked at, listed and deleted: what is sent and answered, with the key files before and behind it.
+/// Keys are looked at, listed and deleted: what is sent and answered, with the key files before and
+/// behind it.
 pub(crate) const LISTS: &[Row] = &[
     // What is known of a clear key, and its end.
     Row {
@@ -206,7 +207,8 @@ pub(crate) const EXPORTS: &[Row] = &[
         dice: b"wraps a key 2415 !\"#$%&'()*+,-./0123\xa0\xa1\xa2\xa3\xa4\xa5\xa6\xa7\xa8\xa9\xaa\xabdefghijklmnopqrs",
         ..KEYS
     },
-    // A nonce that is unknown, or under which a wrong passphrase is cached, gives way to what is cached for the key.
+    // A nonce that is unknown, or under which a wrong passphrase is cached, gives way to what is
+    // cached for the key.
     Row {
         sent: "KEYWRAP_KEY --export\nPRESET_PASSPHRASE wrong -1 61\nPRESET_PASSPHRASE 81594C58EF1286E89015A30A5CC2072D343B3307 -1 6162636465666731\nEXPORT_KEY --cache-nonce=unknown 81594C58EF1286E89015A30A5CC2072D343B3307\nEXPORT_KEY --cache-nonce=wrong 81594C58EF1286E89015A30A5CC2072D343B3307\n",
         answered: "D wraps a key 2415\nOK\nOK\nOK\nD %EE%8Fr%EDi=*?em%E4%D7%AFB;%B8G%D7%AC)%8B%85%D7%E14%CB%F3l&%D8GQ%FBcFg%BF%84%BFN%95%80%8D_.%AB%92%E0\nOK\nD %EE%8Fr%EDi=*?em%E4%D7%AFB;%B8G%D7%AC)%8B%85%D7%E14%CB%F3l&%D8GQ%FBcFg%BF%84%BFN%95%80%8D_.%AB%92%E0\nOK\n",
@@ -236,7 +238,8 @@ pub(crate) const EXPORTS: &[Row] = &[
 
 /// Keys come in: what is sent and answered, with the key files before and behind it.
 pub(crate) const IMPORTS: &[Row] = &[
-    // A key comes in and is protected by a new passphrase, which is cached under the key and under the nonce. By that its file is written anew, and opens by the same.
+    // A key comes in and is protected by a new passphrase, which is cached under the key and under
+    // the nonce. By that its file is written anew, and opens by the same.
     Row {
         sent: "OPTION s2k-count=65536\nKEYWRAP_KEY --import\nIMPORT_KEY\nD %EE%8F%72%ED%69%3D%2A%3F%65%6D%E4%D7%AF%42%3B%B8%47%D7%AC%29%8B%85%D7%E1%34%CB%F3%6C%26%D8%47%51%FB%63%46%67%BF%84%BF%4E%95%80%8D%5F%2E%AB%92%E0\nEND\nKEYINFO 81594C58EF1286E89015A30A5CC2072D343B3307\nPASSWD --cache-nonce=A0A1A2A3A4A5A6A7A8A9AAAB --passwd-nonce=A0A1A2A3A4A5A6A7A8A9AAAB 81594C58EF1286E89015A30A5CC2072D343B3307\nPASSWD --verify 81594C58EF1286E89015A30A5CC2072D343B3307\nIMPORT_KEY\nD %EE%8F%72%ED%69%3D%2A%3F%65%6D%E4%D7%AF%42%3B%B8%47%D7%AC%29%8B%85%D7%E1%34%CB%F3%6C%26%D8%47%51%FB%63%46%67%BF%84%BF%4E%95%80%8D%5F%2E%AB%92%E0\nEND\n",
         answered: "OK\nD wraps a key 2415\nOK\nS INQUIRE_MAXLEN 65544\nINQUIRE KEYDATA\nS CACHE_NONCE A0A1A2A3A4A5A6A7A8A9AAAB\nOK\nS KEYINFO 81594C58EF1286E89015A30A5CC2072D343B3307 D - - 1 P - - -\nOK\nOK\nOK\nS INQUIRE_MAXLEN 65544\nINQUIRE KEYDATA\nERR 67141667 File exists <GPG Agent>\n",
@@ -328,7 +331,8 @@ pub(crate) const IMPORTS: &[Row] = &[
         dice: b"wraps a key 2415",
         ..KEYS
     },
-    // A file that can't be written: General error, the nonce stays, and the key's passphrase isn't kept.
+    // A file that can't be written: General error, the nonce stays, and the key's passphrase isn't
+    // kept.
     Row {
         sent: "OPTION s2k-count=65536\nKEYWRAP_KEY --import\nIMPORT_KEY\nD %EE%8F%72%ED%69%3D%2A%3F%65%6D%E4%D7%AF%42%3B%B8%47%D7%AC%29%8B%85%D7%E1%34%CB%F3%6C%26%D8%47%51%FB%63%46%67%BF%84%BF%4E%95%80%8D%5F%2E%AB%92%E0\nEND\nIMPORT_KEY A0A1A2A3A4A5A6A7A8A9AAAB\nD %EE%8F%72%ED%69%3D%2A%3F%65%6D%E4%D7%AF%42%3B%B8%47%D7%AC%29%8B%85%D7%E1%34%CB%F3%6C%26%D8%47%51%FB%63%46%67%BF%84%BF%4E%95%80%8D%5F%2E%AB%92%E0\nEND\n",
         answered: "OK\nD wraps a key 2415\nOK\nS INQUIRE_MAXLEN 65544\nINQUIRE KEYDATA\nERR 67108865 General error <GPG Agent>\nS INQUIRE_MAXLEN 65544\nINQUIRE KEYDATA\nS CACHE_NONCE ABAAA9A8A7A6A5A4A3A2A1A0\nOK\n",
@@ -400,7 +404,8 @@ pub(crate) const CHANGES: &[Row] = &[
         dice: b" !\"#$%&'()*+,-./0123",
         ..KEYS
     },
-    // So is the file of a key that came in, whose passphrase is cached. The user verifies the new one, and doesn't let the key go.
+    // So is the file of a key that came in, whose passphrase is cached. The user verifies the new
+    // one, and doesn't let the key go.
     Row {
         sent: "OPTION s2k-count=65536\nPRESET_PASSPHRASE 81594C58EF1286E89015A30A5CC2072D343B3307 -1 6162636465666731\nPASSWD 81594C58EF1286E89015A30A5CC2072D343B3307\nPASSWD --verify 81594C58EF1286E89015A30A5CC2072D343B3307\nHAVEKEY 81594C58EF1286E89015A30A5CC2072D343B3307\nDELETE_KEY 81594C58EF1286E89015A30A5CC2072D343B3307\nHAVEKEY 81594C58EF1286E89015A30A5CC2072D343B3307\n",
         answered: "OK\nOK\nOK\nOK\nOK\nERR 83886194 Not confirmed <Pinentry>\nOK\n",
@@ -435,7 +440,8 @@ pub(crate) const CHANGES: &[Row] = &[
         dice: b"'&%$#\"! 3210/.-,+*)(",
         ..KEYS
     },
-    // A nonce gives the new passphrase, behind a prompt for the old one. An unknown nonce gives none.
+    // A nonce gives the new passphrase, behind a prompt for the old one. An unknown nonce gives
+    // none.
     Row {
         sent: "OPTION s2k-count=65536\nPRESET_PASSPHRASE new -1 68696a6b6c6d6e32\nPASSWD --passwd-nonce=new 81594C58EF1286E89015A30A5CC2072D343B3307\nKEYINFO 81594C58EF1286E89015A30A5CC2072D343B3307\nPASSWD --passwd-nonce=unknown 81594C58EF1286E89015A30A5CC2072D343B3307\nPASSWD --verify 81594C58EF1286E89015A30A5CC2072D343B3307\n",
         answered: "OK\nOK\nOK\nS KEYINFO 81594C58EF1286E89015A30A5CC2072D343B3307 D - - 1 P - - -\nOK\nOK\nOK\n",
@@ -553,7 +559,8 @@ pub(crate) const CHANGES: &[Row] = &[
     },
 ];
 
-/// Keys that can't be read, that the user lets go, and that aren't canonical: what is sent and answered, with the key files before and behind it.
+/// Keys that can't be read, that the user lets go, and that aren't canonical: what is sent and
+/// answered, with the key files before and behind it.
 pub(crate) const OTHERS: &[Row] = &[
     // Keys that can't be read.
     Row {

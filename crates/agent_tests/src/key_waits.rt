@@ -3,7 +3,8 @@
 use crate::key_files::{BY_CBC, BY_OCB, CHANGED, CLEAR, GRIP};
 use crate::rows::{KEYS, Row};
 
-/// Another session has had the seat for a minute, and then lets it go: what is sent and answered, with the key files before and behind it.
+/// Another session has had the seat for a minute, and then lets it go: what is sent and answered,
+/// with the key files before and behind it.
 pub(crate) const LATE: &[Row] = &[
     // For an export.
     Row {
@@ -116,7 +117,8 @@ pub(crate) const LATE: &[Row] = &[
     },
 ];
 
-/// Another session has the seat throughout, and none is wanted: six turns on the cache: what is sent and answered, with the key files before and behind it.
+/// Another session has the seat throughout, and none is wanted: six turns on the cache: what is
+/// sent and answered, with the key files before and behind it.
 pub(crate) const BESIDE: &[Row] = &[
     // Nonces give the old passphrase and the new one, which is kept.
     Row {
@@ -146,7 +148,8 @@ pub(crate) const BESIDE: &[Row] = &[
     },
 ];
 
-/// Another session lets the seat go before the fifth turn on the cache is over: what is sent and answered, with the key files before and behind it.
+/// Another session lets the seat go before the fifth turn on the cache is over: what is sent and
+/// answered, with the key files before and behind it.
 pub(crate) const BEHIND: &[Row] = &[
     // An unknown nonce gives no new passphrase, and the prompt for one waits for the seat.
     Row {

@@ -11,7 +11,8 @@ use std::alloc::{AllocError, Global};
 use std::sync::Wait;
 use std::test::Fail;
 
-/// A file that a letter fills: what stands before it, how often it stands there, and what stands behind it.
+/// A file that a letter fills: what stands before it, how often it stands there, and what stands
+/// behind it.
 #[derive(Clone, Copy)]
 pub(crate) struct Filled {
     pub(crate) front: &'static [u8],
@@ -25,7 +26,8 @@ pub(crate) struct Filled {
 pub(crate) struct Large {
     pub(crate) row: Row,
     pub(crate) grip: &'static str,
-    /// A key that comes in: in what is sent `@` stands for its data lines, as EXPORT_KEY gives them.
+    /// A key that comes in: in what is sent `@` stands for its data lines, as EXPORT_KEY gives
+    /// them.
     pub(crate) wrapped: Option<Filled>,
     pub(crate) before: Option<Filled>,
     pub(crate) after: Option<Filled>,

@@ -1,4 +1,5 @@
-//! Tests of sessions: what a prompt is asked and answers, requests read, and whole sessions and runs of the agent from bytes to bytes.
+//! Tests of sessions: what a prompt is asked and answers, requests read, and whole sessions and
+//! runs of the agent from bytes to bytes.
 //!
 //! They stand in a crate of their own since a crate with tests is proved twice.
 #![tactic(auto)]

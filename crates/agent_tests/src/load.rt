@@ -33,8 +33,8 @@ enum Outcome {
     Cleared,
 }
 
-/// What the book doesn't know of a put, which is endless there: its last use, how many seconds it lives behind that, and whether it was
-/// cleared.
+/// What the book doesn't know of a put, which is endless there: its last use, how many seconds it
+/// lives behind that, and whether it was cleared.
 #[derive(Drop)]
 struct Put {
     last_use: u64,

@@ -215,7 +215,8 @@ fn comment(alloc: Global, len: usize) -> Result<Vec<u8>, AllocError> {
     Ok(line)
 }
 
-/// What is asked, and what a child gives before and behind a comment of so many bytes. Then what that means.
+/// What is asked, and what a child gives before and behind a comment of so many bytes. Then what
+/// that means.
 const LONG_LINES: [(Asks, &[u8], usize, &[u8], &[u8]); 7] = [
     (Asks::Nothing, b"", 1000, OPENED, b"pid 7"),
     (Asks::Nothing, b"", 1001, OPENED, b"too long"),
@@ -281,7 +282,8 @@ fn all_that_is_given_is_told_in_its_order(rt: HostRuntime) -> Result<(), Fail> {
     Ok(())
 }
 
-/// What is asked, what the child answers behind the start, what that means, and what is written behind the question.
+/// What is asked, what the child answers behind the start, what that means, and what is written
+/// behind the question.
 const ANSWERS: [(Asks, &[u8], &[u8], &[u8]); 22] = [
     (
         Asks::Pin(b""),

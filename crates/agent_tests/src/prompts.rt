@@ -40,7 +40,8 @@ pub(crate) const AFTER_GPG: Opening = (
 /// How its prompt begins, what the child gives behind that, and what it is written behind that.
 pub(crate) type Child = (Opening, &'static str, &'static str);
 
-/// What the client sends, what it is answered behind the greeting, and the children. A text may have repeated parts, as `{part*3}`.
+/// What the client sends, what it is answered behind the greeting, and the children. A text may
+/// have repeated parts, as `{part*3}`.
 pub(crate) const PROMPTS: [(&str, &str, &[Child]); 35] = [
     // As it is typed, with escapes, and of no bytes. It is kept.
     (

@@ -106,7 +106,8 @@ fn told_quiet(alloc: Global, line: &Line) -> Result<String, AllocError> {
     }
 }
 
-/// The first row whose line is read as something else, with what it is read as. Empty where there is none.
+/// The first row whose line is read as something else, with what it is read as. Empty where there
+/// is none.
 fn first_wrong(alloc: Global, rows: &[(&str, &str)], quiet: bool) -> Result<String, Fail> {
     for (bytes, want) in rows {
         let line = Line::of(bytes.as_bytes()).ok_or("no line")?;

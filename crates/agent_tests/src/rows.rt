@@ -15,7 +15,8 @@ use std::sync::Wait;
 /// The file of a key, by its grip.
 pub(crate) type KeyFile = (&'static str, &'static [u8]);
 
-/// A session over memory: what it is given, and what comes of it. In a text `{part*3}` stands for three times that part.
+/// A session over memory: what it is given, and what comes of it. In a text `{part*3}` stands for
+/// three times that part.
 #[derive(Clone, Copy)]
 pub(crate) struct Row {
     pub(crate) sent: &'static str,
@@ -26,7 +27,8 @@ pub(crate) struct Row {
     pub(crate) allow_preset: bool,
     pub(crate) allow_loopback: bool,
     pub(crate) children: &'static [Child],
-    /// The key files before the session, by their grips, and those behind it, where they are looked at.
+    /// The key files before the session, by their grips, and those behind it, where they are looked
+    /// at.
     pub(crate) files: &'static [KeyFile],
     pub(crate) files_after: Option<&'static [KeyFile]>,
     /// The bytes to draw.
@@ -40,7 +42,8 @@ pub(crate) struct Row {
     pub(crate) writes: &'static [u64],
     /// What the clock gives.
     pub(crate) readings: &'static [u64],
-    /// The most bytes that a read gives, of the client and of the children, each in a session of its own.
+    /// The most bytes that a read gives, of the client and of the children, each in a session of
+    /// its own.
     pub(crate) pieces: &'static [usize],
 }
 
@@ -84,7 +87,8 @@ pub(crate) fn text_of(alloc: Global, text: &str) -> Result<String, AllocError> {
     Ok(all)
 }
 
-/// A machine with these children and keys, whose clock gives these readings. Its process has the number 17.
+/// A machine with these children and keys, whose clock gives these readings. Its process has the
+/// number 17.
 pub(crate) fn machine<'a, W: Wait>(
     rt: &'a W,
     alloc: Global,
@@ -182,8 +186,8 @@ pub(crate) fn rules_of(row: &Row) -> Rules {
     rules
 }
 
-/// What is to come of a row: what the client is written, the status, and for each child the usual program and what it is written, of
-/// the last one first.
+/// What is to come of a row: what the client is written, the status, and for each child the usual
+/// program and what it is written, of the last one first.
 pub(crate) fn wanted(alloc: Global, row: &Row) -> Result<String, AllocError> {
     let answered = text_of(alloc, row.answered)?;
     let mut all = format!(in alloc; "{}{answered}{}", row.greeting, row.status)?;

@@ -65,7 +65,8 @@ fn foreign(does: Bob) -> Foreign
 
 /// The lists of a script, in each of which Bob does one thing or nothing.
 fn script_of(alloc: Global, does: &[Option<Bob>]) -> Result<Vec<Vec<Foreign>>, AllocError>
-    ensures { IfOk result (λ script. AllForeign (record { pass = 0; count = 0 }) (map (λ list. list.items) script.items)) }
+    ensures { IfOk result (λ script.
+        AllForeign (record { pass = 0; count = 0 }) (map (λ list. list.items) script.items)) }
 {
     let mut script = Vec::new(alloc);
     for does in does {
@@ -79,7 +80,8 @@ fn script_of(alloc: Global, does: &[Option<Bob>]) -> Result<Vec<Vec<Foreign>>, A
 }
 
 fn one_step(alloc: Global, does: Bob) -> Result<Vec<Foreign>, AllocError>
-    ensures { IfOk result (λ list. AllByRecursion (IsForeign (record { pass = 0; count = 0 })) list.items) }
+    ensures { IfOk result
+        (λ list. AllByRecursion (IsForeign (record { pass = 0; count = 0 })) list.items) }
 {
     let mut list = Vec::new(alloc);
     list.push(foreign(does))?;
@@ -88,8 +90,10 @@ fn one_step(alloc: Global, does: Bob) -> Result<Vec<Foreign>, AllocError>
 
 fn add_list(script: &mut Vec<Vec<Foreign>>, list: Vec<Foreign>) -> Result<(), AllocError>
     requires list { AllByRecursion (IsForeign (record { pass = 0; count = 0 })) list.items }
-    requires before { AllForeign (record { pass = 0; count = 0 }) (map (λ list. list.items) script.old.items) }
-    ensures { AllForeign (record { pass = 0; count = 0 }) (map (λ list. list.items) script.new.items) }
+    requires before { AllForeign (record { pass = 0; count = 0 })
+        (map (λ list. list.items) script.old.items) }
+    ensures { AllForeign (record { pass = 0; count = 0 })
+        (map (λ list. list.items) script.new.items) }
 {
     script.push(list)?;
     Ok(())
@@ -112,7 +116,8 @@ fn bobs_replies<C: Clock>(alloc: Global, desk: &Solo<'_, C>) -> Result<String, A
     Ok(all)
 }
 
-/// Serves a session of Alice's whose clock goes on by so many seconds from each reading to the next: what comes of it, and of Bob's steps.
+/// Serves a session of Alice's whose clock goes on by so many seconds from each reading to the
+/// next: what comes of it, and of Bob's steps.
 fn served_beside(
     alloc: Global,
     seconds: u64,
@@ -156,7 +161,8 @@ fn program() -> Word {
     word
 }
 
-/// What Bob does before each turn and while it stands, in how many seconds each, what he is replied, and Alice's sessions.
+/// What Bob does before each turn and while it stands, in how many seconds each, what he is
+/// replied, and Alice's sessions.
 type Beside = (&'static [Option<Bob>], u64, &'static str, &'static [Row]);
 
 const BESIDES: [Beside; 5] = [
@@ -172,7 +178,8 @@ const BESIDES: [Beside; 5] = [
             ..PLAIN
         }],
     ),
-    // Bob asks at 0 seconds, and Alice at 31, 62 and 93: a request that stood for a minute is a timeout.
+    // Bob asks at 0 seconds, and Alice at 31, 62 and 93: a request that stood for a minute is a
+    // timeout.
     (
         &[Some(Bob::Asks(Way::Prompt)), None, None, Some(Bob::Closes)],
         31,

@@ -69,7 +69,8 @@ pub(crate) fn parts(alloc: Global) -> Result<MemParts, AllocError> {
     })
 }
 
-/// At which pass a session is, the door that it came in by, what its client sends, and what that is answered.
+/// At which pass a session is, the door that it came in by, what its client sends, and what that is
+/// answered.
 type Row = (usize, Door, &'static str, &'static str);
 
 const ROWS: [Row; 4] = [
@@ -115,7 +116,8 @@ const RESTRICTED: [Row; 2] = [
     ),
 ];
 
-/// What came of rows: the first that was answered otherwise, what the second pass had made and seen, and what was done.
+/// What came of rows: the first that was answered otherwise, what the second pass had made and
+/// seen, and what was done.
 #[derive(Clone, Copy, Debug, PartialEq, Eq)]
 struct Came {
     wrong: Option<usize>,
@@ -170,10 +172,15 @@ fn served_at<W: Wait + Clock>(
     door: Door,
     link: &mut MemLink,
 ) -> Three
-    requires own { (passes.0.table ≡ counted.now.table) × (passes.1.table ≡ counted.now.table) × (passes.2.table ≡ counted.now.table) }
-    requires few { (passes.0.sessions < 1000) × (passes.1.sessions < 1000) × (passes.2.sessions < 1000) }
-    ensures own { (result.0.table ≡ counted.now.table) × (result.1.table ≡ counted.now.table) × (result.2.table ≡ counted.now.table) }
-    ensures few { (result.0.sessions ≤ passes.0.sessions + 1) × (result.1.sessions ≤ passes.1.sessions + 1) × (result.2.sessions ≤ passes.2.sessions + 1) }
+    requires own { (passes.0.table ≡ counted.now.table) × (passes.1.table ≡ counted.now.table)
+        × (passes.2.table ≡ counted.now.table) }
+    requires few { (passes.0.sessions < 1000) × (passes.1.sessions < 1000)
+        × (passes.2.sessions < 1000) }
+    ensures own { (result.0.table ≡ counted.now.table) × (result.1.table ≡ counted.now.table)
+        × (result.2.table ≡ counted.now.table) }
+    ensures few { (result.0.sessions ≤ passes.0.sessions + 1)
+        × (result.1.sessions ≤ passes.1.sessions + 1)
+        × (result.2.sessions ≤ passes.2.sessions + 1) }
 {
     let (first, second, third) = passes;
     match whose {
@@ -203,9 +210,11 @@ fn served_rows<W: Wait + Clock>(
     rows: &[Row],
 ) -> (Option<usize>, Three)
     requires few { length rows.now < 1000 }
-    requires own { (passes.0.table ≡ counted.now.table) × (passes.1.table ≡ counted.now.table) × (passes.2.table ≡ counted.now.table) }
+    requires own { (passes.0.table ≡ counted.now.table) × (passes.1.table ≡ counted.now.table)
+        × (passes.2.table ≡ counted.now.table) }
     requires new { (passes.0.sessions ≡ 0) × (passes.1.sessions ≡ 0) × (passes.2.sessions ≡ 0) }
-    ensures own { (result.1.0.table ≡ counted.now.table) × (result.1.1.table ≡ counted.now.table) × (result.1.2.table ≡ counted.now.table) }
+    ensures own { (result.1.0.table ≡ counted.now.table) × (result.1.1.table ≡ counted.now.table)
+        × (result.1.2.table ≡ counted.now.table) }
 {
     let mut passes = passes;
     let mut wrong = None;
@@ -315,8 +324,9 @@ pub(crate) fn planned(
     })
 }
 
-/// What came of two workers, of whose sessions one is held at its open prompt until one that began meanwhile has ended: how many links were
-/// written the answer of a prompt and how many that of the cache alone, and what the gate tells.
+/// What came of two workers, of whose sessions one is held at its open prompt until one that began
+/// meanwhile has ended: how many links were written the answer of a prompt and how many that of the
+/// cache alone, and what the gate tells.
 #[derive(Debug, PartialEq, Eq, Drop)]
 struct Beside {
     prompted: usize,
@@ -326,7 +336,8 @@ struct Beside {
     gave_up: bool,
 }
 
-/// A daemon as its sessions pass a gate: as it is, one that doesn't tell where a prompt is open, and one that serves one session at a time.
+/// A daemon as its sessions pass a gate: as it is, one that doesn't tell where a prompt is open,
+/// and one that serves one session at a time.
 #[derive(Clone, Copy, Debug, PartialEq, Eq)]
 enum Daemon {
     AsItIs,
@@ -379,8 +390,8 @@ fn written<W: Wait>(
     String::from_utf8_lossy(alloc, links.written(place).unwrap_or(b""))
 }
 
-/// A machine whose daemon has these links, and where there are some those for its extra listener, and parts. The calls for a listener of these
-/// numbers, from 0, fail.
+/// A machine whose daemon has these links, and where there are some those for its extra listener,
+/// and parts. The calls for a listener of these numbers, from 0, fail.
 pub(crate) fn host_of<'l, W: Wait, G: Gate + Drop>(
     rt: &'l W,
     alloc: Global,
@@ -467,7 +478,8 @@ fn run_beside<W: Threads + Wait + Clock + Sync>(
     let passes = run_at_home(rt, alloc, &host, &listener, &counted, passes, ears);
     let opened = counted.close(passes).opened;
     let gate = &host.gate().gate;
-    // The first session of the other worker may have ended before the prompt was open, and its second one began behind that.
+    // The first session of the other worker may have ended before the prompt was open, and its
+    // second one began behind that.
     let late = gate.held() && gate.ended_before() > 1;
     Ok(Some(Beside {
         prompted: how_many(rt, alloc, &links, "D pin\nOK\n")?,
@@ -525,7 +537,8 @@ fn a_second_session_is_answered_while_the_first_prompt_is_open(
     Ok(())
 }
 
-/// Has one worker serve so many links: how many sessions its pass has had, and how many links were answered.
+/// Has one worker serve so many links: how many sessions its pass has had, and how many links were
+/// answered.
 fn run_many<W: Threads + Wait + Clock + Sync>(
     rt: &W,
     alloc: Global,

@@ -277,7 +277,8 @@ const SESSIONS: &[Row] = &[
         pieces: &[4096],
         ..PLAIN
     },
-    // The seat is free behind a launch that failed. Nothing is cached by it, and what was cached stays.
+    // The seat is free behind a launch that failed. Nothing is cached by it, and what was cached
+    // stays.
     Row {
         sent: "PRESET_PASSPHRASE id2 -1 61\nGET_PASSPHRASE --data id1 X X X\nGET_PASSPHRASE --no-ask id1\nGET_PASSPHRASE id2\nGET_PASSPHRASE --data id1 X X X\n",
         answered: "OK\nERR 67108950 No pinentry <GPG Agent>\nERR 67108922 No data <GPG Agent>\nOK 61\nD pin\nOK\n",
@@ -345,7 +346,8 @@ fn prompts_go_as_their_rows_say(rt: HostRuntime) -> Result<(), Fail> {
 const PRESETS: &str =
     "GETINFO pid\nPRESET_PASSPHRASE id1 -1 736563726574\nGET_PASSPHRASE --no-ask --data id1\nBYE\nNOP\n";
 
-/// The words, what the client sends, the status, and a part of what it is answered, with the programs that were launched.
+/// The words, what the client sends, the status, and a part of what it is answered, with the
+/// programs that were launched.
 const WORDS: [(&[&str], &str, u8, &str); 12] = [
     (
         &["--server", "--allow-preset-passphrase"],
@@ -406,7 +408,8 @@ const PROMPTED: Row = Row {
     ..PLAIN
 };
 
-/// What came of a run of the agent: its status, what was written and launched, and where the host was settled.
+/// What came of a run of the agent: its status, what was written and launched, and where the host
+/// was settled.
 #[derive(Drop)]
 struct Run {
     status: u8,
@@ -483,7 +486,8 @@ fn the_host_is_settled_at_the_folder_of_the_words(rt: HostRuntime) -> Result<(),
     Ok(())
 }
 
-/// A link that gives each byte only once so many were written, and else fails: a client that waits for its answers.
+/// A link that gives each byte only once so many were written, and else fails: a client that waits
+/// for its answers.
 #[derive(Drop)]
 struct WaitingLink {
     /// Each byte, behind how many must have been written before it.

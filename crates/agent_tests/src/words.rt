@@ -46,7 +46,8 @@ fn told_flags(alloc: Global, rules: &Rules) -> Result<String, AllocError> {
 
 const REFUSED: &str = "unknown or faulty words on the command line";
 
-/// A command line, and what it is read as. Each blank parts two of its words; an empty one has none. A text may have repeated parts, as `{part*3}`.
+/// A command line, and what it is read as. Each blank parts two of its words; an empty one has
+/// none. A text may have repeated parts, as `{part*3}`.
 const LINES: [(&str, &str); 61] = [
     // Defaults stand for what isn't given.
     (

@@ -1,4 +1,5 @@
 -- Runs of the agent, and sessions of its daemon: each error line has its cause, and where no count rose each request is answered.
+use Rattle.std.specs.List.{AllByRecursion}
 use Rattle.std.proofs.Common.{◌+◌, ◌-◌, ◌^◌, ℕ, min, arith}
 use Rattle.agent_ask.specs.Events.{Call}
 use Rattle.agent_ask.specs.Prompters.{IsCall}
@@ -13,9 +14,10 @@ use Rattle.agent_ports.specs.Readings.{Readings}
 use Rattle.agent_ports.specs.TrustFiles.{TrustState}
 use Rattle.agent_ports.specs.declared.session.SessionId.{SessionId}
 use Rattle.agent_serve.specs.Serves.{LinkSides, ServesOne}
-use Rattle.agent_session.proofs.Answering.{each_caused, all_answered}
-use Rattle.agent_session.proofs.DoorAnswering.{each_caused_at_door, all_answered_at_door}
-use Rattle.agent_session.specs.DoorCompleteness.{AnswersAllAtDoor, CausedAtDoor, Remembers}
+use Rattle.agent_session.proofs.Answering.{in_session, each_caused, all_answered}
+use Rattle.agent_session.proofs.DoorAnswering.{at_door}
+use Rattle.agent_session.specs.Completeness.{Remembers, AnswersAll}
+use Rattle.agent_session.specs.DoorCompleteness.{CausedAtDoor, FaultlessAtDoor}
 use Rattle.counted_lock.specs.Passes.{AtPass}
 use Rattle.counted_lock.specs.Turns.{CountedTurn}
 use Rattle.pinentry_client.specs.Dialogues.{PinentryDoes}
@@ -35,24 +37,25 @@ module _ (promise : (before : AtPinentry) (call : Call) (after : AtPinentry) →
       → IsAnsweredRun rules before number after runs
   server_answered {rules} {before} {after} (ran run) still =
       answered (ends_by_client run still.link)
-      (all_answered TurnsSolo PinentryDoes at_prompter promise rules _ _ run.end run.served (record {
+      (all_answered (in_session rules) TurnsSolo PinentryDoes at_prompter promise rules _ _ run.end run.served (record {
         input = still.link.input;
         output = still.link.output;
         prompter = stands_still before.launches.faults after.launches.faults still.launches;
         keys = still.keys;
         dice = still.dice;
+        trust = λ rose. absurd (omega (arith, rose));
       }))
   server_answered top.no_memory still = no_session
 
   pub server_caused : {rules : Rules} {before after : Machine} {number : ℕ} (runs : RunsServer rules before number after) → IsCausedRun runs
-  server_caused {rules} (ran run) = each_caused TurnsSolo PinentryDoes at_prompter promise rules _ _ run.end run.served
+  server_caused {rules} (ran run) = each_caused (in_session rules) TurnsSolo PinentryDoes at_prompter promise rules _ _ run.end run.served
   server_caused top.no_memory = tt
 
   module _ {La C R K T : Type 0} {views : Views La C R K} {trusts : T → TrustState} {folder : InFolder K T} {rules : Rules} {door : Door} {session : SessionId} {before after : LinkSides} {pass now : AtPass} {end : SessionEnd}
       (one : ServesOne views trusts folder rules door session before pass end after now) where
-    pub daemon_answered : NoFaultOfOne one → Remembers one.served.events → AnswersAllAtDoor door rules one.served.events end
+    pub daemon_answered : NoFaultOfOne one → AllByRecursion Remembers one.served.events → AnswersAll (FaultlessAtDoor door rules) rules one.served.events end
     daemon_answered still remembers =
-        all_answered_at_door (CountedTurn (λ (readings : Readings). readings)) PinentryDoes at_prompter promise door rules _ _ end one.served
+        all_answered (at_door door rules) (CountedTurn (λ (readings : Readings). readings)) PinentryDoes at_prompter promise rules _ _ end one.served
         (record {
           input = still.input;
           output = still.output;
@@ -64,4 +67,4 @@ module _ (promise : (before : AtPinentry) (call : Call) (after : AtPinentry) →
         remembers
 
     pub daemon_caused : Session (CausedAtDoor door rules) (kept_at_start rules) one.served.events end
-    daemon_caused = each_caused_at_door (CountedTurn (λ (readings : Readings). readings)) PinentryDoes at_prompter promise door rules _ _ end one.served
+    daemon_caused = each_caused (at_door door rules) (CountedTurn (λ (readings : Readings). readings)) PinentryDoes at_prompter promise rules _ _ end one.served

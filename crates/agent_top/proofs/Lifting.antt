@@ -1,5 +1,5 @@
 -- A session at the desk is one at what the desk shows.
-use Rattle.agent_ask.specs.Further.{FurtherEvent, prompt, keys, dice, no_memory}
+use Rattle.agent_ask.specs.Further.{FurtherEvent, prompt, keys, dice, trust, no_memory}
 use Rattle.std.proofs.Common.{◌≡◌, ℕ, List, [], Option, None, Some, false, ◌∷◌, inr, refl, ap, ◌∙◌, subst, arith}
 use Rattle.std.specs.Prelude.{is_some}
 use Rattle.agent_core.specs.Solos.{SoloState, AtSolo, seen, at_desk, TurnsSolo, SoloTurn}
@@ -24,9 +24,9 @@ use Rattle.agent_ask.specs.Worlds.{Outside, Does, received, sent, cut, asked, no
 use Rattle.agent_commands.specs.declared.went.SessionEnd.{SessionEnd}
 use Rattle.agent_origin.proofs.Turning.{turns_lead}
 use Rattle.agent_origin.specs.Sessions.{ends_with, supply_of}
-use Rattle.agent_session.specs.Sessions.{surroundings, ServesRules}
+use Rattle.agent_session.specs.Sessions.{without_trust, ServesRules}
 use Rattle.assuan_client.specs.Connections.{Connection}
-use Rattle.key_commands.specs.States.{KeyWorld}
+use Rattle.agent_origin.specs.FurtherStates.{FurtherWorld}
 use Rattle.pinentry_client.specs.Dialogues.{PinentryDoes, PinentryCall}
 use Rattle.pinentry_client.specs.States.{PinentryState, AtPinentry, at_pinentry, at_prompter}
 use Rattle.session_options.specs.declared.rules.Rules.{Rules}
@@ -35,10 +35,10 @@ use Rattle.agent_top.specs.Top.{machine, no_child, RunsServer, ran, exit_number,
 
 -- a session at a desk and with a pinentry, and what they show of it
 abbrev pub held_world : {C La : Type 0} → (C → Readings) → (La → Launches) → World
-held_world readings launches = KeyWorld (SoloTurn readings) (PinentryCall launches)
+held_world readings launches = FurtherWorld (SoloTurn readings) (PinentryCall launches)
 
 abbrev pub seen_world : World
-seen_world = KeyWorld TurnsSolo PinentryDoes
+seen_world = FurtherWorld TurnsSolo PinentryDoes
 
 module _ {C La : Type 0} (readings : C → Readings) (launches : La → Launches) (supply : session_lines.Supply) where
   -- the ends with what the desk and the pinentry show in their place
@@ -48,7 +48,7 @@ module _ {C La : Type 0} (readings : C → Readings) (launches : La → Launches
     source = ends.source;
     output = ends.output;
     desk = seen readings ends.desk;
-    ends = record { prompter = at_pinentry launches ends.ends.prompter; keys = ends.ends.keys; dice = ends.ends.dice };
+    ends = record { prompter = at_pinentry launches ends.ends.prompter; keys = ends.ends.keys; dice = ends.ends.dice; trust = ends.ends.trust };
   }
 
   pub record Lifts (before after : Outside (held_world readings launches)) (events : List (Event FurtherEvent)) : Type 0 where
@@ -70,6 +70,7 @@ module _ {C La : Type 0} (readings : C → Readings) (launches : La → Launches
   lifts (one (further (prompt out_of_memory)) more) = let r = lifts more in record { leads = one (further (prompt out_of_memory)) r.leads; lent = r.lent; launcher = r.launcher; program = r.program }
   lifts (one (further (keys does)) more) = let r = lifts more in record { leads = one (further (keys does)) r.leads; lent = r.lent; launcher = r.launcher; program = r.program }
   lifts (one (further (dice does)) more) = let r = lifts more in record { leads = one (further (dice does)) r.leads; lent = r.lent; launcher = r.launcher; program = r.program }
+  lifts (one (further (trust does)) more) = let r = lifts more in record { leads = one (further (trust does)) r.leads; lent = r.lent; launcher = r.launcher; program = r.program }
   lifts (one (further no_memory) more) = let r = lifts more in record { leads = one (further no_memory) r.leads; lent = r.lent; launcher = r.launcher; program = r.program }
 
 -- the run goes on by the turns of the events
@@ -100,11 +101,11 @@ module _ {C La : Type 0} (readings : C → Readings) (launches : La → Launches
     (pinentry pinentry_now : PinentryState La) (files files_now : KeyFiles) (draws draws_now : Side) (end : SessionEnd)
     (fresh : seen readings desk ≡ fresh_desk (limits_of rules) (readings desk.clock))
     (unused : at_pinentry launches pinentry ≡ no_child rules (launches pinentry.launcher))
-    (served : ServesRules (SoloTurn readings) (PinentryCall launches) rules (surroundings (SoloTurn readings) (PinentryCall launches) input output desk pinentry files draws) end
-    (surroundings (SoloTurn readings) (PinentryCall launches) input_now output_now desk_now pinentry_now files_now draws_now))
+    (served : ServesRules (SoloTurn readings) (PinentryCall launches) rules (without_trust (SoloTurn readings) (PinentryCall launches) input output desk pinentry files draws) end
+    (without_trust (SoloTurn readings) (PinentryCall launches) input_now output_now desk_now pinentry_now files_now draws_now))
     (free : (seen readings desk_now).out ≡ None) (shut : IsShut (at_prompter (at_pinentry launches pinentry_now))) where
-  lifted : Lifts readings launches (supply_of input.bytes) (ends_with input.bytes (surroundings (SoloTurn readings) (PinentryCall launches) input output desk pinentry files draws))
-      (ends_with served.rest (surroundings (SoloTurn readings) (PinentryCall launches) input_now output_now desk_now pinentry_now files_now draws_now)) served.events
+  lifted : Lifts readings launches (supply_of input.bytes) (ends_with input.bytes (without_trust (SoloTurn readings) (PinentryCall launches) input output desk pinentry files draws))
+      (ends_with served.rest (without_trust (SoloTurn readings) (PinentryCall launches) input_now output_now desk_now pinentry_now files_now draws_now)) served.events
   lifted = lifts readings launches (supply_of input.bytes) served.leads
 
   -- in the end the pinentry is shut
@@ -114,8 +115,8 @@ module _ {C La : Type 0} (readings : C → Readings) (launches : La → Launches
   -- the desk as it begins
   abbrev leads_from : AtSolo → AtPinentry → AtPinentry → Type 0
   leads_from from asks asks_now =
-      Leads (Does seen_world (supply_of input.bytes)) (ends_with input.bytes (surroundings TurnsSolo PinentryDoes input output from asks files draws)) served.events
-      (ends_with served.rest (surroundings TurnsSolo PinentryDoes input_now output_now (seen readings desk_now) asks_now files_now draws_now))
+      Leads (Does seen_world (supply_of input.bytes)) (ends_with input.bytes (without_trust TurnsSolo PinentryDoes input output from asks files draws)) served.events
+      (ends_with served.rest (without_trust TurnsSolo PinentryDoes input_now output_now (seen readings desk_now) asks_now files_now draws_now))
 
   session_leads : leads_from (fresh_desk (limits_of rules) (readings desk.clock)) (no_child rules (launches pinentry.launcher)) (no_child rules (launches pinentry_now.launcher))
   session_leads =

@@ -8,8 +8,7 @@ use Rattle.agent_ports.specs.HostParts.{Views, InFolder}
 use Rattle.agent_ports.specs.TrustFiles.{TrustState}
 use Rattle.agent_ports.specs.declared.session.SessionId.{SessionId}
 use Rattle.agent_serve.specs.Serves.{LinkSides, ServesOne}
-use Rattle.agent_session.specs.Causes.{WantsMemory}
-use Rattle.agent_session.specs.Completeness.{CausedExchange, AnswersAll}
+use Rattle.agent_session.specs.Completeness.{Remembers, AnswersAll, CausedInSession, FaultlessInSession}
 use Rattle.agent_origin.specs.SessionExchanges.{kept_at_start}
 use Rattle.agent_origin.specs.declared.door.Door.{Door}
 use Rattle.counted_lock.specs.Passes.{AtPass}
@@ -45,12 +44,12 @@ pub data SessionEndsWell : ℕ → Type 0 where
 -- events is a want of memory. Or there was no memory for a session, and nothing was read or written.
 pub data IsAnsweredRun (rules : Rules) (before : Machine) : (number : ℕ) (after : Machine) → RunsServer rules before number after → Type 0 where
   answered : {number : ℕ} {after : Machine} {run : RunsSession rules before number after} → SessionEndsByClient number
-      → (AllByRecursion (λ event. ¬ WantsMemory event) run.served.events → AnswersAll rules run.served.events run.end) → IsAnsweredRun rules before number after (ran run)
+      → (AllByRecursion Remembers run.served.events → AnswersAll (FaultlessInSession rules) rules run.served.events run.end) → IsAnsweredRun rules before number after (ran run)
   no_session : IsAnsweredRun rules before (exit_number status.NoMemory) before top.no_memory
 
 -- in each exchange of a run each error line has its cause
 abbrev pub IsCausedRun : {rules : Rules} {before : Machine} {number : ℕ} {after : Machine} → RunsServer rules before number after → Type 0
-IsCausedRun {rules} (ran run) = Session (CausedExchange rules) (kept_at_start rules) run.served.events run.end
+IsCausedRun {rules} (ran run) = Session (CausedInSession rules) (kept_at_start rules) run.served.events run.end
 IsCausedRun top.no_memory = ⊤
 
 -- No count that a session of a daemon has to do with has risen: of neither side of its link, nor of its launcher, its key files, its random bytes and its

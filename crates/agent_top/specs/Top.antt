@@ -22,8 +22,8 @@ use Rattle.agent_ask.specs.SessionEvents.{turns_in}
 use Rattle.agent_commands.specs.declared.went.SessionEnd.{SessionEnd}
 use Rattle.agent_commands.specs.declared.went.SessionEnd.TheVariants.{Bye, Killed, Ended, TooLong, Spent, ReadFault, WriteFault}
 use Rattle.agent_origin.specs.Sessions.{Surroundings}
-use Rattle.agent_session.specs.Sessions.{surroundings, ServesRules}
-use Rattle.key_commands.specs.States.{KeyWorld}
+use Rattle.agent_session.specs.Sessions.{without_trust, ServesRules}
+use Rattle.agent_origin.specs.FurtherStates.{FurtherWorld}
 use Rattle.pinentry_client.specs.Dialogues.{PinentryDoes}
 use Rattle.pinentry_client.specs.States.{AtPinentry, idle}
 use Rattle.agent_top.specs.Cache.{limits_of, session, fresh_desk}
@@ -69,8 +69,8 @@ no_child rules launches = idle rules.pinentry.items launches
 
 -- the machine as a session's surroundings: with this desk, and the rules' pinentry without a
 -- child
-abbrev pub with_desk : Rules → AtSolo → Machine → Surroundings (KeyWorld TurnsSolo PinentryDoes)
-with_desk rules desk around = surroundings TurnsSolo PinentryDoes around.input around.output desk (no_child rules around.launches) around.keys around.dice
+abbrev pub with_desk : Rules → AtSolo → Machine → Surroundings (FurtherWorld TurnsSolo PinentryDoes)
+with_desk rules desk around = without_trust TurnsSolo PinentryDoes around.input around.output desk (no_child rules around.launches) around.keys around.dice
 
 -- The run is the replay of the turns that made a mark, none of which waited: no step has a since. Each turn took one reading of the clock, and
 -- nothing else did.

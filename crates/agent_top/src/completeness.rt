@@ -8,8 +8,7 @@ ghost use Rattle.agent_commands.specs.declared.went.Went.{Went};
 ghost use Rattle.agent_origin.specs.DoorSessions.{DoorExchange};
 ghost use Rattle.agent_origin.specs.Doors.{allowed};
 ghost use Rattle.agent_origin.specs.Names.{door_command_named};
-ghost use Rattle.agent_origin.specs.OriginEvents.{Event};
-ghost use Rattle.agent_origin.specs.Origins.{origin_world};
+ghost use Rattle.agent_origin.specs.FurtherStates.{FurtherWorld};
 ghost use Rattle.agent_origin.specs.SessionExchanges.{kept_at_start};
 ghost use Rattle.agent_origin.specs.declared.door.Door.{Door};
 ghost use Rattle.agent_origin.specs.declared.kept.Kept.{Kept};
@@ -18,11 +17,12 @@ ghost use Rattle.agent_ports.specs.Leads.{Leads};
 ghost use Rattle.agent_ports.specs.Sides.{Side};
 ghost use Rattle.agent_ports.specs.declared.session.SessionId.{SessionId};
 ghost use Rattle.agent_serve.specs.Serves.{LinkSides, ServesOne};
-ghost use Rattle.agent_session.specs.Completeness.{IsStopped};
-ghost use Rattle.agent_session.specs.DoorCauses.{beside_trust};
-ghost use Rattle.agent_session.specs.DoorCompleteness.{AnswersAllAtDoor, CausedAtDoor, Remembers};
+ghost use Rattle.agent_session.specs.Completeness.{AnswersAll, IsStopped, Remembers};
+ghost use Rattle.agent_session.specs.DoorCompleteness.{CausedAtDoor, FaultlessAtDoor};
 ghost use Rattle.agent_session.specs.Refusals.{AnswersAlone};
-ghost use Rattle.agent_top.specs.Completeness.{NoLinkFault, NoFault, NoFaultOfOne, SessionEndsWell, IsAnsweredRun, IsCausedRun, DaemonEndsWell, LoadEndsWell};
+ghost use Rattle.agent_top.specs.Completeness.{NoLinkFault, NoFault, NoFaultOfOne, SessionEndsWell};
+ghost use Rattle.agent_top.specs.Completeness.{IsAnsweredRun, IsCausedRun, DaemonEndsWell};
+ghost use Rattle.agent_top.specs.Completeness.{LoadEndsWell};
 ghost use Rattle.agent_top.specs.Daemon.{RunsDaemon};
 ghost use Rattle.agent_top.specs.Load.{RunsLoad};
 ghost use Rattle.agent_top.specs.Top.{Machine, RunsServer};
@@ -30,22 +30,27 @@ ghost use Rattle.assuan_server.specs.Reading.{Supply};
 ghost use Rattle.assuan_text.specs.Words.{command_of};
 ghost use Rattle.counted_lock.specs.Passes.{AtPass};
 ghost use Rattle.counted_lock.specs.Turns.{CountedTurn};
+ghost use Rattle.key_commands.specs.Events.{Event};
 ghost use Rattle.pinentry_client.specs.Dialogues.{PinentryDoes};
 ghost use Rattle.session_options.specs.declared.rules.Rules.{Rules};
 
 use agent_ports::Host;
 use pinentry_client::a_pinentry_is_a_prompter;
 
-/// Where no count of its link's faults rose, a session on standard input and output ends with status 0, 6 or 7, or with 1 for want of
-/// memory. `run_agent` and `run_server` say of their runs what is supposed here.
+/// Where no count of its link's faults rose, a session on standard input and output ends with
+/// status 0, 6 or 7, or with 1 for want of memory. `run_agent` and `run_server` say of their runs
+/// what is supposed here.
 pub fn a_server_without_faults_ends_well()
-    ensures { (rules : Rules) (before after : Machine) (number : ℕ) → RunsServer rules before number after → NoLinkFault before after → SessionEndsWell number }
+    ensures { (rules : Rules) (before after : Machine) (number : ℕ)
+        → RunsServer rules before number after → NoLinkFault before after → SessionEndsWell number }
 {}
 
-/// Where no count of the machine rose, each request of the run has its one answer, but a last one whose own inquiry ended the session, unless
-/// memory was wanted. Without memory for a session, status 1, nothing was read or written.
+/// Where no count of the machine rose, each request of the run has its one answer, but a last one
+/// whose own inquiry ended the session, unless memory was wanted. Without memory for a session,
+/// status 1, nothing was read or written.
 pub fn a_server_without_faults_is_answered()
-    ensures { (rules : Rules) (before after : Machine) (number : ℕ) (runs : RunsServer rules before number after) → NoFault before after
+    ensures { (rules : Rules) (before after : Machine)
+        (number : ℕ) (runs : RunsServer rules before number after) → NoFault before after
         → IsAnsweredRun rules before number after runs }
 {
     a_pinentry_is_a_prompter();
@@ -53,57 +58,83 @@ pub fn a_server_without_faults_is_answered()
 
 /// Each error line of a run has its cause among what was done for its own request, whatever failed.
 pub fn each_error_of_a_server_has_its_cause()
-    ensures { (rules : Rules) (before after : Machine) (number : ℕ) (runs : RunsServer rules before number after) → IsCausedRun runs }
+    ensures { (rules : Rules) (before after : Machine) (number : ℕ)
+        (runs : RunsServer rules before number after) → IsCausedRun runs }
 {
     a_pinentry_is_a_prompter();
 }
 
-/// Where no call for a link and no write failed, a daemon that ends does so with status 0, or with 1 for want of memory.
+/// Where no call for a link and no write failed, a daemon that ends does so with status 0, or with
+/// 1 for want of memory.
 pub fn a_daemon_without_faults_ends_well<H: Host>()
-    ensures { (path : List ℕ) (rules : Rules) (listens listens_now : ℕ) (before after : Side) (number : ℕ)
+    ensures { (path : List ℕ)
+        (rules : Rules) (listens listens_now : ℕ) (before after : Side) (number : ℕ)
         → RunsDaemon (record {
           gives = H.Listener.gives;
           is_home = H.is_home;
           is_extra = H.is_extra;
           input = H.Link.input;
           output = H.Link.output;
-          parts = record { launches = H.Launcher.launches; readings = H.Clock.readings; draws = H.Dice.draws; keys = H.Keys.keys };
+          parts = record {
+            launches = H.Launcher.launches;
+            readings = H.Clock.readings;
+            draws = H.Dice.draws;
+            keys = H.Keys.keys;
+          };
           trust = H.Trust.trust;
           folder = H.of_folder path;
-        })
-        rules listens before number listens_now after
+        }) rules listens before number listens_now after
         → ¬ Rose listens listens_now → ¬ Rose before.faults after.faults → DaemonEndsWell number }
 {}
 
-/// Where no count rose that a session of a daemon has to do with, and no memory was wanted, it ends by no fault, and each of its requests has its one
-/// answer, but a last one whose own inquiry ended the session. `serve_one` says of its sessions what is supposed here.
+/// Where no count rose that a session of a daemon has to do with, and no memory was wanted, it ends
+/// by no fault, and each of its requests has its one answer, but a last one whose own inquiry ended
+/// the session. `serve_one` says of its sessions what is supposed here.
 pub fn a_session_of_a_daemon_without_faults_is_answered<H: Host>()
-    ensures { (path : List ℕ) (rules : Rules) (door : Door) (session : SessionId) (before after : LinkSides) (pass now : AtPass) (end : Ends)
-        (one : ServesOne (record { launches = H.Launcher.launches; readings = H.Clock.readings; draws = H.Dice.draws; keys = H.Keys.keys }) H.Trust.trust (H.of_folder path) rules door session before pass end after now)
-        → NoFaultOfOne one → Remembers one.served.events → AnswersAllAtDoor door rules one.served.events end }
+    ensures { (path : List ℕ) (rules : Rules) (door : Door) (session : SessionId)
+        (before after : LinkSides) (pass now : AtPass) (end : Ends) (one : ServesOne (record {
+          launches = H.Launcher.launches;
+          readings = H.Clock.readings;
+          draws = H.Dice.draws;
+          keys = H.Keys.keys;
+        }) H.Trust.trust (H.of_folder path) rules door session before pass end after now)
+        → NoFaultOfOne one → AllByRecursion Remembers one.served.events
+        → AnswersAll (FaultlessAtDoor door rules) rules one.served.events end }
 {
     a_pinentry_is_a_prompter();
 }
 
-/// Each error line of a session of a daemon has its cause among what was done for its own request, whatever failed.
+/// Each error line of a session of a daemon has its cause among what was done for its own request,
+/// whatever failed.
 pub fn each_error_of_a_daemon_has_its_cause<H: Host>()
-    ensures { (path : List ℕ) (rules : Rules) (door : Door) (session : SessionId) (before after : LinkSides) (pass now : AtPass) (end : Ends)
-        (one : ServesOne (record { launches = H.Launcher.launches; readings = H.Clock.readings; draws = H.Dice.draws; keys = H.Keys.keys }) H.Trust.trust (H.of_folder path) rules door session before pass end after now)
+    ensures { (path : List ℕ) (rules : Rules) (door : Door) (session : SessionId)
+        (before after : LinkSides) (pass now : AtPass) (end : Ends) (one : ServesOne (record {
+          launches = H.Launcher.launches;
+          readings = H.Clock.readings;
+          draws = H.Dice.draws;
+          keys = H.Keys.keys;
+        }) H.Trust.trust (H.of_folder path) rules door session before pass end after now)
         → Session (CausedAtDoor door rules) (kept_at_start rules) one.served.events end }
 {
     a_pinentry_is_a_prompter();
 }
 
-/// In a session of a daemon a GET_PASSPHRASE for the cache alone, a CLEAR_PASSPHRASE and a RELOADAGENT that are allowed at its door want no memory: the
-/// passphrase or No data, or OK, is their answer, unless a turn was replied Stopping.
+/// In a session of a daemon a GET_PASSPHRASE for the cache alone, a CLEAR_PASSPHRASE and a
+/// RELOADAGENT that are allowed at its door want no memory: the passphrase or No data, or OK, is
+/// their answer, unless a turn was replied Stopping.
 pub fn a_daemon_wants_no_memory_for_the_cache_alone()
-    ensures { (door : Door) (rules : Rules) (kept now : Kept) (line : List ℕ) (events : List Event) (went : Went) (supply : Supply)
-        (before after : Outside (origin_world (CountedTurn (λ readings. readings)) PinentryDoes)) → DoorExchange door rules kept line events now went → allowed door line ≡ true
-        → door_command_named (command_of line) ≡ None → Leads (Does (origin_world (CountedTurn (λ readings. readings)) PinentryDoes) supply) before events after
-        → AllByRecursion (λ event. ¬ IsStopped event) (beside_trust events) → AnswersAlone (request_of line) (beside_trust events) }
+    ensures { (door : Door) (rules : Rules) (kept now : Kept) (line : List ℕ)
+        (events : List Event) (went : Went) (supply : Supply)
+        (before after : Outside (FurtherWorld (CountedTurn (λ readings. readings)) PinentryDoes))
+        → DoorExchange door rules kept line events now went → allowed door line ≡ true
+        → door_command_named (command_of line) ≡ None
+        → Leads (Does (FurtherWorld (CountedTurn (λ readings. readings)) PinentryDoes) supply)
+        before events after → AllByRecursion (λ event. ¬ IsStopped event) events
+        → AnswersAlone (request_of line) events }
 {}
 
 /// Where no write failed, a load ends with status 0, or with 1 for want of memory.
 pub fn a_load_without_faults_ends_well()
-    ensures { (number : ℕ) (before after : Side) (result : ℕ) → RunsLoad number before result after → ¬ Rose before.faults after.faults → LoadEndsWell result }
+    ensures { (number : ℕ) (before after : Side) (result : ℕ) → RunsLoad number before result after
+        → ¬ Rose before.faults after.faults → LoadEndsWell result }
 {}

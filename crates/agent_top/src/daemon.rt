@@ -1,4 +1,5 @@
-ghost use Rattle.std.specs.Prelude.{◌≡◌, ◌≤◌, ◌<◌, ◌+◌, ◌⊎◌, ◌++◌, Any, IfSome, IsNone, decimal, is_some, length, vec_len, vec_capacity, true};
+ghost use Rattle.std.specs.Prelude.{◌≡◌, ◌≤◌, ◌<◌, ◌+◌, ◌⊎◌, ◌++◌, Any, IfSome, IsNone, decimal};
+ghost use Rattle.std.specs.Prelude.{is_some, length, vec_len, vec_capacity, true};
 ghost use Rattle.std.specs.Option.{option_copied};
 ghost use Rattle.agent_ports.specs.Counts.{Rose};
 ghost use Rattle.agent_ports.specs.Sides.{with_bytes, sent_part, IsCut};
@@ -6,7 +7,8 @@ ghost use Rattle.arrayvec.specs.ArrayVec.{array_vec_len};
 ghost use Rattle.counted_lock.specs.Passes.{AreOf};
 ghost use Rattle.agent_origin.specs.declared.door.Door.{Door};
 ghost use Rattle.agent_serve.specs.Working.{ServesLinks, last_door, last_listener};
-ghost use Rattle.agent_top.specs.Daemon.{RunsDaemon, AllRun, FirstLooks, summary_line, status_after, IsFirstStopped, workers_with};
+ghost use Rattle.agent_top.specs.Daemon.{RunsDaemon, AllRun, FirstLooks, summary_line};
+ghost use Rattle.agent_top.specs.Daemon.{status_after, IsFirstStopped, workers_with};
 
 use crate::Status;
 use crate::top::limits_of;
@@ -25,13 +27,15 @@ use std::thread::Threads;
 /// More bytes than a summary has: its words, seven numbers of at most 20 digits, and a line feed.
 pub(crate) const SUMMARY_ROOM: usize = 256;
 
-/// Serves the links of the host's listener until a session stops the agent, and writes a line that says what was done. Each session has the key
-/// files and the trust file of the folder at which the host was settled. Where the rules ask for
-/// an extra listener one more worker serves its links, each as a restricted session.
+/// Serves the links of the host's listener until a session stops the agent, and writes a line that
+/// says what was done. Each session has the key files and the trust file of the folder at which the
+/// host was settled. Where the rules ask for an extra listener one more worker serves its links,
+/// each as a restricted session.
 ///
-/// Its answer is the status of the process: 0 where a session stopped the agent, 1 where there is no memory for the workers, 4 where the line
-/// can't be written, and 5 where a listener is wanting, or where one failed before the agent was stopped. Sessions that are being served when
-/// the agent is stopped go on until their clients end them.
+/// Its answer is the status of the process: 0 where a session stopped the agent, 1 where there is
+/// no memory for the workers, 4 where the line can't be written, and 5 where a listener is wanting,
+/// or where one failed before the agent was stopped. Sessions that are being served when the agent
+/// is stopped go on until their clients end them.
 pub fn run_daemon<W: Threads + Wait + rt::Clock + Sync, S: Link, H: Host + Sync>(
     rt: &W,
     alloc: Global,
@@ -56,11 +60,16 @@ where
       is_extra = H.is_extra;
       input = H.Link.input;
       output = H.Link.output;
-      parts = record { launches = H.Launcher.launches; readings = H.Clock.readings; draws = H.Dice.draws; keys = H.Keys.keys };
+      parts = record {
+        launches = H.Launcher.launches;
+        readings = H.Clock.readings;
+        draws = H.Dice.draws;
+        keys = H.Keys.keys;
+      };
       trust = H.Trust.trust;
       folder = H.of_folder (H.homedir host.old);
-    })
-        rules.now (H.listens host.old) (S.output stdio.old) result (H.listens host.new) (S.output stdio.new) }
+    }) rules.now (H.listens host.old) (S.output stdio.old) result (H.listens host.new)
+        (S.output stdio.new) }
     ensures input { S.input stdio.new ≡ S.input stdio.old }
     ensures server { H.server host.new ≡ H.server host.old }
     ensures process { H.process host.new ≡ H.process host.old }
@@ -105,7 +114,8 @@ fn listeners<H: Host>(rules: &Rules, host: &mut H) -> Option<(H::Listener, Optio
 where
     H::Listener: Drop,
     ensures home { IfSome result (λ made. H.is_home made.0) }
-    ensures extra { IfSome result (λ made. IfSome made.1 H.is_extra × (is_some made.1 ≡ rules.now.extra)) }
+    ensures extra { IfSome result
+        (λ made. IfSome made.1 H.is_extra × (is_some made.1 ≡ rules.now.extra)) }
     ensures failed { IsNone result → Rose (H.listens host.old) (H.listens host.new) }
     ensures listens { H.listens host.old ≤ H.listens host.new }
     ensures server { H.server host.new ≡ H.server host.old }
@@ -140,7 +150,8 @@ fn with_ears<L: Listener>(
     room
 }
 
-/// Has the workers serve links until the agent is stopped, or a listener failed. Where they came back for another reason they begin again.
+/// Has the workers serve links until the agent is stopped, or a listener failed. Where they came
+/// back for another reason they begin again.
 fn serve_rounds<W: Threads + Wait + rt::Clock + Sync, H: Host + Sync>(
     rt: &W,
     alloc: Global,
@@ -168,30 +179,36 @@ where
     requires some { 0 < vec_len passes }
     ensures own { AreOf counted.now.table result.0.items }
     ensures all { (vec_len result.0 ≡ vec_len passes) × (vec_len result.1 ≡ vec_len ears) }
-    ensures ran { AllRun (ServesLinks
-        (record {
-          gives = H.Listener.gives;
-          is_home = H.is_home;
-          is_extra = H.is_extra;
-          input = H.Link.input;
-          output = H.Link.output;
-          parts = record { launches = H.Launcher.launches; readings = H.Clock.readings; draws = H.Dice.draws; keys = H.Keys.keys };
-          trust = H.Trust.trust;
-          folder = H.of_folder (H.homedir host.now);
-        })
-        rules.now Door.Home listener.now)
-        (ServesLinks (record {
-          gives = H.Listener.gives;
-          is_home = H.is_home;
-          is_extra = H.is_extra;
-          input = H.Link.input;
-          output = H.Link.output;
-          parts = record { launches = H.Launcher.launches; readings = H.Clock.readings; draws = H.Dice.draws; keys = H.Keys.keys };
-          trust = H.Trust.trust;
-          folder = H.of_folder (H.homedir host.now);
-        })
-        rules.now (last_door (is_some extra.entry)) (last_listener listener.now (option_copied extra.entry)))
-        passes.items result.0.items }
+    ensures ran { AllRun (ServesLinks (record {
+      gives = H.Listener.gives;
+      is_home = H.is_home;
+      is_extra = H.is_extra;
+      input = H.Link.input;
+      output = H.Link.output;
+      parts = record {
+        launches = H.Launcher.launches;
+        readings = H.Clock.readings;
+        draws = H.Dice.draws;
+        keys = H.Keys.keys;
+      };
+      trust = H.Trust.trust;
+      folder = H.of_folder (H.homedir host.now);
+    }) rules.now Door.Home listener.now) (ServesLinks (record {
+      gives = H.Listener.gives;
+      is_home = H.is_home;
+      is_extra = H.is_extra;
+      input = H.Link.input;
+      output = H.Link.output;
+      parts = record {
+        launches = H.Launcher.launches;
+        readings = H.Clock.readings;
+        draws = H.Dice.draws;
+        keys = H.Keys.keys;
+      };
+      trust = H.Trust.trust;
+      folder = H.of_folder (H.homedir host.now);
+    }) rules.now (last_door (is_some extra.entry))
+        (last_listener listener.now (option_copied extra.entry))) passes.items result.0.items }
     ensures end { IsFirstStopped result.0.items ⊎ Any (λ ear. 0 < H.Ear.faults ear) result.1.items }
 {
     for _ in rt.forever() {
@@ -236,7 +253,8 @@ fn any_failed<E: Ear>(ears: &[E]) -> bool
 fn give_ears_back<H: Host>(host: &mut H, mut ears: Vec<H::Ear>)
 where
     H::Ear: Drop,
-    ensures rose { Any (λ ear. 0 < H.Ear.faults ear) ears.items → Rose (H.listens host.old) (H.listens host.new) }
+    ensures rose { Any (λ ear. 0 < H.Ear.faults ear) ears.items
+        → Rose (H.listens host.old) (H.listens host.new) }
     ensures listens { H.listens host.old ≤ H.listens host.new }
     ensures server { H.server host.new ≡ H.server host.old }
     ensures process { H.process host.new ≡ H.process host.old }
@@ -248,7 +266,8 @@ where
 }
 
 fn write_summary<S: Link>(stdio: &mut S, tally: &Tally) -> Sent
-    ensures written { (S.output stdio.new).bytes ≡ with_bytes (S.output stdio.old).bytes (sent_part (summary_line tally.now) result) }
+    ensures written { (S.output stdio.new).bytes ≡ with_bytes (S.output stdio.old).bytes
+        (sent_part (summary_line tally.now) result) }
     ensures cut { IsCut result → Rose (S.output stdio.old).faults (S.output stdio.new).faults }
     ensures faults { (S.output stdio.old).faults ≤ (S.output stdio.new).faults }
     ensures input { S.input stdio.new ≡ S.input stdio.old }

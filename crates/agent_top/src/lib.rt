@@ -1,9 +1,10 @@
-//! The agent from bytes to bytes: it reads its words, and serves a session on standard input and output or
-//! many on a socket.
+//! The agent from bytes to bytes: it reads its words, and serves a session on standard input and
+//! output or many on a socket.
 //!
-//! Begin with [`run_agent`], whose four clauses are the release guarantee (`docs/PROOFS.md` reads them): words that are refused, a server,
-//! a daemon, a load. [`read_words`] gives exactly the rules that the words mean, or none. Definitions begin in `specs/Top`, `specs/Daemon`
-//! and `specs/Words`.
+//! Begin with [`run_agent`], whose four clauses are the release guarantee (`docs/PROOFS.md` reads
+//! them): words that are refused, a server, a daemon, a load. [`read_words`] gives exactly the
+//! rules that the words mean, or none. Definitions begin in `specs/Top`, `specs/Daemon` and
+//! `specs/Words`.
 #![tactic(auto)]
 
 mod completeness;

@@ -1,11 +1,14 @@
-ghost use Rattle.std.specs.Prelude.{◌≡◌, ◌++◌, ◌∷◌, ℕ, List, [], None, Some, true, codes, IfOk, IfSome, decimal};
+ghost use Rattle.std.specs.Prelude.{◌≡◌, ◌++◌, ◌∷◌, ℕ, List, [], None, Some, true, codes, IfOk};
+ghost use Rattle.std.specs.Prelude.{IfSome, decimal};
 ghost use Rattle.agent_ask.specs.Prompters.{IsShut};
 ghost use Rattle.agent_core.specs.Tallies.{tally_of};
 ghost use Rattle.agent_ports.specs.Counts.{Rose};
 ghost use Rattle.agent_ports.specs.Sides.{with_bytes, sent_part, IsCut};
 ghost use Rattle.agent_top.specs.Cache.{limits_of, session, fresh_desk};
 ghost use Rattle.agent_top.specs.Daemon.{summary_line};
-ghost use Rattle.agent_top.specs.Load.{AreOfWords, IsLoadTally, IsOfWord, RunsLoad, IsMadeByLoad, KeepsRun, generator_of, load_line, load_status, load_words, key, step_of};
+ghost use Rattle.agent_top.specs.Load.{AreOfWords, IsLoadTally, IsOfWord, RunsLoad, IsMadeByLoad};
+ghost use Rattle.agent_top.specs.Load.{KeepsRun, generator_of, load_line, load_status, load_words};
+ghost use Rattle.agent_top.specs.Load.{key, step_of};
 ghost use Rattle.cache_policy.specs.Histories.{run_of};
 ghost use Rattle.session_options.specs.Defaults.{default_rules};
 
@@ -39,11 +42,11 @@ const HEAD: &[u8] = b"sessions 64 requests 12864 ";
 /// More bytes than the line of a load has.
 const LINE_ROOM: usize = SUMMARY_ROOM + 32;
 
-/// Serves 64 sessions of 200 requests and a BYE, made from a number, one after the other in memory, and writes a line that says what they
-/// came to. It is the same at each run.
+/// Serves 64 sessions of 200 requests and a BYE, made from a number, one after the other in memory,
+/// and writes a line that says what they came to. It is the same at each run.
 ///
-/// Its answer is the status of the process: 0 where the line was written, 1 where memory was wanted anywhere, a refused turn among it, and 4
-/// where the line can't be written.
+/// Its answer is the status of the process: 0 where the line was written, 1 where memory was wanted
+/// anywhere, a refused turn among it, and 4 where the line can't be written.
 pub fn run_load<S: Link>(alloc: Global, number: u32, stdio: &mut S) -> u8
     ensures runs { RunsLoad number (S.output stdio.old) result (S.output stdio.new) }
     ensures input { S.input stdio.new ≡ S.input stdio.old }
@@ -55,7 +58,8 @@ pub fn run_load<S: Link>(alloc: Global, number: u32, stdio: &mut S) -> u8
 }
 
 fn write_line<S: Link>(stdio: &mut S, tally: &Tally) -> Sent
-    ensures written { (S.output stdio.new).bytes ≡ with_bytes (S.output stdio.old).bytes (sent_part (load_line tally.now) result) }
+    ensures written { (S.output stdio.new).bytes ≡ with_bytes (S.output stdio.old).bytes
+        (sent_part (load_line tally.now) result) }
     ensures cut { IsCut result → Rose (S.output stdio.old).faults (S.output stdio.new).faults }
     ensures input { S.input stdio.new ≡ S.input stdio.old }
 {
@@ -80,7 +84,8 @@ fn load_line(tally: &Tally) -> ArrayVec<u8, LINE_ROOM>
     line
 }
 
-/// What the sessions came to. Each turn has to have made its mark, at its reading of the clock, so none was refused.
+/// What the sessions came to. Each turn has to have made its mark, at its reading of the clock, so
+/// none was refused.
 fn load_tally(alloc: Global, number: u32) -> Result<Tally, AllocError>
     ensures { IfOk result (λ tally. IsLoadTally number tally) }
 {
@@ -96,7 +101,8 @@ fn load_tally(alloc: Global, number: u32) -> Result<Tally, AllocError>
 
 /// What the run of the desk comes to, where its marks are those of the load.
 fn tally_of_load<C: Clock>(desk: &Solo<'_, C>, number: u32) -> Option<Tally>
-    ensures { IfSome result (λ tally. (tally ≡ tally_of desk.now.limits desk.now.run) × IsMadeByLoad number desk.now.run) }
+    ensures { IfSome result (λ tally. (tally ≡ tally_of desk.now.limits desk.now.run)
+        × IsMadeByLoad number desk.now.run) }
 {
     match desk.histories() {
         [history] if are_of_load(history.marks.as_slice(), number) => Some(desk.tally()),

@@ -1,4 +1,5 @@
-ghost use Rattle.std.specs.Prelude.{◌≡◌, ◌⊎◌, map, string_bytes, IfSome, IfNone, IsSome, is_some, false};
+ghost use Rattle.std.specs.Prelude.{◌≡◌, ◌⊎◌, map, string_bytes, IfSome, IfNone, IsSome, is_some};
+ghost use Rattle.std.specs.Prelude.{false};
 ghost use Rattle.agent_core.specs.Solos.{seen};
 ghost use Rattle.pinentry_client.specs.States.{at_pinentry};
 ghost use Rattle.agent_top.specs.Cache.{limits_of, fresh_desk};
@@ -6,7 +7,9 @@ ghost use Rattle.agent_top.specs.Words.{rules_of};
 ghost use Rattle.agent_ports.specs.HostParts.{AreSettled};
 ghost use Rattle.agent_top.specs.Daemon.{RunsDaemon};
 ghost use Rattle.agent_top.specs.Load.{RunsLoad};
-ghost use Rattle.agent_top.specs.Top.{exit_number, machine, with_pid, IsRefusal, no_child, UsesParts, RunsServer, AreSettledIn, HadNoMemory, IfServer, IfDaemon, IfLoad};
+ghost use Rattle.agent_top.specs.Top.{exit_number, machine, with_pid, IsRefusal, no_child};
+ghost use Rattle.agent_top.specs.Top.{UsesParts, RunsServer, AreSettledIn, HadNoMemory, IfServer};
+ghost use Rattle.agent_top.specs.Top.{IfDaemon, IfLoad};
 
 use crate::Status;
 use crate::daemon::run_daemon;
@@ -16,8 +19,8 @@ use agent_core::{KnownCore, Solo};
 use agent_ports::{Clock, Dice, Host, Keys, Launcher, Link, SessionId};
 use agent_session::serve_session;
 use cache_policy::Limits;
-use pinentry_client::{Pinentry, Word};
-use session_options::{Rules, RunMode};
+use pinentry_client::Pinentry;
+use session_options::{Rules, RunMode, copied};
 use std::alloc::Global;
 use std::rt;
 use std::sync::Wait;
@@ -26,13 +29,16 @@ use std::thread::Threads;
 /// The session that is served on standard input and output.
 pub(crate) const SESSION: SessionId = SessionId { pass: 0, count: 0 };
 
-/// The agent. It reads its words, which leave out the program's name, settles the host at the folder that they say, and serves a session on
-/// standard input and output, or as a daemon those of a listener.
+/// The agent. It reads its words, which leave out the program's name, settles the host at the
+/// folder that they say, and serves a session on standard input and output, or as a daemon those of
+/// a listener.
 ///
-/// Its answer is the status of the process: 0 at BYE, at KILLAGENT or at the end of the input, 1 where there is no memory for the words or the session,
-/// 2 for words that it doesn't take, 3 and 4 where a read or a write failed, 6 after 2^40 bytes, and 7 at a line of more than 1,000 bytes.
-/// With `--daemon` it is as `run_daemon` says, and with `--load` as `run_load` does. `--extra-socket` beside `--daemon` has restricted sessions
-/// served too, at a listener of their own.
+/// Its answer is the status of the process: 0 at BYE, at KILLAGENT or at the end of the input, 1
+/// where there is no memory for the words or the session, 2 for words that it doesn't take, 3 and 4
+/// where a read or a write failed, 6 after 2^40 bytes, and 7 at a line of more than 1,000 bytes.
+/// With `--daemon` it is as `run_daemon` says, and with `--load` as `run_load` does.
+/// `--extra-socket` beside `--daemon` has restricted sessions served too, at a listener of their
+/// own.
 pub fn run_agent<W: Threads + Wait + rt::Clock + Sync, S: Link, H: Host + Sync>(
     rt: &W,
     alloc: Global,
@@ -54,40 +60,63 @@ where
     requires { IsSome (H.server host.old) }
     // Words that it doesn't know, or has no memory to read: nothing is read or written.
     ensures refused { IfNone (rules_of (map string_bytes words.now))
-        (IsRefusal result × (S.input stdio.new ≡ S.input stdio.old) × (S.output stdio.new ≡ S.output stdio.old)
-        × (host.new ≡ host.old)) }
-    // Words for standard input and output: a session was served, or there was no memory and nothing was read or written. The host has its
-    // parts again.
-    ensures served { IfSome (rules_of (map string_bytes words.now)) (λ rules. IfServer rules.run (UsesParts (λ had has.
-        RunsServer (with_pid (H.process host.old) rules)
-        (machine (S.input stdio.old) (S.output stdio.old) (H.Clock.readings had.clock) (H.Launcher.launches had.launcher) (H.Keys.keys had.keys) (H.Dice.draws had.dice)) result
-        (machine (S.input stdio.new) (S.output stdio.new) (H.Clock.readings has.clock) (H.Launcher.launches has.launcher) (H.Keys.keys has.keys) (H.Dice.draws has.dice)))
+        (IsRefusal result × (S.input stdio.new ≡ S.input stdio.old)
+        × (S.output stdio.new ≡ S.output stdio.old) × (host.new ≡ host.old)) }
+    // Words for standard input and output: a session was served, or there was no memory and nothing
+    // was read or written. The host has its parts again.
+    ensures served { IfSome (rules_of (map string_bytes words.now)) (λ rules.
+        IfServer rules.run (UsesParts (λ had has. RunsServer (with_pid (H.process host.old) rules)
+        (machine (S.input stdio.old) (S.output stdio.old) (H.Clock.readings had.clock)
+        (H.Launcher.launches had.launcher) (H.Keys.keys had.keys) (H.Dice.draws had.dice)) result
+        (machine (S.input stdio.new) (S.output stdio.new) (H.Clock.readings has.clock)
+        (H.Launcher.launches has.launcher) (H.Keys.keys has.keys) (H.Dice.draws has.dice)))
         (H.server host.old) (H.server host.new))) }
-    // Words for a daemon: its sessions were served and its summary was written, unless there was no listener or no memory. Nothing is read of
-    // standard input, and the host keeps its parts.
-    ensures daemon { IfSome (rules_of (map string_bytes words.now)) (λ rules. IfDaemon rules.run (
-        RunsDaemon (record {
+    // Words for a daemon: its sessions were served and its summary was written, unless there was no
+    // listener or no memory. Nothing is read of standard input, and the host keeps its parts.
+    ensures daemon { IfSome (rules_of (map string_bytes words.now))
+        (λ rules. IfDaemon rules.run (RunsDaemon (record {
           gives = H.Listener.gives;
           is_home = H.is_home;
           is_extra = H.is_extra;
           input = H.Link.input;
           output = H.Link.output;
-          parts = record { launches = H.Launcher.launches; readings = H.Clock.readings; draws = H.Dice.draws; keys = H.Keys.keys };
+          parts = record {
+            launches = H.Launcher.launches;
+            readings = H.Clock.readings;
+            draws = H.Dice.draws;
+            keys = H.Keys.keys;
+          };
           trust = H.Trust.trust;
           folder = H.of_folder rules.homedir.items;
-        })
-        (with_pid (H.process host.old) rules) (H.listens host.old) (S.output stdio.old) result (H.listens host.new) (S.output stdio.new)
-        × (S.input stdio.new ≡ S.input stdio.old)
-        × AreSettled (record { launches = H.Launcher.launches; readings = H.Clock.readings; draws = H.Dice.draws; keys = H.Keys.keys }) (H.server host.old) (H.server host.new))) }
-    // Words for a load: it was served, and its line was written, unless there was no memory. Nothing is read, and the host keeps its parts.
-    ensures load { IfSome (rules_of (map string_bytes words.now)) (λ rules. IfLoad rules.run (λ number. RunsLoad number (S.output stdio.old) result (S.output stdio.new)
-        × (S.input stdio.new ≡ S.input stdio.old)
-        × AreSettled (record { launches = H.Launcher.launches; readings = H.Clock.readings; draws = H.Dice.draws; keys = H.Keys.keys }) (H.server host.old) (H.server host.new))) }
-    // The folder is that of the words: the host stays settled there, and a session on standard input and output has its key files, as each session
-    // of a daemon has.
-    ensures homedir { IfSome (rules_of (map string_bytes words.now)) (λ rules. (H.homedir host.new ≡ rules.homedir.items) ⊎ (HadNoMemory result × (host.new ≡ host.old))) }
-    ensures folder { IfSome (rules_of (map string_bytes words.now)) (λ rules. IfServer rules.run (HadNoMemory result ⊎ IfSome (H.server host.old) (AreSettledIn
-        (record { launches = H.Launcher.launches; readings = H.Clock.readings; draws = H.Dice.draws; keys = H.Keys.keys }) (H.of_folder rules.homedir.items).keys))) }
+        }) (with_pid (H.process host.old) rules) (H.listens host.old) (S.output stdio.old) result
+        (H.listens host.new) (S.output stdio.new) × (S.input stdio.new ≡ S.input stdio.old)
+        × AreSettled (record {
+          launches = H.Launcher.launches;
+          readings = H.Clock.readings;
+          draws = H.Dice.draws;
+          keys = H.Keys.keys;
+        }) (H.server host.old) (H.server host.new))) }
+    // Words for a load: it was served, and its line was written, unless there was no memory.
+    // Nothing is read, and the host keeps its parts.
+    ensures load { IfSome (rules_of (map string_bytes words.now))
+        (λ rules. IfLoad rules.run (λ number. RunsLoad number (S.output stdio.old) result
+        (S.output stdio.new) × (S.input stdio.new ≡ S.input stdio.old) × AreSettled (record {
+          launches = H.Launcher.launches;
+          readings = H.Clock.readings;
+          draws = H.Dice.draws;
+          keys = H.Keys.keys;
+        }) (H.server host.old) (H.server host.new))) }
+    // The folder is that of the words: the host stays settled there, and a session on standard
+    // input and output has its key files, as each session of a daemon has.
+    ensures homedir { IfSome (rules_of (map string_bytes words.now)) (λ rules.
+        (H.homedir host.new ≡ rules.homedir.items) ⊎ (HadNoMemory result × (host.new ≡ host.old))) }
+    ensures folder { IfSome (rules_of (map string_bytes words.now)) (λ rules.
+        IfServer rules.run (HadNoMemory result ⊎ IfSome (H.server host.old) (AreSettledIn (record {
+          launches = H.Launcher.launches;
+          readings = H.Clock.readings;
+          draws = H.Dice.draws;
+          keys = H.Keys.keys;
+        }) (H.of_folder rules.homedir.items).keys))) }
     ensures process { H.process host.new ≡ H.process host.old }
 {
     match read_words(alloc, words) {
@@ -110,22 +139,29 @@ where
 /// Settles the host at the folder of the rules.
 fn settle<H: Host>(rules: &Rules, host: &mut H)
     ensures homedir { H.homedir host.new ≡ rules.now.homedir.items }
-    ensures folder { IfSome (H.server host.new) (λ parts. (H.of_folder rules.now.homedir.items).keys parts.keys) }
-    ensures parts { AreSettled (record { launches = H.Launcher.launches; readings = H.Clock.readings; draws = H.Dice.draws; keys = H.Keys.keys })
-        (H.server host.old) (H.server host.new) }
+    ensures folder { IfSome (H.server host.new)
+        (λ parts. (H.of_folder rules.now.homedir.items).keys parts.keys) }
+    ensures parts { AreSettled (record {
+      launches = H.Launcher.launches;
+      readings = H.Clock.readings;
+      draws = H.Dice.draws;
+      keys = H.Keys.keys;
+    }) (H.server host.old) (H.server host.new) }
     ensures process { H.process host.new ≡ H.process host.old }
     ensures listens { H.listens host.new ≡ H.listens host.old }
 {
     host.settle(&rules.homedir);
 }
 
-/// Serves one session on standard input and output, and gives its status, as `run_agent` does. It always returns. Meanwhile it has the
-/// host's parts.
+/// Serves one session on standard input and output, and gives its status, as `run_agent` does. It
+/// always returns. Meanwhile it has the host's parts.
 pub fn run_server<S: Link, H: Host>(alloc: Global, rules: &Rules, stdio: &mut S, host: &mut H) -> u8
     requires { IsSome (H.server host.old) }
     ensures served { UsesParts (λ had has. RunsServer rules.now
-        (machine (S.input stdio.old) (S.output stdio.old) (H.Clock.readings had.clock) (H.Launcher.launches had.launcher) (H.Keys.keys had.keys) (H.Dice.draws had.dice)) result
-        (machine (S.input stdio.new) (S.output stdio.new) (H.Clock.readings has.clock) (H.Launcher.launches has.launcher) (H.Keys.keys has.keys) (H.Dice.draws has.dice)))
+        (machine (S.input stdio.old) (S.output stdio.old) (H.Clock.readings had.clock)
+        (H.Launcher.launches had.launcher) (H.Keys.keys had.keys) (H.Dice.draws had.dice)) result
+        (machine (S.input stdio.new) (S.output stdio.new) (H.Clock.readings has.clock)
+        (H.Launcher.launches has.launcher) (H.Keys.keys has.keys) (H.Dice.draws has.dice)))
         (H.server host.old) (H.server host.new) }
     ensures process { H.process host.new ≡ H.process host.old }
     ensures homedir { H.homedir host.new ≡ H.homedir host.old }
@@ -154,9 +190,10 @@ fn serve_alone<S: Link, C: Clock, La: Launcher, K: Keys, R: Dice>(
     keys: &mut K,
     dice: &mut R,
 ) -> Status
-    ensures runs { RunsServer rules.now
-        (machine (S.input stdio.old) (S.output stdio.old) (C.readings clock.old) (La.launches launcher.old) (K.keys keys.old) (R.draws dice.old)) (exit_number result)
-        (machine (S.input stdio.new) (S.output stdio.new) (C.readings clock.new) (La.launches launcher.new) (K.keys keys.new) (R.draws dice.new)) }
+    ensures runs { RunsServer rules.now (machine (S.input stdio.old) (S.output stdio.old)
+        (C.readings clock.old) (La.launches launcher.old) (K.keys keys.old) (R.draws dice.old))
+        (exit_number result) (machine (S.input stdio.new) (S.output stdio.new)
+        (C.readings clock.new) (La.launches launcher.new) (K.keys keys.new) (R.draws dice.new)) }
 {
     let Ok(core) = KnownCore::new(alloc, limits_of(rules)) else {
         return Status::NoMemory;
@@ -180,24 +217,21 @@ fn serve<S: Link, C: Clock, La: Launcher, K: Keys, R: Dice>(
     keys: &mut K,
     dice: &mut R,
 ) -> Status
-    requires desk { seen C.readings desk.old ≡ fresh_desk (limits_of rules.now) (C.readings desk.old.clock) }
-    requires pinentry { at_pinentry La.launches pinentry.old ≡ no_child rules.now (La.launches pinentry.old.launcher) }
+    requires desk { seen C.readings desk.old ≡ fresh_desk (limits_of rules.now)
+        (C.readings desk.old.clock) }
+    requires pinentry { at_pinentry La.launches pinentry.old ≡ no_child rules.now
+        (La.launches pinentry.old.launcher) }
     ensures runs { RunsServer rules.now
-        (machine (S.input stdio.old) (S.output stdio.old) (C.readings desk.old.clock) (La.launches pinentry.old.launcher) (K.keys keys.old) (R.draws dice.old)) (exit_number result)
-        (machine (S.input stdio.new) (S.output stdio.new) (C.readings desk.new.clock) (La.launches pinentry.new.launcher) (K.keys keys.new) (R.draws dice.new)) }
+        (machine (S.input stdio.old) (S.output stdio.old) (C.readings desk.old.clock)
+        (La.launches pinentry.old.launcher) (K.keys keys.old) (R.draws dice.old))
+        (exit_number result)
+        (machine (S.input stdio.new) (S.output stdio.new) (C.readings desk.new.clock)
+        (La.launches pinentry.new.launcher) (K.keys keys.new) (R.draws dice.new)) }
     ensures lent { desk.new.lent ≡ desk.old.lent }
     ensures launcher { pinentry.new.lent ≡ pinentry.old.lent }
     ensures childless { is_some pinentry.new.child ≡ false }
 {
     Status::of(serve_session(alloc, rules, stdio, desk, pinentry, keys, dice))
-}
-
-fn copied(word: &Word) -> Word
-    ensures { result.items ≡ word.now.items }
-{
-    let mut copy = Word::new();
-    copy.try_extend_from_slice(word).unwrap();
-    copy
 }
 
 /// The lifetimes that the rules say.

@@ -1,4 +1,5 @@
-ghost use Rattle.std.specs.Prelude.{◌≡◌, ◌≤◌, IfOk, IfErr, Some, None, true, false, length, map, string_bytes};
+ghost use Rattle.std.specs.Prelude.{◌≡◌, ◌≤◌, IfOk, IfErr, Some, None, true, false, length, map};
+ghost use Rattle.std.specs.Prelude.{string_bytes};
 ghost use Rattle.agent_top.specs.Forms.{form_of, forms, number_or, path_or};
 ghost use Rattle.agent_top.specs.Options.{are_readable, flag_in};
 ghost use Rattle.agent_top.specs.Settings.{settings};
@@ -48,11 +49,13 @@ impl fmt::Display for WordsFault {
 
 impl Error for WordsFault {}
 
-/// Reads the words of the command line, without the program's name, as the rules that they mean (GnuPG manual, "agent
-/// options"). `--extra-socket` is taken beside `--daemon` alone, and takes no name.
+/// Reads the words of the command line, without the program's name, as the rules that they mean
+/// (GnuPG manual, "agent options"). `--extra-socket` is taken beside `--daemon` alone, and takes no
+/// name.
 pub fn read_words(alloc: Global, words: &[String]) -> Result<Rules, WordsFault>
     ensures rules { IfOk result (λ rules. rules_of (map string_bytes words.now) ≡ Some rules) }
-    ensures bad { IfErr result (λ fault. fault ≡ WordsFault.Bad → rules_of (map string_bytes words.now) ≡ None) }
+    ensures bad { IfErr result
+        (λ fault. fault ≡ WordsFault.Bad → rules_of (map string_bytes words.now) ≡ None) }
 {
     let given = Given::read(alloc, words)?;
     rules_from(&given)

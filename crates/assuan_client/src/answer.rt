@@ -6,7 +6,8 @@ use assuan_text::MAX_LINE_LEN;
 use cache_policy::Secret;
 use wiping::Wiped;
 
-/// What a server answers to a command, to a reply or to a cancel. It may hold what was typed, so it isn't printed.
+/// What a server answers to a command, to a reply or to a cancel. It may hold what was typed, so it
+/// isn't printed.
 #[derive(Drop)]
 pub enum Answer {
     /// `OK`, and no byte of data before it.
@@ -20,7 +21,9 @@ pub enum Answer {
         word: Wiped<MAX_LINE_LEN>,
         text: Wiped<MAX_LINE_LEN>,
     },
+    /// The server broke the protocol.
     Broken(Breach),
+    /// A read failed.
     ReadFault,
     /// The lines couldn't be written whole, and nothing was read.
     WriteFault,

@@ -2,7 +2,8 @@ ghost use Rattle.std.specs.Prelude.{◌≡◌, ◌≤◌, length};
 ghost use Rattle.std.specs.List.{before_first, after_first};
 ghost use Rattle.assuan_text.specs.Blanks.{is_blank};
 ghost use Rattle.assuan_text.specs.Numbers.{number_of};
-ghost use Rattle.assuan_client.specs.Forms.{line_form, form_seen, form_by, error_of, inquiry_of, word_of, text_of, IfInquiry};
+ghost use Rattle.assuan_client.specs.Forms.{line_form, form_seen, form_by, error_of, inquiry_of};
+ghost use Rattle.assuan_client.specs.Forms.{word_of, text_of, IfInquiry};
 
 use assuan_text::{escaped_part, first_word, number_of};
 
@@ -21,7 +22,8 @@ pub(crate) enum Form<'a> {
 /// What a line of a server is.
 pub(crate) fn form_of(line: &[u8]) -> Form<'_>
     ensures form { form_seen result ≡ line_form line.now }
-    ensures short { IfInquiry result (λ w t. (length w ≤ length line.now) × (length t ≤ length line.now)) }
+    ensures short { IfInquiry result
+        (λ w t. (length w ≤ length line.now) × (length t ≤ length line.now)) }
 {
     if escaped_part(line).is_some() {
         return Form::Data;
@@ -36,7 +38,8 @@ pub(crate) fn form_of(line: &[u8]) -> Form<'_>
 /// What a line of a server is, by its first word and what comes behind it.
 fn form_by<'a>(word: &[u8], text: &'a [u8]) -> Form<'a>
     ensures form { form_seen result ≡ form_by word.now text.now }
-    ensures short { IfInquiry result (λ w t. (length w ≤ length text.now) × (length t ≤ length text.now)) }
+    ensures short { IfInquiry result
+        (λ w t. (length w ≤ length text.now) × (length t ≤ length text.now)) }
 {
     if word == b"S".as_slice() {
         Form::Note
@@ -65,7 +68,8 @@ fn error_of<'a>(number: Option<u64>) -> Form<'a>
 /// An inquiry by its word and the text after it.
 fn inquiry_of(text: &[u8]) -> Form<'_>
     ensures form { form_seen result ≡ inquiry_of (word_of text.now) (text_of text.now) }
-    ensures short { IfInquiry result (λ w t. (length w ≤ length text.now) × (length t ≤ length text.now)) }
+    ensures short { IfInquiry result
+        (λ w t. (length w ≤ length text.now) × (length t ≤ length text.now)) }
 {
     let (word, text) = word_and_text(text);
     if word.is_empty() {
@@ -78,7 +82,8 @@ fn inquiry_of(text: &[u8]) -> Form<'_>
 fn word_and_text(line: &[u8]) -> (&[u8], &[u8])
     ensures word { result.0.now ≡ before_first is_blank line.now }
     ensures text { result.1.now ≡ after_first is_blank line.now }
-    ensures shorter { (length result.0.now ≤ length line.now) × (length result.1.now ≤ length line.now) }
+    ensures shorter { (length result.0.now ≤ length line.now)
+        × (length result.1.now ≤ length line.now) }
 {
     let word = first_word(line);
     if word.len() == line.len() {

@@ -13,16 +13,19 @@ use assuan_line::{Line, LineReader, Took, next_after_skipped};
 use std::alloc::Global;
 use std::marker::Model;
 
-/// A client's connection to its server, over a link of its own: the client's side of the Assuan protocol (Assuan manual,
-/// "client requests"). Each line has at most 1,000 bytes before its line feed.
+/// A client's connection to its server, over a link of its own: the client's side of the Assuan
+/// protocol (Assuan manual, "client requests"). Each line has at most 1,000 bytes before its line
+/// feed.
 ///
-/// A session goes so: `hello` once, then `command` for each command. Each call gives the one answer that the server's lines
-/// come to: comments, status lines and data lines are skipped up to the next end, at most 10,000 comments, status lines
-/// and inquiries and at most 255 bytes of data for one command. Where the answer is an inquiry, `reply` or `cancel` goes on with
-/// the same command. After `Broken`, `ReadFault` or `WriteFault` nothing more may be said. At the end `into_link` gives the
-/// link back.
+/// A session goes so: `hello` once, then `command` for each command. Each call gives the one answer
+/// that the server's lines come to: comments, status lines and data lines are skipped up to the
+/// next end, at most 10,000 comments, status lines and inquiries and at most 255 bytes of data for
+/// one command. Where the answer is an inquiry, `reply` or `cancel` goes on with the same command.
+/// After `Broken`, `ReadFault` or `WriteFault` nothing more may be said. At the end `into_link`
+/// gives the link back.
 ///
-/// Contracts see the link's two sides, the reader of its lines, what came in the command so far, and how the connection stands.
+/// Contracts see the link's two sides, the reader of its lines, what came in the command so far,
+/// and how the connection stands.
 #[derive(Drop)]
 pub struct Peer<L: Link> {
     link: L,
@@ -138,7 +141,13 @@ impl<L: Link> Peer<L> {
     /// The answer where a line couldn't be written whole.
     fn cut(&mut self) -> Answer
         ensures answer { result ≡ Answer.WriteFault }
-        ensures stands { self.new ≡ record { input = self.old.input; output = self.old.output; reader = self.old.reader; tally = nothing; state = State.Broken } }
+        ensures stands { self.new ≡ record {
+          input = self.old.input;
+          output = self.old.output;
+          reader = self.old.reader;
+          tally = nothing;
+          state = State.Broken;
+        } }
     {
         self.tally.clear();
         self.state = State::Broken;
@@ -148,8 +157,8 @@ impl<L: Link> Peer<L> {
 
 /// A law: the bytes decide which answer a line gives, and which bytes are left behind it.
 pub fn answers_are_the_only_ones()
-    ensures { (tally after later : TallyValue) (bytes line other : List ℕ) (first second : Answer) (reader reader_later : Reader)
-        (left rest : List ℕ)
+    ensures { (tally after later : TallyValue) (bytes line other : List ℕ)
+        (first second : Answer) (reader reader_later : Reader) (left rest : List ℕ)
         → Answers tally bytes (Took.Line line) first after reader left
         → Answers tally bytes (Took.Line other) second later reader_later rest
         → (first ≡ second) × (reader.ahead ++ left ≡ reader_later.ahead ++ rest) }

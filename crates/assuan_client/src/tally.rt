@@ -1,9 +1,11 @@
-ghost use Rattle.std.specs.Prelude.{◌≡◌, ◌≢◌, ◌≤◌, ◌+◌, ◌++◌, [], ◌∷◌, length, nat_le, List, ℕ, None};
+ghost use Rattle.std.specs.Prelude.{◌≡◌, ◌≢◌, ◌≤◌, ◌+◌, ◌++◌, [], ◌∷◌, length, nat_le, List, ℕ};
+ghost use Rattle.std.specs.Prelude.{None};
 ghost use Rattle.std.specs.Bool.{OnTrue, OnFalse};
 ghost use Rattle.assuan_line.specs.Next.{ended_by};
 ghost use Rattle.assuan_text.specs.declared.TheConstants.{MAX_LINE_LEN};
 ghost use Rattle.assuan_escape.specs.DataLines.{carried};
-ghost use Rattle.assuan_client.specs.Answers.{Says, IsStop, ended_of, state_after, success_of, inquiry_after};
+ghost use Rattle.assuan_client.specs.Answers.{Says, IsStop, ended_of, state_after, success_of};
+ghost use Rattle.assuan_client.specs.Answers.{inquiry_after};
 ghost use Rattle.cache_policy.specs.declared.secret.TheConstants.{MAX_SECRET_LEN};
 ghost use Rattle.assuan_client.specs.declared.tally.TheConstants.{MAX_NOTES};
 ghost use Rattle.assuan_client.specs.Skipping.{nothing, with_inquiry, skips_behind, IsBehind};
@@ -59,7 +61,8 @@ impl Tally {
 
     /// Forgets what came, unless the command goes on.
     pub(crate) fn settle(&mut self, answer: &Answer)
-        ensures asked { (word text : List ℕ) → answer.now ≡ Answer.Asked word text → self.new ≡ self.old }
+        ensures asked { (word text : List ℕ) → answer.now ≡ Answer.Asked word text
+            → self.new ≡ self.old }
         ensures cleared { state_after answer.now ≢ State.Asked → self.new ≡ nothing }
     {
         if answer.state() != State::Asked {
@@ -83,8 +86,10 @@ impl Tally {
     /// Keeps what a data line carries, if there may be so much more.
     fn keep(&mut self, line: &[u8]) -> bool
         requires short { length line.now ≤ MAX_LINE_LEN }
-        ensures may { result ≡ nat_le (length self.old.bytes + length (carried line.now)) MAX_SECRET_LEN }
-        ensures kept { OnTrue result (self.new ≡ record { notes = self.old.notes; bytes = self.old.bytes ++ carried line.now }) }
+        ensures may { result
+            ≡ nat_le (length self.old.bytes + length (carried line.now)) MAX_SECRET_LEN }
+        ensures kept { OnTrue result (self.new
+            ≡ record { notes = self.old.notes; bytes = self.old.bytes ++ carried line.now }) }
         ensures stays { OnFalse result (self.new ≡ self.old) }
     {
         match data_of(line) {
@@ -100,7 +105,8 @@ impl Tally {
     /// The answer by the line that isn't skipped, which is cleared, or by the end of the lines.
     pub(crate) fn answer(&mut self, took: &mut Took) -> Answer
         ensures says { IsStop self.old took.old → Says self.old took.old result }
-        ensures asked { (word text : List ℕ) → result ≡ Answer.Asked word text → self.new ≡ with_inquiry self.old }
+        ensures asked { (word text : List ℕ) → result ≡ Answer.Asked word text
+            → self.new ≡ with_inquiry self.old }
         ensures ended { ended_by took.old ≡ ended_of result }
         ensures no_write { result ≢ Answer.WriteFault }
     {
@@ -119,8 +125,10 @@ impl Tally {
 
     /// The answer by a line that isn't skipped.
     fn answer_by(&mut self, line: &Line) -> Answer
-        ensures says { IsStop self.old (Took.Line line.now) → Says self.old (Took.Line line.now) result }
-        ensures asked { (word text : List ℕ) → result ≡ Answer.Asked word text → self.new ≡ with_inquiry self.old }
+        ensures says { IsStop self.old (Took.Line line.now)
+            → Says self.old (Took.Line line.now) result }
+        ensures asked { (word text : List ℕ) → result ≡ Answer.Asked word text
+            → self.new ≡ with_inquiry self.old }
         ensures ended { ended_of result ≡ None }
         ensures no_write { result ≢ Answer.WriteFault }
     {
@@ -148,7 +156,8 @@ impl Tally {
     fn inquiry(&mut self, word: &[u8], text: &[u8]) -> Answer
         requires short { (length word.now ≤ MAX_LINE_LEN) × (length text.now ≤ MAX_LINE_LEN) }
         ensures answer { result ≡ inquiry_after self.old word.now text.now }
-        ensures asked { (word text : List ℕ) → result ≡ Answer.Asked word text → self.new ≡ with_inquiry self.old }
+        ensures asked { (word text : List ℕ) → result ≡ Answer.Asked word text
+            → self.new ≡ with_inquiry self.old }
     {
         if !self.count() {
             return Answer::Broken(Breach::Many);

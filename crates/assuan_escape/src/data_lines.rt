@@ -1,4 +1,5 @@
-ghost use Rattle.std.specs.Prelude.{◌≡◌, ◌≤◌, ◌<◌, ◌∷◌, ℕ, List, true, false, length, take, drop, MatchOption};
+ghost use Rattle.std.specs.Prelude.{◌≡◌, ◌≤◌, ◌<◌, ◌∷◌, ℕ, List, true, false, length, take, drop};
+ghost use Rattle.std.specs.Prelude.{MatchOption};
 ghost use Rattle.assuan_text.specs.declared.TheConstants.{MAX_LINE_LEN};
 ghost use Rattle.assuan_text.specs.Forms.{is_data};
 ghost use Rattle.assuan_text.specs.LineEnds.{has_lf};
@@ -8,7 +9,8 @@ use crate::{escape_into, unescape};
 use assuan_text::{MAX_LINE_LEN, Text, escaped_part};
 use wiping::{Wiped, wipe};
 
-/// The first data line of these bytes, which has as many of them as it can hold, and how many these are.
+/// The first data line of these bytes, which has as many of them as it can hold, and how many these
+/// are.
 pub fn full_line(bytes: &[u8]) -> (Wiped<MAX_LINE_LEN>, usize)
     requires { 0 < length bytes.now }
     ensures some { 0 < result.1 }
@@ -49,5 +51,6 @@ fn taken(text: &mut Text) -> Wiped<MAX_LINE_LEN>
 /// A law: any bytes are sent in one list of data lines, and in no other.
 pub fn data_lines_are_the_only_ones()
     ensures some { (bytes : List ℕ) → (pieces : List (List ℕ)) × AreData bytes pieces }
-    ensures only { (bytes : List ℕ) (pieces others : List (List ℕ)) → AreData bytes pieces → AreData bytes others → pieces ≡ others }
+    ensures only { (bytes : List ℕ) (pieces others : List (List ℕ)) → AreData bytes pieces
+        → AreData bytes others → pieces ≡ others }
 {}

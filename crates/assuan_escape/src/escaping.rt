@@ -1,4 +1,5 @@
-ghost use Rattle.std.specs.Prelude.{◌≡◌, ◌+◌, ◌<◌, ◌≤◌, ◌++◌, ◌↔◌, ℕ, List, false, length, take, slice_index, IsTrue, All};
+ghost use Rattle.std.specs.Prelude.{◌≡◌, ◌+◌, ◌<◌, ◌≤◌, ◌++◌, ◌↔◌, ℕ, List, false, length, take};
+ghost use Rattle.std.specs.Prelude.{slice_index, IsTrue, All};
 ghost use Rattle.std.specs.Bool.{OnTrue, OnFalse};
 ghost use Rattle.assuan_text.specs.declared.TheConstants.{MAX_LINE_LEN};
 ghost use Rattle.assuan_text.specs.LineEnds.{has_lf};
@@ -7,8 +8,8 @@ ghost use Rattle.assuan_escape.specs.Escapes.{is_escaped, escape_of, escapes, un
 use assuan_text::Text;
 use percent_encoding::percent_encode_byte;
 
-/// Appends the escapes of as many first bytes as fit whole, and says how many bytes that are. Escaped are `%`, CR, LF and
-/// the bytes from 128 on, as `%` and two uppercase digits.
+/// Appends the escapes of as many first bytes as fit whole, and says how many bytes that are.
+/// Escaped are `%`, CR, LF and the bytes from 128 on, as `%` and two uppercase digits.
 pub fn escape_into(bytes: &[u8], out: &mut Text) -> usize
     ensures within { result ≤ length bytes.now }
     ensures written { out.new.items ≡ out.old.items ++ escapes (take result bytes.now) }
@@ -18,7 +19,8 @@ pub fn escape_into(bytes: &[u8], out: &mut Text) -> usize
     ensures stops { result < length bytes.now
         → MAX_LINE_LEN < length out.new.items + length (escape_of (slice_index bytes.now result)) }
     ensures greatest { (count : ℕ) → count ≤ length bytes.now
-        → length out.old.items + length (escapes (take count bytes.now)) ≤ MAX_LINE_LEN → count ≤ result }
+        → length out.old.items + length (escapes (take count bytes.now)) ≤ MAX_LINE_LEN
+        → count ≤ result }
 
     // What is appended holds no line feed.
     ensures one_line { has_lf out.old.items ≡ false → has_lf out.new.items ≡ false }
@@ -55,5 +57,6 @@ fn is_escaped(byte: u8) -> bool
 
 /// A law: the escapes of any bytes are read as these bytes.
 pub fn escapes_are_undone()
-    ensures { (bytes : List ℕ) → All (λ byte. byte < 256) bytes → unescaped false (escapes bytes) ≡ bytes }
+    ensures { (bytes : List ℕ) → All (λ byte. byte < 256) bytes
+        → unescaped false (escapes bytes) ≡ bytes }
 {}

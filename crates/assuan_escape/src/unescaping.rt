@@ -6,8 +6,8 @@ ghost use Rattle.assuan_escape.specs.Escapes.{unescaped, with_blanks};
 use assuan_text::Text;
 use percent_encoding::percent_decode;
 
-/// The bytes that were meant by these. `%` and two hexadecimal digits of either case are a byte, and any other `%` stands
-/// for itself. A `+` is a blank where `plus`.
+/// The bytes that were meant by these. `%` and two hexadecimal digits of either case are a byte,
+/// and any other `%` stands for itself. A `+` is a blank where `plus`.
 pub fn unescape(bytes: &[u8], plus: bool) -> Text
     requires { length bytes.now ≤ MAX_LINE_LEN }
     ensures meant { result.items ≡ unescaped plus bytes.now }

@@ -1,4 +1,5 @@
-ghost use Rattle.std.specs.Prelude.{◌≡◌, ◌≤◌, ◌<◌, ◌+◌, ◌↔◌, [], ◌++◌, ℕ, List, false, length, take, drop, IsSome, IfSome};
+ghost use Rattle.std.specs.Prelude.{◌≡◌, ◌≤◌, ◌<◌, ◌+◌, ◌↔◌, [], ◌++◌, ℕ, List, false, length};
+ghost use Rattle.std.specs.Prelude.{take, drop, IsSome, IfSome};
 ghost use Rattle.std.specs.List.{position};
 ghost use Rattle.agent_ports.specs.Counts.{Rose};
 ghost use Rattle.agent_ports.specs.Sides.{followed_by, taken_by, IfBytes};
@@ -19,10 +20,12 @@ use wiping::{Wiped, wipe};
 /// The most bytes that a reader holds ahead of the lines that it gave.
 pub const MAX_AHEAD: usize = 4096;
 
-/// The bytes of the longest line and of its line end, CR LF. A reader that holds as many knows the line, or that it is too long.
+/// The bytes of the longest line and of its line end, CR LF. A reader that holds as many knows the
+/// line, or that it is too long.
 pub const MAX_UNDECIDED: usize = MAX_LINE_LEN + 2;
 
-/// The bytes that a reader took, and that belong to no line that it gave. They are overwritten when it is dropped.
+/// The bytes that a reader took, and that belong to no line that it gave. They are overwritten when
+/// it is dropped.
 pub(crate) enum Ahead {
     Ring(HeapCircularBuffer<u8>),
     /// Where there is no memory for a ring: the bytes of one line.
@@ -49,7 +52,8 @@ impl Ahead {
         Ahead::Piece(Wiped::new())
     }
 
-    /// Takes out the next line. `End` says that the bytes tell neither a line nor that one is too long.
+    /// Takes out the next line. `End` says that the bytes tell neither a line nor that one is too
+    /// long.
     pub(crate) fn take_line(&mut self) -> Took
         requires { IsWithin self.old }
         ensures took { result ≡ next_of (bytes_ahead self.old) }
@@ -70,19 +74,22 @@ impl Ahead {
         }
     }
 
-    /// Reads once, at most `most` bytes and no more than there is room for, and appends what came. A piece has room for a
-    /// byte, so that none is ever behind a line feed.
+    /// Reads once, at most `most` bytes and no more than there is room for, and appends what came.
+    /// A piece has room for a byte, so that none is ever behind a line feed.
     pub(crate) fn read<S: Source>(&mut self, most: u64, source: &mut S) -> Got
         requires some { 0 < most }
         requires room { length (bytes_ahead self.old) < MAX_UNDECIDED }
         requires within { IsWithin self.old }
         ensures count { IfBytes result (λ n. (1 ≤ n) × (n ≤ most) × (n ≤ MAX_AHEAD)) }
-        ensures read { IfBytes result (λ n. (read : List ℕ) × (length read ≡ n) × (bytes_ahead self.new ≡ bytes_ahead self.old ++ read)
+        ensures read { IfBytes result (λ n. (read : List ℕ) × (length read ≡ n)
+            × (bytes_ahead self.new ≡ bytes_ahead self.old ++ read)
             × ((S.input source.old).bytes ≡ followed_by read (S.input source.new).bytes)) }
-        ensures nothing { taken_by result ≡ 0 → (self.new ≡ self.old) × ((S.input source.new).bytes ≡ (S.input source.old).bytes) }
+        ensures nothing { taken_by result ≡ 0
+            → (self.new ≡ self.old) × ((S.input source.new).bytes ≡ (S.input source.old).bytes) }
         ensures within { IsWithin self.new }
         ensures end { result ≡ Got.End → IfSome (S.input source.old).bytes (λ rest. rest ≡ []) }
-        ensures fault { result ≡ Got.Failed → Rose (S.input source.old).faults (S.input source.new).faults }
+        ensures fault { result ≡ Got.Failed
+            → Rose (S.input source.old).faults (S.input source.new).faults }
         ensures faults { (S.input source.old).faults ≤ (S.input source.new).faults }
         ensures beside { S.beside_input source.new ≡ S.beside_input source.old }
     {

@@ -8,7 +8,8 @@ use agent_ports::Source;
 
 /// Which lines are skipped, and what is kept of them.
 pub trait LineFilter {
-    /// Whether a line is skipped behind these, in order: all that were skipped since the filter was made.
+    /// Whether a line is skipped behind these, in order: all that were skipped since the filter was
+    /// made.
     ghost skips: { List (List ℕ) → List ℕ → Bool };
 
     /// What the filter keeps of the lines that were skipped.
@@ -17,17 +18,20 @@ pub trait LineFilter {
     /// How many bytes it may keep.
     ghost limit: { Self → ℕ };
 
-    /// Whether the line is skipped. Then it counts among those that were, and something of it may be kept.
+    /// Whether the line is skipped. Then it counts among those that were, and something of it may
+    /// be kept.
     fn skip(&mut self, line: &Line) -> bool
-        ensures known { (before : List (List ℕ)) → keeps self.old before → result ≡ skips before line.now }
+        ensures known { (before : List (List ℕ)) → keeps self.old before
+            → result ≡ skips before line.now }
         ensures skipped { (before : List (List ℕ)) → keeps self.old before → result ≡ true
             → keeps self.new (before ++ line.now ∷ []) }
-        ensures stays { (before : List (List ℕ)) → keeps self.old before → result ≡ false → keeps self.new before }
+        ensures stays { (before : List (List ℕ)) → keeps self.old before → result ≡ false
+            → keeps self.new before }
         ensures limit { limit self.new ≡ limit self.old };
 }
 
-/// Reads on over the lines that the filter skips, and gives the first answer that is none of them. After any answer but a
-/// line no more is read.
+/// Reads on over the lines that the filter skips, and gives the first answer that is none of them.
+/// After any answer but a line no more is read.
 pub fn next_after_skipped<S: Source, F: LineFilter>(
     reader: &mut LineReader,
     source: &mut S,

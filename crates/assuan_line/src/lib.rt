@@ -1,8 +1,9 @@
 //! Lines of the Assuan protocol: read from bytes in whatever pieces they come, and written whole.
 //!
-//! Begin with [`LineReader::next`]: the next line of the bytes, however they are split into reads, or why there is none, each with its
-//! cause. It takes at most 4,096 bytes more than it needed, and loses none. [`write_line`] writes a line whole, or a prefix where the
-//! write failed. Definitions begin in `specs/Next`.
+//! Begin with [`LineReader::next`]: the next line of the bytes, however they are split into reads,
+//! or why there is none, each with its cause. It takes at most 4,096 bytes more than it needed, and
+//! loses none. [`write_line`] writes a line whole, or a prefix where the write failed. Definitions
+//! begin in `specs/Next`.
 #![tactic(auto)]
 
 mod breach;

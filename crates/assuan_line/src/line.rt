@@ -9,8 +9,9 @@ pub(crate) const LF: u8 = b'\n';
 
 pub(crate) const CR: u8 = b'\r';
 
-/// A line without its end: at most 1,000 bytes, none of them a line feed. It may hold a passphrase, so it isn't printed, and
-/// its bytes are overwritten when it is dropped. A drop is given its value by a move: `clear` overwrites them where they lie.
+/// A line without its end: at most 1,000 bytes, none of them a line feed. It may hold a passphrase,
+/// so it isn't printed, and its bytes are overwritten when it is dropped. A drop is given its value
+/// by a move: `clear` overwrites them where they lie.
 #[derive(Drop)]
 pub struct Line {
     bytes: Wiped<MAX_LINE_LEN>,
@@ -43,6 +44,7 @@ impl Line {
         Some(line)
     }
 
+    /// Its bytes, without the line feed.
     pub fn bytes(&self) -> &[u8]
         ensures bytes { result.now ≡ self.now }
         ensures is_line { IsLine self.now }

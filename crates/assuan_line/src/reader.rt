@@ -1,4 +1,5 @@
-ghost use Rattle.std.specs.Prelude.{◌≡◌, ◌≢◌, ◌≤◌, ◌+◌, ◌<◌, ◌∷◌, [], ◌++◌, ℕ, List, length, IsSome, IfSome, OnOk, IfErr, None};
+ghost use Rattle.std.specs.Prelude.{◌≡◌, ◌≢◌, ◌≤◌, ◌+◌, ◌<◌, ◌∷◌, [], ◌++◌, ℕ, List, length};
+ghost use Rattle.std.specs.Prelude.{IsSome, IfSome, OnOk, IfErr, None};
 ghost use Rattle.std.specs.Option.{option_map};
 ghost use Rattle.agent_ports.specs.Counts.{Rose};
 ghost use Rattle.agent_ports.specs.Sides.{WhereKnown};
@@ -19,6 +20,7 @@ pub const BUDGET: u64 = 1 << 40;
 /// What a read of a line gave.
 #[derive(Drop)]
 pub enum Took {
+    /// The next line.
     Line(Line),
     /// No line feed stands where a line of at most 1,000 bytes would end.
     TooLong,
@@ -26,6 +28,7 @@ pub enum Took {
     End,
     /// The budget was taken, and holds no whole line more.
     Spent,
+    /// A read failed.
     ReadFault,
 }
 
@@ -66,8 +69,8 @@ impl From<Stop> for Took {
     }
 }
 
-/// Reads lines from a source, whatever pieces their bytes come in. It reads ahead, and only where the bytes that it holds
-/// tell neither a line nor that one is too long.
+/// Reads lines from a source, whatever pieces their bytes come in. It reads ahead, and only where
+/// the bytes that it holds tell neither a line nor that one is too long.
 #[derive(Drop)]
 pub struct LineReader {
     ahead: Ahead,
@@ -83,7 +86,8 @@ impl Model for LineReader {
 
     ghost Value = { Reader };
 
-    ghost view = { λ r. record { ahead = bytes_ahead r.ahead; left = r.left; ended = option_map took_of r.stop } };
+    ghost view = { λ r.
+        record { ahead = bytes_ahead r.ahead; left = r.left; ended = option_map took_of r.stop } };
 
     ghost invariant = { λ r. IsWithin r.ahead };
 }
@@ -100,7 +104,8 @@ impl LineReader {
         }
     }
 
-    /// A reader that takes at most `budget` bytes and no memory: it reads as one of `new` does where there is none for its ring.
+    /// A reader that takes at most `budget` bytes and no memory: it reads as one of `new` does
+    /// where there is none for its ring.
     pub fn without_memory(budget: u64) -> Self
         ensures { result ≡ record { ahead = []; left = budget; ended = None } }
     {
@@ -111,20 +116,23 @@ impl LineReader {
         }
     }
 
-    /// Reads the next line. After any answer but a line the reader has ended, and gives that answer again and again.
+    /// Reads the next line. After any answer but a line the reader has ended, and gives that answer
+    /// again and again.
     pub fn next<S: Source>(&mut self, source: &mut S) -> Took
         // What it says of the bytes, where the source's bytes are known, until it has ended.
-        ensures known { self.old.ended ≡ None → WhereKnown (S.input source.old).bytes (S.input source.new).bytes
-            (λ rest left. IsNext self.old rest result self.new left) }
+        ensures known { self.old.ended ≡ None → WhereKnown (S.input source.old).bytes
+            (S.input source.new).bytes (λ rest left. IsNext self.old rest result self.new left) }
         // It takes no byte beyond its budget.
         ensures budget { WhereKnown (S.input source.old).bytes (S.input source.new).bytes
             (λ rest left. length rest + self.new.left ≡ length left + self.old.left) }
         // It takes what it needs, and of that one read at most more.
-        ensures needed { WhereKnown (S.input source.old).bytes (S.input source.new).bytes (TakesWhatItNeeds self.old.ahead) }
+        ensures needed { WhereKnown (S.input source.old).bytes (S.input source.new).bytes
+            (TakesWhatItNeeds self.old.ahead) }
         // Where the bytes ahead decide, it leaves the source alone.
         ensures alone { next_of self.old.ahead ≢ Took.End → source.new ≡ source.old }
         // No byte is lost but those of its lines.
-        ensures kept { IsSome self.new.ended → WhereKnown (S.input source.old).bytes (S.input source.new).bytes
+        ensures kept { IsSome self.new.ended
+            → WhereKnown (S.input source.old).bytes (S.input source.new).bytes
             (λ rest left. self.new.ahead ++ left ≡ self.old.ahead ++ rest) }
         ensures within { length self.new.ahead ≤ MAX_AHEAD }
 
@@ -150,18 +158,21 @@ impl LineReader {
     }
 }
 
-/// A law: line by line, a reader gives all lines of the bytes in order, as long as none is too long; at the end the bytes
-/// after the last line feed are left.
+/// A law: line by line, a reader gives all lines of the bytes in order, as long as none is too
+/// long; at the end the bytes after the last line feed are left.
 pub fn lines_come_in_order()
     ensures line { (bytes line : List ℕ) → next_of bytes ≡ Took.Line line
-        → (lines_of bytes ≡ line ∷ lines_of (after_line bytes)) × (rest_of bytes ≡ rest_of (after_line bytes)) }
-    ensures end { (bytes : List ℕ) → next_of bytes ≡ Took.End → (lines_of bytes ≡ []) × (rest_of bytes ≡ bytes) }
+        → (lines_of bytes ≡ line ∷ lines_of (after_line bytes))
+        × (rest_of bytes ≡ rest_of (after_line bytes)) }
+    ensures end { (bytes : List ℕ) → next_of bytes ≡ Took.End
+        → (lines_of bytes ≡ []) × (rest_of bytes ≡ bytes) }
 {}
 
 /// Reads until the bytes ahead tell a line or that one is too long, or no more can be read.
 fn take_line<S: Source>(ahead: &mut Ahead, left: &mut u64, source: &mut S) -> Took
     requires { IsWithin ahead.old }
-    ensures taken { TakeLine (reader_at ahead.old left.old) (S.input source.old) result (reader_at ahead.new left.new) (S.input source.new) }
+    ensures taken { TakeLine (reader_at ahead.old left.old) (S.input source.old) result
+        (reader_at ahead.new left.new) (S.input source.new) }
     ensures alone { next_of (bytes_ahead ahead.old) ≢ Took.End → source.new ≡ source.old }
     ensures beside { S.beside_input source.new ≡ S.beside_input source.old }
     ensures within { IsWithin ahead.new }
@@ -181,10 +192,11 @@ fn take_line<S: Source>(ahead: &mut Ahead, left: &mut u64, source: &mut S) -> To
 fn read_ahead<S: Source>(ahead: &mut Ahead, left: &mut u64, source: &mut S) -> Result<(), Stop>
     requires undecided { next_of (bytes_ahead ahead.old) ≡ Took.End }
     requires within { IsWithin ahead.old }
-    ensures read { ReadAhead (reader_at ahead.old left.old) (S.input source.old) (reader_at ahead.new left.new) (S.input source.new) }
+    ensures read { ReadAhead (reader_at ahead.old left.old) (S.input source.old)
+        (reader_at ahead.new left.new) (S.input source.new) }
     ensures progress { OnOk result (left.new < left.old) }
-    ensures stop { IfErr result (λ stop. Decides (reader_at ahead.new left.new) (S.input source.old) (took_of stop)
-        (reader_at ahead.new left.new) (S.input source.new)) }
+    ensures stop { IfErr result (λ stop. Decides (reader_at ahead.new left.new) (S.input source.old)
+        (took_of stop) (reader_at ahead.new left.new) (S.input source.new)) }
     ensures beside { S.beside_input source.new ≡ S.beside_input source.old }
     ensures within { IsWithin ahead.new }
 {

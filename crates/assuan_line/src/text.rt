@@ -12,7 +12,8 @@ use wiping::Wiped;
 /// Writes one line, whose text is the parts one behind another.
 pub fn write_text<K: Sink>(sink: &mut K, parts: &[&[u8]]) -> Sent
     requires { IsLine (flat_map (λ part. part.now) parts.now) }
-    ensures sent { HasSent (line_of (flat_map (λ part. part.now) parts.now)) (K.output sink.old) result (K.output sink.new) }
+    ensures sent { HasSent (line_of (flat_map (λ part. part.now) parts.now))
+        (K.output sink.old) result (K.output sink.new) }
     ensures faults { (K.output sink.old).faults ≤ (K.output sink.new).faults }
     ensures beside { K.beside_output sink.new ≡ K.beside_output sink.old }
 {

@@ -14,7 +14,8 @@ pub(crate) const MAX_WRITTEN_LEN: usize = MAX_LINE_LEN + 1;
 /// Writes the line and a line feed. Where the write fails, some first bytes of these went.
 pub fn write_line<K: Sink>(sink: &mut K, line: &Line) -> Sent
     ensures cut { IfCut result (λ sent. sent ≤ length line.now + 1) }
-    ensures written { (K.output sink.new).bytes ≡ with_bytes (K.output sink.old).bytes (sent_part (line.now ++ 10 ∷ []) result) }
+    ensures written { (K.output sink.new).bytes ≡ with_bytes (K.output sink.old).bytes
+        (sent_part (line.now ++ 10 ∷ []) result) }
     ensures failed { IsCut result → Rose (K.output sink.old).faults (K.output sink.new).faults }
     ensures faults { (K.output sink.old).faults ≤ (K.output sink.new).faults }
     ensures beside { K.beside_output sink.new ≡ K.beside_output sink.old }

@@ -83,7 +83,8 @@ impl InquiredSecret {
 }
 
 impl Code {
-    /// The code by which a request is refused whose client has said this. One that is gone is told no more, but that its line was too long.
+    /// The code by which a request is refused whose client has said this. One that is gone is told
+    /// no more, but that its line was too long.
     pub fn refusing(unheard: Unheard) -> Option<Code>
         ensures { result ≡ refusal_code unheard }
     {

@@ -9,7 +9,8 @@ ghost use Rattle.assuan_text.specs.declared.TheConstants.{MAX_LINE_LEN};
 ghost use Rattle.assuan_server.specs.Connections.{IsOpen};
 ghost use Rattle.assuan_server.specs.Requests.{NextRequest};
 ghost use Rattle.assuan_server.specs.Errors.{error_text};
-ghost use Rattle.assuan_server.specs.Written.{greeting, ok_text, status_text, comment_text, HasWritten};
+ghost use Rattle.assuan_server.specs.Written.{greeting, ok_text, status_text, comment_text};
+ghost use Rattle.assuan_server.specs.Written.{HasWritten};
 
 use crate::errors::{Code, Origin, error_text};
 use crate::request::Ignored;
@@ -18,16 +19,18 @@ use assuan_line::{LineFilter, LineReader, Took, next_after_skipped, write_text};
 use std::alloc::Global;
 use std::marker::Model;
 
-/// A server's connection to its client, over a link that it borrows: the server's side of the Assuan protocol (Assuan manual,
-/// "server responses" and "client requests"). Each line has at most 1,000 bytes before its line feed.
+/// A server's connection to its client, over a link that it borrows: the server's side of the
+/// Assuan protocol (Assuan manual, "server responses" and "client requests"). Each line has at most
+/// 1,000 bytes before its line feed.
 ///
-/// A session goes so: `greet` once, then `next_request` up to an answer that is no line. Each request is answered by any number
-/// of `status`, `comment` and `data`, and of inquiries where the client is to give something, and at last by one `ok` or `err`.
-/// Once a call has answered that the input ended, or that a line was too long, nothing is read any more. At the end `into_link`
-/// gives the link back.
+/// A session goes so: `greet` once, then `next_request` up to an answer that is no line. Each
+/// request is answered by any number of `status`, `comment` and `data`, and of inquiries where the
+/// client is to give something, and at last by one `ok` or `err`. Once a call has answered that the
+/// input ended, or that a line was too long, nothing is read any more. At the end `into_link` gives
+/// the link back.
 ///
-/// A call that writes answers how much of its lines went, and leaves the input alone. Contracts see the link's two sides and
-/// the reader of its lines.
+/// A call that writes answers how much of its lines went, and leaves the input alone. Contracts see
+/// the link's two sides and the reader of its lines.
 #[derive(Drop)]
 pub struct Conn<'a, L: Link> {
     link: &'a mut L,
@@ -71,8 +74,8 @@ impl<'a, L: Link> Conn<'a, L> {
         }
     }
 
-    /// Gives the link back. A caller whose own contract speaks of the link ends a connection so: what the connection did is
-    /// then known of the link.
+    /// Gives the link back. A caller whose own contract speaks of the link ends a connection so:
+    /// what the connection did is then known of the link.
     pub fn into_link(self) -> &'a mut L
         ensures link { result.ghost_name ≡ self.entry.link }
         ensures input { L.input result.now ≡ self.entry.input }
@@ -101,7 +104,8 @@ impl<'a, L: Link> Conn<'a, L> {
         self.say(&[b"OK ", text])
     }
 
-    /// Says that a command failed: `ERR`, the error's number, its description, and in angle brackets where it comes from.
+    /// Says that a command failed: `ERR`, the error's number, its description, and in angle
+    /// brackets where it comes from.
     pub fn err(&mut self, code: Code, origin: Origin) -> Sent
         ensures { HasWritten (line_of (error_text code origin)) self.old result self.new }
     {
@@ -124,8 +128,8 @@ impl<'a, L: Link> Conn<'a, L> {
         self.say(&[b"# ", text])
     }
 
-    /// Reads the next request: the next line that isn't empty, nor nothing but blanks and tabs, nor a comment. It isn't
-    /// split into words. After any answer but a line no more is read.
+    /// Reads the next request: the next line that isn't empty, nor nothing but blanks and tabs, nor
+    /// a comment. It isn't split into words. After any answer but a line no more is read.
     pub fn next_request(&mut self) -> Took
         requires { IsOpen self.old }
         ensures { NextRequest self.old result self.new }
@@ -149,7 +153,8 @@ impl<'a, L: Link> Conn<'a, L> {
     /// Writes one line, whose text is the parts one behind another.
     pub(crate) fn say(&mut self, parts: &[&[u8]]) -> Sent
         requires { IsLine (flat_map (λ part. part.now) parts.now) }
-        ensures { HasWritten (line_of (flat_map (λ part. part.now) parts.now)) self.old result self.new }
+        ensures { HasWritten
+            (line_of (flat_map (λ part. part.now) parts.now)) self.old result self.new }
     {
         write_text(self.link, parts)
     }

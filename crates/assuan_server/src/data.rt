@@ -12,8 +12,9 @@ use assuan_text::Text;
 use wiping::wipe;
 
 impl<'a, L: Link> Conn<'a, L> {
-    /// Writes the bytes as data lines, `D`, a blank and escaped bytes: each of at most 1,000 bytes and as full as no cut escape
-    /// allows, and no line for no bytes. Where a write fails, the bytes of all these lines that went are counted.
+    /// Writes the bytes as data lines, `D`, a blank and escaped bytes: each of at most 1,000 bytes
+    /// and as full as no cut escape allows, and no line for no bytes. Where a write fails, the
+    /// bytes of all these lines that went are counted.
     pub fn data(&mut self, bytes: &[u8]) -> Sent
         ensures { (pieces : List (List ℕ)) × AreData bytes.now pieces
             × HasWritten (data_text pieces) self.old result self.new }
@@ -24,7 +25,8 @@ impl<'a, L: Link> Conn<'a, L> {
         }
     }
 
-    /// Writes the bytes as data lines, as `data` does, and that the command was carried out: in one piece where that is short.
+    /// Writes the bytes as data lines, as `data` does, and that the command was carried out: in one
+    /// piece where that is short.
     pub fn last_data(&mut self, bytes: &[u8]) -> Sent
         ensures { (pieces : List (List ℕ)) × AreData bytes.now pieces
             × HasWritten (data_text pieces ++ line_of (ok_text [])) self.old result self.new }
@@ -64,7 +66,8 @@ impl<'a, L: Link> Conn<'a, L> {
 
     /// Says that the command was carried out. Counts it with what was written before.
     fn ok_after(&mut self, count: usize) -> Sent
-        ensures { (first : List ℕ) (before : Connection) → HasWritten first before Sent.All self.old → count ≡ min (length first) (2 ^ 64 - 1)
+        ensures { (first : List ℕ) (before : Connection)
+            → HasWritten first before Sent.All self.old → count ≡ min (length first) (2 ^ 64 - 1)
             → HasWritten (first ++ line_of (ok_text [])) before result self.new }
     {
         match self.ok(b"") {
@@ -76,7 +79,8 @@ impl<'a, L: Link> Conn<'a, L> {
     }
 }
 
-/// Fills the text with the data line of the bytes and `OK`. `false` where they take no line, or more than fit.
+/// Fills the text with the data line of the bytes and `OK`. `false` where they take no line, or
+/// more than fit.
 fn fill_answer(bytes: &[u8], text: &mut Text) -> bool
     requires { text.old.items ≡ [] }
     ensures { OnTrue result (AreData bytes.now (bytes.now ∷ [])

@@ -1,7 +1,8 @@
 ghost use Rattle.std.specs.Prelude.{◌≡◌, ◌≤◌, ◌<◌, ◌^◌, length, false};
 ghost use Rattle.assuan_text.specs.LineEnds.{has_lf};
 ghost use Rattle.assuan_line.specs.Lines.{IsLine};
-ghost use Rattle.assuan_server.specs.Errors.{code_of, error_description, source_of, source_name, error_number, error_text};
+ghost use Rattle.assuan_server.specs.Errors.{code_of, error_description, source_of, source_name};
+ghost use Rattle.assuan_server.specs.Errors.{error_number, error_text};
 
 use assuan_text::Text;
 use itoa::Buffer;
@@ -11,7 +12,8 @@ use std::fmt;
 /// What went wrong, as an error line says it. The command that it answers has done nothing more.
 #[derive(Clone, Copy, Debug, PartialEq, Eq)]
 pub enum Code {
-    /// A failure with no code of its own, as of a key file or trust list that can't be read, or of random bytes.
+    /// A failure with no code of its own, as of a key file or trust list that can't be read, or of
+    /// random bytes.
     General,
     /// A key that isn't in the form of a secret key, or is too long for a file.
     BadSecKey,
@@ -43,7 +45,8 @@ pub enum Code {
     Forbidden,
     /// A line of more than 1,000 bytes. The session ends.
     LineTooLong,
-    /// More bytes in an inquiry than it takes, which were read and dropped, or a trust list that would be too long.
+    /// More bytes in an inquiry than it takes, which were read and dropped, or a trust list that
+    /// would be too long.
     TooMuch,
     /// A line within an inquiry that is no line of one. It isn't run as a command.
     Unexpected,
@@ -68,7 +71,9 @@ impl Error for Code {}
 /// Where an error comes from.
 #[derive(Clone, Copy, Debug, PartialEq, Eq)]
 pub enum Origin {
+    /// The agent itself.
     Agent,
+    /// Its pinentry.
     Pinentry,
 }
 

@@ -1,8 +1,10 @@
-//! One connection of a server to its client: the lines that it writes, the requests that it reads, and inquiries.
+//! One connection of a server to its client: the lines that it writes, the requests that it reads,
+//! and inquiries.
 //!
-//! Begin with [`Conn::new`], `greet` and [`Conn::next_request`]. A call that writes puts exactly its lines, or a prefix where a write
-//! failed; one that reads gives the one request, or the one outcome of an inquiry, that the client's lines come to. [`Code`] has the
-//! errors. Definitions begin in `specs/Connections` and `specs/Inquiries`.
+//! Begin with [`Conn::new`], `greet` and [`Conn::next_request`]. A call that writes puts exactly
+//! its lines, or a prefix where a write failed; one that reads gives the one request, or the one
+//! outcome of an inquiry, that the client's lines come to. [`Code`] has the errors. Definitions
+//! begin in `specs/Connections` and `specs/Inquiries`.
 #![tactic(auto)]
 
 mod client;

@@ -25,6 +25,7 @@ impl LineFilter for Ignored {
 /// A law: the bytes decide which line is the next request, and which bytes are left behind it.
 pub fn requests_are_the_only_ones()
     ensures { (bytes line other : List ℕ) (after later : Reader) (left rest : List ℕ)
-        → IsNextRequest bytes (Took.Line line) after left → IsNextRequest bytes (Took.Line other) later rest
+        → IsNextRequest bytes (Took.Line line) after left
+        → IsNextRequest bytes (Took.Line other) later rest
         → (line ≡ other) × (after.ahead ++ left ≡ later.ahead ++ rest) }
 {}

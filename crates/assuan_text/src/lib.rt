@@ -1,7 +1,9 @@
-//! What every reader of the lines of an Assuan server or client reads alike: blanks, words and options, the forms of lines,
-//! numbers of decimal digits, and names in a table. No call takes memory.
+//! What every reader of the lines of an Assuan server or client reads alike: blanks, words and
+//! options, the forms of lines, numbers of decimal digits, and names in a table. No call takes
+//! memory.
 //!
-//! Begin with [`command_and_rest`] and [`next_word`]. Each call is its definition, exactly. They begin in `specs/Forms` and `specs/Words`.
+//! Begin with [`command_and_rest`] and [`next_word`]. Each call is its definition, exactly. They
+//! begin in `specs/Forms` and `specs/Words`.
 #![tactic(auto)]
 
 mod blanks;

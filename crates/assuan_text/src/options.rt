@@ -1,7 +1,9 @@
-ghost use Rattle.std.specs.Prelude.{◌≡◌, ◌≤◌, ◌<◌, ◌+◌, ◌∷◌, true, false, length, drop, MatchOption};
+ghost use Rattle.std.specs.Prelude.{◌≡◌, ◌≤◌, ◌<◌, ◌+◌, ◌∷◌, true, false, length, drop};
+ghost use Rattle.std.specs.Prelude.{MatchOption};
 ghost use Rattle.std.specs.List.{prefix_len};
 ghost use Rattle.std.specs.Option.{option_map};
-ghost use Rattle.assuan_text.specs.Options.{is_option, options_of, arguments_of, has_option, gives_value, names_option, last_option, last_value};
+ghost use Rattle.assuan_text.specs.Options.{is_option, options_of, arguments_of, has_option};
+ghost use Rattle.assuan_text.specs.Options.{gives_value, names_option, last_option, last_value};
 ghost use Rattle.assuan_text.specs.Words.{words};
 
 use crate::words::next_word;
@@ -24,7 +26,8 @@ pub fn has_option(text: &[u8], name: &[u8]) -> bool
 
 /// The last option of this name in the text, with a value or without.
 pub fn last_option<'a>(text: &'a [u8], name: &[u8]) -> Option<&'a [u8]>
-    ensures { option_map (λ option. option.now) result ≡ last_option name.now (options_of (words text.now)) }
+    ensures { option_map (λ option. option.now) result ≡ last_option name.now
+        (options_of (words text.now)) }
 {
     let mut rest = text;
     let mut latest = None;
@@ -49,7 +52,8 @@ fn names_option(name: &[u8], option: &[u8]) -> bool
 
 /// What the last option of this name with a value says. The name alone is another option.
 pub fn last_value<'a>(text: &'a [u8], name: &[u8]) -> Option<&'a [u8]>
-    ensures { option_map (λ value. value.now) result ≡ last_value name.now (options_of (words text.now)) }
+    ensures { option_map (λ value. value.now) result ≡ last_value name.now
+        (options_of (words text.now)) }
 {
     let mut rest = text;
     let mut latest = None;
@@ -64,8 +68,9 @@ pub fn last_value<'a>(text: &'a [u8], name: &[u8]) -> Option<&'a [u8]>
 
 /// What the option says, if it is the one of that name with a value.
 fn value_in<'a>(name: &[u8], option: &'a [u8]) -> Option<&'a [u8]>
-    ensures { MatchOption result (gives_value name.now option.now ≡ false)
-        (λ value. (gives_value name.now option.now ≡ true) × (value.now ≡ drop (length name.now + 1) option.now)) }
+    ensures { MatchOption result
+        (gives_value name.now option.now ≡ false) (λ value. (gives_value name.now option.now ≡ true)
+        × (value.now ≡ drop (length name.now + 1) option.now)) }
 {
     option.strip_prefix(name)?.strip_prefix(b"=")
 }
@@ -83,7 +88,8 @@ pub fn arguments(text: &[u8]) -> &[u8]
 }
 
 fn after_options(text: &[u8]) -> &[u8]
-    ensures words { words result.now ≡ drop (prefix_len is_option (words text.now)) (words text.now) }
+    ensures words { words result.now ≡ drop (prefix_len is_option (words text.now))
+        (words text.now) }
     ensures shorter { length result.now ≤ length text.now }
 {
     let mut rest = text;
@@ -95,8 +101,8 @@ fn after_options(text: &[u8]) -> &[u8]
 
 /// The first word of the text, if it is an option, and what comes after it.
 fn next_option(text: &[u8]) -> Option<(&[u8], &[u8])>
-    ensures words { MatchOption result (prefix_len is_option (words text.now) ≡ 0)
-        (λ parts. (words text.now ≡ parts.0.now ∷ words parts.1.now) × (is_option parts.0.now ≡ true)) }
+    ensures words { MatchOption result (prefix_len is_option (words text.now) ≡ 0) (λ parts.
+        (words text.now ≡ parts.0.now ∷ words parts.1.now) × (is_option parts.0.now ≡ true)) }
     ensures shorter { MatchOption result (prefix_len is_option (words text.now) ≡ 0)
         (λ parts. length parts.1.now < length text.now) }
 {

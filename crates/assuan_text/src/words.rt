@@ -18,7 +18,8 @@ pub fn command_and_rest(line: &[u8]) -> (&[u8], &[u8])
 
 /// The first word of a text, and what comes after it.
 pub fn next_word(text: &[u8]) -> Option<(&[u8], &[u8])>
-    ensures words { MatchOption result (words text.now ≡ []) (λ parts. words text.now ≡ parts.0.now ∷ words parts.1.now) }
+    ensures words { MatchOption result
+        (words text.now ≡ []) (λ parts. words text.now ≡ parts.0.now ∷ words parts.1.now) }
     ensures shorter { MatchOption result (words text.now ≡ [])
         (λ parts. (length parts.0.now ≤ length text.now) × (length parts.1.now < length text.now)) }
 {

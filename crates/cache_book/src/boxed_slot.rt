@@ -7,7 +7,8 @@ use cache_policy::{Entry, Secret};
 use std::alloc::{AllocError, Global};
 use std::marker::Model;
 
-/// A slot in memory of its own. So its place among others is small, and a move of it leaves no copy of the passphrase.
+/// A slot in memory of its own. So its place among others is small, and a move of it leaves no copy
+/// of the passphrase.
 #[derive(Drop)]
 pub(crate) struct BoxedSlot {
     // That of its entry's id. It stands beside the box, so that a search reads few boxes.
@@ -120,7 +121,8 @@ impl BoxedSlot {
         }
     }
 
-    /// Restarts its ttl where it is the entry with this number, and answers its place where that has moved.
+    /// Restarts its ttl where it is the entry with this number, and answers its place where that
+    /// has moved.
     pub(crate) fn touch(&mut self, number: u64, now: u64) -> Option<Place>
         ensures touched { self.new ≡ touch_slot number now self.old }
         ensures moved { IfSome result (λ place. place ≡ place_of self.new) }

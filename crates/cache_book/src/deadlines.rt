@@ -1,4 +1,5 @@
-ghost use Rattle.std.specs.Prelude.{◌≡◌, ◌+◌, ◌<◌, ◌≤◌, ◌==◌, ◌||◌, true, false, [], nat_le, OnOk, IfSome, IfNone, IsSome};
+ghost use Rattle.std.specs.Prelude.{◌≡◌, ◌+◌, ◌<◌, ◌≤◌, ◌==◌, ◌||◌, true, false, [], nat_le, OnOk};
+ghost use Rattle.std.specs.Prelude.{IfSome, IfNone, IsSome};
 ghost use Rattle.std.specs.BinaryHeap.{IsHeap, heap_items, heap_len, heap_capacity};
 ghost use Rattle.std.specs.List.{AllByRecursion};
 ghost use Rattle.cache_book.specs.declared.deadlines.Place.{Place as OnePlace};
@@ -10,7 +11,8 @@ use std::cmp::Reverse;
 use std::collections::BinaryHeap;
 use std::marker::Model;
 
-/// Where a slot stands among others in the order of their deadlines, and by what it is found among those in the order of their ids.
+/// Where a slot stands among others in the order of their deadlines, and by what it is found among
+/// those in the order of their ids.
 #[derive(Clone, Copy, PartialEq, Eq, PartialOrd, Ord)]
 pub(crate) struct Place {
     /// Its deadline, in seconds.
@@ -21,7 +23,8 @@ pub(crate) struct Place {
 
 /// Places of slots, that of the soonest deadline in front.
 ///
-/// One that a slot has left, since it was used or is gone, stays until it passes or the places are collected anew.
+/// One that a slot has left, since it was used or is gone, stays until it passes or the places are
+/// collected anew.
 #[derive(Drop)]
 pub(crate) struct Deadlines {
     places: BinaryHeap<Reverse<Place>>,
@@ -33,7 +36,11 @@ impl Model for Deadlines {
 
     ghost Value = { AtDeadlines };
 
-    ghost view = { λ deadlines. record { places = heap_items deadlines.places; len = heap_len deadlines.places; capacity = heap_capacity deadlines.places } };
+    ghost view = { λ deadlines. record {
+      places = heap_items deadlines.places;
+      len = heap_len deadlines.places;
+      capacity = heap_capacity deadlines.places;
+    } };
 
     ghost invariant = { λ deadlines. IsHeap soonest_is_greatest (heap_items deadlines.places) };
 }
@@ -73,7 +80,8 @@ impl Deadlines {
     /// Adds one, for which there is room.
     pub(crate) fn add(&mut self, place: Place)
         requires { self.old.len < self.old.capacity }
-        ensures places { (other : OnePlace) → is_among other self.new.places ≡ (is_place place other || is_among other self.old.places) }
+        ensures places { (other : OnePlace) → is_among other self.new.places
+            ≡ (is_place place other || is_among other self.old.places) }
         ensures len { self.new.len ≡ self.old.len + 1 }
         ensures capacity { self.old.capacity ≤ self.new.capacity }
     {
@@ -92,10 +100,13 @@ impl Deadlines {
 
     /// Drops the place in front if that is before `now`, and answers its hash.
     pub(crate) fn pop_past(&mut self, now: u64) -> Option<u64>
-        ensures later { (place : OnePlace) → now ≤ place.moment → is_among place self.new.places ≡ is_among place self.old.places }
-        ensures others { IfSome result (λ hash. (place : OnePlace) → (hash == place.hash) ≡ false → is_among place self.new.places ≡ is_among place self.old.places) }
+        ensures later { (place : OnePlace) → now ≤ place.moment
+            → is_among place self.new.places ≡ is_among place self.old.places }
+        ensures others { IfSome result (λ hash. (place : OnePlace) → (hash == place.hash) ≡ false
+            → is_among place self.new.places ≡ is_among place self.old.places) }
         ensures fewer { IsSome result → self.new.len + 1 ≡ self.old.len }
-        ensures none { IfNone result (AllByRecursion (λ place. now ≤ place.0.moment) self.old.places) }
+        ensures none { IfNone result
+            (AllByRecursion (λ place. now ≤ place.0.moment) self.old.places) }
         ensures unchanged { IfNone result (self.new.places ≡ self.old.places) }
         ensures capacity { self.new.capacity ≡ self.old.capacity }
     {
@@ -104,7 +115,8 @@ impl Deadlines {
 
     /// Drops those before `now`, and answers whether there was one.
     pub(crate) fn drop_past(&mut self, now: u64) -> bool
-        ensures later { (place : OnePlace) → now ≤ place.moment → is_among place self.new.places ≡ is_among place self.old.places }
+        ensures later { (place : OnePlace) → now ≤ place.moment
+            → is_among place self.new.places ≡ is_among place self.old.places }
         ensures gone { AllByRecursion (λ place. now ≤ place.0.moment) self.new.places }
         ensures unchanged { result ≡ false → self.new.places ≡ self.old.places }
         ensures capacity { self.new.capacity ≡ self.old.capacity }
@@ -120,10 +132,13 @@ impl Deadlines {
 fn pop_past_in(places: &mut BinaryHeap<Reverse<Place>>, now: u64) -> Option<u64>
     requires { IsHeap soonest_is_greatest (heap_items places.old) }
     ensures order { IsHeap soonest_is_greatest (heap_items places.new) }
-    ensures later { (place : OnePlace) → now ≤ place.moment → is_among place (heap_items places.new) ≡ is_among place (heap_items places.old) }
-    ensures others { IfSome result (λ hash. (place : OnePlace) → (hash == place.hash) ≡ false → is_among place (heap_items places.new) ≡ is_among place (heap_items places.old)) }
+    ensures later { (place : OnePlace) → now ≤ place.moment
+        → is_among place (heap_items places.new) ≡ is_among place (heap_items places.old) }
+    ensures others { IfSome result (λ hash. (place : OnePlace) → (hash == place.hash) ≡ false
+        → is_among place (heap_items places.new) ≡ is_among place (heap_items places.old)) }
     ensures fewer { IsSome result → heap_len places.new + 1 ≡ heap_len places.old }
-    ensures none { IfNone result (AllByRecursion (λ place. now ≤ place.0.moment) (heap_items places.old)) }
+    ensures none { IfNone result
+        (AllByRecursion (λ place. now ≤ place.0.moment) (heap_items places.old)) }
     ensures unchanged { IfNone result (heap_items places.new ≡ heap_items places.old) }
     ensures capacity { heap_capacity places.new ≡ heap_capacity places.old }
 {
@@ -139,7 +154,8 @@ fn pop_past_in(places: &mut BinaryHeap<Reverse<Place>>, now: u64) -> Option<u64>
 fn front_is_past(places: &BinaryHeap<Reverse<Place>>, now: u64) -> bool
     requires { IsHeap soonest_is_greatest (heap_items places.now) }
     ensures past { result ≡ true → FrontIsPast now (heap_items places.now) (heap_len places.now) }
-    ensures yet { result ≡ false → AllByRecursion (λ place. now ≤ place.0.moment) (heap_items places.now) }
+    ensures yet { result ≡ false
+        → AllByRecursion (λ place. now ≤ place.0.moment) (heap_items places.now) }
 {
     match places.peek() {
         Some(front) => front.0.moment < now,

@@ -4,8 +4,8 @@ use std::alloc::Global;
 /// How many slots a range of hashes has on average, where there are as many as there is room for.
 const SLOTS_PER_RANGE: usize = 16;
 
-/// At most how many slots are looked at for a guess. A range has more where somebody chose the hashes, or where there was no memory for
-/// more ranges.
+/// At most how many slots are looked at for a guess. A range has more where somebody chose the
+/// hashes, or where there was no memory for more ranges.
 const MAX_LOOKED_AT: usize = 64;
 
 /// Where the slots of each range of hashes begin, so that a search among many is one among a few.
@@ -13,7 +13,8 @@ const MAX_LOOKED_AT: usize = 64;
 /// It is a guess, and nothing but speed hangs on it: a search checks it.
 #[derive(Drop)]
 pub(crate) struct Guide {
-    // Of each range, the place of the first slot that is in it or in a later one. The ranges are of one size, in the order of their hashes.
+    // Of each range, the place of the first slot that is in it or in a later one. The ranges are of
+    // one size, in the order of their hashes.
     starts: Vec<u32>,
 }
 
@@ -25,7 +26,8 @@ impl Guide {
         }
     }
 
-    /// The place of the first slot whose hash isn't lower than this one, if the starts are right and few are in its range.
+    /// The place of the first slot whose hash isn't lower than this one, if the starts are right
+    /// and few are in its range.
     pub(crate) fn guess(&self, slots: &[BoxedSlot], hash: u64) -> usize {
         let (start, end) = self.range(hash, slots.len());
         match slots.get(start..end) {
@@ -47,7 +49,8 @@ impl Guide {
         self.starts.get(range).map(|start| *start as usize)
     }
 
-    /// Makes ranges for as many slots as there is room for. Where there is no memory for them, a search is only slower.
+    /// Makes ranges for as many slots as there is room for. Where there is no memory for them, a
+    /// search is only slower.
     pub(crate) fn widen(&mut self, slots: &[BoxedSlot], capacity: usize) {
         let ranges = capacity / SLOTS_PER_RANGE;
         if self.starts.len() < ranges && self.starts.resize(ranges, 0).is_ok() {
@@ -55,7 +58,8 @@ impl Guide {
         }
     }
 
-    /// Shifts the starts of the ranges behind that of a hash. Slots of it were stored or dropped: all slots were `before`, and are `after`.
+    /// Shifts the starts of the ranges behind that of a hash. Slots of it were stored or dropped:
+    /// all slots were `before`, and are `after`.
     pub(crate) fn shift_behind(&mut self, hash: u64, before: usize, after: usize) {
         if before == after {
             return;
@@ -103,7 +107,8 @@ fn add_to_each(starts: &mut [u32], by: u32) {
     }
 }
 
-/// How many of these slots have a lower hash. All are compared, and without a branch: a processor can't predict where the lower ones end.
+/// How many of these slots have a lower hash. All are compared, and without a branch: a processor
+/// can't predict where the lower ones end.
 fn lower_among(slots: &[BoxedSlot], hash: u64) -> usize {
     let mut lower: usize = 0;
     for slot in slots {

@@ -1,7 +1,9 @@
-//! The live entries of the cache: which of them are kept, and which request each of them still serves.
+//! The live entries of the cache: which of them are kept, and which request each of them still
+//! serves.
 //!
-//! [`Shelf`] is what the cache core stands on. [`ListShelf`] is the plain one that meets it, and [`SlotShelf`] the one with its slots in
-//! order. Each call is said on the whole list of slots, so one shelf is like another to its caller. Definitions begin in `specs/Slots`.
+//! [`Shelf`] is what the cache core stands on. [`ListShelf`] is the plain one that meets it, and
+//! [`SlotShelf`] the one with its slots in order. Each call is said on the whole list of slots, so
+//! one shelf is like another to its caller. Definitions begin in `specs/Slots`.
 #![tactic(auto)]
 
 mod boxed_slot;

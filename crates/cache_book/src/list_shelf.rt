@@ -1,6 +1,7 @@
 ghost use Rattle.std.specs.Prelude.{◌≡◌, [], map, find, IfSome, IfNone, vec_len, vec_capacity};
 ghost use Rattle.std.specs.Option.{option_copied};
-ghost use Rattle.cache_book.specs.Shelves.{serves_at, IsGrantFrom, ServesNone, AreWithinMode, touched, hide};
+ghost use Rattle.cache_book.specs.Shelves.{serves_at, IsGrantFrom, ServesNone, AreWithinMode};
+ghost use Rattle.cache_book.specs.Shelves.{touched, hide};
 
 use crate::{Shelf, Slot};
 use cache_policy::{CacheId, Entry, Grant, Mode, NoMemory};
@@ -20,7 +21,10 @@ impl Model for ListShelf {
 
     ghost Value = { AtShelf };
 
-    ghost view = { λ shelf. record { slots = shelf.slots.items; spare = vec_capacity shelf.slots - vec_len shelf.slots } };
+    ghost view = { λ shelf. record {
+      slots = shelf.slots.items;
+      spare = vec_capacity shelf.slots - vec_len shelf.slots;
+    } };
 
     ghost invariant = { λ shelf. AreWithinMode shelf.slots.items };
 }

@@ -6,10 +6,15 @@ use cache_policy::Mode;
 /// A set of modes.
 #[derive(Clone, Copy, Debug, PartialEq, Eq, Hash)]
 pub struct Modes {
+    /// Whether the mode `Normal` is in it.
     pub normal: bool,
+    /// Whether the mode `User` is in it.
     pub user: bool,
+    /// Whether the mode `Ssh` is in it.
     pub ssh: bool,
+    /// Whether the mode `Nonce` is in it.
     pub nonce: bool,
+    /// Whether the mode `Any` is in it.
     pub any: bool,
 }
 
@@ -43,6 +48,7 @@ impl Modes {
         }
     }
 
+    /// Whether the mode is in it.
     pub fn holds(self, mode: Mode) -> bool
         ensures { result ≡ holds self mode }
     {
@@ -55,6 +61,7 @@ impl Modes {
         }
     }
 
+    /// Whether any mode is in it.
     pub fn has_some(self) -> bool
         ensures { result ≡ has_some self }
     {

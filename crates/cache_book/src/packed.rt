@@ -5,7 +5,8 @@ use wiping::wipe;
 
 /// At most `N` bytes, with their count in one byte. Behind them there are zeros.
 ///
-/// `fill` and `clear` overwrite what was there, which a drop doesn't: it is given its value by a move.
+/// `fill` and `clear` overwrite what was there, which a drop doesn't: it is given its value by a
+/// move.
 pub(crate) struct Packed<const N: usize> {
     len: u8,
     bytes: [u8; N],
@@ -18,7 +19,8 @@ impl<const N: usize> Model for Packed<N> {
 
     ghost view = { λ packed. take packed.len packed.bytes };
 
-    ghost invariant = { λ packed. (packed.len ≤ N) × (drop packed.len packed.bytes ≡ replicate (N - packed.len) 0) };
+    ghost invariant = { λ packed. (packed.len ≤ N)
+        × (drop packed.len packed.bytes ≡ replicate (N - packed.len) 0) };
 }
 
 impl<const N: usize> Packed<N> {
@@ -32,7 +34,8 @@ impl<const N: usize> Packed<N> {
         }
     }
 
-    /// Takes these bytes in place of its own, and answers whether it did: more than `N`, or more than 255, it doesn't take.
+    /// Takes these bytes in place of its own, and answers whether it did: more than `N`, or more
+    /// than 255, it doesn't take.
     pub(crate) fn fill(&mut self, from: &[u8]) -> bool
         ensures within { IsTrue result ↔ ((length from.now ≤ N) × (length from.now < 256)) }
         ensures taken { result ≡ true → self.new ≡ from.now }

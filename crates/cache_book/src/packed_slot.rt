@@ -8,7 +8,8 @@ use std::marker::Model;
 
 /// A slot in little memory: a request over many slots mostly reads two cache lines of it.
 ///
-/// The compiler keeps the fields in this order today: those of 8 bytes first, and what a request reads in part last.
+/// The compiler keeps the fields in this order today: those of 8 bytes first, and what a request
+/// reads in part last.
 #[derive(Drop)]
 pub(crate) struct PackedSlot {
     number: u64,
@@ -33,7 +34,15 @@ impl Model for PackedSlot {
     ghost Value = { Slot };
 
     ghost view = { λ slot. record {
-      entry = record { number = slot.number; id = slot.id; mode = slot.mode; secret = bytes_of slot.passphrase; entered = slot.entered; ttl = slot.ttl; max = slot.max };
+      entry = record {
+        number = slot.number;
+        id = slot.id;
+        mode = slot.mode;
+        secret = bytes_of slot.passphrase;
+        entered = slot.entered;
+        ttl = slot.ttl;
+        max = slot.max;
+      };
       last = slot.last;
       modes = slot.modes;
     } };

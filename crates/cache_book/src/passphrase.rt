@@ -30,7 +30,8 @@ impl Passphrase {
         requires none { bytes_of self.old ≡ [] }
         requires bare { long.value ≡ [] }
         ensures bytes { bytes_of self.new ≡ secret.now }
-        ensures short { is_short self.old ≡ true → length secret.now ≤ MAX_SHORT_LEN → is_short self.new ≡ true }
+        ensures short { is_short self.old ≡ true → length secret.now ≤ MAX_SHORT_LEN
+            → is_short self.new ≡ true }
     {
         if let Passphrase::Short(short) = self {
             if short.fill(secret.bytes()) {

@@ -1,9 +1,11 @@
 // Finding slots among slots in the order of their ids.
-ghost use Rattle.std.specs.Prelude.{◌≡◌, ◌<◌, ◌≤◌, ◌==◌, ◌↔◌, true, false, length, IfSome, IfNone, IsTrue};
+ghost use Rattle.std.specs.Prelude.{◌≡◌, ◌<◌, ◌≤◌, ◌==◌, ◌↔◌, true, false, length, IfSome, IfNone};
+ghost use Rattle.std.specs.Prelude.{IsTrue};
 ghost use Rattle.std.specs.List.{HoldsAt, AllByRecursion, AllWithin};
 ghost use Rattle.std.specs.List.Sorted.{IsPartitionPoint};
 ghost use Rattle.cache_book.specs.Shelves.{serves_at, IsGrantFrom, ServesNone};
-ghost use Rattle.cache_book.specs.SlotOrders.{id_cmp, is_upto, has_lower_hash, has_hash_upto, AreById, AreKept};
+ghost use Rattle.cache_book.specs.SlotOrders.{id_cmp, is_upto, has_lower_hash, has_hash_upto};
+ghost use Rattle.cache_book.specs.SlotOrders.{AreById, AreKept};
 ghost use Rattle.cache_book.specs.Hashes.{id_hash};
 
 use crate::boxed_slot::BoxedSlot;
@@ -28,7 +30,8 @@ fn compare(slot: &BoxedSlot, id: &CacheId, hash: u64) -> Ordering
 pub(crate) fn behind_lower_hashes(slots: &[BoxedSlot], hash: u64) -> usize
     requires { AreById slots.now }
     ensures within { result ≤ length slots.now }
-    ensures parts { IsPartitionPoint (λ slot. has_lower_hash hash slot ≡ true) (λ slot. has_lower_hash hash slot ≡ false) slots.now result }
+    ensures parts { IsPartitionPoint (λ slot. has_lower_hash hash slot ≡ true) (λ slot.
+        has_lower_hash hash slot ≡ false) slots.now result }
 {
     slots.partition_point(|slot| slot.hash() < hash)
 }
@@ -37,7 +40,8 @@ pub(crate) fn behind_lower_hashes(slots: &[BoxedSlot], hash: u64) -> usize
 fn behind_lower_near(slots: &[BoxedSlot], guide: &Guide, hash: u64) -> usize
     requires { AreById slots.now }
     ensures within { result ≤ length slots.now }
-    ensures parts { IsPartitionPoint (λ slot. has_lower_hash hash slot ≡ true) (λ slot. has_lower_hash hash slot ≡ false) slots.now result }
+    ensures parts { IsPartitionPoint (λ slot. has_lower_hash hash slot ≡ true) (λ slot.
+        has_lower_hash hash slot ≡ false) slots.now result }
 {
     let guess = guide.guess(slots, hash);
     if is_behind_lower(slots, guess, hash) {
@@ -50,7 +54,9 @@ fn behind_lower_near(slots: &[BoxedSlot], guide: &Guide, hash: u64) -> usize
 /// Whether the first slot whose hash isn't lower than this one is at `place`, or would be.
 pub(crate) fn is_behind_lower(slots: &[BoxedSlot], place: usize, hash: u64) -> bool
     requires { AreById slots.now }
-    ensures { IsTrue result ↔ ((place ≤ length slots.now) × IsPartitionPoint (λ slot. has_lower_hash hash slot ≡ true) (λ slot. has_lower_hash hash slot ≡ false) slots.now place) }
+    ensures { IsTrue result
+        ↔ ((place ≤ length slots.now) × IsPartitionPoint (λ slot. has_lower_hash hash slot
+        ≡ true) (λ slot. has_lower_hash hash slot ≡ false) slots.now place) }
 {
     place <= slots.len()
         && are_lower_before(slots, place, hash)
@@ -68,7 +74,8 @@ fn are_lower_before(slots: &[BoxedSlot], end: usize, hash: u64) -> bool
 fn none_lower_from(slots: &[BoxedSlot], start: usize, hash: u64) -> bool
     requires by_id { AreById slots.now }
     requires within { start ≤ length slots.now }
-    ensures { IsTrue result ↔ AllWithin (λ slot. has_lower_hash hash slot ≡ false) slots.now start (length slots.now) }
+    ensures { IsTrue result
+        ↔ AllWithin (λ slot. has_lower_hash hash slot ≡ false) slots.now start (length slots.now) }
 {
     start == slots.len() || hash <= slots[start].hash()
 }
@@ -77,7 +84,8 @@ fn none_lower_from(slots: &[BoxedSlot], start: usize, hash: u64) -> bool
 pub(crate) fn before_higher_hashes(slots: &[BoxedSlot], hash: u64) -> usize
     requires { AreById slots.now }
     ensures within { result ≤ length slots.now }
-    ensures parts { IsPartitionPoint (λ slot. has_hash_upto hash slot ≡ true) (λ slot. has_hash_upto hash slot ≡ false) slots.now result }
+    ensures parts { IsPartitionPoint (λ slot. has_hash_upto hash slot ≡ true) (λ slot.
+        has_hash_upto hash slot ≡ false) slots.now result }
 {
     slots.partition_point(|slot| slot.hash() <= hash)
 }
@@ -86,7 +94,8 @@ pub(crate) fn before_higher_hashes(slots: &[BoxedSlot], hash: u64) -> usize
 pub(crate) fn end_of(slots: &[BoxedSlot], id: &CacheId) -> usize
     requires { AreById slots.now }
     ensures within { result ≤ length slots.now }
-    ensures parts { IsPartitionPoint (λ slot. is_upto id.now slot ≡ true) (λ slot. is_upto id.now slot ≡ false) slots.now result }
+    ensures parts { IsPartitionPoint (λ slot. is_upto id.now slot ≡ true) (λ slot.
+        is_upto id.now slot ≡ false) slots.now result }
 {
     let hash = hash_of(id);
     slots.partition_point(|slot| compare(slot, id, hash).is_le())
@@ -97,7 +106,8 @@ pub(crate) fn end_of(slots: &[BoxedSlot], id: &CacheId) -> usize
 /// Nearly always the asked id is the only one of its hash, so its box is the first that is read.
 fn serving(slots: &[BoxedSlot], guide: &Guide, id: &CacheId, mode: Mode, now: u64) -> Option<usize>
     requires { AreById slots.now }
-    ensures found { IfSome result (λ i. (i < length slots.now) × HoldsAt (λ slot. serves_at id.now mode now slot ≡ true) slots.now i) }
+    ensures found { IfSome result (λ i. (i < length slots.now)
+        × HoldsAt (λ slot. serves_at id.now mode now slot ≡ true) slots.now i) }
     ensures none { IfNone result (ServesNone slots.now id.now mode now) }
 {
     let hash = hash_of(id);
@@ -142,11 +152,14 @@ pub(crate) fn grant_from(
     Grant::of(id.copy(), mode, slot.entry(), slot.last(), now)
 }
 
-/// The place of the slot with this number, which may be the one that was found. It has moved since where others were dropped.
+/// The place of the slot with this number, which may be the one that was found. It has moved since
+/// where others were dropped.
 pub(crate) fn with_number(slots: &[BoxedSlot], found: Found, number: u64) -> Option<usize>
     requires { AreById slots.now }
-    ensures found { IfSome result (λ i. (i < length slots.now) × HoldsAt (λ slot. (number == slot.entry.number) ≡ true) slots.now i) }
-    ensures none { IfNone result (AllByRecursion (λ slot. (number == slot.entry.number) ≡ false) slots.now) }
+    ensures found { IfSome result (λ i. (i < length slots.now)
+        × HoldsAt (λ slot. (number == slot.entry.number) ≡ true) slots.now i) }
+    ensures none { IfNone result
+        (AllByRecursion (λ slot. (number == slot.entry.number) ≡ false) slots.now) }
 {
     if found.place < slots.len() && number == slots[found.place].get().number() {
         return Some(found.place);
@@ -161,8 +174,10 @@ pub(crate) fn with_number(slots: &[BoxedSlot], found: Found, number: u64) -> Opt
 /// The place of the slot with this number among those from `start` up to `end`.
 fn number_within(slots: &[BoxedSlot], start: usize, end: usize, number: u64) -> Option<usize>
     requires { end ≤ length slots.now }
-    ensures found { IfSome result (λ i. (start ≤ i) × (i < end) × HoldsAt (λ slot. (number == slot.entry.number) ≡ true) slots.now i) }
-    ensures none { IfNone result (AllWithin (λ slot. (number == slot.entry.number) ≡ false) slots.now start end) }
+    ensures found { IfSome result (λ i. (start ≤ i) × (i < end)
+        × HoldsAt (λ slot. (number == slot.entry.number) ≡ true) slots.now i) }
+    ensures none { IfNone result
+        (AllWithin (λ slot. (number == slot.entry.number) ≡ false) slots.now start end) }
 {
     for i in start..end {
         if number == slots[i].get().number() {

@@ -1,11 +1,13 @@
 ghost use Rattle.std.specs.Prelude.{◌≡◌, ◌≤◌, ◌+◌, [], IfSome, IfNone, OnOk};
-ghost use Rattle.cache_book.specs.Shelves.{AtShelf, IsGrantFrom, ServesNone, AreBelow, touched, with_entry, cleared, swept};
+ghost use Rattle.cache_book.specs.Shelves.{AtShelf, IsGrantFrom, ServesNone, AreBelow, touched};
+ghost use Rattle.cache_book.specs.Shelves.{with_entry, cleared, swept};
 
 use cache_policy::{CacheId, Entry, Grant, Mode, NoMemory};
 
 /// The entries that can still be given. Moments are in seconds.
 ///
-/// An entry that leaves the shelf is dropped there and then. A `SlotShelf` overwrites its passphrase where it lies, before the slot is freed.
+/// An entry that leaves the shelf is dropped there and then. A `SlotShelf` overwrites its
+/// passphrase where it lies, before the slot is freed.
 pub trait Shelf {
     /// The slots, and how many entries can be stored without taking memory.
     ghost at: { Self → AtShelf };
@@ -30,7 +32,8 @@ pub trait Shelf {
     fn spare(&self) -> usize
         ensures { result ≡ (at self.now).spare };
 
-    /// Stores an entry, which is newer than all others. It takes the modes that it covers from the others of its id.
+    /// Stores an entry, which is newer than all others. It takes the modes that it covers from the
+    /// others of its id.
     fn store(&mut self, entry: Entry)
         requires room { 1 ≤ (at self.old).spare }
         requires newest { AreBelow entry.number (at self.old).slots }

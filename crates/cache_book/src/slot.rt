@@ -6,10 +6,12 @@ use cache_policy::{CacheId, Entry, Mode};
 /// An entry that can still be given.
 #[derive(Drop)]
 pub struct Slot {
+    /// The entry itself.
     pub entry: Entry,
     /// The moment at which it was last given, or else stored, in seconds.
     pub last: u64,
-    /// The modes whose requests it serves: those that its own covers, without those that a later entry of its id took.
+    /// The modes whose requests it serves: those that its own covers, without those that a later
+    /// entry of its id took.
     pub modes: Modes,
 }
 

@@ -1,7 +1,9 @@
-ghost use Rattle.std.specs.Prelude.{◌≡◌, ◌+◌, ◌<◌, ◌≤◌, ◌^◌, ◌==◌, ◌||◌, [], true, length, map, OnOk, vec_len, vec_capacity};
+ghost use Rattle.std.specs.Prelude.{◌≡◌, ◌+◌, ◌<◌, ◌≤◌, ◌^◌, ◌==◌, ◌||◌, [], true, length, map};
+ghost use Rattle.std.specs.Prelude.{OnOk, vec_len, vec_capacity};
 ghost use Rattle.std.specs.List.{AllByRecursion, insert, remove};
 ghost use Rattle.cache_book.specs.Shelves.{touched, cleared, hidden, swept, with_entry, AreBelow};
-ghost use Rattle.cache_book.specs.SlotOrders.{by_number, wiped, wipe_past, swept_hash, AreKept, AreWiped, AreWipedPast};
+ghost use Rattle.cache_book.specs.SlotOrders.{by_number, wiped, wipe_past, swept_hash, AreKept};
+ghost use Rattle.cache_book.specs.SlotOrders.{AreWiped, AreWipedPast};
 ghost use Rattle.cache_book.specs.Deadlines.{place_of, is_place, is_among, HavePlaces};
 
 use crate::Shelf;
@@ -20,8 +22,8 @@ use std::marker::Model;
 /// How many places a sweep takes one by one, before it walks over all slots.
 const FEW: usize = 32;
 
-/// A shelf whose slots stand in the order of their ids, by whose hashes they are found. Beside them stand their places in the order of
-/// their deadlines, the soonest in front.
+/// A shelf whose slots stand in the order of their ids, by whose hashes they are found. Beside them
+/// stand their places in the order of their deadlines, the soonest in front.
 #[derive(Drop)]
 pub struct SlotShelf {
     // By the ids of their entries, whose hashes come first, and then by their numbers.
@@ -32,7 +34,8 @@ pub struct SlotShelf {
     deadlines: Deadlines,
     // Memory for slots to come.
     blanks: Vec<Blank>,
-    // Where a slot was found last, which is the one that is touched next. It is a guess: `touch` looks whether it is right.
+    // Where a slot was found last, which is the one that is touched next. It is a guess: `touch`
+    // looks whether it is right.
     found: Cell<Found>,
 }
 
@@ -44,9 +47,17 @@ impl Model for SlotShelf {
 
     ghost Value = { AtShelf };
 
-    ghost view = { λ shelf. record { slots = by_number shelf.slots.items; spare = min (vec_len shelf.blanks) (min (vec_capacity shelf.slots - vec_len shelf.slots) (shelf.deadlines.capacity - vec_len shelf.slots)) } };
+    ghost view = { λ shelf. record {
+      slots = by_number shelf.slots.items;
+      spare = min (vec_len shelf.blanks) (min (vec_capacity shelf.slots - vec_len shelf.slots)
+          (shelf.deadlines.capacity - vec_len shelf.slots));
+    } };
 
-    ghost invariant = { λ shelf. record { kept : AreKept shelf.slots.items; places : HavePlaces shelf.deadlines.places shelf.slots.items; room : vec_len shelf.slots ≤ shelf.deadlines.capacity } };
+    ghost invariant = { λ shelf. record {
+      kept : AreKept shelf.slots.items;
+      places : HavePlaces shelf.deadlines.places shelf.slots.items;
+      room : vec_len shelf.slots ≤ shelf.deadlines.capacity;
+    } };
 }
 
 impl SlotShelf {
@@ -65,7 +76,8 @@ impl SlotShelf {
 }
 
 impl SlotShelf {
-    /// Whether the guide leads to each slot, by ranges of at most `max`: how long a search is at most. An answer doesn't depend on it.
+    /// Whether the guide leads to each slot, by ranges of at most `max`: how long a search is at
+    /// most. An answer doesn't depend on it.
     pub fn is_guided(&self, max: usize) -> bool {
         let slots = self.slots.as_slice();
         for slot in slots {
@@ -157,7 +169,8 @@ fn add_blanks(blanks: &mut Vec<Blank>, n: usize) -> Result<(), NoMemory>
     Ok(())
 }
 
-/// Makes room for the places of `n` slots more. It makes twice as much beside them, so that collecting them anew is rare.
+/// Makes room for the places of `n` slots more. It makes twice as much beside them, so that
+/// collecting them anew is rare.
 fn reserve_deadlines(
     deadlines: &mut Deadlines,
     slots: &[BoxedSlot],
@@ -194,7 +207,9 @@ fn collect_anew(deadlines: &mut Deadlines, slots: &[BoxedSlot])
 /// Adds the place of a slot among these.
 fn add_place(deadlines: &mut Deadlines, slots: &[BoxedSlot], place: Place)
     requires room { length slots.now ≤ deadlines.old.capacity }
-    requires held { AllByRecursion (λ slot. (is_place place (place_of slot) || is_among (place_of slot) deadlines.old.places) ≡ true) slots.now }
+    requires held { AllByRecursion
+        (λ slot. (is_place place (place_of slot) || is_among (place_of slot) deadlines.old.places)
+        ≡ true) slots.now }
     ensures held { HavePlaces deadlines.new.places slots.now }
     ensures capacity { deadlines.old.capacity ≤ deadlines.new.capacity }
 {
@@ -229,7 +244,8 @@ fn touch_in(
     }
 }
 
-/// Stores an entry in the memory of a blank. It takes the modes that it covers from the others of its id.
+/// Stores an entry in the memory of a blank. It takes the modes that it covers from the others of
+/// its id.
 fn store_in(slots: &mut Vec<BoxedSlot>, deadlines: &mut Deadlines, blank: Blank, entry: Entry)
     requires kept { AreKept slots.old.items }
     requires newest { AreBelow entry.number slots.old.items }
@@ -264,7 +280,8 @@ fn insert_at(slots: &mut Vec<BoxedSlot>, i: usize, slot: BoxedSlot)
     }
 }
 
-/// Takes the modes of a later entry from the slots of its id, and drops those that are left without one.
+/// Takes the modes of a later entry from the slots of its id, and drops those that are left without
+/// one.
 fn hide_in(slots: &mut Vec<BoxedSlot>, later: &Entry)
     requires { AreKept slots.old.items }
     ensures items { slots.new.items ≡ hidden later.now slots.old.items }
@@ -316,7 +333,8 @@ fn give_back(_slot: BoxedSlot)
     requires { _slot.entry.secret ≡ [] }
 {}
 
-/// Drops the slots that are past a lifetime at `now`: by the places in front, and where many of these are past, in a walk over all slots.
+/// Drops the slots that are past a lifetime at `now`: by the places in front, and where many of
+/// these are past, in a walk over all slots.
 fn sweep_in(slots: &mut Vec<BoxedSlot>, guide: &mut Guide, deadlines: &mut Deadlines, now: u64)
     requires kept { AreKept slots.old.items }
     requires held { HavePlaces deadlines.old.places slots.old.items }
@@ -367,7 +385,8 @@ fn sweep_all(slots: &mut Vec<BoxedSlot>, now: u64)
     drop_past(slots, now);
 }
 
-/// Drops the slots that are past a lifetime at `now`, whose passphrases were overwritten where they lay.
+/// Drops the slots that are past a lifetime at `now`, whose passphrases were overwritten where they
+/// lay.
 fn drop_past(slots: &mut Vec<BoxedSlot>, now: u64)
     requires { AreWipedPast now slots.old.items }
     ensures items { slots.new.items ≡ swept now slots.old.items }

@@ -4,5 +4,6 @@ pub const MAX_MARKS: u64 = 131_072;
 /// The moment to which readings of the clock are cut, in seconds.
 pub const MAX_MOMENT: u64 = 1 << 62;
 
-/// From how many seconds on a step that stands before a held seat is replied Late, when it is tried again.
+/// From how many seconds on a step that stands before a held seat is replied Late, when it is tried
+/// again.
 pub const MAX_WAIT: u64 = 60;

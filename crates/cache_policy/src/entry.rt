@@ -8,8 +8,11 @@ use crate::{CacheId, Life, Limits, Mode, Secret};
 pub struct Entry {
     /// The number of the mark that stored it.
     pub number: u64,
+    /// The id that it is stored under.
     pub id: CacheId,
+    /// The mode that it was stored in. It serves requests of the modes that this one covers.
     pub mode: Mode,
+    /// The passphrase.
     pub secret: Secret,
     /// The moment at which it was stored, in seconds.
     pub entered: u64,

@@ -3,12 +3,15 @@ ghost use Rattle.cache_policy.specs.Entry.{serves, within};
 
 use crate::{CacheId, Entry, Mode, Secret};
 
-/// The leave to use an entry for one request. There is none that the policy's lifetimes would not allow.
+/// The leave to use an entry for one request. There is none that the policy's lifetimes would not
+/// allow.
 #[derive(Drop)]
 pub struct Grant {
     /// The id and the mode that were asked for.
     pub id: CacheId,
+    /// The mode that was asked for, which the entry's own covers.
     pub mode: Mode,
+    /// The entry that may be used.
     pub entry: Entry,
     /// When the entry was last used before, or else stored.
     pub last: u64,
@@ -21,9 +24,11 @@ pub struct Grant {
 }
 
 impl Grant {
-    /// `None` where the entry has another id, does not cover the mode, or is past a lifetime at `moment`.
+    /// `None` where the entry has another id, does not cover the mode, or is past a lifetime at
+    /// `moment`.
     pub fn of(id: CacheId, mode: Mode, entry: Entry, last: u64, moment: u64) -> Option<Grant>
-        ensures granted { IsSome result ↔ ((serves id mode entry && within entry last moment) ≡ true) }
+        ensures granted { IsSome result
+            ↔ ((serves id mode entry && within entry last moment) ≡ true) }
         ensures id { IfSome result (λ grant. grant.id ≡ id) }
         ensures mode { IfSome result (λ grant. grant.mode ≡ mode) }
         ensures entry { IfSome result (λ grant. grant.entry ≡ entry) }
@@ -43,6 +48,7 @@ impl Grant {
         }
     }
 
+    /// The passphrase of the entry.
     pub fn secret(&self) -> &Secret
         ensures { result.now ≡ self.now.entry.secret }
     {

@@ -5,7 +5,9 @@ use crate::{Mark, Under};
 /// A ticket that is out, by its number, and what its passphrase is kept under.
 #[derive(Debug, PartialEq, Eq, Drop)]
 pub struct Held {
+    /// The number of the ticket.
     pub ticket: u64,
+    /// The id and the mode, where what is typed may be kept.
     pub under: Option<Under>,
 }
 
@@ -14,6 +16,7 @@ pub struct Held {
 pub struct Marks(pub Vec<Mark>);
 
 impl Marks {
+    /// The marks, the earliest first.
     pub fn as_slice(&self) -> &[Mark]
         ensures { result.now ≡ self.now.0.items }
     {
@@ -30,5 +33,6 @@ pub struct History {
     pub held: Option<Held>,
     /// Whether the agent had stopped opening prompts at the start.
     pub stopped: bool,
+    /// The marks that were made since, the earliest first.
     pub marks: Marks,
 }

@@ -28,7 +28,8 @@ impl Model for CacheId {
 impl CacheId {
     /// `None` for no bytes, and for more than 50.
     pub fn of(bytes: &[u8]) -> Option<CacheId>
-        ensures within { IsSome result ↔ ((0 < length bytes.now) × (length bytes.now ≤ MAX_ID_LEN)) }
+        ensures within { IsSome result
+            ↔ ((0 < length bytes.now) × (length bytes.now ≤ MAX_ID_LEN)) }
         ensures bytes { IfSome result (λ id. id ≡ bytes.now) }
     {
         if bytes.is_empty() {
@@ -38,6 +39,7 @@ impl CacheId {
         Some(CacheId { bytes })
     }
 
+    /// Its bytes, from 1 to `MAX_ID_LEN`.
     pub fn bytes(&self) -> &[u8]
         ensures value { result.now ≡ self.now }
         ensures some { 0 < length self.now }

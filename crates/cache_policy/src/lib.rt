@@ -1,8 +1,10 @@
 //! The cache policy: which passphrase a request is given, and when.
 //!
-//! The types of the policy, and its definitions over whole histories of marks: they begin in `specs/Policy`, and `docs/POLICY.md` reads
-//! them. [`Desk`] is where a session takes its turns, and promises what each of them does to the run. The laws say what the policy comes
-//! to, as [`nothing_comes_back`] and [`one_prompt`]. [`ListBook`] is the plain cache that meets the definitions for puts alone.
+//! The types of the policy, and its definitions over whole histories of marks: they begin in
+//! `specs/Policy`, and `docs/POLICY.md` reads them. [`Desk`] is where a session takes its turns,
+//! and promises what each of them does to the run. The laws say what the policy comes to, as
+//! [`nothing_comes_back`] and [`one_prompt`]. [`ListBook`] is the plain cache that meets the
+//! definitions for puts alone.
 #![tactic(auto)]
 
 mod bounds;

@@ -7,7 +7,8 @@ ghost use Rattle.cache_policy.specs.declared.mark.MarkReply.{MarkReply};
 ghost use Rattle.cache_policy.specs.Histories.{History, with_mark};
 ghost use Rattle.cache_policy.specs.declared.bounds.TheConstants.{MAX_MOMENT};
 ghost use Rattle.cache_policy.specs.Live.{newest_of, live};
-ghost use Rattle.cache_policy.specs.Book.{empty_book, after_put, found, put_mark, ask_mark, IsBookOf, IsEndlessBookOf};
+ghost use Rattle.cache_policy.specs.Book.{empty_book, after_put, found, put_mark, ask_mark};
+ghost use Rattle.cache_policy.specs.Book.{IsBookOf, IsEndlessBookOf};
 
 use crate::{CacheId, Entry, Grant, Life, Limits, Mode, Secret};
 use std::alloc::{AllocError, Global};
@@ -31,7 +32,8 @@ impl Model for ListBook {
 
     ghost Value = { Book };
 
-    ghost view = { λ book. record { entries = book.stored.items; puts = book.puts; latest = book.latest } };
+    ghost view = { λ book.
+        record { entries = book.stored.items; puts = book.puts; latest = book.latest } };
 }
 
 impl ListBook {
@@ -40,8 +42,8 @@ impl ListBook {
         ensures empty { result ≡ empty_book }
 
         // It is the book of a history without marks.
-        ensures puts_alone { (limits : Lifetimes) (history : History) → history.base ≡ 0 → history.marks ≡ []
-            → IsBookOf limits history result }
+        ensures puts_alone { (limits : Lifetimes) (history : History) → history.base ≡ 0
+            → history.marks ≡ [] → IsBookOf limits history result }
         ensures endless { (limits : Lifetimes) (history : History) → history.marks ≡ []
             → IsEndlessBookOf limits history result }
     {
@@ -54,7 +56,8 @@ impl ListBook {
 
     /// Stores a passphrase at a moment in seconds, unless its effective ttl is 0.
     ///
-    /// It fails where there is no memory for it, and after 2^64 - 1 puts, since there is no number for the next one.
+    /// It fails where there is no memory for it, and after 2^64 - 1 puts, since there is no number
+    /// for the next one.
     pub fn put(
         &mut self,
         moment: u64,
@@ -67,16 +70,18 @@ impl ListBook {
         requires in_order { self.old.latest ≤ moment }
         requires in_range { moment ≤ MAX_MOMENT }
 
-        ensures ok { OnOk result (self.new ≡ after_put limits.now self.old moment id mode life secret) }
+        ensures ok { OnOk result
+            (self.new ≡ after_put limits.now self.old moment id mode life secret) }
         ensures err { OnErr result (self.new ≡ self.old) }
 
         // A history that the book was of goes on by the mark of this put.
         ensures puts_alone { OnOk result ((history : History) (session : SessionId)
-            → IsBookOf limits.now history self.old
-            → IsBookOf limits.now (with_mark history (put_mark session moment id mode life secret)) self.new) }
-        ensures endless { OnOk result ((history : History) (session : SessionId) → life ≡ Life.Endless
-            → IsEndlessBookOf limits.now history self.old
-            → IsEndlessBookOf limits.now (with_mark history (put_mark session moment id mode life secret)) self.new) }
+            → IsBookOf limits.now history self.old → IsBookOf limits.now
+            (with_mark history (put_mark session moment id mode life secret)) self.new) }
+        ensures endless { OnOk result
+            ((history : History) (session : SessionId) → life ≡ Life.Endless
+            → IsEndlessBookOf limits.now history self.old → IsEndlessBookOf limits.now
+            (with_mark history (put_mark session moment id mode life secret)) self.new) }
     {
         let puts = self.puts.checked_add(1).ok_or(AllocError)?;
         let entry = Entry::of(limits, self.puts, moment, id, mode, life, secret);
@@ -86,28 +91,33 @@ impl ListBook {
         Ok(())
     }
 
-    /// The newest passphrase for the id and mode, if it is within both lifetimes at the moment, in seconds.
+    /// The newest passphrase for the id and mode, if it is within both lifetimes at the moment, in
+    /// seconds.
     pub fn find(&self, moment: u64, id: &CacheId, mode: Mode) -> Option<Grant>
         requires in_order { self.now.latest ≤ moment }
         requires in_range { moment ≤ MAX_MOMENT }
 
-        ensures found { option_map (λ grant. grant.entry) result ≡ found self.now.entries id.now mode moment }
+        ensures found { option_map (λ grant. grant.entry) result
+            ≡ found self.now.entries id.now mode moment }
         ensures id { IfSome result (λ grant. grant.id ≡ id.now) }
         ensures mode { IfSome result (λ grant. grant.mode ≡ mode) }
         ensures last { IfSome result (λ grant. grant.last ≡ grant.entry.entered) }
         ensures moment { IfSome result (λ grant. grant.moment ≡ moment) }
 
         // Over a history of puts alone, it is the live entry.
-        ensures puts_alone { (limits : Lifetimes) (history : History) → IsBookOf limits history self.now
+        ensures puts_alone { (limits : Lifetimes) (history : History)
+            → IsBookOf limits history self.now
             → option_map (λ grant. grant.entry) result ≡ live limits history id.now mode moment }
 
         // Over endless puts and asks it is the live secret, and an ask of it leaves that so.
-        ensures endless { (limits : Lifetimes) (history : History) → IsEndlessBookOf limits history self.now
+        ensures endless { (limits : Lifetimes) (history : History)
+            → IsEndlessBookOf limits history self.now
             → option_map (λ grant. grant.entry.secret) result
             ≡ option_map (λ entry. entry.secret) (live limits history id.now mode moment) }
-        ensures asked { (limits : Lifetimes) (history : History) (session : SessionId) (way : Way) (since : Option ℕ) (reply : MarkReply)
-            → IsEndlessBookOf limits history self.now
-            → IsEndlessBookOf limits (with_mark history (ask_mark session moment id.now mode way since reply)) self.now }
+        ensures asked { (limits : Lifetimes) (history : History)
+            (session : SessionId) (way : Way) (since : Option ℕ) (reply : MarkReply)
+            → IsEndlessBookOf limits history self.now → IsEndlessBookOf limits
+            (with_mark history (ask_mark session moment id.now mode way since reply)) self.now }
     {
         grant_of(&self.stored, moment, id, mode)
     }

@@ -6,7 +6,9 @@ use agent_ports::SessionId;
 /// What the passphrase of a prompt is kept under.
 #[derive(Debug, PartialEq, Eq, Drop)]
 pub struct Under {
+    /// The id of the entry that it becomes.
     pub id: CacheId,
+    /// The mode of that entry.
     pub mode: Mode,
 }
 
@@ -31,7 +33,8 @@ pub enum Way {
     Prompt,
 }
 
-/// One step of a session, with the number of its ticket in place of a ticket, and the moment of its first try in place of a wait.
+/// One step of a session, with the number of its ticket in place of a ticket, and the moment of its
+/// first try in place of a wait.
 #[derive(Drop)]
 pub enum MarkStep {
     /// Asks for a passphrase.
@@ -98,8 +101,11 @@ pub enum MarkReply {
 /// One step that was made: by whom, which, with which answer and at which moment.
 #[derive(Drop)]
 pub struct Mark {
+    /// The session that took the step.
     pub session: SessionId,
+    /// What it asked for.
     pub step: MarkStep,
+    /// What it was replied.
     pub reply: MarkReply,
     /// In seconds. It never falls from one mark to the next.
     pub moment: u64,

@@ -8,9 +8,9 @@ pub const MAX_SECRET_LEN: usize = 255;
 
 /// A passphrase: at most 255 bytes, maybe none.
 ///
-/// It is neither cloned nor printed nor compared, and its bytes are overwritten with zeros when it is dropped.
-/// A move leaves the bytes where they were, as in Rust, and `drop` is given its value by a move. No proof says that wiped
-/// bytes are gone from the machine.
+/// It is neither cloned nor printed nor compared, and its bytes are overwritten with zeros when it
+/// is dropped. A move leaves the bytes where they were, as in Rust, and `drop` is given its value
+/// by a move. No proof says that wiped bytes are gone from the machine.
 #[derive(Drop)]
 pub struct Secret {
     bytes: Wiped<MAX_SECRET_LEN>,
@@ -37,6 +37,7 @@ impl Secret {
         Some(Secret { bytes })
     }
 
+    /// Its bytes, at most `MAX_SECRET_LEN`.
     pub fn bytes(&self) -> &[u8]
         ensures value { result.now ≡ self.now }
         ensures within { length self.now ≤ MAX_SECRET_LEN }
@@ -51,7 +52,8 @@ impl Secret {
         self.bytes.clear();
     }
 
-    /// The same passphrase once more, without taking memory. Each copy is overwritten when it is dropped.
+    /// The same passphrase once more, without taking memory. Each copy is overwritten when it is
+    /// dropped.
     pub fn copy(&self) -> Secret
         ensures { result ≡ self.now }
     {

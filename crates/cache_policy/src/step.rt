@@ -5,7 +5,8 @@ use prompt_seat::Ticket;
 
 /// One step of a session, as it is asked of a desk.
 pub enum Step {
-    /// Asks for a passphrase. Where it opens a prompt, the passphrase can be kept under its id and mode.
+    /// Asks for a passphrase. Where it opens a prompt, the passphrase can be kept under its id and
+    /// mode.
     Ask {
         id: CacheId,
         mode: Mode,
@@ -85,7 +86,8 @@ pub enum Reply {
     Empty,
     /// The ticket for the prompt.
     Open(Ticket),
-    /// Another session has the seat. The step is to be tried again with this. A desk waits in place of this reply.
+    /// Another session has the seat. The step is to be tried again with this. A desk waits in place
+    /// of this reply.
     Stand(Wait),
     /// The step has stood before a held seat for `MAX_WAIT` seconds.
     Late,
@@ -99,5 +101,6 @@ pub enum Reply {
 
 /// There was no memory for a step, which is handed back. Nothing has changed.
 pub struct Refused {
+    /// The step, to be taken again or ended.
     pub step: Step,
 }

@@ -9,16 +9,23 @@ ghost use Rattle.cache_policy.specs.Traces.{trace_step, trace_mark};
 
 use crate::{Held, Life, Limits, MarkReply, Trace, TraceStep, Under};
 
-/// What was done so far: how many marks there are, how many of them were replied Given, Empty and Open, how many entries were stored, and
-/// how many steps cleared an id and forgot everything.
+/// What was done so far: how many marks there are, how many of them were replied Given, Empty and
+/// Open, how many entries were stored, and how many steps cleared an id and forgot everything.
 #[derive(Clone, Copy, Debug, PartialEq, Eq)]
 pub struct Tally {
+    /// How many marks there are.
     pub marks: u64,
+    /// How many of them were replied Given.
     pub given: u64,
+    /// How many of them were replied Empty.
     pub empty: u64,
+    /// How many of them were replied Open.
     pub opened: u64,
+    /// How many entries were stored.
     pub stored: u64,
+    /// How many steps cleared an id.
     pub cleared: u64,
+    /// How many steps forgot everything.
     pub flushed: u64,
     /// Whether the agent has stopped opening prompts.
     pub stopped: bool,
@@ -85,7 +92,8 @@ impl TraceStep {
 pub fn a_tally_goes_on()
     ensures one { (limits : Limits) (before : Tally) (history : History) (mark : Mark)
         → with_history limits before (with_mark history mark)
-        ≡ with_one (with_history limits before history) mark (length (stored limits history mark.step mark.moment)) }
-    ensures turned_over { (limits : Limits) (tally : Tally) (history : History) → tally.stopped ≡ stopped history
-        → with_history limits tally (turn_over history) ≡ tally }
+        ≡ with_one (with_history limits before history) mark
+        (length (stored limits history mark.step mark.moment)) }
+    ensures turned_over { (limits : Limits) (tally : Tally) (history : History)
+        → tally.stopped ≡ stopped history → with_history limits tally (turn_over history) ≡ tally }
 {}

@@ -7,16 +7,18 @@ use crate::wait::since_by;
 use crate::{CacheId, Life, MarkReply, Mode, Reply, Step, Under, Way};
 use agent_ports::SessionId;
 
-/// One step of a session, with the number of its ticket in place of a ticket, the moment of its first try in place of a wait, and without
-/// the bytes of a secret.
+/// One step of a session, with the number of its ticket in place of a ticket, the moment of its
+/// first try in place of a wait, and without the bytes of a secret.
 #[derive(Debug, PartialEq, Eq, Drop)]
 pub enum TraceStep {
+    /// Asks for a passphrase.
     Ask {
         id: CacheId,
         mode: Mode,
         way: Way,
         since: Option<u64>,
     },
+    /// Asks for the seat at the prompt, whatever the cache has.
     Seat {
         under: Option<Under>,
         since: Option<u64>,
@@ -26,20 +28,25 @@ pub enum TraceStep {
         ticket: u64,
         keep: bool,
     },
+    /// Stores a passphrase.
     Put {
         id: CacheId,
         mode: Mode,
         life: Life,
     },
+    /// Forgets what is stored under an id, in the modes that cover the named one.
     Clear {
         id: CacheId,
         mode: Mode,
     },
+    /// Forgets everything.
     Flush,
+    /// Looks whether a passphrase is there, without using it.
     Peek {
         id: CacheId,
         mode: Mode,
     },
+    /// Opens no prompt from now on.
     Stop,
 }
 
@@ -98,8 +105,11 @@ impl TraceStep {
 /// A mark without the bytes of its secret.
 #[derive(Debug, PartialEq, Eq, Drop)]
 pub struct Trace {
+    /// The session that took the step.
     pub session: SessionId,
+    /// What it asked for.
     pub step: TraceStep,
+    /// What it was replied.
     pub reply: MarkReply,
     /// In seconds. It never falls from one trace to the next.
     pub moment: u64,

@@ -3,8 +3,8 @@ ghost use Rattle.cache_policy.specs.Waits.{since_by};
 
 use agent_ports::SessionId;
 
-/// Since when a session stands before a held seat. A step that is replied Stand is given one, and is tried again with it. The core believes
-/// whoever makes one.
+/// Since when a session stands before a held seat. A step that is replied Stand is given one, and
+/// is tried again with it. The core believes whoever makes one.
 ///
 /// It has no Clone: each try gives out the one for the next.
 #[derive(Debug, PartialEq, Eq, Drop)]

@@ -361,7 +361,8 @@ fn a_ticket_is_known_by_its_number(rt: HostRuntime) -> Result<(), Fail> {
         (0, BOB, PROMPT, "stopping"),
     ];
     assert_eq!(rt; first_wrong(rt.alloc(), &another_number), None);
-    // The first to come back with the number keeps what was typed and frees the seat, and the second does neither.
+    // The first to come back with the number keeps what was typed and frees the seat, and the
+    // second does neither.
     let same_number = [
         (0, ALICE, PROMPT, "open"),
         (0, BOB, Asked::CloseOther(0, Some(b"new")), "done"),
@@ -417,7 +418,8 @@ fn numbered(k: u32) -> Option<CacheId> {
     }
 }
 
-/// How many of a thousand entries, which live for 1 to 1000 seconds, are there after 500; and where they are the last ones, the first.
+/// How many of a thousand entries, which live for 1 to 1000 seconds, are there after 500; and where
+/// they are the last ones, the first.
 fn left_of_a_thousand(alloc: Global) -> Result<(usize, Option<u32>), Fail> {
     let mut core = Core::new(alloc, LIMITS);
     for k in 0..1000_u32 {

@@ -60,7 +60,8 @@ fn id() -> CacheId {
 }
 
 fn step(asked: Asked) -> Step
-    ensures { (opens (asked_step result) ≡ false) × (closes (asked_step result) ≡ None) × (wait_of result ≡ None) }
+    ensures { (opens (asked_step result) ≡ false) × (closes (asked_step result) ≡ None)
+        × (wait_of result ≡ None) }
 {
     match asked {
         Asked::Put(life) => Step::Put {
@@ -127,7 +128,8 @@ fn taken<D: Desk>(desk: &mut D, asked: Asked) -> Kind
 
 /// Wants a prompt.
 fn open() -> Step
-    ensures { (opens (asked_step result) ≡ true) × (closes (asked_step result) ≡ None) × (wait_of result ≡ None) }
+    ensures { (opens (asked_step result) ≡ true) × (closes (asked_step result) ≡ None)
+        × (wait_of result ≡ None) }
 {
     Step::Ask {
         id: id(),
@@ -153,7 +155,8 @@ fn prompt<D: Desk>(desk: &mut D) -> Kind
 }
 
 fn blanks(passes: u64) -> Blanks
-    ensures { (result.calls.parts ≡ passes) × (result.given.parts ≡ passes) × (result.empty.parts ≡ passes) × (result.opened.parts ≡ passes) }
+    ensures { (result.calls.parts ≡ passes) × (result.given.parts ≡ passes)
+        × (result.empty.parts ≡ passes) × (result.opened.parts ≡ passes) }
 {
     Blanks {
         calls: Blank::new(passes),
@@ -166,7 +169,8 @@ fn blanks(passes: u64) -> Blanks
 /// A turn: by which session and at which moment, what is asked, and what is answered.
 type Row = (u32, u64, Asked, Kind);
 
-/// What came of rows: the first that was answered otherwise, whether the agent had stopped behind them, and what was done.
+/// What came of rows: the first that was answered otherwise, whether the agent had stopped behind
+/// them, and what was done.
 type Played = (Option<usize>, bool, Tally);
 
 /// Takes a turn at a desk of its own.
@@ -198,7 +202,8 @@ fn played<W: Wait + Clock, M: Marks, G: Ledger, E: Ledger, O: Ledger>(
     requires calls { (blanks.calls.name ≡ M.name) × (blanks.calls.parts ≡ M.parts) × (3 ≡ M.parts) }
     requires given { (blanks.given.name ≡ G.name) × (blanks.given.parts ≡ G.parts) × (3 ≡ G.parts) }
     requires empty { (blanks.empty.name ≡ E.name) × (blanks.empty.parts ≡ E.parts) × (3 ≡ E.parts) }
-    requires opened { (blanks.opened.name ≡ O.name) × (blanks.opened.parts ≡ O.parts) × (3 ≡ O.parts) }
+    requires opened { (blanks.opened.name ≡ O.name) × (blanks.opened.parts ≡ O.parts)
+        × (3 ≡ O.parts) }
 {
     let (shared, mut all) = Shared::<M, G, E, O>::new(alloc, limits, blanks, 3)?;
     let mut wrong = None;
@@ -275,8 +280,8 @@ fn a_stopped_agent_is_closed(rt: HostRuntime) -> Result<(), Fail> {
     Ok(())
 }
 
-/// Opens a prompt by one pass, and wants one by another, whose clock goes on by half a minute with each try. It tries again after a second
-/// each time. The prompt is closed behind it.
+/// Opens a prompt by one pass, and wants one by another, whose clock goes on by half a minute with
+/// each try. It tries again after a second each time. The prompt is closed behind it.
 fn two_prompts<W: Wait + Clock, M: Marks, G: Ledger, E: Ledger, O: Ledger>(
     rt: &W,
     alloc: Global,
@@ -287,7 +292,8 @@ fn two_prompts<W: Wait + Clock, M: Marks, G: Ledger, E: Ledger, O: Ledger>(
     requires calls { (blanks.calls.name ≡ M.name) × (blanks.calls.parts ≡ M.parts) × (2 ≡ M.parts) }
     requires given { (blanks.given.name ≡ G.name) × (blanks.given.parts ≡ G.parts) × (2 ≡ G.parts) }
     requires empty { (blanks.empty.name ≡ E.name) × (blanks.empty.parts ≡ E.parts) × (2 ≡ E.parts) }
-    requires opened { (blanks.opened.name ≡ O.name) × (blanks.opened.parts ≡ O.parts) × (2 ≡ O.parts) }
+    requires opened { (blanks.opened.name ≡ O.name) × (blanks.opened.parts ≡ O.parts)
+        × (2 ≡ O.parts) }
 {
     let (shared, mut all) = Shared::<M, G, E, O>::new(alloc, limits, blanks, 2)?;
     let (first, second) = (all.remove(0), all.remove(0));
@@ -299,7 +305,8 @@ fn two_prompts<W: Wait + Clock, M: Marks, G: Ledger, E: Ledger, O: Ledger>(
     Ok((late, opened, shared.close(all)))
 }
 
-/// What a prompt by this pass is answered while another desk has the seat, and what the other desk's Open was.
+/// What a prompt by this pass is answered while another desk has the seat, and what the other
+/// desk's Open was.
 fn under_prompt<W: Wait + Clock, D: Desk, M: Marks, G: Ledger, E: Ledger, O: Ledger>(
     rt: &W,
     shared: &Shared<M, G, E, O>,
@@ -368,7 +375,8 @@ fn two_threads<
     requires calls { (blanks.calls.name ≡ M.name) × (blanks.calls.parts ≡ M.parts) × (2 ≡ M.parts) }
     requires given { (blanks.given.name ≡ G.name) × (blanks.given.parts ≡ G.parts) × (2 ≡ G.parts) }
     requires empty { (blanks.empty.name ≡ E.name) × (blanks.empty.parts ≡ E.parts) × (2 ≡ E.parts) }
-    requires opened { (blanks.opened.name ≡ O.name) × (blanks.opened.parts ≡ O.parts) × (2 ≡ O.parts) }
+    requires opened { (blanks.opened.name ≡ O.name) × (blanks.opened.parts ≡ O.parts)
+        × (2 ≡ O.parts) }
 {
     let (shared, mut all) = Shared::<M, G, E, O>::new(alloc, limits, blanks, 2)?;
     let (first, second) = (all.remove(0), all.remove(0));
@@ -475,7 +483,8 @@ fn four_threads<
     requires calls { (blanks.calls.name ≡ M.name) × (blanks.calls.parts ≡ M.parts) × (4 ≡ M.parts) }
     requires given { (blanks.given.name ≡ G.name) × (blanks.given.parts ≡ G.parts) × (4 ≡ G.parts) }
     requires empty { (blanks.empty.name ≡ E.name) × (blanks.empty.parts ≡ E.parts) × (4 ≡ E.parts) }
-    requires opened { (blanks.opened.name ≡ O.name) × (blanks.opened.parts ≡ O.parts) × (4 ≡ O.parts) }
+    requires opened { (blanks.opened.name ≡ O.name) × (blanks.opened.parts ≡ O.parts)
+        × (4 ≡ O.parts) }
 {
     let (shared, mut all) = Shared::<M, G, E, O>::new(alloc, limits, blanks, 4)?;
     let (first, second, third, fourth) = (

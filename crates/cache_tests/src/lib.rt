@@ -1,4 +1,5 @@
-//! Tests of the cache: its policy, its shelves, its core beside a plain program, and both locks over threads.
+//! Tests of the cache: its policy, its shelves, its core beside a plain program, and both locks
+//! over threads.
 //!
 //! They stand in a crate of their own since a crate with tests is proved twice.
 #![tactic(auto)]

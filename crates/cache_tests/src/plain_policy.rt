@@ -1,5 +1,5 @@
-//! The core beside a plain program: at each of some thousand generated steps that looks through all marks so far, as the policy's
-//! definitions do, and both have to say the same.
+//! The core beside a plain program: at each of some thousand generated steps that looks through all
+//! marks so far, as the policy's definitions do, and both have to say the same.
 
 use crate::cache_core::give_up;
 use agent_core::{Core, mark_step_of};
@@ -50,7 +50,8 @@ fn ttl_of(limits: &Limits, mode: Mode, life: Life) -> Option<u32> {
     }
 }
 
-/// The ticket that is out, by the place of its mark: the last Open mark's, unless a Close of its number follows.
+/// The ticket that is out, by the place of its mark: the last Open mark's, unless a Close of its
+/// number follows.
 fn seat(marks: &[Mark]) -> Option<usize> {
     let mut out = None;
     for (place, mark) in marks.iter().enumerate() {
@@ -136,8 +137,8 @@ fn takes_away(mark: &Mark, under: &Under) -> bool {
     }
 }
 
-/// The number of the live entry for a request: the last that was stored under the id in a mode that covers the asked one, where it is
-/// neither taken away nor past a lifetime.
+/// The number of the live entry for a request: the last that was stored under the id in a mode that
+/// covers the asked one, where it is neither taken away nor past a lifetime.
 fn live(limits: &Limits, marks: &[Mark], id: &CacheId, mode: Mode, moment: u64) -> Option<u64> {
     let mut newest = None;
     for (place, mark) in marks.iter().enumerate() {
@@ -233,7 +234,8 @@ fn is_secret_of(marks: &[Mark], number: u64, secret: &Secret) -> bool {
     }
 }
 
-/// Words of the dice, the ticket that is out, and the wait that was given last, for the steps to come.
+/// Words of the dice, the ticket that is out, and the wait that was given last, for the steps to
+/// come.
 struct Maker {
     dice: Pcg32,
     out: Option<Ticket>,

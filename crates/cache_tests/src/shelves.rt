@@ -14,7 +14,8 @@ const MODES: [Mode; 5] = [Mode::Normal, Mode::User, Mode::Ssh, Mode::Nonce, Mode
 
 const K1: u32 = 1;
 
-/// The ids that the generated calls name. Some begin alike for more than 8 bytes, and one is the beginning of others.
+/// The ids that the generated calls name. Some begin alike for more than 8 bytes, and one is the
+/// beginning of others.
 const NAMES: [u32; 7] = [K1, 10, 2, 1000, 1001, 1002, 1003];
 
 /// What is never to happen.
@@ -27,7 +28,8 @@ enum Wrong {
     ShelvesDiffer,
 }
 
-/// The id with this number. Those below 1,000 are k0 to k999, whose order is not that of their numbers.
+/// The id with this number. Those below 1,000 are k0 to k999, whose order is not that of their
+/// numbers.
 fn id(k: u32) -> CacheId {
     let hundreds = b'0' + (k / 100 % 10) as u8;
     let tens = b'0' + (k / 10 % 10) as u8;
@@ -43,8 +45,8 @@ fn id(k: u32) -> CacheId {
     }
 }
 
-/// The passphrase of the entry with this number. Its length is 0, 22, 23 or 255 bytes in turn: the bounds of those that stand in a slot,
-/// and of those in memory of their own.
+/// The passphrase of the entry with this number. Its length is 0, 22, 23 or 255 bytes in turn: the
+/// bounds of those that stand in a slot, and of those in memory of their own.
 fn passphrase(number: u64) -> Option<Secret> {
     let len = match number % 4 {
         0 => 0,
@@ -96,7 +98,8 @@ enum Call {
 
 /// Drops what is past a lifetime, where that is wanted.
 fn sweep_if<S: Shelf>(shelf: &mut S, sweeps: bool, now: u64)
-    ensures { (number : ℕ) → AreBelow number (S.at shelf.old).slots → AreBelow number (S.at shelf.new).slots }
+    ensures { (number : ℕ) → AreBelow number (S.at shelf.old).slots
+        → AreBelow number (S.at shelf.new).slots }
 {
     if sweeps {
         shelf.sweep(now);
@@ -128,7 +131,8 @@ fn asked<S: Shelf>(
     k: u32,
     mode: Mode,
 ) -> Result<Found, Wrong>
-    ensures { (number : ℕ) → AreBelow number (S.at shelf.old).slots → AreBelow number (S.at shelf.new).slots }
+    ensures { (number : ℕ) → AreBelow number (S.at shelf.old).slots
+        → AreBelow number (S.at shelf.new).slots }
 {
     let there = found(shelf, k, mode, now);
     sweep_if(shelf, sweeps, now);
@@ -170,7 +174,8 @@ fn stored<S: Shelf>(
 
 /// Makes a call that stores nothing, and says what it finds.
 fn changed<S: Shelf>(shelf: &mut S, sweeps: bool, now: u64, call: Call) -> Result<Found, Wrong>
-    ensures { (number : ℕ) → AreBelow number (S.at shelf.old).slots → AreBelow number (S.at shelf.new).slots }
+    ensures { (number : ℕ) → AreBelow number (S.at shelf.old).slots
+        → AreBelow number (S.at shelf.new).slots }
 {
     match call {
         Call::Ask(k, mode) => return asked(shelf, sweeps, now, k, mode),
@@ -222,12 +227,14 @@ fn made<S: Shelf>(
     }
 }
 
-/// Both shelves, at which the same calls are made. An entry gets the number of the call that stores it.
+/// Both shelves, at which the same calls are made. An entry gets the number of the call that stores
+/// it.
 #[derive(Drop)]
 struct Both {
     list: ListShelf,
     slots: SlotShelf,
-    /// Whether it sweeps as the cache core does: before it stores or clears, and behind what is found.
+    /// Whether it sweeps as the cache core does: before it stores or clears, and behind what is
+    /// found.
     sweeps: bool,
     number: u64,
 }
@@ -240,7 +247,8 @@ impl Model for Both {
 
     ghost view = { λ both. both.number };
 
-    ghost invariant = { λ both. AreBelow both.number both.list.slots × AreBelow both.number both.slots.slots };
+    ghost invariant = { λ both. AreBelow both.number both.list.slots
+        × AreBelow both.number both.slots.slots };
 }
 
 impl Both {
@@ -417,7 +425,8 @@ fn a_load_is_answered_alike(rt: HostRuntime) -> Result<(), Fail> {
 /// Of a thousand slots 8 to 16 are in a range on average.
 const MAX_RANGE_LEN: usize = 40;
 
-/// Puts entries under k0 to k999 with lives of 1 to 1,000 seconds, and says the first behind which the guide doesn't lead to each slot.
+/// Puts entries under k0 to k999 with lives of 1 to 1,000 seconds, and says the first behind which
+/// the guide doesn't lead to each slot.
 fn put_a_thousand(both: &mut Both) -> Result<Option<u32>, Wrong> {
     for k in 0..1000 {
         both.call(0, put_for(k, k + 1))?;
@@ -528,7 +537,8 @@ fn the_newest_hides_the_older(rt: HostRuntime) -> Result<(), Fail> {
     Ok(())
 }
 
-/// Passphrases of all lengths one behind another. Each call's number is its place here, and the passphrase's length goes by it.
+/// Passphrases of all lengths one behind another. Each call's number is its place here, and the
+/// passphrase's length goes by it.
 const LENGTHS_IN_TURN: [Row; 17] = [
     (0, Call::Put(K1, Mode::User, ENDLESS), None),
     (1, Call::Ask(K1, Mode::User), Some(0)),
@@ -565,7 +575,8 @@ fn peeks_find(both: &mut Both, times: u64, then: Option<u64>) -> Result<bool, Wr
     Ok(true)
 }
 
-/// Whether each peek finds what was put before this many of them, and what is found at the end of their history.
+/// Whether each peek finds what was put before this many of them, and what is found at the end of
+/// their history.
 fn found_behind_peeks(alloc: Global, peeks: u64) -> Result<(bool, Option<u64>), Wrong> {
     let mut both = Both::new(alloc, true);
     both.call(0, Call::Put(K1, Mode::Any, ENDLESS))?;
@@ -584,8 +595,8 @@ fn nothing_is_found_behind_a_full_history(rt: HostRuntime) -> Result<(), Fail> {
     Ok(())
 }
 
-/// Whether nothing is found under a prompt, by this many peeks and by a request that has to stand, and whether the next request finds what is
-/// kept of it. Its room is made as it opens.
+/// Whether nothing is found under a prompt, by this many peeks and by a request that has to stand,
+/// and whether the next request finds what is kept of it. Its room is made as it opens.
 fn found_behind_a_prompt(alloc: Global, peeks: u64, keeps: bool) -> Result<(bool, bool), Wrong> {
     let mut both = Both::new(alloc, true);
     let asked = both.call(0, Call::Peek(K1, Mode::User))?;

@@ -132,7 +132,8 @@ fn add(list: &mut Vec<Foreign>, told: Told) -> Result<(), AllocError>
 }
 
 fn list_of(alloc: Global, told: &[Told]) -> Result<Vec<Foreign>, AllocError>
-    ensures { IfOk result (λ list. AllByRecursion (IsForeign (record { pass = 0; count = 0 })) list.items) }
+    ensures { IfOk result
+        (λ list. AllByRecursion (IsForeign (record { pass = 0; count = 0 })) list.items) }
 {
     let mut list = Vec::new(alloc);
     for told in told {
@@ -143,15 +144,18 @@ fn list_of(alloc: Global, told: &[Told]) -> Result<Vec<Foreign>, AllocError>
 
 fn add_list(script: &mut Vec<Vec<Foreign>>, list: Vec<Foreign>) -> Result<(), AllocError>
     requires list { AllByRecursion (IsForeign (record { pass = 0; count = 0 })) list.items }
-    requires before { AllForeign (record { pass = 0; count = 0 }) (map (λ list. list.items) script.old.items) }
-    ensures { AllForeign (record { pass = 0; count = 0 }) (map (λ list. list.items) script.new.items) }
+    requires before { AllForeign (record { pass = 0; count = 0 })
+        (map (λ list. list.items) script.old.items) }
+    ensures { AllForeign (record { pass = 0; count = 0 })
+        (map (λ list. list.items) script.new.items) }
 {
     script.push(list)?;
     Ok(())
 }
 
 fn script_of(alloc: Global, lists: &[&[Told]]) -> Result<Vec<Vec<Foreign>>, AllocError>
-    ensures { IfOk result (λ script. AllForeign (record { pass = 0; count = 0 }) (map (λ list. list.items) script.items)) }
+    ensures { IfOk result (λ script.
+        AllForeign (record { pass = 0; count = 0 }) (map (λ list. list.items) script.items)) }
 {
     let mut script = Vec::new(alloc);
     for told in lists {
@@ -247,7 +251,8 @@ fn at_end<C: Clock>(desk: &Solo<'_, C>) -> AtEnd {
     }
 }
 
-/// The outcome of asks at a desk with this script, whose clock goes on by so many seconds from each reading to the next.
+/// The outcome of asks at a desk with this script, whose clock goes on by so many seconds from each
+/// reading to the next.
 type Outcome = (Option<(usize, &'static str)>, AtEnd, Tally);
 
 fn outcome(
@@ -295,7 +300,8 @@ fn others_take_their_steps_between_the_turns(rt: HostRuntime) -> Result<(), Fail
     Ok(())
 }
 
-/// What an ask by prompt comes to where it is to come to this, how many marks there are then, and the moment of the last one.
+/// What an ask by prompt comes to where it is to come to this, how many marks there are then, and
+/// the moment of the last one.
 fn prompted(
     alloc: Global,
     seconds: u64,
@@ -312,7 +318,8 @@ fn prompted(
 
 #[test]
 fn a_turn_waits_for_the_prompt_of_another(rt: HostRuntime) -> Result<(), Fail> {
-    // What was typed serves the turn that waited for it: Open, Flush, Close and Given; the own step took three readings.
+    // What was typed serves the turn that waited for it: Open, Flush, Close and Given; the own step
+    // took three readings.
     let kept: [&[Told]; 3] = [
         &[Told::Bob(Does::Ask)],
         &[Told::Carol(Does::Flush)],

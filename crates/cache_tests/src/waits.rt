@@ -46,7 +46,8 @@ impl Watch {
         }
     }
 
-    /// The first has its turn until the second comes, and then for as long as that needs to read its clock too early.
+    /// The first has its turn until the second comes, and then for as long as that needs to read
+    /// its clock too early.
     fn hold<W: time::Clock>(&self, rt: &W) {
         self.begun.store(true, Ordering::SeqCst);
         wait_for(rt, &self.comes, PATIENCE);
@@ -100,7 +101,8 @@ impl<'a, W: time::Clock> WatchedClock<'a, W> {
 }
 
 impl<'a, W: time::Clock> Clock for WatchedClock<'a, W> {
-    ghost readings = { λ clock. record { later = λ _. None; count = clock.count; last = clock.last } };
+    ghost readings = { λ clock.
+        record { later = λ _. None; count = clock.count; last = clock.last } };
 
     fn now(&mut self) -> u64 {
         if self.is_first {
@@ -139,7 +141,8 @@ fn flush<W: Wait + time::Clock>(
     taken(&mut desk, Asked::Flush)
 }
 
-/// Whether the second session read its clock while the first had its turn, and how often it did in all.
+/// Whether the second session read its clock while the first had its turn, and how often it did in
+/// all.
 fn run_flushes<W: Threads + Wait + time::Clock + Sync>(
     rt: &W,
     alloc: Global,
@@ -184,7 +187,8 @@ fn a_step_is_late_a_minute_after_it_first_stood(rt: HostRuntime) -> Result<(), F
     Ok(())
 }
 
-/// Waits until the second session stands, and has a third one take a step, if there is one, which ends that. It gives when this was begun.
+/// Waits until the second session stands, and has a third one take a step, if there is one, which
+/// ends that. It gives when this was begun.
 fn end_stand<W: Wait + time::Clock>(
     rt: &W,
     counted: &Counted,
@@ -272,7 +276,8 @@ fn run_woken<W: Threads + Wait + time::Clock + Sync>(
     let (since, (kind, answered)) = thread::join(
         rt,
         || -> Option<Instant>
-            requires { (first.table ≡ counted.table) × (first.sessions ≡ 0) × (third.table ≡ counted.table) × (third.sessions ≡ 0) }
+            requires { (first.table ≡ counted.table) × (first.sessions ≡ 0)
+                × (third.table ≡ counted.table) × (third.sessions ≡ 0) }
         { hold_seat(rt, &counted, first, third, &watch, asked) },
         || -> (Kind, Option<Instant>)
             requires { (second.table ≡ counted.table) × (second.sessions ≡ 0) }

@@ -16,11 +16,12 @@ use Rattle.cache_policy.specs.declared.mark.MarkStep.{MarkStep}
 use Rattle.cache_policy.specs.declared.tally.Tally.{Tally}
 use Rattle.cache_policy.specs.Histories.{History}
 use Rattle.cache_policy.specs.Runs.{joined, run_with_mark}
+use Rattle.cache_policy.specs.Tallies.{one_if}
 use Rattle.cache_policy.specs.Turns.{Turn, turn_of}
 use Rattle.cache_policy.proofs.GrowingRuns.{joined-run_with_mark}
 use Rattle.agent_core.specs.Cores.{mark_of}
 use Rattle.agent_core.specs.Known.{TakesStep, marked, stood, refused, spent}
-use Rattle.agent_core.specs.Tallies.{one, tally_of}
+use Rattle.agent_core.specs.Tallies.{tally_of}
 use Rattle.agent_core.proofs.Counting.{tally_is}
 use Rattle.counted_lock.specs.declared.board.About.{About}
 use Rattle.counted_lock.specs.declared.board.Claim.{Claim}
@@ -123,7 +124,7 @@ below_later sessions other (mark ∷ later) more below = (let first = below.0 in
 
 -- what a turn leaves of a pass
 pub passes_on : (session : SessionId) (reading : ℕ) (asked : MarkStep) (tried : Tried) (number sessions front calls calls' : ℕ) (stopped : Bool) (m m' : Sat) → IsPass number sessions front calls stopped m
-    → session.pass ≡ number → session.count < sessions → TakesTurn session reading asked m tried m' → calls' ≡ calls + one tried.made → IsPass number sessions tried.front calls' tried.stopped m'
+    → session.pass ≡ number → session.count < sessions → TakesTurn session reading asked m tried m' → calls' ≡ calls + one_if tried.made → IsPass number sessions tried.front calls' tried.stopped m'
 passes_on session reading asked tried number sessions front calls calls' stopped m m' p by below t raised =
     let seen : (own m').seen ≡ t.found ++ t.marks = ap (λ (c : Claim). c.seen) t.seen in
     let ours = own_marks (own m).limits t.found session _ asked (turn_of tried.answer) t.marks t.takes in

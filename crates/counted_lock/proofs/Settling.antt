@@ -1,25 +1,25 @@
 -- What a step of the core adds to the run.
-use Rattle.std.proofs.Common.{◌≡◌, ◌≤◌, ◌<◌, ◌%◌, ◌≢◌, ◌==◌, ℕ, ◌+◌, true, false, List, [], ◌∷◌, ◌++◌, length, Option, Some, None, sym, refl, ap, ◌∙◌, subst, arith, if◌then◌else◌}
+use Rattle.std.proofs.Common.{◌≡◌, ◌≤◌, ◌<◌, ◌%◌, ◌≢◌, ◌==◌, ℕ, ◌+◌, true, false, List, [], ◌∷◌, ◌++◌, length, Some, None, sym, refl, ap, ◌∙◌, subst, arith, if◌then◌else◌}
 use Rattle.std.proofs.lemmas.Bool.Decides.{nat_tests}
 use Rattle.std.proofs.lemmas.List.{append-nil}
 use Rattle.agent_ports.specs.declared.session.SessionId.{SessionId}
 use Rattle.cache_policy.specs.declared.bounds.TheConstants.{MAX_MARKS, MAX_MOMENT}
-use Rattle.cache_policy.specs.declared.history.Held.{Held}
 use Rattle.cache_policy.specs.declared.life.Limits.{Limits}
 use Rattle.cache_policy.specs.declared.mark.Mark.{Mark}
 use Rattle.cache_policy.specs.declared.mark.MarkStep.{MarkStep}
 use Rattle.cache_policy.specs.declared.tally.Tally.{Tally}
 use Rattle.cache_policy.specs.declared.wait.Wait.{Wait}
+use Rattle.cache_policy.specs.Entries.{stored}
 use Rattle.cache_policy.specs.Histories.{History}
 use Rattle.cache_policy.specs.Runs.{last_base, turn_over, next_history, is_spent, run_with_mark, joined, moment_before}
-use Rattle.cache_policy.specs.Seat.{seat}
+use Rattle.cache_policy.specs.Tallies.{one_if}
 use Rattle.cache_policy.specs.Turns.{Turn, Stand, Refused, Stopping}
 use Rattle.agent_core.specs.Cores.{AtCore, mark_of, IsStep, marked, stood, refused, spent}
 use Rattle.agent_core.specs.Known.{TakesStep}
 use Rattle.agent_core.specs.Known as known
 use Rattle.agent_core.specs.Recording.{KeepsRun, reply_of}
 use Rattle.agent_core.specs.Stepped.{IsSettled}
-use Rattle.agent_core.specs.Tallies.{one, stores, counted, Tallied, CanCount}
+use Rattle.agent_core.specs.Tallies.{counted, Tallied, CanCount}
 use Rattle.agent_core.proofs.Counting.{can_count, tally_counted, tally_stays}
 use Rattle.agent_core.proofs.Knowing.{legal_last, spent_run, going, is_marked, made, keeps_same, keeps_refused, took_refused, took_stood, seat_next}
 use Rattle.agent_core.proofs.Seating.{going_on}
@@ -91,14 +91,12 @@ module _ (limits : Limits) (log : List Mark) (asked : MarkStep) (turn : Turn) (t
   tally_is_with : counted trial.tally own_mark trial.stores ≡ tally_with trial (reply_of turn)
   unfolding own_mark
   tally_is_with = λ i. record (tally_with trial (reply_of turn)) {
-    cleared = trial.tally.cleared + one (sym s.trial_is.clears_is i);
-    flushed = trial.tally.flushed + one (sym s.trial_is.flushes_is i);
+    cleared = trial.tally.cleared + one_if (sym s.trial_is.clears_is i);
+    flushed = trial.tally.flushed + one_if (sym s.trial_is.flushes_is i);
   }
 
-  stores_is : trial.stores ≡ stores s.before.limits (seat (next_history s.keeps.last)) asked
-  stores_is =
-      s.trial_is.stores_is
-      ∙ ap (λ (h : Option Held). stores s.before.limits h asked) (s.keeps.stands.seat_is ∙ sym (seat_next s.keeps.last))
+  stores_is : (moment : ℕ) → length (stored s.before.limits (next_history s.keeps.last) asked moment) ≡ one_if trial.stores
+  stores_is moment = s.trial_is.stores_is (next_history s.keeps.last) moment (seat_next s.keeps.last ∙ sym s.keeps.stands.seat_is)
 
   pub adds_made : IsSettled turn → (turn ≡ Refused → ⊥) → (s.before.base + s.before.count ≡ last_base → ⊥)
       → Adds limits log asked turn trial core (mark_of trial.session asked (reply_of turn) core.moment ∷ []) (tally_with trial (reply_of turn))
@@ -109,7 +107,7 @@ module _ (limits : Limits) (log : List Mark) (asked : MarkStep) (turn : Turn) (t
       let is = is_marked s.before core s.keeps.last trial.session (moment_on log trial) asked turn settled taken more s.step in
       let all = made s.before core run s.keeps trial.session asked turn (moment_on log trial) more (s.limits_is ∙ sym s.before_is) later within is own_mark refl in
       let now : run_with_mark run own_mark ≡ run_of_log (log ++ own_mark ∷ []) = sym (with_one log own_mark) in
-      let tallied = tally_counted s.before.limits run s.keeps.last own_mark trial.tally trial.stores s.keeps.legal.turns_over s.keeps.last_is s.tally_is stores_is in
+      let tallied = tally_counted s.before.limits run s.keeps.last own_mark trial.tally trial.stores s.keeps.legal.turns_over s.keeps.last_is s.tally_is (stores_is core.moment) in
       record {
         takes = takes_at (run_of_log (log ++ own_mark ∷ []))
             (subst (λ (r : List History). TakesStep s.before.limits run trial.session (moment_on log trial) asked turn r) now all.takes);

@@ -9,11 +9,12 @@ use Rattle.cache_policy.specs.declared.tally.Tally.{Tally}
 use Rattle.cache_policy.specs.Histories.{History}
 use Rattle.cache_policy.specs.Legal.{IsLegal}
 use Rattle.cache_policy.specs.Runs.{moment_of}
+use Rattle.cache_policy.specs.Tallies.{one_if}
 use Rattle.cache_policy.specs.Turns.{Turn, turn_of}
 use Rattle.agent_core.specs.Cores.{AtCore, StandsFor, IsStep}
 use Rattle.agent_core.specs.Known.{TakesStep}
 use Rattle.agent_core.specs.Recording.{KeepsRun}
-use Rattle.agent_core.specs.Tallies.{one, Tallied}
+use Rattle.agent_core.specs.Tallies.{Tallied}
 use Rattle.agent_core.proofs.Knowing.{legal_last}
 use Rattle.counted_lock.specs.declared.board.Claim.{Claim}
 use Rattle.counted_lock.specs.declared.board.Cored.{Cored}
@@ -66,7 +67,7 @@ takes_turn m m1 m2 m3 cored after trial asked made tried e limits s g is front s
       found = found;
       found_is = ap (λ (c : Claim). c.seen) e.seen;
       marks = s.marks;
-      many = s.many ∙ ap one (sym is);
+      many = s.many ∙ ap one_if (sym is);
       takes = subst (λ (l : Limits). TakesStep l (run_of_log found) trial.session (moment_on found trial) asked (turn_of tried.answer) (run_of_log (found ++ s.marks))) limits_found s.takes;
       seen = g.same ∙ (s.seen ∙ (λ i. record (own m) { limits = limits_found i; number = (ap (λ (c : Claim). c.number) e.seen) i; seen = found ++ s.marks }));
       idle = g.idle;

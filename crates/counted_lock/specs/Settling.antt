@@ -6,14 +6,16 @@ use Rattle.cache_policy.specs.declared.mark.Mark.{Mark}
 use Rattle.cache_policy.specs.declared.mark.MarkReply.{MarkReply}
 use Rattle.cache_policy.specs.declared.mark.MarkStep.{MarkStep}
 use Rattle.cache_policy.specs.declared.tally.Tally.{Tally}
+use Rattle.cache_policy.specs.Entries.{stored}
+use Rattle.cache_policy.specs.Histories.{History}
 use Rattle.cache_policy.specs.Runs.{last_base, moment_before, moment_of}
-use Rattle.cache_policy.specs.Seat.{is_open}
-use Rattle.cache_policy.specs.Tallies.{is_given, is_empty, is_clear, is_flush}
+use Rattle.cache_policy.specs.Seat.{is_open, seat}
+use Rattle.cache_policy.specs.Tallies.{is_given, is_empty, is_clear, is_flush, one_if}
 use Rattle.cache_policy.specs.Turns.{Turn}
 use Rattle.agent_core.specs.Cores.{AtCore, IsStep}
 use Rattle.agent_core.specs.Known.{TakesStep}
 use Rattle.agent_core.specs.Recording.{KeepsRun}
-use Rattle.agent_core.specs.Tallies.{one, stores, Tallied}
+use Rattle.agent_core.specs.Tallies.{Tallied}
 use Rattle.counted_lock.specs.declared.trial.Trial.{Trial}
 use Rattle.counted_lock.specs.Logs.{run_of_log}
 use Rattle.counted_lock.specs.Plays.{saw, Works}
@@ -23,7 +25,7 @@ use Rattle.counted_lock.specs.Standing.{Stands}
 -- what was noted of a step before the core took it is so
 pub record IsTrial (before : AtCore) (asked : MarkStep) (trial : Trial) : Type 0 where
   pub spent_is : IsTrue trial.spent ↔ (before.base + before.count ≡ last_base)
-  pub stores_is : trial.stores ≡ stores before.limits before.held asked
+  pub stores_is : (next : History) (moment : ℕ) → seat next ≡ before.held → length (stored before.limits next asked moment) ≡ one_if trial.stores
   pub clears_is : trial.clears ≡ is_clear asked
   pub flushes_is : trial.flushes ≡ is_flush asked
 
@@ -31,12 +33,12 @@ pub record IsTrial (before : AtCore) (asked : MarkStep) (trial : Trial) : Type 0
 abbrev pub tally_with : Trial → MarkReply → Tally
 tally_with trial reply = record {
   marks = trial.tally.marks + 1;
-  given = trial.tally.given + one (is_given reply);
-  empty = trial.tally.empty + one (is_empty reply);
-  opened = trial.tally.opened + one (is_open reply);
-  stored = trial.tally.stored + one trial.stores;
-  cleared = trial.tally.cleared + one trial.clears;
-  flushed = trial.tally.flushed + one trial.flushes;
+  given = trial.tally.given + one_if (is_given reply);
+  empty = trial.tally.empty + one_if (is_empty reply);
+  opened = trial.tally.opened + one_if (is_open reply);
+  stored = trial.tally.stored + one_if trial.stores;
+  cleared = trial.tally.cleared + one_if trial.clears;
+  flushed = trial.tally.flushed + one_if trial.flushes;
   stopped = trial.tally.stopped;
 }
 
@@ -57,7 +59,7 @@ pub record Stepped (limits : Limits) (log : List Mark) (asked : MarkStep) (turn 
 -- The seat that works has added these marks, for which the core stands: one where there is another tally then, and else none.
 pub record Settles (trial : Trial) (asked : MarkStep) (turn : Turn) (core : AtCore) (made : Option Tally) (m m' : Sat) : Type 0 where
   pub marks : List Mark
-  pub many : length marks ≡ one (is_some made)
+  pub many : length marks ≡ one_if (is_some made)
   pub takes : TakesStep (own m).limits (run_of_log (own m).seen) trial.session (moment_on (own m).seen trial) asked turn (run_of_log ((own m).seen ++ marks))
   pub seen : own m' ≡ saw (own m) marks
   pub works : Works m' ((0, None) ∷ [])

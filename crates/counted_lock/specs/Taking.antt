@@ -4,9 +4,9 @@ use Rattle.agent_ports.specs.declared.session.SessionId.{SessionId}
 use Rattle.cache_policy.specs.declared.mark.Mark.{Mark}
 use Rattle.cache_policy.specs.declared.mark.MarkStep.{MarkStep}
 use Rattle.cache_policy.specs.Runs.{moment_before, moment_of}
+use Rattle.cache_policy.specs.Tallies.{one_if}
 use Rattle.cache_policy.specs.Turns.{turn_of}
 use Rattle.agent_core.specs.Known.{TakesStep}
-use Rattle.agent_core.specs.Tallies.{one}
 use Rattle.counted_lock.specs.declared.turn.Tried.{Tried}
 use Rattle.counted_lock.specs.Logs.{run_of_log, IsLegalLog, is_stopped}
 use Rattle.counted_lock.specs.Logs.{marks_by}
@@ -20,7 +20,7 @@ pub record TakesTurn (session : SessionId) (reading : ℕ) (asked : MarkStep) (m
   pub found : List Mark
   pub found_is : found ≡ (own m).seen ++ others
   pub marks : List Mark
-  pub many : length marks ≡ one tried.made
+  pub many : length marks ≡ one_if tried.made
   pub takes : TakesStep (own m).limits (run_of_log found) session (moment_of (moment_before found) reading) asked (turn_of tried.answer) (run_of_log (found ++ marks))
   pub seen : own m' ≡ record (own m) { seen = found ++ marks }
   pub idle : IsIdle m'

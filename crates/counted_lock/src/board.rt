@@ -1,5 +1,5 @@
-//! The table that threads share. One word counts the numbers that were drawn, one those that were served, and one the
-//! marks. The slot has the core, but for the time of a turn.
+//! The table that threads share. One word counts the numbers that were drawn, one those that were
+//! served, and one the marks. The slot has the core, but for the time of a turn.
 use agent_core::Core;
 use atomic_table::{Seat, Table, TableRule};
 use cache_policy::{Limits, Mark, Tally};
@@ -16,34 +16,47 @@ pub(crate) const MARKS: usize = 2;
 /// The core, and what the marks of its run come to, but for whether it has stopped.
 #[derive(Drop)]
 pub struct Cored {
+    /// The core.
     pub core: Core,
+    /// What the marks come to.
     pub tally: Tally,
 }
 
 /// What the table is told once: the lifetimes of the entries, and how many passes there are.
 #[derive(Drop)]
 pub struct About {
+    /// The lifetimes of the entries.
     pub limits: Limits,
+    /// How many passes there are.
     pub passes: u32,
 }
 
 /// What the pass of this number has seen. No value of it is made.
 pub struct Claim {
+    /// The lifetimes of the entries.
     pub limits: Limits,
+    /// The number of the pass, from 0.
     pub number: u32,
+    /// The marks of the run that it has seen.
     pub seen: LinkedList<Mark>,
 }
 
-/// Where a turn is: it has no number; it waits for this number; or it has the core. The numbers go beyond those of a word.
+/// Where a turn is: it has no number; it waits for this number; or it has the core. The numbers go
+/// beyond those of a word.
 pub enum Stage {
+    /// It has no number.
     Idle,
+    /// It waits for this number.
     Waiting(u64),
+    /// It has the core, by this number.
     Working(u64),
 }
 
 /// What a seat at the table knows. No value of it is made.
 pub struct Doing {
+    /// Where its turn is.
     pub stage: Stage,
+    /// What the passes of this seat have seen.
     pub claims: LinkedList<Claim>,
 }
 
@@ -58,6 +71,8 @@ impl TableRule<Option<Cored>, Doing, About> for OneRun {
     ghost first = { first_doing };
 }
 
+/// The table.
 pub type Board = Table<Option<Cored>, Doing, About, OneRun, Global>;
 
+/// A seat at the table.
 pub type Place = Seat<Option<Cored>, Doing>;

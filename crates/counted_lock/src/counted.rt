@@ -1,6 +1,9 @@
-ghost use Rattle.std.specs.Prelude.{◌≡◌, ◌+◌, ◌<◌, ◌≤◌, ◌^◌, ℕ, List, length, IfOk, IfErr, OnErr, vec_len, if◌then◌else◌};
+ghost use Rattle.std.specs.Prelude.{◌≡◌, ◌+◌, ◌<◌, ◌≤◌, ◌^◌, ℕ, List, length, IfOk, IfErr, OnErr};
+ghost use Rattle.std.specs.Prelude.{vec_len};
 ghost use Rattle.cache_policy.specs.declared.mark.Mark.{Mark as AnyMark};
-ghost use Rattle.cache_policy.specs.Turns.{asked_step, mark_step, turn_of, FitsReply, MayWantMemory};
+ghost use Rattle.cache_policy.specs.Tallies.{one_if};
+ghost use Rattle.cache_policy.specs.Turns.{asked_step, mark_step, turn_of, FitsReply};
+ghost use Rattle.cache_policy.specs.Turns.{MayWantMemory};
 ghost use Rattle.counted_lock.specs.declared.board.About.{About as AboutOf};
 ghost use Rattle.counted_lock.specs.Plays.{IsPlace};
 ghost use Rattle.counted_lock.specs.Rule.{AllFit, times};
@@ -22,7 +25,8 @@ use std::marker::Model;
 use std::sync::Wait;
 use std::time;
 
-/// A core at which threads take turns. They are served in the order in which they draw their numbers, and one draws once no other is at its turn.
+/// A core at which threads take turns. They are served in the order in which they draw their
+/// numbers, and one draws once no other is at its turn.
 #[derive(Drop)]
 pub struct Counted {
     table: Board,
@@ -41,7 +45,8 @@ impl Model for Counted {
       passes = counted.table.shared.key.passes;
     } };
 
-    ghost invariant = { λ counted. IsCounted counted.table.shared.table_id counted.table.shared.key };
+    ghost invariant = { λ counted.
+        IsCounted counted.table.shared.table_id counted.table.shared.key };
 }
 
 impl Counted {
@@ -99,7 +104,8 @@ impl Counted {
         requires own { pass.old.table ≡ self.now.table }
         requires by { session.pass ≡ pass.old.number }
         requires earlier { session.count < pass.old.sessions }
-        ensures tries { Tries session (C.readings clock.old) (C.readings clock.new) (mark_step session step) pass.old (turn_of result) pass.new }
+        ensures tries { Tries session (C.readings clock.old) (C.readings clock.new)
+            (mark_step session step) pass.old (turn_of result) pass.new }
         ensures fits { FitsReply (asked_step step) (turn_of result) }
         ensures memory { OnErr result (MayWantMemory (asked_step step)) }
         ensures back { IfErr result (λ refused. refused.step ≡ step) }
@@ -152,9 +158,9 @@ impl Counted {
 /// One mark more, if one was made.
 fn raised(calls: u64, made: bool) -> u64
     requires { calls < 2 ^ 63 }
-    ensures { result ≡ calls + (if made then 1 else 0) }
+    ensures { result ≡ calls + one_if made }
 {
-    if made { calls + 1 } else { calls }
+    calls + u64::from(made)
 }
 
 /// The seats of all passes, as one.
@@ -165,7 +171,8 @@ fn gather(board: &Board, mut passes: Vec<CountedPass>) -> Place
     ensures own { result.table_id ≡ board.now.shared.table_id }
     ensures place { IsPlace (vec_len passes) result.me }
     ensures numbers { (k : ℕ) → times k result.me.0.claims ≡ length (numbered k passes.items) }
-    ensures fits { (about : AboutOf) (log : List AnyMark) → AllFit about log result.me.0.claims → PassesFit about log passes.items }
+    ensures fits { (about : AboutOf) (log : List AnyMark) → AllFit about log result.me.0.claims
+        → PassesFit about log passes.items }
 {
     let Some(first) = passes.pop() else {
         unreachable!()

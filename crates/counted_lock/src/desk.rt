@@ -1,7 +1,8 @@
 ghost use Rattle.std.specs.Prelude.{◌≡◌, ◌+◌, ◌<◌, ◌≤◌, ◌^◌, ◌-◌, None, Some, IfErr};
 ghost use Rattle.std.specs.Option.{is_some};
 ghost use Rattle.cache_policy.specs.declared.mark.MarkStep.{MarkStep as AskedStep};
-ghost use Rattle.cache_policy.specs.Turns.{asked_step, mark_step, turn_of, closes, out_after, with_since};
+ghost use Rattle.cache_policy.specs.Turns.{asked_step, mark_step, turn_of, closes, out_after};
+ghost use Rattle.cache_policy.specs.Turns.{with_since};
 ghost use Rattle.agent_core.specs.Openings.{opening_step};
 ghost use Rattle.counted_lock.specs.Turns.{CountedTurn, at_counted};
 ghost use Rattle.counted_lock.specs.Trying.{TriesAt};
@@ -14,8 +15,8 @@ use std::marker::Model;
 use std::sync::Wait;
 use std::time;
 
-/// A desk over the lock, for the turns of one session. Its run is known: it is the one that all passes have marks in, so far as the pass has
-/// seen it.
+/// A desk over the lock, for the turns of one session. Its run is known: it is the one that all
+/// passes have marks in, so far as the pass has seen it.
 #[derive(Drop)]
 pub struct CountedDesk<'a, W: Wait + time::Clock, C: Clock> {
     rt: &'a W,
@@ -33,7 +34,8 @@ impl<'a, W: Wait + time::Clock, C: Clock> Model for CountedDesk<'a, W, C> {
 
     ghost Value = { AtCountedDesk C };
 
-    ghost view = { λ desk. record { pass = desk.pass; session = desk.session; out = desk.out; clock = desk.clock } };
+    ghost view = { λ desk.
+        record { pass = desk.pass; session = desk.session; out = desk.out; clock = desk.clock } };
 
     ghost invariant = { λ desk. record {
       own : desk.pass.table ≡ desk.counted.now.table;
@@ -43,7 +45,8 @@ impl<'a, W: Wait + time::Clock, C: Clock> Model for CountedDesk<'a, W, C> {
 }
 
 impl<'a, W: Wait + time::Clock, C: Clock> CountedDesk<'a, W, C> {
-    /// A desk for a session that has the pass's number, and a count that no session of the pass had before.
+    /// A desk for a session that has the pass's number, and a count that no session of the pass had
+    /// before.
     pub fn new(
         rt: &'a W,
         counted: &'a Counted,
@@ -55,7 +58,12 @@ impl<'a, W: Wait + time::Clock, C: Clock> CountedDesk<'a, W, C> {
         requires by { session.pass ≡ pass.number }
         requires later { pass.sessions ≤ session.count }
         requires numbered { session.count < 2 ^ 64 - 1 }
-        ensures { result ≡ record { pass = record pass { sessions = session.count + 1 }; session = session; out = None; clock = clock } }
+        ensures { result ≡ record {
+          pass = record pass { sessions = session.count + 1 };
+          session = session;
+          out = None;
+          clock = clock;
+        } }
     {
         pass.sessions = session.count + 1;
         CountedDesk {
@@ -80,7 +88,8 @@ impl<'a, W: Wait + time::Clock, C: Clock> CountedDesk<'a, W, C> {
 
     /// Tries a step once, at the front.
     fn attempt(&mut self, step: Step) -> Result<Reply, Refused>
-        ensures tries { TriesAt C.readings self.old (asked_step step) (mark_step self.old.session step) (turn_of result) self.new }
+        ensures tries { TriesAt C.readings self.old (asked_step step)
+            (mark_step self.old.session step) (turn_of result) self.new }
         ensures back { IfErr result (λ refused. refused.step ≡ step) }
     {
         let gives_back = is_close(&step);
@@ -99,7 +108,8 @@ impl<'a, W: Wait + time::Clock, C: Clock> CountedDesk<'a, W, C> {
     fn try_again(&mut self, opening: &Opening, stood: SeatWait) -> Result<Reply, Refused>
         requires { stood.session ≡ self.old.session }
         ensures tries { TriesAt C.readings self.old (asked_step (opening_step opening.now None))
-            (with_since (Some stood.since) (asked_step (opening_step opening.now None))) (turn_of result) self.new }
+            (with_since (Some stood.since) (asked_step (opening_step opening.now None)))
+            (turn_of result) self.new }
         ensures back { IfErr result (λ refused. refused.step ≡ opening_step opening.now None) }
     {
         match self.attempt(opening.step(Some(stood))) {
@@ -117,14 +127,16 @@ fn is_close(step: &Step) -> bool
     matches!(step, Step::Close { .. })
 }
 
-/// Whether a step may let another go on that stands: it frees the seat, ends the agent, or stores what is asked for.
+/// Whether a step may let another go on that stands: it frees the seat, ends the agent, or stores
+/// what is asked for.
 fn may_end_stands(step: &Step) -> bool {
     matches!(step, Step::Close { .. } | Step::Stop | Step::Put { .. })
 }
 
 /// The ticket that the session has after a turn, whose step is a Close or isn't.
 fn out_then(out: Option<u64>, gives_back: bool, answer: &Result<Reply, Refused>) -> Option<u64>
-    ensures { (asked : AskedStep) → gives_back ≡ is_some (closes asked) → result ≡ out_after out asked (turn_of answer.now) }
+    ensures { (asked : AskedStep) → gives_back ≡ is_some (closes asked)
+        → result ≡ out_after out asked (turn_of answer.now) }
 {
     match answer {
         Err(_) => out,
@@ -138,7 +150,8 @@ impl<'a, W: Wait + time::Clock, C: Clock> Desk for CountedDesk<'a, W, C> {
 
     ghost turned = { λ before asked turn after. CountedTurn C.readings before asked turn after };
 
-    /// Where the reply is Stand, it draws a new number once a turn may have ended that, or a second has passed, and tries again.
+    /// Where the reply is Stand, it draws a new number once a turn may have ended that, or a second
+    /// has passed, and tries again.
     fn turn(&mut self, step: Step) -> Result<Reply, Refused> {
         let (rt, counted) = (self.rt, self.counted);
         let front = &counted.front;

@@ -1,17 +1,20 @@
-//! A plain lock before the numbers, and where threads wait for the seat. No clause speaks of either.
+//! A plain lock before the numbers, and where threads wait for the seat. No clause speaks of
+//! either.
 
 use std::hint;
 use std::sync::{Condvar, Mutex, MutexGuard, Wait};
 use std::time::{Clock, Duration};
 
-/// How often a thread looks at the lock before it sleeps there, which takes longer than a few turns do.
+/// How often a thread looks at the lock before it sleeps there, which takes longer than a few turns
+/// do.
 const LOOKS: u32 = 300;
 
 /// How long a step stands at a time, in seconds. By then it may be late, though nobody took a turn.
 const STANDS: u64 = 1;
 
-/// Whoever is at the front draws the next number, so that this number's turn is at once: the system's lock decides who is next, and a thread
-/// that runs needn't wait for one that has no processor. It decides nothing of the run.
+/// Whoever is at the front draws the next number, so that this number's turn is at once: the
+/// system's lock decides who is next, and a thread that runs needn't wait for one that has no
+/// processor. It decides nothing of the run.
 #[derive(Drop)]
 pub(crate) struct Front {
     lock: Mutex<()>,

@@ -5,7 +5,8 @@ ghost use Rattle.counted_lock.specs.Passes.{mine, IsSeen};
 use crate::board::Place;
 use std::marker::Model;
 
-/// What one worker takes its turns with. Contracts see the run so far as the pass has seen it, with all its secrets; of that no copy is kept.
+/// What one worker takes its turns with. Contracts see the run so far as the pass has seen it, with
+/// all its secrets; of that no copy is kept.
 ///
 /// A pass that is lost keeps the lock from being closed.
 #[derive(Drop)]
@@ -36,7 +37,8 @@ impl Model for CountedPass {
       seen = (own pass.seat.me).seen;
     } };
 
-    ghost invariant = { λ pass. IsPass pass.number pass.sessions pass.front pass.calls pass.stopped pass.seat.me };
+    ghost invariant = { λ pass.
+        IsPass pass.number pass.sessions pass.front pass.calls pass.stopped pass.seat.me };
 }
 
 impl CountedPass {
@@ -61,7 +63,8 @@ impl CountedPass {
         self.calls
     }
 
-    /// The count that its next session can have: 0 at first, and then one more than that of its last.
+    /// The count that its next session can have: 0 at first, and then one more than that of its
+    /// last.
     pub fn sessions(&self) -> u64
         ensures { result ≡ self.now.sessions }
     {
@@ -75,7 +78,8 @@ impl CountedPass {
         self.stopped
     }
 
-    /// A law: what a pass has seen is a legal run, and its own marks are those of sessions that it had.
+    /// A law: what a pass has seen is a legal run, and its own marks are those of sessions that it
+    /// had.
     pub fn keeps(&self)
         ensures { IsSeen self.now }
     {

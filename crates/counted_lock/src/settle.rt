@@ -12,7 +12,8 @@ use cache_policy::{Refused, Reply, Step, Tally};
 use std::marker::Brand;
 use std::snapshot::Snapshot;
 
-/// Adds the mark of a step that was answered to the run, exactly where it made one, and then gives the tally with it.
+/// Adds the mark of a step that was answered to the run, exactly where it made one, and then gives
+/// the tally with it.
 pub(crate) fn settle(
     board: &Board,
     seat: &mut Place,
@@ -24,9 +25,11 @@ pub(crate) fn settle(
     requires own { IsSeatOf board.now.shared.table_id seat.old.table_id }
     requires works { Works seat.old.me ((0, None) ∷ []) }
     requires by { trial.now.session.pass ≡ (own seat.old.me).number }
-    requires step { Stepped (own seat.old.me).limits (own seat.old.me).seen (mark_step trial.now.session asked.now.value) (turn_of answer.now) trial.now core.now }
+    requires step { Stepped (own seat.old.me).limits (own seat.old.me).seen
+        (mark_step trial.now.session asked.now.value) (turn_of answer.now) trial.now core.now }
     ensures own { seat.new.table_id ≡ seat.old.table_id }
-    ensures settles { Settles trial.now (mark_step trial.now.session asked.now.value) (turn_of answer.now) core.now result seat.old.me seat.new.me }
+    ensures settles { Settles trial.now (mark_step trial.now.session asked.now.value)
+        (turn_of answer.now) core.now result seat.old.me seat.new.me }
 {
     match answer {
         Err(_) => None,

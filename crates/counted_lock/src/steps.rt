@@ -16,7 +16,8 @@ use std::hint;
 use std::snapshot::Snapshot;
 use std::sync::Wait;
 
-/// Draws a number, waits for it, and takes the core. Who comes from the front waits no time, since all numbers before are served.
+/// Draws a number, waits for it, and takes the core. Who comes from the front waits no time, since
+/// all numbers before are served.
 pub(crate) fn enter<W: Wait>(rt: &W, board: &Board, seat: &mut Place) -> Cored
     requires own { IsSeatOf board.now.shared.table_id seat.old.table_id }
     requires idle { IsIdle seat.old.me }
@@ -45,11 +46,14 @@ pub(crate) fn count<J: Naming>(
 )
     requires own { IsSeatOf board.now.shared.table_id seat.old.table_id }
     requires works { Works seat.old.me seat.old.me.1 }
-    requires named { J.mark ≡ mark_of session (mark_step session asked.now.value) (reply_of (turn_of (Ok reply.now))) moment }
+    requires named { J.mark ≡ mark_of session (mark_step session asked.now.value)
+        (reply_of (turn_of (Ok reply.now))) moment }
     requires by { session.pass ≡ (own seat.old.me).number }
-    requires legal { IsLegalLog (own seat.old.me).limits ((own seat.old.me).seen ++ mark_of session (mark_step session asked.now.value) (reply_of (turn_of (Ok reply.now))) moment ∷ []) }
+    requires legal { IsLegalLog (own seat.old.me).limits ((own seat.old.me).seen ++ mark_of session
+        (mark_step session asked.now.value) (reply_of (turn_of (Ok reply.now))) moment ∷ []) }
     ensures own { seat.new.table_id ≡ seat.old.table_id }
-    ensures counts { Counts (mark_of session (mark_step session asked.now.value) (reply_of (turn_of (Ok reply.now))) moment) seat.old.me seat.new.me }
+    ensures counts { Counts (mark_of session (mark_step session asked.now.value)
+        (reply_of (turn_of (Ok reply.now))) moment) seat.old.me seat.new.me }
 {
     let _ = session;
     let _ = asked;

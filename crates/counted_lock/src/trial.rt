@@ -1,17 +1,17 @@
-//! What is noted of a step before the core takes it, so that its mark can be counted without a copy of the step.
-ghost use Rattle.std.specs.Prelude.{◌≡◌, Ok, if◌then◌else◌};
-ghost use Rattle.agent_ports.specs.declared.session.SessionId.{SessionId as Session};
+//! What is noted of a step before the core takes it, so that its mark can be counted without a copy
+//! of the step.
+ghost use Rattle.std.specs.Prelude.{◌≡◌, Ok};
 ghost use Rattle.cache_policy.specs.Turns.{mark_step, turn_of};
 ghost use Rattle.agent_core.specs.Recording.{reply_of};
-ghost use Rattle.agent_core.specs.Tallies.{keeps, stores, CanCount};
+ghost use Rattle.agent_core.specs.Tallies.{CanCount};
 ghost use Rattle.counted_lock.specs.Settling.{IsTrial, tally_with};
 
 use crate::board::Cored;
-use agent_core::Core;
 use agent_ports::SessionId;
-use cache_policy::{Held, Life, Reply, Step, Tally, Under};
+use cache_policy::{Reply, Step, Tally};
 
-/// A step that is tried: whose it is, the reading of the clock, the tally before it, and what it adds to that where it makes its mark.
+/// A step that is tried: whose it is, the reading of the clock, the tally before it, and what it
+/// adds to that where it makes its mark.
 #[derive(Clone, Copy)]
 pub(crate) struct Trial {
     pub(crate) session: SessionId,
@@ -37,7 +37,7 @@ impl Trial {
             reading,
             tally: cored.tally,
             spent: cored.core.spent(),
-            stores: stores(&cored.core, step),
+            stores: cored.core.stores(session, step),
             clears: matches!(step, Step::Clear { .. }),
             flushes: matches!(step, Step::Flush),
         }
@@ -51,50 +51,13 @@ impl Trial {
         let before = &self.tally;
         Tally {
             marks: before.marks + 1,
-            given: before.given + one(matches!(reply, Reply::Given(_))),
-            empty: before.empty + one(matches!(reply, Reply::Empty)),
-            opened: before.opened + one(matches!(reply, Reply::Open(_))),
-            stored: before.stored + one(self.stores),
-            cleared: before.cleared + one(self.clears),
-            flushed: before.flushed + one(self.flushes),
+            given: before.given + u64::from(matches!(reply, Reply::Given(_))),
+            empty: before.empty + u64::from(matches!(reply, Reply::Empty)),
+            opened: before.opened + u64::from(matches!(reply, Reply::Open(_))),
+            stored: before.stored + u64::from(self.stores),
+            cleared: before.cleared + u64::from(self.clears),
+            flushed: before.flushed + u64::from(self.flushes),
             stopped: before.stopped,
         }
-    }
-}
-
-fn one(counts: bool) -> u64
-    ensures { result ≡ (if counts then 1 else 0) }
-{
-    if counts { 1 } else { 0 }
-}
-
-/// Whether a step stores a passphrase, where it makes its mark.
-fn stores(core: &Core, step: &Step) -> bool
-    ensures { (session : Session) → result ≡ stores core.now.limits core.now.held (mark_step session step.now) }
-{
-    match step {
-        Step::Put {
-            id: _,
-            mode,
-            life,
-            secret: _,
-        } => core.limits().ttl_of(*mode, *life) != Some(0),
-        Step::Close { ticket, keep } => keep.is_some() && keeps(core, ticket.number()),
-        _ => false,
-    }
-}
-
-/// Whether what was typed under this ticket is stored.
-fn keeps(core: &Core, ticket: u64) -> bool
-    ensures { result ≡ keeps core.now.limits core.now.held ticket }
-{
-    match core.held() {
-        Some(
-            Held {
-                ticket: held,
-                under: Some(Under { id: _, mode }),
-            },
-        ) => held == ticket && core.limits().ttl_of(mode, Life::Default) != Some(0),
-        _ => false,
     }
 }

@@ -1,6 +1,7 @@
 ghost use Rattle.std.specs.Prelude.{◌≡◌, OnErr, IfErr};
 ghost use Rattle.agent_ports.specs.Readings.{IsRead};
-ghost use Rattle.cache_policy.specs.Turns.{asked_step, mark_step, turn_of, FitsReply, MayWantMemory};
+ghost use Rattle.cache_policy.specs.Turns.{asked_step, mark_step, turn_of, FitsReply};
+ghost use Rattle.cache_policy.specs.Turns.{MayWantMemory};
 ghost use Rattle.counted_lock.specs.Plays.{IsIdle, IsSeatOf};
 ghost use Rattle.counted_lock.specs.Claims.{own};
 ghost use Rattle.counted_lock.specs.Taking.{TakesTurn};
@@ -14,7 +15,8 @@ use cache_policy::{Refused, Reply, Step};
 use std::snapshot::Snapshot;
 use std::sync::Wait;
 
-/// How a try came out: the answer, whether it made a mark, and how many marks there are then and whether they stop.
+/// How a try came out: the answer, whether it made a mark, and how many marks there are then and
+/// whether they stop.
 pub(crate) struct Tried {
     pub(crate) answer: Result<Reply, Refused>,
     pub(crate) made: bool,
@@ -35,8 +37,10 @@ pub(crate) fn take_turn<W: Wait, C: Clock>(
     requires idle { IsIdle seat.old.me }
     requires by { session.pass ≡ (own seat.old.me).number }
     ensures own { seat.new.table_id ≡ seat.old.table_id }
-    ensures read { IsRead (C.readings clock.old) (C.readings clock.new).last (C.readings clock.new) }
-    ensures takes { TakesTurn session (C.readings clock.new).last (mark_step session step) seat.old.me result seat.new.me }
+    ensures read { IsRead (C.readings clock.old) (C.readings clock.new).last
+        (C.readings clock.new) }
+    ensures takes { TakesTurn session (C.readings clock.new).last
+        (mark_step session step) seat.old.me result seat.new.me }
     ensures fits { FitsReply (asked_step step) (turn_of result.answer) }
     ensures memory { OnErr result.answer (MayWantMemory (asked_step step)) }
     ensures back { IfErr result.answer (λ refused. refused.step ≡ step) }

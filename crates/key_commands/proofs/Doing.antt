@@ -1,7 +1,7 @@
 -- Parts of a request that were done, one after another.
 use Rattle.std.proofs.Common.{◌≡◌, ◌≤◌, ℕ, List, [], ◌∷◌, ◌++◌, Option, Some, Result, Ok, Err, subst, arith}
 use Rattle.agent_ask.specs.Events.{Call}
-use Rattle.agent_ask.specs.Further.{FurtherEnds, KeyCall, DoesKeys, Keys, Dice, NoMemory, keys as does_keys, dice as does_dice, no_memory}
+use Rattle.agent_ask.specs.Further.{KeyCall, DoesKeys, Keys, Dice, NoMemory}
 use Rattle.agent_ask.specs.SessionEvents.{Further, cache_turn}
 use Rattle.agent_ask.proofs.Doing.{done_none, done_then, done_turned, done_further}
 use Rattle.agent_ports.specs.KeyFiles.{KeyFiles}
@@ -14,6 +14,7 @@ use Rattle.assuan_server.specs.declared.errors.Code.{Code}
 use Rattle.cache_policy.specs.declared.mark.MarkStep.{MarkStep}
 use Rattle.cache_policy.specs.Turns.{Turn}
 use Rattle.key_commands.specs.Events.{Event, called, out_of_memory}
+use Rattle.key_commands.specs.KeyEnds.{KeyEnds, keys as does_keys, dice as does_dice, no_memory}
 use Rattle.key_commands.specs.KeyParts.{change_fault}
 use Rattle.key_commands.specs.Parts.{Part, ◌>>=◌, goes_on, stops}
 use Rattle.key_commands.specs.States.{KeyWorld, KeyState, KeyLead, key_state, ReaderAfter, FaultsRise, went_by, DoesPart}
@@ -96,7 +97,7 @@ module _ {D P : Type 0} (turned : D → MarkStep → Turn → D → Type 0) (pro
   no_fault : (went : KeyWent) → went ≡ On → (start now : KeyState turned prompted) → FaultsRise turned prompted went start now
   no_fault went on start now = rw on (record { read = λ e. absurd (cc e); write = λ e. absurd (cc e) })
 
-  module _ (conn : Connection) (ends : FurtherEnds P) where
+  module _ (conn : Connection) (ends : KeyEnds P) where
     abbrev pub at_desk : D → KeyState turned prompted
     at_desk desk = record { conn = conn; desk = desk; ends = ends }
 

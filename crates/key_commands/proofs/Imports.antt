@@ -1,7 +1,6 @@
 -- A key that comes in is imported, or not.
 use Rattle.std.proofs.Common.{◌≡◌, ℕ, Bool, List, Option, Some, None, Ok, Err, refl}
 use Rattle.agent_ask.specs.Events.{Call}
-use Rattle.agent_ask.specs.Further.{FurtherEnds}
 use Rattle.agent_ports.specs.KeyFiles.{KeyFiles}
 use Rattle.agent_ports.specs.Sides.{Side}
 use Rattle.agent_ports.specs.declared.grip.Grip.{Grip}
@@ -13,6 +12,7 @@ use Rattle.session_options.specs.OptionValues.{OptionValues}
 use Rattle.session_options.specs.declared.rules.Rules.{Rules}
 use Rattle.sexp_keys.specs.Key.{Key}
 use Rattle.key_commands.specs.Exchanges.{ImportKeyReplies, FoundOrNew, StoresKey}
+use Rattle.key_commands.specs.KeyEnds.{KeyEnds}
 use Rattle.key_commands.specs.KeyParts.{ReceivesKey, NamesKey, IsFree}
 use Rattle.key_commands.specs.Parts.{returns, refuses}
 use Rattle.key_commands.specs.Partial.{NoCall, DoesAtClient, LeavesKeys}
@@ -29,7 +29,7 @@ use Rattle.key_commands.proofs.Partial.{part_in, beside_client, open_after}
 
 module _ {D P : Type 0} (turned : D → MarkStep → Turn → D → Type 0) (prompted : P → Call → P → Type 0) (rules : Rules) (options : OptionValues) (wraps : WrapKeys) (force : Bool)
     (nonce : Option (List ℕ)) (conn : Connection) (going : IsOpen conn) (desk : D) (prompter : P) (keys : KeyFiles) (dice : Side) where
-  abbrev ends : P → KeyFiles → Side → FurtherEnds P
+  abbrev ends : P → KeyFiles → Side → KeyEnds P
   ends user files side = record { prompter = user; keys = files; dice = side }
 
   abbrev start : KeyState turned prompted

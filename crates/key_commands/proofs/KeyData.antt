@@ -1,7 +1,7 @@
 -- Keys that come in.
 use Rattle.std.proofs.Common.{◌≡◌, ◌≢◌, ◌≤◌, ◌⊎◌, inl, inr, ℕ, List, [], ◌∷◌, ◌++◌, length, Option, Some, None, Result, Ok, Err, refl, subst}
 use Rattle.std.specs.Prelude.{codes}
-use Rattle.agent_ask.specs.Further.{NoMemory, no_memory as wants_memory}
+use Rattle.agent_ask.specs.Further.{NoMemory}
 use Rattle.agent_ask.specs.SessionEvents.{Inquiry}
 use Rattle.agent_ask.proofs.Doing.{done_then, done_further, done_inquired}
 use Rattle.agent_ports.specs.Sides.{WhereKnown}
@@ -21,6 +21,7 @@ use Rattle.session_client.specs.Asking.{Asked, AsksClient, LeftBy}
 use Rattle.sexp_keys.specs.Key.{Key}
 use Rattle.sexp_keys.specs.Lists.{key_list_of, grip_of}
 use Rattle.key_commands.specs.Events.{out_of_memory}
+use Rattle.key_commands.specs.KeyEnds.{no_memory as wants_memory}
 use Rattle.key_commands.specs.KeyParts.{AsksKeyData, asked, no_memory, max_key_data, Unwraps, is_key, refused, no_memory as no_key_memory, NamesKey, named as grip_named, no_memory as no_name_memory}
 use Rattle.key_commands.specs.Parts.{Inquires}
 use Rattle.key_commands.specs.Partial.{NoTurn, NoCall, DoesAtClient}

@@ -3,6 +3,8 @@ pub mod AtPrompt
 pub mod Carrying
 pub mod Deletions
 pub mod Doing
+pub mod EachEvent
+pub mod EachRequest
 pub mod Going
 pub mod Imports
 pub mod Joining

@@ -1,16 +1,14 @@
 -- Parts that have nothing to do with some ends of a session, with these beside.
-use Rattle.std.proofs.Common.{ℕ, List, Option, None, Result, Ok}
+use Rattle.std.proofs.Common.{ℕ, Option, None, Result, Ok}
 use Rattle.agent_ask.specs.Doing.{called, out_of_memory}
 use Rattle.agent_ask.specs.Events.{Call}
-use Rattle.agent_ask.specs.Further.{FurtherEvent, FurtherEnds, DoesFurther, prompt, keys, dice, no_memory}
-use Rattle.agent_ask.specs.Worlds.{Outside, Does, received, sent, cut, asked, not_asked, turned as turned_so, further}
-use Rattle.agent_ports.specs.Leads.{Leads, none, one}
-use Rattle.assuan_server.specs.Clients.{session_lines}
+use Rattle.agent_ask.specs.Further.{FurtherEvent}
+use Rattle.agent_ask.proofs.Beside.{done_in}
 use Rattle.assuan_server.specs.Connections.{Connection, IsOpen}
 use Rattle.cache_policy.specs.declared.mark.MarkStep.{MarkStep}
 use Rattle.cache_policy.specs.Turns.{Turn}
-use Rattle.key_commands.specs.Events.{Event}
 use Rattle.key_commands.specs.Exchanges.{KeyReply}
+use Rattle.key_commands.specs.KeyEnds.{KeyEnds, DoesAtKeys, prompt, keys, dice, no_memory}
 use Rattle.key_commands.specs.Parts.{Part}
 use Rattle.key_commands.specs.Partial.{NoTurn, NoCall, DoesAtPrompter, DoesAtDesk, DoesAtClient, LeavesKeys}
 use Rattle.key_commands.specs.Replies.{CarriesOut, comes_to, stops_at}
@@ -24,51 +22,32 @@ module _ {E Q D P : Type 0} (part_turned : E → MarkStep → Turn → E → Typ
     (turned : D → MarkStep → Turn → D → Type 0) (prompted : P → Call → P → Type 0) (desk_of : E → D) (prompter_of : Q → P)
     (each_turn : (before after : E) (step : MarkStep) (turn : Turn) → part_turned before step turn after → turned (desk_of before) step turn (desk_of after))
     (each_call : (before after : Q) (call : Call) → part_prompted before call after → prompted (prompter_of before) call (prompter_of after)) where
-  abbrev ends_in : FurtherEnds Q → FurtherEnds P
+  abbrev ends_in : KeyEnds Q → KeyEnds P
   ends_in ends = record { prompter = prompter_of ends.prompter; keys = ends.keys; dice = ends.dice }
 
-  abbrev outside_in : Outside {lines = session_lines} (KeyWorld part_turned part_prompted) → Outside {lines = session_lines} (KeyWorld turned prompted)
-  outside_in out = record { input = out.input; source = out.source; output = out.output; desk = desk_of out.desk; ends = ends_in out.ends }
-
-  does_in : {before after : FurtherEnds Q} {what : FurtherEvent} → DoesFurther part_prompted before what after → DoesFurther prompted (ends_in before) what (ends_in after)
+  does_in : {before after : KeyEnds Q} {what : FurtherEvent} → DoesAtKeys part_prompted before what after → DoesAtKeys prompted (ends_in before) what (ends_in after)
   does_in (prompt (called does)) = prompt (called (each_call _ _ _ does))
   does_in (prompt out_of_memory) = prompt out_of_memory
   does_in (keys does) = keys does
   does_in (dice does) = dice does
   does_in no_memory = no_memory
 
-  leads_in : {supply : session_lines.Supply} {before after : Outside {lines = session_lines} (KeyWorld part_turned part_prompted)} {events : List Event}
-      → Leads (Does (KeyWorld part_turned part_prompted) supply) before events after → Leads (Does (KeyWorld turned prompted) supply) (outside_in before) events (outside_in after)
-  leads_in none = none
-  leads_in (one (received known needed) more) = one (received known needed) (leads_in more)
-  leads_in (one sent more) = one sent (leads_in more)
-  leads_in (one cut more) = one cut (leads_in more)
-  leads_in (one (asked known needed) more) = one (asked known needed) (leads_in more)
-  leads_in (one (not_asked unsent split) more) = one (not_asked unsent split) (leads_in more)
-  leads_in (one (turned_so does) more) = one (turned_so (each_turn _ _ _ _ does)) (leads_in more)
-  leads_in (one (further does) more) = one (further (does_in does)) (leads_in more)
-
-  abbrev state_in : KeyState part_turned part_prompted → KeyState turned prompted
-  state_in state = record { conn = state.conn; desk = desk_of state.desk; ends = ends_in state.ends }
+  abbrev key_state_in : KeyState part_turned part_prompted → KeyState turned prompted
+  key_state_in state = record { conn = state.conn; desk = desk_of state.desk; ends = ends_in state.ends }
 
   pub part_in : {A : Type 0} {part : Part A} {before after : Option ℕ} {result : Result A Refusal} {start now : KeyState part_turned part_prompted}
-      → DoesPart part_turned part_prompted part before start result after now → DoesPart turned prompted part before (state_in start) result after (state_in now)
+      → DoesPart part_turned part_prompted part before start result after now → DoesPart turned prompted part before (key_state_in start) result after (key_state_in now)
   part_in done = record {
     events = done.events;
     does = done.does;
-    done = record {
-      leads = λ supply is. let leads = done.done.leads supply is in (leads_in leads.0, leads.1);
-      input_faults = done.done.input_faults;
-      output_faults = done.done.output_faults;
-      link = done.done.link;
-    };
+    done = done_in part_turned turned (DoesAtKeys part_prompted) (DoesAtKeys prompted) desk_of ends_in each_turn (λ before after what does. does_in does) done.done;
     fits = done.fits;
     faults = record { read = done.faults.read; write = done.faults.write };
   }
 
   -- all of a request but its reply
   pub carries_in : {part : Part KeyReply} {before after : WrapKeys} {held : Option ℕ} {answer : Result Reply Refusal} {start now : KeyState part_turned part_prompted}
-      → CarriesOut part_turned part_prompted part before start answer after held now → CarriesOut turned prompted part before (state_in start) answer after held (state_in now)
+      → CarriesOut part_turned part_prompted part before start answer after held now → CarriesOut turned prompted part before (key_state_in start) answer after held (key_state_in now)
   carries_in (comes_to each) = comes_to (λ text is. part_in (each text is))
   carries_in (stops_at part) = stops_at (part_in part)
 

@@ -6,7 +6,6 @@ use Rattle.agent_ask.specs.Callers.{unheard_of, IsUnheardBy}
 use Rattle.agent_ask.specs.Clients.{Hears, LeftByHeard, LeftByConsent}
 use Rattle.agent_ask.specs.Doing.{PromptEnds, DoesPrompt}
 use Rattle.agent_ask.specs.Events.{Call, PromptEvent}
-use Rattle.agent_ask.specs.Further.{DoesFurther, prompt as does_prompt}
 use Rattle.agent_ask.specs.Plans.{IsSpec}
 use Rattle.agent_ask.specs.UnderTickets.{AnyInSession}
 use Rattle.agent_ask.specs.declared.caller.Heard.{Heard}
@@ -26,6 +25,7 @@ use Rattle.session_client.specs.declared.unheard.Unheard.TheVariants as unheard
 use Rattle.session_options.specs.OptionValues.{OptionValues}
 use Rattle.session_options.specs.declared.rules.Rules.{Rules}
 use Rattle.key_commands.specs.Events.{Event}
+use Rattle.key_commands.specs.KeyEnds.{DoesAtKeys, prompt as does_prompt}
 use Rattle.key_commands.specs.KeyParts.{PromptsConsent, Agrees, consents, refused}
 use Rattle.key_commands.specs.Lines.{text, described, delete_description}
 use Rattle.key_commands.specs.Parts.{Part}
@@ -61,7 +61,7 @@ pub part_prompted : {A P : Type 0} {prompted : P → Call → P → Type 0} {par
     → Leads (DoesPrompt prompted (Hears connection_views Wishes)) start prompt now → ((events : List Event) → AnyInSession session_lines prompt events → part ticket events result ticket)
     → IsLeft result start.caller now.caller → DoesAtPrompter part prompted ticket start.caller start.prompter result now.caller now.prompter
 part_prompted {prompted} {result} {start} {now} leads does left files side =
-    let s = shown connection_views NoTurn prompted (DoesFurther prompted) (λ prompter. record { prompter = prompter; keys = files; dice = side }) (λ before after event called. does_prompt called) tt leads in
+    let s = shown connection_views NoTurn prompted (DoesAtKeys prompted) (λ prompter. record { prompter = prompter; keys = files; dice = side }) (λ before after event called. does_prompt called) tt leads in
     record {
       events = s.events;
       does = does s.events s.in_session;

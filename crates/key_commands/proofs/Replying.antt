@@ -2,7 +2,6 @@
 use Rattle.std.proofs.Common.{ℕ, List, [], ◌∷◌, ◌++◌, Option, Some, None, Result, Ok, Err, refl, ap, sym, subst, arith, append_assoc}
 use Rattle.agent_ask.specs.Events.{Call}
 use Rattle.agent_ask.specs.Failing.{said_last}
-use Rattle.agent_ask.specs.Further.{FurtherEnds}
 use Rattle.agent_ask.specs.SessionEvents.{Sent, Cut, cache_turn}
 use Rattle.agent_ask.proofs.Doing.{done_none, done_then, done_turned, done_said, done_cut}
 use Rattle.agent_ports.specs.Sides.{Side}
@@ -18,6 +17,7 @@ use Rattle.session_options.specs.OptionValues.{OptionValues}
 use Rattle.session_options.specs.declared.rules.Rules.{Rules}
 use Rattle.key_commands.specs.Events.{Event}
 use Rattle.key_commands.specs.Exchanges.{Exchange, Replies, reply, answered, refused as is_refused}
+use Rattle.key_commands.specs.KeyEnds.{KeyEnds}
 use Rattle.key_commands.specs.Parts.{Closes, refusal_line, refusal_went}
 use Rattle.key_commands.specs.Replies.{WritesLine, went_unless_cut, RespondsTo, replied, refused, CarriesOut, comes_to, stops_at}
 use Rattle.key_commands.specs.States.{KeyWorld, KeyState, KeyLead, ReaderAfter, FaultsRise, AnswersKey, whole, cut, DoesPart}
@@ -30,12 +30,12 @@ use Rattle.key_commands.specs.declared.went.KeyWent.TheVariants.{On}
 use Rattle.key_commands.specs.declared.wrap_keys.WrapKeys.{WrapKeys}
 
 module _ {D P : Type 0} (turned : D → MarkStep → Turn → D → Type 0) (prompted : P → Call → P → Type 0) where
-  abbrev at_conn : Connection → D → FurtherEnds P → KeyState turned prompted
+  abbrev at_conn : Connection → D → KeyEnds P → KeyState turned prompted
   at_conn conn desk ends = record { conn = conn; desk = desk; ends = ends }
 
   -- all was done for a request but to write a line, where there is one
   module _ (exchange : List Event → WrapKeys → KeyWent → Type 0) (after : WrapKeys) (went : KeyWent) (first : List Event) (start : KeyState turned prompted) (mid : Connection) (desk : D)
-      (ends : FurtherEnds P) (done : KeyLead turned prompted first start (at_conn mid desk ends)) (fits : ReaderAfter went start.conn.reader mid.reader)
+      (ends : KeyEnds P) (done : KeyLead turned prompted first start (at_conn mid desk ends)) (fits : ReaderAfter went start.conn.reader mid.reader)
       (faults : FaultsRise turned prompted went start (at_conn mid desk ends)) where
     text_written : (text : List ℕ) → exchange (first ++ Sent text ∷ []) after went → (written : Result (Unit {0}) WriteFault) (now : Connection) → WritesText text mid written now
         → AnswersKey turned prompted exchange start (went_unless_cut went written) after (at_conn now desk ends)
@@ -66,12 +66,12 @@ module _ {D P : Type 0} (turned : D → MarkStep → Turn → D → Type 0) (pro
     line_written (Some text) is written now says = text_written text is written now says
 
   -- the ticket was given back, where one was held
-  pub record GivesBack (held : Option ℕ) (conn : Connection) (desk desk_now : D) (ends : FurtherEnds P) : Type 0 where
+  pub record GivesBack (held : Option ℕ) (conn : Connection) (desk desk_now : D) (ends : KeyEnds P) : Type 0 where
     pub back : List Event
     pub closes : Closes None held back (Ok tt) None
     pub done : KeyLead turned prompted back (at_conn conn desk ends) (at_conn conn desk_now ends)
 
-  gives_back : (held : Option ℕ) (conn : Connection) (desk desk_now : D) (ends : FurtherEnds P) → DoesTurns turned (Closes None) held desk (Ok tt) None desk_now
+  gives_back : (held : Option ℕ) (conn : Connection) (desk desk_now : D) (ends : KeyEnds P) → DoesTurns turned (Closes None) held desk (Ok tt) None desk_now
       → GivesBack held conn desk desk_now ends
   gives_back held conn desk desk_now ends (still closes) = record { back = []; closes = closes; done = done_none (at_conn conn desk ends) }
   gives_back held conn desk desk_now ends (one close) = record {
@@ -84,7 +84,7 @@ module _ {D P : Type 0} (turned : D → MarkStep → Turn → D → Type 0) (pro
     abbrev exchange : List Event → WrapKeys → KeyWent → Type 0
     exchange = Exchange rules options wraps request
 
-    module _ (start : KeyState turned prompted) (held : Option ℕ) (mid now : Connection) (desk desk_now : D) (ends : FurtherEnds P) where
+    module _ (start : KeyState turned prompted) (held : Option ℕ) (mid now : Connection) (desk desk_now : D) (ends : KeyEnds P) where
       module _ (gives : GivesBack held mid desk desk_now ends) where
         with_reply : (after : WrapKeys) (text : List ℕ)
             → DoesPart turned prompted (Replies rules options wraps request) None start (Ok (reply after text)) held (at_conn mid desk ends) → (written : Result (Unit {0}) WriteFault)
@@ -105,7 +105,7 @@ module _ {D P : Type 0} (turned : D → MarkStep → Turn → D → Type 0) (pro
             (subst (λ (e : List Event). exchange e wraps (refusal_went why)) (sym (append_assoc part.events gives.back (said_last (refusal_line why)))) (is_refused part.events held why part.does gives.closes))
             written now said
 
-    pub answers : (start : KeyState turned prompted) (answer : Result Reply Refusal) (after : WrapKeys) (held : Option ℕ) (mid now : Connection) (desk desk_now : D) (ends : FurtherEnds P) (went : KeyWent)
+    pub answers : (start : KeyState turned prompted) (answer : Result Reply Refusal) (after : WrapKeys) (held : Option ℕ) (mid now : Connection) (desk desk_now : D) (ends : KeyEnds P) (went : KeyWent)
         → CarriesOut turned prompted (Replies rules options wraps request) wraps start answer after held (at_conn mid desk ends)
         → DoesTurns turned (Closes None) held desk (Ok tt) None desk_now → RespondsTo mid answer went now
         → AnswersKey turned prompted exchange start went after (at_conn now desk_now ends)

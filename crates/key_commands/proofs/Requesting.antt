@@ -8,7 +8,7 @@ use Rattle.sexp_keys.specs.Key.{Key}
 use Rattle.key_commands.specs.Events.{Event}
 use Rattle.key_commands.specs.Exchanges.{KeyReply, reply}
 use Rattle.key_commands.specs.Files.{Rewrites, canonical_file, extended_file, too_long, no_memory as no_new_memory}
-use Rattle.key_commands.specs.KeyParts.{KeepsNew, Protects, made, no_memory, Replaces, done as is_replaced, not_done, IsShort, short, long, no_memory as no_short_memory, WrapsKey, is_wrapped, no_memory as no_wrap_memory}
+use Rattle.key_commands.specs.KeyParts.{KeepsNew, Protects, made, no_memory, Replaces, done as is_replaced, not_done, IsShort, short, long, WrapsKey, is_wrapped, no_memory as no_wrap_memory}
 use Rattle.key_commands.specs.Lines.{ok}
 use Rattle.assuan_server.specs.declared.errors.Code.{Code}
 use Rattle.key_commands.specs.Parts.{Part, Changes, Closes, closed, needed, returns, refuses}
@@ -61,7 +61,6 @@ rewrites_on no_new_memory = refl
 pub short_on : {key : Key} {before after : Option ℕ} {events : List Event} {result : Result (Unit {0}) Refusal} → IsShort key before events result after → went_by result ≡ On
 short_on (short within) = refl
 short_on (long beyond) = refl
-short_on no_short_memory = refl
 
 pub kept_on : (grip : Grip) (pass : List ℕ) (before after : Option ℕ) (result : Result (Unit {0}) Refusal) (events : List Event) → KeepsNew grip pass before events result after → went_by result ≡ On
 kept_on grip pass None after result events changes = changes_on changes

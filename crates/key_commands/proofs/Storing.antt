@@ -1,6 +1,5 @@
 -- A key that came in is stored, or not.
 use Rattle.std.proofs.Common.{ℕ, List, take, drop, Option, None, Ok, Err, refl}
-use Rattle.agent_ask.specs.Further.{FurtherEnds}
 use Rattle.agent_ports.specs.KeyFiles.{KeyFiles}
 use Rattle.agent_ports.specs.Sides.{Side}
 use Rattle.agent_ports.specs.declared.grip.Grip.{Grip}
@@ -13,6 +12,7 @@ use Rattle.cache_policy.specs.declared.mode.Mode.TheVariants.{Nonce}
 use Rattle.cache_policy.specs.Turns.{Turn}
 use Rattle.sexp_keys.specs.Key.{Key}
 use Rattle.key_commands.specs.Exchanges.{StoresKey}
+use Rattle.key_commands.specs.KeyEnds.{KeyEnds}
 use Rattle.key_commands.specs.KeyParts.{Protects, Replaces, KeepsNew}
 use Rattle.key_commands.specs.Parts.{Draws, Changes, returns}
 use Rattle.key_commands.specs.Partial.{NoCall}
@@ -25,7 +25,7 @@ use Rattle.key_commands.proofs.Requesting.{protects_on, replaces_on, kept_on}
 
 module _ {D : Type 0} (turned : D → MarkStep → Turn → D → Type 0) (count : ℕ) (key : Key) (grip : Grip) (pass : List ℕ) (conn : Connection) (going : IsOpen conn) (held : Option ℕ)
     (desk : D) (keys : KeyFiles) (dice thrown : Side) where
-  abbrev ends : KeyFiles → Side → FurtherEnds (Unit {0})
+  abbrev ends : KeyFiles → Side → KeyEnds (Unit {0})
   ends files side = record { prompter = tt; keys = files; dice = side }
 
   abbrev at : D → KeyFiles → Side → KeyState turned NoCall

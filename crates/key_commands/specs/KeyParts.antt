@@ -95,7 +95,6 @@ pub data Protects (key : Key) (pass salt iv : List ℕ) (count : ℕ) (held : Op
 pub data IsShort (key : Key) (held : Option ℕ) : List Event → Result (Unit {0}) Refusal → Option ℕ → Type 0 where
   short : length (key_list_of key) ≤ MAX_LIST_LEN → IsShort key held [] (Ok tt) held
   long : MAX_LIST_LEN < length (key_list_of key) → IsShort key held [] (Err (Agent code.BadSecKey)) held
-  no_memory : IsShort key held (out_of_memory ∷ []) (Err (Agent code.NoMemory)) held
 
 -- a passphrase that was given for a key's new file is kept: by the ticket that the request holds, or else by a turn of its own
 abbrev pub KeepsNew : Grip → List ℕ → Part (Unit {0})

@@ -5,6 +5,7 @@ pub mod Lines
 pub mod Faults
 pub mod Wrapping
 pub mod Parts
+pub mod KeyEnds
 pub mod States
 pub mod Partial
 pub mod Steps

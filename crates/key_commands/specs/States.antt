@@ -1,7 +1,7 @@
 -- How a session stands at some state of its code before and after a request on keys, and how events lead from one to the other.
 use Rattle.std.specs.Prelude.{◌≡◌, ◌≤◌, ℕ, List, Option, None, Result, Ok, Err}
 use Rattle.agent_ask.specs.Events.{Call}
-use Rattle.agent_ask.specs.Further.{further_world}
+use Rattle.agent_ask.specs.Further.{world_with}
 use Rattle.agent_ask.specs.SessionEvents.{CutAtLast}
 use Rattle.agent_ask.specs.States.{AnyState, AnyLead}
 use Rattle.agent_ask.specs.Worlds.{AnyWorld}
@@ -16,6 +16,7 @@ use Rattle.cache_policy.specs.Turns.{Turn}
 use Rattle.session_client.specs.Asking.{HasEnded}
 use Rattle.session_client.specs.declared.unheard.Gone.TheVariants.{ReadFault, WriteFault}
 use Rattle.key_commands.specs.Events.{Event}
+use Rattle.key_commands.specs.KeyEnds.{DoesAtKeys}
 use Rattle.key_commands.specs.Parts.{Part, refusal_went}
 use Rattle.key_commands.specs.declared.refusal.Refusal.{Refusal}
 use Rattle.key_commands.specs.declared.went.KeyWent.{KeyWent}
@@ -35,7 +36,7 @@ went_by (Err why) = refusal_went why
 module _ {D P : Type 0} (turned : D → MarkStep → Turn → D → Type 0) (prompted : P → Call → P → Type 0) where
   -- a desk, and a prompter, keys and dice, that show their calls so
   abbrev pub KeyWorld : AnyWorld session_lines
-  KeyWorld = further_world turned prompted
+  KeyWorld = world_with turned (DoesAtKeys prompted)
 
   -- a state in the code
   abbrev pub KeyState : Type 0

@@ -34,7 +34,9 @@ pub(crate) fn consent<L: Link, D: Desk, P: Prompter>(
     requires none { held.old ≡ None }
     requires out { (D.at desk.old).out ≡ held.old }
     requires shut { IsShut (P.at prompter.old) }
-    ensures consents { LeavesKeys D.turned P.prompted (Consents rules.now options.now force grip.now) held.old conn.old desk.old prompter.old result held.new conn.new desk.new prompter.new }
+    ensures consents { LeavesKeys D.turned P.prompted
+        (Consents rules.now options.now force grip.now) held.old conn.old desk.old prompter.old
+        result held.new conn.new desk.new prompter.new }
     ensures out { (D.at desk.new).out ≡ held.new }
     ensures shut { IsShut (P.at prompter.new) }
 {
@@ -65,7 +67,8 @@ fn ask_consent<L: Link, P: Prompter>(
 ) -> Result<(), Refusal>
     requires open { IsOpen conn.old }
     requires shut { IsShut (P.at prompter.old) }
-    ensures agrees { DoesAtPrompter (Agrees rules.now options.now grip.now) P.prompted (Some ticket.now) conn.old prompter.old result conn.new prompter.new }
+    ensures agrees { DoesAtPrompter (Agrees rules.now options.now grip.now) P.prompted
+        (Some ticket.now) conn.old prompter.old result conn.new prompter.new }
     ensures shut { IsShut (P.at prompter.new) }
 {
     let spec = prompt_spec(

@@ -39,8 +39,10 @@ pub(crate) fn delete_key<L: Link, D: Desk, P: Prompter, K: Keys>(
     requires none { held.old ≡ None }
     requires out { (D.at desk.old).out ≡ held.old }
     requires shut { IsShut (P.at prompter.old) }
-    ensures carries { (wraps : Wraps) (dice : Side) → CarriesOut D.turned P.prompted (DeleteKeyReplies rules.now options.now wraps force grip.now) wraps
-        (key_state D.turned P.prompted conn.old desk.old prompter.old (K.keys keys.old) dice) result wraps held.new
+    ensures carries { (wraps : Wraps) (dice : Side) → CarriesOut D.turned P.prompted
+        (DeleteKeyReplies rules.now options.now wraps force grip.now) wraps
+        (key_state D.turned P.prompted conn.old desk.old prompter.old (K.keys keys.old) dice)
+        result wraps held.new
         (key_state D.turned P.prompted conn.new desk.new prompter.new (K.keys keys.new) dice) }
     ensures out { (D.at desk.new).out ≡ held.new }
     ensures shut { IsShut (P.at prompter.new) }

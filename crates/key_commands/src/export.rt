@@ -31,8 +31,8 @@ use sexp_canonical::Bytes;
 use sexp_keys::KeyList;
 use std::alloc::Global;
 
-/// EXPORT_KEY: a key's clear list under the session's wrapping key. No memory is taken after it, so the reply is written whole or cut
-/// by a fault of the link.
+/// EXPORT_KEY: a key's clear list under the session's wrapping key. No memory is taken after it, so
+/// the reply is written whole or cut by a fault of the link.
 pub(crate) fn export_key<L: Link, D: Desk, P: Prompter, K: Keys>(
     asking: &Asking<'_>,
     nonce: Option<CacheId>,
@@ -47,10 +47,12 @@ pub(crate) fn export_key<L: Link, D: Desk, P: Prompter, K: Keys>(
     requires open { IsOpen conn.old }
     requires out { (D.at desk.old).out ≡ held.old }
     requires shut { IsShut (P.at prompter.old) }
-    ensures carries { (dice : Side) → CarriesOut D.turned P.prompted
-        (ExportKeyReplies asking.now.rules.now asking.now.options.now wraps.now asking.now.grip.now nonce) wraps.now
+    ensures carries { (dice : Side)
+        → CarriesOut D.turned P.prompted (ExportKeyReplies asking.now.rules.now
+        asking.now.options.now wraps.now asking.now.grip.now nonce) wraps.now
         (key_state D.turned P.prompted conn.old desk.old prompter.old (K.keys keys.old) dice)
-        result wraps.now held.new (key_state D.turned P.prompted conn.new desk.new prompter.new (K.keys keys.new) dice) }
+        result wraps.now held.new
+        (key_state D.turned P.prompted conn.new desk.new prompter.new (K.keys keys.new) dice) }
     ensures out { (D.at desk.new).out ≡ held.new }
     ensures shut { IsShut (P.at prompter.new) }
 {

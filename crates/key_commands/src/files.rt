@@ -1,6 +1,7 @@
 //! What key files say, and how they are written over: the one place that knows their formats.
 
-ghost use Rattle.std.specs.Prelude.{◌≡◌, ◌≤◌, ◌⊎◌, false, length, Some, Ok, Err, IfOk, IfErr, IfSome};
+ghost use Rattle.std.specs.Prelude.{◌≡◌, ◌≤◌, ◌⊎◌, false, length, Some, Ok, Err, IfOk, IfErr};
+ghost use Rattle.std.specs.Prelude.{IfSome};
 ghost use Rattle.key_lines.specs.Canon.{is_canonical, Canon};
 ghost use Rattle.key_lines.specs.KeyFile.{IsKeyFile};
 ghost use Rattle.secret_file.specs.Opens.{FitsFile};
@@ -29,7 +30,8 @@ pub(crate) fn file_key(alloc: Global, file: &[u8]) -> Result<KeyList, KeyFault>
     ensures key { IfOk result (λ key. FileSays file.now (Ok key)) }
 
     // Else the fault is the first one. Only a lack of memory may come at any time.
-    ensures fault { IfErr result (λ fault. (fault ≡ KeyFault.NoMemory) ⊎ FileSays file.now (Err fault)) }
+    ensures fault { IfErr result
+        (λ fault. (fault ≡ KeyFault.NoMemory) ⊎ FileSays file.now (Err fault)) }
     ensures fits { IfOk result FitsFile }
 {
     if is_canonical(file) {
@@ -43,7 +45,8 @@ pub(crate) fn file_key(alloc: Global, file: &[u8]) -> Result<KeyList, KeyFault>
 fn extended_key(alloc: Global, file: &[u8]) -> Result<KeyList, KeyFault>
     requires { is_canonical file.now ≡ false }
     ensures key { IfOk result (λ key. FileSays file.now (Ok key)) }
-    ensures fault { IfErr result (λ fault. (fault ≡ KeyFault.NoMemory) ⊎ FileSays file.now (Err fault)) }
+    ensures fault { IfErr result
+        (λ fault. (fault ≡ KeyFault.NoMemory) ⊎ FileSays file.now (Err fault)) }
     ensures fits { IfOk result FitsFile }
 {
     match read_lines(alloc, file) {
@@ -55,8 +58,8 @@ fn extended_key(alloc: Global, file: &[u8]) -> Result<KeyList, KeyFault>
     }
 }
 
-/// What stands in a key's file once a key's canonical list is written over it: in a canonical file that list, and in an extended one the key
-/// between the lines that stand around the old one.
+/// What stands in a key's file once a key's canonical list is written over it: in a canonical file
+/// that list, and in an extended one the key between the lines that stand around the old one.
 pub(crate) fn rewrite(alloc: Global, file: &[u8], list: Bytes) -> Result<Bytes, Refusal>
     requires file { IsSomeKey file.now }
     requires list { IsSomeList list }
@@ -78,7 +81,8 @@ pub(crate) fn rewrite(alloc: Global, file: &[u8], list: Bytes) -> Result<Bytes, 
     Ok(new)
 }
 
-/// A file in the extended format with the key of this list in place of its own. `None` is a lack of memory.
+/// A file in the extended format with the key of this list in place of its own. `None` is a lack of
+/// memory.
 fn with_list(alloc: Global, file: &[u8], list: &[u8]) -> Option<Bytes>
     requires extended { is_canonical file.now ≡ false }
     requires file { IsSomeKey file.now }

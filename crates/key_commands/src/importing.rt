@@ -30,7 +30,8 @@ use session_options::{Options, Rules};
 use sexp_keys::KeyList;
 use std::alloc::Global;
 
-/// IMPORT_KEY: a wrapped key is taken from the client and written to its file, protected by a passphrase.
+/// IMPORT_KEY: a wrapped key is taken from the client and written to its file, protected by a
+/// passphrase.
 pub(crate) fn import_key<L: Link, D: Desk, P: Prompter, K: Keys, R: Dice>(
     alloc: Global,
     force: bool,
@@ -49,9 +50,12 @@ pub(crate) fn import_key<L: Link, D: Desk, P: Prompter, K: Keys, R: Dice>(
     requires open { IsOpen conn.old }
     requires out { (D.at desk.old).out ≡ held.old }
     requires shut { IsShut (P.at prompter.old) }
-    ensures carries { CarriesOut D.turned P.prompted (ImportKeyReplies rules.now options.now wraps.now force nonce.now) wraps.now
-        (key_state D.turned P.prompted conn.old desk.old prompter.old (K.keys keys.old) (R.draws dice.old))
-        result wraps.now held.new (key_state D.turned P.prompted conn.new desk.new prompter.new (K.keys keys.new) (R.draws dice.new)) }
+    ensures carries { CarriesOut D.turned P.prompted
+        (ImportKeyReplies rules.now options.now wraps.now force nonce.now) wraps.now
+        (key_state D.turned P.prompted conn.old desk.old prompter.old
+        (K.keys keys.old) (R.draws dice.old)) result wraps.now held.new
+        (key_state D.turned P.prompted conn.new desk.new prompter.new (K.keys keys.new)
+        (R.draws dice.new)) }
     ensures out { (D.at desk.new).out ≡ held.new }
     ensures shut { IsShut (P.at prompter.new) }
 {
@@ -72,7 +76,8 @@ pub(crate) fn import_key<L: Link, D: Desk, P: Prompter, K: Keys, R: Dice>(
     Ok(Reply::Nonce(cache_nonce))
 }
 
-/// The passphrase that protects a key that comes in: what is cached under the nonce, or else a new one.
+/// The passphrase that protects a key that comes in: what is cached under the nonce, or else a new
+/// one.
 fn found_or_new<L: Link, D: Desk, P: Prompter>(
     nonce: &Option<CacheId>,
     asking: &Asking<'_>,
@@ -84,7 +89,8 @@ fn found_or_new<L: Link, D: Desk, P: Prompter>(
     requires open { IsOpen conn.old }
     requires out { (D.at desk.old).out ≡ held.old }
     requires shut { IsShut (P.at prompter.old) }
-    ensures does { LeavesKeys D.turned P.prompted (FoundOrNew asking.now.rules.now asking.now.options.now nonce.now asking.now.grip.now)
+    ensures does { LeavesKeys D.turned P.prompted
+        (FoundOrNew asking.now.rules.now asking.now.options.now nonce.now asking.now.grip.now)
         held.old conn.old desk.old prompter.old result held.new conn.new desk.new prompter.new }
     ensures out { (D.at desk.new).out ≡ held.new }
     ensures shut { IsShut (P.at prompter.new) }
@@ -95,7 +101,8 @@ fn found_or_new<L: Link, D: Desk, P: Prompter>(
     }
 }
 
-/// Writes a key to its file, protected by a passphrase, which is cached under a new nonce before. Gives the nonce.
+/// Writes a key to its file, protected by a passphrase, which is cached under a new nonce before.
+/// Gives the nonce.
 fn store_key<D: Desk, K: Keys, R: Dice>(
     key: &KeyList,
     pass: &Secret,
@@ -108,9 +115,10 @@ fn store_key<D: Desk, K: Keys, R: Dice>(
     requires usable { IsUsable key.now }
     requires short { length (key_list_of key.now) ≤ MAX_LIST_LEN }
     requires out { (D.at desk.old).out ≡ held.old }
-    ensures stores { (conn : Connection) → IsOpen conn → DoesPart D.turned NoCall (StoresKey asking.now.options.now.s2k_count key.now asking.now.grip.now pass.now) held.old
-        (key_state D.turned NoCall conn desk.old tt (K.keys keys.old) (R.draws dice.old))
-        result held.new (key_state D.turned NoCall conn desk.new tt (K.keys keys.new) (R.draws dice.new)) }
+    ensures stores { (conn : Connection) → IsOpen conn → DoesPart D.turned NoCall
+        (StoresKey asking.now.options.now.s2k_count key.now asking.now.grip.now pass.now) held.old
+        (key_state D.turned NoCall conn desk.old tt (K.keys keys.old) (R.draws dice.old)) result
+        held.new (key_state D.turned NoCall conn desk.new tt (K.keys keys.new) (R.draws dice.new)) }
     ensures out { (D.at desk.new).out ≡ held.new }
 {
     let drawn = draw::<32, R>(dice)?;

@@ -1,10 +1,12 @@
-//! Calls of the keys, as parts of a request. What is read of a file is overwritten when it is dropped.
+//! Calls of the keys, as parts of a request. What is read of a file is overwritten when it is
+//! dropped.
 
 ghost use Rattle.std.specs.Prelude.{◌≡◌, ◌≤◌, length, Ok, Err, IfOk, IfErr};
 ghost use Rattle.agent_ports.specs.declared.keys.TheConstants.{MAX_KEY_FILE_LEN};
 ghost use Rattle.secret_file.specs.Opens.{FitsFile};
 ghost use Rattle.key_commands.specs.Files.{IsSomeKey};
-ghost use Rattle.key_commands.specs.KeyParts.{ReadsFile, ReadsListed, Replaces, Removes, ListsGrips};
+ghost use Rattle.key_commands.specs.KeyParts.{ReadsFile, ReadsListed, Replaces, Removes};
+ghost use Rattle.key_commands.specs.KeyParts.{ListsGrips};
 ghost use Rattle.key_commands.specs.Parts.{Finds};
 ghost use Rattle.key_commands.specs.Steps.{DoesKeyCalls, IsChanged, unlisted};
 
@@ -127,8 +129,10 @@ fn changed(done: KeyDone) -> Result<(), Refusal>
 
 /// The keys that there are.
 pub(crate) fn list_grips<K: Keys>(alloc: Global, keys: &mut K) -> Result<Vec<Grip>, Refusal>
-    ensures listed { IfOk result (λ grips. DoesKeyCalls ListsGrips (K.keys keys.old) (Ok grips.items) (K.keys keys.new)) }
-    ensures refused { IfErr result (λ why. DoesKeyCalls ListsGrips (K.keys keys.old) (Err why) (K.keys keys.new)) }
+    ensures listed { IfOk result
+        (λ grips. DoesKeyCalls ListsGrips (K.keys keys.old) (Ok grips.items) (K.keys keys.new)) }
+    ensures refused { IfErr result
+        (λ why. DoesKeyCalls ListsGrips (K.keys keys.old) (Err why) (K.keys keys.new)) }
 {
     match keys.list(alloc) {
         KeyNames::Names(grips) => Ok(grips),

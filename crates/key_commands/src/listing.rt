@@ -51,9 +51,11 @@ pub(crate) fn key_info<D: Desk, K: Keys>(
 ) -> Result<Reply, Refusal>
     requires none { held.now ≡ None }
     requires out { (D.at desk.old).out ≡ held.now }
-    ensures tells { (rules : TheRules) (options : OptionValues) (wraps : WrapKeys) (conn : Connection) (dice : Side) → IsOpen conn
-        → CarriesOut D.turned NoCall (KeyInfoReplies rules options wraps grip.now) wraps (key_state D.turned NoCall conn desk.old tt (K.keys keys.old) dice)
-        result wraps None (key_state D.turned NoCall conn desk.new tt (K.keys keys.new) dice) }
+    ensures tells { (rules : TheRules)
+        (options : OptionValues) (wraps : WrapKeys) (conn : Connection) (dice : Side) → IsOpen conn
+        → CarriesOut D.turned NoCall (KeyInfoReplies rules options wraps grip.now) wraps
+        (key_state D.turned NoCall conn desk.old tt (K.keys keys.old) dice) result wraps None
+        (key_state D.turned NoCall conn desk.new tt (K.keys keys.new) dice) }
     ensures out { (D.at desk.new).out ≡ held.now }
 {
     let file = read_file(alloc, grip, keys)?;
@@ -77,8 +79,9 @@ pub(crate) fn list_keys<L: Link, D: Desk, K: Keys>(
     requires none { held.now ≡ None }
     requires out { (D.at desk.old).out ≡ held.now }
     ensures tells { (rules : TheRules) (options : OptionValues) (wraps : WrapKeys) (dice : Side)
-        → CarriesOut D.turned NoCall (ListKeysReplies rules options wraps) wraps (key_state D.turned NoCall conn.old desk.old tt (K.keys keys.old) dice)
-        result wraps None (key_state D.turned NoCall conn.new desk.new tt (K.keys keys.new) dice) }
+        → CarriesOut D.turned NoCall (ListKeysReplies rules options wraps) wraps
+        (key_state D.turned NoCall conn.old desk.old tt (K.keys keys.old) dice) result wraps None
+        (key_state D.turned NoCall conn.new desk.new tt (K.keys keys.new) dice) }
     ensures out { (D.at desk.new).out ≡ held.now }
 {
     let grips = list_grips(alloc, keys)?;
@@ -97,8 +100,9 @@ pub(crate) fn write_infos<L: Link, D: Desk, K: Keys>(
 ) -> Result<(), Refusal>
     requires open { IsOpen conn.old }
     requires out { (D.at desk.old).out ≡ held.now }
-    ensures writes { (dice : Side) → DoesPart D.turned NoCall (WritesInfos grips.now) held.now (key_state D.turned NoCall conn.old desk.old tt (K.keys keys.old) dice)
-        result held.now (key_state D.turned NoCall conn.new desk.new tt (K.keys keys.new) dice) }
+    ensures writes { (dice : Side) → DoesPart D.turned NoCall (WritesInfos grips.now) held.now
+        (key_state D.turned NoCall conn.old desk.old tt (K.keys keys.old) dice) result held.now
+        (key_state D.turned NoCall conn.new desk.new tt (K.keys keys.new) dice) }
     ensures out { (D.at desk.new).out ≡ held.now }
 {
     for grip in grips {
@@ -118,8 +122,9 @@ fn tell_listed<L: Link, D: Desk, K: Keys>(
 ) -> Result<(), Refusal>
     requires open { IsOpen conn.old }
     requires out { (D.at desk.old).out ≡ held.now }
-    ensures tells { (dice : Side) → DoesPart D.turned NoCall (TellsListed grip.now) held.now (key_state D.turned NoCall conn.old desk.old tt (K.keys keys.old) dice)
-        result held.now (key_state D.turned NoCall conn.new desk.new tt (K.keys keys.new) dice) }
+    ensures tells { (dice : Side) → DoesPart D.turned NoCall (TellsListed grip.now) held.now
+        (key_state D.turned NoCall conn.old desk.old tt (K.keys keys.old) dice) result held.now
+        (key_state D.turned NoCall conn.new desk.new tt (K.keys keys.new) dice) }
     ensures out { (D.at desk.new).out ≡ held.now }
 {
     match read_listed(alloc, grip, keys)? {
@@ -138,7 +143,8 @@ fn write_listed<L: Link, D: Desk>(
 ) -> Result<(), Refusal>
     requires open { IsOpen conn.old }
     requires out { (D.at desk.old).out ≡ held.now }
-    ensures writes { DoesAtDesk (WritesInfo grip.now (Some key.now)) D.turned held.now conn.old desk.old result held.now conn.new desk.new }
+    ensures writes { DoesAtDesk (WritesInfo grip.now (Some key.now)) D.turned held.now conn.old
+        desk.old result held.now conn.new desk.new }
     ensures out { (D.at desk.new).out ≡ held.now }
 {
     let cached = peek(grip, held, desk)?;

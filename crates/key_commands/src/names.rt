@@ -7,12 +7,19 @@ use assuan_text::found_in_any_case;
 /// The commands on keys that are known.
 #[derive(Clone, Copy, Debug, PartialEq, Eq)]
 pub enum KeyCommandName {
+    /// HAVEKEY, which looks whether one of some keys is there.
     HaveKey,
+    /// KEYINFO, which tells what is known of a key, or of each.
     KeyInfo,
+    /// KEYWRAP_KEY, which gives the session's wrapping key for one direction.
     KeyWrap,
+    /// IMPORT_KEY, which puts a wrapped key into a file.
     ImportKey,
+    /// EXPORT_KEY, which gives a key wrapped.
     ExportKey,
+    /// PASSWD, which changes the passphrase of a key.
     Passwd,
+    /// DELETE_KEY, which removes a key's file.
     DeleteKey,
 }
 

@@ -21,7 +21,8 @@ use assuan_server::{Code, Conn};
 use cache_policy::{CacheId, Desk, Secret};
 use session_options::PinMode;
 
-/// A new passphrase for a key, as the client wants it. The ticket of a prompt is held when it returns.
+/// A new passphrase for a key, as the client wants it. The ticket of a prompt is held when it
+/// returns.
 pub(crate) fn new_passphrase<L: Link, D: Desk, P: Prompter>(
     asking: &Asking<'_>,
     held: &mut Held,
@@ -32,7 +33,8 @@ pub(crate) fn new_passphrase<L: Link, D: Desk, P: Prompter>(
     requires open { IsOpen conn.old }
     requires out { (D.at desk.old).out ≡ held.old }
     requires shut { IsShut (P.at prompter.old) }
-    ensures does { LeavesKeys D.turned P.prompted (NewPassphrase asking.now.rules.now asking.now.options.now asking.now.grip.now)
+    ensures does { LeavesKeys D.turned P.prompted
+        (NewPassphrase asking.now.rules.now asking.now.options.now asking.now.grip.now)
         held.old conn.old desk.old prompter.old result held.new conn.new desk.new prompter.new }
     ensures out { (D.at desk.new).out ≡ held.new }
     ensures shut { IsShut (P.at prompter.new) }
@@ -57,7 +59,8 @@ pub(crate) fn renewed_passphrase<L: Link, D: Desk, P: Prompter>(
     requires open { IsOpen conn.old }
     requires out { (D.at desk.old).out ≡ held.old }
     requires shut { IsShut (P.at prompter.old) }
-    ensures does { LeavesKeys D.turned P.prompted (RenewsPassphrase asking.now.rules.now asking.now.options.now asking.now.grip.now nonce)
+    ensures does { LeavesKeys D.turned P.prompted
+        (RenewsPassphrase asking.now.rules.now asking.now.options.now asking.now.grip.now nonce)
         held.old conn.old desk.old prompter.old result held.new conn.new desk.new prompter.new }
     ensures out { (D.at desk.new).out ≡ held.new }
     ensures shut { IsShut (P.at prompter.new) }
@@ -79,7 +82,8 @@ fn new_by_user<L: Link, D: Desk, P: Prompter>(
     requires open { IsOpen conn.old }
     requires out { (D.at desk.old).out ≡ held.old }
     requires shut { IsShut (P.at prompter.old) }
-    ensures does { LeavesKeys D.turned P.prompted (new_by asking.now.rules.now asking.now.options.now asking.now.grip.now pin_mode.Ask)
+    ensures does { LeavesKeys D.turned P.prompted
+        (new_by asking.now.rules.now asking.now.options.now asking.now.grip.now pin_mode.Ask)
         held.old conn.old desk.old prompter.old result held.new conn.new desk.new prompter.new }
     ensures out { (D.at desk.new).out ≡ held.new }
     ensures shut { IsShut (P.at prompter.new) }

@@ -16,7 +16,8 @@ pub(crate) fn look_for_nonce<D: Desk>(
     desk: &mut D,
 ) -> Result<Option<Secret>, Refusal>
     requires out { (D.at desk.old).out ≡ held.old }
-    ensures turn { DoesTurns D.turned (LooksForNonce nonce) held.old desk.old result held.new desk.new }
+    ensures turn { DoesTurns D.turned
+        (LooksForNonce nonce) held.old desk.old result held.new desk.new }
     ensures same { held.new ≡ held.old }
     ensures out { (D.at desk.new).out ≡ held.new }
 {

@@ -6,7 +6,8 @@ ghost use Rattle.assuan_server.specs.Connections.{IsOpen};
 ghost use Rattle.secret_file.specs.Opens.{FitsFile};
 ghost use Rattle.session_options.specs.declared.options.PinMode.TheVariants as pin_mode;
 ghost use Rattle.key_commands.specs.Partial.{DoesAtDesk, LeavesKeys};
-ghost use Rattle.key_commands.specs.Passphrases.{ClientOld, UncachedOld, CachedOld, OpensLocked, OldPassphrase, VerifiesPassphrase, way_of};
+ghost use Rattle.key_commands.specs.Passphrases.{ClientOld, UncachedOld, CachedOld, OpensLocked};
+ghost use Rattle.key_commands.specs.Passphrases.{OldPassphrase, VerifiesPassphrase, way_of};
 ghost use Rattle.key_commands.specs.Trials.{IsUsable};
 
 use crate::asking::Asking;
@@ -26,8 +27,9 @@ use secret_file::Locked;
 use session_options::PinMode;
 use sexp_keys::KeyList;
 
-/// The clear key: a protected one is opened by what is cached under the nonce or under the key, or else as the client wants it. A clear one
-/// needs no passphrase. The ticket of a prompt is held when it returns.
+/// The clear key: a protected one is opened by what is cached under the nonce or under the key, or
+/// else as the client wants it. A clear one needs no passphrase. The ticket of a prompt is held
+/// when it returns.
 pub(crate) fn old_passphrase<L: Link, D: Desk, P: Prompter>(
     asking: &Asking<'_>,
     nonce: Option<CacheId>,
@@ -42,7 +44,8 @@ pub(crate) fn old_passphrase<L: Link, D: Desk, P: Prompter>(
     requires open { IsOpen conn.old }
     requires out { (D.at desk.old).out ≡ held.old }
     requires shut { IsShut (P.at prompter.old) }
-    ensures does { LeavesKeys D.turned P.prompted (OldPassphrase asking.now.rules.now asking.now.options.now asking.now.grip.now nonce key)
+    ensures does { LeavesKeys D.turned P.prompted
+        (OldPassphrase asking.now.rules.now asking.now.options.now asking.now.grip.now nonce key)
         held.old conn.old desk.old prompter.old result held.new conn.new desk.new prompter.new }
     ensures out { (D.at desk.new).out ≡ held.new }
     ensures shut { IsShut (P.at prompter.new) }
@@ -68,7 +71,8 @@ pub(crate) fn verified_passphrase<L: Link, D: Desk, P: Prompter>(
     requires open { IsOpen conn.old }
     requires out { (D.at desk.old).out ≡ held.old }
     requires shut { IsShut (P.at prompter.old) }
-    ensures does { LeavesKeys D.turned P.prompted (VerifiesPassphrase asking.now.rules.now asking.now.options.now asking.now.grip.now key)
+    ensures does { LeavesKeys D.turned P.prompted
+        (VerifiesPassphrase asking.now.rules.now asking.now.options.now asking.now.grip.now key)
         held.old conn.old desk.old prompter.old result held.new conn.new desk.new prompter.new }
     ensures out { (D.at desk.new).out ≡ held.new }
     ensures shut { IsShut (P.at prompter.new) }
@@ -81,7 +85,8 @@ pub(crate) fn verified_passphrase<L: Link, D: Desk, P: Prompter>(
     open_uncached(asking, &locked, held, conn, desk, prompter)
 }
 
-/// Opens a locked key by what is cached under the nonce, or else under the key, or else as the client wants it.
+/// Opens a locked key by what is cached under the nonce, or else under the key, or else as the
+/// client wants it.
 fn open_locked<L: Link, D: Desk, P: Prompter>(
     asking: &Asking<'_>,
     nonce: Option<CacheId>,
@@ -95,7 +100,8 @@ fn open_locked<L: Link, D: Desk, P: Prompter>(
     requires open { IsOpen conn.old }
     requires out { (D.at desk.old).out ≡ held.old }
     requires shut { IsShut (P.at prompter.old) }
-    ensures does { LeavesKeys D.turned P.prompted (OpensLocked asking.now.rules.now asking.now.options.now asking.now.grip.now nonce locked.now)
+    ensures does { LeavesKeys D.turned P.prompted (OpensLocked asking.now.rules.now
+        asking.now.options.now asking.now.grip.now nonce locked.now)
         held.old conn.old desk.old prompter.old result held.new conn.new desk.new prompter.new }
     ensures out { (D.at desk.new).out ≡ held.new }
     ensures shut { IsShut (P.at prompter.new) }
@@ -121,7 +127,8 @@ fn open_cached<L: Link, D: Desk, P: Prompter>(
     requires open { IsOpen conn.old }
     requires out { (D.at desk.old).out ≡ held.old }
     requires shut { IsShut (P.at prompter.old) }
-    ensures does { LeavesKeys D.turned P.prompted (CachedOld asking.now.rules.now asking.now.options.now asking.now.grip.now locked.now)
+    ensures does { LeavesKeys D.turned P.prompted
+        (CachedOld asking.now.rules.now asking.now.options.now asking.now.grip.now locked.now)
         held.old conn.old desk.old prompter.old result held.new conn.new desk.new prompter.new }
     ensures out { (D.at desk.new).out ≡ held.new }
     ensures shut { IsShut (P.at prompter.new) }
@@ -157,8 +164,8 @@ fn open_uncached<L: Link, D: Desk, P: Prompter>(
     requires open { IsOpen conn.old }
     requires out { (D.at desk.old).out ≡ held.old }
     requires shut { IsShut (P.at prompter.old) }
-    ensures does { LeavesKeys D.turned P.prompted
-        (UncachedOld asking.now.rules.now asking.now.options.now asking.now.grip.now asking.now.options.now.mode locked.now)
+    ensures does { LeavesKeys D.turned P.prompted (UncachedOld asking.now.rules.now
+        asking.now.options.now asking.now.grip.now asking.now.options.now.mode locked.now)
         held.old conn.old desk.old prompter.old result held.new conn.new desk.new prompter.new }
     ensures out { (D.at desk.new).out ≡ held.new }
     ensures shut { IsShut (P.at prompter.new) }
@@ -184,7 +191,8 @@ fn open_by_user<L: Link, D: Desk, P: Prompter>(
     requires open { IsOpen conn.old }
     requires out { (D.at desk.old).out ≡ held.old }
     requires shut { IsShut (P.at prompter.old) }
-    ensures does { LeavesKeys D.turned P.prompted (UncachedOld asking.now.rules.now asking.now.options.now asking.now.grip.now pin_mode.Ask locked.now)
+    ensures does { LeavesKeys D.turned P.prompted (UncachedOld asking.now.rules.now
+        asking.now.options.now asking.now.grip.now pin_mode.Ask locked.now)
         held.old conn.old desk.old prompter.old result held.new conn.new desk.new prompter.new }
     ensures out { (D.at desk.new).out ≡ held.new }
     ensures shut { IsShut (P.at prompter.new) }
@@ -204,8 +212,9 @@ fn open_by_client<L: Link, D: Desk>(
 ) -> Result<OpenedKey, Refusal>
     requires open { IsOpen conn.old }
     requires out { (D.at desk.old).out ≡ held.now }
-    ensures does { DoesAtDesk (ClientOld asking.now.rules.now asking.now.options.now asking.now.grip.now locked.now) D.turned
-        held.now conn.old desk.old result held.now conn.new desk.new }
+    ensures does { DoesAtDesk
+        (ClientOld asking.now.rules.now asking.now.options.now asking.now.grip.now locked.now)
+        D.turned held.now conn.old desk.old result held.now conn.new desk.new }
     ensures out { (D.at desk.new).out ≡ held.now }
     ensures usable { IfOk result (λ opened. IsUsable opened.key) }
 {

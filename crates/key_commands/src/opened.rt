@@ -68,7 +68,8 @@ pub(crate) fn try_found(
     }
 }
 
-/// The test of a prompt: a passphrase is right that opens a locked key. What it opened last is kept.
+/// The test of a prompt: a passphrase is right that opens a locked key. What it opened last is
+/// kept.
 #[derive(Drop)]
 pub(crate) struct OpensKey<'l> {
     pub(crate) alloc: Global,
@@ -92,9 +93,11 @@ impl<'l> Test for OpensKey<'l> {
 
     ghost rule = { λ test pin. OpensBy test.locked.now pin };
 
-    ghost tested = { λ before pin answer after. IsTrial before.locked.now pin answer after.locked.now after.opened };
+    ghost tested = { λ before pin answer after.
+        IsTrial before.locked.now pin answer after.locked.now after.opened };
 
-    ghost promise = { λ before pin answer after trial. trial_means before.locked.now pin answer after.locked.now after.opened trial };
+    ghost promise = { λ before pin answer after trial.
+        trial_means before.locked.now pin answer after.locked.now after.opened trial };
 
     fn accepts(&mut self, pin: &Secret) -> Tested {
         match self.locked.open(self.alloc, pin.bytes()) {

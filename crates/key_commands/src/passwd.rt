@@ -5,7 +5,8 @@ ghost use Rattle.agent_ask.specs.Prompters.{IsShut};
 ghost use Rattle.agent_ports.specs.Sides.{Side};
 ghost use Rattle.assuan_server.specs.Connections.{Connection, IsOpen};
 ghost use Rattle.sexp_keys.specs.Lists.{key_list_of};
-ghost use Rattle.key_commands.specs.Exchanges.{VerifyReplies, PasswdReplies, ChangesOpened, RewritesFile};
+ghost use Rattle.key_commands.specs.Exchanges.{VerifyReplies, PasswdReplies, ChangesOpened};
+ghost use Rattle.key_commands.specs.Exchanges.{RewritesFile};
 ghost use Rattle.key_commands.specs.Files.{IsSomeKey};
 ghost use Rattle.key_commands.specs.Partial.{NoCall};
 ghost use Rattle.key_commands.specs.Replies.{CarriesOut};
@@ -31,7 +32,8 @@ use assuan_server::Conn;
 use cache_policy::{CacheId, Desk, Secret};
 use sexp_keys::KeyList;
 
-/// PASSWD --verify: the passphrase of a key is asked for and tried, and its ticket given back with it.
+/// PASSWD --verify: the passphrase of a key is asked for and tried, and its ticket given back with
+/// it.
 pub(crate) fn verify_key<L: Link, D: Desk, P: Prompter, K: Keys>(
     asking: &Asking<'_>,
     held: &mut Held,
@@ -44,9 +46,11 @@ pub(crate) fn verify_key<L: Link, D: Desk, P: Prompter, K: Keys>(
     requires open { IsOpen conn.old }
     requires out { (D.at desk.old).out ≡ held.old }
     requires shut { IsShut (P.at prompter.old) }
-    ensures carries { (wraps : Wraps) (dice : Side) → CarriesOut D.turned P.prompted (VerifyReplies asking.now.rules.now asking.now.options.now wraps asking.now.grip.now) wraps
+    ensures carries { (wraps : Wraps) (dice : Side) → CarriesOut D.turned P.prompted
+        (VerifyReplies asking.now.rules.now asking.now.options.now wraps asking.now.grip.now) wraps
         (key_state D.turned P.prompted conn.old desk.old prompter.old (K.keys keys.old) dice)
-        result wraps held.new (key_state D.turned P.prompted conn.new desk.new prompter.new (K.keys keys.new) dice) }
+        result wraps held.new
+        (key_state D.turned P.prompted conn.new desk.new prompter.new (K.keys keys.new) dice) }
     ensures out { (D.at desk.new).out ≡ held.new }
     ensures shut { IsShut (P.at prompter.new) }
 {
@@ -73,9 +77,11 @@ pub(crate) fn change_passphrase<L: Link, D: Desk, P: Prompter, K: Keys, R: Dice>
     requires out { (D.at desk.old).out ≡ held.old }
     requires shut { IsShut (P.at prompter.old) }
     ensures carries { (wraps : Wraps) → CarriesOut D.turned P.prompted
-        (PasswdReplies asking.now.rules.now asking.now.options.now wraps asking.now.grip.now nonce new_nonce) wraps
-        (key_state D.turned P.prompted conn.old desk.old prompter.old (K.keys keys.old) (R.draws dice.old))
-        result wraps held.new (key_state D.turned P.prompted conn.new desk.new prompter.new (K.keys keys.new) (R.draws dice.new)) }
+        (PasswdReplies asking.now.rules.now asking.now.options.now wraps asking.now.grip.now
+        nonce new_nonce) wraps (key_state D.turned P.prompted conn.old desk.old prompter.old
+        (K.keys keys.old) (R.draws dice.old)) result wraps held.new
+        (key_state D.turned P.prompted conn.new desk.new prompter.new (K.keys keys.new)
+        (R.draws dice.new)) }
     ensures out { (D.at desk.new).out ≡ held.new }
     ensures shut { IsShut (P.at prompter.new) }
 {
@@ -114,13 +120,16 @@ fn change_opened<L: Link, D: Desk, P: Prompter, K: Keys, R: Dice>(
     requires open { IsOpen conn.old }
     requires out { (D.at desk.old).out ≡ held.old }
     requires shut { IsShut (P.at prompter.old) }
-    ensures does { DoesPart D.turned P.prompted (ChangesOpened asking.now.rules.now asking.now.options.now asking.now.grip.now nonce file.now key.now)
-        held.old (key_state D.turned P.prompted conn.old desk.old prompter.old (K.keys keys.old) (R.draws dice.old))
-        result held.new (key_state D.turned P.prompted conn.new desk.new prompter.new (K.keys keys.new) (R.draws dice.new)) }
+    ensures does { DoesPart D.turned P.prompted
+        (ChangesOpened asking.now.rules.now asking.now.options.now asking.now.grip.now nonce
+        file.now key.now) held.old (key_state D.turned P.prompted conn.old desk.old prompter.old
+        (K.keys keys.old) (R.draws dice.old)) result held.new
+        (key_state D.turned P.prompted conn.new desk.new prompter.new (K.keys keys.new)
+        (R.draws dice.new)) }
     ensures out { (D.at desk.new).out ≡ held.new }
     ensures shut { IsShut (P.at prompter.new) }
 {
-    check_len(asking.alloc, key)?;
+    check_len(key)?;
     let pass = renewed_passphrase(asking, nonce, held, conn, desk, prompter)?;
     rewrite_file(asking, file, key, &pass, held, desk, keys, dice)
 }
@@ -141,9 +150,10 @@ fn rewrite_file<D: Desk, K: Keys, R: Dice>(
     requires short { length (key_list_of key.now) ≤ MAX_LIST_LEN }
     requires out { (D.at desk.old).out ≡ held.old }
     ensures does { (conn : Connection) → IsOpen conn
-        → DoesPart D.turned NoCall (RewritesFile asking.now.rules.now asking.now.options.now asking.now.grip.now file.now key.now pass.now)
-        held.old (key_state D.turned NoCall conn desk.old tt (K.keys keys.old) (R.draws dice.old))
-        result held.new (key_state D.turned NoCall conn desk.new tt (K.keys keys.new) (R.draws dice.new)) }
+        → DoesPart D.turned NoCall (RewritesFile asking.now.rules.now
+        asking.now.options.now asking.now.grip.now file.now key.now pass.now) held.old
+        (key_state D.turned NoCall conn desk.old tt (K.keys keys.old) (R.draws dice.old)) result
+        held.new (key_state D.turned NoCall conn desk.new tt (K.keys keys.new) (R.draws dice.new)) }
     ensures out { (D.at desk.new).out ≡ held.new }
 {
     let drawn: Drawn<20> = draw(dice)?;

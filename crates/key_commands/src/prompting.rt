@@ -20,7 +20,8 @@ use assuan_text::Text;
 use cache_policy::Secret;
 use secret_file::Locked;
 
-/// Asks the user for the passphrase of a locked key: the clear key, as the accepted passphrase opened it.
+/// Asks the user for the passphrase of a locked key: the clear key, as the accepted passphrase
+/// opened it.
 pub(crate) fn prompt_old<L: Link, P: Prompter>(
     asking: &Asking<'_>,
     locked: &Locked,
@@ -31,8 +32,9 @@ pub(crate) fn prompt_old<L: Link, P: Prompter>(
     requires open { IsOpen conn.old }
     requires shut { IsShut (P.at prompter.old) }
     requires seated { is_some held.now ≡ true }
-    ensures prompts { DoesAtPrompter (PromptsOld asking.now.rules.now asking.now.options.now asking.now.grip.now locked.now) P.prompted
-        held.now conn.old prompter.old result conn.new prompter.new }
+    ensures prompts { DoesAtPrompter
+        (PromptsOld asking.now.rules.now asking.now.options.now asking.now.grip.now locked.now)
+        P.prompted held.now conn.old prompter.old result conn.new prompter.new }
     ensures shut { IsShut (P.at prompter.new) }
     ensures usable { IfOk result (λ opened. IsUsable opened.key) }
 {
@@ -61,8 +63,8 @@ pub(crate) fn prompt_old<L: Link, P: Prompter>(
     }
 }
 
-/// Asks the user for a new passphrase of a key, which meets the check and is repeated. The prompt says so whatever the client set: a user who is asked
-/// "to unlock the key" would type the old one.
+/// Asks the user for a new passphrase of a key, which meets the check and is repeated. The prompt
+/// says so whatever the client set: a user who is asked "to unlock the key" would type the old one.
 pub(crate) fn prompt_new<L: Link, P: Prompter>(
     asking: &Asking<'_>,
     held: &Held,
@@ -72,7 +74,8 @@ pub(crate) fn prompt_new<L: Link, P: Prompter>(
     requires open { IsOpen conn.old }
     requires shut { IsShut (P.at prompter.old) }
     requires seated { is_some held.now ≡ true }
-    ensures prompts { DoesAtPrompter (PromptsNew asking.now.rules.now asking.now.options.now asking.now.grip.now) P.prompted
+    ensures prompts { DoesAtPrompter
+        (PromptsNew asking.now.rules.now asking.now.options.now asking.now.grip.now) P.prompted
         held.now conn.old prompter.old result conn.new prompter.new }
     ensures shut { IsShut (P.at prompter.new) }
 {

@@ -1,8 +1,10 @@
 //! A clear key's new file, and the passphrase that opens it.
 
-ghost use Rattle.std.specs.Prelude.{◌≡◌, ◌≤◌, length, take, drop, IfOk, OnOk, IsTrue};
+ghost use Rattle.std.specs.Prelude.{◌≡◌, ◌≤◌, length, take, drop, IfOk, OnOk};
 ghost use Rattle.agent_ports.specs.declared.keys.TheConstants.{MAX_KEY_FILE_LEN};
 ghost use Rattle.session_options.specs.Counts.{IsS2kCount};
+ghost use Rattle.sexp_canonical.specs.Spelling.{most_depth, depth};
+ghost use Rattle.sexp_keys.specs.Key.{key_tree};
 ghost use Rattle.sexp_keys.specs.Lists.{key_list_of};
 ghost use Rattle.key_commands.specs.Files.{IsSomeList};
 ghost use Rattle.key_commands.specs.KeyParts.{IsShort, Protects, KeepsNew};
@@ -13,7 +15,7 @@ ghost use Rattle.key_commands.specs.declared.wrapping.TheConstants.{MAX_LIST_LEN
 use crate::held::Held;
 use crate::refusal::Refusal;
 use crate::turns::{close, keep_pass};
-use crate::wrapping::{MAX_LIST_LEN, list_len};
+use crate::wrapping::has_short_list;
 use agent_ports::Grip;
 use assuan_server::Code;
 use cache_policy::{Desk, Secret};
@@ -23,22 +25,19 @@ use sexp_keys::KeyList;
 use std::alloc::Global;
 
 /// Refuses a clear key that is too long to be protected.
-pub(crate) fn check_len(alloc: Global, key: &KeyList) -> Result<(), Refusal>
-    requires { IsTrue key.now.is_clear }
+pub(crate) fn check_len(key: &KeyList) -> Result<(), Refusal>
+    requires { depth (key_tree key.now) ≤ most_depth }
     ensures short { DoesAlone (IsShort key.now) result }
     ensures within { OnOk result (length (key_list_of key.now) ≤ MAX_LIST_LEN) }
 {
-    let len = match list_len(alloc, key) {
-        Ok(len) => len,
-        Err(code) => return Err(Refusal::Agent(code)),
-    };
-    if len > MAX_LIST_LEN {
+    if !has_short_list(key) {
         return Err(Refusal::Agent(Code::BadSecKey));
     }
     Ok(())
 }
 
-/// The file of a clear key that is protected by a passphrase, with this salt, initialization vector and count.
+/// The file of a clear key that is protected by a passphrase, with this salt, initialization vector
+/// and count.
 pub(crate) fn protected_key(
     alloc: Global,
     key: &KeyList,
@@ -72,7 +71,8 @@ pub(crate) fn salt_and_iv(drawn: &[u8; 20]) -> ([u8; 8], [u8; 12])
     (salt, iv)
 }
 
-/// Keeps the passphrase of a key's new file: by the ticket that is held, or else by a turn of its own.
+/// Keeps the passphrase of a key's new file: by the ticket that is held, or else by a turn of its
+/// own.
 pub(crate) fn keep_new<D: Desk>(
     grip: &Grip,
     pass: &Secret,
@@ -80,7 +80,8 @@ pub(crate) fn keep_new<D: Desk>(
     desk: &mut D,
 ) -> Result<(), Refusal>
     requires out { (D.at desk.old).out ≡ held.old }
-    ensures turn { DoesTurns D.turned (KeepsNew grip.now pass.now) held.old desk.old result held.new desk.new }
+    ensures turn { DoesTurns D.turned
+        (KeepsNew grip.now pass.now) held.old desk.old result held.new desk.new }
     ensures out { (D.at desk.new).out ≡ held.new }
 {
     if held.is_held() {

@@ -2,7 +2,10 @@ ghost use Rattle.std.specs.Prelude.{◌≡◌};
 ghost use Rattle.std.specs.Option.{option_map};
 ghost use Rattle.assuan_text.specs.Options.{options_of, arguments_of};
 ghost use Rattle.assuan_text.specs.Words.{words};
-ghost use Rattle.key_commands.specs.Requests.{needed, grip, first_grip, some_grips, nonce, have_of, info_of, wrap_of, import_of, export_of, passwd_of, delete_of, asked_by, key_request_of, ends_description};
+ghost use Rattle.key_commands.specs.Requests.{needed, grip, first_grip, some_grips, nonce, have_of};
+ghost use Rattle.key_commands.specs.Requests.{info_of, wrap_of, import_of, export_of, passwd_of};
+ghost use Rattle.key_commands.specs.Requests.{delete_of, asked_by, key_request_of};
+ghost use Rattle.key_commands.specs.Requests.{ends_description};
 
 use crate::names::{KeyCommandName, command_named};
 use crate::{Direction, Grips, KeyRequest};
@@ -30,8 +33,8 @@ pub fn read_key(line: &[u8]) -> KeyRequest
     }
 }
 
-/// Whether a line's command ends what its client described for prompts (SETKEYDESC of gpg-agent), whatever it is answered: one whose prompts may be
-/// described, in form or not.
+/// Whether a line's command ends what its client described for prompts (SETKEYDESC of gpg-agent),
+/// whatever it is answered: one whose prompts may be described, in form or not.
 #[tactic(auto, unfolding(crate::specs::Requests::ends_description))]
 pub fn ends_description(line: &[u8]) -> bool
     ensures { result ≡ ends_description line.now }

@@ -3,7 +3,8 @@
 ghost use Rattle.std.specs.Prelude.{◌≡◌, ◌≤◌, length, IfOk};
 ghost use Rattle.assuan_server.specs.Connections.{IsOpen};
 ghost use Rattle.sexp_keys.specs.Lists.{key_list_of};
-ghost use Rattle.key_commands.specs.KeyParts.{AsksKeyData, ReceivesKey, Unwraps, NamesKey, IsFree, LooksOver};
+ghost use Rattle.key_commands.specs.KeyParts.{AsksKeyData, ReceivesKey, Unwraps, NamesKey, IsFree};
+ghost use Rattle.key_commands.specs.KeyParts.{LooksOver};
 ghost use Rattle.key_commands.specs.Partial.{DoesAtClient};
 ghost use Rattle.key_commands.specs.Steps.{DoesAlone, DoesKeyCalls, DoesTurns, key_data_of};
 ghost use Rattle.key_commands.specs.Trials.{IsUsable};
@@ -108,14 +109,16 @@ pub(crate) fn check_free<K: Keys>(
     Ok(())
 }
 
-/// What is cached under a nonce, where there is one. An agent that stops is taken for one that has nothing cached.
+/// What is cached under a nonce, where there is one. An agent that stops is taken for one that has
+/// nothing cached.
 pub(crate) fn look_over<D: Desk>(
     nonce: &Option<CacheId>,
     held: &Held,
     desk: &mut D,
 ) -> Result<Option<Secret>, Refusal>
     requires out { (D.at desk.old).out ≡ held.now }
-    ensures turn { DoesTurns D.turned (LooksOver nonce.now) held.now desk.old result held.now desk.new }
+    ensures turn { DoesTurns D.turned
+        (LooksOver nonce.now) held.now desk.old result held.now desk.new }
     ensures out { (D.at desk.new).out ≡ held.now }
 {
     let Some(nonce) = nonce else {

@@ -18,17 +18,20 @@ pub enum KeyRequest {
     ListKeys,
     /// The session's wrapping key for one direction.
     KeyWrap(Direction),
+    /// Puts a wrapped key of the client into a file.
     ImportKey {
         /// A key's file is replaced where there is one.
         force: bool,
         /// A nonce under which the cache has the passphrase.
         nonce: Option<CacheId>,
     },
+    /// Gives a key wrapped.
     ExportKey {
         grip: Grip,
         /// A nonce under which the cache has the passphrase.
         nonce: Option<CacheId>,
     },
+    /// Changes the passphrase of a key.
     Passwd {
         grip: Grip,
         /// A nonce under which the cache has the old passphrase.
@@ -38,6 +41,7 @@ pub enum KeyRequest {
         /// The passphrase is only asked for and tried.
         verify: bool,
     },
+    /// Removes a key's file.
     DeleteKey {
         grip: Grip,
         /// Nobody is asked for consent.

@@ -27,8 +27,8 @@ use cache_policy::{CacheId, Desk};
 use session_options::{Options, Rules};
 use std::alloc::Global;
 
-/// Does what a request asks for, answers it, and says how the session goes on. The wrapping keys are the session's. No ticket is out and no
-/// prompt is open when it returns.
+/// Does what a request asks for, answers it, and says how the session goes on. The wrapping keys
+/// are the session's. No ticket is out and no prompt is open when it returns.
 // Apart from the session's loop, where its places would be filled anew for each line.
 #[inline(never)]
 pub fn run_key<L: Link, D: Desk, P: Prompter, K: Keys, R: Dice>(
@@ -46,9 +46,12 @@ pub fn run_key<L: Link, D: Desk, P: Prompter, K: Keys, R: Dice>(
     requires open { IsOpen conn.old }
     requires free { (D.at desk.old).out ≡ None }
     requires shut { IsShut (P.at prompter.old) }
-    ensures answers { AnswersKey D.turned P.prompted (Exchange rules.now options.now wraps.old command.now)
-        (key_state D.turned P.prompted conn.old desk.old prompter.old (K.keys keys.old) (R.draws dice.old)) result wraps.new
-        (key_state D.turned P.prompted conn.new desk.new prompter.new (K.keys keys.new) (R.draws dice.new)) }
+    ensures answers { AnswersKey D.turned P.prompted
+        (Exchange rules.now options.now wraps.old command.now)
+        (key_state D.turned P.prompted conn.old desk.old prompter.old
+        (K.keys keys.old) (R.draws dice.old)) result wraps.new
+        (key_state D.turned P.prompted conn.new desk.new prompter.new (K.keys keys.new)
+        (R.draws dice.new)) }
     ensures free { (D.at desk.new).out ≡ None }
     ensures shut { IsShut (P.at prompter.new) }
 {
@@ -61,7 +64,8 @@ pub fn run_key<L: Link, D: Desk, P: Prompter, K: Keys, R: Dice>(
     respond(&reply, conn)
 }
 
-/// Does what a request asks for, and gives its reply, or how it is refused. A ticket may be held when it returns.
+/// Does what a request asks for, and gives its reply, or how it is refused. A ticket may be held
+/// when it returns.
 fn carry_out<L: Link, D: Desk, P: Prompter, K: Keys, R: Dice>(
     alloc: Global,
     command: &KeyRequest,
@@ -79,9 +83,12 @@ fn carry_out<L: Link, D: Desk, P: Prompter, K: Keys, R: Dice>(
     requires open { IsOpen conn.old }
     requires out { (D.at desk.old).out ≡ held.old }
     requires shut { IsShut (P.at prompter.old) }
-    ensures carries { CarriesOut D.turned P.prompted (Replies rules.now options.now wraps.old command.now) wraps.old
-        (key_state D.turned P.prompted conn.old desk.old prompter.old (K.keys keys.old) (R.draws dice.old)) result wraps.new held.new
-        (key_state D.turned P.prompted conn.new desk.new prompter.new (K.keys keys.new) (R.draws dice.new)) }
+    ensures carries { CarriesOut D.turned P.prompted
+        (Replies rules.now options.now wraps.old command.now) wraps.old
+        (key_state D.turned P.prompted conn.old desk.old prompter.old
+        (K.keys keys.old) (R.draws dice.old)) result wraps.new held.new
+        (key_state D.turned P.prompted conn.new desk.new prompter.new (K.keys keys.new)
+        (R.draws dice.new)) }
     ensures out { (D.at desk.new).out ≡ held.new }
     ensures shut { IsShut (P.at prompter.new) }
 {

@@ -5,7 +5,8 @@ ghost use Rattle.agent_ports.specs.declared.link.WriteFault.{WriteFault as Fault
 ghost use Rattle.assuan_escape.specs.Escapes.{hex_text};
 ghost use Rattle.assuan_server.specs.Written.{WritesText, status_text};
 ghost use Rattle.assuan_text.specs.LineEnds.{has_lf};
-ghost use Rattle.key_commands.specs.Lines.{grip_text, info_text, info_line, described, old_description, new_description, delete_description};
+ghost use Rattle.key_commands.specs.Lines.{grip_text, info_text, info_line, described};
+ghost use Rattle.key_commands.specs.Lines.{old_description, new_description, delete_description};
 
 use agent_ports::{Grip, Link, WriteFault};
 use assuan_escape::upper_hex;
@@ -39,7 +40,8 @@ fn digits_of(grip: &Grip) -> Text
     upper_hex(&grip.0)
 }
 
-/// What a prompt about a key as it is says: what the client set for this request, or what it usually does.
+/// What a prompt about a key as it is says: what the client set for this request, or what it
+/// usually does.
 pub(crate) fn described(options: &Options, usual: Text) -> Text
     ensures { result.items ≡ described options.now.description usual.items }
 {

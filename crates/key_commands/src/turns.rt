@@ -29,7 +29,8 @@ pub(crate) fn ask_cache<D: Desk>(
 ) -> Result<Option<Secret>, Refusal>
     requires out { (D.at desk.old).out ≡ held.old }
     requires free { opens (Ask id mode way None) ≡ true → held.old ≡ None }
-    ensures turn { DoesTurn D.turned (Asks (Ask id mode way None)) held.old desk.old result held.new desk.new }
+    ensures turn { DoesTurn D.turned
+        (Asks (Ask id mode way None)) held.old desk.old result held.new desk.new }
     ensures out { (D.at desk.new).out ≡ held.new }
 {
     match desk.turn(Step::Ask {
@@ -54,7 +55,8 @@ pub(crate) fn ask_cache<D: Desk>(
 /// Takes the seat for a prompt whose passphrase is this key's, unless a ticket is held.
 pub(crate) fn take_seat<D: Desk>(grip: &Grip, held: &mut Held, desk: &mut D) -> Result<(), Refusal>
     requires out { (D.at desk.old).out ≡ held.old }
-    ensures turn { DoesTurns D.turned (TakesSeat grip.now) held.old desk.old result held.new desk.new }
+    ensures turn { DoesTurns D.turned
+        (TakesSeat grip.now) held.old desk.old result held.new desk.new }
     ensures out { (D.at desk.new).out ≡ held.new }
 {
     if held.is_held() {
@@ -75,7 +77,8 @@ pub(crate) fn seat<D: Desk>(
 ) -> Result<(), Refusal>
     requires none { held.old ≡ None }
     requires out { (D.at desk.old).out ≡ held.old }
-    ensures turn { DoesTurn D.turned (Seats (Seat under None)) held.old desk.old result held.new desk.new }
+    ensures turn { DoesTurn D.turned
+        (Seats (Seat under None)) held.old desk.old result held.new desk.new }
     ensures out { (D.at desk.new).out ≡ held.new }
     ensures seated { IsOk result → IsSome held.new }
 {
@@ -99,7 +102,8 @@ pub(crate) fn keep_pass<D: Desk>(
     desk: &mut D,
 ) -> Result<(), Refusal>
     requires out { (D.at desk.old).out ≡ held.now }
-    ensures turn { DoesTurn D.turned (Changes (put_key grip.now pass.now)) held.now desk.old result held.now desk.new }
+    ensures turn { DoesTurn D.turned
+        (Changes (put_key grip.now pass.now)) held.now desk.old result held.now desk.new }
     ensures out { (D.at desk.new).out ≡ held.now }
 {
     match desk.turn(Step::Put {
@@ -123,7 +127,8 @@ pub(crate) fn keep_by_nonce<D: Desk>(
     desk: &mut D,
 ) -> Result<(), Refusal>
     requires out { (D.at desk.old).out ≡ held.now }
-    ensures turn { DoesTurn D.turned (Changes (Put (hex_text nonce.now) Nonce Default pass.now)) held.now desk.old result held.now desk.new }
+    ensures turn { DoesTurn D.turned (Changes (Put (hex_text nonce.now) Nonce Default pass.now))
+        held.now desk.old result held.now desk.new }
     ensures out { (D.at desk.new).out ≡ held.now }
 {
     match desk.turn(Step::Put {
@@ -159,7 +164,8 @@ pub(crate) fn peek<D: Desk>(grip: &Grip, held: &Held, desk: &mut D) -> Result<bo
 /// Removes a key's passphrase from the cache.
 pub(crate) fn clear_pass<D: Desk>(grip: &Grip, held: &Held, desk: &mut D) -> Result<(), Refusal>
     requires out { (D.at desk.old).out ≡ held.now }
-    ensures turn { DoesTurn D.turned (Changes (Clear (grip_text grip.now) Normal)) held.now desk.old result held.now desk.new }
+    ensures turn { DoesTurn D.turned
+        (Changes (Clear (grip_text grip.now) Normal)) held.now desk.old result held.now desk.new }
     ensures out { (D.at desk.new).out ≡ held.now }
 {
     match desk.turn(Step::Clear {

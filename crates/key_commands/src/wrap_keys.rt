@@ -17,8 +17,8 @@ use crate::reply::Reply;
 use crate::request::Direction;
 use agent_ports::Dice;
 
-/// The wrapping keys of a session, where they were drawn (RFC 3394). They stay as they are until its end, and are overwritten when they
-/// are dropped.
+/// The wrapping keys of a session, where they were drawn (RFC 3394). They stay as they are until
+/// its end, and are overwritten when they are dropped.
 #[derive(Drop)]
 pub struct WrapKeys {
     /// Under which keys come into the agent.
@@ -82,9 +82,10 @@ pub(crate) fn wrapping_key<R: Dice>(
     wraps: &mut WrapKeys,
     dice: &mut R,
 ) -> Result<Reply, Refusal>
-    ensures { (rules : Rules) (options : OptionValues) (conn : Connection) (keys : Files) → IsOpen conn
-        → CarriesOut NoTurn NoCall (KeyWrapReplies rules options wraps.old way) wraps.old (key_state NoTurn NoCall conn tt tt keys (R.draws dice.old))
-        result wraps.new None (key_state NoTurn NoCall conn tt tt keys (R.draws dice.new)) }
+    ensures { (rules : Rules) (options : OptionValues) (conn : Connection) (keys : Files)
+        → IsOpen conn → CarriesOut NoTurn NoCall (KeyWrapReplies rules options wraps.old way)
+        wraps.old (key_state NoTurn NoCall conn tt tt keys (R.draws dice.old)) result wraps.new None
+        (key_state NoTurn NoCall conn tt tt keys (R.draws dice.new)) }
 {
     let key = drawn_key(way, wraps, dice)?;
     wraps.keep(way, key.copy());
@@ -93,7 +94,8 @@ pub(crate) fn wrapping_key<R: Dice>(
 
 /// The key for one direction, or a new one.
 fn drawn_key<R: Dice>(way: Direction, wraps: &WrapKeys, dice: &mut R) -> Result<Drawn<16>, Refusal>
-    ensures { DoesDrawings (or_else (wrap_key way wraps.now) (Draws 16)) (R.draws dice.old) result (R.draws dice.new) }
+    ensures { DoesDrawings (or_else (wrap_key way wraps.now) (Draws 16)) (R.draws dice.old) result
+        (R.draws dice.new) }
 {
     match wraps.key(way) {
         Some(key) => Ok(key.copy()),

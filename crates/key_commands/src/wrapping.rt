@@ -1,12 +1,16 @@
 //! Keys under a session's wrapping key.
 
-ghost use Rattle.std.specs.Prelude.{◌≡◌, ◌==◌, ◌≤◌, ◌⊎◌, length, IfOk, IfErr, IfSome, IfNone, IsTrue, OnOk};
+ghost use Rattle.std.specs.Prelude.{◌≡◌, ◌==◌, ◌≤◌, ◌⊎◌, ◌↔◌, length, IfOk, IfErr, IfSome, IfNone};
+ghost use Rattle.std.specs.Prelude.{IsTrue, OnOk};
 ghost use Rattle.std.specs.List.{list_all};
-ghost use Rattle.sexp_canonical.specs.Spelling.{most_bytes};
+ghost use Rattle.sexp_canonical.specs.Spelling.{most_bytes, most_depth, depth};
 ghost use Rattle.sexp_canonical.specs.declared.tree.Sexp.{Sexp as Expression};
+ghost use Rattle.sexp_keys.specs.Key.{key_tree};
 ghost use Rattle.sexp_keys.specs.Lists.{key_list_of};
-ghost use Rattle.key_commands.specs.Wrapping.{zero_padded, wrapped_key, ArePadded, PlainSays, WrappedSays};
+ghost use Rattle.key_commands.specs.Wrapping.{zero_padded, wrapped_key, ArePadded, PlainSays};
+ghost use Rattle.key_commands.specs.Wrapping.{WrappedSays};
 ghost use Rattle.key_commands.specs.Steps.{are_padding};
+ghost use Rattle.key_commands.specs.declared.wrapping.TheConstants.{MAX_LIST_LEN};
 
 use crate::faults::fault_code;
 use assuan_server::Code;
@@ -15,13 +19,15 @@ use sexp_canonical::{Bytes, Sexp, SexpFault, read};
 use sexp_keys::KeyList;
 use std::alloc::{AllocError, Global};
 
-/// How many bytes a key's list may have that is written to a file: so the file stays within the bytes that are read.
+/// How many bytes a key's list may have that is written to a file: so the file stays within the
+/// bytes that are read.
 pub const MAX_LIST_LEN: usize = 65_000;
 
 /// How many bytes a block of the wrapping has.
 const BLOCK_LEN: usize = 8;
 
-/// A clear key as EXPORT_KEY sends it: its whole list with zero bytes to a whole block, wrapped. What was clear is overwritten.
+/// A clear key as EXPORT_KEY sends it: its whole list with zero bytes to a whole block, wrapped.
+/// What was clear is overwritten.
 pub(crate) fn wrapped_key(
     alloc: Global,
     wrapping: &[u8; 16],
@@ -45,7 +51,8 @@ fn pad(list: &mut Bytes) -> Result<(), AllocError>
     list.extend_from_slice(&zeros[..count])
 }
 
-/// The clear key that IMPORT_KEY was sent, or the code by which it is refused. What was clear is overwritten.
+/// The clear key that IMPORT_KEY was sent, or the code by which it is refused. What was clear is
+/// overwritten.
 pub(crate) fn unwrapped_key(
     alloc: Global,
     wrapping: &[u8; 16],
@@ -54,7 +61,8 @@ pub(crate) fn unwrapped_key(
     ensures key { IfOk result (λ key. WrappedSays wrapping.now wrapped.now (Ok key)) }
 
     // Only a lack of memory may come at any time.
-    ensures fault { IfErr result (λ code. (code ≡ Code.NoMemory) ⊎ WrappedSays wrapping.now wrapped.now (Err code)) }
+    ensures fault { IfErr result
+        (λ code. (code ≡ Code.NoMemory) ⊎ WrappedSays wrapping.now wrapped.now (Err code)) }
 {
     let plain = match unwrap(alloc, wrapping, wrapped) {
         Ok(plain) => Bytes::from(plain),
@@ -80,7 +88,7 @@ fn plain_key(alloc: Global, plain: &[u8]) -> Result<KeyList, Code>
     if !key.is_clear() {
         return Err(Code::BadSecKey);
     }
-    if list_len(alloc, &key)? > MAX_LIST_LEN {
+    if !has_short_list(&key) {
         return Err(Code::BadSecKey);
     }
     Ok(key)
@@ -89,7 +97,8 @@ fn plain_key(alloc: Global, plain: &[u8]) -> Result<KeyList, Code>
 /// The expression that bytes are, with up to 7 zero bytes behind it. `Err` is a lack of memory.
 fn padded_tree(alloc: Global, plain: &[u8]) -> Result<Option<Sexp>, Code>
     ensures found { IfOk result (λ found. IfSome found (ArePadded plain.now)) }
-    ensures none { IfOk result (λ found. IfNone found ((tree : Expression) → ArePadded plain.now tree → ⊥)) }
+    ensures none { IfOk result
+        (λ found. IfNone found ((tree : Expression) → ArePadded plain.now tree → ⊥)) }
     ensures fault { IfErr result (λ code. code ≡ Code.NoMemory) }
 {
     let (tree, len) = match read(alloc, plain) {
@@ -118,14 +127,14 @@ fn are_zeros(bytes: &[u8]) -> bool
     bytes.iter().all(|byte| *byte == 0)
 }
 
-/// How many bytes the whole list of a clear key has.
-pub(crate) fn list_len(alloc: Global, key: &KeyList) -> Result<usize, Code>
-    requires { IsTrue key.now.is_clear }
-    ensures len { IfOk result (λ len. len ≡ length (key_list_of key.now)) }
-    ensures fault { IfErr result (λ code. code ≡ Code.NoMemory) }
+/// Whether the whole list of a key within the limits of one that is read is short enough to be
+/// written to a file.
+pub(crate) fn has_short_list(key: &KeyList) -> bool
+    requires { depth (key_tree key.now) ≤ most_depth }
+    ensures { IsTrue result ↔ (length (key_list_of key.now) ≤ MAX_LIST_LEN) }
 {
-    match key.private_list(alloc) {
-        Ok(list) => Ok(Bytes::from(list).as_slice().len()),
-        Err(_) => Err(Code::NoMemory),
+    match key.list_len() {
+        Some(len) => len <= MAX_LIST_LEN,
+        None => false,
     }
 }

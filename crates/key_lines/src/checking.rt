@@ -9,7 +9,8 @@ use crate::fault::LinesFault;
 use crate::forms::{LineForm, line_form};
 use crate::lines::next_line;
 
-/// Whether each line has its form, and at most one begins a `Key`. The fault is that of the first line that has one.
+/// Whether each line has its form, and at most one begins a `Key`. The fault is that of the first
+/// line that has one.
 pub(crate) fn check_lines(file: &[u8]) -> Result<(), LinesFault>
     ensures ok { OnOk result (line_fault file.now ≡ None) }
     ensures fault { IfErr result (IsFault file.now) }

@@ -15,10 +15,12 @@ pub enum LinesFault {
     NoKey,
     /// This line begins a second item of the name `Key`.
     TwoKeys(usize),
-    /// The value of the key isn't one advanced expression with blanks around it. The fault is never that memory ran out.
+    /// The value of the key isn't one advanced expression with blanks around it. The fault is never
+    /// that memory ran out.
     BadKey(AdvFault),
     /// The key's canonical spelling has more than 65,536 bytes.
     TooLong,
+    /// There was no memory for the file's key.
     NoMemory,
 }
 

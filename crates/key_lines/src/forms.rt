@@ -2,7 +2,8 @@ ghost use Rattle.std.specs.Prelude.{◌≡◌, true, false, slice_index, MatchOp
 ghost use Rattle.std.specs.Char.{is_ascii_alphabetic};
 ghost use Rattle.std.specs.List.{list_all};
 ghost use Rattle.assuan_text.specs.Blanks.{is_blank};
-ghost use Rattle.key_lines.specs.Items.{is_name_byte, is_name, begins_item, name_in, names_key, value_in, line_form, form_of_text, is_key, goes_on};
+ghost use Rattle.key_lines.specs.Items.{is_name_byte, is_name, begins_item, name_in, names_key};
+ghost use Rattle.key_lines.specs.Items.{value_in, line_form, form_of_text, is_key, goes_on};
 
 use crate::lines::{len_before, line_text};
 use assuan_text::{is_blank, is_idle};
@@ -75,7 +76,8 @@ fn begins_blank(text: &[u8]) -> bool
 
 // The name of the item that the text begins.
 fn name_in(text: &[u8]) -> Option<&[u8]>
-    ensures { MatchOption result (begins_item text.now ≡ false) (λ name. (begins_item text.now ≡ true) × (name.now ≡ name_in text.now)) }
+    ensures { MatchOption result (begins_item text.now ≡ false) (λ name.
+        (begins_item text.now ≡ true) × (name.now ≡ name_in text.now)) }
 {
     let (name, rest) = text.split_at(len_before(b':', text));
     if rest.is_empty() {

@@ -10,8 +10,8 @@ use std::alloc::{AllocError, Global};
 
 /// The file cut before the first line of its `Key` item.
 pub(crate) fn cut_at_key(file: &[u8]) -> Option<(&[u8], &[u8])>
-    ensures { MatchOption result (has_key file.now ≡ false)
-        (λ parts. (has_key file.now ≡ true) × (parts.0.now ≡ before_key file.now) × (lines_of parts.1.now ≡ from_key file.now)) }
+    ensures { MatchOption result (has_key file.now ≡ false) (λ parts. (has_key file.now ≡ true)
+        × (parts.0.now ≡ before_key file.now) × (lines_of parts.1.now ≡ from_key file.now)) }
 {
     let mut rest = file;
     while let Some((line, after)) = next_line(rest) {

@@ -1,4 +1,5 @@
-ghost use Rattle.std.specs.Prelude.{◌≡◌, ◌⊎◌, ◌≤◌, false, ℕ, List, ◌∷◌, ◌++◌, codes, length, Some, Result, IfOk, IfErr};
+ghost use Rattle.std.specs.Prelude.{◌≡◌, ◌⊎◌, ◌≤◌, false, ℕ, List, ◌∷◌, ◌++◌, codes, length, Some};
+ghost use Rattle.std.specs.Prelude.{Result, IfOk, IfErr};
 ghost use Rattle.sexp_canonical.specs.View.{tree_of};
 ghost use Rattle.sexp_canonical.specs.Spelling.{most_bytes, most_depth, spelling_of, depth};
 ghost use Rattle.key_lines.specs.KeyFile.{KeyFile, IsKeyFile, IsFault, Answers, with_key};
@@ -14,8 +15,8 @@ use sexp_canonical::{Bytes, Sexp};
 use std::alloc::{AllocError, Global};
 use std::marker::Model;
 
-/// A key file in the extended format: its key, and the bytes around the lines of the key's item. All are overwritten when it
-/// is dropped, and it is neither cloned nor printed.
+/// A key file in the extended format: its key, and the bytes around the lines of the key's item.
+/// All are overwritten when it is dropped, and it is neither cloned nor printed.
 #[derive(Drop)]
 pub struct KeyLines {
     before: Bytes,
@@ -34,7 +35,8 @@ impl Model for KeyLines {
     ghost view = { λ k. record { before = k.before; tree = k.tree; after = k.after } };
 }
 
-/// Reads a key file in the extended format, of any length. A file whose first byte is `(` isn't in it.
+/// Reads a key file in the extended format, of any length. A file whose first byte is `(` isn't in
+/// it.
 pub fn read_lines(alloc: Global, file: &[u8]) -> Result<KeyLines, LinesFault>
     // The key of the file, and the bytes around its item.
     ensures found { IfOk result (IsKeyFile file.now) }
@@ -42,9 +44,10 @@ pub fn read_lines(alloc: Global, file: &[u8]) -> Result<KeyLines, LinesFault>
     // Else the fault is the first one. Only a lack of memory may come at any time.
     ensures fault { IfErr result (λ fault. (fault ≡ LinesFault.NoMemory) ⊎ IsFault file.now fault) }
 
-    // What the file says is the answer: no fault hides a key, and no later fault an earlier one. This follows from the first
-    // two by the law `one_answer`, and stands here for callers.
-    ensures only { (answer : Result KeyFile LinesFault) → Answers file.now answer → (result ≡ Err LinesFault.NoMemory) ⊎ (result ≡ answer) }
+    // What the file says is the answer: no fault hides a key, and no later fault an earlier one.
+    // This follows from the first two by the law `one_answer`, and stands here for callers.
+    ensures only { (answer : Result KeyFile LinesFault) → Answers file.now answer
+        → (result ≡ Err LinesFault.NoMemory) ⊎ (result ≡ answer) }
 {
     read_file(alloc, file)
 }
@@ -82,18 +85,20 @@ impl KeyLines {
         &self.tree
     }
 
-    /// The file with another key: in place of the lines of its item stands `Key: `, the key in the advanced form, and LF. Every
-    /// other byte is the same.
+    /// The file with another key: in place of the lines of its item stands `Key: `, the key in the
+    /// advanced form, and LF. Every other byte is the same.
     pub fn with_key(&self, alloc: Global, tree: &Sexp) -> Result<Vec<u8>, AllocError>
         ensures file { IfOk result (λ file. file.items ≡ with_key self.now tree.now) }
 
         // Read again, it has this key between the same bytes, where the key is within the limits.
-        ensures again { IfOk result (λ new. (file : List ℕ) → IsKeyFile file self.now → depth (tree_of tree.now) ≤ most_depth
-            → length (spelling_of tree.now) ≤ most_bytes
-            → IsKeyFile new.items (record { before = self.now.before; tree = tree.now; after = self.now.after })) }
+        ensures again { IfOk result
+            (λ new. (file : List ℕ) → IsKeyFile file self.now → depth (tree_of tree.now)
+            ≤ most_depth → length (spelling_of tree.now) ≤ most_bytes → IsKeyFile new.items
+            (record { before = self.now.before; tree = tree.now; after = self.now.after })) }
 
         // So it stands for the canonical spelling of this key.
-        ensures canon { IfOk result (λ new. (file : List ℕ) → is_canonical file ≡ false → IsKeyFile file self.now
+        ensures canon { IfOk result
+            (λ new. (file : List ℕ) → is_canonical file ≡ false → IsKeyFile file self.now
             → depth (tree_of tree.now) ≤ most_depth → length (spelling_of tree.now) ≤ most_bytes
             → Canon new.items (Some (spelling_of tree.now))) }
     {
@@ -103,7 +108,8 @@ impl KeyLines {
 
     // The file with this text as the value of its key.
     fn with_text(&self, alloc: Global, text: &[u8]) -> Result<Vec<u8>, AllocError>
-        ensures { IfOk result (λ file. file.items ≡ self.now.before ++ codes "Key: " ++ text.now ++ 10 ∷ self.now.after) }
+        ensures { IfOk result (λ file.
+            file.items ≡ self.now.before ++ codes "Key: " ++ text.now ++ 10 ∷ self.now.after) }
     {
         let mut file = Bytes::new(alloc);
         file.extend_from_slice(self.before.as_slice())?;

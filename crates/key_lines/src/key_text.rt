@@ -1,4 +1,4 @@
-ghost use Rattle.std.specs.Prelude.{◌≡◌, ◌⊎◌, ◌+◌, ◌↔◌, ◌≤◌, length, drop, Result, IfOk, IfErr, IsTrue};
+ghost use Rattle.std.specs.Prelude.{◌≡◌, ◌⊎◌, ◌+◌, ◌≤◌, length, drop, Result, IfOk, IfErr};
 ghost use Rattle.std.specs.List.{prefix_len};
 ghost use Rattle.assuan_text.specs.Blanks.{is_blank};
 ghost use Rattle.sexp_canonical.specs.Spelling.{most_bytes, spelling_of};
@@ -10,17 +10,18 @@ ghost use Rattle.sexp_advanced.specs.declared.fault.AdvFault.{AdvFault};
 use crate::fault::LinesFault;
 use assuan_text::is_blank;
 use sexp_advanced::{AdvFault, read_advanced};
-use sexp_canonical::{Bytes, MAX_BYTES, Sexp, append};
-use std::alloc::{AllocError, Global};
+use sexp_canonical::{Sexp, spelled_len};
+use std::alloc::Global;
 
 /// The key that the value of its item is.
 pub(crate) fn key_in(alloc: Global, value: &[u8]) -> Result<Sexp, LinesFault>
     ensures found { IfOk result (IsKeyText value.now) }
-    ensures fault { IfErr result (λ fault. (fault ≡ LinesFault.NoMemory) ⊎ IsKeyFault value.now fault) }
+    ensures fault { IfErr result
+        (λ fault. (fault ≡ LinesFault.NoMemory) ⊎ IsKeyFault value.now fault) }
 {
     match expression_in(alloc, value) {
         Ok(tree) => {
-            if is_within(alloc, &tree)? {
+            if spelled_len(&tree).is_some() {
                 Ok(tree)
             } else {
                 Err(LinesFault::TooLong)
@@ -34,7 +35,8 @@ pub(crate) fn key_in(alloc: Global, value: &[u8]) -> Result<Sexp, LinesFault>
 // The expression that the value is, with blanks around it.
 fn expression_in(alloc: Global, value: &[u8]) -> Result<Sexp, AdvFault>
     ensures found { IfOk result (IsExpression value.now) }
-    ensures fault { IfErr result (λ fault. (fault ≡ AdvFault.NoMemory) ⊎ IsTextFault value.now fault) }
+    ensures fault { IfErr result
+        (λ fault. (fault ≡ AdvFault.NoMemory) ⊎ IsTextFault value.now fault) }
 {
     let (tree, len) = read_advanced(alloc, value)?;
     let behind = &value[len..];
@@ -51,13 +53,4 @@ fn blanks_len(text: &[u8]) -> usize
     ensures within { result ≤ length text.now }
 {
     text.iter().take_while(|byte| is_blank(**byte)).count()
-}
-
-// Whether the canonical spelling is within the limit. It holds the key, so it is overwritten.
-fn is_within(alloc: Global, tree: &Sexp) -> Result<bool, AllocError>
-    ensures { IfOk result (λ within. IsTrue within ↔ (length (spelling_of tree.now) ≤ most_bytes)) }
-{
-    let mut text = Bytes::new(alloc);
-    append(&mut text, tree)?;
-    Ok(text.as_slice().len() <= MAX_BYTES)
 }

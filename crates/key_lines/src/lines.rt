@@ -1,13 +1,17 @@
-ghost use Rattle.std.specs.Prelude.{◌≡◌, ◌==◌, ◌+◌, ◌<◌, ◌≤◌, [], ◌∷◌, ◌++◌, length, MatchOption, min};
+ghost use Rattle.std.specs.Prelude.{◌≡◌, ◌==◌, ◌+◌, ◌<◌, ◌≤◌, [], ◌∷◌, ◌++◌, length, MatchOption};
+ghost use Rattle.std.specs.Prelude.{min};
 ghost use Rattle.std.specs.List.{position_or_len};
 ghost use Rattle.assuan_text.specs.LineEnds.{is_lf};
 ghost use Rattle.key_lines.specs.Lines.{lines_of, without_cr, line_text};
 
 /// The first line, with its end, and what comes after it.
 pub(crate) fn next_line(bytes: &[u8]) -> Option<(&[u8], &[u8])>
-    ensures lines { MatchOption result (lines_of bytes.now ≡ []) (λ parts. lines_of bytes.now ≡ parts.0.now ∷ lines_of parts.1.now) }
-    ensures parts { MatchOption result (bytes.now ≡ []) (λ parts. bytes.now ≡ parts.0.now ++ parts.1.now) }
-    ensures shorter { MatchOption result (bytes.now ≡ []) (λ parts. length parts.1.now < length bytes.now) }
+    ensures lines { MatchOption result (lines_of bytes.now ≡ []) (λ parts.
+        lines_of bytes.now ≡ parts.0.now ∷ lines_of parts.1.now) }
+    ensures parts { MatchOption result
+        (bytes.now ≡ []) (λ parts. bytes.now ≡ parts.0.now ++ parts.1.now) }
+    ensures shorter { MatchOption result
+        (bytes.now ≡ []) (λ parts. length parts.1.now < length bytes.now) }
 {
     if bytes.is_empty() {
         return None;

@@ -13,13 +13,14 @@ use std::time::Duration;
 use std::{fs, io, thread};
 use wiping::wipe;
 
-/// How long a change pauses between two tries for the lock that another program holds, and how often: ten seconds in all.
+/// How long a change pauses between two tries for the lock that another program holds, and how
+/// often: ten seconds in all.
 const LOCK_PAUSE_MILLIS: u64 = 10;
 
 const MAX_LOCK_PAUSES: u32 = 1_000;
 
-/// Reads a regular file of at most so many bytes. Anything else that has this name is a fault. One that takes its name
-/// meanwhile is none: the file that was opened is read.
+/// Reads a regular file of at most so many bytes. Anything else that has this name is a fault. One
+/// that takes its name meanwhile is none: the file that was opened is read.
 pub(crate) fn read_file<R: Files<File = File>>(
     rt: &R,
     alloc: Global,
@@ -41,7 +42,8 @@ fn open_file<R: Files<File = File>>(rt: &R, path: &str) -> Result<File, Fault> {
     }
 }
 
-// A link that leads to nothing is a fault, and not absent. A file that has the name by now wasn't there before.
+// A link that leads to nothing is a fault, and not absent. A file that has the name by now wasn't
+// there before.
 fn missing<R: Files<File = File>>(rt: &R, path: &str, error: io::Error) -> Fault {
     match fs::symlink_metadata(rt, path) {
         Ok(metadata) if metadata.is_symlink() => Fault::Failed,
@@ -49,14 +51,16 @@ fn missing<R: Files<File = File>>(rt: &R, path: &str, error: io::Error) -> Fault
     }
 }
 
-// All of an open file, with one allocation. It is a fault where it is no regular file, is too long, or where its length changes meanwhile.
+// All of an open file, with one allocation. It is a fault where it is no regular file, is too long,
+// or where its length changes meanwhile.
 fn read_open<F: Read + OpenFile>(
     file: &mut F,
     alloc: Global,
     max_len: usize,
 ) -> Result<Vec<u8>, Fault>
     ensures fits { IfOk result (λ bytes. length bytes.items ≤ max_len) }
-    ensures whole { IfOk result (λ bytes. Consumes (F.remaining file.old) (F.remaining file.new) bytes.items) }
+    ensures whole { IfOk result
+        (λ bytes. Consumes (F.remaining file.old) (F.remaining file.new) bytes.items) }
     ensures ended { IfOk result (λ bytes. IsAtEnd (F.remaining file.new)) }
 {
     let len = file_len(file, max_len)?;
@@ -79,10 +83,11 @@ fn file_len<F: OpenFile>(file: &F, max_len: usize) -> Result<usize, Fault>
     }
 }
 
-/// Whether a reader has exactly as many bytes left as the buffer has room for, which then holds them. At most one byte more is
-/// read.
+/// Whether a reader has exactly as many bytes left as the buffer has room for, which then holds
+/// them. At most one byte more is read.
 fn is_whole<R: Read>(reader: &mut R, buf: &mut [u8]) -> bool
-    ensures { IsTrue result → Consumes (R.remaining reader.old) (R.remaining reader.new) buf.new × IsAtEnd (R.remaining reader.new) }
+    ensures { IsTrue result → Consumes (R.remaining reader.old) (R.remaining reader.new) buf.new
+        × IsAtEnd (R.remaining reader.new) }
 {
     if reader.read_exact(buf).is_err() {
         return false;
@@ -90,8 +95,9 @@ fn is_whole<R: Read>(reader: &mut R, buf: &mut [u8]) -> bool
     matches!(reader.read(&mut [0]), Ok(0))
 }
 
-/// Makes these bytes the file at the path, as a whole, under the folder's lock: they are written and synced under the other name in that
-/// folder, which is then renamed. Where it fails the file is as it was.
+/// Makes these bytes the file at the path, as a whole, under the folder's lock: they are written
+/// and synced under the other name in that folder, which is then renamed. Where it fails the file
+/// is as it was.
 pub(crate) fn replace_file<R: Files<File = File> + Clock>(
     rt: &R,
     folder: &str,
@@ -111,8 +117,9 @@ pub(crate) fn replace_file<R: Files<File = File> + Clock>(
     Ok(())
 }
 
-/// The folder, locked until it is dropped: changes in it come one after another, whichever program makes them by this crate.
-/// It is a fault where another program still holds the lock after ten seconds.
+/// The folder, locked until it is dropped: changes in it come one after another, whichever program
+/// makes them by this crate. It is a fault where another program still holds the lock after ten
+/// seconds.
 pub(crate) fn lock_folder<R: Files<File = File> + Clock>(rt: &R, folder: &str) -> io::Result<File> {
     let folder = File::open(rt, folder)?;
     let mut locked = folder.try_lock();

@@ -15,8 +15,8 @@ use std::os::unix::fs::DirBuilderExt;
 use std::rt::{Clock, Files};
 use std::{fs, io};
 
-/// The keys of a home directory. Changes hold the lock of the keys' folder, and fail where another program holds it for ten seconds;
-/// a read needs none.
+/// The keys of a home directory. Changes hold the lock of the keys' folder, and fail where another
+/// program holds it for ten seconds; a read needs none.
 #[derive(Drop)]
 pub struct FolderKeys<'a, R> {
     rt: &'a R,
@@ -25,9 +25,11 @@ pub struct FolderKeys<'a, R> {
 }
 
 impl<'a, R: Files<File = File> + Clock> FolderKeys<'a, R> {
-    /// The keys under a home directory. Their folder is made by the first `replace`, and the home directory must be there by then.
+    /// The keys under a home directory. Their folder is made by the first `replace`, and the home
+    /// directory must be there by then.
     pub fn new(rt: &'a R, alloc: Global, homedir: &str) -> Result<Self, AllocError>
-        ensures { IfOk result (λ keys. ⟦<FolderKeys<'a, R> as Keys>⟧.keys keys ≡ record { files = None; faults = 0 }) }
+        ensures { IfOk result (λ keys. ⟦<FolderKeys<'a, R> as Keys>⟧.keys keys
+            ≡ record { files = None; faults = 0 }) }
     {
         Ok(FolderKeys {
             rt,

@@ -1,6 +1,7 @@
 //! The names of the files.
 
-ghost use Rattle.std.specs.Prelude.{◌≡◌, ◌++◌, ℕ, List, codes, string_bytes, length, IsSome, IfSome, IfOk};
+ghost use Rattle.std.specs.Prelude.{◌≡◌, ◌++◌, ℕ, List, codes, string_bytes, length, IsSome};
+ghost use Rattle.std.specs.Prelude.{IfSome, IfOk};
 ghost use Rattle.std.specs.List.{AllPass};
 ghost use Rattle.hex.specs.Hex.{decode_of, encode_upper, is_hex_digit};
 
@@ -21,8 +22,10 @@ pub(crate) const NEW_TRUST_NAME: &str = "trustlist.txt.new";
 
 /// The grip of a key's file: 40 hexadecimal digits of either case, and the ending.
 pub(crate) fn grip_of_name(name: &str) -> Option<Grip>
-    ensures value { IfSome result (λ grip. (digits : List ℕ) × (name.now ≡ digits ++ codes ".key") × (decode_of digits ≡ Ok grip.0)) }
-    ensures found { (digits : List ℕ) → name.now ≡ digits ++ codes ".key" → length digits ≡ 40 → AllPass is_hex_digit digits → IsSome result }
+    ensures value { IfSome result (λ grip. (digits : List ℕ) × (name.now ≡ digits ++ codes ".key")
+        × (decode_of digits ≡ Ok grip.0)) }
+    ensures found { (digits : List ℕ) → name.now ≡ digits ++ codes ".key" → length digits ≡ 40
+        → AllPass is_hex_digit digits → IsSome result }
 {
     let digits = name.strip_suffix(KEY_ENDING)?;
     Grip::of_hex(digits.as_bytes())
@@ -52,7 +55,8 @@ pub(crate) fn key_path(
     grip: &Grip,
     ending: &str,
 ) -> Result<String, AllocError>
-    ensures { IfOk result (λ path. string_bytes path ≡ folder.now ++ codes "/" ++ encode_upper grip.now.0 ++ ending.now) }
+    ensures { IfOk result (λ path.
+        string_bytes path ≡ folder.now ++ codes "/" ++ encode_upper grip.now.0 ++ ending.now) }
 {
     let digits = hex::encode_upper(alloc, &grip.0)?;
     let mut path = path_in(alloc, folder, digits.as_str())?;

@@ -10,8 +10,9 @@ use std::fs::File;
 use std::rt::{Clock, Files};
 use trust_list::MAX_TRUST_FILE_LEN;
 
-/// The trust list of a home directory. A change holds the lock of the directory, and fails where another program holds it for ten
-/// seconds; a read needs none. A file of more than `MAX_TRUST_FILE_LEN` bytes is a fault, read or written.
+/// The trust list of a home directory. A change holds the lock of the directory, and fails where
+/// another program holds it for ten seconds; a read needs none. A file of more than
+/// `MAX_TRUST_FILE_LEN` bytes is a fault, read or written.
 #[derive(Drop)]
 pub struct FolderTrust<'a, R> {
     rt: &'a R,
@@ -22,7 +23,8 @@ pub struct FolderTrust<'a, R> {
 impl<'a, R: Files<File = File> + Clock> FolderTrust<'a, R> {
     /// The trust list of a home directory, which must be there by the first `replace`.
     pub fn new(rt: &'a R, alloc: Global, homedir: &str) -> Result<Self, AllocError>
-        ensures { IfOk result (λ trust. ⟦<FolderTrust<'a, R> as TrustFile>⟧.trust trust ≡ record { file = None; faults = 0 }) }
+        ensures { IfOk result (λ trust. ⟦<FolderTrust<'a, R> as TrustFile>⟧.trust trust
+            ≡ record { file = None; faults = 0 }) }
     {
         Ok(FolderTrust {
             rt,
@@ -59,8 +61,10 @@ impl<'a, R: Files<File = File> + Clock> TrustFile for FolderTrust<'a, R> {
     ghost trust = { λ t. record { file = None; faults = t.faults } };
 
     fn read(&mut self, alloc: Global) -> TrustRead
-        ensures reads { ReadsTrust (⟦<FolderTrust<'a, R> as TrustFile>⟧.trust self.old) result (⟦<FolderTrust<'a, R> as TrustFile>⟧.trust self.new) }
-        ensures small { (file : _) → result ≡ TrustRead.Found file → length file.items ≤ MAX_TRUST_FILE_LEN }
+        ensures reads { ReadsTrust (⟦<FolderTrust<'a, R> as TrustFile>⟧.trust self.old) result
+            (⟦<FolderTrust<'a, R> as TrustFile>⟧.trust self.new) }
+        ensures small { (file : _) → result ≡ TrustRead.Found file
+            → length file.items ≤ MAX_TRUST_FILE_LEN }
     {
         match self.read_list(alloc) {
             Ok(file) => TrustRead::Found(file),
@@ -74,7 +78,8 @@ impl<'a, R: Files<File = File> + Clock> TrustFile for FolderTrust<'a, R> {
     }
 
     fn replace(&mut self, alloc: Global, file: &[u8]) -> TrustDone
-        ensures replaces { ReplacesTrust (⟦<FolderTrust<'a, R> as TrustFile>⟧.trust self.old) file.now result (⟦<FolderTrust<'a, R> as TrustFile>⟧.trust self.new) }
+        ensures replaces { ReplacesTrust (⟦<FolderTrust<'a, R> as TrustFile>⟧.trust self.old)
+            file.now result (⟦<FolderTrust<'a, R> as TrustFile>⟧.trust self.new) }
         ensures within { result ≡ TrustDone.Done → length file.now ≤ MAX_TRUST_FILE_LEN }
     {
         match self.replace_list(alloc, file) {

@@ -6,7 +6,8 @@ use sexp_canonical::{read, write};
 use std::alloc::Global;
 use std::test::*;
 
-// A text, and what it gives: the canonical form of its expression and how many of its bytes were read, or a fault.
+// A text, and what it gives: the canonical form of its expression and how many of its bytes were
+// read, or a fault.
 #[derive(Clone, Copy)]
 struct Row<'a> {
     text: &'a [u8],

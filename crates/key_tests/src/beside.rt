@@ -172,8 +172,9 @@ fn a_file_that_takes_the_name_before_it_is_opened_is_read(rt: HostRuntime) -> Re
     Ok(())
 }
 
-// What changes of a key and of the trust list come to, and how long they slept, where another program holds the locks of their folders for so
-// many milliseconds; and what the key's file is then.
+// What changes of a key and of the trust list come to, and how long they slept, where another
+// program holds the locks of their folders for so many milliseconds; and what the key's file is
+// then.
 fn changed_under_locks(rt: &HostRuntime, held: u64) -> Result<String, Fail> {
     let alloc = rt.alloc();
     make_home(rt, "locked")?;
@@ -195,7 +196,8 @@ fn changed_under_locks(rt: &HostRuntime, held: u64) -> Result<String, Fail> {
 
 const FOLDER: &str = "locked/private-keys-v1.d";
 
-// A change of a key, a look whether it is there, or a change of the trust list, and what it comes to.
+// A change of a key, a look whether it is there, or a change of the trust list, and what it comes
+// to.
 fn change_of<R: Files<File = File> + Clock>(
     rt: &R,
     alloc: Global,
@@ -248,12 +250,14 @@ fn a_folder_that_cant_be_read_to_its_end_is_a_fault(rt: HostRuntime) -> Result<(
     Ok(())
 }
 
-/// How often one thread replaces a key's file by two others, and how often at most another reads it meanwhile.
+/// How often one thread replaces a key's file by two others, and how often at most another reads it
+/// meanwhile.
 const ROUNDS: u32 = 100;
 
 const MAX_READS: u32 = 1_000_000;
 
-// Whether each change in a number of rounds was made: two files of other lengths, and where asked for, that there is none.
+// Whether each change in a number of rounds was made: two files of other lengths, and where asked
+// for, that there is none.
 fn changes<K: Keys>(alloc: Global, keys: &mut K, removes: bool) -> bool {
     let mut all_done = true;
     for _ in 0..ROUNDS {

@@ -5,8 +5,8 @@ use secret_file::{
 use sexp_keys::KeyFault;
 use std::test::*;
 
-// What `openssl enc -aes-128-cbc -nopad` makes of `(((1:d1:D))(4:hash4:sha120:..))` and 15 bytes more, under the key of the
-// passphrase `abc`.
+// What `openssl enc -aes-128-cbc -nopad` makes of `(((1:d1:D))(4:hash4:sha120:..))` and 15 bytes
+// more, under the key of the passphrase `abc`.
 const OCTETS: [u8; 64] = [
     0x67, 0x5D, 0xC7, 0xBD, 0x98, 0x72, 0x9C, 0x43, 0x5A, 0x62, 0xA1, 0xB9, 0x32, 0x69, 0xE0, 0xE9,
     0xA0, 0x34, 0x4F, 0x98, 0xE6, 0xE1, 0xA0, 0x24, 0x6D, 0x78, 0x83, 0xB3, 0x96, 0x63, 0x47, 0xA5,
@@ -30,7 +30,8 @@ const OTHER_NAME: [u8; 64] = [
     0xB4, 0xB2, 0x36, 0x62, 0x59, 0x00, 0xF4, 0x75, 0x72, 0xB7, 0x87, 0x12, 0xFD, 0x6C, 0xBE, 0x83,
 ];
 
-// The same of a parameter of 15 bytes, whose list fills its last block, and a block more, as GnuPG 2.2.40 writes it.
+// The same of a parameter of 15 bytes, whose list fills its last block, and a block more, as GnuPG
+// 2.2.40 writes it.
 const PADDING_16: [u8; 80] = [
     0x5F, 0x78, 0xD5, 0xA6, 0x67, 0x9E, 0x56, 0x6C, 0x30, 0x09, 0xE1, 0x63, 0x16, 0xDE, 0xF7, 0x95,
     0x2A, 0xDC, 0xB5, 0x2E, 0xE8, 0x7E, 0xEF, 0x6C, 0x81, 0x72, 0x89, 0x6C, 0x93, 0xDA, 0xA1, 0x03,
@@ -48,7 +49,8 @@ const PADDING_17: [u8; 80] = [
     0xB0, 0xB9, 0x25, 0x0E, 0x8C, 0xE4, 0x19, 0x0B, 0xAB, 0xB4, 0x75, 0x67, 0xAC, 0x4B, 0xD9, 0x81,
 ];
 
-// What Python's `cryptography` makes of `((1:d1:D))` by OCB under the same key and the associated data of the key, with its tag.
+// What Python's `cryptography` makes of `((1:d1:D))` by OCB under the same key and the associated
+// data of the key, with its tag.
 const SEALED: [u8; 28] = [
     0xEC, 0x48, 0xE8, 0xBF, 0x9B, 0x43, 0x08, 0x48, 0x0C, 0xFC, 0xD9, 0x0C, 0x37, 0xFB, 0xB4, 0x47,
     0xCE, 0x3F, 0x15, 0x3A, 0x55, 0x22, 0x19, 0x9B, 0xE0, 0x94, 0xB8, 0xAF,
@@ -72,8 +74,8 @@ const SEALED_LONGER: [u8; 29] = [
     0x9A, 0x54, 0xDB, 0x66, 0x4D, 0x03, 0x62, 0xA9, 0x41, 0xFC, 0x50, 0x67, 0x32,
 ];
 
-// What gpg-agent 2.2.40 wrote for a new key with the passphrase `abc`, as canonical expression, and what gpg-protect-tool
-// makes of it.
+// What gpg-agent 2.2.40 wrote for a new key with the passphrase `abc`, as canonical expression, and
+// what gpg-protect-tool makes of it.
 const GNUPG_FILE: [u8; 284] = [
     0x28, 0x32, 0x31, 0x3A, 0x70, 0x72, 0x6F, 0x74, 0x65, 0x63, 0x74, 0x65, 0x64, 0x2D, 0x70, 0x72,
     0x69, 0x76, 0x61, 0x74, 0x65, 0x2D, 0x6B, 0x65, 0x79, 0x28, 0x33, 0x3A, 0x65, 0x63, 0x63, 0x28,
@@ -191,7 +193,8 @@ fn answers(rt: &HostRuntime, file: &[u8], pass: &[u8], want: &str) -> bool {
     name_of(&answer) == want && by_three_calls(rt, file, pass) == want
 }
 
-// The name and the derivation, the octets, the time and the passphrase of a file, and what is answered for it.
+// The name and the derivation, the octets, the time and the passphrase of a file, and what is
+// answered for it.
 type Row = (
     &'static [u8],
     &'static [u8],
@@ -336,7 +339,8 @@ fn first_faults_of_other_files(rt: HostRuntime) -> Result<(), Fail> {
     Ok(())
 }
 
-// The first length to which a file is cut, and the first place at which a byte is changed, where it is answered otherwise.
+// The first length to which a file is cut, and the first place at which a byte is changed, where it
+// is answered otherwise.
 fn first_read(rt: &HostRuntime, file: &[u8]) -> Result<(Option<usize>, Option<usize>), Fail> {
     let mut cut = None;
     let mut changed = None;
@@ -444,7 +448,8 @@ fn a_protected_file_with_one_byte_more_is_no_expression(rt: HostRuntime) -> Resu
     Ok(())
 }
 
-// The key of a file by its passphrase `abc`, protected anew by another; no bytes where the file doesn't open.
+// The key of a file by its passphrase `abc`, protected anew by another; no bytes where the file
+// doesn't open.
 fn written_anew(rt: &HostRuntime, file: &[u8], pass: &[u8]) -> Result<Vec<u8>, Fail> {
     let Unlocked::Key(key) = unprotect(rt.alloc(), file, b"abc") else {
         return Ok(Vec::new(rt.alloc()));

@@ -1,4 +1,5 @@
-//! Tests of key files and what opens them: outside vectors of the cipher and its modes, expressions, lists of a key, and whole files.
+//! Tests of key files and what opens them: outside vectors of the cipher and its modes,
+//! expressions, lists of a key, whole files, and the trust list.
 //!
 //! They stand in a crate of their own since a crate with tests is proved twice.
 #![tactic(auto)]
@@ -25,5 +26,7 @@ mod lists;
 mod modes;
 #[cfg(test)]
 mod trust;
+#[cfg(test)]
+mod trust_entries;
 #[cfg(test)]
 mod wrapping;

@@ -42,8 +42,9 @@ fn no_bytes(rt: HostRuntime) {
     assert!(rt; bytes.is_empty());
 }
 
-// RFC 7253, A, and from the row 0x10 on as OpenSSL 3 has it: the nonce's last byte, how many bytes of associated data, and the
-// ciphertext with its tag. The key, the data and the plaintext are bytes that count from 0.
+// RFC 7253, A, and from the row 0x10 on as OpenSSL 3 has it: the nonce's last byte, how many bytes
+// of associated data, and the ciphertext with its tag. The key, the data and the plaintext are
+// bytes that count from 0.
 const SEALED: [(u8, usize, &[u8]); 20] = [
     (
         0x00,

@@ -1,13 +1,16 @@
 //! The key wrap of RFC 3394 with AES-128 and the default initial value.
 //!
-//! Begin with [`wrap`] and [`unwrap`]. Each is exactly the standard's, what was wrapped comes back ([`unwrapping_undoes_wrapping`]), and a
-//! wrong length and a wrong check are told apart ([`WrapFault`]). The definitions stand in `specs/KeyWrap`.
+//! Begin with [`wrap`] and [`unwrap`]. Each is exactly the standard's, what was wrapped comes back
+//! ([`unwrapping_undoes_wrapping`]), and a wrong length and a wrong check are told apart
+//! ([`WrapFault`]). The definitions stand in `specs/KeyWrap`.
 #![tactic(auto)]
 
-ghost use Rattle.std.specs.Prelude.{◌≡◌, ◌≢◌, ◌⊎◌, ℕ, ◌+◌, ◌*◌, ◌/◌, ◌-◌, ◌%◌, ◌≤◌, ◌↔◌, List, true, false, length, IfOk, MatchResult, IsTrue};
+ghost use Rattle.std.specs.Prelude.{◌≡◌, ◌≢◌, ◌⊎◌, ℕ, ◌+◌, ◌*◌, ◌/◌, ◌-◌, ◌%◌, ◌≤◌, ◌↔◌, List};
+ghost use Rattle.std.specs.Prelude.{true, false, length, IfOk, MatchResult, IsTrue};
 ghost use Rattle.std.specs.List.{concat};
 ghost use Rattle.aes_block.specs.Aes.{IsBytes};
-ghost use Rattle.key_wrap.specs.KeyWrap.{Registers, initial_value, wrapped_of, unwrapped_of, is_wrapped_length};
+ghost use Rattle.key_wrap.specs.KeyWrap.{Registers, initial_value, wrapped_of, unwrapped_of};
+ghost use Rattle.key_wrap.specs.KeyWrap.{is_wrapped_length};
 ghost use Rattle.key_wrap.specs.declared.WrapFault.TheVariants.{NoMemory};
 
 use aes_block::Aes128;
@@ -29,6 +32,7 @@ pub enum WrapFault {
     Length,
     /// The bytes were not wrapped under this key, or were changed since.
     Check,
+    /// There was no memory for the unwrapped bytes.
     NoMemory,
 }
 
@@ -68,25 +72,29 @@ pub fn wrap(alloc: Global, key: &[u8; 16], bytes: &[u8]) -> Result<Vec<u8>, Allo
     joined_registers(alloc, &check, &blocks)
 }
 
-/// Unwraps what `wrap` made under the same key (RFC 3394, 2.2.2). What is found where the check fails is overwritten; the
-/// bytes that are given are the caller's to overwrite.
+/// Unwraps what `wrap` made under the same key (RFC 3394, 2.2.2). What is found where the check
+/// fails is overwritten; the bytes that are given are the caller's to overwrite.
 pub fn unwrap(alloc: Global, key: &[u8; 16], bytes: &[u8]) -> Result<Vec<u8>, WrapFault>
-    ensures unwrapped { IfOk result (λ plain. plain.items ≡ concat (unwrapped_of key.now bytes.now).blocks) }
+    ensures unwrapped { IfOk result
+        (λ plain. plain.items ≡ concat (unwrapped_of key.now bytes.now).blocks) }
     ensures shorter { IfOk result (λ plain. length plain.items + 8 ≡ length bytes.now) }
 
     // Each answer but `NoMemory`, which may come in place of `Ok` and `Check`, has its cause.
     ensures ok { IfOk result (λ _. IsTrue (is_wrapped_length (length bytes.now))
         × ((unwrapped_of key.now bytes.now).check ≡ initial_value)) }
-    ensures length { (result ≡ Err WrapFault.Length) ↔ (is_wrapped_length (length bytes.now) ≡ false) }
+    ensures length { (result ≡ Err WrapFault.Length)
+        ↔ (is_wrapped_length (length bytes.now) ≡ false) }
     ensures check { result ≡ Err WrapFault.Check → IsTrue (is_wrapped_length (length bytes.now))
         × ((unwrapped_of key.now bytes.now).check ≢ initial_value) }
-    ensures refused { IsTrue (is_wrapped_length (length bytes.now)) → (unwrapped_of key.now bytes.now).check ≢ initial_value
+    ensures refused { IsTrue (is_wrapped_length (length bytes.now))
+        → (unwrapped_of key.now bytes.now).check ≢ initial_value
         → (result ≡ Err WrapFault.Check) ⊎ (result ≡ Err WrapFault.NoMemory) }
 
     // It undoes the wrapping of all bytes under this key.
     ensures undoes { (plain : List ℕ) → IsBytes (length plain) plain → length plain % 8 ≡ 0
         → 16 ≤ length plain → length plain ≤ 65536 → bytes.now ≡ wrapped_of key.now plain
-        → MatchResult result (λ unwrapped. unwrapped.items ≡ plain) (λ fault. fault ≡ WrapFault.NoMemory) }
+        → MatchResult result
+        (λ unwrapped. unwrapped.items ≡ plain) (λ fault. fault ≡ WrapFault.NoMemory) }
 {
     if !is_wrapped_len(bytes.len()) {
         return Err(WrapFault::Length);
@@ -118,9 +126,10 @@ impl Drop for Unwrapped {
 fn unwrapped_registers(alloc: Global, key: &[u8; 16], bytes: &[u8]) -> Result<Unwrapped, AllocError>
     requires least { 8 ≤ length bytes.now }
     requires most { length bytes.now ≤ 65544 }
-    ensures registers { IfOk result (λ registers.
-        unwrapped_of key.now bytes.now ≡ record { check = registers.check; blocks = registers.blocks.items }) }
-    ensures count { IfOk result (λ registers. length registers.blocks.items ≡ length bytes.now / 8 - 1) }
+    ensures registers { IfOk result (λ registers. unwrapped_of key.now bytes.now
+        ≡ record { check = registers.check; blocks = registers.blocks.items }) }
+    ensures count { IfOk result
+        (λ registers. length registers.blocks.items ≡ length bytes.now / 8 - 1) }
 {
     let (blocks, _) = bytes.as_chunks::<8>();
     let first = blocks[0];

@@ -2,7 +2,8 @@
 
 ghost use Rattle.std.specs.Prelude.{◌≡◌, ◌+◌, ◌*◌, ◌^◌, ◌<◌, ◌≤◌, ◌++◌, length, take, drop, IfOk};
 ghost use Rattle.std.specs.List.{concat};
-ghost use Rattle.key_wrap.specs.KeyWrap.{Registers, initial_value, wrap_pass, unwrap_pass, wrap_passes, unwrap_passes};
+ghost use Rattle.key_wrap.specs.KeyWrap.{Registers, initial_value, wrap_pass, unwrap_pass};
+ghost use Rattle.key_wrap.specs.KeyWrap.{wrap_passes, unwrap_passes};
 
 use aes_block::{Aes128, xor};
 use std::alloc::{AllocError, Global};
@@ -14,7 +15,8 @@ pub(crate) const INITIAL_VALUE: [u8; 8] = [0xA6; 8];
 pub(crate) fn wrap_passes(cipher: &Aes128, blocks: &mut [[u8; 8]]) -> [u8; 8]
     requires { length blocks.old ≤ 8192 }
     ensures { let before : Registers = record { check = initial_value; blocks = blocks.old } in
-        record { check = result; blocks = blocks.new } ≡ wrap_passes cipher.now (length blocks.old) 6 before }
+        record { check = result; blocks = blocks.new } ≡ wrap_passes cipher.now
+        (length blocks.old) 6 before }
 {
     let mut check = INITIAL_VALUE;
     for pass in 0..6 {
@@ -29,7 +31,8 @@ pub(crate) fn wrap_passes(cipher: &Aes128, blocks: &mut [[u8; 8]]) -> [u8; 8]
 pub(crate) fn unwrap_passes(cipher: &Aes128, first: [u8; 8], blocks: &mut [[u8; 8]]) -> [u8; 8]
     requires { length blocks.old ≤ 8192 }
     ensures { let before : Registers = record { check = first; blocks = blocks.old } in
-        record { check = result; blocks = blocks.new } ≡ unwrap_passes cipher.now (length blocks.old) 6 before }
+        record { check = result; blocks = blocks.new } ≡ unwrap_passes cipher.now
+        (length blocks.old) 6 before }
 {
     let mut check = first;
     for pass in (0..6).rev() {
@@ -47,7 +50,8 @@ fn wrap_pass(
     blocks: &mut [[u8; 8]],
 ) -> [u8; 8]
     requires { first_step + length blocks.old < 2 ^ 64 }
-    ensures { record { check = result; blocks = blocks.new } ≡ wrap_pass cipher.now check first_step blocks.old }
+    ensures { record { check = result; blocks = blocks.new }
+        ≡ wrap_pass cipher.now check first_step blocks.old }
 {
     for (i, block) in blocks.iter_mut().enumerate() {
         let both = cipher.encrypt(&joined(&check, block));
@@ -65,7 +69,8 @@ fn unwrap_pass(
     blocks: &mut [[u8; 8]],
 ) -> [u8; 8]
     requires { first_step + length blocks.old < 2 ^ 64 }
-    ensures { record { check = result; blocks = blocks.new } ≡ unwrap_pass cipher.now check first_step blocks.old }
+    ensures { record { check = result; blocks = blocks.new }
+        ≡ unwrap_pass cipher.now check first_step blocks.old }
 {
     for i in (0..blocks.len()).rev() {
         let step = xor(&check, &(first_step + i as u64).to_be_bytes());
@@ -106,7 +111,8 @@ pub(crate) fn joined_registers(
     requires few { length blocks.now ≤ 8192 }
     requires short { length front.now ≤ 8 }
     ensures items { IfOk result (λ bytes. bytes.items ≡ front.now ++ concat blocks.now) }
-    ensures len { IfOk result (λ bytes. length bytes.items ≡ length front.now + 8 * length blocks.now) }
+    ensures len { IfOk result
+        (λ bytes. length bytes.items ≡ length front.now + 8 * length blocks.now) }
 {
     let registers = blocks.as_flattened();
     // The whole length at once: a vector that grows would leave bytes behind where it was.

@@ -56,7 +56,8 @@ fn said(alloc: Global, answer: &Answer) -> Result<String, Fail> {
     })
 }
 
-/// The next call after an answer: `QUALITY` is replied to, and any other inquiry cancelled. `None` where nothing may be said.
+/// The next call after an answer: `QUALITY` is replied to, and any other inquiry cancelled. `None`
+/// where nothing may be said.
 fn next_answer(peer: &mut Peer<MemLink>, answer: &Answer, line: &Line) -> Option<Answer>
     requires { peer.old.state ≡ state_after answer.now }
     ensures { (next : Answer) → result ≡ Some next → peer.new.state ≡ state_after next }
@@ -71,7 +72,8 @@ fn next_answer(peer: &mut Peer<MemLink>, answer: &Answer, line: &Line) -> Option
     }
 }
 
-/// What a child says to a greeting and then to `GETPIN` again and again, up to what breaks it, and what it was written.
+/// What a child says to a greeting and then to `GETPIN` again and again, up to what breaks it, and
+/// what it was written.
 fn talk(alloc: Global, link: MemLink, budget: u64) -> Result<(String, MemLink), Fail> {
     let line = Line::of(b"GETPIN").ok_or("a line")?;
     let mut peer = Peer::new(alloc, link, budget);

@@ -1,4 +1,5 @@
-//! Tests of what stands lowest: the outside in memory, lines in any pieces, both sides of the protocol, and the scripted child.
+//! Tests of what stands lowest: the outside in memory, lines in any pieces, both sides of the
+//! protocol, and the scripted child.
 //!
 //! They stand in a crate of their own since a crate with tests is proved twice.
 #![tactic(auto)]
@@ -19,5 +20,3 @@ mod script;
 mod server;
 #[cfg(test)]
 mod texts;
-#[cfg(test)]
-mod trust;

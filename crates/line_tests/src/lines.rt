@@ -171,7 +171,8 @@ fn given<S: Source>(
 #[test]
 fn a_session_comes_whole_and_with_a_ring_in_few_reads(rt: HostRuntime) -> Result<(), Fail> {
     let alloc = rt.alloc();
-    // Whether there is a ring, the most bytes that a read gives, and how many reads there are at least and at most.
+    // Whether there is a ring, the most bytes that a read gives, and how many reads there are at
+    // least and at most.
     for (ring, piece, least, most) in [
         (true, 1usize, 201u64, 400u64),
         (true, 7, 20, 60),

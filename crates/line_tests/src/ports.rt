@@ -122,7 +122,8 @@ fn grips_are_read_and_written_as_digits(rt: HostRuntime) -> Result<(), Fail> {
     Ok(())
 }
 
-/// What the children of so many launches give in two reads each, and what becomes of `text` written to them.
+/// What the children of so many launches give in two reads each, and what becomes of `text` written
+/// to them.
 fn run_children<L: Launcher>(
     alloc: Global,
     launcher: &mut L,
@@ -236,7 +237,8 @@ fn grip(byte: u8) -> Grip {
     Grip([byte; 20])
 }
 
-/// What the calls on keys give, one after another: the files of the grips of 1 and of 2, the grips, and what became of the changes.
+/// What the calls on keys give, one after another: the files of the grips of 1 and of 2, the grips,
+/// and what became of the changes.
 fn use_keys<K: Keys>(alloc: Global, keys: &mut K) -> Result<Vec<String>, AllocError> {
     let mut all = Vec::new(alloc);
     all.push(format!(in alloc; "{:?}", keys.replace(alloc, &grip(2), b"two"))?)?;
@@ -293,7 +295,8 @@ fn key_files_are_replaced_read_listed_and_removed(rt: HostRuntime) -> Result<(),
     Ok(())
 }
 
-/// What a listener's next link gives in one read, or why there is none. Each link is written `text`.
+/// What a listener's next link gives in one read, or why there is none. Each link is written
+/// `text`.
 fn hear<L: Listener>(
     alloc: Global,
     listener: &L,
@@ -312,7 +315,8 @@ fn hear<L: Listener>(
     }
 }
 
-/// What so many calls of a listener give, which is stopped before the call of the number `stop`, and whether the ear failed.
+/// What so many calls of a listener give, which is stopped before the call of the number `stop`,
+/// and whether the ear failed.
 fn hear_all<L: Listener>(
     alloc: Global,
     listener: &L,
@@ -352,8 +356,9 @@ fn listed(
     Ok(Mutex::new(ListedLinks::new(alloc, links, failing)?))
 }
 
-/// What four calls at a listener of two links give, where it is stopped before one of them and one is to fail; then what the links that
-/// ended were written, whether the ear failed, and how many links are left.
+/// What four calls at a listener of two links give, where it is stopped before one of them and one
+/// is to fail; then what the links that ended were written, whether the ear failed, and how many
+/// links are left.
 fn heard<W: Wait>(rt: &W, alloc: Global, stop: usize, failing: u64) -> Result<String, AllocError> {
     let links = listed(alloc, &["abc", "d"], vec![in alloc; failing]?)?;
     let (all, failed) = hear_all(alloc, &ListListener::new(rt, &links), 4, stop)?;
@@ -435,7 +440,8 @@ const FIRST: SessionId = SessionId { pass: 1, count: 0 };
 
 const SECOND: SessionId = SessionId { pass: 1, count: 1 };
 
-/// The sessions that end without a prompt, and how many prompts come behind them; what a gate tells, and what one for later sessions does.
+/// The sessions that end without a prompt, and how many prompts come behind them; what a gate
+/// tells, and what one for later sessions does.
 const GATES: [(&[SessionId], usize, (bool, u64, bool), (bool, u64, bool)); 5] = [
     (&[], 1, (true, 0, true), (true, 0, true)),
     (&[FIRST], 1, (true, 1, false), (true, 1, true)),
@@ -529,7 +535,8 @@ fn a_host_hands_out_its_parts_and_takes_them_back(rt: HostRuntime) -> Result<(),
     Ok(())
 }
 
-/// The first byte that the dice of the next session's parts give, if any, and what the next trust file is.
+/// The first byte that the dice of the next session's parts give, if any, and what the next trust
+/// file is.
 fn next_session<H: Host>(alloc: Global, host: &H) -> Result<String, AllocError>
 where
     H::Launcher: Drop,
@@ -545,7 +552,8 @@ where
     format!(in alloc; "{filled} {buf:?} {:?}", trust.read(alloc))
 }
 
-/// What the listeners of a daemon give in one call each, if there are any. The faults of the ears go back to the host.
+/// What the listeners of a daemon give in one call each, if there are any. The faults of the ears
+/// go back to the host.
 fn listen_once<H: Host>(alloc: Global, host: &mut H) -> Result<Vec<String>, AllocError>
 where
     H::Listener: Drop,
@@ -569,7 +577,8 @@ where
     Ok(all)
 }
 
-/// A machine whose daemon listens for these links, where the third call for a listener fails, and has what one session needs.
+/// A machine whose daemon listens for these links, where the third call for a listener fails, and
+/// has what one session needs.
 fn daemon_host<'l, W: Wait>(
     rt: &'l W,
     alloc: Global,
@@ -613,7 +622,8 @@ fn a_host_has_what_a_daemon_needs(rt: HostRuntime) -> Result<(), Fail> {
     let extra = listed(alloc, &[], Vec::new(alloc))?;
     let mut host = daemon_host(&rt, alloc, &links, &extra)?;
     let got = run_daemon(alloc, &mut host)?;
-    // The extra listener has no link. An ear that came back with a fault counts, and so does the third call for a listener, which is to fail.
+    // The extra listener has no link. An ear that came back with a fault counts, and so does the
+    // third call for a listener, which is to fail.
     let want = [
         "[47, 104, 111, 109, 101]",
         "true [7] Found([65, 66])",

@@ -36,7 +36,8 @@ type Failing = (usize, &'static [u64]);
 
 const NEVER: Failing = (0, &[]);
 
-/// What is said, which writes fail, what is written, and what of it went. In a text `{part*3}` stands for three times that part.
+/// What is said, which writes fail, what is written, and what of it went. In a text `{part*3}`
+/// stands for three times that part.
 type Saying = (&'static [Said], Failing, &'static str, &'static str);
 
 /// Every line that is used, and writes that fail.
@@ -190,7 +191,7 @@ const ASKINGS: [Asking; 37] = [
 ];
 
 /// A text with its repeated parts.
-pub(crate) fn text_of(alloc: Global, text: &str) -> Result<String, AllocError> {
+fn text_of(alloc: Global, text: &str) -> Result<String, AllocError> {
     let mut all = String::new(alloc);
     for part in text.split('{') {
         let (repeated, plain) = part.split_once('}').unwrap_or(("", part));

@@ -33,7 +33,8 @@ fn lines_are_cut_into_words(rt: HostRuntime) -> Result<(), Fail> {
     Ok(())
 }
 
-/// A line, whether it is ignored as a request, whether an inquiry reads past it, and the escaped part of a data line.
+/// A line, whether it is ignored as a request, whether an inquiry reads past it, and the escaped
+/// part of a data line.
 const FORMS: [(&[u8], bool, bool, Option<&[u8]>); 8] = [
     (b"", true, true, None),
     (b" \t", true, true, None),

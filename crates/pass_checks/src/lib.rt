@@ -1,13 +1,16 @@
-//! How good a passphrase is: the check of a new one, and the number that a pinentry's quality bar shows. The rules are those of
-//! gpg-agent's options `--min-passphrase-len` and `--min-passphrase-nonalpha`; the number is this project's own.
+//! How good a passphrase is: the check of a new one, and the number that a pinentry's quality bar
+//! shows. The rules are those of gpg-agent's options `--min-passphrase-len` and
+//! `--min-passphrase-nonalpha`; the number is this project's own.
 //!
-//! Begin with [`meets`] and [`quality`]. Both are exactly what their clauses say, which need no definitions.
+//! Begin with [`meets`] and [`quality`]. Both are exactly what their clauses say, which need no
+//! definitions.
 #![tactic(auto)]
 
 ghost use Rattle.std.specs.Prelude.{◌≡◌, ◌≤◌, ◌*◌, ◌↔◌, IsTrue, not, length, count_by, min, pos};
 ghost use Rattle.std.specs.Char.{is_ascii_alphabetic};
 
-/// Whether a passphrase has at least `min_len` bytes, and at least `min_nonalpha` that are no ASCII letters.
+/// Whether a passphrase has at least `min_len` bytes, and at least `min_nonalpha` that are no ASCII
+/// letters.
 pub fn meets(pass: &[u8], min_len: u8, min_nonalpha: u8) -> bool
     ensures { IsTrue result ↔ ((min_len ≤ length pass.now)
         × (min_nonalpha ≤ count_by (λ byte. not (is_ascii_alphabetic byte)) pass.now)) }

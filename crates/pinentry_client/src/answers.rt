@@ -1,6 +1,7 @@
 ghost use Rattle.std.specs.Prelude.{◌≡◌, []};
 ghost use Rattle.assuan_text.specs.Numbers.{number_of};
-ghost use Rattle.pinentry_client.specs.Answers.{greeted, accepted, pid_after, trouble_of, process_of, pin_outcome, consent_of};
+ghost use Rattle.pinentry_client.specs.Answers.{greeted, accepted, pid_after, trouble_of};
+ghost use Rattle.pinentry_client.specs.Answers.{process_of, pin_outcome, consent_of};
 
 use crate::settings::Setting;
 use agent_ask::{Consent, Outcome};
@@ -56,7 +57,8 @@ fn trouble_of(answer: Answer) -> Trouble
     }
 }
 
-/// Whether the answer to a setting is one: `OK`, or an error, since a pinentry needs not know all settings.
+/// Whether the answer to a setting is one: `OK`, or an error, since a pinentry needs not know all
+/// settings.
 pub(crate) fn accepted(answer: Answer) -> Result<(), Trouble>
     ensures { result ≡ accepted answer }
 {

@@ -6,33 +6,40 @@ ghost use Rattle.agent_ask.specs.Prompters.{IsCall};
 ghost use Rattle.agent_ports.specs.Leads.{Leads};
 ghost use Rattle.pinentry_client.specs.Dialogues.{PinentryCall, PinentryDoes};
 ghost use Rattle.pinentry_client.specs.States.{AtPinentry, PinentryState, at_prompter};
-ghost use Rattle.pinentry_client.specs.Whole.{IsOnePrompt, HasItsChild, Dialogue, AskAlike, HasSpent};
+ghost use Rattle.pinentry_client.specs.Whole.{IsOnePrompt, HasItsChild, Dialogue, AskAlike};
+ghost use Rattle.pinentry_client.specs.Whole.{HasSpent};
 ghost use Rattle.assuan_line.specs.declared.reader.TheConstants.{BUDGET};
 
 use agent_ports::Launcher;
 
-/// Each call keeps a prompter's promise by what it does to the launcher and the child alone. So a call that failed raised their count, which
-/// without a child is the launcher's.
+/// Each call keeps a prompter's promise by what it does to the launcher and the child alone. So a
+/// call that failed raised their count, which without a child is the launcher's.
 pub fn a_pinentry_is_a_prompter()
-    ensures { (before : AtPinentry) (call : Call) (after : AtPinentry) → PinentryDoes before call after → IsCall (at_prompter before) call (at_prompter after) }
+    ensures { (before : AtPinentry) (call : Call) (after : AtPinentry)
+        → PinentryDoes before call after → IsCall (at_prompter before) call (at_prompter after) }
 {}
 
-/// The calls of one prompt are a dialogue with one child, which runs the pinentry's program, is the next that the launcher starts, and
-/// then the last that it has finished. Where it couldn't be started, there is no child.
+/// The calls of one prompt are a dialogue with one child, which runs the pinentry's program, is the
+/// next that the launcher starts, and then the last that it has finished. Where it couldn't be
+/// started, there is no child.
 pub fn a_prompt_has_its_child<La: Launcher>()
-    ensures { (before after : PinentryState La) (calls : List Call) → IsOnePrompt calls → Leads (PinentryCall La.launches) before calls after
-        → HasItsChild before.program calls (La.launches before.launcher) (La.launches after.launcher) }
+    ensures { (before after : PinentryState La) (calls : List Call) → IsOnePrompt calls
+        → Leads (PinentryCall La.launches) before calls after → HasItsChild before.program calls
+        (La.launches before.launcher) (La.launches after.launcher) }
 {}
 
-/// The bytes that a child could give decide what the calls of a prompt are answered: where the same is asked and the same calls fail, the
-/// answers are the same.
+/// The bytes that a child could give decide what the calls of a prompt are answered: where the same
+/// is asked and the same calls fail, the answers are the same.
 pub fn a_dialogue_has_one_outcome()
-    ensures { (calls others : List Call) (given : List ℕ) (left rest written other : Option (List ℕ)) → Dialogue calls (Some given) left written
+    ensures { (calls others : List Call) (given : List ℕ)
+        (left rest written other : Option (List ℕ)) → Dialogue calls (Some given) left written
         → Dialogue others (Some given) rest other → AskAlike calls others → calls ≡ others }
 {}
 
-/// A call is answered that a child is spent only where all the bytes were taken that are allowed of it.
+/// A call is answered that a child is spent only where all the bytes were taken that are allowed of
+/// it.
 pub fn a_spent_child_gave_all()
-    ensures { (calls : List Call) (given : List ℕ) (left written : Option (List ℕ)) → Dialogue calls (Some given) left written → HasSpent calls
+    ensures { (calls : List Call) (given : List ℕ) (left written : Option (List ℕ))
+        → Dialogue calls (Some given) left written → HasSpent calls
         → (rest : List ℕ) × (left ≡ Some rest) × (length given ≡ length rest + BUDGET) }
 {}

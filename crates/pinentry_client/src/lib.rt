@@ -1,8 +1,11 @@
-//! A pinentry as a child program: the prompts of an agent, in its words (pinentry manual, "protocol").
+//! A pinentry as a child program: the prompts of an agent, in its words (pinentry manual,
+//! "protocol").
 //!
-//! Begin with [`Pinentry::new`]: it is a prompter (`agent_ask`), whose calls are the parts of one dialogue with a child that is launched
-//! for the prompt and finished behind it ([`a_prompt_has_its_child`]). The child's bytes decide what comes of it
-//! ([`a_dialogue_has_one_outcome`]). Definitions begin in `specs/Dialogues`, what an answer means in `specs/Answers`.
+//! Begin with [`Pinentry::new`]: it is a prompter (`agent_ask`), whose calls are the parts of one
+//! dialogue with a child that is launched for the prompt and finished behind it
+//! ([`a_prompt_has_its_child`]). The child's bytes decide what comes of it
+//! ([`a_dialogue_has_one_outcome`]). Definitions begin in `specs/Dialogues`, what an answer means
+//! in `specs/Answers`.
 #![tactic(auto)]
 
 mod answers;

@@ -15,7 +15,8 @@ use std::marker::Model;
 
 /// Prompts by children of a launcher, one for each prompt (pinentry manual, "protocol").
 ///
-/// Contracts see the program, the launcher, the connection to the child that stands, if one does, and whether it can be asked.
+/// Contracts see the program, the launcher, the connection to the child that stands, if one does,
+/// and whether it can be asked.
 pub struct Pinentry<'a, La: Launcher> {
     alloc: Global,
     launcher: &'a mut La,
@@ -29,7 +30,13 @@ impl<'a, La: Launcher> Model for Pinentry<'a, La> {
 
     ghost Value = { PinentryState La };
 
-    ghost view = { λ p. record { program = p.program.items; launcher = p.launcher.now; lent = p.launcher.ghost_name; child = p.child; ready = p.ready } };
+    ghost view = { λ p. record {
+      program = p.program.items;
+      launcher = p.launcher.now;
+      lent = p.launcher.ghost_name;
+      child = p.child;
+      ready = p.ready;
+    } };
 
     ghost invariant = { λ p. ChildWaits p.ready p.child };
 }

@@ -3,7 +3,8 @@ ghost use Rattle.assuan_line.specs.Lines.{IsLine};
 ghost use Rattle.assuan_text.specs.LineEnds.{has_lf};
 ghost use Rattle.assuan_text.specs.declared.TheConstants.{MAX_LINE_LEN};
 ghost use Rattle.session_options.specs.Text.{has_line_end};
-ghost use Rattle.pinentry_client.specs.Settings.{IsSettingLine, IsWhereGiven, IsTextLine, IsTimeoutLine, IsJust};
+ghost use Rattle.pinentry_client.specs.Settings.{IsSettingLine, IsWhereGiven, IsTextLine};
+ghost use Rattle.pinentry_client.specs.Settings.{IsTimeoutLine, IsJust};
 
 use agent_ask::PromptSpec;
 use assuan_escape::escape_into;

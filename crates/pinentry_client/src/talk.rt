@@ -5,7 +5,8 @@ ghost use Rattle.assuan_line.specs.Next.{held};
 ghost use Rattle.assuan_escape.specs.Escapes.{unescaped};
 ghost use Rattle.assuan_text.specs.declared.TheConstants.{MAX_LINE_LEN};
 ghost use Rattle.pinentry_client.specs.Dialogues.{stays_ready, stays_open};
-ghost use Rattle.pinentry_client.specs.Talking.{TellsSetting, Sets, StartTalk, Inquires, Settles, is_asked, ErrorTalk, PinTalk, ConsentTalk};
+ghost use Rattle.pinentry_client.specs.Talking.{TellsSetting, Sets, StartTalk, Inquires, Settles};
+ghost use Rattle.pinentry_client.specs.Talking.{is_asked, ErrorTalk, PinTalk, ConsentTalk};
 ghost use Rattle.pinentry_client.specs.Settings.{all_settings};
 
 use crate::answers::{Trouble, accepted, consent_of, greeted, pid_after, pin_outcome};
@@ -42,7 +43,8 @@ fn tell_settings<L: Link>(peer: &mut Peer<L>, spec: &PromptSpec) -> Result<u32, 
     Ok(pid)
 }
 
-/// Tells a setting, if it is sent. Gives the number of the child's process, as far as it is known then.
+/// Tells a setting, if it is sent. Gives the number of the child's process, as far as it is known
+/// then.
 fn tell_setting<L: Link>(
     peer: &mut Peer<L>,
     spec: &PromptSpec,

@@ -1,7 +1,8 @@
-//! A pinentry without a user: it answers on standard input and output as the file `answers.txt` says, which lies where it runs.
+//! A pinentry without a user: it answers on standard input and output as the file `answers.txt`
+//! says, which lies where it runs.
 //!
-//! It reads the file and calls `run_script` (`pinentry_script`), whose clause says what is written and the status; there are no clauses of
-//! its own. A stored run tests it.
+//! It reads the file and calls `run_script` (`pinentry_script`), whose clause says what is written
+//! and the status; there are no clauses of its own. A stored run tests it.
 #![tactic(auto)]
 
 use pinentry_script::{BAD_SCRIPT, run_script};

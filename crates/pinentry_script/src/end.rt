@@ -4,6 +4,7 @@ ghost use Rattle.pinentry_script.specs.Sessions.{status_of};
 /// How a session ended.
 #[derive(Clone, Copy, Debug, PartialEq, Eq)]
 pub enum ScriptEnd {
+    /// The agent said BYE.
     Bye,
     /// The input ended.
     Ended,
@@ -11,7 +12,9 @@ pub enum ScriptEnd {
     TooLong,
     /// As many bytes were taken as a session may take.
     Spent,
+    /// A read failed.
     ReadFault,
+    /// A write failed.
     WriteFault,
 }
 

@@ -1,10 +1,13 @@
-ghost use Rattle.std.specs.Prelude.{◌≡◌, ◌<◌, ◌∷◌, [], true, false, length, MatchOption, IfSome, map, drop};
+ghost use Rattle.std.specs.Prelude.{◌≡◌, ◌<◌, ◌∷◌, [], true, false, length, MatchOption, IfSome};
+ghost use Rattle.std.specs.Prelude.{map, drop};
 ghost use Rattle.std.specs.Option.{option_map, is_some};
 ghost use Rattle.assuan_line.specs.Lines.{after_line, pieces_of};
 ghost use Rattle.std.specs.List.{position, list_all, before_first};
 ghost use Rattle.std.specs.Char.{is_ascii_digit};
 ghost use Rattle.assuan_text.specs.LineEnds.{is_lf, has_lf};
-ghost use Rattle.pinentry_script.specs.Entries.{text_behind, behind_blank, is_number, phrases, entry_in, entry_of, entry_seen, is_script, entries_of, pid_of, answers_in};
+ghost use Rattle.pinentry_script.specs.Entries.{text_behind, behind_blank, is_number, phrases};
+ghost use Rattle.pinentry_script.specs.Entries.{entry_in, entry_of, entry_seen, is_script};
+ghost use Rattle.pinentry_script.specs.Entries.{entries_of, pid_of, answers_in};
 ghost use Rattle.pinentry_script.specs.Writing.{IsShortText};
 ghost use Rattle.pinentry_script.specs.Parsing.{IsShortEntry};
 
@@ -68,8 +71,8 @@ pub(crate) fn pid_of(file: &[u8]) -> &[u8]
 /// The next answer, and the part of the file behind it.
 #[tactic(auto, using(crate::proofs::Files::entries_line, crate::proofs::Files::entries_end))]
 pub(crate) fn next_answer(file: &[u8]) -> Option<(Entry<'_>, &[u8])>
-    ensures next { MatchOption result (answers_in file.now ≡ [])
-        (λ next. (answers_in file.now ≡ entry_seen next.0 ∷ answers_in next.1.now) × IsShortEntry next.0) }
+    ensures next { MatchOption result (answers_in file.now ≡ []) (λ next.
+        (answers_in file.now ≡ entry_seen next.0 ∷ answers_in next.1.now) × IsShortEntry next.0) }
     ensures shorter { IfSome result (λ next. length next.1.now < length file.now) }
 {
     let mut rest = file;

@@ -56,7 +56,8 @@ pub(crate) fn write_response<S: Link>(
     response: Response<'_>,
 ) -> Result<(), WriteFault>
     requires { IsShort response }
-    ensures said { Writes (text_of (says response.entry)) (S.output link.old) result (S.output link.new) }
+    ensures said { Writes (text_of (says response.entry)) (S.output link.old) result
+        (S.output link.new) }
     ensures input { S.input link.new ≡ S.input link.old }
 {
     match response {
@@ -84,7 +85,8 @@ fn give<S: Link>(link: &mut S, text: &[u8]) -> Result<(), WriteFault>
 #[tactic(auto, using(assuan_line::proofs::Sending::sent_whole))]
 fn say<S: Link>(link: &mut S, parts: &[&[u8]]) -> Result<(), WriteFault>
     requires { IsLine (flat_map (λ part. part.now) parts.now) }
-    ensures said { Writes (line_of (flat_map (λ part. part.now) parts.now)) (S.output link.old) result (S.output link.new) }
+    ensures said { Writes (line_of (flat_map (λ part. part.now) parts.now))
+        (S.output link.old) result (S.output link.new) }
     ensures input { S.input link.new ≡ S.input link.old }
 {
     write_text(link, parts).whole()

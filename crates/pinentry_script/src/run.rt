@@ -16,13 +16,15 @@ use std::alloc::Global;
 /// The status where the file is no script. Nothing is read or written then.
 pub const BAD_SCRIPT: u8 = 2;
 
-/// Answers as a pinentry, by the lines of a file, and gives the exit status. The lines are `pid N`, `quality TEXT`, `pin TEXT`,
-/// `cancel`, `timeout`, `yes` and `no`, of at most 900 bytes each and a line feed; a text is written as it stands, escapes, a carriage
-/// return and all.
+/// Answers as a pinentry, by the lines of a file, and gives the exit status. The lines are `pid N`,
+/// `quality TEXT`, `pin TEXT`, `cancel`, `timeout`, `yes` and `no`, of at most 900 bytes each and a
+/// line feed; a text is written as it stands, escapes, a carriage return and all.
 pub fn run_script<S: Link>(alloc: Global, answers: &[u8], stdio: &mut S) -> u8
-    ensures refused { is_script answers.now ≡ false → (result ≡ BAD_SCRIPT) × (stdio.new ≡ stdio.old) }
+    ensures refused { is_script answers.now ≡ false
+        → (result ≡ BAD_SCRIPT) × (stdio.new ≡ stdio.old) }
     ensures served { is_script answers.now ≡ true → (end : ScriptEnd) × (result ≡ status_of end)
-        × RunsSession answers.now (S.input stdio.old) (S.output stdio.old) end (S.input stdio.new) (S.output stdio.new) }
+        × RunsSession answers.now (S.input stdio.old) (S.output stdio.old) end (S.input stdio.new)
+        (S.output stdio.new) }
 {
     if !is_script(answers) {
         return BAD_SCRIPT;
@@ -32,7 +34,8 @@ pub fn run_script<S: Link>(alloc: Global, answers: &[u8], stdio: &mut S) -> u8
 
 /// Greets, and answers line after line up to the end.
 fn serve<S: Link>(alloc: Global, file: &[u8], link: &mut S) -> ScriptEnd
-    ensures { RunsSession file.now (S.input link.old) (S.output link.old) result (S.input link.new) (S.output link.new) }
+    ensures { RunsSession file.now (S.input link.old) (S.output link.old) result (S.input link.new)
+        (S.output link.new) }
 {
     if let Err(WriteFault) = write_response(link, Response::Say(Phrase::Greeting)) {
         return ScriptEnd::WriteFault;
@@ -58,7 +61,8 @@ fn serve<S: Link>(alloc: Global, file: &[u8], link: &mut S) -> ScriptEnd
 /// Reads the next line.
 fn next_line<S: Link>(reader: &mut LineReader, link: &mut S) -> Took
     requires { reader.old.ended ≡ None }
-    ensures read { HasRead (λ bytes. next_of bytes ≡ Took.End) ReadsNext reader.old (S.input link.old) result reader.new (S.input link.new) }
+    ensures read { HasRead (λ bytes. next_of bytes ≡ Took.End) ReadsNext reader.old
+        (S.input link.old) result reader.new (S.input link.new) }
     ensures output { S.output link.new ≡ S.output link.old }
 {
     reader.next(link)

@@ -5,7 +5,8 @@ ghost use Rattle.assuan_text.specs.Words.{words, command_of};
 ghost use Rattle.pinentry_script.specs.Entries.{answers_in, pid_of, entries_of};
 ghost use Rattle.assuan_line.specs.Lines.{pieces_of};
 ghost use Rattle.pinentry_script.specs.Responses.{says};
-ghost use Rattle.pinentry_script.specs.Turns.{Turn, command_named, turn_of, next_answer, without_qualities, carried_out, ends_inquiry, info};
+ghost use Rattle.pinentry_script.specs.Turns.{Turn, command_named, turn_of, next_answer};
+ghost use Rattle.pinentry_script.specs.Turns.{without_qualities, carried_out, ends_inquiry, info};
 ghost use Rattle.pinentry_script.specs.Writing.{IsShort, IsShortText};
 ghost use Rattle.pinentry_script.specs.Steps.{IsTurn};
 
@@ -67,7 +68,9 @@ impl<'a> Session<'a> {
     /// Takes a line, and gives what is said to it.
     pub(crate) fn turn(&mut self, line: &[u8]) -> Response<'a>
         requires { IsShortText self.old.pid.now }
-        ensures turn { IsTurn (turn_of self.old.pid.now self.old.stage (answers_in self.old.file.now) line.now) self.old result self.new }
+        ensures turn { IsTurn
+            (turn_of self.old.pid.now self.old.stage (answers_in self.old.file.now) line.now)
+            self.old result self.new }
         ensures short { IsShort result }
     {
         match self.stage {
@@ -82,7 +85,8 @@ impl<'a> Session<'a> {
     fn carry_out(&mut self, line: &[u8]) -> Response<'a>
         requires stage { self.old.stage ≡ Stage.Request }
         requires short { IsShortText self.old.pid.now }
-        ensures turn { IsTurn (carried_out self.old.pid.now (answers_in self.old.file.now) line.now (command_named (command_of line.now))) self.old result self.new }
+        ensures turn { IsTurn (carried_out self.old.pid.now (answers_in self.old.file.now) line.now
+            (command_named (command_of line.now))) self.old result self.new }
         ensures short { IsShort result }
     {
         let (word, rest) = command_and_rest(line);
@@ -116,7 +120,8 @@ impl<'a> Session<'a> {
 
     /// Takes the next answer.
     fn answer(&mut self) -> Response<'a>
-        ensures turn { IsTurn (next_answer (answers_in self.old.file.now)) self.old result self.new }
+        ensures turn { IsTurn
+            (next_answer (answers_in self.old.file.now)) self.old result self.new }
         ensures short { IsShort result }
     {
         self.stage = Stage::Request;
@@ -137,7 +142,8 @@ impl<'a> Session<'a> {
 
     /// Passes over the answers that ask for a quality.
     fn skip_qualities(&mut self)
-        ensures answers { answers_in self.new.file.now ≡ without_qualities (answers_in self.old.file.now) }
+        ensures answers { answers_in self.new.file.now
+            ≡ without_qualities (answers_in self.old.file.now) }
         ensures pid { self.new.pid.now ≡ self.old.pid.now }
         ensures stage { self.new.stage ≡ self.old.stage }
     {

@@ -4,7 +4,8 @@ ghost use Rattle.std.specs.Bool.{OnTrue, OnFalse};
 use crate::Ticket;
 use std::marker::Model;
 
-/// Where a prompt is made, for one session at a time. Contracts see the number of the ticket that is out.
+/// Where a prompt is made, for one session at a time. Contracts see the number of the ticket that
+/// is out.
 #[derive(Debug, Drop)]
 pub struct Seat {
     holder: Option<u64>,
@@ -39,8 +40,8 @@ impl Seat {
         Some(Ticket::new(number))
     }
 
-    /// Takes a ticket back. It frees the seat, and says so, where its number is that of the ticket that is out. Any other ticket ends
-    /// here too, and changes nothing.
+    /// Takes a ticket back. It frees the seat, and says so, where its number is that of the ticket
+    /// that is out. Any other ticket ends here too, and changes nothing.
     pub fn give(&mut self, ticket: Ticket) -> bool
         ensures freed { IsTrue result ↔ (self.old ≡ Some ticket) }
         ensures free { OnTrue result (self.new ≡ None) }

@@ -4,7 +4,8 @@ use std::marker::Model;
 
 /// The right to prompt. Contracts see its number.
 ///
-/// A ticket can't be dropped, copied or made outside this crate: whoever was given one gives it back to a seat.
+/// A ticket can't be dropped, copied or made outside this crate: whoever was given one gives it
+/// back to a seat.
 pub struct Ticket {
     number: u64,
 }
@@ -24,6 +25,7 @@ impl Ticket {
         Ticket { number }
     }
 
+    /// The number by which it was taken, and frees the seat.
     pub fn number(&self) -> u64
         ensures { result ≡ self.now }
     {

@@ -1,8 +1,9 @@
 //! The key that a passphrase gives: iterated and salted S2K (RFC 4880, 3.7.1.3) with SHA-1.
 //!
-//! Begin with [`derive`]: exactly the standard's 16 bytes for a passphrase, a salt and a count of bytes to hash; [`count_of`] is the count
-//! that a written number means. No call takes memory. The pieces that are hashed are overwritten, and what the hasher keeps of its last 64
-//! bytes isn't. The definitions stand in `specs/S2k`.
+//! Begin with [`derive`]: exactly the standard's 16 bytes for a passphrase, a salt and a count of
+//! bytes to hash; [`count_of`] is the count that a written number means. No call takes memory. The
+//! pieces that are hashed are overwritten, and what the hasher keeps of its last 64 bytes isn't.
+//! The definitions stand in `specs/S2k`.
 #![tactic(auto)]
 
 ghost use Rattle.std.specs.Prelude.{◌≡◌, ◌+◌, ◌<◌, ◌≤◌, ◌++◌, length, slice_index, SomeIff};
@@ -16,12 +17,12 @@ use wiping::wipe;
 /// How many bytes a passphrase has at most.
 pub const MAX_PASSPHRASE_LEN: usize = 255;
 
-/// The fewest bytes that an accepted count stands for. The bound is this project's own: an octet codes counts from 1024
-/// on (RFC 4880, 3.7.1.3).
+/// The fewest bytes that an accepted count stands for. The bound is this project's own: an octet
+/// codes counts from 1024 on (RFC 4880, 3.7.1.3).
 pub const MIN_COUNT: u64 = 65_536;
 
-/// The most bytes that an accepted count stands for. The bound is this project's own: an octet codes counts up to
-/// 65,011,712 (RFC 4880, 3.7.1.3).
+/// The most bytes that an accepted count stands for. The bound is this project's own: an octet
+/// codes counts up to 65,011,712 (RFC 4880, 3.7.1.3).
 pub const MAX_COUNT: u64 = 4_294_967_296;
 
 const SALT_LEN: usize = 8;
@@ -35,8 +36,8 @@ const PIECE_LEN: usize = 2048;
 /// The key of a passphrase and a salt, for a count of bytes to be hashed. Salt and passphrase are
 /// hashed once where they are longer than the count.
 ///
-/// The copies of the passphrase that it makes are overwritten; the key is the caller's to overwrite. What the hasher
-/// keeps of the last 64 bytes isn't.
+/// The copies of the passphrase that it makes are overwritten; the key is the caller's to
+/// overwrite. What the hasher keeps of the last 64 bytes isn't.
 pub fn derive(pass: &[u8], salt: &[u8; 8], count: u64) -> [u8; 16]
     requires short { length pass.now ≤ MAX_PASSPHRASE_LEN }
     requires bounded { count ≤ MAX_COUNT }

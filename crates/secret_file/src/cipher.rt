@@ -1,4 +1,5 @@
-/// How the secret parameters of a key are encrypted under the key of a passphrase, with the initialization vector.
+/// How the secret parameters of a key are encrypted under the key of a passphrase, with the
+/// initialization vector.
 #[derive(Clone, Copy)]
 pub(crate) enum Cipher {
     /// Cipher block chaining, with a digest among what is encrypted.

@@ -17,8 +17,8 @@ use sexp_keys::{KeyFault, KeyList};
 use std::alloc::Global;
 use std::marker::Model;
 
-/// A protected key whose protection is one that is read. It is opened as often as it is asked. Contracts see the key and the
-/// parts of its protection.
+/// A protected key whose protection is one that is read. It is opened as often as it is asked.
+/// Contracts see the key and the parts of its protection.
 #[derive(Drop)]
 pub struct Locked {
     key: KeyList,
@@ -36,11 +36,25 @@ impl Model for Locked {
 
     ghost coded = { locked_code };
 
-    ghost view = { λ l. record { key = l.key; protection = record { salt = l.salt; count = l.count; cipher = l.cipher; encrypted = l.encrypted.items } } };
+    ghost view = { λ l. record {
+      key = l.key;
+      protection = record {
+        salt = l.salt;
+        count = l.count;
+        cipher = l.cipher;
+        encrypted = l.encrypted.items;
+      };
+    } };
 
-    ghost invariant = { λ l.
-        IsLocked (record { key = l.key; protection = record { salt = l.salt; count = l.count; cipher = l.cipher; encrypted = l.encrypted.items } })
-        × FitsFile l.key };
+    ghost invariant = { λ l. IsLocked (record {
+      key = l.key;
+      protection = record {
+        salt = l.salt;
+        count = l.count;
+        cipher = l.cipher;
+        encrypted = l.encrypted.items;
+      };
+    }) × FitsFile l.key };
 }
 
 /// What became of a locked key and a passphrase.
@@ -50,17 +64,20 @@ pub enum Opened {
     Key(KeyList),
     /// What is decrypted isn't the locked key.
     BadPassphrase,
+    /// There was no memory for the clear key.
     NoMemory,
 }
 
 impl Locked {
-    /// A protected key by its protection, whose faults no passphrase decides. A clear key is a bad one here.
+    /// A protected key by its protection, whose faults no passphrase decides. A clear key is a bad
+    /// one here.
     pub fn of(alloc: Global, key: KeyList) -> Result<Locked, KeyFault>
         requires { FitsFile key }
         ensures found { IfOk result (λ locked. (locked.key ≡ key) × IsLocked locked) }
 
         // Else the fault is the first one. Only a lack of memory may come at any time.
-        ensures fault { IfErr result (λ fault. (fault ≡ KeyFault.NoMemory) ⊎ IsLockedFault key fault) }
+        ensures fault { IfErr result
+            (λ fault. (fault ≡ KeyFault.NoMemory) ⊎ IsLockedFault key fault) }
     {
         if key.is_clear() {
             return Err(KeyFault::BadSecKey);
@@ -85,11 +102,13 @@ impl Locked {
         })
     }
 
-    /// Opens the key by a passphrase. What is decrypted is overwritten, and so is the clear key when it is dropped.
+    /// Opens the key by a passphrase. What is decrypted is overwritten, and so is the clear key
+    /// when it is dropped.
     pub fn open(&self, alloc: Global, pass: &[u8]) -> Opened
         requires { length pass.now ≤ MAX_PASSPHRASE_LEN }
 
-        // The clear key exactly where the key opens by this passphrase. Only a lack of memory may come at any time.
+        // The clear key exactly where the key opens by this passphrase. Only a lack of memory may
+        // come at any time.
         ensures answer { (result ≡ Opened.NoMemory) ⊎ AnswersOpening self.now pass.now result }
 
         // Its list is no longer and no deeper than that of a file.
@@ -100,7 +119,12 @@ impl Locked {
     }
 
     fn protection(&self) -> Protection<'_>
-        ensures parts { self.now.protection ≡ record { salt = result.salt; count = result.count; cipher = result.cipher; encrypted = result.encrypted.now } }
+        ensures parts { self.now.protection ≡ record {
+          salt = result.salt;
+          count = result.count;
+          cipher = result.cipher;
+          encrypted = result.encrypted.now;
+        } }
         ensures locked { IsLocked self.now }
         ensures fits { FitsFile self.now.key }
         ensures bounded { result.count ≤ MAX_COUNT }

@@ -1,6 +1,7 @@
 //! The parts of a list, from its front.
 
-ghost use Rattle.std.specs.Prelude.{◌≡◌, ◌≤◌, ℕ, List, [], ◌∷◌, ◌++◌, length, take, IfOk, IfErr, IfSome, IfNone};
+ghost use Rattle.std.specs.Prelude.{◌≡◌, ◌≤◌, ℕ, List, [], ◌∷◌, ◌++◌, length, take, IfOk, IfErr};
+ghost use Rattle.std.specs.Prelude.{IfSome, IfNone};
 ghost use Rattle.sexp_canonical.specs.Tree.{Tree, leaf};
 ghost use Rattle.sexp_canonical.specs.View.{tree_of, trees};
 ghost use Rattle.sexp_canonical.specs.Spelling.{IsReadable, spelling_of};
@@ -14,8 +15,10 @@ use std::alloc::Global;
 
 /// The atom at the front of these, and what is behind it.
 pub(crate) fn split_atom(lists: &[Sexp]) -> Option<(&[u8], &[Sexp])>
-    ensures found { IfSome result (λ found. trees lists.now ≡ leaf found.0.now ∷ trees found.1.now) }
-    ensures none { IfNone result ((bytes : List ℕ) (behind : List Tree) → trees lists.now ≡ leaf bytes ∷ behind → ⊥) }
+    ensures found { IfSome result
+        (λ found. trees lists.now ≡ leaf found.0.now ∷ trees found.1.now) }
+    ensures none { IfNone result
+        ((bytes : List ℕ) (behind : List Tree) → trees lists.now ≡ leaf bytes ∷ behind → ⊥) }
 {
     let Some((Sexp::Atom(bytes), behind)) = lists.split_first() else {
         return None;
@@ -26,7 +29,8 @@ pub(crate) fn split_atom(lists: &[Sexp]) -> Option<(&[u8], &[Sexp])>
 /// What is behind the atom of this name.
 pub(crate) fn behind_name<'a>(name: &[u8], lists: &'a [Sexp]) -> Option<&'a [Sexp]>
     ensures found { IfSome result (λ behind. trees lists.now ≡ leaf name.now ∷ trees behind.now) }
-    ensures none { IfNone result ((behind : List Tree) → trees lists.now ≡ leaf name.now ∷ behind → ⊥) }
+    ensures none { IfNone result
+        ((behind : List Tree) → trees lists.now ≡ leaf name.now ∷ behind → ⊥) }
 {
     let (bytes, behind) = split_atom(lists)?;
     (bytes == name).then_some(behind)
@@ -34,8 +38,10 @@ pub(crate) fn behind_name<'a>(name: &[u8], lists: &'a [Sexp]) -> Option<&'a [Sex
 
 /// The first of these, and what is behind it.
 pub(crate) fn split_tree(lists: &[Sexp]) -> Option<(&Sexp, &[Sexp])>
-    ensures found { IfSome result (λ found. trees lists.now ≡ tree_of found.0.now ∷ trees found.1.now) }
-    ensures none { IfNone result ((first : Tree) (behind : List Tree) → trees lists.now ≡ first ∷ behind → ⊥) }
+    ensures found { IfSome result
+        (λ found. trees lists.now ≡ tree_of found.0.now ∷ trees found.1.now) }
+    ensures none { IfNone result
+        ((first : Tree) (behind : List Tree) → trees lists.now ≡ first ∷ behind → ⊥) }
 {
     lists.split_first()
 }
@@ -65,7 +71,8 @@ pub(crate) fn array_of<const N: usize>(bytes: &[u8]) -> Option<[u8; N]>
 /// Both of two.
 pub(crate) fn both(mut items: Vec<Sexp>) -> Option<(Sexp, Sexp)>
     ensures found { IfSome result (λ two. trees items.items ≡ tree_of two.0 ∷ tree_of two.1 ∷ []) }
-    ensures none { IfNone result ((first second : Tree) → trees items.items ≡ first ∷ second ∷ [] → ⊥) }
+    ensures none { IfNone result
+        ((first second : Tree) → trees items.items ≡ first ∷ second ∷ [] → ⊥) }
 {
     let second = items.pop()?;
     let first = items.pop()?;
@@ -89,8 +96,10 @@ pub(crate) fn only(mut items: Vec<Sexp>) -> Option<Sexp>
 
 /// The expression at the front of the bytes, where one is read there, and how many bytes it has.
 pub(crate) fn front_of(alloc: Global, bytes: &[u8]) -> Result<Option<(Sexp, usize)>, KeyFault>
-    ensures found { IfOk result (λ read. IfSome read (λ r. (r.1 ≤ length bytes.now) × IsReadable (take r.1 bytes.now) r.0)) }
-    ensures again { IfOk result (λ read. (tree : Sexp) (more : List ℕ) → IsReadable (spelling_of tree) tree
+    ensures found { IfOk result (λ read.
+        IfSome read (λ r. (r.1 ≤ length bytes.now) × IsReadable (take r.1 bytes.now) r.0)) }
+    ensures again { IfOk result
+        (λ read. (tree : Sexp) (more : List ℕ) → IsReadable (spelling_of tree) tree
         → bytes.now ≡ spelling_of tree ++ more → read ≡ Some (tree, length (spelling_of tree))) }
     ensures fault { IfErr result (λ fault. fault ≡ KeyFault.NoMemory) }
 {

@@ -1,6 +1,7 @@
 //! A clear key is protected.
 
-ghost use Rattle.std.specs.Prelude.{◌≡◌, ◌≤◌, ◌%◌, ◌+◌, ◌<◌, ℕ, [], ◌∷◌, ◌++◌, length, IfOk, IfSome, OnOk, IsTrue};
+ghost use Rattle.std.specs.Prelude.{◌≡◌, ◌≤◌, ◌%◌, ◌+◌, ◌<◌, ℕ, [], ◌∷◌, ◌++◌, length, IfOk};
+ghost use Rattle.std.specs.Prelude.{IfSome, OnOk, IsTrue};
 ghost use Rattle.std.specs.List.{flat_map};
 ghost use Rattle.std.specs.Option.{option_copied};
 ghost use Rattle.sexp_canonical.specs.Tree.{leaf, list_of};
@@ -17,7 +18,8 @@ ghost use Rattle.sexp_keys.specs.Lists.{key_list_of, time_lists};
 ghost use Rattle.sexp_canonical.specs.Spelling.{numeral};
 ghost use Rattle.secret_file.specs.Protection.{iv_of, hashing_tree, derivation_tree};
 ghost use Rattle.secret_file.specs.Opens.{hash_tree, AreSealed, Opens};
-ghost use Rattle.secret_file.specs.Protects.{padded, secret_text, sealed_text, written_protection, cbc_protection, ocb_protection, protected_file};
+ghost use Rattle.secret_file.specs.Protects.{padded, secret_text, sealed_text, written_protection};
+ghost use Rattle.secret_file.specs.Protects.{cbc_protection, ocb_protection, protected_file};
 
 use crate::cipher::Cipher;
 use crate::protection::{HASH_NAME, PROTECTED, Protection, protection_name};
@@ -36,7 +38,8 @@ const BLOCK_LEN: usize = 16;
 fn secret_text(alloc: Global, key: &KeyList, time: Option<&[u8]>) -> Result<Bytes, AllocError>
     requires { IsTrue key.now.is_clear }
     ensures text { IfOk result (λ text. text ≡ secret_text key.now (option_copied time.entry)) }
-    ensures len { IfOk result (λ text. length text ≤ length (flat_map spelling key.now.private) + 52) }
+    ensures len { IfOk result
+        (λ text. length text ≤ length (flat_map spelling key.now.private) + 52) }
 {
     let digest = digest_of(alloc, key, time)?;
     let mut text = Bytes::new(alloc);
@@ -80,8 +83,10 @@ fn encrypted_by(pass: &[u8], salt: &[u8; 8], count: u64, iv: &[u8; 16], plain: B
     requires short { length pass.now ≤ MAX_PASSPHRASE_LEN }
     requires bounded { count ≤ MAX_COUNT }
     requires whole { length plain % 16 ≡ 0 }
-    ensures value { result.items ≡ cbc_encrypted (derived_key pass.now salt.now count) iv.now plain }
-    ensures undone { let key = derived_key pass.now salt.now count in cbc_decrypted key iv.now (cbc_encrypted key iv.now plain) ≡ plain }
+    ensures value { result.items
+        ≡ cbc_encrypted (derived_key pass.now salt.now count) iv.now plain }
+    ensures undone { let key = derived_key pass.now salt.now count in
+        cbc_decrypted key iv.now (cbc_encrypted key iv.now plain) ≡ plain }
     ensures len { length result.items ≡ length plain }
 {
     let mut bytes = plain.into_vec();
@@ -116,8 +121,10 @@ fn sealed_by(
     requires bounded { count ≤ MAX_COUNT }
     requires assoc { length assoc.now ≤ 65536 }
     requires short { length plain ≤ 65536 }
-    ensures value { IfOk result (λ bytes. bytes.items ≡ ocb_sealed (derived_key pass.now salt.now count) iv.now assoc.now plain) }
-    ensures sealed { IfOk result (λ bytes. AreSealed (derived_key pass.now salt.now count) iv.now assoc.now bytes.items plain) }
+    ensures value { IfOk result (λ bytes.
+        bytes.items ≡ ocb_sealed (derived_key pass.now salt.now count) iv.now assoc.now plain) }
+    ensures sealed { IfOk result (λ bytes.
+        AreSealed (derived_key pass.now salt.now count) iv.now assoc.now bytes.items plain) }
     ensures len { IfOk result (λ bytes. length bytes.items ≡ length plain + 16) }
 {
     let mut bytes = plain.into_vec();
@@ -157,7 +164,8 @@ fn iv_of(cipher: &Cipher) -> &[u8]
 }
 
 fn derivation_list(alloc: Global, hashing: Sexp, cipher: &Cipher) -> Result<Sexp, AllocError>
-    ensures { IfOk result (λ tree. tree_of tree ≡ derivation_tree (tree_of hashing) (iv_of cipher.now)) }
+    ensures { IfOk result
+        (λ tree. tree_of tree ≡ derivation_tree (tree_of hashing) (iv_of cipher.now)) }
 {
     let items = vec![in alloc; hashing, Sexp::atom(alloc, iv_of(cipher))?]?;
     Ok(Sexp::list(items))
@@ -247,9 +255,9 @@ fn file_of(
     key.protected_list(alloc, lists.as_slice())
 }
 
-/// A protected key file of a clear key, by OCB. The salt and the initialization vector should be random, and no vector is
-/// used twice under a passphrase and a salt. The count is that of the bytes that are hashed; the time is one of ISO 8601, as
-/// `20240101T000000`.
+/// A protected key file of a clear key, by OCB. The salt and the initialization vector should be
+/// random, and no vector is used twice under a passphrase and a salt. The count is that of the
+/// bytes that are hashed; the time is one of ISO 8601, as `20240101T000000`.
 pub fn protect(
     alloc: Global,
     key: &KeyList,
@@ -266,7 +274,8 @@ pub fn protect(
     requires least { MIN_COUNT ≤ count }
     requires greatest { count ≤ MAX_COUNT }
     ensures file { IfOk result (λ file. file.items ≡ protected_file key.now
-        (ocb_protection key.now pass.now salt.now iv.now count (option_copied time.entry)) (option_copied time.entry)) }
+        (ocb_protection key.now pass.now salt.now iv.now count (option_copied time.entry))
+        (option_copied time.entry)) }
 
     // The file opens by the passphrase to the key.
     ensures opens { IfOk result (λ file. Opens file.items pass.now key.now) }
@@ -286,8 +295,8 @@ pub fn protect(
     file_of(alloc, key, &protection, time)
 }
 
-/// A protected key file of a clear key, by CBC, as it was written before. The padding, of which the fewest bytes are taken,
-/// should be random too.
+/// A protected key file of a clear key, by CBC, as it was written before. The padding, of which the
+/// fewest bytes are taken, should be random too.
 pub fn protect_cbc(
     alloc: Global,
     key: &KeyList,
@@ -304,8 +313,9 @@ pub fn protect_cbc(
     requires pass { length pass.now ≤ MAX_PASSPHRASE_LEN }
     requires least { MIN_COUNT ≤ count }
     requires greatest { count ≤ MAX_COUNT }
-    ensures file { IfOk result (λ file. file.items ≡ protected_file key.now
-        (cbc_protection key.now pass.now salt.now iv.now padding.now count (option_copied time.entry)) (option_copied time.entry)) }
+    ensures file { IfOk result
+        (λ file. file.items ≡ protected_file key.now (cbc_protection key.now pass.now salt.now
+        iv.now padding.now count (option_copied time.entry)) (option_copied time.entry)) }
 
     // The file opens by the passphrase to the key.
     ensures opens { IfOk result (λ file. Opens file.items pass.now key.now) }

@@ -1,10 +1,14 @@
 //! How a protected key is protected.
 
-ghost use Rattle.std.specs.Prelude.{◌≡◌, ℕ, List, [], ◌∷◌, drop, length, IfOk, IfErr, IfSome, IfNone, IsTrue, ◌↔◌};
+ghost use Rattle.std.specs.Prelude.{◌≡◌, ℕ, List, [], ◌∷◌, drop, length, IfOk, IfErr, IfSome};
+ghost use Rattle.std.specs.Prelude.{IfNone, IsTrue, ◌↔◌};
 ghost use Rattle.sexp_canonical.specs.View.{tree_of, trees};
 ghost use Rattle.sexp_canonical.specs.Tree.{Tree};
 ghost use Rattle.secret_file.specs.Protection as parts;
-ghost use Rattle.secret_file.specs.Protection.{hash_name, protection_name, derivation_tree, is_other, is_unknown, first_items, has_other_name, AreOctets, IsCount, IsHashing, IsProtection, IsProtectionFault};
+ghost use Rattle.secret_file.specs.Protection.{hash_name, protection_name, derivation_tree};
+ghost use Rattle.secret_file.specs.Protection.{is_other, is_unknown, first_items, has_other_name};
+ghost use Rattle.secret_file.specs.Protection.{AreOctets, IsCount, IsHashing, IsProtection};
+ghost use Rattle.secret_file.specs.Protection.{IsProtectionFault};
 ghost use Rattle.std.specs.Option.{option_copied};
 ghost use Rattle.secret_file.specs.Opens.{first_of, time_in, time_of};
 ghost use Rattle.secret_file.specs.Steps.{IsCipher};
@@ -98,7 +102,8 @@ fn count_in(digits: &[u8]) -> Option<u64>
 // The salt and the count of `(sha1 salt count)`.
 fn hashing_of(list: &Sexp) -> Option<([u8; 8], u64)>
     ensures found { IfSome result (λ h. IsHashing (tree_of list.now) h.0 h.1) }
-    ensures none { IfNone result ((salt : List ℕ) (count : ℕ) → IsHashing (tree_of list.now) salt count → ⊥) }
+    ensures none { IfNone result
+        ((salt : List ℕ) (count : ℕ) → IsHashing (tree_of list.now) salt count → ⊥) }
 {
     let behind = behind_name(HASH_NAME, list.items())?;
     let (salt, behind) = split_atom(behind)?;
@@ -108,8 +113,10 @@ fn hashing_of(list: &Sexp) -> Option<([u8; 8], u64)>
 
 // The first list of `(hashing iv)`, and the initialization vector.
 fn derivation_of(list: &Sexp) -> Option<(&Sexp, &[u8])>
-    ensures found { IfSome result (λ d. tree_of list.now ≡ derivation_tree (tree_of d.0.now) d.1.now) }
-    ensures none { IfNone result ((hashing : Tree) (iv : List ℕ) → tree_of list.now ≡ derivation_tree hashing iv → ⊥) }
+    ensures found { IfSome result
+        (λ d. tree_of list.now ≡ derivation_tree (tree_of d.0.now) d.1.now) }
+    ensures none { IfNone result
+        ((hashing : Tree) (iv : List ℕ) → tree_of list.now ≡ derivation_tree hashing iv → ⊥) }
 {
     let (hashing, behind) = split_tree(list.items())?;
     Some((hashing, only_atom(behind)?))
@@ -159,8 +166,12 @@ pub(crate) struct Protection<'a> {
 
 /// The protection that the first of the lists of a protected key is.
 pub(crate) fn protection_of(lists: &[Sexp]) -> Result<Protection<'_>, KeyFault>
-    ensures found { IfOk result (λ p. IsProtection (first_of (trees lists.now))
-        (record { salt = p.salt; count = p.count; cipher = p.cipher; encrypted = p.encrypted.now })) }
+    ensures found { IfOk result (λ p. IsProtection (first_of (trees lists.now)) (record {
+      salt = p.salt;
+      count = p.count;
+      cipher = p.cipher;
+      encrypted = p.encrypted.now;
+    })) }
     ensures fault { IfErr result (IsProtectionFault (first_of (trees lists.now))) }
 {
     let Some((list, _)) = split_tree(lists) else {
@@ -170,8 +181,12 @@ pub(crate) fn protection_of(lists: &[Sexp]) -> Result<Protection<'_>, KeyFault>
 }
 
 fn protection_in(list: &Sexp) -> Result<Protection<'_>, KeyFault>
-    ensures found { IfOk result (λ p. IsProtection (tree_of list.now)
-        (record { salt = p.salt; count = p.count; cipher = p.cipher; encrypted = p.encrypted.now })) }
+    ensures found { IfOk result (λ p. IsProtection (tree_of list.now) (record {
+      salt = p.salt;
+      count = p.count;
+      cipher = p.cipher;
+      encrypted = p.encrypted.now;
+    })) }
     ensures fault { IfErr result (IsProtectionFault (tree_of list.now)) }
 {
     if has_other_name(list) {
@@ -185,8 +200,12 @@ fn protection_in(list: &Sexp) -> Result<Protection<'_>, KeyFault>
 
 // The protection, where the list has all its parts.
 fn shaped(list: &Sexp) -> Option<Protection<'_>>
-    ensures found { IfSome result (λ p. IsProtection (tree_of list.now)
-        (record { salt = p.salt; count = p.count; cipher = p.cipher; encrypted = p.encrypted.now })) }
+    ensures found { IfSome result (λ p. IsProtection (tree_of list.now) (record {
+      salt = p.salt;
+      count = p.count;
+      cipher = p.cipher;
+      encrypted = p.encrypted.now;
+    })) }
     ensures none { IfNone result ((p : parts.Protection) → IsProtection (tree_of list.now) p → ⊥) }
 {
     let behind = behind_name(PROTECTED, list.items())?;

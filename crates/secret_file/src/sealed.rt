@@ -1,6 +1,7 @@
 //! What is encrypted by OCB: the secret parameters of a key.
 
-ghost use Rattle.std.specs.Prelude.{◌≡◌, ◌<◌, ◌≤◌, ℕ, List, [], ◌∷◌, ◌++◌, length, false, IsTrue, IfOk, IfErr, IfSome, IfNone};
+ghost use Rattle.std.specs.Prelude.{◌≡◌, ◌<◌, ◌≤◌, ℕ, List, [], ◌∷◌, ◌++◌, length, false, IsTrue};
+ghost use Rattle.std.specs.Prelude.{IfOk, IfErr, IfSome, IfNone};
 ghost use Rattle.s2k_derive.specs.S2k.{derived_key};
 ghost use Rattle.s2k_derive.specs.declared.TheConstants.{MAX_PASSPHRASE_LEN, MAX_COUNT};
 ghost use Rattle.sexp_canonical.specs.Tree.{Tree, list_of};
@@ -25,8 +26,10 @@ use wiping::wipe;
 fn unseal(key: &[u8; 16], iv: &[u8; 12], assoc: &[u8], bytes: &mut [u8], tag: &[u8; 16]) -> bool
     requires assoc { length assoc.now ≤ most_bytes }
     requires within { length bytes.old ≤ most_bytes }
-    ensures sealed { IsTrue result → AreSealed key.now iv.now assoc.now (bytes.old ++ tag.now) bytes.new }
-    ensures none { result ≡ false → (plain : List ℕ) → AreSealed key.now iv.now assoc.now (bytes.old ++ tag.now) plain → ⊥ }
+    ensures sealed { IsTrue result
+        → AreSealed key.now iv.now assoc.now (bytes.old ++ tag.now) bytes.new }
+    ensures none { result ≡ false → (plain : List ℕ)
+        → AreSealed key.now iv.now assoc.now (bytes.old ++ tag.now) plain → ⊥ }
 {
     ocb_decrypt(key, iv, assoc, bytes, tag)
 }
@@ -44,11 +47,13 @@ fn unsealed(
     requires assoc { length assoc.now ≤ most_bytes }
     requires long { 16 < length protection.now.encrypted.now }
     requires within { length protection.now.encrypted.now ≤ most_bytes }
-    ensures found { IfOk result (λ found. IfSome found (AreSealed (derived_key pass.now protection.now.salt protection.now.count)
-        iv.now assoc.now protection.now.encrypted.now)) }
+    ensures found { IfOk result (λ found. IfSome found (AreSealed (derived_key pass.now
+        protection.now.salt protection.now.count) iv.now assoc.now protection.now.encrypted.now)) }
     ensures none { IfOk result (λ found. IfNone found ((plain : List ℕ)
-        → AreSealed (derived_key pass.now protection.now.salt protection.now.count) iv.now assoc.now protection.now.encrypted.now plain → ⊥)) }
-    ensures len { IfOk result (λ found. IfSome found (λ bytes. length bytes ≤ length protection.now.encrypted.now)) }
+        → AreSealed (derived_key pass.now protection.now.salt protection.now.count) iv.now assoc.now
+        protection.now.encrypted.now plain → ⊥)) }
+    ensures len { IfOk result
+        (λ found. IfSome found (λ bytes. length bytes ≤ length protection.now.encrypted.now)) }
 {
     let (bytes, tag) = protection
         .encrypted
@@ -69,9 +74,11 @@ fn unsealed(
 // The list that is alone in the list that these bytes are.
 fn sealed_list(alloc: Global, bytes: &[u8]) -> Result<Option<Items>, KeyFault>
     requires { length bytes.now ≤ most_bytes }
-    ensures found { IfOk result (λ found. IfSome found (λ secret. bytes.now ≡ spelling (sealed_tree secret))) }
-    ensures none { IfOk result (λ found. IfNone found ((secret : List Tree)
-        → depth (sealed_tree secret) ≤ most_depth → bytes.now ≡ spelling (sealed_tree secret) → ⊥)) }
+    ensures found { IfOk result
+        (λ found. IfSome found (λ secret. bytes.now ≡ spelling (sealed_tree secret))) }
+    ensures none { IfOk result
+        (λ found. IfNone found ((secret : List Tree) → depth (sealed_tree secret) ≤ most_depth
+        → bytes.now ≡ spelling (sealed_tree secret) → ⊥)) }
     ensures fault { IfErr result (λ fault. fault ≡ KeyFault.NoMemory) }
 {
     let read = front_of(alloc, bytes)?;

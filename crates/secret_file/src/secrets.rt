@@ -1,6 +1,7 @@
 //! What is decrypted by CBC: the secret parameters of a key, and the digest of the clear key.
 
-ghost use Rattle.std.specs.Prelude.{◌≡◌, ◌↔◌, ◌≤◌, ◌%◌, ℕ, List, length, IfOk, IfErr, IfSome, IfNone, IsTrue};
+ghost use Rattle.std.specs.Prelude.{◌≡◌, ◌↔◌, ◌≤◌, ◌%◌, ℕ, List, length, IfOk, IfErr, IfSome};
+ghost use Rattle.std.specs.Prelude.{IfNone, IsTrue};
 ghost use Rattle.std.specs.Option.{option_copied};
 ghost use Rattle.sha1.specs.Sha1.{sha1};
 ghost use Rattle.s2k_derive.specs.S2k.{derived_key};
@@ -26,7 +27,8 @@ use sha1::Sha1;
 use std::alloc::{AllocError, Global};
 use wiping::wipe;
 
-// The most bytes behind the expression: a block, which GnuPG adds where the expression fills its last one.
+// The most bytes behind the expression: a block, which GnuPG adds where the expression fills its
+// last one.
 const MAX_PADDING: usize = 16;
 
 /// The two lists that are decrypted.
@@ -39,9 +41,11 @@ pub(crate) struct Secrets {
 /// The lists that these bytes are, with some padding.
 fn secrets_of(alloc: Global, bytes: &[u8]) -> Result<Option<Secrets>, KeyFault>
     requires { length bytes.now ≤ most_bytes }
-    ensures found { IfOk result (λ found. IfSome found (λ s. AreSpelled bytes.now (secret_tree s.secret (tree_of s.hash)))) }
-    ensures none { IfOk result (λ found. IfNone found ((secret : List Tree) (hash : Tree)
-        → depth (secret_tree secret hash) ≤ most_depth → AreSpelled bytes.now (secret_tree secret hash) → ⊥)) }
+    ensures found { IfOk result (λ found.
+        IfSome found (λ s. AreSpelled bytes.now (secret_tree s.secret (tree_of s.hash)))) }
+    ensures none { IfOk result
+        (λ found. IfNone found ((secret : List Tree) (hash : Tree) → depth (secret_tree secret hash)
+        ≤ most_depth → AreSpelled bytes.now (secret_tree secret hash) → ⊥)) }
     ensures fault { IfErr result (λ fault. fault ≡ KeyFault.NoMemory) }
 {
     let read = front_of(alloc, bytes)?;
@@ -56,7 +60,8 @@ fn secrets_of(alloc: Global, bytes: &[u8]) -> Result<Option<Secrets>, KeyFault>
 
 fn two_lists(tree: Sexp) -> Option<Secrets>
     ensures found { IfSome result (λ s. tree_of tree ≡ secret_tree s.secret (tree_of s.hash)) }
-    ensures none { IfNone result ((secret : List Tree) (hash : Tree) → tree_of tree ≡ secret_tree secret hash → ⊥) }
+    ensures none { IfNone result
+        ((secret : List Tree) (hash : Tree) → tree_of tree ≡ secret_tree secret hash → ⊥) }
 {
     let Sexp::List(items) = tree else {
         return None;
@@ -95,7 +100,8 @@ pub(crate) fn digest_of(
     time: Option<&[u8]>,
 ) -> Result<[u8; 20], AllocError>
     requires { IsTrue key.now.is_clear }
-    ensures digest { IfOk result (λ digest. digest ≡ sha1 (hashed_list_of key.now (option_copied time.entry))) }
+    ensures digest { IfOk result
+        (λ digest. digest ≡ sha1 (hashed_list_of key.now (option_copied time.entry))) }
     ensures len { IfOk result (λ digest. length digest ≡ 20) }
 {
     let text = Bytes::from(key.hashed_list(alloc, time)?);
@@ -106,7 +112,8 @@ pub(crate) fn digest_of(
 fn clear_key(alloc: Global, locked: &KeyList, bytes: &[u8]) -> Result<Option<KeyList>, KeyFault>
     requires { length bytes.now ≤ most_bytes }
     ensures found { IfOk result (λ found. IfSome found (AreSecrets locked.now bytes.now)) }
-    ensures none { IfOk result (λ found. IfNone found ((key : Key) → AreSecrets locked.now bytes.now key → ⊥)) }
+    ensures none { IfOk result
+        (λ found. IfNone found ((key : Key) → AreSecrets locked.now bytes.now key → ⊥)) }
     ensures fault { IfErr result (λ fault. fault ≡ KeyFault.NoMemory) }
 {
     let secrets = secrets_of(alloc, bytes)?;
@@ -135,8 +142,8 @@ fn decrypted(
     requires short { length pass.now ≤ MAX_PASSPHRASE_LEN }
     requires bounded { protection.now.count ≤ MAX_COUNT }
     requires whole { length protection.now.encrypted.now % 16 ≡ 0 }
-    ensures value { IfOk result (λ bytes. bytes ≡ cbc_decrypted (derived_key pass.now protection.now.salt protection.now.count)
-        iv.now protection.now.encrypted.now) }
+    ensures value { IfOk result (λ bytes. bytes ≡ cbc_decrypted (derived_key pass.now
+        protection.now.salt protection.now.count) iv.now protection.now.encrypted.now) }
     ensures len { IfOk result (λ bytes. length bytes ≡ length protection.now.encrypted.now) }
 {
     let mut bytes = Vec::from_slice(alloc, protection.encrypted)?;

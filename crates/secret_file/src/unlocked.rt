@@ -27,11 +27,12 @@ pub enum Unlocked {
     NotSupported,
     /// The file isn't one expression to its last byte, or no private key.
     InvSexp,
+    /// There was no memory for the key.
     NoMemory,
 }
 
-/// Opens a protected key file by a passphrase: `key_of`, `Locked::of` and `Locked::open` in a row. What is decrypted is
-/// overwritten, and so is the key when it is dropped.
+/// Opens a protected key file by a passphrase: `key_of`, `Locked::of` and `Locked::open` in a row.
+/// What is decrypted is overwritten, and so is the key when it is dropped.
 pub fn unprotect(alloc: Global, file: &[u8], pass: &[u8]) -> Unlocked
     requires { length pass.now ≤ MAX_PASSPHRASE_LEN }
 
@@ -40,7 +41,8 @@ pub fn unprotect(alloc: Global, file: &[u8], pass: &[u8]) -> Unlocked
 
     // It is the key exactly where the file opens by this passphrase.
     ensures key { (key : Key) → result ≡ Unlocked.Key key → Opens file.now pass.now key }
-    ensures opens { (key : Key) → Opens file.now pass.now key → (result ≡ Unlocked.NoMemory) ⊎ (result ≡ Unlocked.Key key) }
+    ensures opens { (key : Key) → Opens file.now pass.now key
+        → (result ≡ Unlocked.NoMemory) ⊎ (result ≡ Unlocked.Key key) }
 
     // The list of the key is no longer and no deeper than that of a file.
     ensures fits { (key : Key) → result ≡ Unlocked.Key key → FitsFile key }
@@ -64,7 +66,8 @@ pub fn key_of(alloc: Global, file: &[u8]) -> Result<KeyList, KeyFault>
     ensures found { IfOk result (IsFile file.now) }
 
     // Else the fault is the first one. Only a lack of memory may come at any time.
-    ensures fault { IfErr result (λ fault. (fault ≡ KeyFault.NoMemory) ⊎ IsFileFault file.now fault) }
+    ensures fault { IfErr result
+        (λ fault. (fault ≡ KeyFault.NoMemory) ⊎ IsFileFault file.now fault) }
     ensures fits { IfOk result FitsFile }
 {
     let read = front_of(alloc, file)?;

@@ -6,7 +6,8 @@ use crate::Unheard;
 /// The most bytes that a client may send back where it is told of a prompt. They are dropped.
 pub const MAX_NOTE_LEN: usize = 1000;
 
-/// A session's client, which gives secrets of this type. It is asked only while its connection is open.
+/// A session's client, which gives secrets of this type. It is asked only while its connection is
+/// open.
 pub trait Client<S> {
     ghost use Rattle.std.specs.Prelude.{ℕ, List, Result};
     ghost use Rattle.session_client.specs.declared.unheard.Unheard.{Unheard};
@@ -17,10 +18,12 @@ pub trait Client<S> {
     /// What is seen of its connection.
     ghost views: { Views lines Self };
 
-    /// What it was asked by a word is shown by this relation between itself before, the word, its answer, and itself after.
+    /// What it was asked by a word is shown by this relation between itself before, the word, its
+    /// answer, and itself after.
     ghost wished: { Self → List ℕ → Result S Unheard → Self → Type 0 };
 
-    /// Tells it that a prompt was opened, in the process of this number (GnuPG manual, PINENTRY_LAUNCHED).
+    /// Tells it that a prompt was opened, in the process of this number (GnuPG manual,
+    /// PINENTRY_LAUNCHED).
     fn tell(&mut self, pid: u32) -> Result<(), Unheard>
         requires { IsOpen views self.old }
         ensures { TellsClient views pid result self.old self.new };
@@ -31,6 +34,7 @@ pub trait Client<S> {
         ensures { wished self.old word.now result self.new };
 
     /// How every answer leaves it.
-    ghost promise: { (before : Self) (word : List ℕ) (result : Result S Unheard) (after : Self) → IsOpen views before
+    ghost promise: { (before : Self) (word : List ℕ) (result : Result S Unheard) (after : Self)
+        → IsOpen views before
         → wished before word result after → LeftBy views result before after };
 }

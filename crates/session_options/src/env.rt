@@ -2,14 +2,19 @@ ghost use Rattle.std.specs.Prelude.{◌≡◌, [], false};
 ghost use Rattle.session_options.specs.Text.{has_line_end};
 
 use crate::Word;
+use crate::text::copied;
 
-/// Where a pinentry is to ask: the terminal and the locale of the client. An empty word means none, and no word holds an
-/// end of a line.
+/// Where a pinentry is to ask: the terminal and the locale of the client. An empty word means none,
+/// and no word holds an end of a line.
 #[derive(Debug, Drop)]
 pub struct Env {
+    /// The path of the terminal.
     pub ttyname: Word,
+    /// The terminal's type, as `TERM` has it.
     pub ttytype: Word,
+    /// The locale of characters, as `LC_CTYPE` has it.
     pub lc_ctype: Word,
+    /// The locale of messages, as `LC_MESSAGES` has it.
     pub lc_messages: Word,
     ghost one_line_ttyname: { has_line_end ttyname.items ≡ false },
     ghost one_line_ttytype: { has_line_end ttytype.items ≡ false },
@@ -22,7 +27,8 @@ impl Env {
 
     /// No terminal and no locale.
     pub(crate) fn none() -> Self
-        ensures { words_of result ≡ record { ttyname = []; ttytype = []; lc_ctype = []; lc_messages = [] } }
+        ensures { words_of result
+            ≡ record { ttyname = []; ttytype = []; lc_ctype = []; lc_messages = [] } }
     {
         Env {
             ttyname: Word::new(),
@@ -43,12 +49,4 @@ impl Env {
             lc_messages: copied(&self.lc_messages),
         }
     }
-}
-
-fn copied(word: &Word) -> Word
-    ensures { result.items ≡ word.now.items }
-{
-    let mut copy = Word::new();
-    copy.try_extend_from_slice(word).unwrap();
-    copy
 }

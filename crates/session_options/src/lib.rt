@@ -1,7 +1,8 @@
 //! The rules that an agent is started with, and the options that a client sets in its session.
 //!
-//! Begin with [`Options::set`]: the answer and the values are exactly the table's, and a refusal changes nothing. [`Rules`] keeps its
-//! ranges by its type, and [`Env`] that no word of it ends a line. Definitions begin in `specs/Table`, the defaults in `specs/Defaults`.
+//! Begin with [`Options::set`]: the answer and the values are exactly the table's, and a refusal
+//! changes nothing. [`Rules`] keeps its ranges by its type, and [`Env`] that no word of it ends a
+//! line. Definitions begin in `specs/Table`, the defaults in `specs/Defaults`.
 #![tactic(auto)]
 
 mod env;
@@ -26,3 +27,4 @@ pub use rules::{
     DEFAULT_TTL, DEFAULT_TTL_SSH, DEFAULT_WORKERS, MAX_S2K_COUNT, MAX_WORKERS, MIN_S2K_COUNT,
     MIN_WORKERS, Rules, RunMode,
 };
+pub use text::{copied, name_and_value};

@@ -28,6 +28,7 @@ pub enum PinMode {
 /// What an option is answered.
 #[derive(Clone, Copy, Debug, PartialEq, Eq)]
 pub enum OptionAnswer {
+    /// The option has its value.
     Set,
     /// There is no option of this name.
     Unknown,
@@ -71,7 +72,9 @@ impl Model for Options {
 }
 
 impl Options {
-    ghost use Rattle.session_options.specs.OptionValues.{at_start, words_of, with_description, without_description, with_mode, with_count};
+    ghost use Rattle.session_options.specs.OptionValues.{at_start, words_of, with_description};
+    ghost use Rattle.session_options.specs.OptionValues.{without_description, with_mode};
+    ghost use Rattle.session_options.specs.OptionValues.{with_count};
     ghost use Rattle.std.specs.Option.{option_map};
     ghost use Rattle.session_options.specs.Table.{mode_of, count_of};
 
@@ -142,8 +145,10 @@ impl Options {
     }
 
     fn set_count(&mut self, value: &[u8]) -> OptionAnswer
-        ensures answer { result ≡ (with_count self.old (count_of self.old.rules_count value.now)).answer }
-        ensures after { self.new ≡ (with_count self.old (count_of self.old.rules_count value.now)).after }
+        ensures answer { result
+            ≡ (with_count self.old (count_of self.old.rules_count value.now)).answer }
+        ensures after { self.new
+            ≡ (with_count self.old (count_of self.old.rules_count value.now)).after }
         ensures refused { result ≢ OptionAnswer.Set → self.new ≡ self.old }
         ensures rules_count { self.new.rules_count ≡ self.old.rules_count }
         ensures allow_loopback { self.new.allow_loopback ≡ self.old.allow_loopback }
@@ -190,6 +195,7 @@ impl Options {
         self.description = None;
     }
 
+    /// The terminal and the locale that the client named.
     pub fn env(&self) -> Env
         ensures { words_of result ≡ self.now.env }
     {
@@ -203,6 +209,7 @@ impl Options {
         self.notify
     }
 
+    /// How prompts are answered.
     pub fn mode(&self) -> PinMode
         ensures { result ≡ self.now.mode }
     {
@@ -218,19 +225,21 @@ impl Options {
     }
 }
 
-/// A law: two dashes before the name, blanks around `=`, and leaving `=` out between name and value change nothing, and a name
-/// alone has an empty value.
+/// A law: two dashes before the name, blanks around `=`, and leaving `=` out between name and value
+/// change nothing, and a name alone has an empty value.
 pub fn spelling_is_plain()
-    ensures bare { (old : OptionValues) (name before after value : List ℕ) → list_any ends_name name ≡ false
-        → slice_index name 0 ≢ 45 → list_all is_blank before ≡ true → list_all is_blank after ≡ true
-        → is_blank (slice_index value 0) ≡ false
+    ensures bare { (old : OptionValues) (name before after value : List ℕ)
+        → list_any ends_name name ≡ false → slice_index name 0 ≢ 45 → list_all is_blank before
+        ≡ true → list_all is_blank after ≡ true → is_blank (slice_index value 0) ≡ false
         → applied old (name ++ (before ++ (61 ∷ (after ++ value)))) ≡ applied_as old name value }
-    ensures dashed { (old : OptionValues) (name before after value : List ℕ) → list_any ends_name name ≡ false
-        → list_all is_blank before ≡ true → list_all is_blank after ≡ true → is_blank (slice_index value 0) ≡ false
-        → applied old (45 ∷ 45 ∷ (name ++ (before ++ (61 ∷ (after ++ value))))) ≡ applied_as old name value }
-    ensures unmarked { (old : OptionValues) (name value : List ℕ) (blank : ℕ) (before : List ℕ) → list_any ends_name name ≡ false
-        → is_blank blank ≡ true → list_all is_blank before ≡ true → ends_name (slice_index value 0) ≡ false
-        → applied old (45 ∷ 45 ∷ (name ++ (blank ∷ (before ++ value)))) ≡ applied_as old name value }
+    ensures dashed { (old : OptionValues) (name before after value : List ℕ)
+        → list_any ends_name name ≡ false → list_all is_blank before ≡ true
+        → list_all is_blank after ≡ true → is_blank (slice_index value 0) ≡ false → applied old
+        (45 ∷ 45 ∷ (name ++ (before ++ (61 ∷ (after ++ value))))) ≡ applied_as old name value }
+    ensures unmarked { (old : OptionValues) (name value : List ℕ) (blank : ℕ) (before : List ℕ)
+        → list_any ends_name name ≡ false → is_blank blank ≡ true
+        → list_all is_blank before ≡ true → ends_name (slice_index value 0) ≡ false → applied old
+        (45 ∷ 45 ∷ (name ++ (blank ∷ (before ++ value)))) ≡ applied_as old name value }
     ensures alone { (old : OptionValues) (name : List ℕ) → list_any ends_name name ≡ false
         → applied old (45 ∷ 45 ∷ name) ≡ applied_as old name [] }
 {}

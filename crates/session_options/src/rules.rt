@@ -7,16 +7,20 @@ use crate::Word;
 /// The fewest bytes that a passphrase is hashed to.
 pub const MIN_S2K_COUNT: u64 = 65_536;
 
-/// The most bytes that a passphrase is hashed to: what the octet 255 stands for (RFC 4880, 3.7.1.3).
+/// The most bytes that a passphrase is hashed to: what the octet 255 stands for (RFC 4880,
+/// 3.7.1.3).
 pub const MAX_S2K_COUNT: u64 = 65_011_712;
 
 /// The bytes that a passphrase is hashed to where nothing is said.
 pub const DEFAULT_S2K_COUNT: u64 = 4_194_304;
 
+/// The fewest sessions that may be served at a time.
 pub const MIN_WORKERS: u32 = 1;
 
+/// The most sessions that may be served at a time.
 pub const MAX_WORKERS: u32 = 64;
 
+/// The sessions that are served at a time where nothing is said.
 pub const DEFAULT_WORKERS: u32 = 8;
 
 /// In seconds: `default-cache-ttl` of the GnuPG manual.
@@ -51,9 +55,13 @@ pub enum RunMode {
 /// What the agent was started with. Lifetimes and the timeout are in seconds.
 #[derive(Debug, Drop)]
 pub struct Rules {
+    /// How long an entry may go unused: `default-cache-ttl` of the GnuPG manual.
     pub default_ttl: u32,
+    /// The maximum age of an entry: `max-cache-ttl` of the GnuPG manual.
     pub max_ttl: u32,
+    /// As `default_ttl`, for entries of the mode `Ssh`.
     pub default_ttl_ssh: u32,
+    /// As `max_ttl`, for entries of the mode `Ssh`.
     pub max_ttl_ssh: u32,
     /// How long a pinentry may wait for its user. 0 stands for no end.
     pub pinentry_timeout: u32,
@@ -65,7 +73,9 @@ pub struct Rules {
     pub min_len: u8,
     /// The fewest bytes of a new passphrase that are no letters.
     pub min_nonalpha: u8,
+    /// Whether a client may store passphrases: `allow-preset-passphrase` of the GnuPG manual.
     pub allow_preset: bool,
+    /// Whether a client may be asked in place of a pinentry: `allow-loopback-pinentry` there.
     pub allow_loopback: bool,
     /// Whether a daemon listens on a further socket, for restricted sessions.
     pub extra: bool,
@@ -73,7 +83,9 @@ pub struct Rules {
     pub s2k_count: u64,
     /// The path of the pinentry.
     pub pinentry: Word,
+    /// The path of the home directory.
     pub homedir: Word,
+    /// How sessions come in.
     pub run: RunMode,
     ghost count_in_range: { IsS2kCount s2k_count },
     ghost workers_in_range: { IsWorkers workers },

@@ -1,13 +1,25 @@
 ghost use Rattle.std.specs.Prelude.{◌≡◌, ◌≤◌, ◌↔◌, true, false, length, IsSome, IfSome};
 ghost use Rattle.std.specs.List.{position_or_len};
 ghost use Rattle.assuan_text.specs.Blanks.{without_blanks};
-ghost use Rattle.session_options.specs.Text.{ends_name, without, name_of, option_value, ends_line, has_line_end, can_be_kept};
+ghost use Rattle.session_options.specs.Text.{ends_name, without, name_of, option_value, ends_line};
+ghost use Rattle.session_options.specs.Text.{has_line_end, can_be_kept};
 
 use crate::Word;
+use arrayvec::ArrayVec;
 use assuan_text::{is_blank, without_blanks};
 
-/// An option's name, and its value.
-pub(crate) fn name_and_value(text: &[u8]) -> (&[u8], &[u8])
+/// The same bytes once more, without taking memory.
+pub fn copied<const N: usize>(bytes: &ArrayVec<u8, N>) -> ArrayVec<u8, N>
+    ensures { result ≡ bytes.now }
+{
+    let mut copy = ArrayVec::new();
+    copy.try_extend_from_slice(bytes).unwrap();
+    copy
+}
+
+/// The name of an option, up to the first blank, tab or `=`, and its value, as OPTION gives them;
+/// two dashes may stand before both.
+pub fn name_and_value(text: &[u8]) -> (&[u8], &[u8])
     ensures name { result.0.now ≡ name_of text.now }
     ensures value { result.1.now ≡ option_value text.now }
 {
@@ -41,7 +53,8 @@ fn without<'a>(mark: &[u8], bytes: &'a [u8]) -> &'a [u8]
 /// The value as a word, if it can be kept: it isn't too long, and has no end of a line.
 pub(crate) fn word_of(value: &[u8]) -> Option<Word>
     ensures some { IsSome result ↔ (can_be_kept value.now ≡ true) }
-    ensures word { IfSome result (λ word. (word.items ≡ value.now) × (has_line_end word.items ≡ false)) }
+    ensures word { IfSome result
+        (λ word. (word.items ≡ value.now) × (has_line_end word.items ≡ false)) }
 {
     if has_line_end(value) {
         return None;

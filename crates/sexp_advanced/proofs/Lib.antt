@@ -9,4 +9,3 @@ pub mod WorkedExamples
 pub mod Following
 pub mod Spelled
 pub mod Stays
-pub mod AddsLast

@@ -1,18 +1,20 @@
 -- Where reading stands: the open lists, and the signs up to there.
-use Rattle.std.proofs.Common.{◌≡◌, ℕ, ◌+◌, ◌-◌, ◌<◌, ◌≤◌, max, List, [], ◌∷◌, ◌++◌, length, drop, Option, Some, None, refl, sym, ap, subst, ◌∙◌, inl, inr, append_assoc, arith}
+use Rattle.std.proofs.Common.{◌≡◌, ℕ, ◌+◌, ◌-◌, ◌<◌, ◌≤◌, List, [], ◌∷◌, ◌++◌, length, drop, Option, Some, None, refl, sym, ap, subst, ◌∙◌, inl, inr, append_assoc, arith}
 use Rattle.std.specs.List.{flat_map}
 use Rattle.std.proofs.lemmas.List.{append-nil}
 use Rattle.std.proofs.lemmas.List.Concat.{flat_map-cons}
 use Rattle.std.proofs.lemmas.Grind.{flat_map-append}
 use Rattle.sexp_canonical.specs.Tree.{Tree, leaf, row, list_of}
 use Rattle.sexp_canonical.specs.View.{tree_of}
-use Rattle.sexp_canonical.specs.Spelling.{most_depth, depth, depths}
+use Rattle.sexp_canonical.specs.Spelling.{most_depth, depth}
 use Rattle.sexp_canonical.specs.Reading.{OpenLists, open_depth}
+use Rattle.sexp_canonical.specs.Adding.{AddsTree}
 use Rattle.sexp_canonical.specs.declared.tree.Sexp.{Sexp}
+use Rattle.sexp_canonical.proofs.Depths.{deeper-more, deeper-new, deeper-outer, deeper-last, length-le-open_depth}
 use Rattle.sexp_advanced.specs.Bytes.{is_space_byte, without_front}
 use Rattle.sexp_advanced.specs.Signs.{sign, IsAt}
 use Rattle.sexp_advanced.specs.Reading.{signs, row_signs, opening, Begins, IsExpression, IsFirstFault, sign_fault, place_of}
-use Rattle.sexp_advanced.specs.Steps.{HasNoSign, AddsTree, Adds}
+use Rattle.sexp_advanced.specs.Steps.{HasNoSign, Adds}
 use Rattle.sexp_advanced.specs.declared.signs.Sign.{Sign}
 use Rattle.sexp_advanced.specs.declared.signs.Sign.TheVariants.{Open, Close, Atom}
 use Rattle.sexp_advanced.specs.declared.fault.AdvFault.{AdvFault}
@@ -77,32 +79,6 @@ closed-list : (outer : OpenLists) (items : List Tree) → opening (outer ++ item
 closed-list outer items =
     ap (λ (s : List Sign). s ++ Close ∷ []) (opening-last outer items) ∙ append_assoc (opening outer) (Open ∷ flat_map signs items) (Close ∷ [])
     ∙ ap (λ (s : List Sign). opening outer ++ Open ∷ (s ++ Close ∷ [])) (sym (row_signs-row items))
-
--- ---- how deep they are
-
-depths-last : (items : List Tree) (t : Tree) → depths (row (items ++ t ∷ [])) ≡ max (depths (row items)) (depth t)
-depths-last [] t = omega arith
-depths-last (i ∷ items) t = omega (arith, depths-last items t)
-
-deeper-more : (outer : OpenLists) (items : List Tree) (t : Tree) → open_depth (outer ++ (items ++ t ∷ []) ∷ []) ≤ max (open_depth (outer ++ items ∷ [])) (length outer + 1 + depth t)
-deeper-more [] items t = omega (arith, depths-last items t)
-deeper-more (o ∷ outer) items t = omega (arith, deeper-more outer items t)
-
-deeper-new : (lists : OpenLists) → open_depth (lists ++ [] ∷ []) ≤ max (open_depth lists) (length lists + 1)
-deeper-new [] = omega arith
-deeper-new (o ∷ lists) = omega (arith, deeper-new lists)
-
-deeper-outer : (outer : OpenLists) (items : List Tree) → open_depth outer ≤ open_depth (outer ++ items ∷ [])
-deeper-outer [] items = omega arith
-deeper-outer (o ∷ outer) items = omega (arith, deeper-outer outer items)
-
-deeper-last : (outer : OpenLists) (items : List Tree) → length outer + 1 + depths (row items) ≤ open_depth (outer ++ items ∷ [])
-deeper-last [] items = omega arith
-deeper-last (o ∷ outer) items = omega (arith, deeper-last outer items)
-
-length-le-open_depth : (lists : OpenLists) → length lists ≤ open_depth lists
-length-le-open_depth [] = omega arith
-length-le-open_depth (o ∷ lists) = omega (arith, length-le-open_depth lists)
 
 length-last : (outer : OpenLists) (items : List Tree) → length (outer ++ items ∷ []) ≡ length outer + 1
 length-last [] items = omega arith

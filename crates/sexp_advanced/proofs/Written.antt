@@ -1,13 +1,14 @@
 -- Steps of writing.
 use Rattle.std.proofs.Common.{◌≡◌, ℕ, suc, ◌+◌, ◌-◌, ◌*◌, ◌<◌, List, [], ◌∷◌, ◌++◌, get_or, Option, None, Bor, refl, sym, ap, subst, ◌∙◌, append_assoc, arith}
-use Rattle.std.proofs.lemmas.List.{map-append}
 use Rattle.sexp_canonical.specs.Tree.{Tree, row, leaf, branch, node_count}
 use Rattle.sexp_canonical.specs.View.{tree_of, trees}
+use Rattle.sexp_canonical.specs.Writing.{begun_lists}
 use Rattle.sexp_canonical.specs.declared.tree.Sexp.{Sexp}
 use Rattle.sexp_canonical.specs.declared.tree.Sexp.TheVariants.{Atom, List as Listed}
+use Rattle.sexp_canonical.proofs.Written.{begun-last}
 use Rattle.sexp_advanced.specs.Writing.{advanced, advanced_of, spaced_row}
 use Rattle.sexp_advanced.specs.Octets.{AreOctets, IsOfOctets, AreOfOctets}
-use Rattle.sexp_advanced.specs.Left.{spaced_text, lists_left, text_left, begun_lists, list_steps, lists_steps, AreListsOfOctets}
+use Rattle.sexp_advanced.specs.Left.{spaced_text, lists_left, text_left, list_steps, lists_steps, AreListsOfOctets}
 
 -- ---- what is left
 
@@ -30,9 +31,6 @@ octets-last (o ∷ outer) items h = let inner = octets-last outer items h.1 in (
 octets-push : (outer : List (List Tree)) (items : List Tree) → AreOfOctets (row items) → AreListsOfOctets outer → AreListsOfOctets (outer ++ items ∷ [])
 octets-push [] items h g = (h, tt)
 octets-push (o ∷ outer) items h g = (g.0, octets-push outer items h g.1)
-
-begun-last : (outer : List (Bor (List Sexp))) (s : Bor (List Sexp)) → begun_lists (outer ++ s ∷ []) ≡ begun_lists outer ++ trees s.now ∷ []
-begun-last outer s = map-append (λ (b : Bor (List Sexp)). trees b.now) outer (s ∷ [])
 
 left-last : (before after : List (Bor (List Sexp))) (s : Bor (List Sexp)) → after ≡ before ++ s ∷ [] → lists_left (begun_lists after) ≡ spaced_text (trees s.now) ++ lists_left (begun_lists before)
 left-last before after s e = ap lists_left (ap begun_lists e ∙ begun-last before s) ∙ lists_left-last (begun_lists before) (trees s.now)

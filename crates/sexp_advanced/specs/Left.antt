@@ -1,8 +1,8 @@
 -- Private: what is left to be written.
-use Rattle.std.specs.Prelude.{ℕ, ◌+◌, ◌*◌, ◌-◌, List, [], ◌∷◌, ◌++◌, map, Option, Some, None}
+use Rattle.std.specs.Prelude.{ℕ, ◌+◌, ◌*◌, ◌-◌, List, [], ◌∷◌, ◌++◌, Option, Some, None}
 use Rattle.std.specs.Borrow.{Bor}
 use Rattle.sexp_canonical.specs.Tree.{Tree, row, node_count}
-use Rattle.sexp_canonical.specs.View.{tree_of, trees}
+use Rattle.sexp_canonical.specs.View.{tree_of}
 use Rattle.sexp_canonical.specs.declared.tree.Sexp.{Sexp}
 use Rattle.sexp_advanced.specs.Writing.{advanced, spaced_row}
 use Rattle.sexp_advanced.specs.Octets.{IsOfOctets, AreOfOctets}
@@ -10,9 +10,6 @@ use Rattle.sexp_advanced.specs.Octets.{IsOfOctets, AreOfOctets}
 abbrev pub next_tree : Option (Bor Sexp) → Option Tree
 next_tree None = None
 next_tree (Some s) = Some (tree_of s.now)
-
-abbrev pub begun_lists : List (Bor (List Sexp)) → List (List Tree)
-begun_lists slices = map (λ slice. trees slice.now) slices
 
 -- the items that are left of a list, and its end
 abbrev pub spaced_text : List Tree → List ℕ

@@ -1,10 +1,9 @@
 -- What the steps of reading know of a text.
-use Rattle.std.specs.Prelude.{◌≡◌, ℕ, List, [], ◌∷◌, ◌++◌, length, map, Option, Some, None}
-use Rattle.std.specs.Global.{Vec}
+use Rattle.std.specs.Prelude.{◌≡◌, ℕ, List, [], ◌∷◌, ◌++◌, length, Option, Some, None}
 use Rattle.sexp_canonical.specs.Tree.{Tree, leaf, list_of}
-use Rattle.sexp_canonical.specs.View.{tree_of, trees}
 use Rattle.sexp_canonical.specs.Spelling.{most_depth}
 use Rattle.sexp_canonical.specs.Reading.{OpenLists}
+use Rattle.sexp_canonical.specs.Adding.{AddsTree}
 use Rattle.sexp_canonical.specs.declared.tree.Sexp.{Sexp}
 use Rattle.sexp_advanced.specs.declared.signs.Sign.{Sign}
 use Rattle.sexp_advanced.specs.declared.signs.Sign.TheVariants.{Open, Close, Atom}
@@ -28,21 +27,6 @@ verbatim_fault_at place (CanonicalBadLength at) = BadAtom place
 verbatim_fault_at place (CanonicalDeep at) = BadAtom place
 verbatim_fault_at place CanonicalShort = Short
 verbatim_fault_at place CanonicalNoMemory = NoMemory
-
--- the lists that are open, as trees
-abbrev pub lists_of : List (Vec Sexp) → OpenLists
-lists_of open-lists = map (λ items. trees items.items) open-lists
-
--- a tree becomes the last item of the innermost list, or is the whole where none is open
-pub record AddsItem (old new : OpenLists) (tree : Tree) : Type 0 where
-  pub outer : OpenLists
-  pub items : List Tree
-  pub before : old ≡ outer ++ items ∷ []
-  pub after : new ≡ outer ++ (items ++ tree ∷ []) ∷ []
-
-abbrev pub AddsTree : (old new : OpenLists) → Tree → Option Sexp → Type 0
-AddsTree old new tree None = AddsItem old new tree
-AddsTree old new tree (Some whole) = (old ≡ []) × (tree_of whole ≡ tree)
 
 -- the innermost list is at its end
 pub record AddsList (old new : OpenLists) (r : Option Sexp) : Type 0 where

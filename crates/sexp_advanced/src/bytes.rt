@@ -1,16 +1,24 @@
 ghost use Rattle.std.specs.Prelude.{◌≡◌, ◌<◌, IfSome};
-ghost use Rattle.sexp_advanced.specs.Bytes.{is_space_byte, is_token_mark, is_token_start, is_token_byte, hex_value, without_front, class_of};
+ghost use Rattle.sexp_advanced.specs.Bytes.{is_space_byte, is_token_mark, is_token_start};
+ghost use Rattle.sexp_advanced.specs.Bytes.{is_token_byte, hex_value, without_front, class_of};
 ghost use Rattle.sexp_advanced.specs.declared.bytes.Class.{Class};
 
 /// What a byte begins, where an item may begin.
 #[derive(Clone, Copy)]
 pub enum Class {
+    /// A list: `(`.
     Opens,
+    /// The end of a list: `)`.
     Closes,
+    /// A hexadecimal atom: `#`.
     Hexadecimal,
+    /// A quoted text: `"`.
     Quoted,
+    /// A canonical atom, by the first digit of its length.
     Verbatim,
+    /// A token, by its first byte.
     Token,
+    /// No item.
     Nothing,
 }
 
@@ -44,6 +52,7 @@ fn is_token_mark(byte: u8) -> bool
         || byte == b'='
 }
 
+/// A byte that may begin a token, or a digit.
 #[tactic(auto, unfolding(crate::specs::Bytes::is_token_byte))]
 pub fn is_token_byte(byte: u8) -> bool
     ensures { result ≡ is_token_byte byte }
@@ -65,6 +74,7 @@ pub fn hex_value(byte: u8) -> Option<u8>
     }
 }
 
+/// The class of a byte; a blank is of none.
 #[tactic(auto, unfolding(crate::specs::Bytes::class_of))]
 pub fn class_of(byte: u8) -> Class
     ensures { result ≡ class_of byte }

@@ -16,6 +16,7 @@ pub enum AdvFault {
     Deep(usize),
     /// The bytes end first.
     Short,
+    /// There was no memory for the expression.
     NoMemory,
 }
 

@@ -1,13 +1,17 @@
 ghost use Rattle.std.specs.Prelude.{◌≡◌, ◌<◌, ◌≤◌, ◌⊎◌, MatchBool};
 ghost use Rattle.std.specs.Int.{is_in_range};
-ghost use Rattle.sexp_advanced.specs.Pieces.{low_digit, pair, hex_escape, second_octal, third_octal, letter, escape, quoted_piece, piece_at, piece_of};
+ghost use Rattle.sexp_advanced.specs.Pieces.{low_digit, pair, hex_escape, second_octal};
+ghost use Rattle.sexp_advanced.specs.Pieces.{third_octal, letter, escape, quoted_piece, piece_at};
+ghost use Rattle.sexp_advanced.specs.Pieces.{piece_of};
 
 use crate::bytes::{after_blanks, hex_value};
 
 /// How an atom between two marks is written.
 #[derive(Clone, Copy)]
 pub enum Form {
+    /// In hexadecimal digits between two `#`.
     Hexadecimal,
+    /// As a text between two `"`, with escapes.
     Quoted,
 }
 
@@ -18,10 +22,13 @@ pub enum Piece<'a> {
     Byte(u8, &'a [u8]),
     /// The closing mark, and what is behind it.
     Close(&'a [u8]),
+    /// What breaks the form.
     Broken,
+    /// The end of the text, before the closing mark.
     Cut,
 }
 
+/// The piece at the front of this text, which lies within such an atom.
 pub fn piece_at(form: Form, text: &[u8]) -> Piece<'_>
     ensures { piece_of result ≡ piece_at form text.now }
 {

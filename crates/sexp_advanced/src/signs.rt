@@ -13,15 +13,20 @@ use std::alloc::{AllocError, Global};
 /// An item of a text: a mark of a list, or an atom.
 #[derive(Drop)]
 pub enum Sign {
+    /// `(`, which opens a list.
     Open,
+    /// `)`, which closes one.
     Close,
+    /// The bytes of an atom.
     Atom(Bytes),
 }
 
-/// The sign at the front of a text that begins with no blank, and the text behind it. The place is for faults.
+/// The sign at the front of a text that begins with no blank, and the text behind it. The place is
+/// for faults.
 pub fn sign_at(alloc: Global, place: usize, text: &[u8]) -> Result<(Sign, &[u8]), AdvFault>
     ensures found { IfOk result (λ read. IsAt text.now (sign read.0 read.1.now)) }
-    ensures fault { IfErr result (λ fault. (fault ≡ AdvFault.NoMemory) ⊎ HasNoSign (IsAt text.now) place fault) }
+    ensures fault { IfErr result
+        (λ fault. (fault ≡ AdvFault.NoMemory) ⊎ HasNoSign (IsAt text.now) place fault) }
 {
     let Some((byte, more)) = text.split_first() else {
         return Err(AdvFault::Short);
@@ -39,7 +44,8 @@ pub fn sign_at(alloc: Global, place: usize, text: &[u8]) -> Result<(Sign, &[u8])
 
 // The token at the front.
 fn token_at(alloc: Global, text: &[u8]) -> Result<(Sign, &[u8]), AllocError>
-    ensures { IfOk result (λ read. (read.0 ≡ Sign.Atom (front_of is_token_byte text.now)) × (read.1.now ≡ without_front is_token_byte text.now)) }
+    ensures { IfOk result (λ read. (read.0 ≡ Sign.Atom (front_of is_token_byte text.now))
+        × (read.1.now ≡ without_front is_token_byte text.now)) }
 {
     let rest = after_token(text);
     let token = &text[..text.len() - rest.len()];
@@ -56,7 +62,8 @@ fn delimited_at(
     text: &[u8],
 ) -> Result<(Sign, &[u8]), AdvFault>
     ensures found { IfOk result (λ read. IsDelimited form text.now (sign read.0 read.1.now)) }
-    ensures fault { IfErr result (λ fault. (fault ≡ AdvFault.NoMemory) ⊎ HasNoSign (IsDelimited form text.now) place fault) }
+    ensures fault { IfErr result
+        (λ fault. (fault ≡ AdvFault.NoMemory) ⊎ HasNoSign (IsDelimited form text.now) place fault) }
 {
     let mut bytes = Bytes::new(alloc);
     let mut rest = text;
@@ -76,7 +83,8 @@ fn delimited_at(
 // The canonical atom at the front, where a digit stands.
 fn verbatim_at(alloc: Global, place: usize, text: &[u8]) -> Result<(Sign, &[u8]), AdvFault>
     ensures found { IfOk result (λ read. IsVerbatim text.now (sign read.0 read.1.now)) }
-    ensures fault { IfErr result (λ fault. (fault ≡ AdvFault.NoMemory) ⊎ HasNoSign (IsVerbatim text.now) place fault) }
+    ensures fault { IfErr result
+        (λ fault. (fault ≡ AdvFault.NoMemory) ⊎ HasNoSign (IsVerbatim text.now) place fault) }
 {
     let (tree, end) = match read(alloc, text) {
         Ok(found) => found,

@@ -1,23 +1,30 @@
-ghost use Rattle.std.specs.Prelude.{◌≡◌, ◌+◌, ◌-◌, ◌*◌, ◌<◌, ◌≤◌, [], ◌∷◌, ◌++◌, length, IfOk, OnOk};
+ghost use Rattle.std.specs.Prelude.{◌≡◌, ◌+◌, ◌-◌, ◌*◌, ◌<◌, ◌≤◌, [], ◌∷◌, ◌++◌, length, IfOk};
+ghost use Rattle.std.specs.Prelude.{OnOk};
 ghost use Rattle.sexp_canonical.specs.Tree.{leaf, row};
 ghost use Rattle.sexp_canonical.specs.View.{tree_of, trees};
 ghost use Rattle.sexp_canonical.specs.Spelling.{most_depth, depth};
+ghost use Rattle.sexp_canonical.specs.Writing.{begun_lists};
 ghost use Rattle.sexp_advanced.specs.Reading.{Reads};
-ghost use Rattle.sexp_advanced.specs.Writing.{advanced, advanced_of, is_token, are_token_bytes, hex_pairs, hex_glyph};
+ghost use Rattle.sexp_advanced.specs.Writing.{advanced, advanced_of, is_token, are_token_bytes};
+ghost use Rattle.sexp_advanced.specs.Writing.{hex_pairs, hex_glyph};
 ghost use Rattle.sexp_advanced.specs.Octets.{AreOctets, IsOfOctets, AreOfOctets};
-ghost use Rattle.sexp_advanced.specs.Left.{next_tree, text_left, spaced_text, begun_lists, list_steps, steps_left, AreLeftOfOctets};
+ghost use Rattle.sexp_advanced.specs.Left.{next_tree, text_left, spaced_text, list_steps};
+ghost use Rattle.sexp_advanced.specs.Left.{steps_left, AreLeftOfOctets};
 
 use crate::bytes::{is_token_byte, is_token_start};
 use sexp_canonical::{Bytes, Sexp};
 use std::alloc::{AllocError, Global};
 
-/// The advanced form of an expression of any depth and size, in one line: an atom that is a token as it stands, any other
-/// in upper-case hexadecimal, one blank between two items. The depth takes memory, and no stack.
+/// The advanced form of an expression of any depth and size, in one line: an atom that is a token
+/// as it stands, any other in upper-case hexadecimal, one blank between two items. The depth takes
+/// memory, and no stack.
 pub fn write_advanced(alloc: Global, tree: &Sexp) -> Result<Vec<u8>, AllocError>
     ensures written { IfOk result (λ text. text.items ≡ advanced_of tree.now) }
 
-    // What is written reads as the same expression, with the whole length, where no more lists are open than reading takes.
-    ensures again { IfOk result (λ text. depth (tree_of tree.now) ≤ most_depth → Reads text.items (Ok (tree.now, length text.items))) }
+    // What is written reads as the same expression, with the whole length, where no more lists are
+    // open than reading takes.
+    ensures again { IfOk result (λ text. depth (tree_of tree.now) ≤ most_depth
+        → Reads text.items (Ok (tree.now, length text.items))) }
 
     // The atoms hold bytes, as the law `written_is_read` wants for more text behind it.
     ensures octets { IfOk result (λ text. IsOfOctets (tree_of tree.now)) }
@@ -53,11 +60,13 @@ fn begin<'a>(
     begun: &mut Vec<&'a [Sexp]>,
     tree: &'a Sexp,
 ) -> Result<Option<&'a Sexp>, AllocError>
-    ensures written { IfOk result (λ next. text.new ++ text_left (next_tree next) (begun_lists begun.new.items)
+    ensures written { IfOk result
+        (λ next. text.new ++ text_left (next_tree next) (begun_lists begun.new.items)
         ≡ text.old ++ text_left (Some (tree_of tree.now)) (begun_lists begun.old.items)) }
     ensures steps { IfOk result (λ next. steps_left (next_tree next) (begun_lists begun.new.items)
         < steps_left (Some (tree_of tree.now)) (begun_lists begun.old.items)) }
-    ensures octets { IfOk result (λ next. AreLeftOfOctets (next_tree next) (begun_lists begun.new.items)
+    ensures octets { IfOk result
+        (λ next. AreLeftOfOctets (next_tree next) (begun_lists begun.new.items)
         → AreLeftOfOctets (Some (tree_of tree.now)) (begun_lists begun.old.items)) }
 {
     match tree {
@@ -77,18 +86,21 @@ fn begin<'a>(
     }
 }
 
-// Writes the end of a list of which nothing is left, or the blank before its next item, and gives that item.
+// Writes the end of a list of which nothing is left, or the blank before its next item, and gives
+// that item.
 fn go_on<'a>(
     text: &mut Bytes,
     begun: &mut Vec<&'a [Sexp]>,
     items: &'a [Sexp],
 ) -> Result<Option<&'a Sexp>, AllocError>
-    ensures written { IfOk result (λ next. text.new ++ text_left (next_tree next) (begun_lists begun.new.items)
-        ≡ text.old ++ (spaced_text (trees items.now) ++ text_left None (begun_lists begun.old.items))) }
+    ensures written { IfOk result
+        (λ next. text.new ++ text_left (next_tree next) (begun_lists begun.new.items) ≡ text.old
+        ++ (spaced_text (trees items.now) ++ text_left None (begun_lists begun.old.items))) }
     ensures steps { IfOk result (λ next. steps_left (next_tree next) (begun_lists begun.new.items)
         < list_steps (trees items.now) + steps_left None (begun_lists begun.old.items)) }
-    ensures octets { IfOk result (λ next. AreLeftOfOctets (next_tree next) (begun_lists begun.new.items)
-        → AreOfOctets (row (trees items.now)) × AreLeftOfOctets None (begun_lists begun.old.items)) }
+    ensures octets { IfOk result (λ next. AreLeftOfOctets (next_tree next)
+        (begun_lists begun.new.items) → AreOfOctets (row (trees items.now))
+        × AreLeftOfOctets None (begun_lists begun.old.items)) }
 {
     let Some((first, others)) = items.split_first() else {
         text.extend_from_slice(b")")?;

@@ -3,7 +3,10 @@ pub mod Trees
 pub mod Faults
 pub mod OneAnswer
 pub mod Steps
+pub mod Depths
+pub mod AddsLast
 pub mod Open
+pub mod Measured
 pub mod Written
 pub mod WrittenLists
 pub mod Dropped

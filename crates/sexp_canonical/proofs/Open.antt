@@ -1,44 +1,29 @@
 -- Where reading stands: the open lists, and the text up to there.
-use Rattle.std.proofs.Common.{◌≡◌, ℕ, ◌+◌, ◌<◌, ◌≤◌, max, true, false, eqb, List, [], ◌∷◌, ◌++◌, length, get_or, take, drop, Some, refl, sym, ap, subst, ◌∙◌, inl, inr, append_assoc, arith, length-append, length-drop, drop-cons, suc, set}
+use Rattle.std.proofs.Common.{◌≡◌, ℕ, ◌+◌, ◌<◌, ◌≤◌, true, false, eqb, List, [], ◌∷◌, ◌++◌, length, get_or, take, drop, Some, refl, sym, ap, subst, ◌∙◌, inl, inr, append_assoc, arith, length-append, length-drop}
 use Rattle.std.specs.Global.{Vec}
 use Rattle.std.specs.Vec.{vec_len}
 use Rattle.std.specs.List.{flat_map}
-use Rattle.std.proofs.lemmas.List.{map-append, append-nil, take-append-drop, set_split, drop_all, length-map, nil_from_length}
+use Rattle.std.proofs.lemmas.List.{map-append, append-nil, drop_all, length-map, nil_from_length}
 use Rattle.std.proofs.lemmas.List.Concat.{flat_map-cons}
 use Rattle.std.proofs.lemmas.Grind.{flat_map-append}
 use Rattle.std.proofs.lemmas.Bool.{eq-eqb, ne_eqb}
 use Rattle.std.proofs.Math.Seq.{take-append_seam}
 use Rattle.std.specs.Char.{is_ascii_digit}
-use Rattle.sexp_canonical.specs.Tree.{Tree, row, list_of}
+use Rattle.sexp_canonical.specs.Tree.{Tree, list_of}
 use Rattle.sexp_canonical.specs.View.{tree_of, trees}
-use Rattle.sexp_canonical.specs.Spelling.{most_depth, spelling, spelling_of, depth, depths}
+use Rattle.sexp_canonical.specs.Spelling.{most_depth, spelling, spelling_of, depth}
 use Rattle.sexp_canonical.specs.Reading.{OpenLists, opening, open_depth, item_fault, IsLengthFault, IsFirstFault}
-use Rattle.sexp_canonical.specs.Steps.{HasAtom, HasExpression, lists_of, AddsItem}
+use Rattle.sexp_canonical.specs.Adding.{lists_of, AddsItem}
+use Rattle.sexp_canonical.specs.Steps.{HasAtom, HasExpression}
 use Rattle.sexp_canonical.specs.declared.tree.Sexp.{Sexp}
 use Rattle.sexp_canonical.specs.declared.tree.Sexp.TheVariants.{List as Listed}
 use Rattle.sexp_canonical.specs.declared.fault.SexpFault.{SexpFault}
 use Rattle.sexp_canonical.specs.declared.fault.SexpFault.TheVariants.{BadByte, Deep, Short}
+use Rattle.sexp_canonical.proofs.Depths.{deeper-more, deeper-new, deeper-outer, deeper-last, length-le-open_depth}
 use Rattle.sexp_canonical.proofs.Trees.{spelled_list}
 use Rattle.sexp_canonical.proofs.Steps.{drop_at_place}
 
 -- ---- what lists are open
-
-pub adds_item : (old new outer : List (Vec Sexp)) (items more : Vec Sexp) (tree : Sexp) → old ≡ outer ++ items ∷ [] → new ≡ outer ++ more ∷ [] → more.items ≡ items.items ++ tree ∷ [] → AddsItem old new tree
-adds_item old new outer items more tree old-is new-is more-is = record {
-  outer = lists_of outer;
-  items = trees items.items;
-  before = ap lists_of old-is ∙ map-append (λ (v : Vec Sexp). trees v.items) outer (items ∷ []);
-  after = ap lists_of new-is ∙ map-append (λ (v : Vec Sexp). trees v.items) outer (more ∷ [])
-      ∙ ap (λ (ts : List Tree). lists_of outer ++ ts ∷ []) (ap trees more-is ∙ map-append tree_of items.items (tree ∷ []));
-}
-
-pub adds_last : (old : List (Vec Sexp)) (i : ℕ) (items more : Vec Sexp) (tree : Sexp) → i + 1 ≡ length old → items ≡ get_or old i items → more.items ≡ items.items ++ tree ∷ [] → AddsItem old (set old i more) tree
-adds_last old i items more tree len at more-is =
-    let within : i < length old = omega arith in
-    let none : drop (suc i) old ≡ [] = drop_all (suc i) old (omega arith) in
-    let last : drop i old ≡ items ∷ [] = drop-cons old i items within ∙ ap (λ (v : Vec Sexp). v ∷ drop (suc i) old) (sym at) ∙ ap (λ (vs : List (Vec Sexp)). items ∷ vs) none in
-    adds_item old (set old i more) (take i old) items more tree (sym (take-append-drop i old) ∙ ap (λ (vs : List (Vec Sexp)). take i old ++ vs) last)
-    (set_split old i more within ∙ ap (λ (vs : List (Vec Sexp)). take i old ++ more ∷ vs) none) more-is
 
 opening-append : (xs ys : OpenLists) → opening (xs ++ ys) ≡ opening xs ++ opening ys
 opening-append [] ys = refl
@@ -55,32 +40,6 @@ opening-more : (outer : OpenLists) (items : List Tree) (t : Tree) → opening (o
 opening-more outer items t =
     opening-last outer (items ++ t ∷ []) ∙ ap (λ (s : List ℕ). opening outer ++ 40 ∷ s) (flat_map-last items t)
     ∙ sym (append_assoc (opening outer) (40 ∷ flat_map spelling items) (spelling t)) ∙ ap (λ (s : List ℕ). s ++ spelling t) (sym (opening-last outer items))
-
--- ---- how deep they are
-
-depths-last : (items : List Tree) (t : Tree) → depths (row (items ++ t ∷ [])) ≡ max (depths (row items)) (depth t)
-depths-last [] t = omega arith
-depths-last (i ∷ items) t = omega (arith, depths-last items t)
-
-deeper-more : (outer : OpenLists) (items : List Tree) (t : Tree) → open_depth (outer ++ (items ++ t ∷ []) ∷ []) ≤ max (open_depth (outer ++ items ∷ [])) (length outer + 1 + depth t)
-deeper-more [] items t = omega (arith, depths-last items t)
-deeper-more (o ∷ outer) items t = omega (arith, deeper-more outer items t)
-
-deeper-new : (lists : OpenLists) → open_depth (lists ++ [] ∷ []) ≤ max (open_depth lists) (length lists + 1)
-deeper-new [] = omega arith
-deeper-new (o ∷ lists) = omega (arith, deeper-new lists)
-
-deeper-outer : (outer : OpenLists) (items : List Tree) → open_depth outer ≤ open_depth (outer ++ items ∷ [])
-deeper-outer [] items = omega arith
-deeper-outer (o ∷ outer) items = omega (arith, deeper-outer outer items)
-
-deeper-last : (outer : OpenLists) (items : List Tree) → length outer + 1 + depths (row items) ≤ open_depth (outer ++ items ∷ [])
-deeper-last [] items = omega arith
-deeper-last (o ∷ outer) items = omega (arith, deeper-last outer items)
-
-length-le-open_depth : (lists : OpenLists) → length lists ≤ open_depth lists
-length-le-open_depth [] = omega arith
-length-le-open_depth (o ∷ lists) = omega (arith, length-le-open_depth lists)
 
 -- ---- places
 
@@ -136,7 +95,7 @@ list_finished text place outer items at within byte =
           ∙ ap (λ (s : List ℕ). opening outer ++ s) inside;
     }
 
-pub item_added : (text : List ℕ) (end : ℕ) (old new : List (Vec Sexp)) (tree : Sexp) → IsFinished text end (lists_of old) (tree_of tree) → AddsItem old new tree → IsOpenAt text end (lists_of new)
+pub item_added : (text : List ℕ) (end : ℕ) (old new : List (Vec Sexp)) (tree : Sexp) → IsFinished text end (lists_of old) (tree_of tree) → AddsItem (lists_of old) (lists_of new) (tree_of tree) → IsOpenAt text end (lists_of new)
 item_added text end old new tree done adds =
     let outer-len : length (lists_of old) ≡ length adds.outer + 1 = ap length adds.before ∙ length-append adds.outer (adds.items ∷ []) in
     let old-depth : open_depth (lists_of old) ≡ open_depth (adds.outer ++ adds.items ∷ []) = ap open_depth adds.before in
@@ -151,17 +110,16 @@ item_added text end old new tree done adds =
       parts = done.parts ∙ sym (append_assoc (opening (lists_of old)) (spelling_of tree) (drop end text)) ∙ ap (λ (s : List ℕ). s ++ drop end text) (sym written);
     }
 
-pub whole_read : (text : List ℕ) (end : ℕ) (old : List (Vec Sexp)) (tree whole : Sexp) → IsFinished text end (lists_of old) (tree_of tree) → (old ≡ []) × (whole ≡ tree) → HasExpression text (whole, end)
+pub whole_read : (text : List ℕ) (end : ℕ) (old : List (Vec Sexp)) (tree whole : Sexp) → IsFinished text end (lists_of old) (tree_of tree) → (lists_of old ≡ []) × (tree_of whole ≡ tree_of tree) → HasExpression text (whole, end)
 whole_read text end old tree whole done alone =
-    let none : lists_of old ≡ [] = ap lists_of alone.0 in
-    let parts : text ≡ spelling_of tree ++ drop end text = done.parts ∙ ap (λ (ls : OpenLists). opening ls ++ (spelling_of tree ++ drop end text)) none in
+    let parts : text ≡ spelling_of tree ++ drop end text = done.parts ∙ ap (λ (ls : OpenLists). opening ls ++ (spelling_of tree ++ drop end text)) alone.0 in
     let w = done.within in
     let len : length (spelling_of tree) ≡ end = omega (arith, ap length parts, length-append (spelling_of tree) (drop end text), length-drop end text) in
     let f = done.fits in
     record {
       within = done.within;
-      shallow = omega (arith, ap (λ t. depth (tree_of t)) alone.1);
-      spelled = ap (take end) parts ∙ ap (λ (n : ℕ). take n (spelling_of tree ++ drop end text)) (sym len) ∙ take-append_seam (spelling_of tree) (drop end text) ∙ ap spelling_of (sym alone.1);
+      shallow = omega (arith, ap depth alone.1);
+      spelled = ap (take end) parts ∙ ap (λ (n : ℕ). take n (spelling_of tree ++ drop end text)) (sym len) ∙ take-append_seam (spelling_of tree) (drop end text) ∙ ap spelling (sym alone.1);
     }
 
 -- ---- faults

@@ -5,5 +5,6 @@ pub mod View
 pub mod ViewFalls
 pub mod Spelling
 pub mod Reading
+pub mod Adding
 pub mod Steps
 pub mod Writing

@@ -1,10 +1,7 @@
 -- Private: what the steps of reading know of a text.
-use Rattle.std.specs.Prelude.{◌≡◌, ℕ, ◌<◌, ◌≤◌, List, [], ◌∷◌, ◌++◌, length, take, drop, map, slice_index, Option, Some, None}
-use Rattle.std.specs.Global.{Vec}
-use Rattle.sexp_canonical.specs.Tree.{Tree}
-use Rattle.sexp_canonical.specs.View.{tree_of, trees}
+use Rattle.std.specs.Prelude.{◌≡◌, ℕ, ◌<◌, ◌≤◌, List, ◌∷◌, ◌++◌, length, take, drop, slice_index}
+use Rattle.sexp_canonical.specs.View.{tree_of}
 use Rattle.sexp_canonical.specs.Spelling.{most_bytes, most_depth, colon, numeral, spelling_of, depth}
-use Rattle.sexp_canonical.specs.Reading.{OpenLists}
 use Rattle.sexp_canonical.specs.declared.tree.Sexp.{Sexp}
 
 -- a digit stands at the place
@@ -32,18 +29,3 @@ pub record HasExpression (text : List ℕ) (read : Sexp × ℕ) : Type 0 where
   pub within : read.1 ≤ length text
   pub shallow : depth (tree_of read.0) ≤ most_depth
   pub spelled : take read.1 text ≡ spelling_of read.0
-
--- the lists that are open, as trees
-abbrev pub lists_of : List (Vec Sexp) → OpenLists
-lists_of open-lists = map (λ items. trees items.items) open-lists
-
--- the innermost list has one item more
-pub record AddsItem (old new : List (Vec Sexp)) (tree : Sexp) : Type 0 where
-  pub outer : OpenLists
-  pub items : List Tree
-  pub before : lists_of old ≡ outer ++ items ∷ []
-  pub after : lists_of new ≡ outer ++ (items ++ tree_of tree ∷ []) ∷ []
-
-abbrev pub Adds : List (Vec Sexp) → List (Vec Sexp) → Sexp → Option Sexp → Type 0
-Adds old new tree None = AddsItem old new tree
-Adds old new tree (Some whole) = (old ≡ []) × (whole ≡ tree)

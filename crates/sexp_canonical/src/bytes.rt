@@ -4,13 +4,15 @@ use std::alloc::{AllocError, Global};
 use std::marker::Model;
 use std::{hint, mem};
 
-/// The least room that bytes grow into, so that an atom read byte by byte is seldom moved, and overwritten, more than once.
+/// The least room that bytes grow into, so that an atom read byte by byte is seldom moved, and
+/// overwritten, more than once.
 const MIN_CAPACITY: usize = 32;
 
 /// The bytes of an atom, or a text that is written. Contracts see them as a list.
 ///
-/// They are overwritten with zeros when they are dropped, and where they grow into a larger place, the old one is
-/// overwritten. A move of the value itself copies no byte. No proof says that wiped bytes are gone from the machine.
+/// They are overwritten with zeros when they are dropped, and where they grow into a larger place,
+/// the old one is overwritten. A move of the value itself copies no byte. No proof says that wiped
+/// bytes are gone from the machine.
 pub struct Bytes(pub Vec<u8>);
 
 impl Model for Bytes {
@@ -29,6 +31,7 @@ impl Bytes {
         Bytes(Vec::new(alloc))
     }
 
+    /// The bytes, in place.
     pub fn as_slice(&self) -> &[u8]
         ensures { result.now ≡ self.now }
     {
@@ -84,8 +87,8 @@ impl Drop for Bytes {
     }
 }
 
-// The toolchain has no volatile write. A call that is not inlined, and that has an effect which the optimiser may not drop,
-// stands in for it: so the call stays, and its writes with it.
+// The toolchain has no volatile write. A call that is not inlined, and that has an effect which the
+// optimiser may not drop, stands in for it: so the call stays, and its writes with it.
 #[inline(never)]
 fn wipe(bytes: &mut [u8])
     ensures { bytes.new ≡ replicate (length bytes.old) 0 }

@@ -16,6 +16,7 @@ pub enum SexpFault {
     Deep(usize),
     /// The bytes end first, or more than 65,536 would be needed.
     Short,
+    /// There was no memory for the expression.
     NoMemory,
 }
 

@@ -1,7 +1,10 @@
-ghost use Rattle.std.specs.Prelude.{◌≡◌, ◌⊎◌, ◌+◌, ◌-◌, ◌*◌, ◌++◌, ◌<◌, ◌≤◌, ℕ, List, length, take, drop, Result, IfOk, IfErr, MatchOption};
+ghost use Rattle.std.specs.Prelude.{◌≡◌, ◌⊎◌, ◌+◌, ◌-◌, ◌*◌, ◌++◌, ◌<◌, ◌≤◌, ℕ, List, length, take};
+ghost use Rattle.std.specs.Prelude.{drop, Result, IfOk, IfErr, MatchOption};
 ghost use Rattle.sexp_canonical.specs.Reading.{Reads, IsFirstFault, IsLengthFault};
 ghost use Rattle.sexp_canonical.specs.Spelling.{IsReadable, most_bytes, spelling_of};
-ghost use Rattle.sexp_canonical.specs.Steps.{IsDigit, HasLength, HasAtom, HasExpression, Adds};
+ghost use Rattle.sexp_canonical.specs.View.{tree_of};
+ghost use Rattle.sexp_canonical.specs.Adding.{AddsTree, lists_of};
+ghost use Rattle.sexp_canonical.specs.Steps.{IsDigit, HasLength, HasAtom, HasExpression};
 ghost use Rattle.sexp_canonical.specs.declared.tree.Sexp.{Sexp};
 ghost use Rattle.sexp_canonical.specs.declared.fault.SexpFault.{SexpFault};
 
@@ -10,24 +13,28 @@ use crate::tree::Sexp;
 use crate::{MAX_BYTES, MAX_DEPTH};
 use std::alloc::{AllocError, Global};
 
-/// Reads the canonical expression at the front of the bytes, and gives how many bytes it has. What follows it isn't
-/// looked at: whoever wants the whole text compares the length. An expression has at most 65,536 bytes, and at most 64
-/// lists are open at one place of it.
+/// Reads the canonical expression at the front of the bytes, and gives how many bytes it has. What
+/// follows it isn't looked at: whoever wants the whole text compares the length. An expression has
+/// at most 65,536 bytes, and at most 64 lists are open at one place of it.
 pub fn read(alloc: Global, bytes: &[u8]) -> Result<(Sexp, usize), SexpFault>
     // The first bytes spell the expression, within the limits.
-    ensures found { IfOk result (λ read. (read.1 ≤ length bytes.now) × IsReadable (take read.1 bytes.now) read.0) }
+    ensures found { IfOk result
+        (λ read. (read.1 ≤ length bytes.now) × IsReadable (take read.1 bytes.now) read.0) }
 
-    // Else the fault is the first one from the left of the bytes that are looked at. Only a lack of memory may come at
-    // any time.
-    ensures fault { IfErr result (λ fault. (fault ≡ SexpFault.NoMemory) ⊎ IsFirstFault (take most_bytes bytes.now) fault) }
+    // Else the fault is the first one from the left of the bytes that are looked at. Only a lack of
+    // memory may come at any time.
+    ensures fault { IfErr result
+        (λ fault. (fault ≡ SexpFault.NoMemory) ⊎ IsFirstFault (take most_bytes bytes.now) fault) }
 
-    // What the bytes say is the answer: no fault hides an expression, and no later fault an earlier one. This and the next
-    // clause follow from the first two by the law `one_answer`, and stand here for callers.
+    // What the bytes say is the answer: no fault hides an expression, and no later fault an earlier
+    // one. This and the next clause follow from the first two by the law `one_answer`, and stand
+    // here for callers.
     ensures only { (answer : Result (Sexp × ℕ) SexpFault) → Reads bytes.now answer
         → (result ≡ Err SexpFault.NoMemory) ⊎ (result ≡ answer) }
 
     // What is spelled within the limits is read, with anything after it.
-    ensures again { (tree : Sexp) (more : List ℕ) → IsReadable (spelling_of tree) tree → bytes.now ≡ spelling_of tree ++ more
+    ensures again { (tree : Sexp) (more : List ℕ)
+        → IsReadable (spelling_of tree) tree → bytes.now ≡ spelling_of tree ++ more
         → (result ≡ Err SexpFault.NoMemory) ⊎ (result ≡ Ok (tree, length (spelling_of tree))) }
 {
     read_front(alloc, &bytes[..bytes.len().min(MAX_BYTES)])
@@ -36,7 +43,8 @@ pub fn read(alloc: Global, bytes: &[u8]) -> Result<(Sexp, usize), SexpFault>
 // Reads the expression at the front of a text that is all looked at.
 fn read_front(alloc: Global, text: &[u8]) -> Result<(Sexp, usize), SexpFault>
     ensures found { IfOk result (HasExpression text.now) }
-    ensures fault { IfErr result (λ fault. (fault ≡ SexpFault.NoMemory) ⊎ IsFirstFault text.now fault) }
+    ensures fault { IfErr result
+        (λ fault. (fault ≡ SexpFault.NoMemory) ⊎ IsFirstFault text.now fault) }
 {
     let mut lists: Vec<Vec<Sexp>> = Vec::new(alloc);
     let mut place = 0;
@@ -71,9 +79,11 @@ fn read_front(alloc: Global, text: &[u8]) -> Result<(Sexp, usize), SexpFault>
     Err(SexpFault::Short)
 }
 
-// Adds a finished expression to the innermost open list. Where none is open it is the whole, and comes back.
+// Adds a finished expression to the innermost open list. Where none is open it is the whole, and
+// comes back.
 fn add(lists: &mut Vec<Vec<Sexp>>, tree: Sexp) -> Result<Option<Sexp>, AllocError>
-    ensures { IfOk result (Adds lists.old.items lists.new.items tree) }
+    ensures { IfOk result
+        (AddsTree (lists_of lists.old.items) (lists_of lists.new.items) (tree_of tree)) }
 {
     let Some(items) = lists.last_mut() else {
         return Ok(Some(tree));
@@ -86,7 +96,8 @@ fn add(lists: &mut Vec<Vec<Sexp>>, tree: Sexp) -> Result<Option<Sexp>, AllocErro
 fn atom_at(alloc: Global, text: &[u8], place: usize) -> Result<(Sexp, usize), SexpFault>
     requires { IsDigit text.now place }
     ensures found { IfOk result (HasAtom text.now place) }
-    ensures fault { IfErr result (λ fault. (fault ≡ SexpFault.NoMemory) ⊎ IsLengthFault place (drop place text.now) fault) }
+    ensures fault { IfErr result
+        (λ fault. (fault ≡ SexpFault.NoMemory) ⊎ IsLengthFault place (drop place text.now) fault) }
 {
     let (count, start) = length_at(text, place)?;
     if text.len() - start < count {

@@ -11,7 +11,9 @@ use std::marker::Model;
 #[cycle(sexp)]
 #[derive(Drop)]
 pub enum Sexp {
+    /// Its bytes.
     Atom(Bytes),
+    /// Its items.
     List(Items),
 }
 
@@ -40,6 +42,7 @@ impl Model for Items {
 }
 
 impl Items {
+    /// The items, in their order.
     pub fn as_slice(&self) -> &[Sexp]
         ensures { trees result.now ≡ self.now }
     {
@@ -55,7 +58,8 @@ impl Items {
     }
 }
 
-// A derived drop would call itself once for each level, and a tree of many levels would run out of stack.
+// A derived drop would call itself once for each level, and a tree of many levels would run out of
+// stack.
 impl Drop for Items {
     fn drop(self) {
         let mut left = self.into_vec();
@@ -69,10 +73,12 @@ impl Drop for Items {
     }
 }
 
-// One vector that holds what both hold, in places that they have: the outer items go into a list before the inner ones.
+// One vector that holds what both hold, in places that they have: the outer items go into a list
+// before the inner ones.
 fn joined(mut outer: Vec<Sexp>, mut inner: Vec<Sexp>) -> Vec<Sexp>
     requires { vec_len outer < vec_capacity outer }
-    ensures { drop_steps (trees result.items) < drop_steps (trees outer.items ++ list_of (trees inner.items) ∷ []) }
+    ensures { drop_steps (trees result.items)
+        < drop_steps (trees outer.items ++ list_of (trees inner.items) ∷ []) }
 {
     if outer.is_empty() {
         outer.destroy_empty();

@@ -19,7 +19,8 @@ pub fn write(alloc: Global, tree: &Sexp) -> Result<Vec<u8>, AllocError>
     Ok(text.into_vec())
 }
 
-/// Appends the canonical form of an expression to a text. Where the memory isn't enough, a part of it may stand there.
+/// Appends the canonical form of an expression to a text. Where the memory isn't enough, a part of
+/// it may stand there.
 pub fn append(text: &mut Bytes, tree: &Sexp) -> Result<(), AllocError>
     ensures { OnOk result (text.new ≡ text.old ++ spelling_of tree.now) }
 {
@@ -32,7 +33,8 @@ pub fn append(text: &mut Bytes, tree: &Sexp) -> Result<(), AllocError>
     Ok(())
 }
 
-/// Appends the canonical form of an atom of these bytes, or a part of it where the memory isn't enough.
+/// Appends the canonical form of an atom of these bytes, or a part of it where the memory isn't
+/// enough.
 pub fn append_atom(text: &mut Bytes, bytes: &[u8]) -> Result<(), AllocError>
     ensures { OnOk result (text.new ≡ text.old ++ spelling (leaf bytes.now)) }
 {
@@ -43,7 +45,8 @@ pub fn append_atom(text: &mut Bytes, bytes: &[u8]) -> Result<(), AllocError>
     Ok(())
 }
 
-/// Appends the canonical forms of these expressions, one after another, or a part of them where the memory isn't enough.
+/// Appends the canonical forms of these expressions, one after another, or a part of them where the
+/// memory isn't enough.
 pub fn append_all(text: &mut Bytes, items: &[Sexp]) -> Result<(), AllocError>
     ensures { OnOk result (text.new ≡ text.old ++ flat_map spelling (trees items.now)) }
 {
@@ -53,7 +56,8 @@ pub fn append_all(text: &mut Bytes, items: &[Sexp]) -> Result<(), AllocError>
     Ok(())
 }
 
-/// Appends the canonical form of the list of these expressions, or a part of it where the memory isn't enough.
+/// Appends the canonical form of the list of these expressions, or a part of it where the memory
+/// isn't enough.
 pub fn append_list(text: &mut Bytes, items: &[Sexp]) -> Result<(), AllocError>
     ensures { OnOk result (text.new ≡ text.old ++ spelling (list_of (trees items.now))) }
 {
@@ -69,8 +73,9 @@ fn go_on<'a>(
     begun: &mut Vec<&'a [Sexp]>,
     items: &'a [Sexp],
 ) -> Result<(), AllocError>
-    ensures written { OnOk result (text.new ++ rest_of (begun_lists begun.new.items)
-        ≡ text.old ++ (flat_map spelling (trees items.now) ++ right_paren ∷ rest_of (begun_lists begun.old.items))) }
+    ensures written { OnOk result
+        (text.new ++ rest_of (begun_lists begun.new.items) ≡ text.old ++ (flat_map spelling
+        (trees items.now) ++ right_paren ∷ rest_of (begun_lists begun.old.items))) }
     ensures steps { OnOk result (steps_of (begun_lists begun.new.items)
         ≤ steps_of (begun_lists begun.old.items) + 2 * node_count (trees items.now)) }
 {

@@ -3,3 +3,4 @@ pub mod OneName
 pub mod Parts
 pub mod Keys
 pub mod WrittenLists
+pub mod Measured

@@ -4,9 +4,13 @@ ghost use Rattle.sexp_keys.specs.Names.{algorithm_name, algorithm_of, public_nam
 /// The algorithms whose private keys are read.
 #[derive(Clone, Copy, Debug, PartialEq, Eq)]
 pub enum Algorithm {
+    /// RSA, named `rsa`.
     Rsa,
+    /// DSA, named `dsa`.
     Dsa,
+    /// Elgamal, named `elg`.
     Elg,
+    /// Elliptic curves, named `ecc`.
     Ecc,
 }
 

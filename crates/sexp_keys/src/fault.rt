@@ -16,6 +16,7 @@ pub enum KeyFault {
     Shadowed,
     /// The form or the algorithm isn't one of those that are read.
     NotSupported,
+    /// There was no memory for the key.
     NoMemory,
 }
 

@@ -13,8 +13,8 @@ use sexp_canonical::{Items, Sexp};
 use std::alloc::{AllocError, Global};
 use std::marker::Model;
 
-/// A private key, clear or protected, with its parameters in the order of its algorithm. Its secret parameters are
-/// overwritten when it is dropped, and it is neither cloned nor printed.
+/// A private key, clear or protected, with its parameters in the order of its algorithm. Its secret
+/// parameters are overwritten when it is dropped, and it is neither cloned nor printed.
 #[derive(Drop)]
 pub struct KeyList {
     pub(crate) algorithm: Algorithm,
@@ -31,9 +31,21 @@ impl Model for KeyList {
 
     ghost coded = { key_code };
 
-    ghost view = { λ k. record { algorithm = k.algorithm; is_clear = k.is_clear; public = k.public; private = k.private; further = k.further } };
+    ghost view = { λ k. record {
+      algorithm = k.algorithm;
+      is_clear = k.is_clear;
+      public = k.public;
+      private = k.private;
+      further = k.further;
+    } };
 
-    ghost invariant = { λ k. IsFormed (record { algorithm = k.algorithm; is_clear = k.is_clear; public = k.public; private = k.private; further = k.further }) };
+    ghost invariant = { λ k. IsFormed (record {
+      algorithm = k.algorithm;
+      is_clear = k.is_clear;
+      public = k.public;
+      private = k.private;
+      further = k.further;
+    }) };
 }
 
 impl KeyList {
@@ -42,7 +54,8 @@ impl KeyList {
         ensures found { IfOk result (IsKey (tree_of tree.now)) }
 
         // Else the fault is the first one. Only a lack of memory may come at any time.
-        ensures fault { IfErr result (λ fault. (fault ≡ KeyFault.NoMemory) ⊎ IsFirstFault (tree_of tree.now) fault) }
+        ensures fault { IfErr result
+            (λ fault. (fault ≡ KeyFault.NoMemory) ⊎ IsFirstFault (tree_of tree.now) fault) }
 
         // An expression has one answer, so no fault hides a key.
         ensures only { (answer : Result Key KeyFault) → Reads (tree_of tree.now) answer
@@ -51,10 +64,13 @@ impl KeyList {
         read_key(alloc, tree)
     }
 
-    /// The clear key with these secret parameters, where they are those of its algorithm. Its other lists are copied.
+    /// The clear key with these secret parameters, where they are those of its algorithm. Its other
+    /// lists are copied.
     pub fn with_secret(&self, alloc: Global, secret: Items) -> Result<Option<KeyList>, AllocError>
-        ensures found { IfOk result (λ found. IsSome found ↔ IsTrue (are_secret self.now.algorithm secret)) }
-        ensures key { IfOk result (λ found. IfSome found (λ key. key ≡ clear_with self.now secret)) }
+        ensures found { IfOk result
+            (λ found. IsSome found ↔ IsTrue (are_secret self.now.algorithm secret)) }
+        ensures key { IfOk result
+            (λ found. IfSome found (λ key. key ≡ clear_with self.now secret)) }
     {
         if !are_secret(self.algorithm, secret.as_slice()) {
             return Ok(None);
@@ -71,7 +87,8 @@ impl KeyList {
 
 fn read_key(alloc: Global, tree: &Sexp) -> Result<KeyList, KeyFault>
     ensures found { IfOk result (IsKey (tree_of tree.now)) }
-    ensures fault { IfErr result (λ fault. (fault ≡ KeyFault.NoMemory) ⊎ IsFirstFault (tree_of tree.now) fault) }
+    ensures fault { IfErr result
+        (λ fault. (fault ≡ KeyFault.NoMemory) ⊎ IsFirstFault (tree_of tree.now) fault) }
 {
     let named = names_of(tree)?;
     let Some((public, private)) = parts_of(named.is_clear, named.algorithm, named.parameters) else {

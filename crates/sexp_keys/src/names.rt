@@ -41,7 +41,8 @@ pub(crate) fn names_of(tree: &Sexp) -> Result<Named<'_>, KeyFault>
 
 // Whether the key is clear, and what is behind the name of its form.
 fn form_of(items: &[Sexp]) -> Result<(bool, &[Sexp]), KeyFault>
-    ensures found { IfOk result (λ form. trees items.now ≡ leaf (form_name form.0) ∷ trees form.1.now) }
+    ensures found { IfOk result
+        (λ form. trees items.now ≡ leaf (form_name form.0) ∷ trees form.1.now) }
     ensures fault { IfErr result (λ fault. form_fault (trees items.now) ≡ Some fault) }
 {
     let Some((Sexp::Atom(name), others)) = items.split_first() else {
@@ -63,7 +64,8 @@ fn form_of(items: &[Sexp]) -> Result<(bool, &[Sexp]), KeyFault>
 
 // The algorithm, and what is behind its name.
 fn algorithm_of(items: &[Sexp]) -> Result<(Algorithm, &[Sexp]), KeyFault>
-    ensures found { IfOk result (λ found. trees items.now ≡ leaf (algorithm_name found.0) ∷ trees found.1.now) }
+    ensures found { IfOk result
+        (λ found. trees items.now ≡ leaf (algorithm_name found.0) ∷ trees found.1.now) }
     ensures fault { IfErr result (λ fault. name_fault (trees items.now) ≡ Some fault) }
 {
     let Some((Sexp::Atom(name), parameters)) = items.split_first() else {

@@ -5,7 +5,10 @@ ghost use Rattle.std.specs.List.{list_all};
 ghost use Rattle.sexp_canonical.specs.Tree.{Tree};
 ghost use Rattle.sexp_canonical.specs.View.{tree_of, trees};
 ghost use Rattle.sexp_keys.specs.Named.{ends_with_time, private_count, AreParts};
-ghost use Rattle.sexp_keys.specs.Parameters.{is_atom, is_list, has_name, is_parameter, is_parameter_len, is_named, are_named, is_curve_parameter, are_public, are_secret, is_time, are_protection, are_private};
+ghost use Rattle.sexp_keys.specs.Parameters.{is_atom, is_list, has_name, is_parameter};
+ghost use Rattle.sexp_keys.specs.Parameters.{is_parameter_len, is_named, are_named};
+ghost use Rattle.sexp_keys.specs.Parameters.{is_curve_parameter, are_public, are_secret, is_time};
+ghost use Rattle.sexp_keys.specs.Parameters.{are_protection, are_private};
 
 use crate::algorithm::Algorithm;
 use sexp_canonical::Sexp;
@@ -147,8 +150,8 @@ pub(crate) fn parts_of(
     algorithm: Algorithm,
     parameters: &[Sexp],
 ) -> Option<(&[Sexp], &[Sexp])>
-    ensures found { IfSome result (λ parts.
-        AreParts is_clear algorithm (trees parameters.now) (trees parts.0.now) (trees parts.1.now)) }
+    ensures found { IfSome result (λ parts. AreParts is_clear algorithm (trees parameters.now)
+        (trees parts.0.now) (trees parts.1.now)) }
     ensures none { IfNone result ((public private : List Tree)
         → AreParts is_clear algorithm (trees parameters.now) public private → ⊥) }
 {

@@ -1,22 +1,27 @@
 //! The lists of a key.
 
-ghost use Rattle.std.specs.Prelude.{◌≡◌, ◌≤◌, ◌∷◌, ◌++◌, length, IfOk, OnOk, IsTrue};
+ghost use Rattle.std.specs.Prelude.{◌≡◌, ◌<◌, ◌≤◌, ◌∷◌, ◌++◌, length, IfOk, IfNone, IfSome, OnOk};
+ghost use Rattle.std.specs.Prelude.{IsTrue};
 ghost use Rattle.std.specs.Option.{option_copied};
 ghost use Rattle.std.specs.List.{flat_map};
 ghost use Rattle.sexp_canonical.specs.Tree.{leaf, list_of};
 ghost use Rattle.sexp_canonical.specs.View.{trees};
-ghost use Rattle.sexp_canonical.specs.Spelling.{spelling};
+ghost use Rattle.sexp_canonical.specs.Spelling.{most_bytes, most_depth, depth, spelling};
 ghost use Rattle.sexp_keys.specs.Names.{form_name};
-ghost use Rattle.sexp_keys.specs.Key.{IsFormed, algorithm_list, protected_with};
-ghost use Rattle.sexp_keys.specs.Lists.{public_list_of, key_list_of, grip_of, timed_list_of, hashed_list_of, associated_list_of, time_lists};
+ghost use Rattle.sexp_keys.specs.Key.{IsFormed, algorithm_list, key_tree, protected_with};
+ghost use Rattle.sexp_keys.specs.Lists.{public_list_of, key_list_of, grip_of, timed_list_of};
+ghost use Rattle.sexp_keys.specs.Lists.{hashed_list_of, associated_list_of, time_lists};
 
 use crate::algorithm::Algorithm;
 use crate::key_list::KeyList;
 use crate::parameters::PROTECTED_AT;
 use agent_ports::Grip;
-use sexp_canonical::{Bytes, Sexp, append_all, append_atom};
+use sexp_canonical::{Bytes, Sexp, append_all, append_atom, atom_len, items_len};
 use sha1::Sha1;
 use std::alloc::{AllocError, Global};
+
+/// The parentheses of a key's list and of its algorithm's within it.
+const PARENTHESES: usize = 4;
 
 impl KeyList {
     /// Whether its secret parameters are clear.
@@ -27,14 +32,15 @@ impl KeyList {
         self.is_clear
     }
 
+    /// The algorithm that it belongs to.
     pub fn algorithm(&self) -> Algorithm
         ensures { result ≡ self.now.algorithm }
     {
         self.algorithm
     }
 
-    /// The secret parameters of a clear key, in order. Of a protected one the list `protected`, and the time of the
-    /// protection behind it where it has one.
+    /// The secret parameters of a clear key, in order. Of a protected one the list `protected`, and
+    /// the time of the protection behind it where it has one.
     pub fn private(&self) -> &[Sexp]
         ensures { trees result.now ≡ self.now.private }
     {
@@ -76,9 +82,28 @@ impl KeyList {
         Ok(text.into_vec())
     }
 
-    /// The whole key with these lists in place of its secret parameters, as a protected key stands in a file.
+    /// How many bytes the whole key has as it stands in a file, where its parts are within the
+    /// limits of an expression that is read. Its list isn't written for that, and no memory is
+    /// taken.
+    pub fn list_len(&self) -> Option<usize>
+        ensures len { IfSome result (λ len. len ≡ length (key_list_of self.now)) }
+
+        // A key that is shallow enough is too long where that isn't known.
+        ensures long { IfNone result
+            (depth (key_tree self.now) ≤ most_depth → most_bytes < length (key_list_of self.now)) }
+    {
+        let names = atom_len(form_name(self.is_clear)) + atom_len(self.algorithm.name());
+        let public = items_len(self.public.as_slice())?;
+        let private = items_len(self.private.as_slice())?;
+        let further = items_len(self.further.as_slice())?;
+        Some(names + public + private + further + PARENTHESES)
+    }
+
+    /// The whole key with these lists in place of its secret parameters, as a protected key stands
+    /// in a file.
     pub fn protected_list(&self, alloc: Global, protection: &[Sexp]) -> Result<Vec<u8>, AllocError>
-        ensures { IfOk result (λ text. text.items ≡ key_list_of (protected_with self.now (trees protection.now))) }
+        ensures { IfOk result
+            (λ text. text.items ≡ key_list_of (protected_with self.now (trees protection.now))) }
     {
         let mut text = Bytes::new(alloc);
         append_key(
@@ -99,19 +124,21 @@ impl KeyList {
         Ok(Grip(Sha1::digest(&text)))
     }
 
-    /// `(alg public.. secret..)` of a clear key, with `(protected-at time)` last where there is a time: what the digest in
-    /// a protected key is made of.
+    /// `(alg public.. secret..)` of a clear key, with `(protected-at time)` last where there is a
+    /// time: what the digest in a protected key is made of.
     pub fn hashed_list(&self, alloc: Global, time: Option<&[u8]>) -> Result<Vec<u8>, AllocError>
         requires { IsTrue self.now.is_clear }
-        ensures { IfOk result (λ text. text.items ≡ hashed_list_of self.now (option_copied time.entry)) }
+        ensures { IfOk result
+            (λ text. text.items ≡ hashed_list_of self.now (option_copied time.entry)) }
     {
         self.timed_list(alloc, self.private.as_slice(), time)
     }
 
-    /// `(alg public..)`, with `(protected-at time)` last where there is a time: what is authenticated beside the secret
-    /// parameters of a protected key.
+    /// `(alg public..)`, with `(protected-at time)` last where there is a time: what is
+    /// authenticated beside the secret parameters of a protected key.
     pub fn associated_list(&self, alloc: Global, time: Option<&[u8]>) -> Result<Vec<u8>, AllocError>
-        ensures { IfOk result (λ text. text.items ≡ associated_list_of self.now (option_copied time.entry)) }
+        ensures { IfOk result
+            (λ text. text.items ≡ associated_list_of self.now (option_copied time.entry)) }
     {
         self.timed_list(alloc, &[], time)
     }
@@ -122,7 +149,8 @@ impl KeyList {
         behind: &[Sexp],
         time: Option<&[u8]>,
     ) -> Result<Vec<u8>, AllocError>
-        ensures { IfOk result (λ text. text.items ≡ timed_list_of self.now (trees behind.now) (option_copied time.entry)) }
+        ensures { IfOk result (λ text. text.items ≡ timed_list_of self.now (trees behind.now)
+            (option_copied time.entry)) }
     {
         let mut text = Bytes::new(alloc);
         append_algorithm(&mut text, self, behind, time)?;
@@ -148,8 +176,8 @@ fn append_key(
     behind: &[Sexp],
     further: &[Sexp],
 ) -> Result<(), AllocError>
-    ensures { OnOk result (text.new ≡ text.old
-        ++ spelling (list_of (leaf name.now ∷ algorithm_list key.now (trees behind.now) ∷ trees further.now))) }
+    ensures { OnOk result (text.new ≡ text.old ++ spelling
+        (list_of (leaf name.now ∷ algorithm_list key.now (trees behind.now) ∷ trees further.now))) }
 {
     text.extend_from_slice(b"(")?;
     append_atom(text, name)?;
@@ -166,8 +194,8 @@ fn append_algorithm(
     behind: &[Sexp],
     time: Option<&[u8]>,
 ) -> Result<(), AllocError>
-    ensures { OnOk result (text.new ≡ text.old
-        ++ spelling (algorithm_list key.now (trees behind.now ++ time_lists (option_copied time.entry)))) }
+    ensures { OnOk result (text.new ≡ text.old ++ spelling (algorithm_list key.now
+        (trees behind.now ++ time_lists (option_copied time.entry)))) }
 {
     text.extend_from_slice(b"(")?;
     append_atom(text, key.algorithm.name())?;
@@ -179,7 +207,8 @@ fn append_algorithm(
 }
 
 fn append_time(text: &mut Bytes, time: Option<&[u8]>) -> Result<(), AllocError>
-    ensures { OnOk result (text.new ≡ text.old ++ flat_map spelling (time_lists (option_copied time.entry))) }
+    ensures { OnOk result
+        (text.new ≡ text.old ++ flat_map spelling (time_lists (option_copied time.entry))) }
 {
     let Some(time) = time else {
         return Ok(());

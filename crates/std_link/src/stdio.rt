@@ -8,7 +8,8 @@ use agent_ports::{Got, Link, Sent, Sink, Source};
 use std::io::{Read, Write};
 use std::marker::Model;
 
-/// A reader and a writer as a link. As a link it doesn't show what they hold; its own calls say what they do to them.
+/// A reader and a writer as a link. As a link it doesn't show what they hold; its own calls say
+/// what they do to them.
 #[derive(Drop)]
 pub struct StdLink<R, W> {
     reader: R,
@@ -21,15 +22,29 @@ impl<R, W> Model for StdLink<R, W> {
 
     ghost Value = { AtStdio R W };
 
-    ghost view = { λ link. record { reader = link.reader; writer = link.writer; ended = link.state.ended; read_faults = link.state.read_faults; write_faults = link.state.write_faults } };
+    ghost view = { λ link. record {
+      reader = link.reader;
+      writer = link.writer;
+      ended = link.state.ended;
+      read_faults = link.state.read_faults;
+      write_faults = link.state.write_faults;
+    } };
 }
 
 impl<R: Read, W: Write> StdLink<R, W> {
     /// A link over these, of which no call has failed.
     pub fn new(reader: R, writer: W) -> Self
-        ensures link { result ≡ record { reader = reader; writer = writer; ended = false; read_faults = 0; write_faults = 0 } }
-        ensures input { ⟦<StdLink<R, W> as Source>⟧.input result ≡ record { bytes = None; faults = 0 } }
-        ensures output { ⟦<StdLink<R, W> as Sink>⟧.output result ≡ record { bytes = None; faults = 0 } }
+        ensures link { result ≡ record {
+          reader = reader;
+          writer = writer;
+          ended = false;
+          read_faults = 0;
+          write_faults = 0;
+        } }
+        ensures input { ⟦<StdLink<R, W> as Source>⟧.input result
+            ≡ record { bytes = None; faults = 0 } }
+        ensures output { ⟦<StdLink<R, W> as Sink>⟧.output result
+            ≡ record { bytes = None; faults = 0 } }
     {
         StdLink {
             reader,
@@ -56,13 +71,16 @@ impl<R: Read, W: Write> Source for StdLink<R, W> {
     fn read(&mut self, buf: &mut [u8]) -> Got
         requires { 0 < length buf.old }
         ensures count { IfBytes result (λ n. (1 ≤ n) × (n ≤ length buf.old)) }
-        ensures taken { Consumes (R.remaining self.old.reader) (R.remaining self.new.reader) (take (taken_by result) buf.new) }
-        ensures end { result ≡ Got.End → (self.old.ended ≡ true) ⊎ IsAtEnd (R.remaining self.new.reader) }
+        ensures taken { Consumes (R.remaining self.old.reader) (R.remaining self.new.reader)
+            (take (taken_by result) buf.new) }
+        ensures end { result ≡ Got.End
+            → (self.old.ended ≡ true) ⊎ IsAtEnd (R.remaining self.new.reader) }
         ensures ended { (result ≡ Got.End) ↔ (self.new.ended ≡ true) }
         ensures ever_after { self.old.ended ≡ true → self.new ≡ self.old }
         ensures failed { result ≡ Got.Failed → Rose self.old.read_faults self.new.read_faults }
         ensures faults { self.old.read_faults ≤ self.new.read_faults }
-        ensures beside { (self.new.writer ≡ self.old.writer) × (self.new.write_faults ≡ self.old.write_faults) }
+        ensures beside { (self.new.writer ≡ self.old.writer)
+            × (self.new.write_faults ≡ self.old.write_faults) }
     {
         self.state.read(&mut self.reader, buf)
     }
@@ -76,10 +94,12 @@ impl<R: Read, W: Write> Sink for StdLink<R, W> {
     /// The writer is given the bytes and flushed, or given a prefix of them where it failed.
     fn put(&mut self, bytes: &[u8]) -> Sent
         ensures cut { IfCut result (λ sent. sent ≤ length bytes.now) }
-        ensures written { Appends (W.contents self.old.writer) (W.contents self.new.writer) (sent_part bytes.now result) }
+        ensures written { Appends (W.contents self.old.writer) (W.contents self.new.writer)
+            (sent_part bytes.now result) }
         ensures failed { IsCut result → Rose self.old.write_faults self.new.write_faults }
         ensures faults { self.old.write_faults ≤ self.new.write_faults }
-        ensures beside { (self.new.reader ≡ self.old.reader) × (self.new.read_faults ≡ self.old.read_faults) × (self.new.ended ≡ self.old.ended) }
+        ensures beside { (self.new.reader ≡ self.old.reader)
+            × (self.new.read_faults ≡ self.old.read_faults) × (self.new.ended ≡ self.old.ended) }
     {
         self.state.put(&mut self.writer, bytes)
     }
@@ -163,7 +183,8 @@ mod tests {
         }
     }
 
-    /// A signal interrupts each other call, the first one too, and the rest moves at most three bytes.
+    /// A signal interrupts each other call, the first one too, and the rest moves at most three
+    /// bytes.
     #[derive(Drop)]
     struct Interrupted<'a> {
         bytes: &'a [u8],

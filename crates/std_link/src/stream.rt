@@ -8,7 +8,8 @@ use agent_ports::{Got, Link, Sent, Sink, Source};
 use std::io::{Read, Write};
 use std::marker::Model;
 
-/// One stream that is read and written, as a socket, as a link. As a link it doesn't show what it holds; its own calls say what they do to the stream.
+/// One stream that is read and written, as a socket, as a link. As a link it doesn't show what it
+/// holds; its own calls say what they do to the stream.
 #[derive(Drop)]
 pub struct StreamLink<S> {
     stream: S,
@@ -20,15 +21,23 @@ impl<S> Model for StreamLink<S> {
 
     ghost Value = { AtStream S };
 
-    ghost view = { λ link. record { stream = link.stream; ended = link.state.ended; read_faults = link.state.read_faults; write_faults = link.state.write_faults } };
+    ghost view = { λ link. record {
+      stream = link.stream;
+      ended = link.state.ended;
+      read_faults = link.state.read_faults;
+      write_faults = link.state.write_faults;
+    } };
 }
 
 impl<S: Read + Write> StreamLink<S> {
     /// A link over the stream, of which no call has failed.
     pub fn new(stream: S) -> Self
-        ensures link { result ≡ record { stream = stream; ended = false; read_faults = 0; write_faults = 0 } }
-        ensures input { ⟦<StreamLink<S> as Source>⟧.input result ≡ record { bytes = None; faults = 0 } }
-        ensures output { ⟦<StreamLink<S> as Sink>⟧.output result ≡ record { bytes = None; faults = 0 } }
+        ensures link { result
+            ≡ record { stream = stream; ended = false; read_faults = 0; write_faults = 0 } }
+        ensures input { ⟦<StreamLink<S> as Source>⟧.input result
+            ≡ record { bytes = None; faults = 0 } }
+        ensures output { ⟦<StreamLink<S> as Sink>⟧.output result
+            ≡ record { bytes = None; faults = 0 } }
     {
         StreamLink {
             stream,
@@ -46,8 +55,10 @@ impl<S: Read + Write> Source for StreamLink<S> {
     fn read(&mut self, buf: &mut [u8]) -> Got
         requires { 0 < length buf.old }
         ensures count { IfBytes result (λ n. (1 ≤ n) × (n ≤ length buf.old)) }
-        ensures taken { Consumes (S.remaining self.old.stream) (S.remaining self.new.stream) (take (taken_by result) buf.new) }
-        ensures end { result ≡ Got.End → (self.old.ended ≡ true) ⊎ IsAtEnd (S.remaining self.new.stream) }
+        ensures taken { Consumes (S.remaining self.old.stream) (S.remaining self.new.stream)
+            (take (taken_by result) buf.new) }
+        ensures end { result ≡ Got.End
+            → (self.old.ended ≡ true) ⊎ IsAtEnd (S.remaining self.new.stream) }
         ensures ended { (result ≡ Got.End) ↔ (self.new.ended ≡ true) }
         ensures ever_after { self.old.ended ≡ true → self.new ≡ self.old }
         ensures failed { result ≡ Got.Failed → Rose self.old.read_faults self.new.read_faults }
@@ -66,10 +77,12 @@ impl<S: Read + Write> Sink for StreamLink<S> {
     /// The stream is given the bytes, or a prefix of them where it failed.
     fn put(&mut self, bytes: &[u8]) -> Sent
         ensures cut { IfCut result (λ sent. sent ≤ length bytes.now) }
-        ensures written { Appends (S.contents self.old.stream) (S.contents self.new.stream) (sent_part bytes.now result) }
+        ensures written { Appends (S.contents self.old.stream) (S.contents self.new.stream)
+            (sent_part bytes.now result) }
         ensures failed { IsCut result → Rose self.old.write_faults self.new.write_faults }
         ensures faults { self.old.write_faults ≤ self.new.write_faults }
-        ensures beside { (self.new.read_faults ≡ self.old.read_faults) × (self.new.ended ≡ self.old.ended) }
+        ensures beside { (self.new.read_faults ≡ self.old.read_faults)
+            × (self.new.ended ≡ self.old.ended) }
     {
         self.state.put(&mut self.stream, bytes)
     }

@@ -6,8 +6,9 @@ use crate::fault::TrustFault;
 use agent_ports::Grip;
 use std::alloc::Global;
 
-/// The file with an entry at its end by which the certificate of this fingerprint is trusted. An LF comes before it where the last
-/// line of the file lacks one. The flag is `S` or `P` (GnuPG manual, "Agent's Assuan protocol", MARKTRUSTED).
+/// The file with an entry at its end by which the certificate of this fingerprint is trusted. An LF
+/// comes before it where the last line of the file lacks one. The flag is `S` or `P` (GnuPG manual,
+/// "Agent's Assuan protocol", MARKTRUSTED).
 pub fn add_trust(
     alloc: Global,
     file: &[u8],
@@ -19,7 +20,8 @@ pub fn add_trust(
     ensures fits { IfOk result (λ new. vec_len new ≤ MAX_TRUST_FILE_LEN) }
 
     // Only a lack of memory may come at any other time.
-    ensures too_long { (result ≡ Err TrustFault.TooLong) ↔ (MAX_TRUST_FILE_LEN < length (with_entry file.now fingerprint.now.0 flag)) }
+    ensures too_long { (result ≡ Err TrustFault.TooLong)
+        ↔ (MAX_TRUST_FILE_LEN < length (with_entry file.now fingerprint.now.0 flag)) }
 {
     let digits = fingerprint.text();
     let line_end = missing_end(file);

@@ -10,6 +10,7 @@ use std::fmt;
 pub enum TrustFault {
     /// The file would be longer than `MAX_TRUST_FILE_LEN`.
     TooLong,
+    /// There was no memory for the new file.
     NoMemory,
 }
 

@@ -1,9 +1,10 @@
-//! The list of the root certificates that the user trusts, the agent's file `trustlist.txt` (GnuPG manual, "Agent
-//! Configuration"): what it says of a fingerprint, and a new entry at its end.
+//! The list of the root certificates that the user trusts, the agent's file `trustlist.txt` (GnuPG
+//! manual, "Agent Configuration"): what it says of a fingerprint, and a new entry at its end.
 //!
-//! Begin with [`trusted`]: the first entry for a fingerprint decides ([`first_entry_decides`]). [`add_trust`] gives exactly the file with
-//! a new entry at its end, by which no other fingerprint is judged otherwise ([`adding_decides`]). Definitions begin in `specs/Trust`, how
-//! an entry is written in `specs/Written`.
+//! Begin with [`trusted`]: the first entry for a fingerprint decides ([`first_entry_decides`]).
+//! [`add_trust`] gives exactly the file with a new entry at its end, by which no other fingerprint
+//! is judged otherwise ([`adding_decides`]). Definitions begin in `specs/Trust`, how an entry is
+//! written in `specs/Written`.
 #![tactic(auto)]
 
 mod adding;
@@ -24,8 +25,9 @@ pub use adding::add_trust;
 pub use fault::TrustFault;
 pub use laws::{adding_decides, entries_are_read, first_entry_decides};
 
-/// Whether the file says that the certificate of this fingerprint is trusted, or that it is not. `None` where it says nothing
-/// of it. A file that is absent is empty. The time is linear in the file.
+/// Whether the file says that the certificate of this fingerprint is trusted, or that it is not.
+/// `None` where it says nothing of it. A file that is absent is empty. The time is linear in the
+/// file.
 pub fn trusted(file: &[u8], fingerprint: &Grip) -> Option<bool>
     ensures { result ≡ trust file.now fingerprint.now.0 }
 {

@@ -3,7 +3,8 @@
 ghost use Rattle.std.specs.Prelude.{◌≡◌};
 ghost use Rattle.std.specs.Str.{bytes_eq};
 ghost use Rattle.assuan_text.specs.Words.{words};
-ghost use Rattle.trust_list.specs.Entries.{are_pairs, capital_digits, first_word_judgement, is_flag, is_in_pairs, judgement_of, spells};
+ghost use Rattle.trust_list.specs.Entries.{are_pairs, capital_digits, first_word_judgement};
+ghost use Rattle.trust_list.specs.Entries.{is_flag, is_in_pairs, judgement_of, spells};
 
 use assuan_text::next_word;
 

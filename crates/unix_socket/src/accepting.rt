@@ -5,7 +5,8 @@ use std::sync::atomic::{AtomicBool, Ordering};
 use std::time::Duration;
 use std::{io, thread};
 
-/// How many milliseconds a worker waits before it tries again, where descriptors or memory are wanting: until others have given some back.
+/// How many milliseconds a worker waits before it tries again, where descriptors or memory are
+/// wanting: until others have given some back.
 const PAUSE_MILLIS: u64 = 50;
 
 /// What came of waiting for a client.
@@ -52,8 +53,9 @@ const ENOTSOCK: i32 = 88;
 
 const EOPNOTSUPP: i32 = 95;
 
-/// Waits for the next client, and tries again after a fault that passes. Once the listener is stopped it doesn't wait: those that are queued are
-/// taken and let go, until accept fails, which it does where none is left (Linux: EINVAL).
+/// Waits for the next client, and tries again after a fault that passes. Once the listener is
+/// stopped it doesn't wait: those that are queued are taken and let go, until accept fails, which
+/// it does where none is left (Linux: EINVAL).
 pub(crate) fn accept_next(
     clock: &impl Clock,
     listener: &UnixListener,

@@ -23,6 +23,7 @@ pub struct SocketEar {
 }
 
 impl SocketEar {
+    /// How often the worker found the listener broken.
     pub fn faults(&self) -> u64
         ensures { result ≡ ⟦<SocketEar as Ear>⟧.faults self.now }
     {
@@ -40,7 +41,8 @@ impl Ear for SocketEar {
 
 /// Listens at a Unix socket, which is removed when this is dropped. Several workers share it.
 ///
-/// Each descriptor is closed in programs that the process starts, so no such program holds a client or the socket.
+/// Each descriptor is closed in programs that the process starts, so no such program holds a client
+/// or the socket.
 pub struct SocketListener<'a, R: Files> {
     rt: &'a R,
     /// By which clients find it.
@@ -51,8 +53,9 @@ pub struct SocketListener<'a, R: Files> {
 }
 
 impl<'a, R: Files + Net> SocketListener<'a, R> {
-    /// Listens at the socket of this name in this folder, which is made for its owner alone where it isn't there. Whatever had the socket's
-    /// name is removed. It fails where the path is too long for a socket (108 bytes on Linux), and then nothing was made or removed.
+    /// Listens at the socket of this name in this folder, which is made for its owner alone where
+    /// it isn't there. Whatever had the socket's name is removed. It fails where the path is too
+    /// long for a socket (108 bytes on Linux), and then nothing was made or removed.
     pub fn bind(rt: &'a R, alloc: Global, folder: &str, name: SocketName) -> io::Result<Self>
         ensures { IfOk result (λ listener. listener.name ≡ name) }
     {
@@ -110,8 +113,8 @@ impl<R: Files + Clock> Listener for SocketListener<'_, R> {
         drop(link);
     }
 
-    /// Workers that wait are woken, for good. Clients that are queued are let go at once, also where each worker is in a session, and what they sent
-    /// isn't read.
+    /// Workers that wait are woken, for good. Clients that are queued are let go at once, also
+    /// where each worker is in a session, and what they sent isn't read.
     fn stop(&self) {
         self.stopped.store(true, Ordering::SeqCst);
         if self.bound.waker.shutdown(Shutdown::Both).is_ok() {

@@ -7,7 +7,8 @@ use std::os::unix::fs::{DirBuilderExt, MetadataExt, PermissionsExt};
 use std::os::unix::net::{SocketAddr, UnixListener, UnixStream};
 use std::{fs, io};
 
-/// Which of an agent's sockets in its folder, by the name under which GnuPG's programs look for it (GnuPG manual, "Agent Options").
+/// Which of an agent's sockets in its folder, by the name under which GnuPG's programs look for it
+/// (GnuPG manual, "Agent Options").
 #[derive(Clone, Copy, Debug, PartialEq, Eq)]
 pub enum SocketName {
     /// `S.gpg-agent`, for the clients of this machine.
@@ -25,7 +26,8 @@ impl SocketName {
     }
 }
 
-/// How many names are tried for a fresh folder. One is taken only by a start that was killed between two calls.
+/// How many names are tried for a fresh folder. One is taken only by a start that was killed
+/// between two calls.
 const MAX_FRESH_NAMES: u32 = 1000;
 
 /// A folder that only its owner may enter.
@@ -51,7 +53,8 @@ impl FileId {
     }
 }
 
-/// The path of the socket of this name in this folder. It fails where the path is longer than a socket's may be, before anything is made.
+/// The path of the socket of this name in this folder. It fails where the path is longer than a
+/// socket's may be, before anything is made.
 pub(crate) fn socket_path(alloc: Global, folder: &str, name: SocketName) -> io::Result<String> {
     let path = format!(in alloc; "{folder}/{}", name.as_str())?;
     SocketAddr::from_pathname(&path)?;
@@ -67,10 +70,11 @@ pub(crate) struct Bound {
     pub(crate) file: FileId,
 }
 
-/// Listens at this path in this folder, which is made where it isn't there. What the path named before is removed.
+/// Listens at this path in this folder, which is made where it isn't there. What the path named
+/// before is removed.
 ///
-/// Nobody but the owner reaches the socket at any moment: it is made in a fresh folder that only the owner may enter, closed to others,
-/// and then moved to its path.
+/// Nobody but the owner reaches the socket at any moment: it is made in a fresh folder that only
+/// the owner may enter, closed to others, and then moved to its path.
 pub(crate) fn bind_at<R: Files + Net>(
     rt: &R,
     alloc: Global,
@@ -101,8 +105,8 @@ fn remove_if_there(rt: &impl Files, path: &str) -> io::Result<()> {
     }
 }
 
-/// Makes a folder below this one, closed to others, and gives its path. Nobody else has made it. With a file in it, `bind_in`'s, its path is no
-/// longer than the socket's.
+/// Makes a folder below this one, closed to others, and gives its path. Nobody else has made it.
+/// With a file in it, `bind_in`'s, its path is no longer than the socket's.
 fn make_fresh_folder(rt: &impl Files, alloc: Global, folder: &str) -> io::Result<String> {
     for number in 0..MAX_FRESH_NAMES {
         let fresh = format!(in alloc; "{folder}/.new{number}")?;
@@ -115,7 +119,8 @@ fn make_fresh_folder(rt: &impl Files, alloc: Global, folder: &str) -> io::Result
     Err(ErrorKind::AlreadyExists.into())
 }
 
-/// Listens at a socket that is made in the fresh folder and then moved to the path. The folder is empty afterwards.
+/// Listens at a socket that is made in the fresh folder and then moved to the path. The folder is
+/// empty afterwards.
 fn bind_in<R: Files + Net>(rt: &R, alloc: Global, fresh: &str, path: &str) -> io::Result<Bound> {
     let made = format!(in alloc; "{fresh}/s")?;
     let bound = bind_and_move(rt, &made, path);

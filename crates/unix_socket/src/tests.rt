@@ -126,7 +126,8 @@ fn a_path_too_long_makes_nothing_and_an_old_file_gives_way(rt: HostRuntime) -> R
 
 #[test]
 fn an_accept_is_tried_again_unless_the_descriptor_is_wrong(rt: HostRuntime) {
-    // Linux's numbers: EINTR, ECONNABORTED; ENOMEM, ENFILE, EMFILE, EPROTO, ENOBUFS, EPERM; EBADF, EINVAL, ENOTSOCK, EOPNOTSUPP.
+    // Linux's numbers: EINTR, ECONNABORTED; ENOMEM, ENFILE, EMFILE, EPROTO, ENOBUFS, EPERM; EBADF,
+    // EINVAL, ENOTSOCK, EOPNOTSUPP.
     for (number, wanted) in [
         (4, AcceptFault::OfOneClient),
         (103, AcceptFault::OfOneClient),

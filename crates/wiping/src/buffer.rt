@@ -1,10 +1,12 @@
-ghost use Rattle.std.specs.Prelude.{◌≡◌, ◌↔◌, ◌+◌, ◌<◌, ◌≤◌, [], ◌∷◌, ◌++◌, length, IsOk, IsTrue, OnOk, OnErr, IsSome, IfSome};
+ghost use Rattle.std.specs.Prelude.{◌≡◌, ◌↔◌, ◌+◌, ◌<◌, ◌≤◌, [], ◌∷◌, ◌++◌, length, IsOk, IsTrue};
+ghost use Rattle.std.specs.Prelude.{OnOk, OnErr, IsSome, IfSome};
 
 use crate::wipe;
 use arrayvec::{ArrayVec, CapacityError};
 use std::marker::Model;
 
-/// At most `N` bytes, in the value itself. They are overwritten when it is dropped, and it is neither cloned nor printed.
+/// At most `N` bytes, in the value itself. They are overwritten when it is dropped, and it is
+/// neither cloned nor printed.
 pub struct Wiped<const N: usize> {
     bytes: ArrayVec<u8, N>,
 }
@@ -39,6 +41,7 @@ impl<const N: usize> Wiped<N> {
         Some(buffer)
     }
 
+    /// Its bytes, at most `N`.
     #[inline]
     pub fn bytes(&self) -> &[u8]
         ensures value { result.now ≡ self.now }
@@ -47,6 +50,7 @@ impl<const N: usize> Wiped<N> {
         self.bytes.as_slice()
     }
 
+    /// How many bytes it has.
     #[inline]
     pub fn len(&self) -> usize
         ensures value { result ≡ length self.now }
@@ -55,6 +59,7 @@ impl<const N: usize> Wiped<N> {
         self.bytes.len()
     }
 
+    /// Whether it has no byte.
     #[inline]
     pub fn is_empty(&self) -> bool
         ensures { IsTrue result ↔ (self.now ≡ []) }
@@ -62,6 +67,7 @@ impl<const N: usize> Wiped<N> {
         self.bytes().is_empty()
     }
 
+    /// Whether there is no room for a further byte.
     #[inline]
     pub fn is_full(&self) -> bool
         ensures full { IsTrue result ↔ (length self.now ≡ N) }

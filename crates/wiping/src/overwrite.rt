@@ -6,8 +6,9 @@ use std::hint;
 pub const WIPED_STACK_LEN: usize = 131_072;
 
 /// Overwrites the bytes with zeros.
-// The toolchain has no volatile write, and its `black_box` is the identity. A call that is not inlined, and that has an
-// effect which the optimiser may not drop, stands in for them: so the call stays, and its writes with it.
+// The toolchain has no volatile write, and its `black_box` is the identity. A call that is not
+// inlined, and that has an effect which the optimiser may not drop, stands in for them: so the call
+// stays, and its writes with it.
 #[inline(never)]
 pub fn wipe(bytes: &mut [u8])
     ensures { bytes.new ≡ replicate (length bytes.old) 0 }
@@ -16,7 +17,8 @@ pub fn wipe(bytes: &mut [u8])
     hint::spin_loop();
 }
 
-/// Overwrites the stack below its caller, where calls that have returned may have left bytes. It takes a few microseconds.
+/// Overwrites the stack below its caller, where calls that have returned may have left bytes. It
+/// takes a few microseconds.
 // Not inlined, since its frame must begin where those of the calls before it began.
 #[inline(never)]
 pub fn wipe_stack() {

@@ -1,11 +1,13 @@
-ghost use Rattle.std.specs.Prelude.{◌≡◌, ◌&&◌, ℕ, IfOk, IfErr, true, false, List, [], map, string_bytes, is_some};
+ghost use Rattle.std.specs.Prelude.{◌≡◌, ◌&&◌, ℕ, IfOk, IfErr, true, false, List, [], map};
+ghost use Rattle.std.specs.Prelude.{string_bytes, is_some};
 ghost use Rattle.std.specs.List.{list_all};
 ghost use Rattle.std.specs.Option.{option_map};
 ghost use Rattle.clap.specs.Matches.{found_of};
 ghost use Rattle.clap.specs.Simple.{app_of};
 ghost use Rattle.clap.specs.Walk.{rows_of, rule_of};
 ghost use Rattle.agent_top.specs.Forms.{forms, fits};
-ghost use Rattle.agent_top.specs.Options.{command_of, rule_for, action_for, after_dashes, is_plain, are_readable, flag_in, takes, takes_row};
+ghost use Rattle.agent_top.specs.Options.{command_of, rule_for, action_for, after_dashes, is_plain};
+ghost use Rattle.agent_top.specs.Options.{are_readable, flag_in, takes, takes_row};
 ghost use Rattle.assuan_text.specs.Rows.{rows_of as table};
 ghost use Rattle.agent_top.specs.Settings.{Setting, settings, is_set, value_given};
 
@@ -39,11 +41,14 @@ impl<'a> Model for Given<'a> {
 impl<'a> Given<'a> {
     /// Reads the words. Whether the values have their options' forms isn't looked at.
     pub(crate) fn read(alloc: Global, words: &'a [String]) -> Result<Given<'a>, WordsFault>
-        ensures given { IfOk result (λ given. (given ≡ settings (map string_bytes words.entry.now))) }
+        ensures given { IfOk result
+            (λ given. (given ≡ settings (map string_bytes words.entry.now))) }
         ensures readable { IfOk result (λ given. are_readable given ≡ true) }
-        ensures bad { IfErr result (λ fault. fault ≡ WordsFault.Bad → are_readable (settings (map string_bytes words.entry.now)) ≡ false) }
+        ensures bad { IfErr result (λ fault. fault ≡ WordsFault.Bad
+            → are_readable (settings (map string_bytes words.entry.now)) ≡ false) }
     {
-        // What clap takes for the end of the options, for a value or for a short option is no word of the agent's.
+        // What clap takes for the end of the options, for a value or for a short option is no word
+        // of the agent's.
         if !all_plain(words) {
             return Err(WordsFault::Bad);
         }

@@ -3,9 +3,10 @@ ghost use Rattle.std.specs.List.{list_all};
 ghost use Rattle.agent_top.specs.Forms.{fits};
 ghost use Rattle.agent_top.specs.Settings.{Setting, Spells, settings};
 
-/// A law: the words are spelled by the settings that they are read as, and by no other ones that are known and have their form.
+/// A law: the words are spelled by the settings that they are read as, and by no other ones that
+/// are known and have their form.
 pub fn words_are_read_as_spelled()
     ensures spelled { (words : List (List ℕ)) → Spells (settings words) words }
-    ensures only { (given : List Setting) (words : List (List ℕ)) → Spells given words → list_all fits given ≡ true
-        → settings words ≡ given }
+    ensures only { (given : List Setting) (words : List (List ℕ)) → Spells given words
+        → list_all fits given ≡ true → settings words ≡ given }
 {}

@@ -1,4 +1,5 @@
-ghost use Rattle.std.specs.Prelude.{◌≡◌, ◌≤◌, ◌<◌, ◌+◌, ◌++◌, [], false, ℕ, List, length, vec_len, OnOk, OnErr, MatchOption};
+ghost use Rattle.std.specs.Prelude.{◌≡◌, ◌≤◌, ◌<◌, ◌+◌, ◌++◌, [], false, ℕ, List, length, vec_len};
+ghost use Rattle.std.specs.Prelude.{OnOk, OnErr, MatchOption};
 ghost use Rattle.cache_policy.specs.declared.secret.TheConstants.{MAX_SECRET_LEN};
 ghost use Rattle.assuan_server.specs.Buffers.{IsVecOf, IsSecretOf, IsCountOf};
 
@@ -18,7 +19,8 @@ pub(crate) trait Buffer {
     ghost limit: { Self → ℕ };
 
     fn add(&mut self, bytes: &[u8])
-        ensures keeps { (before : List ℕ) → keeps self.old before → keeps self.new (before ++ bytes.now) }
+        ensures keeps { (before : List ℕ) → keeps self.old before
+            → keeps self.new (before ++ bytes.now) }
         ensures limit { limit self.new ≡ limit self.old };
 }
 
@@ -101,7 +103,8 @@ impl VecBuffer {
 }
 
 impl VecBuffer {
-    /// Appends the bytes. Where they need another place in memory, the one before it is overwritten.
+    /// Appends the bytes. Where they need another place in memory, the one before it is
+    /// overwritten.
     fn extend(&mut self, bytes: &[u8]) -> Result<(), AllocError>
         requires { vec_len self.old.bytes + length bytes.now ≤ self.old.limit }
         ensures ok { OnOk result (self.new.bytes.items ≡ self.old.bytes.items ++ bytes.now) }
@@ -152,7 +155,8 @@ impl Buffer for VecBuffer {
     }
 }
 
-/// Keeps bytes without taking memory, up to as many as a secret has. They are overwritten where they lie by `Wiped::clear`.
+/// Keeps bytes without taking memory, up to as many as a secret has. They are overwritten where
+/// they lie by `Wiped::clear`.
 #[derive(Drop)]
 pub(crate) struct SecretBuffer {
     pub(crate) bytes: Wiped<MAX_SECRET_LEN>,
@@ -173,7 +177,8 @@ impl SecretBuffer {
     /// A copy of the bytes, if they can be a secret.
     pub(crate) fn secret(&self) -> Option<Secret>
         ensures { (bytes : List ℕ) → IsSecretOf self.now.bytes self.now.too_much bytes
-            → MatchOption result (MAX_SECRET_LEN < length bytes) (λ secret. (secret ≡ bytes) × (length bytes ≤ MAX_SECRET_LEN)) }
+            → MatchOption result (MAX_SECRET_LEN < length bytes)
+            (λ secret. (secret ≡ bytes) × (length bytes ≤ MAX_SECRET_LEN)) }
     {
         if self.too_much {
             None

@@ -74,10 +74,13 @@ impl From<Failure> for Dropped {
     }
 }
 
-/// Whether the answer after an inquiry's data lines, which is cleared, is END, or why the inquiry has none for its caller.
+/// Whether the answer after an inquiry's data lines, which is cleared, is END, or why the inquiry
+/// has none for its caller.
 pub(crate) fn end_of(took: &mut Took) -> Result<(), Failure>
-    ensures end { OnOk result ((line : List ℕ) × (took.old ≡ Took.Line line) × IsWord (codes "end") line) }
-    ensures failure { IfErr result (λ failure. (limit : ℕ) (bytes : List ℕ) → ComesTo limit bytes took.old (without failure)) }
+    ensures end { OnOk result
+        ((line : List ℕ) × (took.old ≡ Took.Line line) × IsWord (codes "end") line) }
+    ensures failure { IfErr result
+        (λ failure. (limit : ℕ) (bytes : List ℕ) → ComesTo limit bytes took.old (without failure)) }
 {
     match took {
         Took::Line(line) => {
@@ -94,8 +97,8 @@ pub(crate) fn end_of(took: &mut Took) -> Result<(), Failure>
 
 /// Whether the line is END, by its first word. Further words are ignored.
 fn end_of_line(line: &[u8]) -> Result<(), Failure>
-    ensures { MatchResult result (λ _. IsWord (codes "end") line.now)
-        (λ failure. (limit : ℕ) (bytes : List ℕ) → ComesTo limit bytes (Took.Line line.now) (without failure)) }
+    ensures { MatchResult result (λ _. IsWord (codes "end") line.now) (λ failure.
+        (limit : ℕ) (bytes : List ℕ) → ComesTo limit bytes (Took.Line line.now) (without failure)) }
 {
     let word = first_word(line);
     if word.eq_ignore_ascii_case(b"CAN") {

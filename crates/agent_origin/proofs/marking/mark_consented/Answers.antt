@@ -30,5 +30,5 @@ returns-clause-marks g c = λ keys dice.
     let second = rw c.fingerprint_question-is_right.ensures at c.in_ok-ask_consent-2.ensures.agrees in
     both_given m.rules.now m.options.now m.fingerprint.now m.purpose m.name.now.items NoTurn g.P.Prompter.prompted (first (g.T.TrustFile.trust c.args.trust.now) keys dice)
     (second (g.T.TrustFile.trust c.args.trust.now) keys dice)
-    (part_called NoTurn g.P.Prompter.prompted c.ask_consent-2.new.conn tt (record { prompter = c.ask_consent-2.new.prompter; keys = keys; dice = dice })
+    (part_called NoTurn g.P.Prompter.prompted c.ask_consent-2.new.conn tt c.ask_consent-2.new.prompter keys dice
     (c.in_ok-ask_consent-2.ensures.open refl) c.store_unsaid.ensures)

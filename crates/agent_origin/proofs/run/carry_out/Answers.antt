@@ -1,4 +1,5 @@
 use Rattle.std.proofs.Common.{refl}
+use Rattle.agent_origin.specs.FurtherStates.{further_ends}
 use Rattle.agent_origin.specs.Parts.{refuses}
 use Rattle.agent_origin.proofs.Doing.{part_called, part_still}
 use Rattle.agent_origin.proofs.run.carry_out.Goals as goal
@@ -6,10 +7,10 @@ use Rattle.agent_origin.proofs.run.carry_out.Goals as goal
 pub returns-in-IsTrusted-clause-carries : goal.returns-in-IsTrusted-clause-carries
 returns-in-IsTrusted-clause-carries g c = λ keys dice.
     rw c.in-IsTrusted.is
-    (part_called g.D.Desk.turned g.P.Prompter.prompted c.args.conn.now c.args.desk.now (record { prompter = c.args.prompter.now; keys = keys; dice = dice }) c.requires.open c.trusted_now.ensures)
+    (part_called g.D.Desk.turned g.P.Prompter.prompted c.args.conn.now c.args.desk.now c.args.prompter.now keys dice c.requires.open c.trusted_now.ensures)
 
 pub returns-in-Bad-clause-carries : goal.returns-in-Bad-clause-carries
 returns-in-Bad-clause-carries g c = λ keys dice.
     rw c.in-Bad.is
     (part_still g.D.Desk.turned g.P.Prompter.prompted c.args.conn.now
-    (record { further = record { prompter = c.args.prompter.now; keys = keys; dice = dice }; trust = g.T.TrustFile.trust c.args.trust.now }) c.args.desk.now c.requires.open refl refuses)
+    (further_ends c.args.prompter.now keys dice (g.T.TrustFile.trust c.args.trust.now)) c.args.desk.now c.requires.open refl refuses)

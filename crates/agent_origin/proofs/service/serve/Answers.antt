@@ -1,9 +1,9 @@
 use Rattle.std.proofs.Common.{rules}
-use Rattle.agent_origin.specs.Services.{service_world}
+use Rattle.agent_origin.specs.FurtherStates.{FurtherWorld}
 use Rattle.agent_origin.proofs.Served.{on_link}
 use Rattle.agent_origin.proofs.service.serve.Goals as goal
 
 pub returns-clause-serves : goal.returns-clause-serves
 returns-clause-serves g c =
-    on_link {w = service_world g.A.Answers.service g.D.Desk.turned g.P.Prompter.prompted} (g.A.Answers.service.exchange c.args.so.now c.args.rules.now) _
+    on_link {w = FurtherWorld g.D.Desk.turned g.P.Prompter.prompted} (g.A.Answers.exchange c.args.so.now c.args.rules.now) _
     c.new-conn.ensures.input c.new-conn.ensures.output (search rules) (search rules) c.serve_conn-end.ensures.serves

@@ -1,13 +1,13 @@
-use Rattle.agent_origin.specs.Services.{service_world}
+use Rattle.agent_origin.specs.FurtherStates.{FurtherWorld}
 use Rattle.agent_origin.proofs.Meeting.{met, met_cut}
 use Rattle.assuan_server.proofs.Saying.{said}
 use Rattle.agent_origin.proofs.service.serve_conn.Goals as goal
 
 pub returns-in-Ok-clause-serves : goal.returns-in-Ok-clause-serves
 returns-in-Ok-clause-serves g c =
-    met {w = service_world g.A.Answers.service g.D.Desk.turned g.P.Prompter.prompted} (g.A.Answers.service.exchange c.args.so.now c.args.rules.now) _ _ c.requires.fresh c.greet.new.self _ _ (said c.in-Ok.ensures c.greet.ensures)
+    met {w = FurtherWorld g.D.Desk.turned g.P.Prompter.prompted} (g.A.Answers.exchange c.args.so.now c.args.rules.now) _ _ c.requires.fresh c.greet.new.self _ _ (said c.in-Ok.ensures c.greet.ensures)
     (rw c.new-kept.ensures at c.serve_requests-end.ensures.serves)
 
 pub returns-in-Err-clause-serves : goal.returns-in-Err-clause-serves
 returns-in-Err-clause-serves g c =
-    met_cut {w = service_world g.A.Answers.service g.D.Desk.turned g.P.Prompter.prompted} (g.A.Answers.service.exchange c.args.so.now c.args.rules.now) _ _ c.requires.fresh c.greet.new.self _ (said c.in-Err.ensures c.greet.ensures)
+    met_cut {w = FurtherWorld g.D.Desk.turned g.P.Prompter.prompted} (g.A.Answers.exchange c.args.so.now c.args.rules.now) _ _ c.requires.fresh c.greet.new.self _ (said c.in-Err.ensures c.greet.ensures)

@@ -1,6 +1,6 @@
 use Rattle.std.proofs.Common.{refl}
+use Rattle.agent_ask.specs.TrustCalls.{Read}
 use Rattle.agent_ports.specs.declared.trust.TrustRead.TheVariants.{Found, Absent, Failed, NoMemory}
-use Rattle.agent_origin.specs.OriginEvents.{Read}
 use Rattle.agent_origin.specs.Parts.{has_read, faulted, no_memory}
 use Rattle.agent_origin.proofs.Doing.{one_call}
 use Rattle.agent_origin.proofs.trust_calls.read_file.Goals as goal

@@ -1,6 +1,6 @@
 use Rattle.std.proofs.Common.{refl}
+use Rattle.agent_ask.specs.TrustCalls.{Replaced}
 use Rattle.agent_ports.specs.declared.trust.TrustDone.TheVariants.{Done, Failed, NoMemory}
-use Rattle.agent_origin.specs.OriginEvents.{Replaced}
 use Rattle.agent_origin.specs.Parts.{replaced, faulted, no_memory}
 use Rattle.agent_origin.proofs.Doing.{one_call}
 use Rattle.agent_origin.proofs.trust_calls.replace.Goals as goal

@@ -1,6 +1,6 @@
 use Rattle.std.proofs.Common.{refl}
 use Rattle.std.proofs.lemmas.Result.{err_from_is_err_and}
-use Rattle.agent_ask.specs.Further.{FurtherEnds}
+use Rattle.key_commands.specs.KeyEnds.{KeyEnds}
 use Rattle.key_commands.specs.Parts.{returns}
 use Rattle.key_commands.specs.Partial.{NoCall}
 use Rattle.key_commands.proofs.Doing.{part_still, part_then, part_stops, part_turned}
@@ -18,7 +18,7 @@ returns-in_err-cached-clause-writes g c = λ files side.
 
 pub returns-clause-writes : goal.returns-clause-writes
 returns-clause-writes g c = λ files side.
-    let ends : FurtherEnds (Unit {0}) = record { prompter = tt; keys = files; dice = side } in
+    let ends : KeyEnds (Unit {0}) = record { prompter = tt; keys = files; dice = side } in
     part_then g.D.Desk.turned NoCall
     (part_then g.D.Desk.turned NoCall (part_turned g.D.Desk.turned NoCall c.args.conn.now ends c.requires.open refl c.in_ok-cached.ensures.turn)
     (part_still g.D.Desk.turned NoCall c.args.conn.now ends c.peek.new.desk c.requires.open refl returns))

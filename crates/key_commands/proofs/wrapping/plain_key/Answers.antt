@@ -1,4 +1,6 @@
-use Rattle.std.proofs.Common.{inl, inr, ap, arith, sym, ◌∙◌, subst, Err}
+use Rattle.std.proofs.Common.{◌≤◌, inl, inr, ap, sym, ◌∙◌, subst, Err}
+use Rattle.std.proofs.Math.Nat.{lt_of_not-le}
+use Rattle.sexp_canonical.specs.Spelling.{most_depth, depth}
 use Rattle.key_commands.specs.Faults.{fault_code}
 use Rattle.key_commands.specs.Wrapping.{PlainSays, no_expression, no_key, protected, long, key}
 use Rattle.key_commands.proofs.wrapping.plain_key.Goals as goal
@@ -18,12 +20,17 @@ pub returns-then-not-is_clear-clause-fault : goal.returns-then-not-is_clear-clau
 returns-then-not-is_clear-clause-fault c =
     inr (protected (rw c.in-Some.is at c.in_ok-tree.ensures.found) c.in-Ok.ensures.found (sym c.is_clear.ensures.clear ∙ c.if-not-is_clear.true))
 
-pub returns-then-branch-gt-MAX_LIST_LEN-clause-fault : goal.returns-then-branch-gt-MAX_LIST_LEN-clause-fault
-returns-then-branch-gt-MAX_LIST_LEN-clause-fault c =
-    let len = c.in_ok-list_len.ensures.len in
-    inr (long (rw c.in-Some.is at c.in_ok-tree.ensures.found) c.in-Ok.ensures.found (sym c.is_clear.ensures.clear ∙ c.if-not-is_clear.false) (omega (arith, len)))
+pub has_short_list-requires : goal.has_short_list-requires
+has_short_list-requires c =
+    let padded = rw c.in-Some.is at c.in_ok-tree.ensures.found in
+    subst (λ tree. depth tree ≤ most_depth) c.in-Ok.ensures.found.parts padded.read.shallow
+
+pub returns-then-not-has_short_list-clause-fault : goal.returns-then-not-has_short_list-clause-fault
+returns-then-not-has_short_list-clause-fault c =
+    let no = c.if-not-has_short_list.true in
+    inr (long (rw c.in-Some.is at c.in_ok-tree.ensures.found) c.in-Ok.ensures.found (sym c.is_clear.ensures.clear ∙ c.if-not-is_clear.false)
+    (lt_of_not-le (λ short. let yes = c.has_short_list.ensures.1 short in absurd (cc (yes, no)))))
 
 pub returns-clause-key : goal.returns-clause-key
 returns-clause-key c =
-    let len = c.in_ok-list_len.ensures.len in
-    key (rw c.in-Some.is at c.in_ok-tree.ensures.found) c.in-Ok.ensures.found (sym c.is_clear.ensures.clear ∙ c.if-not-is_clear.false) (omega (arith, len))
+    key (rw c.in-Some.is at c.in_ok-tree.ensures.found) c.in-Ok.ensures.found (sym c.is_clear.ensures.clear ∙ c.if-not-is_clear.false) (c.has_short_list.ensures.0 c.if-not-has_short_list.false)

@@ -1,6 +1,6 @@
 use Rattle.std.proofs.Common.{arith, ◌-◌}
 use Rattle.std.specs.Vec.{vec_len}
-use Rattle.sexp_advanced.proofs.AddsLast.{adds_last}
+use Rattle.sexp_canonical.proofs.AddsLast.{adds_last}
 use Rattle.sexp_advanced.proofs.reading.add.Goals as goal
 
 pub returns : goal.returns

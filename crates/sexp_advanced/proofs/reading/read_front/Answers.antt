@@ -1,5 +1,5 @@
 use Rattle.std.proofs.Common.{Some, None, arith}
-use Rattle.sexp_advanced.specs.Steps.{lists_of}
+use Rattle.sexp_canonical.specs.Adding.{lists_of}
 use Rattle.sexp_advanced.proofs.Open.{rest_shorter, item_shorter, more_shorter, taken_here}
 use Rattle.sexp_advanced.proofs.reading.read_front.Goals as goal
 

@@ -1,5 +1,5 @@
 use Rattle.std.proofs.Common.{length, ◌-◌}
-use Rattle.sexp_canonical.specs.Steps.{lists_of}
+use Rattle.sexp_canonical.specs.Adding.{lists_of}
 use Rattle.sexp_canonical.proofs.Open.{IsOpenAt}
 use Rattle.sexp_canonical.proofs.reading.read_front.Given as goal
 

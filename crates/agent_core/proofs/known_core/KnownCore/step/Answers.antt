@@ -1,4 +1,4 @@
-use Rattle.std.specs.Prelude.{◌≡◌, ◌≢◌, ℕ, ◌+◌, List, true, Option, IsSome, IfSome, Ok}
+use Rattle.std.specs.Prelude.{◌≡◌, ◌≢◌, ℕ, ◌+◌, List, length, true, IsSome, IfSome, Ok}
 use Rattle.std.proofs.Common.{ap, sym, ◌∙◌, subst, refl, rules, arith}
 use Rattle.cache_policy.specs.declared.mark.Mark.{Mark}
 use Rattle.cache_policy.specs.declared.mark.MarkStep.{MarkStep}
@@ -12,9 +12,9 @@ use Rattle.agent_core.specs.Cores.{AtCore, IsStep, mark_of}
 use Rattle.agent_core.specs.Known.{AtKnown, IsOut, TakesStep, spent}
 use Rattle.agent_core.specs.Recording.{KeepsRun, LastHasRoom, reply_of}
 use Rattle.cache_policy.specs.declared.tally.Tally.{Tally}
-use Rattle.cache_policy.specs.declared.history.Held.{Held as Ticket}
-use Rattle.cache_policy.specs.Seat.{seat}
-use Rattle.agent_core.specs.Tallies.{stores, Tallied}
+use Rattle.cache_policy.specs.Entries.{stored}
+use Rattle.cache_policy.specs.Tallies.{one_if}
+use Rattle.agent_core.specs.Tallies.{Tallied}
 use Rattle.agent_core.proofs.Coming.{needs_fits}
 use Rattle.agent_core.proofs.Counting.{can_count, tally_stays, tally_counted}
 use Rattle.agent_core.proofs.Knowing.{seat_next, legal_last, spent_run, going, no_room, has_next, can_add, keeps_same, like_same, records_stay, is_marked}
@@ -132,10 +132,10 @@ tally_counts_mark : (c : goal.After-add) → Tallied c.step.new.self.limits (run
 tally_counts_mark c =
     let keeps = c.self.invariant.records.keeps in
     let mark : Mark = c.mark_of-mark.result in
-    let now : c.stores-stores.result ≡ stores c.self.inside.core.limits (seat (next_history keeps.last)) mark.step =
-    c.stores-stores.ensures
-    ∙ (ap (λ (h : Option Ticket). stores c.self.inside.core.limits h c.mark_step_of-asked.result) (keeps.stands.seat_is ∙ sym (seat_next keeps.last))
-    ∙ ap (λ (m : Mark). stores c.self.inside.core.limits (seat (next_history keeps.last)) m.step) (sym c.mark_of-mark.ensures)) in
+    let now : length (stored c.self.inside.core.limits (next_history keeps.last) mark.step mark.moment) ≡ one_if c.stores-stores.result =
+    subst (λ (s : MarkStep). length (stored c.self.inside.core.limits (next_history keeps.last) s mark.moment) ≡ one_if c.stores-stores.result)
+    (sym c.mark_step_of-asked.ensures ∙ ap (λ (m : Mark). m.step) (sym c.mark_of-mark.ensures))
+    (c.stores-stores.ensures (next_history keeps.last) mark.moment (seat_next keeps.last ∙ sym keeps.stands.seat_is)) in
     tally_stays c.self.inside.core.limits c.step.new.self.limits (run_with_mark (run_of c.self.inside.histories.items) mark) (run_of c.add.new.histories.items)
     c.counted-self-inside.result c.in-Ok.ensures.limits (run_has_mark c)
     (subst (λ (t : Tally). Tallied c.self.inside.core.limits (run_with_mark (run_of c.self.inside.histories.items) mark) t) (sym c.counted-self-inside.ensures)

@@ -26,6 +26,6 @@ returns-in-Some-Trust-clause-answers g c =
 
 pub returns-in-None-clause-answers : goal.returns-in-None-clause-answers
 returns-in-None-clause-answers g c =
-    session_line_is_answered g.D.Desk.turned g.P.Prompter.prompted c.args.self.now c.args.rules.now c.args.line.now (sym c.allowed.ensures ∙ c.if-not-allowed.false) _
+    session_line_is_answered g.D.Desk.turned g.P.Prompter.prompted c.args.self.now c.args.rules.now c.args.line.now (sym c.allowed.ensures ∙ c.if-not-allowed.false)
     (sym (c.door_command_named.ensures ∙ ap door_command_named c.command_and_rest.ensures.command ∙ ap (λ (line : List ℕ). door_command_named (command_of line)) c.bytes.ensures.bytes) ∙ c.in-None.is)
-    c.answer.ensures.answers
+    (c.answer.ensures.answers (g.T.TrustFile.trust c.args.trust.now))

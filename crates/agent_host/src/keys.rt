@@ -8,11 +8,12 @@ use std::alloc::Global;
 use std::fs::{File, Files};
 use std::rt;
 
-/// The key files of the folder that was settled. A path takes memory, and settling may take none: so the keys of the folder are made for each
-/// call.
+/// The key files of the folder that was settled. A path takes memory, and settling may take none:
+/// so the keys of the folder are made for each call.
 #[derive(Drop)]
 pub struct SystemKeys<'a, R> {
     rt: &'a R,
+    /// The folder.
     pub homedir: Homedir,
     faults: u64,
 }
@@ -20,7 +21,8 @@ pub struct SystemKeys<'a, R> {
 impl<'a, R: rt::Clock + Files<File = File>> SystemKeys<'a, R> {
     /// Keys of no folder yet: each call fails.
     pub fn new(rt: &'a R) -> Self
-        ensures keys { ⟦<SystemKeys<'a, R> as Keys>⟧.keys result ≡ record { files = None; faults = 0 } }
+        ensures keys { ⟦<SystemKeys<'a, R> as Keys>⟧.keys result
+            ≡ record { files = None; faults = 0 } }
         ensures homedir { result.homedir ≡ [] }
     {
         SystemKeys {
@@ -32,14 +34,16 @@ impl<'a, R: rt::Clock + Files<File = File>> SystemKeys<'a, R> {
 
     /// The folder that is used from now on.
     pub fn settle(&mut self, homedir: &Homedir)
-        ensures keys { ⟦<SystemKeys<'a, R> as Keys>⟧.keys self.new ≡ ⟦<SystemKeys<'a, R> as Keys>⟧.keys self.old }
+        ensures keys { ⟦<SystemKeys<'a, R> as Keys>⟧.keys self.new
+            ≡ ⟦<SystemKeys<'a, R> as Keys>⟧.keys self.old }
         ensures homedir { self.new.homedir ≡ homedir.now }
     {
         self.homedir = homedir.copy();
     }
 
     fn folder(&self, alloc: Global) -> Result<FolderKeys<'a, R>, NoFolder>
-        ensures { IfOk result (λ folder. ⟦<FolderKeys<'a, R> as Keys>⟧.keys folder ≡ record { files = None; faults = 0 }) }
+        ensures { IfOk result (λ folder. ⟦<FolderKeys<'a, R> as Keys>⟧.keys folder
+            ≡ record { files = None; faults = 0 }) }
     {
         let path = self.homedir.path().ok_or(NoFolder::Failed)?;
         FolderKeys::new(self.rt, alloc, path).map_err(|_| NoFolder::NoMemory)

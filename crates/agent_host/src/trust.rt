@@ -8,10 +8,12 @@ use std::alloc::Global;
 use std::fs::{File, Files};
 use std::rt;
 
-/// The trust list of the folder that was settled. As with the keys, what reads and writes it is made for each call.
+/// The trust list of the folder that was settled. As with the keys, what reads and writes it is
+/// made for each call.
 #[derive(Drop)]
 pub struct SystemTrust<'a, R> {
     rt: &'a R,
+    /// The folder.
     pub homedir: Homedir,
     faults: u64,
 }
@@ -19,7 +21,8 @@ pub struct SystemTrust<'a, R> {
 impl<'a, R: rt::Clock + Files<File = File>> SystemTrust<'a, R> {
     /// The trust list of this folder.
     pub fn new(rt: &'a R, homedir: &Homedir) -> Self
-        ensures trust { ⟦<SystemTrust<'a, R> as TrustFile>⟧.trust result ≡ record { file = None; faults = 0 } }
+        ensures trust { ⟦<SystemTrust<'a, R> as TrustFile>⟧.trust result
+            ≡ record { file = None; faults = 0 } }
         ensures homedir { result.homedir ≡ homedir.now }
     {
         SystemTrust {
@@ -30,7 +33,8 @@ impl<'a, R: rt::Clock + Files<File = File>> SystemTrust<'a, R> {
     }
 
     fn folder(&self, alloc: Global) -> Result<FolderTrust<'a, R>, NoFolder>
-        ensures { IfOk result (λ folder. ⟦<FolderTrust<'a, R> as TrustFile>⟧.trust folder ≡ record { file = None; faults = 0 }) }
+        ensures { IfOk result (λ folder. ⟦<FolderTrust<'a, R> as TrustFile>⟧.trust folder
+            ≡ record { file = None; faults = 0 }) }
     {
         let path = self.homedir.path().ok_or(NoFolder::Failed)?;
         FolderTrust::new(self.rt, alloc, path).map_err(|_| NoFolder::NoMemory)

@@ -1,20 +1,25 @@
-ghost use Rattle.std.specs.Prelude.{◌≡◌, None, IfSome, refl};
+ghost use Rattle.std.specs.Prelude.{◌≡◌, None, IfOk, refl};
 ghost use Rattle.agent_ports.specs.Launches.{IsFresh};
 
 use crate::faults::count;
+use crate::told::{LastError, Printable};
 use agent_ports::{Got, Launcher, Link, Sent, Sink, Source};
 use std::alloc::Global;
+use std::io::ErrorKind;
 use std::process::{Child, Command, OpenProcess, Processes, Stdio};
 use std::time::Duration;
 use std::{io, rt, str, thread};
 use std_link::StdLink;
 
-/// How often a child that is to end is looked at, before it is killed. Each look is followed by a nap of twice the one before, of 1 microsecond at first: together
-/// they take a second, and an end is seen after at most twice the time that it took.
+/// How often a child that is to end is looked at, before it is killed. Each look is followed by a
+/// nap of twice the one before, of 1 microsecond at first: together they take a second, and an end
+/// is seen after at most twice the time that it took.
 const LOOKS: u32 = 20;
 
-/// Starts programs without arguments, whose standard input and output are pipes. It doesn't show what they give and are written. A child that is finished has a second
-/// to end by itself.
+/// Starts programs without arguments, whose standard input and output are pipes. It doesn't show
+/// what they give and are written. A child that is finished has a second to end by itself. Why a
+/// program couldn't be started, and what a child failed by, is said on the error stream, in one
+/// line.
 #[derive(Drop)]
 pub struct PipeLauncher<'a, R> {
     rt: &'a R,
@@ -22,7 +27,8 @@ pub struct PipeLauncher<'a, R> {
     faults: u64,
 }
 
-impl<'a, R: rt::Clock + Processes> PipeLauncher<'a, R> {
+impl<'a, R: rt::Clock + Processes + Eprint> PipeLauncher<'a, R> {
+    /// A launcher that has started nothing yet. A launch takes memory for the program's path.
     pub fn new(rt: &'a R, alloc: Global) -> Self
         ensures { (⟦<PipeLauncher<'a, R> as Launcher>⟧.launches result).faults ≡ 0 }
     {
@@ -34,10 +40,12 @@ impl<'a, R: rt::Clock + Processes> PipeLauncher<'a, R> {
     }
 }
 
-/// A program that was started. It is handed to `finish`, which sees to its end.
+/// A program that was started: what it writes is read, and what is written it reads. It is handed
+/// to `finish`, which sees to its end.
 pub struct PipedChild<P: OpenProcess> {
     process: Child<P>,
     pipes: StdLink<P::Stdout, P::Stdin>,
+    last_error: LastError,
 }
 
 impl<P: OpenProcess> Source for PipedChild<P> {
@@ -46,7 +54,13 @@ impl<P: OpenProcess> Source for PipedChild<P> {
     ghost beside_input = { λ c. ⟦<StdLink<P::Stdout, P::Stdin> as Sink>⟧.output c.pipes };
 
     fn read(&mut self, buf: &mut [u8]) -> Got {
-        self.pipes.read(buf)
+        let got = self.pipes.read(buf);
+        match got {
+            Got::Bytes(count) => self.last_error.read(&buf[..count]),
+            Got::End => self.last_error.read_end(),
+            Got::Failed => {}
+        }
+        got
     }
 }
 
@@ -66,19 +80,31 @@ impl<P: OpenProcess> Link for PipedChild<P> {
     ghost input_beside = { λ _. refl };
 }
 
-impl<R: rt::Clock + Processes> Launcher for PipeLauncher<'_, R> {
+impl<R: rt::Clock + Processes + Eprint> Launcher for PipeLauncher<'_, R> {
     type Child = PipedChild<R::Started>;
 
-    ghost launches = { λ l. record { coming = None; launched = None; finished = None; faults = l.faults } };
+    ghost launches = { λ l.
+        record { coming = None; launched = None; finished = None; faults = l.faults } };
 
     fn launch(&mut self, program: &[u8]) -> Option<PipedChild<R::Started>> {
         let child = start(self.rt, self.alloc, program);
-        count(&mut self.faults, child.is_none());
-        child
+        count(&mut self.faults, child.is_err());
+        if let Err(error) = &child {
+            // Where that can't be written nobody is to be told.
+            let _ = eprintln!(self.rt; "agent: {} can't be started: {error}", Printable(program));
+        }
+        child.ok()
     }
 
     fn finish(&mut self, child: PipedChild<R::Started>) {
-        let PipedChild { mut process, pipes } = child;
+        let PipedChild {
+            mut process,
+            pipes,
+            last_error,
+        } = child;
+        if let Some(failure) = last_error.failure() {
+            let _ = eprintln!(self.rt; "agent: the pinentry {failure}");
+        }
         let (reads, writes) = pipes.faults();
         self.faults = self.faults.saturating_add(reads).saturating_add(writes);
         // A child that still reads, or writes, comes to the end of its pipes.
@@ -92,28 +118,31 @@ fn start<R: rt::Clock + Processes>(
     rt: &R,
     alloc: Global,
     program: &[u8],
-) -> Option<PipedChild<R::Started>>
-    ensures { IfSome result (λ child. IsFresh (⟦<PipedChild<R::Started> as Source>⟧.input child) (⟦<PipedChild<R::Started> as Sink>⟧.output child)) }
+) -> io::Result<PipedChild<R::Started>>
+    ensures { IfOk result (λ child. IsFresh (⟦<PipedChild<R::Started> as Source>⟧.input child)
+        (⟦<PipedChild<R::Started> as Sink>⟧.output child)) }
 {
-    let path = str::from_utf8(program).ok()?;
-    let mut command = Command::new(alloc, path).ok()?;
+    let path = str::from_utf8(program).map_err(|_| ErrorKind::InvalidFilename)?;
+    let mut command = Command::new(alloc, path)?;
     command.stdin(Stdio::piped());
     command.stdout(Stdio::piped());
-    let mut process = command.spawn(rt).ok()?;
+    let mut process = command.spawn(rt)?;
     match (process.stdin.take(), process.stdout.take()) {
-        (Some(input), Some(output)) => Some(PipedChild {
+        (Some(input), Some(output)) => Ok(PipedChild {
             process,
             pipes: StdLink::new(output, input),
+            last_error: LastError::new(),
         }),
         // A child without pipes is of no use.
         _ => {
             let _ = end(rt, &mut process);
-            None
+            Err(ErrorKind::BrokenPipe.into())
         }
     }
 }
 
-/// Takes the end of a child whose pipes are closed. One that heeds neither, and is still there behind a second, is killed.
+/// Takes the end of a child whose pipes are closed. One that heeds neither, and is still there
+/// behind a second, is killed.
 fn end<P: OpenProcess>(rt: &impl rt::Clock, process: &mut Child<P>) -> io::Result<()> {
     for look in 0..LOOKS {
         if process.try_wait()?.is_some() {
@@ -129,6 +158,7 @@ fn end<P: OpenProcess>(rt: &impl rt::Clock, process: &mut Child<P>) -> io::Resul
 #[cfg(test)]
 mod tests {
     use super::*;
+    use crate::told::said;
     use std::fs::OpenOptions;
     use std::io::Write;
     use std::os::unix::fs::OpenOptionsExt;
@@ -183,7 +213,8 @@ mod tests {
         }
     }
 
-    /// A program of this test's own, which is a script of the shell. It is closed, so that it may be started.
+    /// A program of this test's own, which is a script of the shell. It is closed, so that it may
+    /// be started.
     fn script(rt: &HostRuntime, name: &str, lines: &str) -> Result<String, Fail> {
         let temporary = env::temp_dir(rt)?;
         let Some(temporary) = temporary.as_path().to_str() else {
@@ -199,6 +230,28 @@ mod tests {
         file.write_all(b"#!/bin/sh\n")?;
         file.write_all(lines.as_bytes())?;
         Ok(path)
+    }
+
+    #[test]
+    fn what_a_child_failed_by_is_what_it_gave(rt: HostRuntime) -> Result<(), Fail> {
+        let mut launcher = PipeLauncher::new(&rt, rt.alloc());
+        for (lines, wanted) in [
+            ("printf 'OK\\nERR 98 no\\n'\ncat\n", "answered ERR 98 no"),
+            ("printf 'OK\\nD correct horse\\nOK\\n'\ncat\n", ""),
+            ("true\n", "ended before it answered"),
+        ] {
+            let path = script(&rt, "failing", lines)?;
+            let Some(mut child) = launcher.launch(path.as_bytes()) else {
+                return Err(Fail::new("not started"));
+            };
+            let _ = child.read(&mut [0u8; 64]);
+            let shown = said(rt.alloc(), &child.last_error);
+            launcher.finish(child);
+            fs::remove_file(&rt, &path)?;
+            assert_eq!(rt; shown?.as_str(), wanted);
+        }
+        assert_eq!(rt; launcher.faults, 0);
+        Ok(())
     }
 
     #[test]

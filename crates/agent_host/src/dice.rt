@@ -9,7 +9,8 @@ use std::io::Read;
 /// Where the system gives random bytes.
 const SOURCE: &str = "/dev/urandom";
 
-/// The system's random bytes. None of them are known. A draw that can't be read whole is a fault.
+/// The system's random bytes, of `/dev/urandom`, which is opened for each draw. None of them are
+/// known. A draw that can't be read whole is a fault, and leaves zeros.
 #[derive(Drop)]
 pub struct SystemDice<'a, R> {
     rt: &'a R,
@@ -17,6 +18,7 @@ pub struct SystemDice<'a, R> {
 }
 
 impl<'a, R: Files<File = File>> SystemDice<'a, R> {
+    /// Dice that drew nothing yet.
     pub fn new(rt: &'a R) -> Self
         ensures { ⟦<SystemDice<'a, R> as Dice>⟧.draws result ≡ record { bytes = None; faults = 0 } }
     {

@@ -4,8 +4,9 @@ use agent_ports::Clock;
 use std::rt;
 use std::time::{SystemTime, UNIX_EPOCH};
 
-/// The system's clock in seconds since 1970. None of its later readings are known. Where the system gives no time, the last
-/// reading stands.
+/// The system's clock in seconds since 1970 (POSIX, "Seconds Since the Epoch"). None of its later
+/// readings are known. Where the system gives no time, the last reading stands, which is 0 before
+/// the first.
 #[derive(Drop)]
 pub struct SystemClock<'a, R> {
     rt: &'a R,
@@ -14,6 +15,7 @@ pub struct SystemClock<'a, R> {
 }
 
 impl<'a, R: rt::Clock> SystemClock<'a, R> {
+    /// A clock that wasn't read yet.
     pub fn new(rt: &'a R) -> Self {
         SystemClock {
             rt,

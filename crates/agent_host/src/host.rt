@@ -16,15 +16,17 @@ use std::process::Processes;
 use std::rt;
 use unix_socket::{SocketEar, SocketLink, SocketListener, SocketName};
 
-type SystemParts<'a, R> = Parts<
+/// What a session needs of this machine.
+pub type SystemParts<'a, R> = Parts<
     PipeLauncher<'a, R>,
     SystemClock<'a, R>,
     SystemDice<'a, R>,
     SystemKeys<'a, R>,
 >;
 
-/// The machine that the program runs on. It listens on two Unix sockets in the folder that was settled, and has the key files and the trust
-/// list of that folder.
+/// The machine that the program runs on. It listens on two Unix sockets in the folder that was
+/// settled, `S.gpg-agent` and `S.gpg-agent.extra`, and has the key files and the trust list of that
+/// folder. Before one was settled there are none, and each call for them fails.
 #[derive(Drop)]
 pub struct SystemHost<'a, R> {
     rt: &'a R,
@@ -36,7 +38,9 @@ pub struct SystemHost<'a, R> {
     gate: NoGate,
 }
 
-impl<'a, R: rt::Clock + Processes + Files<File = File> + Net> SystemHost<'a, R> {
+impl<'a, R: rt::Clock + Processes + Files<File = File> + Net + Eprint> SystemHost<'a, R> {
+    /// The machine, with its server's parts and no folder yet. `pid` is the number of the process,
+    /// as `GETINFO pid` tells it.
     pub fn new(rt: &'a R, alloc: Global, pid: u32) -> Self
         ensures { IsSome (⟦<SystemHost<'a, R> as Host>⟧.server result) }
     {
@@ -75,7 +79,7 @@ impl<'a, R: Files + Net> SystemHost<'a, R> {
 }
 
 /// Parts of the system in which nothing was done, with the key files of this folder.
-fn new_parts<'a, R: rt::Clock + Processes + Files<File = File>>(
+fn new_parts<'a, R: rt::Clock + Processes + Files<File = File> + Eprint>(
     rt: &'a R,
     alloc: Global,
     homedir: &Homedir,
@@ -95,7 +99,7 @@ fn new_parts<'a, R: rt::Clock + Processes + Files<File = File>>(
     }
 }
 
-impl<'a, R: rt::Clock + Processes + Files<File = File> + Net> Host for SystemHost<'a, R> {
+impl<'a, R: rt::Clock + Processes + Files<File = File> + Net + Eprint> Host for SystemHost<'a, R> {
     type Link = SocketLink;
 
     type Ear = SocketEar;
@@ -120,7 +124,8 @@ impl<'a, R: rt::Clock + Processes + Files<File = File> + Net> Host for SystemHos
 
     ghost homedir = { λ h. h.homedir };
 
-    ghost of_folder = { λ path. record { keys = λ keys. keys.homedir ≡ path; trust = λ trust. trust.homedir ≡ path } };
+    ghost of_folder = { λ path.
+        record { keys = λ keys. keys.homedir ≡ path; trust = λ trust. trust.homedir ≡ path } };
 
     ghost is_home = { λ l. l.name ≡ Named.Standard };
 
@@ -145,9 +150,12 @@ impl<'a, R: rt::Clock + Processes + Files<File = File> + Net> Host for SystemHos
 
     fn parts_back(&mut self, parts: SystemParts<'a, R>)
         ensures back { ⟦<SystemHost<'a, R> as Host>⟧.server self.new ≡ Some parts.entry }
-        ensures process { ⟦<SystemHost<'a, R> as Host>⟧.process self.new ≡ ⟦<SystemHost<'a, R> as Host>⟧.process self.old }
-        ensures listens { ⟦<SystemHost<'a, R> as Host>⟧.listens self.new ≡ ⟦<SystemHost<'a, R> as Host>⟧.listens self.old }
-        ensures homedir { ⟦<SystemHost<'a, R> as Host>⟧.homedir self.new ≡ ⟦<SystemHost<'a, R> as Host>⟧.homedir self.old }
+        ensures process { ⟦<SystemHost<'a, R> as Host>⟧.process self.new
+            ≡ ⟦<SystemHost<'a, R> as Host>⟧.process self.old }
+        ensures listens { ⟦<SystemHost<'a, R> as Host>⟧.listens self.new
+            ≡ ⟦<SystemHost<'a, R> as Host>⟧.listens self.old }
+        ensures homedir { ⟦<SystemHost<'a, R> as Host>⟧.homedir self.new
+            ≡ ⟦<SystemHost<'a, R> as Host>⟧.homedir self.old }
     {
         self.parts = Some(parts);
     }
@@ -174,5 +182,39 @@ impl<'a, R: rt::Clock + Processes + Files<File = File> + Net> Host for SystemHos
 
     fn gate(&self) -> &NoGate {
         &self.gate
+    }
+}
+
+#[cfg(test)]
+mod tests {
+    use super::*;
+    use agent_ports::{KeyNames, TrustRead};
+
+    /// What the workers of a daemon want of its host, each on a thread of its own.
+    fn serves_threads<H: Host + Sync>(_host: &H)
+    where
+        H::Link: Send + Sync,
+        H::Ear: Send + Sync + Drop,
+        H::Listener: Send + Sync + Drop,
+        H::Launcher: Send + Sync + Drop,
+        <H::Launcher as Launcher>::Child: Send + Sync,
+        H::Clock: Send + Sync + Drop,
+        H::Dice: Send + Sync + Drop,
+        H::Keys: Send + Sync + Drop,
+        H::Trust: Send + Sync + Drop,
+        H::Gate: Send + Sync,
+    {}
+
+    #[test]
+    fn a_host_without_a_folder_has_no_socket_and_no_files(rt: HostRuntime) {
+        let mut host = SystemHost::new(&rt, rt.alloc(), 4711);
+        serves_threads(&host);
+        assert_eq!(rt; host.pid(), 4711);
+        assert!(rt; host.listen().is_none());
+        assert!(rt; host.listen_extra().is_none());
+        assert_eq!(rt; host.listens, 2);
+        let mut keys = host.session_parts().keys;
+        assert!(rt; matches!(keys.list(rt.alloc()), KeyNames::Failed));
+        assert!(rt; matches!(host.trust().read(rt.alloc()), TrustRead::Failed));
     }
 }

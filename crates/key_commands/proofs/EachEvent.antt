@@ -1,9 +1,9 @@
 -- Parts of a request on keys each of whose events is so.
 use Rattle.std.specs.List.{AllByRecursion}
-use Rattle.std.proofs.Common.{◌==◌, ℕ, Bool, true, false, List, [], ◌∷◌, length, codes, Option, Some, None, Result, Ok, Err}
+use Rattle.std.proofs.Common.{◌==◌, ◌++◌, ℕ, Bool, true, false, List, [], ◌∷◌, length, codes, Option, Some, None, Result, Ok, Err}
 use Rattle.std.specs.Prelude.{⊤, not, take, drop}
 use Rattle.agent_ask.specs.Events.{PromptEvent}
-use Rattle.agent_ask.specs.Further.{FurtherEvent, Keys, Dice, NoMemory, Prompt}
+use Rattle.agent_ask.specs.Further.{Keys, Dice, NoMemory, Prompt}
 use Rattle.agent_ask.specs.SessionEvents.{Sent, Cut, Inquiry, Further, cache_turn}
 use Rattle.agent_ask.specs.UnderTickets.{AnyInSession}
 use Rattle.agent_ask.specs.UnderTickets as session
@@ -22,7 +22,7 @@ use Rattle.secret_file.specs.Opens.{LockedKey}
 use Rattle.session_options.specs.OptionValues.{OptionValues}
 use Rattle.session_options.specs.declared.rules.Rules.{Rules}
 use Rattle.sexp_keys.specs.Key.{Key}
-use Rattle.agent_commands.specs.Events.{Event}
+use Rattle.key_commands.specs.Events.{Event}
 use Rattle.key_commands.specs.Exchanges.{StoresKey, RewritesFile}
 use Rattle.key_commands.specs.Files.{Rewrites}
 use Rattle.key_commands.specs.Files as files
@@ -36,10 +36,14 @@ use Rattle.key_commands.specs.Passphrases.{PromptsOld, PromptsNew, ClientOld, Cl
 use Rattle.key_commands.specs.Passphrases as passphrases
 use Rattle.key_commands.specs.declared.refusal.Refusal.{Refusal}
 use Rattle.key_commands.specs.declared.refusal.Refusal.TheVariants.{Agent}
-use Rattle.agent_session.proofs.Standing.{each_append}
+
+-- a list, and what comes behind it
+pub each_append : {E : Type 0} (Is : E → Type 0) (first more : List E) → AllByRecursion Is first → AllByRecursion Is more → AllByRecursion Is (first ++ more)
+each_append Is [] more none each = each
+each_append Is (event ∷ first) more each each_more = (each.0, each_append Is first more each.1 each_more)
 
 -- what is done beside the desk and the prompter
-abbrev pub IsStill : Event FurtherEvent → Type 0
+abbrev pub IsStill : Event → Type 0
 IsStill (Sent text) = ⊤
 IsStill (Cut text) = ⊤
 IsStill (Inquiry word params limit inquired) = ⊤
@@ -48,15 +52,15 @@ IsStill (Further (Dice draw)) = ⊤
 IsStill (Further NoMemory) = ⊤
 IsStill _ = ⊥
 
-module _ (Is : Event FurtherEvent → Type 0) where
-  abbrev pub All : List (Event FurtherEvent) → Type 0
+module _ (Is : Event → Type 0) where
+  abbrev pub All : List Event → Type 0
   All events = AllByRecursion Is events
 
   pub record EachSo {A : Type 0} (part : Part A) : Type 0 where
-    pub of : (before : Option ℕ) (events : List (Event FurtherEvent)) (result : Result A Refusal) (after : Option ℕ) → part before events result after → All events
+    pub of : (before : Option ℕ) (events : List Event) (result : Result A Refusal) (after : Option ℕ) → part before events result after → All events
 
   module _ {A B : Type 0} {part : Part A} {next : A → Part B} (first : EachSo part) (then : (value : A) → EachSo (next value)) where
-    each_bind_of : (before : Option ℕ) (events : List (Event FurtherEvent)) (result : Result B Refusal) (after : Option ℕ) → Follows part next before events result after → All events
+    each_bind_of : (before : Option ℕ) (events : List Event) (result : Result B Refusal) (after : Option ℕ) → Follows part next before events result after → All events
     each_bind_of before events result after (goes_on {first = some} {events = more} {value} {mid} does next_does) =
         each_append Is some more (first.of before some (Ok value) mid does) ((then value).of mid more result after next_does)
     each_bind_of before events result after (stops {refusal = why} does) = first.of before events (Err why) after does
@@ -65,13 +69,13 @@ module _ (Is : Event FurtherEvent → Type 0) where
     each_bind = record { of = each_bind_of }
 
   module _ {A : Type 0} where
-    each_returned_of : (value : A) (before : Option ℕ) (events : List (Event FurtherEvent)) (result : Result A Refusal) (after : Option ℕ) → Returns value before events result after → All events
+    each_returned_of : (value : A) (before : Option ℕ) (events : List Event) (result : Result A Refusal) (after : Option ℕ) → Returns value before events result after → All events
     each_returned_of value before events result after returns = tt
 
     pub each_returned : (value : A) → EachSo (Returns value)
     each_returned value = record { of = each_returned_of value }
 
-    each_refused_of : (why : Refusal) (before : Option ℕ) (events : List (Event FurtherEvent)) (result : Result A Refusal) (after : Option ℕ) → Refuses {A = A} why before events result after → All events
+    each_refused_of : (why : Refusal) (before : Option ℕ) (events : List Event) (result : Result A Refusal) (after : Option ℕ) → Refuses {A = A} why before events result after → All events
     each_refused_of why before events result after small.refuses = tt
 
     pub each_refused : (why : Refusal) → EachSo (Refuses {A = A} why)
@@ -95,7 +99,7 @@ module _ (Is : Event FurtherEvent → Type 0) where
 
   -- ---- turns, each of whose outcomes is so
   module _ {step : MarkStep} (turns : (turn : Turn) → Is (cache_turn step turn)) where
-    looks_of : (before : Option ℕ) (events : List (Event FurtherEvent)) (result : Result (Option (List ℕ)) Refusal) (after : Option ℕ) → Asks step before events result after → All events
+    looks_of : (before : Option ℕ) (events : List Event) (result : Result (Option (List ℕ)) Refusal) (after : Option ℕ) → Asks step before events result after → All events
     looks_of before events result after small.given = (turns _, tt)
     looks_of before events result after small.empty = (turns _, tt)
     looks_of before events result after small.opened = (turns _, tt)
@@ -104,14 +108,14 @@ module _ (Is : Event FurtherEvent → Type 0) where
     pub each_looks : EachSo (Asks step)
     each_looks = record { of = looks_of }
 
-    seats_of : (before : Option ℕ) (events : List (Event FurtherEvent)) (result : Result (Unit {0}) Refusal) (after : Option ℕ) → Seats step before events result after → All events
+    seats_of : (before : Option ℕ) (events : List Event) (result : Result (Unit {0}) Refusal) (after : Option ℕ) → Seats step before events result after → All events
     seats_of before events result after small.opened = (turns _, tt)
     seats_of before events result after (small.interrupted why) = (turns _, tt)
 
     pub each_seats : EachSo (Seats step)
     each_seats = record { of = seats_of }
 
-    changes_of : (before : Option ℕ) (events : List (Event FurtherEvent)) (result : Result (Unit {0}) Refusal) (after : Option ℕ) → Changes step before events result after → All events
+    changes_of : (before : Option ℕ) (events : List Event) (result : Result (Unit {0}) Refusal) (after : Option ℕ) → Changes step before events result after → All events
     changes_of before events result after small.done = (turns _, tt)
     changes_of before events result after (small.interrupted why) = (turns _, tt)
 
@@ -119,7 +123,7 @@ module _ (Is : Event FurtherEvent → Type 0) where
     each_changes = record { of = changes_of }
 
   peeks_of : (grip : Grip) → ((turn : Turn) → Is (cache_turn (Peek (grip_text grip) Normal) turn))
-      → (before : Option ℕ) (events : List (Event FurtherEvent)) (result : Result Bool Refusal) (after : Option ℕ) → Peeks grip before events result after → All events
+      → (before : Option ℕ) (events : List Event) (result : Result Bool Refusal) (after : Option ℕ) → Peeks grip before events result after → All events
   peeks_of grip turns before events result after small.peeked = (turns _, tt)
   peeks_of grip turns before events result after (small.interrupted why) = (turns _, tt)
 
@@ -127,7 +131,7 @@ module _ (Is : Event FurtherEvent → Type 0) where
   looks_nonce None turns = each_returned None
   looks_nonce (Some id) turns = each_looks (turns id)
 
-  looks_over_of : (id : Option (List ℕ)) → ((named : List ℕ) (turn : Turn) → Is (cache_turn (ask_nonce named) turn)) → (before : Option ℕ) (events : List (Event FurtherEvent)) (result : Result (Option (List ℕ)) Refusal)
+  looks_over_of : (id : Option (List ℕ)) → ((named : List ℕ) (turn : Turn) → Is (cache_turn (ask_nonce named) turn)) → (before : Option ℕ) (events : List Event) (result : Result (Option (List ℕ)) Refusal)
       (after : Option ℕ) → LooksOver id before events result after → All events
   looks_over_of id turns before events result after parts.no_nonce = tt
   looks_over_of id turns before events result after parts.given = (turns _ _, tt)
@@ -138,7 +142,7 @@ module _ (Is : Event FurtherEvent → Type 0) where
   pub looks_over : (id : Option (List ℕ)) → ((named : List ℕ) (turn : Turn) → Is (cache_turn (ask_nonce named) turn)) → EachSo (LooksOver id)
   looks_over id turns = record { of = looks_over_of id turns }
 
-  takes_seat_of : (grip : Grip) → ((turn : Turn) → Is (cache_turn (seat_for grip) turn)) → (before : Option ℕ) (events : List (Event FurtherEvent)) (result : Result (Unit {0}) Refusal) (after : Option ℕ)
+  takes_seat_of : (grip : Grip) → ((turn : Turn) → Is (cache_turn (seat_for grip) turn)) → (before : Option ℕ) (events : List Event) (result : Result (Unit {0}) Refusal) (after : Option ℕ)
       → TakesSeat grip before events result after → All events
   takes_seat_of grip turns None events result after does = (each_seats turns).of None events result after does
   takes_seat_of grip turns (Some number) events result after does = (each_returned tt).of (Some number) events result after does
@@ -146,7 +150,7 @@ module _ (Is : Event FurtherEvent → Type 0) where
   pub takes_seat : (grip : Grip) → ((turn : Turn) → Is (cache_turn (seat_for grip) turn)) → EachSo (TakesSeat grip)
   takes_seat grip turns = record { of = takes_seat_of grip turns }
 
-  closes_of : (keep : Option (List ℕ)) → ((number : ℕ) (turn : Turn) → Is (cache_turn (Close number keep) turn)) → (before : Option ℕ) (events : List (Event FurtherEvent)) (result : Result (Unit {0}) Refusal)
+  closes_of : (keep : Option (List ℕ)) → ((number : ℕ) (turn : Turn) → Is (cache_turn (Close number keep) turn)) → (before : Option ℕ) (events : List Event) (result : Result (Unit {0}) Refusal)
       (after : Option ℕ) → Closes keep before events result after → All events
   closes_of keep turns before events result after small.unheld = tt
   closes_of keep turns before events result after (small.closed turn) = (turns _ turn, tt)
@@ -155,22 +159,22 @@ module _ (Is : Event FurtherEvent → Type 0) where
   each_closes keep turns = record { of = closes_of keep turns }
 
   -- ---- what is so beside the desk and the prompter
-  module _ (still : (event : Event FurtherEvent) → IsStill event → Is event) where
-    one : (event : Event FurtherEvent) → IsStill event → All (event ∷ [])
+  module _ (still : (event : Event) → IsStill event → Is event) where
+    one : (event : Event) → IsStill event → All (event ∷ [])
     one event is = (still event is, tt)
 
-    writes_of : (text : List ℕ) (before : Option ℕ) (events : List (Event FurtherEvent)) (result : Result (Unit {0}) Refusal) (after : Option ℕ) → Writes text before events result after → All events
+    writes_of : (text : List ℕ) (before : Option ℕ) (events : List Event) (result : Result (Unit {0}) Refusal) (after : Option ℕ) → Writes text before events result after → All events
     writes_of text before events result after small.written = one _ tt
     writes_of text before events result after (small.cut unsent is) = one _ tt
 
-    inquires_of : (word : List ℕ) (most : ℕ) (before : Option ℕ) (events : List (Event FurtherEvent)) (result : Result (List ℕ) Refusal) (after : Option ℕ) → Inquires word most before events result after → All events
+    inquires_of : (word : List ℕ) (most : ℕ) (before : Option ℕ) (events : List Event) (result : Result (List ℕ) Refusal) (after : Option ℕ) → Inquires word most before events result after → All events
     inquires_of word most before events result after (small.given is) = one _ tt
     inquires_of word most before events result after (small.not_given is) = one _ tt
 
     asks_client : (word : List ℕ) (most : ℕ) → EachSo (AsksClient word most)
     asks_client word most = each_bind (record { of = writes_of (limit_line most) }) (λ told. record { of = inquires_of word most })
 
-    finds_of : (grip : Grip) (before : Option ℕ) (events : List (Event FurtherEvent)) (result : Result Bool Refusal) (after : Option ℕ) → Finds grip before events result after → All events
+    finds_of : (grip : Grip) (before : Option ℕ) (events : List Event) (result : Result Bool Refusal) (after : Option ℕ) → Finds grip before events result after → All events
     finds_of grip before events result after small.found = one _ tt
     finds_of grip before events result after small.absent = one _ tt
     finds_of grip before events result after small.faulted = one _ tt
@@ -179,14 +183,14 @@ module _ (Is : Event FurtherEvent → Type 0) where
     pub finds : (grip : Grip) → EachSo (Finds grip)
     finds grip = record { of = finds_of grip }
 
-    draws_of : (count : ℕ) (before : Option ℕ) (events : List (Event FurtherEvent)) (result : Result (List ℕ) Refusal) (after : Option ℕ) → Draws count before events result after → All events
+    draws_of : (count : ℕ) (before : Option ℕ) (events : List Event) (result : Result (List ℕ) Refusal) (after : Option ℕ) → Draws count before events result after → All events
     draws_of count before events result after (small.drawn long) = one _ tt
     draws_of count before events result after small.faulted = one _ tt
 
     pub draws : (count : ℕ) → EachSo (Draws count)
     draws count = record { of = draws_of count }
 
-    reads_file_of : (grip : Grip) (before : Option ℕ) (events : List (Event FurtherEvent)) (result : Result _ Refusal) (after : Option ℕ) → ReadsFile grip before events result after → All events
+    reads_file_of : (grip : Grip) (before : Option ℕ) (events : List Event) (result : Result _ Refusal) (after : Option ℕ) → ReadsFile grip before events result after → All events
     reads_file_of grip before events result after (parts.is_key is says) = one _ tt
     reads_file_of grip before events result after (parts.faulty is says) = one _ tt
     reads_file_of grip before events result after (parts.no_memory is) = (still _ tt, one _ tt)
@@ -195,14 +199,14 @@ module _ (Is : Event FurtherEvent → Type 0) where
     pub reads_file : (grip : Grip) → EachSo (ReadsFile grip)
     reads_file grip = record { of = reads_file_of grip }
 
-    reads_listed_of : (grip : Grip) (before : Option ℕ) (events : List (Event FurtherEvent)) (result : Result (Option Key) Refusal) (after : Option ℕ) → ReadsListed grip before events result after → All events
+    reads_listed_of : (grip : Grip) (before : Option ℕ) (events : List Event) (result : Result (Option Key) Refusal) (after : Option ℕ) → ReadsListed grip before events result after → All events
     reads_listed_of grip before events result after (parts.is_key is says) = one _ tt
     reads_listed_of grip before events result after (parts.faulty is says) = one _ tt
     reads_listed_of grip before events result after parts.absent = one _ tt
     reads_listed_of grip before events result after (parts.no_memory is) = (still _ tt, one _ tt)
     reads_listed_of grip before events result after (parts.unread other is) = one _ tt
 
-    lists_of : (before : Option ℕ) (events : List (Event FurtherEvent)) (result : Result (List Grip) Refusal) (after : Option ℕ) → ListsGrips before events result after → All events
+    lists_of : (before : Option ℕ) (events : List Event) (result : Result (List Grip) Refusal) (after : Option ℕ) → ListsGrips before events result after → All events
     lists_of before events result after (parts.listed is) = one _ tt
     lists_of before events result after parts.faulted = one _ tt
     lists_of before events result after parts.no_memory = one _ tt
@@ -210,50 +214,49 @@ module _ (Is : Event FurtherEvent → Type 0) where
     pub lists : EachSo ListsGrips
     lists = record { of = lists_of }
 
-    tells_of : (bytes : List ℕ) (before : Option ℕ) (events : List (Event FurtherEvent)) (result : Result (List ℕ) Refusal) (after : Option ℕ) → Tells bytes before events result after → All events
+    tells_of : (bytes : List ℕ) (before : Option ℕ) (events : List Event) (result : Result (List ℕ) Refusal) (after : Option ℕ) → Tells bytes before events result after → All events
     tells_of bytes before events result after (tells is) = tt
 
     pub told : (bytes : List ℕ) → EachSo (Tells bytes)
     told bytes = record { of = tells_of bytes }
 
-    protects_of : (key : Key) (pass salt iv : List ℕ) (count : ℕ) (before : Option ℕ) (events : List (Event FurtherEvent)) (result : Result (List ℕ) Refusal) (after : Option ℕ)
+    protects_of : (key : Key) (pass salt iv : List ℕ) (count : ℕ) (before : Option ℕ) (events : List Event) (result : Result (List ℕ) Refusal) (after : Option ℕ)
         → Protects key pass salt iv count before events result after → All events
     protects_of key pass salt iv count before events result after parts.made = tt
     protects_of key pass salt iv count before events result after parts.no_memory = one _ tt
 
-    is_short_of : (key : Key) (before : Option ℕ) (events : List (Event FurtherEvent)) (result : Result (Unit {0}) Refusal) (after : Option ℕ) → IsShort key before events result after → All events
+    is_short_of : (key : Key) (before : Option ℕ) (events : List Event) (result : Result (Unit {0}) Refusal) (after : Option ℕ) → IsShort key before events result after → All events
     is_short_of key before events result after (parts.short few) = tt
     is_short_of key before events result after (parts.long many) = tt
-    is_short_of key before events result after parts.no_memory = one _ tt
 
     pub is_short : (key : Key) → EachSo (IsShort key)
     is_short key = record { of = is_short_of key }
 
-    rewrites_of : (file list : List ℕ) (before : Option ℕ) (events : List (Event FurtherEvent)) (result : Result (List ℕ) Refusal) (after : Option ℕ) → Rewrites file list before events result after → All events
+    rewrites_of : (file list : List ℕ) (before : Option ℕ) (events : List Event) (result : Result (List ℕ) Refusal) (after : Option ℕ) → Rewrites file list before events result after → All events
     rewrites_of file list before events result after (files.canonical_file is) = tt
     rewrites_of file list before events result after (files.extended_file other with_list few) = tt
     rewrites_of file list before events result after (files.too_long new_file other with_list many) = tt
     rewrites_of file list before events result after files.no_memory = one _ tt
 
-    names_key_of : (key : Key) (before : Option ℕ) (events : List (Event FurtherEvent)) (result : Result Grip Refusal) (after : Option ℕ) → NamesKey key before events result after → All events
+    names_key_of : (key : Key) (before : Option ℕ) (events : List Event) (result : Result Grip Refusal) (after : Option ℕ) → NamesKey key before events result after → All events
     names_key_of key before events result after (parts.named is) = tt
     names_key_of key before events result after parts.no_memory = one _ tt
 
     pub names_key : (key : Key) → EachSo (NamesKey key)
     names_key key = record { of = names_key_of key }
 
-    wraps_key_of : (wrap : List ℕ) (key : Key) (before : Option ℕ) (events : List (Event FurtherEvent)) (result : Result (List ℕ) Refusal) (after : Option ℕ) → WrapsKey wrap key before events result after → All events
+    wraps_key_of : (wrap : List ℕ) (key : Key) (before : Option ℕ) (events : List Event) (result : Result (List ℕ) Refusal) (after : Option ℕ) → WrapsKey wrap key before events result after → All events
     wraps_key_of wrap key before events result after parts.is_wrapped = tt
     wraps_key_of wrap key before events result after parts.no_memory = one _ tt
 
     pub wraps_key : (wrap : List ℕ) (key : Key) → EachSo (WrapsKey wrap key)
     wraps_key wrap key = record { of = wraps_key_of wrap key }
 
-    asks_key_data_of : (before : Option ℕ) (events : List (Event FurtherEvent)) (result : Result (List ℕ) Refusal) (after : Option ℕ) → AsksKeyData before events result after → All events
+    asks_key_data_of : (before : Option ℕ) (events : List Event) (result : Result (List ℕ) Refusal) (after : Option ℕ) → AsksKeyData before events result after → All events
     asks_key_data_of before events result after (parts.asked inquires) = inquires_of (codes "KEYDATA") max_key_data before events result before inquires
     asks_key_data_of before events result after (parts.no_memory at_end) = (still _ tt, one _ tt)
 
-    unwraps_of : (wrap wrapped : List ℕ) (before : Option ℕ) (events : List (Event FurtherEvent)) (result : Result Key Refusal) (after : Option ℕ) → Unwraps wrap wrapped before events result after → All events
+    unwraps_of : (wrap wrapped : List ℕ) (before : Option ℕ) (events : List Event) (result : Result Key Refusal) (after : Option ℕ) → Unwraps wrap wrapped before events result after → All events
     unwraps_of wrap wrapped before events result after (parts.is_key says) = tt
     unwraps_of wrap wrapped before events result after (parts.refused says) = tt
     unwraps_of wrap wrapped before events result after parts.no_memory = one _ tt
@@ -269,7 +272,7 @@ module _ (Is : Event FurtherEvent → Type 0) where
     has_one [] = each_refused (Agent code.NoSecKey)
     has_one (grip ∷ more) = each_bind (finds grip) (λ there. each_unless there (has_one more))
 
-    locks_of : (key : Key) (before : Option ℕ) (events : List (Event FurtherEvent)) (result : Result LockedKey Refusal) (after : Option ℕ) → Locks key before events result after → All events
+    locks_of : (key : Key) (before : Option ℕ) (events : List Event) (result : Result LockedKey Refusal) (after : Option ℕ) → Locks key before events result after → All events
     locks_of key before events result after (passphrases.is_locked same locked) = tt
     locks_of key before events result after (passphrases.has_fault is) = tt
     locks_of key before events result after passphrases.no_memory = one _ tt
@@ -277,7 +280,7 @@ module _ (Is : Event FurtherEvent → Type 0) where
     pub locks : (key : Key) → EachSo (Locks key)
     locks key = record { of = locks_of key }
 
-    tries_of : (locked : LockedKey) (pass : List ℕ) (before : Option ℕ) (events : List (Event FurtherEvent)) (result : Result (Option _) Refusal) (after : Option ℕ) → Tries locked pass before events result after → All events
+    tries_of : (locked : LockedKey) (pass : List ℕ) (before : Option ℕ) (events : List Event) (result : Result (Option _) Refusal) (after : Option ℕ) → Tries locked pass before events result after → All events
     tries_of locked pass before events result after (passphrases.opens to) = tt
     tries_of locked pass before events result after (passphrases.stays closed) = tt
     tries_of locked pass before events result after passphrases.no_memory = one _ tt
@@ -286,11 +289,11 @@ module _ (Is : Event FurtherEvent → Type 0) where
     tries_found locked None = each_returned None
     tries_found locked (Some pass) = record { of = tries_of locked pass }
 
-    replaces_of : (grip : Grip) (file : List ℕ) (before : Option ℕ) (events : List (Event FurtherEvent)) (result : Result (Unit {0}) Refusal) (after : Option ℕ) → Replaces grip file before events result after → All events
+    replaces_of : (grip : Grip) (file : List ℕ) (before : Option ℕ) (events : List Event) (result : Result (Unit {0}) Refusal) (after : Option ℕ) → Replaces grip file before events result after → All events
     replaces_of grip file before events result after parts.done = one _ tt
     replaces_of grip file before events result after (parts.not_done is) = one _ tt
 
-    removes_of : (grip : Grip) (before : Option ℕ) (events : List (Event FurtherEvent)) (result : Result (Unit {0}) Refusal) (after : Option ℕ) → Removes grip before events result after → All events
+    removes_of : (grip : Grip) (before : Option ℕ) (events : List Event) (result : Result (Unit {0}) Refusal) (after : Option ℕ) → Removes grip before events result after → All events
     removes_of grip before events result after parts.done = one _ tt
     removes_of grip before events result after (parts.not_done is) = one _ tt
 
@@ -318,7 +321,7 @@ module _ (Is : Event FurtherEvent → Type 0) where
           (λ opened. each_bind (each_changes (stored grip pass)) (λ kept. each_returned opened))))
 
       module _ (closed : (number : ℕ) (keep : Option (List ℕ)) (turn : Turn) → Is (cache_turn (Close number keep) turn)) where
-        keeps_new_of : (grip : Grip) (pass : List ℕ) (before : Option ℕ) (events : List (Event FurtherEvent)) (result : Result (Unit {0}) Refusal) (after : Option ℕ) → KeepsNew grip pass before events result after → All events
+        keeps_new_of : (grip : Grip) (pass : List ℕ) (before : Option ℕ) (events : List Event) (result : Result (Unit {0}) Refusal) (after : Option ℕ) → KeepsNew grip pass before events result after → All events
         keeps_new_of grip pass None events result after does = (each_changes (stored grip pass)).of None events result after does
         keeps_new_of grip pass (Some number) events result after does = closes_of (Some pass) (λ ticket turn. closed ticket (Some pass) turn) (Some number) events result after does
 
@@ -340,28 +343,28 @@ module _ (Is : Event FurtherEvent → Type 0) where
 
     -- ---- prompts
     module _ (calls : (event : PromptEvent) → Is (Further (Prompt event))) where
-      pub each_shown : {prompt : List PromptEvent} {shown : List (Event FurtherEvent)} → AnyInSession session_lines prompt shown → All shown
+      pub each_shown : {prompt : List PromptEvent} {shown : List Event} → AnyInSession session_lines prompt shown → All shown
       each_shown session.none = tt
       each_shown (session.called more) = (calls _, each_shown more)
       each_shown (session.noted says more) = (still _ tt, each_shown more)
       each_shown (session.out_of_memory more) = (calls _, each_shown more)
 
       module _ (rules : Rules) (options : OptionValues) (grip : Grip) where
-        prompts_old_of : (locked : LockedKey) (before : Option ℕ) (events : List (Event FurtherEvent)) (result : Result _ Refusal) (after : Option ℕ) → PromptsOld rules options grip locked before events result after → All events
+        prompts_old_of : (locked : LockedKey) (before : Option ℕ) (events : List Event) (result : Result _ Refusal) (after : Option ℕ) → PromptsOld rules options grip locked before events result after → All events
         prompts_old_of locked before events result after (passphrases.opens_by spec is prompt to) = each_shown prompt.in_session
         prompts_old_of locked before events result after (passphrases.refused spec is prompt refusal) = each_shown prompt.in_session
 
         pub prompts_old : (locked : LockedKey) → EachSo (PromptsOld rules options grip locked)
         prompts_old locked = record { of = prompts_old_of locked }
 
-        prompts_new_of : (before : Option ℕ) (events : List (Event FurtherEvent)) (result : Result (List ℕ) Refusal) (after : Option ℕ) → PromptsNew rules options grip before events result after → All events
+        prompts_new_of : (before : Option ℕ) (events : List Event) (result : Result (List ℕ) Refusal) (after : Option ℕ) → PromptsNew rules options grip before events result after → All events
         prompts_new_of before events result after (passphrases.given spec is prompt) = each_shown prompt.in_session
         prompts_new_of before events result after (passphrases.refused spec is prompt refusal) = each_shown prompt.in_session
 
         pub prompts_new : EachSo (PromptsNew rules options grip)
         prompts_new = record { of = prompts_new_of }
 
-        agrees_of : (before : Option ℕ) (events : List (Event FurtherEvent)) (result : Result (Unit {0}) Refusal) (after : Option ℕ) → Agrees rules options grip before events result after → All events
+        agrees_of : (before : Option ℕ) (events : List Event) (result : Result (Unit {0}) Refusal) (after : Option ℕ) → Agrees rules options grip before events result after → All events
         agrees_of before events result after (parts.consents spec is prompt) = each_shown prompt.in_session
         agrees_of before events result after (parts.refused spec is prompt refusal) = each_shown prompt.in_session
 

@@ -1,4 +1,3 @@
-use crate::server::text_of;
 use agent_ports::Grip;
 use std::alloc::{AllocError, Global};
 use std::test::Fail;
@@ -6,10 +5,12 @@ use trust_list::{MAX_TRUST_FILE_LEN, TrustFault, add_trust, trusted};
 
 const CERTIFICATE: Grip = Grip([0xAA; 20]);
 
-/// A file, and what it says of the certificate, whose fingerprint is 40 times `A`. A text may have repeated parts, as `{part*3}`. No file is longer than one may be.
+/// A file, and what it says of the certificate, whose fingerprint is 40 times `A`. A text may have
+/// repeated parts, as `{part*3}`. No file is longer than one may be.
 const FILES: [(&str, Option<bool>); 48] = [
     ("", None),
-    // Digits are of either case, blanks are tabs too, and further words are skipped. The last line needs no end.
+    // Digits are of either case, blanks are tabs too, and further words are skipped. The last line
+    // needs no end.
     ("{A*40} S", Some(true)),
     ("{A*40} S\n", Some(true)),
     ("{a*40} S\n", Some(true)),
@@ -52,7 +53,8 @@ const FILES: [(&str, Option<bool>); 48] = [
     ("!AA::{A*38} S\n{A*40} S", Some(true)),
     ("!BB{A*38} S\n{A*40} S", Some(true)),
     ("!{A*40} s\n{A*40} S", Some(true)),
-    // Files of 65,536 bytes: one line that is no entry, or one behind blanks, before words, or behind another line.
+    // Files of 65,536 bytes: one line that is no entry, or one behind blanks, before words, or
+    // behind another line.
     ("{A*65536}", None),
     ("{:*65536}", None),
     ("{ *65536}", None),
@@ -64,6 +66,20 @@ const FILES: [(&str, Option<bool>); 48] = [
     ("!{A*40} S {x*65492}", Some(false)),
     ("{x*65493}\n{A*40} S", Some(true)),
 ];
+
+/// A text with its repeated parts.
+fn text_of(alloc: Global, text: &str) -> Result<String, AllocError> {
+    let mut all = String::new(alloc);
+    for part in text.split('{') {
+        let (repeated, plain) = part.split_once('}').unwrap_or(("", part));
+        let (what, count) = repeated.split_once('*').unwrap_or(("", "0"));
+        for _ in 0..count.parse::<usize>().unwrap_or(0) {
+            all.push_str(what)?;
+        }
+        all.push_str(plain)?;
+    }
+    Ok(all)
+}
 
 /// The first file of which something else is said.
 fn first_wrong(alloc: Global) -> Result<Option<&'static str>, AllocError> {

@@ -1,0 +1,25 @@
+//! The agent's host on this system: the clock, child programs, random bytes, the folder's key files
+//! and trust list, and its two sockets.
+//!
+//! Begin with [`SystemHost::new`]. Each part keeps the promise of its trait in `agent_ports`, and
+//! leaves its contents unknown: faults are counted, by clauses; the rest is shown by tests, here
+//! and of the built program (`tools/statuses`, `tools/with-gnupg`). The definitions are those of
+//! `agent_ports` (`specs/HostParts`, `Launches`, `Counts`).
+#![tactic(auto)]
+
+mod clock;
+mod dice;
+mod faults;
+mod host;
+mod keys;
+mod launcher;
+mod no_folder;
+mod told;
+mod trust;
+
+pub use clock::SystemClock;
+pub use dice::SystemDice;
+pub use host::{SystemHost, SystemParts};
+pub use keys::SystemKeys;
+pub use launcher::{PipeLauncher, PipedChild};
+pub use trust::SystemTrust;

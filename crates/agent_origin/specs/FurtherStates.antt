@@ -1,0 +1,31 @@
+-- What a session stands on beside its link, and how it stands there at some state of its code. This is the project's own.
+use Rattle.agent_ask.specs.Events.{Call}
+use Rattle.agent_ask.specs.Further.{FurtherEnds, further_world}
+use Rattle.agent_commands.specs.Outside.{World}
+use Rattle.agent_commands.specs.States.{SessionState}
+use Rattle.agent_ports.specs.KeyFiles.{KeyFiles}
+use Rattle.agent_ports.specs.Sides.{Side}
+use Rattle.agent_ports.specs.TrustFiles.{TrustState}
+use Rattle.assuan_server.specs.Connections.{Connection}
+use Rattle.cache_policy.specs.declared.mark.MarkStep.{MarkStep}
+use Rattle.cache_policy.specs.Turns.{Turn}
+use Rattle.agent_origin.specs.Sessions.{Surroundings}
+
+abbrev pub further_ends : {P : Type 0} → P → KeyFiles → Side → TrustState → FurtherEnds P
+further_ends prompter keys dice trust = record { prompter = prompter; keys = keys; dice = dice; trust = trust }
+
+module _ {D P : Type 0} (turned : D → MarkStep → Turn → D → Type 0) (prompted : P → Call → P → Type 0) where
+  -- a desk, and a prompter that shows its calls so, the keys, the dice and the trust file
+  abbrev pub FurtherWorld : World
+  FurtherWorld = further_world turned prompted
+
+  -- a state in the code
+  abbrev pub FurtherState : Type 0
+  FurtherState = SessionState FurtherWorld
+
+  abbrev pub further_state : Connection → D → P → KeyFiles → Side → TrustState → FurtherState
+  further_state conn desk prompter keys dice trust = record { conn = conn; desk = desk; ends = further_ends prompter keys dice trust }
+
+  -- what a session has to do with
+  abbrev pub surroundings : Side → Side → D → P → KeyFiles → Side → TrustState → Surroundings FurtherWorld
+  surroundings input output desk prompter keys dice trust = record { input = input; output = output; desk = desk; ends = further_ends prompter keys dice trust }

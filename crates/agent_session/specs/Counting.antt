@@ -1,0 +1,43 @@
+-- How many events of a session failed, on each of its further ends. This is the project's own.
+use Rattle.std.specs.List.{count_by}
+use Rattle.std.specs.Prelude.{Bool, true, false, List}
+use Rattle.agent_ask.specs.Events.{Called}
+use Rattle.agent_ask.specs.Further.{FurtherEnds, Read, Listed, Replaced, Removed, NotDrawn, Prompt, Keys, Dice, Trust}
+use Rattle.agent_ask.specs.Prompters.{AtPrompter, is_failed}
+use Rattle.agent_ask.specs.SessionEvents.{Further}
+use Rattle.agent_ask.specs.TrustCalls as trust_call
+use Rattle.agent_ports.specs.Counts.{RoseBy}
+use Rattle.agent_ports.specs.declared.keys.KeyDone.TheVariants as key_done
+use Rattle.agent_ports.specs.declared.keys.KeyNames.TheVariants as key_names
+use Rattle.agent_ports.specs.declared.keys.KeyRead.TheVariants as key_read
+use Rattle.agent_ports.specs.declared.trust.TrustDone.TheVariants as trust_done
+use Rattle.agent_ports.specs.declared.trust.TrustRead.TheVariants as trust_read
+use Rattle.key_commands.specs.Events.{Event}
+
+-- whether an event is a call that failed: of the prompter, of the keys, of the dice, or of the trust file
+abbrev pub fails_at_prompter : Event → Bool
+fails_at_prompter (Further (Prompt (Called call))) = is_failed call
+fails_at_prompter _ = false
+
+abbrev pub fails_at_keys : Event → Bool
+fails_at_keys (Further (Keys (Read grip key_read.Failed))) = true
+fails_at_keys (Further (Keys (Listed key_names.Failed))) = true
+fails_at_keys (Further (Keys (Replaced grip file key_done.Failed))) = true
+fails_at_keys (Further (Keys (Removed grip key_done.Failed))) = true
+fails_at_keys _ = false
+
+abbrev pub fails_at_dice : Event → Bool
+fails_at_dice (Further (Dice (NotDrawn count))) = true
+fails_at_dice _ = false
+
+abbrev pub fails_at_trust : Event → Bool
+fails_at_trust (Further (Trust (trust_call.Read trust_read.Failed))) = true
+fails_at_trust (Further (Trust (trust_call.Replaced file trust_done.Failed))) = true
+fails_at_trust _ = false
+
+-- Of the events on each end at most as many failed as its count rose by, as long as that is below its last value.
+pub record CountsFailures {P : Type 0} (at : P → AtPrompter) (events : List Event) (before after : FurtherEnds P) : Type 0 where
+  pub prompter : RoseBy (count_by fails_at_prompter events) (at before.prompter).faults (at after.prompter).faults
+  pub keys : RoseBy (count_by fails_at_keys events) before.keys.faults after.keys.faults
+  pub dice : RoseBy (count_by fails_at_dice events) before.dice.faults after.dice.faults
+  pub trust : RoseBy (count_by fails_at_trust events) before.trust.faults after.trust.faults
