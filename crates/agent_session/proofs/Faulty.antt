@@ -4,7 +4,7 @@ use Rattle.std.specs.Prelude.{if◌then◌else◌}
 use Rattle.key_commands.specs.Files.{FileSays, canonical, no_canonical}
 use Rattle.secret_file.specs.Answers.{IsFileFault, IsLockedFault}
 use Rattle.sexp_canonical.specs.Tree.{Tree, leaf, branch, items}
-use Rattle.sexp_keys.specs.Faults.{form_fault, name_fault, algorithm_fault, first_fault, IsFirstFault}
+use Rattle.sexp_keys.specs.Faults.{form_fault, name_fault, algorithm_fault, first_fault, IsFirstKeyFault}
 use Rattle.sexp_keys.specs.Key.{Key}
 use Rattle.sexp_keys.specs.declared.fault.KeyFault.{KeyFault}
 use Rattle.sexp_keys.specs.declared.fault.KeyFault.TheVariants as faults
@@ -40,7 +40,7 @@ first_said : (one other : Option KeyFault) → IsSaid one → IsSaid other → I
 first_said (Some fault) other one later = one
 first_said None other one later = later
 
-pub first_fault_said : (tree : Tree) (fault : KeyFault) → IsFirstFault tree fault → IsSaid (Some fault)
+pub first_fault_said : (tree : Tree) (fault : KeyFault) → IsFirstKeyFault tree fault → IsSaid (Some fault)
 first_fault_said tree fault (inl is) = subst IsSaid is (first_said (form_fault (items tree)) (algorithm_fault (items tree)) (form_said (items tree)) (algorithm_said (items tree)))
 first_fault_said tree fault (inr other) = subst (λ f. IsSaid (Some f)) (sym other.2) bad
 

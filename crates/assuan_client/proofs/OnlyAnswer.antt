@@ -6,7 +6,7 @@ use Rattle.assuan_line.specs.declared.reader.Took.TheVariants.{Line}
 use Rattle.assuan_line.proofs.OnlyReading.{only_reading}
 use Rattle.assuan_client.specs.Answers.{Answers, Says}
 use Rattle.assuan_client.specs.Forms as form
-use Rattle.assuan_client.specs.Forms.{Form, line_form}
+use Rattle.assuan_client.specs.Forms.{Form, answer_form}
 use Rattle.assuan_client.specs.Skipping.{Tally, with_lines, skips_after}
 use Rattle.assuan_client.specs.declared.answer.Answer.{Answer}
 use Rattle.assuan_client.specs.declared.answer.Answer.TheVariants as answer
@@ -22,7 +22,7 @@ by_form tally line (form.Err number) = answer.Err number
 by_form tally line (form.Inquiry word text) = inquiry_after tally word text
 by_form tally line form.Foreign = answer.Broken (breach.Line line)
 
-pub is_by_form : {tally : Tally} {line : List ℕ} {says : Answer} → Says tally (Line line) says → says ≡ by_form tally line (line_form line)
+pub is_by_form : {tally : Tally} {line : List ℕ} {says : Answer} → Says tally (Line line) says → says ≡ by_form tally line (answer_form line)
 is_by_form {tally} (Says.ok is none) = rw (is, none) refl
 is_by_form {tally} (Says.got is some) = rw (is, ne_eqb (length tally.bytes) 0 (λ none. omega arith)) refl
 is_by_form (Says.err is) = rw is refl
@@ -37,9 +37,9 @@ pub only_answer : (tally after later : Tally) (bytes line other : List ℕ) (fir
     → Answers tally bytes (Line other) second later reader_later rest → (first ≡ second) × (reader.ahead ++ left ≡ reader_later.ahead ++ rest)
 only_answer tally after later bytes line other first second reader reader_later left rest one two =
     let same = only_reading (skips_after tally) [] one.lines two.lines bytes line other reader reader_later left rest one.reads two.reads in
-    let says : first ≡ by_form (with_lines tally one.lines) line (line_form line) = is_by_form one.says in
-    let says' : second ≡ by_form (with_lines tally two.lines) other (line_form other) = is_by_form two.says in (
-      says ∙ ap (λ (lines : List (List ℕ)). by_form (with_lines tally lines) line (line_form line)) same.skipped
-          ∙ ap (λ (l : List ℕ). by_form (with_lines tally two.lines) l (line_form l)) same.stopped ∙ sym says',
+    let says : first ≡ by_form (with_lines tally one.lines) line (answer_form line) = is_by_form one.says in
+    let says' : second ≡ by_form (with_lines tally two.lines) other (answer_form other) = is_by_form two.says in (
+      says ∙ ap (λ (lines : List (List ℕ)). by_form (with_lines tally lines) line (answer_form line)) same.skipped
+          ∙ ap (λ (l : List ℕ). by_form (with_lines tally two.lines) l (answer_form l)) same.stopped ∙ sym says',
       same.left_is,
     )

@@ -11,7 +11,7 @@ use Rattle.assuan_line.specs.Skipping.{Skipped, none, one}
 use Rattle.assuan_line.specs.declared.breach.Breach.TheVariants.{Many, TooMuch}
 use Rattle.assuan_line.specs.declared.reader.Took.TheVariants.{Line}
 use Rattle.assuan_client.specs.Answers.{IsStop, Says, ok, got, asked, many_notes, many_inquiries, too_much, success_of, inquiry_after}
-use Rattle.assuan_client.specs.Forms.{line_form, Data, Note, Ok, Inquiry}
+use Rattle.assuan_client.specs.Forms.{answer_form, Data, Note, Ok, Inquiry}
 use Rattle.assuan_client.specs.Skipping.{Tally, with_lines, is_note, skips_after, skips_behind, coded, decoded, IsBehind, with_inquiry}
 use Rattle.assuan_client.specs.declared.answer.Answer.TheVariants.{Broken}
 
@@ -30,29 +30,29 @@ skipped_after tally none = none
 skipped_after tally (one line next skip more) = one line next skip (skipped_after tally more)
 
 -- the answer by a line, by its form
-pub says_too_much : (tally : Tally) (line : List ℕ) → line_form line ≡ Data → IsStop tally (Line line) → Says tally (Line line) (Broken TooMuch)
+pub says_too_much : (tally : Tally) (line : List ℕ) → answer_form line ≡ Data → IsStop tally (Line line) → Says tally (Line line) (Broken TooMuch)
 says_too_much tally line is stop = too_much is (leb-false (length tally.bytes + length (carried line)) 255 (rw is at stop))
 
-pub says_many : (tally : Tally) (line : List ℕ) → line_form line ≡ Note → IsStop tally (Line line) → Says tally (Line line) (Broken Many)
+pub says_many : (tally : Tally) (line : List ℕ) → answer_form line ≡ Note → IsStop tally (Line line) → Says tally (Line line) (Broken Many)
 says_many tally line is stop =
     let more = leb-false (tally.notes + 1) 10000 (rw is at stop) in
     many_notes is (omega (arith, more))
 
-success_by : (notes : ℕ) (bytes line : List ℕ) → line_form line ≡ Ok → Says (record { notes = notes; bytes = bytes }) (Line line) (success_of bytes)
+success_by : (notes : ℕ) (bytes line : List ℕ) → answer_form line ≡ Ok → Says (record { notes = notes; bytes = bytes }) (Line line) (success_of bytes)
 success_by notes [] line is = ok is refl
 success_by notes (byte ∷ bytes) line is = rw (ne_eqb (length (byte ∷ bytes)) 0 (λ (none : length (byte ∷ bytes) ≡ 0). omega (arith, none))) (got is (omega arith))
 
-pub says_success : (tally : Tally) (line : List ℕ) → line_form line ≡ Ok → Says tally (Line line) (success_of tally.bytes)
+pub says_success : (tally : Tally) (line : List ℕ) → answer_form line ≡ Ok → Says tally (Line line) (success_of tally.bytes)
 says_success tally line is = success_by tally.notes tally.bytes line is
 
-pub says_inquiry : (tally : Tally) (line word text : List ℕ) → line_form line ≡ Inquiry word text → Says tally (Line line) (inquiry_after tally word text)
+pub says_inquiry : (tally : Tally) (line word text : List ℕ) → answer_form line ≡ Inquiry word text → Says tally (Line line) (inquiry_after tally word text)
 says_inquiry tally line word text is = elim (cases_lt tally.notes 10000) [
   | inl fewer ↦ rw (le-leb (tally.notes + 1) 10000 (omega (arith, fewer))) (asked is fewer)
   | inr many ↦ rw (lt-leb (tally.notes + 1) 10000 (omega (arith, many))) (many_inquiries is many)
 ]
 
 -- one line more that is skipped
-carries_nothing : (line : List ℕ) → line_form line ≡ Note → carried line ≡ []
+carries_nothing : (line : List ℕ) → answer_form line ≡ Note → carried line ≡ []
 carries_nothing line is = elim (cases_Bool (is_data line)) [
   | inl data_ ↦
       let both : Note ≡ Data = sym is ∙ rw data_ refl in
@@ -62,15 +62,15 @@ carries_nothing line is = elim (cases_Bool (is_data line)) [
 
 with_more : (start : Tally) (lines : List (List ℕ)) (line : List ℕ) → with_lines start (lines ++ line ∷ []) ≡ with_lines (with_lines start lines) (line ∷ [])
 with_more start lines line = tally_by (with_lines start (lines ++ line ∷ [])) (with_lines (with_lines start lines) (line ∷ []))
-    (omega (arith, sum_by-append (λ (l : List ℕ). cond (is_note (line_form l)) 1 0) lines (line ∷ [])))
+    (omega (arith, sum_by-append (λ (l : List ℕ). cond (is_note (answer_form l)) 1 0) lines (line ∷ [])))
     (ap (λ (x : List ℕ). start.bytes ++ x) (flat_map-append carried lines (line ∷ [])) ∙ sym (append_assoc start.bytes (flat_map carried lines) (flat_map carried (line ∷ []))))
 
-note_more : (tally : Tally) (line : List ℕ) → line_form line ≡ Note → with_inquiry tally ≡ with_lines tally (line ∷ [])
+note_more : (tally : Tally) (line : List ℕ) → answer_form line ≡ Note → with_inquiry tally ≡ with_lines tally (line ∷ [])
 note_more tally line is = tally_by (with_inquiry tally) (with_lines tally (line ∷ []))
     (rw is refl)
     (rw (carries_nothing line is) (sym (append-nil tally.bytes)))
 
-data_more : (tally : Tally) (line : List ℕ) → line_form line ≡ Data → (record { notes = tally.notes; bytes = tally.bytes ++ carried line }) ≡ with_lines tally (line ∷ [])
+data_more : (tally : Tally) (line : List ℕ) → answer_form line ≡ Data → (record { notes = tally.notes; bytes = tally.bytes ++ carried line }) ≡ with_lines tally (line ∷ [])
 data_more tally line is = tally_by (record { notes = tally.notes; bytes = tally.bytes ++ carried line }) (with_lines tally (line ∷ []))
     (rw is (omega arith))
     (ap (λ (x : List ℕ). tally.bytes ++ x) (sym (append-nil (carried line))))
@@ -80,10 +80,10 @@ behind_more tally now line [] is behind = absurd behind
 behind_more tally now line (start ∷ lines) is behind =
     is ∙ ap (λ (t : Tally). with_lines t (line ∷ [])) behind ∙ sym (with_more (decoded start) lines line)
 
-pub note_behind : (tally now : Tally) (line : List ℕ) → line_form line ≡ Note → now ≡ with_inquiry tally
+pub note_behind : (tally now : Tally) (line : List ℕ) → answer_form line ≡ Note → now ≡ with_inquiry tally
     → (before : List (List ℕ)) → IsBehind tally before → IsBehind now (before ++ line ∷ [])
 note_behind tally now line is same before behind = behind_more tally now line before (same ∙ note_more tally line is) behind
 
-pub data_behind : (tally now : Tally) (line : List ℕ) → line_form line ≡ Data → now ≡ record { notes = tally.notes; bytes = tally.bytes ++ carried line }
+pub data_behind : (tally now : Tally) (line : List ℕ) → answer_form line ≡ Data → now ≡ record { notes = tally.notes; bytes = tally.bytes ++ carried line }
     → (before : List (List ℕ)) → IsBehind tally before → IsBehind now (before ++ line ∷ [])
 data_behind tally now line is same before behind = behind_more tally now line before (same ∙ data_more tally line is) behind

@@ -1,34 +1,34 @@
 -- The forms of the lines of worked dialogues, and how much of them is skipped at most.
 use Rattle.std.proofs.Common.{◌≡◌, [], refl}
 use Rattle.std.specs.Prelude.{codes, replicate, true, false}
-use Rattle.assuan_client.specs.Forms.{line_form, Data, Note, Ok, Err, Inquiry, Foreign}
+use Rattle.assuan_client.specs.Forms.{answer_form, Data, Note, Ok, Err, Inquiry, Foreign}
 use Rattle.assuan_client.specs.Skipping.{skips}
 
-greeting : line_form (codes "OK Pleased to meet you") ≡ Ok
+greeting : answer_form (codes "OK Pleased to meet you") ≡ Ok
 greeting = refl
 
-other_greeting : line_form (codes "HELLO") ≡ Foreign
+other_greeting : answer_form (codes "HELLO") ≡ Foreign
 other_greeting = refl
 
-number : line_form (codes "D 7") ≡ Data
+number : answer_form (codes "D 7") ≡ Data
 number = refl
 
-inquiry : line_form (codes "INQUIRE OTHER x y") ≡ Inquiry (codes "OTHER") (codes "x y")
+inquiry : answer_form (codes "INQUIRE OTHER x y") ≡ Inquiry (codes "OTHER") (codes "x y")
 inquiry = refl
 
-cancelled : line_form (codes "ERR 83886179 Operation cancelled <Pinentry>") ≡ Err 83886179
+cancelled : answer_form (codes "ERR 83886179 Operation cancelled <Pinentry>") ≡ Err 83886179
 cancelled = refl
 
-largest : line_form (codes "ERR 4294967295") ≡ Err 4294967295
+largest : answer_form (codes "ERR 4294967295") ≡ Err 4294967295
 largest = refl
 
-too_large : line_form (codes "ERR 4294967296") ≡ Foreign
+too_large : answer_form (codes "ERR 4294967296") ≡ Foreign
 too_large = refl
 
-status : line_form (codes "S PROGRESS x") ≡ Note
+status : answer_form (codes "S PROGRESS x") ≡ Note
 status = refl
 
-empty : line_form (codes "") ≡ Foreign
+empty : answer_form (codes "") ≡ Foreign
 empty = refl
 
 -- the 255th byte and the one behind it

@@ -12,7 +12,7 @@ use Rattle.assuan_line.specs.declared.reader.Took.{Took}
 use Rattle.assuan_line.specs.declared.reader.Took.TheVariants as took
 use Rattle.assuan_client.specs.Connections.{Connection}
 use Rattle.assuan_client.specs.Forms as form
-use Rattle.assuan_client.specs.Forms.{line_form}
+use Rattle.assuan_client.specs.Forms.{answer_form}
 use Rattle.assuan_client.specs.Skipping.{Tally, nothing, with_lines, with_inquiry, skips, skips_after}
 use Rattle.assuan_client.specs.declared.answer.Answer.{Answer}
 use Rattle.assuan_client.specs.declared.answer.Answer.TheVariants.{Ok, Got, Err, Asked, Broken, ReadFault, WriteFault}
@@ -21,16 +21,16 @@ use Rattle.assuan_client.specs.declared.answer.State.TheVariants as turn
 
 -- the answer by the line that isn't skipped, or by the end of the lines, where this came before it
 pub data Says (tally : Tally) : Took → Answer → Type 0 where
-  ok : {line : List ℕ} → line_form line ≡ form.Ok → length tally.bytes ≡ 0 → Says tally (took.Line line) Ok
-  got : {line : List ℕ} → line_form line ≡ form.Ok → 0 < length tally.bytes → Says tally (took.Line line) (Got tally.bytes)
-  err : {line : List ℕ} {number : ℕ} → line_form line ≡ form.Err number → Says tally (took.Line line) (Err number)
-  asked : {line word text : List ℕ} → line_form line ≡ form.Inquiry word text → tally.notes < MAX_NOTES → Says tally (took.Line line) (Asked word text)
+  ok : {line : List ℕ} → answer_form line ≡ form.Ok → length tally.bytes ≡ 0 → Says tally (took.Line line) Ok
+  got : {line : List ℕ} → answer_form line ≡ form.Ok → 0 < length tally.bytes → Says tally (took.Line line) (Got tally.bytes)
+  err : {line : List ℕ} {number : ℕ} → answer_form line ≡ form.Err number → Says tally (took.Line line) (Err number)
+  asked : {line word text : List ℕ} → answer_form line ≡ form.Inquiry word text → tally.notes < MAX_NOTES → Says tally (took.Line line) (Asked word text)
   -- it is the 10,001st comment, status line or inquiry
-  many_notes : {line : List ℕ} → line_form line ≡ form.Note → MAX_NOTES ≤ tally.notes → Says tally (took.Line line) (Broken breach.Many)
-  many_inquiries : {line word text : List ℕ} → line_form line ≡ form.Inquiry word text → MAX_NOTES ≤ tally.notes → Says tally (took.Line line) (Broken breach.Many)
+  many_notes : {line : List ℕ} → answer_form line ≡ form.Note → MAX_NOTES ≤ tally.notes → Says tally (took.Line line) (Broken breach.Many)
+  many_inquiries : {line word text : List ℕ} → answer_form line ≡ form.Inquiry word text → MAX_NOTES ≤ tally.notes → Says tally (took.Line line) (Broken breach.Many)
   -- it has the 256th byte
-  too_much : {line : List ℕ} → line_form line ≡ form.Data → MAX_SECRET_LEN < length tally.bytes + length (carried line) → Says tally (took.Line line) (Broken breach.TooMuch)
-  foreign : {line : List ℕ} → line_form line ≡ form.Foreign → Says tally (took.Line line) (Broken (breach.Line line))
+  too_much : {line : List ℕ} → answer_form line ≡ form.Data → MAX_SECRET_LEN < length tally.bytes + length (carried line) → Says tally (took.Line line) (Broken breach.TooMuch)
+  foreign : {line : List ℕ} → answer_form line ≡ form.Foreign → Says tally (took.Line line) (Broken (breach.Line line))
   ended : Says tally took.End (Broken breach.Ended)
   too_long : Says tally took.TooLong (Broken breach.TooLong)
   spent : Says tally took.Spent (Broken breach.Spent)
@@ -45,7 +45,7 @@ inquiry_after tally word text = if nat_le (tally.notes + 1) MAX_NOTES then Asked
 
 -- it is no line that is skipped
 abbrev pub IsStop : Tally → Took → Type 0
-IsStop tally (took.Line line) = skips tally (line_form line) (length (carried line)) ≡ false
+IsStop tally (took.Line line) = skips tally (answer_form line) (length (carried line)) ≡ false
 IsStop tally _ = Unit {0}
 
 -- an answer over these bytes, where this came before them in the command, with what has come then and how the reader stands

@@ -48,8 +48,8 @@ form_by word text =
     else if bytes_eq word (codes "INQUIRE") then inquiry_of (word_of text) (text_of text)
     else Foreign
 
-abbrev pub line_form : List ℕ → Form
-line_form line =
+abbrev pub answer_form : List ℕ → Form
+answer_form line =
     if is_data line then Data
     else if slice_index line 0 == 35 then Note
     else form_by (word_of line) (text_of line)

@@ -5,7 +5,7 @@ use Rattle.std.specs.List.{flat_map, count_by}
 use Rattle.cache_policy.specs.declared.secret.TheConstants.{MAX_SECRET_LEN}
 use Rattle.assuan_client.specs.declared.tally.TheConstants.{MAX_NOTES}
 use Rattle.assuan_escape.specs.DataLines.{carried}
-use Rattle.assuan_client.specs.Forms.{Form, Data, Note, line_form}
+use Rattle.assuan_client.specs.Forms.{Form, Data, Note, answer_form}
 
 -- what came in a command so far
 pub record Tally : Type 0 where
@@ -25,7 +25,7 @@ nothing = record { notes = 0; bytes = [] }
 -- what came, with these lines after it
 abbrev pub with_lines : Tally → List (List ℕ) → Tally
 with_lines tally lines = record {
-  notes = tally.notes + count_by (λ line. is_note (line_form line)) lines;
+  notes = tally.notes + count_by (λ line. is_note (answer_form line)) lines;
   bytes = tally.bytes ++ flat_map carried lines;
 }
 
@@ -41,7 +41,7 @@ skips tally _ count = false
 
 -- a line is skipped, where this came before the lines before it
 abbrev pub skips_after : Tally → List (List ℕ) → List ℕ → Bool
-skips_after tally before line = skips (with_lines tally before) (line_form line) (length (carried line))
+skips_after tally before line = skips (with_lines tally before) (answer_form line) (length (carried line))
 
 -- The same, where the first of the lines before stands for what came before them: its count, and then its bytes.
 abbrev pub coded : Tally → List ℕ

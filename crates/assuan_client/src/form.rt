@@ -2,7 +2,7 @@ ghost use Rattle.std.specs.Prelude.{◌≡◌, ◌≤◌, length};
 ghost use Rattle.std.specs.List.{before_first, after_first};
 ghost use Rattle.assuan_text.specs.Blanks.{is_blank};
 ghost use Rattle.assuan_text.specs.Numbers.{number_of};
-ghost use Rattle.assuan_client.specs.Forms.{line_form, form_seen, form_by, error_of, inquiry_of};
+ghost use Rattle.assuan_client.specs.Forms.{answer_form, form_seen, form_by, error_of, inquiry_of};
 ghost use Rattle.assuan_client.specs.Forms.{word_of, text_of, IfInquiry};
 
 use assuan_text::{escaped_part, first_word, number_of};
@@ -21,7 +21,7 @@ pub(crate) enum Form<'a> {
 
 /// What a line of a server is.
 pub(crate) fn form_of(line: &[u8]) -> Form<'_>
-    ensures form { form_seen result ≡ line_form line.now }
+    ensures form { form_seen result ≡ answer_form line.now }
     ensures short { IfInquiry result
         (λ w t. (length w ≤ length line.now) × (length t ≤ length line.now)) }
 {

@@ -9,7 +9,8 @@ use Rattle.std.proofs.lemmas.List.Folds.{list_any-append}
 use Rattle.assuan_line.proofs.Parts.{line_tells}
 use Rattle.assuan_line.proofs.Places.{place_behind, place_in_front, place_within, none_before, some_there, none_there}
 use Rattle.assuan_text.specs.LineEnds.{is_lf, has_lf}
-use Rattle.assuan_line.specs.Lines.{without_cr, first_line, after_line}
+use Rattle.assuan_text.specs.LineEnds.{without_cr}
+use Rattle.assuan_line.specs.Lines.{first_line, after_line}
 use Rattle.assuan_line.specs.Next.{next_of, OnLine}
 use Rattle.assuan_line.specs.Stops.{line_or_too_long}
 use Rattle.assuan_line.specs.declared.buffer.TheConstants.{MAX_UNDECIDED}

@@ -6,7 +6,8 @@ use Rattle.std.proofs.lemmas.Bool.Decides.{leb_tells}
 use Rattle.std.proofs.lemmas.List.{take_all, take-append-drop}
 use Rattle.std.proofs.lemmas.List.Folds.{list_any-append}
 use Rattle.assuan_text.specs.LineEnds.{is_lf, has_lf}
-use Rattle.assuan_line.specs.Lines.{without_cr, first_line, after_line, pieces_of, lines_of, rest_of}
+use Rattle.assuan_text.specs.LineEnds.{without_cr}
+use Rattle.assuan_line.specs.Lines.{first_line, after_line, pieces_of, lines_of, rest_of}
 use Rattle.assuan_line.specs.Next.{next_of}
 use Rattle.assuan_line.specs.declared.buffer.TheConstants.{MAX_UNDECIDED}
 use Rattle.assuan_line.specs.declared.reader.Took.TheVariants.{Line, TooLong, End}

@@ -1,18 +1,14 @@
 -- Lines of bytes, as the Assuan manual has them ("client requests"): each is at most 1,000 bytes and ends with a line
 -- feed (LF, 10), which a carriage return (CR, 13) may precede. Neither counts as the line's.
-use Rattle.std.specs.Prelude.{◌≡◌, ◌==◌, ◌-◌, ◌≤◌, ℕ, false, List, [], length, map, take, get_or, slice_index, if◌then◌else◌}
+use Rattle.std.specs.Prelude.{◌≡◌, ◌-◌, ◌≤◌, ℕ, false, List, [], length, map, take, get_or}
 use Rattle.std.specs.List.{before_first, after_first, slice_split}
-use Rattle.assuan_text.specs.LineEnds.{is_lf, has_lf}
+use Rattle.assuan_text.specs.LineEnds.{is_lf, has_lf, without_cr}
 use Rattle.assuan_text.specs.declared.TheConstants.{MAX_LINE_LEN}
 
 -- what can be a line: at most 1,000 bytes, none of them a line feed
 pub record IsLine (bytes : List ℕ) : Type 0 where
   pub short : length bytes ≤ MAX_LINE_LEN
   pub whole : has_lf bytes ≡ false
-
--- without the carriage return at the end, where there is one
-abbrev pub without_cr : List ℕ → List ℕ
-without_cr bytes = if slice_index bytes (length bytes - 1) == 13 then take (length bytes - 1) bytes else bytes
 
 -- the line that the first line feed ends
 abbrev pub first_line : List ℕ → List ℕ

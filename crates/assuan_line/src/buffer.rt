@@ -5,7 +5,8 @@ ghost use Rattle.agent_ports.specs.Counts.{Rose};
 ghost use Rattle.agent_ports.specs.Sides.{followed_by, taken_by, IfBytes};
 ghost use Rattle.assuan_line.specs.Ahead.{bytes_ahead, room_ahead, IsWithin};
 ghost use Rattle.assuan_text.specs.LineEnds.{is_lf, has_lf};
-ghost use Rattle.assuan_line.specs.Lines.{without_cr, after_line};
+ghost use Rattle.assuan_text.specs.LineEnds.{without_cr};
+ghost use Rattle.assuan_line.specs.Lines.{after_line};
 ghost use Rattle.assuan_line.specs.Next.{next_of, ended_by, OnLine};
 ghost use Rattle.assuan_line.specs.Stops.{line_or_too_long};
 

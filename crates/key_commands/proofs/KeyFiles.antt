@@ -11,7 +11,7 @@ use Rattle.sexp_canonical.specs.View.{tree_of}
 use Rattle.sexp_canonical.specs.declared.fault.SexpFault.{SexpFault}
 use Rattle.sexp_canonical.specs.declared.fault.SexpFault.TheVariants as sexp_fault
 use Rattle.sexp_canonical.specs.declared.tree.Sexp.{Sexp}
-use Rattle.sexp_keys.specs.Faults.{IsFirstFault}
+use Rattle.sexp_keys.specs.Faults.{IsFirstKeyFault}
 use Rattle.sexp_keys.specs.Key.{Key, IsKey}
 use Rattle.sexp_keys.specs.declared.fault.KeyFault.{KeyFault}
 use Rattle.sexp_keys.specs.declared.fault.KeyFault.TheVariants.{InvSexp, NoMemory}
@@ -60,7 +60,7 @@ module _ (file : List ℕ) (extended : is_canonical file ≡ false) where
     }
     extended_fits (Err fault) is = tt
 
-    pub extended_fault : (result : Result Key KeyFault) → IfErr result (λ fault. (fault ≡ NoMemory) ⊎ IsFirstFault (tree_of lines.tree) fault)
+    pub extended_fault : (result : Result Key KeyFault) → IfErr result (λ fault. (fault ≡ NoMemory) ⊎ IsFirstKeyFault (tree_of lines.tree) fault)
         → IfErr result (λ fault. (fault ≡ NoMemory) ⊎ FileSays file (Err fault))
     extended_fault (Ok key) says = tt
     extended_fault (Err fault) (inl memory) = inl memory

@@ -4,7 +4,7 @@ use Rattle.std.specs.List.{list_all}
 use Rattle.std.proofs.lemmas.Bool.{and_parts, and_from, eqb-true, ltb-true, lt-ltb}
 use Rattle.std.proofs.lemmas.List.{take-append-drop}
 use Rattle.std.proofs.Math.Seq.{take-append_seam, drop-append_seam}
-use Rattle.sexp_canonical.specs.Reading.{Reads}
+use Rattle.sexp_canonical.specs.Reading.{ReadsCanonical}
 use Rattle.sexp_canonical.specs.Spelling.{IsReadable}
 use Rattle.sexp_canonical.specs.declared.tree.Sexp.{Sexp}
 use Rattle.sexp_canonical.specs.declared.fault.SexpFault.{SexpFault}
@@ -36,7 +36,7 @@ padding_true : (count : ℕ) → count ≤ 7 → are_padding (replicate count 0)
 padding_true count few = and_from _ _ (lt-ltb (length (replicate count 0)) 8 (rw (zeros_len count) (omega arith))) (all_zero count)
 
 -- the expression is read at the front of the bytes
-reads_at_front : (bytes expression : List ℕ) (zeros : ℕ) (tree : Sexp) → bytes ≡ expression ++ replicate zeros 0 → IsReadable expression tree → Reads bytes (Ok (tree, length expression))
+reads_at_front : (bytes expression : List ℕ) (zeros : ℕ) (tree : Sexp) → bytes ≡ expression ++ replicate zeros 0 → IsReadable expression tree → ReadsCanonical bytes (Ok (tree, length expression))
 reads_at_front bytes expression zeros tree parts read = (
   omega (arith, ap length parts, length-append expression (replicate zeros 0)),
   subst (λ (text : List ℕ). IsReadable text tree) (sym (ap (take (length expression)) parts ∙ take-append_seam expression (replicate zeros 0))) read,
@@ -44,7 +44,7 @@ reads_at_front bytes expression zeros tree parts read = (
 
 -- how the reader answers, by what it says of these bytes
 module _ (bytes : List ℕ) (result : Result (Sexp × ℕ) SexpFault)
-    (only : (answer : Result (Sexp × ℕ) SexpFault) → Reads bytes answer → (result ≡ Err NoMemory) ⊎ (result ≡ answer)) where
+    (only : (answer : Result (Sexp × ℕ) SexpFault) → ReadsCanonical bytes answer → (result ≡ Err NoMemory) ⊎ (result ≡ answer)) where
   -- nothing was read
   pub none_read : (fault : SexpFault) → result ≡ Err fault → fault ≢ NoMemory → (tree : Sexp) → ArePadded bytes tree → ⊥
   none_read fault is not tree p =

@@ -8,7 +8,7 @@ use Rattle.key_wrap.specs.KeyWrap.{initial_value, is_wrapped_length, unwrapped_o
 use Rattle.sexp_canonical.specs.Spelling.{IsReadable}
 use Rattle.sexp_canonical.specs.View.{tree_of}
 use Rattle.sexp_canonical.specs.declared.tree.Sexp.{Sexp}
-use Rattle.sexp_keys.specs.Faults.{IsFirstFault}
+use Rattle.sexp_keys.specs.Faults.{IsFirstKeyFault}
 use Rattle.sexp_keys.specs.Key.{Key, IsKey}
 use Rattle.sexp_keys.specs.Lists.{key_list_of}
 use Rattle.sexp_keys.specs.declared.fault.KeyFault.{KeyFault}
@@ -34,7 +34,7 @@ pub record ArePadded (bytes : List ℕ) (tree : Sexp) : Type 0 where
 -- what the bytes of a key say that comes in: a clear key whose list isn't too long, or how they are refused
 pub data PlainSays (bytes : List ℕ) : Result Key Code → Type 0 where
   no_expression : ((tree : Sexp) → ArePadded bytes tree → ⊥) → PlainSays bytes (Err code.InvSexp)
-  no_key : {tree : Sexp} {fault : KeyFault} → ArePadded bytes tree → IsFirstFault (tree_of tree) fault → PlainSays bytes (Err (fault_code fault))
+  no_key : {tree : Sexp} {fault : KeyFault} → ArePadded bytes tree → IsFirstKeyFault (tree_of tree) fault → PlainSays bytes (Err (fault_code fault))
   protected : {tree : Sexp} {key : Key} → ArePadded bytes tree → IsKey (tree_of tree) key → key.is_clear ≡ false → PlainSays bytes (Err code.BadSecKey)
   long : {tree : Sexp} {key : Key} → ArePadded bytes tree → IsKey (tree_of tree) key → key.is_clear ≡ true → MAX_LIST_LEN < length (key_list_of key)
       → PlainSays bytes (Err code.BadSecKey)

@@ -4,7 +4,7 @@ use Rattle.std.specs.Prelude.{◌||◌, if◌then◌else◌}
 use Rattle.std.specs.List.{list_all, list_any}
 use Rattle.std.specs.Option.{option_or}
 use Rattle.key_lines.specs.Items.{is_key, goes_on}
-use Rattle.key_lines.specs.Faults.{is_in_item, form_fault, first_line_fault}
+use Rattle.key_lines.specs.Faults.{is_in_item, fault_of_form, first_line_fault}
 use Rattle.key_lines.specs.declared.forms.LineForm.{LineForm}
 use Rattle.key_lines.specs.declared.forms.LineForm.TheVariants.{Comment, GoesOn, Item, Key, NoForm}
 use Rattle.key_lines.specs.declared.fault.LinesFault.{LinesFault}
@@ -28,7 +28,7 @@ well_false : (x y : Bool) (f g : LinesFault) → (if x then Some f else None) �
 well_false true y f g e same = absurd cc
 well_false false y f g e same = ap (λ b. if b then Some g else None) (sym same)
 
-well-alike : (a b : List LineForm) (form : LineForm) → Alike a b → form_fault a form ≡ None → form_fault b form ≡ None
+well-alike : (a b : List LineForm) (form : LineForm) → Alike a b → fault_of_form a form ≡ None → fault_of_form b form ≡ None
 well-alike a b Comment h e = refl
 well-alike a b GoesOn h e = well_true (is_in_item a) (is_in_item b) (BadLine (length a)) (BadLine (length b)) e h.item
 well-alike a b Item h e = refl
@@ -41,7 +41,7 @@ alike-next a b form h = record { item = refl; key = ap (λ t. is_key form || t) 
 pub well-after-alike : (a b forms : List LineForm) → Alike a b → first_line_fault a forms ≡ None → first_line_fault b forms ≡ None
 well-after-alike a b [] h e = refl
 well-after-alike a b (form ∷ forms) h e =
-    let parts = neither (form_fault a form) (first_line_fault (form ∷ a) forms) e in
+    let parts = neither (fault_of_form a form) (first_line_fault (form ∷ a) forms) e in
     ap (λ o. option_or o (first_line_fault (form ∷ b) forms)) (well-alike a b form h parts.0)
     ∙ well-after-alike (form ∷ a) (form ∷ b) forms (alike-next a b form h) parts.1
 
@@ -53,14 +53,14 @@ behind a (form ∷ forms) = behind (form ∷ a) forms
 pub well-split : (a xs ys : List LineForm) → first_line_fault a (xs ++ ys) ≡ None → (first_line_fault a xs ≡ None) × (first_line_fault (behind a xs) ys ≡ None)
 well-split a [] ys e = (refl, e)
 well-split a (x ∷ xs) ys e =
-    let parts = neither (form_fault a x) (first_line_fault (x ∷ a) (xs ++ ys)) e in
+    let parts = neither (fault_of_form a x) (first_line_fault (x ∷ a) (xs ++ ys)) e in
     let rest = well-split (x ∷ a) xs ys parts.1 in
     (ap (λ o. option_or o (first_line_fault (x ∷ a) xs)) parts.0 ∙ rest.0, rest.1)
 
 pub well-join : (a xs ys : List LineForm) → first_line_fault a xs ≡ None → first_line_fault (behind a xs) ys ≡ None → first_line_fault a (xs ++ ys) ≡ None
 well-join a [] ys e f = f
 well-join a (x ∷ xs) ys e f =
-    let parts = neither (form_fault a x) (first_line_fault (x ∷ a) xs) e in
+    let parts = neither (fault_of_form a x) (first_line_fault (x ∷ a) xs) e in
     ap (λ o. option_or o (first_line_fault (x ∷ a) (xs ++ ys))) parts.0 ∙ well-join (x ∷ a) xs ys parts.1 f
 
 goes-on-alike : (a : List LineForm) (form : LineForm) → is_in_item a ≡ true → goes_on form ≡ true → Alike (form ∷ a) a × (is_in_item (form ∷ a) ≡ true)
@@ -86,7 +86,7 @@ pub well-without : (passed more rest : List LineForm) → list_all goes_on more 
 well-without passed more rest goes e =
     let front = well-split [] passed (Key ∷ (more ++ rest)) e in
     let before = behind [] passed in
-    let key = neither (form_fault before Key) (first_line_fault (Key ∷ before) (more ++ rest)) front.1 in
+    let key = neither (fault_of_form before Key) (first_line_fault (Key ∷ before) (more ++ rest)) front.1 in
     let last = well-split (Key ∷ before) more rest key.1 in
     let same = more-alike (Key ∷ before) more refl goes in
     let well : first_line_fault (Key ∷ before) rest ≡ None = well-after-alike (behind (Key ∷ before) more) (Key ∷ before) rest same last.1 in

@@ -6,12 +6,12 @@ use Rattle.std.proofs.lemmas.Bool.{le-leb, lt-leb}
 use Rattle.assuan_text.specs.Blanks.{is_blank}
 use Rattle.sexp_canonical.specs.Spelling.{most_bytes, spelling_of}
 use Rattle.sexp_canonical.specs.declared.tree.Sexp.{Sexp}
-use Rattle.sexp_advanced.specs.Reading.{Reads}
+use Rattle.sexp_advanced.specs.Reading.{ReadsAdvanced}
 use Rattle.sexp_advanced.specs.declared.fault.AdvFault.{AdvFault}
 use Rattle.sexp_advanced.specs.declared.fault.AdvFault.TheVariants.{BadByte}
 use Rattle.key_lines.specs.Faults.{line_fault}
 use Rattle.key_lines.specs.KeyItem.{has_key, key_value, before_key, after_key}
-use Rattle.key_lines.specs.KeyText.{IsExpression}
+use Rattle.key_lines.specs.KeyText.{IsWholeExpression}
 use Rattle.key_lines.specs.KeyFile.{KeyFile, HasKeyItem, Answers}
 use Rattle.key_lines.specs.Canon.{Canon}
 use Rattle.key_lines.specs.declared.fault.LinesFault.{LinesFault}
@@ -19,7 +19,7 @@ use Rattle.key_lines.specs.declared.fault.LinesFault.TheVariants.{BadLine, NoKey
 
 -- each text is read in one way
 abbrev pub ReadsInOneWay : Type 0
-ReadsInOneWay = (bytes : List ℕ) (a b : Result (Sexp × ℕ) AdvFault) → Reads bytes a → Reads bytes b → a ≡ b
+ReadsInOneWay = (bytes : List ℕ) (a b : Result (Sexp × ℕ) AdvFault) → ReadsAdvanced bytes a → ReadsAdvanced bytes b → a ≡ b
 
 -- ---- the answer as a function of what reading the value gives
 
@@ -38,7 +38,7 @@ whole file (Err fault) = Err fault
 record OfText (file : List ℕ) (answer : Result KeyFile LinesFault) : Type 0 where
   item : HasKeyItem file
   read : Result (Sexp × ℕ) AdvFault
-  reads : Reads (key_value file) read
+  reads : ReadsAdvanced (key_value file) read
   is : answer ≡ whole file (text_answer (key_value file) read)
 
 record OfNone (file : List ℕ) (answer : Result KeyFile LinesFault) : Type 0 where
@@ -54,7 +54,7 @@ record OfLines (file : List ℕ) (answer : Result KeyFile LinesFault) : Type 0 w
 abbrev Staged : List ℕ → Result KeyFile LinesFault → Type 0
 Staged file answer = OfLines file answer ⊎ (OfNone file answer ⊎ OfText file answer)
 
-blank_then : (value : List ℕ) (tree : Sexp) (e : IsExpression value tree) → text_answer value (Ok (tree, e.len)) ≡ within_limit tree
+blank_then : (value : List ℕ) (tree : Sexp) (e : IsWholeExpression value tree) → text_answer value (Ok (tree, e.len)) ≡ within_limit tree
 blank_then value tree e = ap (λ b. if b then within_limit tree else Err (BadKey (BadByte (e.len + prefix_len is_blank (drop e.len value))))) e.blank
 
 short : (tree : Sexp) → length (spelling_of tree) ≤ most_bytes → within_limit tree ≡ Ok tree

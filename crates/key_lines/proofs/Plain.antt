@@ -13,7 +13,8 @@ use Rattle.sexp_canonical.specs.View.{tree_of}
 use Rattle.sexp_canonical.specs.declared.tree.Sexp.{Sexp}
 use Rattle.sexp_advanced.specs.Bytes.{is_token_start, is_token_byte, is_token_mark}
 use Rattle.sexp_advanced.specs.Writing.{advanced, advanced_of, row_text, spaced_row, hex_glyph, hex_pairs, is_token, are_token_bytes}
-use Rattle.key_lines.specs.Lines.{last_byte, without_last, without_cr, line_text}
+use Rattle.assuan_text.specs.LineEnds.{without_cr}
+use Rattle.key_lines.specs.Lines.{last_byte, without_last, line_text}
 use Rattle.key_lines.specs.Items.{line_form, form_of_text, value_in}
 use Rattle.key_lines.specs.declared.forms.LineForm.TheVariants.{Key}
 

@@ -10,7 +10,7 @@ use Rattle.sexp_canonical.specs.Tree.{Tree, leaf, branch}
 use Rattle.sexp_canonical.specs.View.{tree_of}
 use Rattle.sexp_canonical.specs.declared.tree.Sexp.{Sexp}
 use Rattle.sexp_advanced.specs.Bytes.{is_space_byte as is_between}
-use Rattle.sexp_advanced.specs.Reading.{Reads, signs, Begins}
+use Rattle.sexp_advanced.specs.Reading.{ReadsAdvanced, signs, Begins}
 use Rattle.sexp_advanced.specs.Writing.{advanced_of}
 use Rattle.key_lines.specs.Lines.{lines_of, line_text}
 use Rattle.key_lines.specs.Items.{line_form, is_key, goes_on, value_in}
@@ -103,14 +103,14 @@ rest-stops (line ∷ lines) =
 
 -- what is written in the advanced form is read again
 abbrev pub IsReadAgain : Sexp → Type 0
-IsReadAgain tree = Reads (advanced_of tree) (Ok (tree, length (advanced_of tree)))
+IsReadAgain tree = ReadsAdvanced (advanced_of tree) (Ok (tree, length (advanced_of tree)))
 
 begins-behind : (t : Tree) (text rest : List ℕ) → Begins text (signs t) rest → Begins (32 ∷ text) (signs t) rest
 unfolding is_between
 begins-behind (leaf bytes) text rest h = h
 begins-behind (branch items) text rest h = h
 
-reads-behind : (tree : Sexp) → IsReadAgain tree → Reads (32 ∷ advanced_of tree) (Ok (tree, suc (length (advanced_of tree))))
+reads-behind : (tree : Sexp) → IsReadAgain tree → ReadsAdvanced (32 ∷ advanced_of tree) (Ok (tree, suc (length (advanced_of tree))))
 reads-behind tree e =
     let text = advanced_of tree in
     record {

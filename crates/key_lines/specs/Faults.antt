@@ -14,17 +14,17 @@ is_in_item [] = false
 is_in_item (nearest ∷ before) = not (is_comment nearest)
 
 -- what is wrong with a line, by the lines before it
-abbrev pub form_fault : List LineForm → LineForm → Option LinesFault
-form_fault before Comment = None
-form_fault before GoesOn = if is_in_item before then None else Some (BadLine (length before))
-form_fault before Item = None
-form_fault before Key = if list_any is_key before then Some (TwoKeys (length before)) else None
-form_fault before NoForm = Some (BadLine (length before))
+abbrev pub fault_of_form : List LineForm → LineForm → Option LinesFault
+fault_of_form before Comment = None
+fault_of_form before GoesOn = if is_in_item before then None else Some (BadLine (length before))
+fault_of_form before Item = None
+fault_of_form before Key = if list_any is_key before then Some (TwoKeys (length before)) else None
+fault_of_form before NoForm = Some (BadLine (length before))
 
 -- the fault of the first line that has one, by the lines before these
 abbrev pub first_line_fault : List LineForm → List LineForm → Option LinesFault
 first_line_fault before [] = None
-first_line_fault before (form ∷ forms) = option_or (form_fault before form) (first_line_fault (form ∷ before) forms)
+first_line_fault before (form ∷ forms) = option_or (fault_of_form before form) (first_line_fault (form ∷ before) forms)
 
 -- the fault of the first line of a file that has one
 abbrev pub line_fault : List ℕ → Option LinesFault

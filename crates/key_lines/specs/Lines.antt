@@ -1,8 +1,8 @@
 -- The lines of a key file in GnuPG's extended format (GnuPG's notes on the format of private keys, agent/keyformat.txt, "Extended
 -- Private Key Format"). That a line may end in CR LF, and the last one in nothing, is this project's own rule.
-use Rattle.std.specs.Prelude.{ℕ, ◌==◌, ◌-◌, List, [], ◌∷◌, length, take, slice_index, if◌then◌else◌}
+use Rattle.std.specs.Prelude.{ℕ, ◌-◌, List, [], ◌∷◌, length, take, slice_index, if◌then◌else◌}
 use Rattle.std.specs.List.{onto_first}
-use Rattle.assuan_text.specs.LineEnds.{is_lf}
+use Rattle.assuan_text.specs.LineEnds.{is_lf, without_cr}
 
 -- the lines, each with the LF that ends it; the end of the file ends the last one
 abbrev pub lines_of : List ℕ → List (List ℕ)
@@ -15,10 +15,6 @@ without_last bytes = take (length bytes - 1) bytes
 
 abbrev pub last_byte : List ℕ → ℕ
 last_byte bytes = slice_index bytes (length bytes - 1)
-
--- without one CR at the end, where there is one
-abbrev pub without_cr : List ℕ → List ℕ
-without_cr bytes = if last_byte bytes == 13 then without_last bytes else bytes
 
 -- the text of a line: all but the LF that ends it, and one CR before that
 abbrev pub line_text : List ℕ → List ℕ

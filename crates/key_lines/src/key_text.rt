@@ -3,7 +3,7 @@ ghost use Rattle.std.specs.List.{prefix_len};
 ghost use Rattle.assuan_text.specs.Blanks.{is_blank};
 ghost use Rattle.sexp_canonical.specs.Spelling.{most_bytes, spelling_of};
 ghost use Rattle.sexp_canonical.specs.declared.tree.Sexp.{Sexp};
-ghost use Rattle.key_lines.specs.KeyText.{IsExpression, IsTextFault, IsKeyText, IsKeyFault};
+ghost use Rattle.key_lines.specs.KeyText.{IsWholeExpression, IsTextFault, IsKeyText, IsKeyFault};
 ghost use Rattle.key_lines.specs.declared.fault.LinesFault.{LinesFault};
 ghost use Rattle.sexp_advanced.specs.declared.fault.AdvFault.{AdvFault};
 
@@ -34,7 +34,7 @@ pub(crate) fn key_in(alloc: Global, value: &[u8]) -> Result<Sexp, LinesFault>
 
 // The expression that the value is, with blanks around it.
 fn expression_in(alloc: Global, value: &[u8]) -> Result<Sexp, AdvFault>
-    ensures found { IfOk result (IsExpression value.now) }
+    ensures found { IfOk result (IsWholeExpression value.now) }
     ensures fault { IfErr result
         (λ fault. (fault ≡ AdvFault.NoMemory) ⊎ IsTextFault value.now fault) }
 {

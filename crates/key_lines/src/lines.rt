@@ -2,7 +2,8 @@ ghost use Rattle.std.specs.Prelude.{◌≡◌, ◌==◌, ◌+◌, ◌<◌, ◌�
 ghost use Rattle.std.specs.Prelude.{min};
 ghost use Rattle.std.specs.List.{position_or_len};
 ghost use Rattle.assuan_text.specs.LineEnds.{is_lf};
-ghost use Rattle.key_lines.specs.Lines.{lines_of, without_cr, line_text};
+ghost use Rattle.assuan_text.specs.LineEnds.{without_cr};
+ghost use Rattle.key_lines.specs.Lines.{lines_of, line_text};
 
 /// The first line, with its end, and what comes after it.
 pub(crate) fn next_line(bytes: &[u8]) -> Option<(&[u8], &[u8])>

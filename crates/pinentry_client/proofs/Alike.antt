@@ -3,7 +3,7 @@ use Rattle.std.proofs.Common.{◌≡◌, ◌≢◌, ◌+◌, ℕ, Bool, true, fa
 use Rattle.agent_ports.specs.Sides.{WhereKnown}
 use Rattle.assuan_client.specs.Answers.{Says, Answers, ReadOn}
 use Rattle.assuan_client.specs.Connections.{Connection}
-use Rattle.assuan_client.specs.Forms.{line_form}
+use Rattle.assuan_client.specs.Forms.{answer_form}
 use Rattle.assuan_client.specs.Skipping.{Tally, nothing, with_lines, with_inquiry, skips_after}
 use Rattle.assuan_client.specs.Writing.{Command}
 use Rattle.assuan_client.specs.declared.answer.Answer.{Answer}
@@ -61,7 +61,7 @@ took_fine Says.spent fine same = cc same
 took_fine Says.read_fault fine same = cc fine
 
 abbrev by_took : Tally → Took → Answer
-by_took tally (took.Line line) = by_form tally line (line_form line)
+by_took tally (took.Line line) = by_form tally line (answer_form line)
 by_took tally took.TooLong = answer.Broken breach.TooLong
 by_took tally took.End = answer.Broken breach.Ended
 by_took tally took.Spent = answer.Broken breach.Spent

@@ -8,7 +8,7 @@ use Rattle.sexp_canonical.proofs.Numerals.{numeral_injective}
 use Rattle.sexp_canonical.proofs.Trees.{one_spelling, tree_of_injective}
 use Rattle.s2k_derive.specs.S2k.{octets}
 use Rattle.sexp_keys.specs.Key.{Key, IsKey, clear_with}
-use Rattle.sexp_keys.specs.Faults.{IsFirstFault}
+use Rattle.sexp_keys.specs.Faults.{IsFirstKeyFault}
 use Rattle.sexp_keys.proofs.Keys as keys
 use Rattle.sexp_keys.specs.declared.fault.KeyFault.{KeyFault}
 use Rattle.sexp_keys.specs.declared.fault.KeyFault.TheVariants as faults
@@ -121,10 +121,10 @@ one_file file k l h g =
     let keys_same : Ok k ≡ Ok l = keys.one_answer (tree_of g.tree) (Ok k) (Ok l) (subst (λ (t : Sexp). IsKey (tree_of t) k) same h.is) g.is in
     cc
 
-fault_of_key : (t : Tree) (k : Key) (f : KeyFault) → IsKey t k → IsFirstFault t f → ⊥
+fault_of_key : (t : Tree) (k : Key) (f : KeyFault) → IsKey t k → IsFirstKeyFault t f → ⊥
 fault_of_key t k f h g = let e : Ok k ≡ Err f = keys.one_answer t (Ok k) (Err f) h g in cc
 
-one_first_fault : (t : Tree) (f g : KeyFault) → IsFirstFault t f → IsFirstFault t g → f ≡ g
+one_first_fault : (t : Tree) (f g : KeyFault) → IsFirstKeyFault t f → IsFirstKeyFault t g → f ≡ g
 one_first_fault t f g h k = let e : Err f ≡ Err g = keys.one_answer t (Err f) (Err g) h k in cc
 
 one_file_fault : (file : List ℕ) (f g : KeyFault) → IsFileFault file f → IsFileFault file g → f ≡ g
@@ -132,12 +132,12 @@ one_file_fault file f g (inl x) (inl y) = x.1 ∙ sym y.1
 one_file_fault file f g (inl x) (inr y) = absurd (x.0 y.0 y.1)
 one_file_fault file f g (inr x) (inl y) = absurd (y.0 x.0 x.1)
 one_file_fault file f g (inr x) (inr y) =
-    one_first_fault (tree_of y.0) f g (subst (λ (t : Sexp). IsFirstFault (tree_of t) f) (one_tree file x.0 y.0 x.1 y.1) x.2) y.2
+    one_first_fault (tree_of y.0) f g (subst (λ (t : Sexp). IsFirstKeyFault (tree_of t) f) (one_tree file x.0 y.0 x.1 y.1) x.2) y.2
 
 no_file_fault : (file : List ℕ) (k : Key) (f : KeyFault) → IsFile file k → IsFileFault file f → ⊥
 no_file_fault file k f h (inl x) = x.0 h.tree h.read
 no_file_fault file k f h (inr x) =
-    fault_of_key (tree_of h.tree) k f h.is (subst (λ (t : Sexp). IsFirstFault (tree_of t) f) (one_tree file x.0 h.tree x.1 h.read) x.2)
+    fault_of_key (tree_of h.tree) k f h.is (subst (λ (t : Sexp). IsFirstKeyFault (tree_of t) f) (one_tree file x.0 h.tree x.1 h.read) x.2)
 
 pub one_answer : (file pass : List ℕ) (a b : Unlocked) → Answers file pass a → Answers file pass b → a ≡ b
 one_answer file pass a b (inl x) (inl y) = x.2 ∙ ap refused (one_file_fault file x.0 y.0 x.1 y.1) ∙ sym y.2

@@ -4,7 +4,7 @@ use Rattle.sexp_canonical.specs.View.{tree_of}
 use Rattle.sexp_canonical.specs.Spelling.{IsReadable}
 use Rattle.sexp_canonical.specs.declared.tree.Sexp.{Sexp}
 use Rattle.sexp_keys.specs.Key.{Key}
-use Rattle.sexp_keys.specs.Faults.{IsFirstFault}
+use Rattle.sexp_keys.specs.Faults.{IsFirstKeyFault}
 use Rattle.sexp_keys.specs.declared.fault.KeyFault.{KeyFault}
 use Rattle.sexp_keys.specs.declared.fault.KeyFault.TheVariants as faults
 use Rattle.secret_file.specs.Protection.{IsProtectionFault}
@@ -26,7 +26,7 @@ refused faults.NoMemory = answers.NoMemory
 abbrev pub IsFileFault : List ℕ → KeyFault → Type 0
 IsFileFault file fault =
     (((tree : Sexp) → IsReadable file tree → ⊥) × (fault ≡ faults.InvSexp))
-    ⊎ ((tree : Sexp) × IsReadable file tree × IsFirstFault (tree_of tree) fault)
+    ⊎ ((tree : Sexp) × IsReadable file tree × IsFirstKeyFault (tree_of tree) fault)
 
 -- a clear key isn't locked, and a protected one has the fault of its protection
 abbrev pub IsLockedFault : Key → KeyFault → Type 0

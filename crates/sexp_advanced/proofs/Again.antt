@@ -11,7 +11,7 @@ use Rattle.sexp_canonical.specs.declared.tree.Sexp.{Sexp}
 use Rattle.sexp_advanced.specs.Bytes.{is_space_byte, is_token_mark, is_token_start, is_token_byte, hex_value, class_of, front_of, without_front}
 use Rattle.sexp_advanced.specs.Pieces.{byte, low_digit, pair_here, pair}
 use Rattle.sexp_advanced.specs.Signs.{sign, Spells, IsDelimited, IsOf, IsAt}
-use Rattle.sexp_advanced.specs.Reading.{signs, row_signs, Begins, Reads}
+use Rattle.sexp_advanced.specs.Reading.{signs, row_signs, Begins, ReadsAdvanced}
 use Rattle.sexp_advanced.specs.Writing.{are_token_bytes, is_token, hex_glyph, hex_pairs, advanced, row_text, spaced_row, advanced_of, EndsToken}
 use Rattle.sexp_advanced.specs.Octets.{AreOctets, IsOfOctets, AreOfOctets}
 use Rattle.sexp_advanced.specs.declared.bytes.Class.{Class}
@@ -244,7 +244,7 @@ not_none (leaf bytes) e = cc
 not_none (branch r) e = cc
 
 pub written_again : (tree : Sexp) (blanks more : List ℕ) → without_front is_space_byte blanks ≡ [] → IsOfOctets (tree_of tree) → depth (tree_of tree) ≤ most_depth → EndsToken more
-    → Reads (blanks ++ (advanced_of tree ++ more)) (Ok (tree, length (blanks ++ advanced_of tree)))
+    → ReadsAdvanced (blanks ++ (advanced_of tree ++ more)) (Ok (tree, length (blanks ++ advanced_of tree)))
 written_again tree blanks more before octets shallow ends =
     let parts : (blanks ++ advanced_of tree) ++ more ≡ blanks ++ (advanced_of tree ++ more) = append_assoc blanks (advanced_of tree) more in
     let last : drop (length (blanks ++ advanced_of tree)) (blanks ++ (advanced_of tree ++ more)) ≡ more =
@@ -256,7 +256,7 @@ written_again tree blanks more before octets shallow ends =
           (blanks_before blanks (advanced_of tree ++ more) more (signs (tree_of tree)) (not_none (tree_of tree)) before (tree_again (tree_of tree) more octets ends));
     }
 
-pub whole_again : (text : List ℕ) (tree : Sexp) → text ≡ advanced_of tree → IsOfOctets (tree_of tree) → depth (tree_of tree) ≤ most_depth → Reads text (Ok (tree, length text))
+pub whole_again : (text : List ℕ) (tree : Sexp) → text ≡ advanced_of tree → IsOfOctets (tree_of tree) → depth (tree_of tree) ≤ most_depth → ReadsAdvanced text (Ok (tree, length text))
 whole_again text tree e octets shallow =
-    subst (λ (s : List ℕ). Reads s (Ok (tree, length text))) (append-nil (advanced_of tree) ∙ sym e)
-    (subst (λ (n : ℕ). Reads (advanced_of tree ++ []) (Ok (tree, n))) (ap length (sym e)) (written_again tree [] [] refl octets shallow tt))
+    subst (λ (s : List ℕ). ReadsAdvanced s (Ok (tree, length text))) (append-nil (advanced_of tree) ∙ sym e)
+    (subst (λ (n : ℕ). ReadsAdvanced (advanced_of tree ++ []) (Ok (tree, n))) (ap length (sym e)) (written_again tree [] [] refl octets shallow tt))

@@ -5,7 +5,7 @@ use Rattle.std.specs.Int.{is_in_range}
 use Rattle.std.proofs.lemmas.List.{take-append-le, take-append-drop, length-take-le}
 use Rattle.sexp_canonical.specs.View.{tree_of}
 use Rattle.sexp_canonical.specs.Spelling.{IsReadable}
-use Rattle.sexp_canonical.specs.Reading.{Reads as ReadsCanonical}
+use Rattle.sexp_canonical.specs.Reading.{ReadsCanonical}
 use Rattle.sexp_canonical.specs.declared.tree.Sexp.{Sexp}
 use Rattle.sexp_canonical.specs.declared.tree.Sexp.TheVariants.{Atom as Atomic, List as Listed}
 use Rattle.sexp_canonical.specs.declared.fault.SexpFault.{SexpFault}

@@ -14,7 +14,7 @@ use Rattle.sexp_canonical.specs.declared.tree.Sexp.{Sexp}
 use Rattle.sexp_canonical.proofs.Trees.{one_spelling, tree_of_injective}
 use Rattle.sexp_advanced.specs.Bytes.{is_space_byte, without_front}
 use Rattle.sexp_advanced.specs.Signs.{Found, sign, IsAt}
-use Rattle.sexp_advanced.specs.Reading.{signs, row_signs, opening, Begins, IsExpression, IsFirstFault, Reads, sign_fault, fault_of, place_of}
+use Rattle.sexp_advanced.specs.Reading.{signs, row_signs, opening_signs, Begins, IsExpression, IsFirstAdvFault, ReadsAdvanced, sign_fault, fault_of, place_of}
 use Rattle.sexp_advanced.specs.declared.signs.Sign.{Sign}
 use Rattle.sexp_advanced.specs.declared.signs.Sign.TheVariants.{Open, Close, Atom}
 use Rattle.sexp_advanced.specs.declared.fault.AdvFault.{AdvFault}
@@ -64,11 +64,11 @@ run-items n (t ∷ ts) more =
     ap (run (suc n)) (ap (λ (s : List Sign). s ++ more) (flat_map-cons signs t ts) ∙ append_assoc (signs t) (flat_map signs ts) more) ∙ run-tree (suc n) t (flat_map signs ts ++ more) ∙ run-items n ts more
 
 -- behind the signs of open lists
-run-opening : (n : ℕ) (lists : OpenLists) (more : List Sign) → run n (opening lists ++ more) ≡ run (n + length lists) more
+run-opening : (n : ℕ) (lists : OpenLists) (more : List Sign) → run n (opening_signs lists ++ more) ≡ run (n + length lists) more
 run-opening n [] more = let e : n + 0 ≡ n = omega arith in rw e refl
 run-opening n (items ∷ lists) more =
     let e : n + suc (length lists) ≡ suc n + length lists = omega arith in
-    ap (run (suc n)) (append_assoc (flat_map signs items) (opening lists) more) ∙ run-items n items (opening lists ++ more) ∙ run-opening (suc n) lists more ∙ ap (λ (k : ℕ). run k more) (sym e)
+    ap (run (suc n)) (append_assoc (flat_map signs items) (opening_signs lists) more) ∙ run-items n items (opening_signs lists ++ more) ∙ run-opening (suc n) lists more ∙ ap (λ (k : ℕ). run k more) (sym e)
 
 -- ---- how many lists are open at the deepest place
 
@@ -104,11 +104,11 @@ deepest-items n [] more = let l = deepest-le n more in omega arith
 deepest-items n (t ∷ ts) more =
     omega (arith, ap (deepest n) (ap (λ (s : List Sign). s ++ more) (flat_map-cons signs t ts) ∙ append_assoc (signs t) (flat_map signs ts) more) ∙ deepest-tree n t (flat_map signs ts ++ more), deepest-items n ts more)
 
-deepest-opening : (n : ℕ) (lists : OpenLists) (more : List Sign) → deepest n (opening lists ++ more) ≡ max (n + open_depth lists) (deepest (n + length lists) more)
+deepest-opening : (n : ℕ) (lists : OpenLists) (more : List Sign) → deepest n (opening_signs lists ++ more) ≡ max (n + open_depth lists) (deepest (n + length lists) more)
 deepest-opening n [] more = let e : n + 0 ≡ n = omega arith in let l = deepest-le n more in rw e (omega arith)
 deepest-opening n (items ∷ lists) more =
     let e : n + suc (length lists) ≡ suc n + length lists = omega arith in
-    let inside = ap (deepest (suc n)) (append_assoc (flat_map signs items) (opening lists) more) ∙ deepest-items (suc n) items (opening lists ++ more) in
+    let inside = ap (deepest (suc n)) (append_assoc (flat_map signs items) (opening_signs lists) more) ∙ deepest-items (suc n) items (opening_signs lists ++ more) in
     let f = ap (λ (k : ℕ). deepest k more) e in
     omega (arith, inside, deepest-opening (suc n) lists more)
 
@@ -171,29 +171,29 @@ bad_sign place n Open fault e = inr (refl, eqb-true n most_depth (tested (eqb n 
 bad_sign place n Close fault e = inl (refl, eqb-true n 0 (tested (eqb n 0) (BadByte place) fault e))
 bad_sign place n (Atom bytes) fault e = absurd cc
 
-no_way_on : (lists : OpenLists) (s : Sign) (zs whole : List Sign) (place : ℕ) (fault : AdvFault) → whole ≡ opening lists ++ s ∷ zs → sign_fault place (length lists) s ≡ Some fault
+no_way_on : (lists : OpenLists) (s : Sign) (zs whole : List Sign) (place : ℕ) (fault : AdvFault) → whole ≡ opening_signs lists ++ s ∷ zs → sign_fault place (length lists) s ≡ Some fault
     → (run 0 whole ≡ astray → ⊥) → deepest 0 whole ≤ most_depth → ⊥
 no_way_on lists s zs whole place fault parts bad well shallow =
     elim (bad_sign place (length lists) s fault bad) [
       | inl closed ↦
           let none : 0 + length lists ≡ 0 = let n = closed.1 in omega arith in
-          well (ap (run 0) (parts ∙ ap (λ (r : Sign). opening lists ++ r ∷ zs) closed.0) ∙ run-opening 0 lists (Close ∷ zs) ∙ ap (λ (n : ℕ). run n (Close ∷ zs)) none)
+          well (ap (run 0) (parts ∙ ap (λ (r : Sign). opening_signs lists ++ r ∷ zs) closed.0) ∙ run-opening 0 lists (Close ∷ zs) ∙ ap (λ (n : ℕ). run n (Close ∷ zs)) none)
       | inr opened ↦
-          let deep = ap (deepest 0) (parts ∙ ap (λ (r : Sign). opening lists ++ r ∷ zs) opened.0) ∙ deepest-opening 0 lists (Open ∷ zs) in
+          let deep = ap (deepest 0) (parts ∙ ap (λ (r : Sign). opening_signs lists ++ r ∷ zs) opened.0) ∙ deepest-opening 0 lists (Open ∷ zs) in
           let n = opened.1 in
           omega (arith, deepest-le (suc (0 + length lists)) zs)
     ]
 
-run-open : (lists : OpenLists) → run 0 (opening lists) ≡ going (length lists)
+run-open : (lists : OpenLists) → run 0 (opening_signs lists) ≡ going (length lists)
 run-open lists =
     let e : 0 + length lists ≡ length lists = omega arith in
-    ap (run 0) (sym (append-nil (opening lists))) ∙ run-opening 0 lists [] ∙ ap going e
+    ap (run 0) (sym (append-nil (opening_signs lists))) ∙ run-opening 0 lists [] ∙ ap going e
 
 run-whole : (t : Tree) → run 0 (signs t) ≡ done []
 run-whole t = ap (run 0) (sym (append-nil (signs t))) ∙ run-tree 0 t []
 
-deepest-open : (lists : OpenLists) → deepest 0 (opening lists) ≡ max (open_depth lists) (length lists)
-deepest-open lists = omega (arith, ap (deepest 0) (append-nil (opening lists)), deepest-opening 0 lists [])
+deepest-open : (lists : OpenLists) → deepest 0 (opening_signs lists) ≡ max (open_depth lists) (length lists)
+deepest-open lists = omega (arith, ap (deepest 0) (append-nil (opening_signs lists)), deepest-opening 0 lists [])
 
 deepest-whole : (t : Tree) → deepest 0 (signs t) ≡ depth t
 deepest-whole t = omega (arith, ap (deepest 0) (append-nil (signs t)), deepest-tree 0 t [])
@@ -213,7 +213,7 @@ done-astray xs e = cc
 
 -- a fault stands where no way goes on
 stopped : (text rest last : List ℕ) (lists : OpenLists) (found : Found) (fault : AdvFault) (zs whole : List Sign) → IsAt (without_front is_space_byte rest) found
-    → fault_of (place_of text (without_front is_space_byte rest)) (length lists) found ≡ Some fault → whole ≡ opening lists ++ zs → Begins rest zs last
+    → fault_of (place_of text (without_front is_space_byte rest)) (length lists) found ≡ Some fault → whole ≡ opening_signs lists ++ zs → Begins rest zs last
     → (run 0 whole ≡ astray → ⊥) → deepest 0 whole ≤ most_depth → zs ≡ []
 stopped text rest last lists found fault [] whole at is parts goes well shallow = refl
 stopped text rest last lists found fault (s ∷ zs) whole at is parts goes well shallow =
@@ -223,16 +223,16 @@ stopped text rest last lists found fault (s ∷ zs) whole at is parts goes well 
 
 -- ---- no fault where an expression is
 
-no_fault : (bytes : List ℕ) (tree : Sexp) (n : ℕ) (fault : AdvFault) → IsExpression bytes tree n → IsFirstFault bytes fault → ⊥
+no_fault : (bytes : List ℕ) (tree : Sexp) (n : ℕ) (fault : AdvFault) → IsExpression bytes tree n → IsFirstAdvFault bytes fault → ⊥
 no_fault bytes tree n fault read first =
     let t = tree_of tree in
-    elim (one_way bytes (signs t) (opening first.lists) (drop n bytes) first.rest read.spelled first.begins) [
+    elim (one_way bytes (signs t) (opening_signs first.lists) (drop n bytes) first.rest read.spelled first.begins) [
       | inl g ↦ going-done (length first.lists) g.0 (sym (run-open first.lists) ∙ ap (run 0) g.1 ∙ run-tree 0 t g.0)
       | inr g ↦
           let none = stopped bytes first.rest (drop n bytes) first.lists first.found fault g.0 (signs t) first.stands first.is g.1 g.2
           (λ e. done-astray [] (sym (run-whole t) ∙ e)) (omega (arith, deepest-whole t, read.shallow)) in
           going-done (length first.lists) []
-          (sym (run-open first.lists) ∙ ap (run 0) (sym (append-nil (opening first.lists)) ∙ ap (λ (zs : List Sign). opening first.lists ++ zs) (sym none) ∙ sym g.1) ∙ run-whole t)
+          (sym (run-open first.lists) ∙ ap (run 0) (sym (append-nil (opening_signs first.lists)) ∙ ap (λ (zs : List Sign). opening_signs first.lists ++ zs) (sym none) ∙ sym g.1) ∙ run-whole t)
     ]
 
 -- ---- one fault
@@ -240,12 +240,12 @@ no_fault bytes tree n fault read first =
 abbrev some_fault : AdvFault → Option AdvFault
 some_fault f = Some f
 
-same_fault : (bytes : List ℕ) (f g : AdvFault) (a : IsFirstFault bytes f) (b : IsFirstFault bytes g) (zs : List Sign) → opening b.lists ≡ opening a.lists ++ zs → Begins a.rest zs b.rest → f ≡ g
+same_fault : (bytes : List ℕ) (f g : AdvFault) (a : IsFirstAdvFault bytes f) (b : IsFirstAdvFault bytes g) (zs : List Sign) → opening_signs b.lists ≡ opening_signs a.lists ++ zs → Begins a.rest zs b.rest → f ≡ g
 same_fault bytes f g a b zs parts goes =
-    let none = stopped bytes a.rest b.rest a.lists a.found f zs (opening b.lists) a.stands a.is parts goes
+    let none = stopped bytes a.rest b.rest a.lists a.found f zs (opening_signs b.lists) a.stands a.is parts goes
     (λ e. going-astray (length b.lists) (sym (run-open b.lists) ∙ e)) (omega (arith, deepest-open b.lists, length-le-open_depth b.lists, b.shallow)) in
     let rest : a.rest ≡ b.rest = subst (λ (ws : List Sign). Begins a.rest ws b.rest) none goes in
-    let same-signs : opening b.lists ≡ opening a.lists = parts ∙ ap (λ (ws : List Sign). opening a.lists ++ ws) none ∙ append-nil (opening a.lists) in
+    let same-signs : opening_signs b.lists ≡ opening_signs a.lists = parts ∙ ap (λ (ws : List Sign). opening_signs a.lists ++ ws) none ∙ append-nil (opening_signs a.lists) in
     let counts : going (length b.lists) ≡ going (length a.lists) = sym (run-open b.lists) ∙ ap (run 0) same-signs ∙ run-open a.lists in
     let count : length b.lists ≡ length a.lists = cc in
     let found : b.found ≡ a.found =
@@ -273,7 +273,7 @@ same_expression bytes a b m n h k zs parts goes =
 
 -- ---- the law
 
-pub one_answer : (bytes : List ℕ) (a b : Result (Sexp × ℕ) AdvFault) → Reads bytes a → Reads bytes b → a ≡ b
+pub one_answer : (bytes : List ℕ) (a b : Result (Sexp × ℕ) AdvFault) → ReadsAdvanced bytes a → ReadsAdvanced bytes b → a ≡ b
 one_answer bytes (Ok x) (Ok y) h k =
     elim (one_way bytes (signs (tree_of x.0)) (signs (tree_of y.0)) (drop x.1 bytes) (drop y.1 bytes) h.spelled k.spelled) [
       | inl g ↦ let s = same_expression bytes x.0 y.0 x.1 y.1 h k g.0 g.1 g.2 in λ i. Ok (s.0 i, s.1 i)
@@ -282,14 +282,14 @@ one_answer bytes (Ok x) (Ok y) h k =
 one_answer bytes (Ok x) (Err g) h first = absurd (no_fault bytes x.0 x.1 g h first)
 one_answer bytes (Err f) (Ok y) first k = absurd (no_fault bytes y.0 y.1 f k first)
 one_answer bytes (Err f) (Err g) a b =
-    elim (one_way bytes (opening a.lists) (opening b.lists) a.rest b.rest a.begins b.begins) [
+    elim (one_way bytes (opening_signs a.lists) (opening_signs b.lists) a.rest b.rest a.begins b.begins) [
       | inl way ↦ ap Err (same_fault bytes f g a b way.0 way.1 way.2)
       | inr way ↦ ap Err (sym (same_fault bytes g f b a way.0 way.1 way.2))
     ]
 
 -- an answer that is one of those of the bytes is the only one
-pub only : (bytes : List ℕ) (r : Result (Sexp × ℕ) AdvFault) → IfOk r (λ read. IsExpression bytes read.0 read.1) → IfErr r (λ fault. (fault ≡ NoMemory) ⊎ IsFirstFault bytes fault)
-    → (answer : Result (Sexp × ℕ) AdvFault) → Reads bytes answer → (r ≡ Err NoMemory) ⊎ (r ≡ answer)
+pub only : (bytes : List ℕ) (r : Result (Sexp × ℕ) AdvFault) → IfOk r (λ read. IsExpression bytes read.0 read.1) → IfErr r (λ fault. (fault ≡ NoMemory) ⊎ IsFirstAdvFault bytes fault)
+    → (answer : Result (Sexp × ℕ) AdvFault) → ReadsAdvanced bytes answer → (r ≡ Err NoMemory) ⊎ (r ≡ answer)
 only bytes (Ok read) found failed answer h = inr (one_answer bytes (Ok read) answer found h)
 only bytes (Err fault) found (inl memory) answer h = inl (ap Err memory)
 only bytes (Err fault) found (inr first) answer h = inr (one_answer bytes (Err fault) answer first h)

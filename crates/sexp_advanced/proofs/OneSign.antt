@@ -2,7 +2,7 @@
 use Rattle.std.proofs.Common.{◌≡◌, ℕ, zero, suc, ◌≤◌, Bool, true, false, cond, List, [], ◌∷◌, length, take, drop, Some, Result, Ok, Err, refl, sym, ap, subst, ◌∙◌, ◌⊎◌, inl, inr, arith, length-append}
 use Rattle.std.specs.Prelude.{IfErr}
 use Rattle.sexp_canonical.specs.Spelling.{numeral, spelling_of}
-use Rattle.sexp_canonical.specs.Reading.{Reads as ReadsCanonical}
+use Rattle.sexp_canonical.specs.Reading.{ReadsCanonical}
 use Rattle.sexp_canonical.specs.declared.tree.Sexp.{Sexp}
 use Rattle.sexp_canonical.specs.declared.tree.Sexp.TheVariants.{Atom as Atomic, List as Listed}
 use Rattle.sexp_canonical.specs.declared.fault.SexpFault.{SexpFault}

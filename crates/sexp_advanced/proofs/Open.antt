@@ -13,7 +13,7 @@ use Rattle.sexp_canonical.specs.declared.tree.Sexp.{Sexp}
 use Rattle.sexp_canonical.proofs.Depths.{deeper-more, deeper-new, deeper-outer, deeper-last, length-le-open_depth}
 use Rattle.sexp_advanced.specs.Bytes.{is_space_byte, without_front}
 use Rattle.sexp_advanced.specs.Signs.{sign, IsAt}
-use Rattle.sexp_advanced.specs.Reading.{signs, row_signs, opening, Begins, IsExpression, IsFirstFault, sign_fault, place_of}
+use Rattle.sexp_advanced.specs.Reading.{signs, row_signs, opening_signs, Begins, IsExpression, IsFirstAdvFault, sign_fault, place_of}
 use Rattle.sexp_advanced.specs.Steps.{HasNoSign, Adds}
 use Rattle.sexp_advanced.specs.declared.signs.Sign.{Sign}
 use Rattle.sexp_advanced.specs.declared.signs.Sign.TheVariants.{Open, Close, Atom}
@@ -55,30 +55,30 @@ end_drop rest text (inr h) = behind_drop rest text h
 
 -- ---- the signs of the open lists
 
-opening-append : (xs ys : OpenLists) → opening (xs ++ ys) ≡ opening xs ++ opening ys
+opening-append : (xs ys : OpenLists) → opening_signs (xs ++ ys) ≡ opening_signs xs ++ opening_signs ys
 opening-append [] ys = refl
 opening-append (items ∷ xs) ys =
-    ap (λ (s : List Sign). Open ∷ (flat_map signs items ++ s)) (opening-append xs ys) ∙ ap (λ (s : List Sign). Open ∷ s) (sym (append_assoc (flat_map signs items) (opening xs) (opening ys)))
+    ap (λ (s : List Sign). Open ∷ (flat_map signs items ++ s)) (opening-append xs ys) ∙ ap (λ (s : List Sign). Open ∷ s) (sym (append_assoc (flat_map signs items) (opening_signs xs) (opening_signs ys)))
 
-opening-last : (outer : OpenLists) (items : List Tree) → opening (outer ++ items ∷ []) ≡ opening outer ++ Open ∷ flat_map signs items
-opening-last outer items = opening-append outer (items ∷ []) ∙ ap (λ (s : List Sign). opening outer ++ Open ∷ s) (append-nil (flat_map signs items))
+opening-last : (outer : OpenLists) (items : List Tree) → opening_signs (outer ++ items ∷ []) ≡ opening_signs outer ++ Open ∷ flat_map signs items
+opening-last outer items = opening-append outer (items ∷ []) ∙ ap (λ (s : List Sign). opening_signs outer ++ Open ∷ s) (append-nil (flat_map signs items))
 
 flat_map-last : (items : List Tree) (t : Tree) → flat_map signs (items ++ t ∷ []) ≡ flat_map signs items ++ signs t
 flat_map-last items t = flat_map-append signs items (t ∷ []) ∙ ap (λ (s : List Sign). flat_map signs items ++ s) (flat_map-cons signs t [] ∙ append-nil (signs t))
 
-opening-more : (outer : OpenLists) (items : List Tree) (t : Tree) → opening (outer ++ (items ++ t ∷ []) ∷ []) ≡ opening (outer ++ items ∷ []) ++ signs t
+opening-more : (outer : OpenLists) (items : List Tree) (t : Tree) → opening_signs (outer ++ (items ++ t ∷ []) ∷ []) ≡ opening_signs (outer ++ items ∷ []) ++ signs t
 opening-more outer items t =
-    opening-last outer (items ++ t ∷ []) ∙ ap (λ (s : List Sign). opening outer ++ Open ∷ s) (flat_map-last items t)
-    ∙ sym (append_assoc (opening outer) (Open ∷ flat_map signs items) (signs t)) ∙ ap (λ (s : List Sign). s ++ signs t) (sym (opening-last outer items))
+    opening-last outer (items ++ t ∷ []) ∙ ap (λ (s : List Sign). opening_signs outer ++ Open ∷ s) (flat_map-last items t)
+    ∙ sym (append_assoc (opening_signs outer) (Open ∷ flat_map signs items) (signs t)) ∙ ap (λ (s : List Sign). s ++ signs t) (sym (opening-last outer items))
 
 row_signs-row : (ts : List Tree) → row_signs (row ts) ≡ flat_map signs ts
 row_signs-row [] = refl
 row_signs-row (t ∷ ts) = ap (λ (s : List Sign). signs t ++ s) (row_signs-row ts) ∙ sym (flat_map-cons signs t ts)
 
-closed-list : (outer : OpenLists) (items : List Tree) → opening (outer ++ items ∷ []) ++ Close ∷ [] ≡ opening outer ++ signs (list_of items)
+closed-list : (outer : OpenLists) (items : List Tree) → opening_signs (outer ++ items ∷ []) ++ Close ∷ [] ≡ opening_signs outer ++ signs (list_of items)
 closed-list outer items =
-    ap (λ (s : List Sign). s ++ Close ∷ []) (opening-last outer items) ∙ append_assoc (opening outer) (Open ∷ flat_map signs items) (Close ∷ [])
-    ∙ ap (λ (s : List Sign). opening outer ++ Open ∷ (s ++ Close ∷ [])) (sym (row_signs-row items))
+    ap (λ (s : List Sign). s ++ Close ∷ []) (opening-last outer items) ∙ append_assoc (opening_signs outer) (Open ∷ flat_map signs items) (Close ∷ [])
+    ∙ ap (λ (s : List Sign). opening_signs outer ++ Open ∷ (s ++ Close ∷ [])) (sym (row_signs-row items))
 
 length-last : (outer : OpenLists) (items : List Tree) → length (outer ++ items ∷ []) ≡ length outer + 1
 length-last [] items = omega arith
@@ -89,25 +89,25 @@ length-last (o ∷ outer) items = omega (arith, length-last outer items)
 -- the text begins with the signs of the open lists
 pub record IsOpenAt (text : List ℕ) (lists : OpenLists) (rest : List ℕ) : Type 0 where
   pub shallow : open_depth lists ≤ most_depth
-  pub begins : Begins text (opening lists) rest
+  pub begins : Begins text (opening_signs lists) rest
 
 -- and with those of a tree behind them
 record IsFinished (text : List ℕ) (lists : OpenLists) (tree : Tree) (rest : List ℕ) : Type 0 where
   shallow : open_depth lists ≤ most_depth
   fits : length lists + depth tree ≤ most_depth
-  begins : Begins text (opening lists ++ signs tree) rest
+  begins : Begins text (opening_signs lists ++ signs tree) rest
 
 pub at_front : (text : List ℕ) → IsOpenAt text [] text
 at_front text = record { shallow = omega arith; begins = refl }
 
 pub rest_shorter : (text : List ℕ) (lists : OpenLists) (rest : List ℕ) → IsOpenAt text lists rest → length rest ≤ length text
-rest_shorter text lists rest at = end_shorter rest text (begins_end text (opening lists) rest at.begins)
+rest_shorter text lists rest at = end_shorter rest text (begins_end text (opening_signs lists) rest at.begins)
 
 atom_finished : (text : List ℕ) (lists : OpenLists) (rest more bytes : List ℕ) → IsOpenAt text lists rest → IsAt (without_front is_space_byte rest) (sign (Atom bytes) more) → IsFinished text lists (leaf bytes) more
 atom_finished text lists rest more bytes at here = record {
   shallow = at.shallow;
   fits = let s = at.shallow in omega (arith, length-le-open_depth lists);
-  begins = begins_one text rest more (opening lists) (Atom bytes) at.begins here;
+  begins = begins_one text rest more (opening_signs lists) (Atom bytes) at.begins here;
 }
 
 list_finished : (text : List ℕ) (outer : OpenLists) (items : List Tree) (rest more : List ℕ) → IsOpenAt text (outer ++ items ∷ []) rest → IsAt (without_front is_space_byte rest) (sign Close more)
@@ -115,13 +115,13 @@ list_finished : (text : List ℕ) (outer : OpenLists) (items : List Tree) (rest 
 list_finished text outer items rest more at here = record {
   shallow = let s = at.shallow in omega (arith, deeper-outer outer items);
   fits = let s = at.shallow in omega (arith, deeper-last outer items);
-  begins = subst (λ (xs : List Sign). Begins text xs more) (closed-list outer items) (begins_one text rest more (opening (outer ++ items ∷ [])) Close at.begins here);
+  begins = subst (λ (xs : List Sign). Begins text xs more) (closed-list outer items) (begins_one text rest more (opening_signs (outer ++ items ∷ [])) Close at.begins here);
 }
 
 list_opened : (text : List ℕ) (lists : OpenLists) (rest more : List ℕ) → IsOpenAt text lists rest → IsAt (without_front is_space_byte rest) (sign Open more) → (length lists ≡ most_depth → ⊥) → IsOpenAt text (lists ++ [] ∷ []) more
 list_opened text lists rest more at here room = record {
   shallow = let s = at.shallow in let l = length-le-open_depth lists in let less : length lists < most_depth = omega arith in omega (arith, deeper-new lists);
-  begins = subst (λ (xs : List Sign). Begins text xs more) (sym (opening-last lists [])) (begins_one text rest more (opening lists) Open at.begins here);
+  begins = subst (λ (xs : List Sign). Begins text xs more) (sym (opening-last lists [])) (begins_one text rest more (opening_signs lists) Open at.begins here);
 }
 
 -- what has been read where a sign more is taken: the open lists, or the whole
@@ -142,10 +142,10 @@ tree_added text old new t more None done adds =
           let e = ap open_depth adds.after in
           omega (arith, deeper-more outer items t);
       begins = subst (λ (xs : List Sign). Begins text xs more)
-          (ap (λ (ls : OpenLists). opening ls ++ signs t) adds.before ∙ sym (opening-more outer items t) ∙ ap opening (sym adds.after)) done.begins;
+          (ap (λ (ls : OpenLists). opening_signs ls ++ signs t) adds.before ∙ sym (opening-more outer items t) ∙ ap opening_signs (sym adds.after)) done.begins;
     }
 tree_added text old new t more (Some whole) done (none, same) =
-    let whole-signs : opening old ++ signs t ≡ signs (tree_of whole) = ap (λ (ls : OpenLists). opening ls ++ signs t) none ∙ ap signs (sym same) in
+    let whole-signs : opening_signs old ++ signs t ≡ signs (tree_of whole) = ap (λ (ls : OpenLists). opening_signs ls ++ signs t) none ∙ ap signs (sym same) in
     let begins : Begins text (signs (tree_of whole)) more = subst (λ (xs : List Sign). Begins text xs more) whole-signs done.begins in
     let end = begins_end text (signs (tree_of whole)) more begins in
     let f = done.fits in
@@ -166,11 +166,11 @@ sign_taken text old new rest more (Atom bytes) r at here adds = tree_added text 
 -- ---- faults
 
 pub sign_refused : (text : List ℕ) (lists : OpenLists) (rest more : List ℕ) (s : Sign) (fault : AdvFault) → IsOpenAt text lists rest → IsAt (without_front is_space_byte rest) (sign s more)
-    → sign_fault (place_of text (without_front is_space_byte rest)) (length lists) s ≡ Some fault → IsFirstFault text fault
+    → sign_fault (place_of text (without_front is_space_byte rest)) (length lists) s ≡ Some fault → IsFirstAdvFault text fault
 sign_refused text lists rest more s fault at here is = record { lists = lists; shallow = at.shallow; rest = rest; begins = at.begins; found = sign s more; stands = here; is = is }
 
 pub no_sign_here : (text : List ℕ) (lists : OpenLists) (rest : List ℕ) (fault : AdvFault) → IsOpenAt text lists rest
-    → HasNoSign (IsAt (without_front is_space_byte rest)) (place_of text (without_front is_space_byte rest)) fault → IsFirstFault text fault
+    → HasNoSign (IsAt (without_front is_space_byte rest)) (place_of text (without_front is_space_byte rest)) fault → IsFirstAdvFault text fault
 no_sign_here text lists rest fault at h = record { lists = lists; shallow = at.shallow; rest = rest; begins = at.begins; found = h.found; stands = h.stands; is = h.is (length lists) }
 
 -- ---- the steps of the loop

@@ -5,7 +5,7 @@ use Rattle.std.specs.Int.{is_in_range}
 use Rattle.std.specs.Char.{is_ascii_digit}
 use Rattle.std.proofs.lemmas.List.{append-nil, take-append-le}
 use Rattle.sexp_canonical.specs.Spelling.{most_bytes, numeral, IsReadable}
-use Rattle.sexp_canonical.specs.Reading.{opening as opening_bytes, item_fault, length_fault, IsFaultAt, IsFirstFault as IsCanonicalFault, Reads as ReadsCanonical}
+use Rattle.sexp_canonical.specs.Reading.{opening_bytes, item_fault, length_fault, IsFaultAt, IsFirstSexpFault, ReadsCanonical}
 use Rattle.sexp_canonical.specs.declared.tree.Sexp.{Sexp}
 use Rattle.sexp_canonical.specs.declared.tree.Sexp.TheVariants.{Atom as Atomic, List as Listed}
 use Rattle.sexp_canonical.specs.declared.fault.SexpFault.{SexpFault}
@@ -13,7 +13,7 @@ use Rattle.sexp_canonical.specs.declared.fault.SexpFault.TheVariants.{Short as C
 use Rattle.sexp_advanced.specs.Bytes.{is_space_byte, hex_value, class_of, without_front}
 use Rattle.sexp_advanced.specs.Pieces.{Piece, byte, close, broken, cut, low_digit, pair_here, pair, hex_escape, is_octal, third_octal, second_octal, letter, escape, quoted_piece, piece_at}
 use Rattle.sexp_advanced.specs.Signs.{Found, sign, broken_atom, ended, no_item, Spells, outcome, IsDelimited, verbatim, verbatim_tree, verbatim_fault, IsVerbatim, IsOf, IsAt}
-use Rattle.sexp_advanced.specs.Reading.{opening, Begins, IsFirstFault, fault_of, place_of}
+use Rattle.sexp_advanced.specs.Reading.{opening_signs, Begins, IsFirstAdvFault, fault_of, place_of}
 use Rattle.sexp_advanced.specs.Writing.{EndsToken}
 use Rattle.sexp_advanced.specs.declared.bytes.Class.{Class}
 use Rattle.sexp_advanced.specs.declared.bytes.Class.TheVariants.{Opens, Closes, Hexadecimal, Quoted, Verbatim, Token, Nothing}
@@ -194,7 +194,7 @@ canonical_at place lists_open bytes u fault other (inr h) = inr (record {
   at = canonical_length place h.count h.after u fault other h.at;
 })
 
-canonical_stays : (text u : List ℕ) (fault : SexpFault) → (fault ≡ CanonicalShort → ⊥) → IsCanonicalFault text fault → IsCanonicalFault (text ++ u) fault
+canonical_stays : (text u : List ℕ) (fault : SexpFault) → (fault ≡ CanonicalShort → ⊥) → IsFirstSexpFault text fault → IsFirstSexpFault (text ++ u) fault
 canonical_stays text u fault other h = record {
   lists = h.lists;
   shallow = h.shallow;
@@ -219,7 +219,7 @@ verbatim_answer_stays : (text x : List ℕ) (answer : Result (Sexp × ℕ) SexpF
 verbatim_answer_stays text x (Ok read) h e = verbatim_whole text read x read.0 h e
 verbatim_answer_stays text x (Err fault) h e = record {
   answer = Err fault;
-  reads = subst (λ (t : List ℕ). IsCanonicalFault t fault) (sym (take_more x most_bytes text)) (canonical_stays (take most_bytes text) (take (most_bytes - length text) x) fault (not_short fault e) h);
+  reads = subst (λ (t : List ℕ). IsFirstSexpFault t fault) (sym (take_more x most_bytes text)) (canonical_stays (take most_bytes text) (take (most_bytes - length text) x) fault (not_short fault e) h);
   is = e;
 }
 
@@ -299,11 +299,11 @@ still_ends : (rest x : List ℕ) (b : ℕ) (w : List ℕ) → without_front is_s
 still_ends [] x b w e h = absurd cc
 still_ends (c ∷ rest) x b w e h = h
 
-pub first_fault_stays : (text x : List ℕ) (fault : AdvFault) → (fault ≡ Short → ⊥) → IsFirstFault text fault → IsFirstFault (text ++ x) fault
+pub first_fault_stays : (text x : List ℕ) (fault : AdvFault) → (fault ≡ Short → ⊥) → IsFirstAdvFault text fault → IsFirstAdvFault (text ++ x) fault
 first_fault_stays text x fault other h =
     let place = place_of text (without_front is_space_byte h.rest) in
     let there = at_still x place (length h.lists) fault other (without_front is_space_byte h.rest) h.rest h.found refl h.stands h.is in
-    let front = end_front h.rest text (begins_end text (opening h.lists) h.rest h.begins) in
+    let front = end_front h.rest text (begins_end text (opening_signs h.lists) h.rest h.begins) in
     let longer = front_more x is_space_byte h.rest there.0 there.1 there.2 in
     let same : place_of (text ++ x) (without_front is_space_byte (h.rest ++ x)) ≡ place =
     omega (arith, ap length longer, ap length there.2, length-append text x, length-append there.1 x) in
@@ -312,8 +312,8 @@ first_fault_stays text x fault other h =
       lists = h.lists;
       shallow = h.shallow;
       rest = h.rest ++ x;
-      begins = subst (λ (t : List ℕ). Begins t (opening h.lists) (h.rest ++ x)) whole
-          (begins_swaps h.rest (h.rest ++ x) (still_ends h.rest x there.0 there.1 there.2) (opening h.lists) front.0 (subst (λ (t : List ℕ). Begins t (opening h.lists) h.rest) front.1 h.begins));
+      begins = subst (λ (t : List ℕ). Begins t (opening_signs h.lists) (h.rest ++ x)) whole
+          (begins_swaps h.rest (h.rest ++ x) (still_ends h.rest x there.0 there.1 there.2) (opening_signs h.lists) front.0 (subst (λ (t : List ℕ). Begins t (opening_signs h.lists) h.rest) front.1 h.begins));
       found = there.3.0;
       stands = there.3.1;
       is = ap (λ (p : ℕ). fault_of p (length h.lists) there.3.0) same ∙ there.3.2;

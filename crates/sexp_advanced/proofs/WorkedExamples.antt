@@ -8,7 +8,7 @@ use Rattle.sexp_canonical.specs.declared.fault.SexpFault.TheVariants.{BadLength 
 use Rattle.sexp_advanced.specs.Bytes.{is_space_byte, is_token_mark, is_token_start, is_token_byte, hex_value, class_of}
 use Rattle.sexp_advanced.specs.Pieces.{byte, close, broken, cut, low_digit, pair_here, pair, hex_escape, third_octal, second_octal, letter, escape, quoted_piece, piece_at}
 use Rattle.sexp_advanced.specs.Signs.{sign, broken_atom, ended, no_item}
-use Rattle.sexp_advanced.specs.Reading.{opening, Begins, Reads}
+use Rattle.sexp_advanced.specs.Reading.{opening_signs, Begins, ReadsAdvanced}
 use Rattle.sexp_advanced.specs.Writing.{advanced_of}
 use Rattle.sexp_advanced.specs.declared.pieces.Form.TheVariants.{Quoted}
 use Rattle.sexp_advanced.specs.declared.signs.Sign.TheVariants.{Open, Close}
@@ -51,12 +51,12 @@ cuts = (refl, refl, refl, refl, refl, refl)
 -- ---- items
 
 -- ` d)`: a blank, and a token that ends before `)`
-a_token : Reads (32 ∷ 100 ∷ 45 ∷ 48 ∷ 41 ∷ []) (Ok (Atomic (100 ∷ 45 ∷ 48 ∷ []), 4))
+a_token : ReadsAdvanced (32 ∷ 100 ∷ 45 ∷ 48 ∷ 41 ∷ []) (Ok (Atomic (100 ∷ 45 ∷ 48 ∷ []), 4))
 unfolding is_space_byte class_of is_token_mark is_token_start is_token_byte
 a_token = record { within = omega arith; shallow = omega arith; spelled = (41 ∷ [], refl, refl) }
 
 -- `# 4 4#`: blanks between the two digits of a pair too
-blanks_in_hexadecimal : Reads (35 ∷ 32 ∷ 52 ∷ 32 ∷ 52 ∷ 35 ∷ []) (Ok (Atomic (68 ∷ []), 6))
+blanks_in_hexadecimal : ReadsAdvanced (35 ∷ 32 ∷ 52 ∷ 32 ∷ 52 ∷ 35 ∷ []) (Ok (Atomic (68 ∷ []), 6))
 unfolding is_space_byte class_of pair pair_here low_digit hex_value
 blanks_in_hexadecimal = record {
   within = omega arith;
@@ -65,7 +65,7 @@ blanks_in_hexadecimal = record {
 }
 
 -- `("Q"2:a b)`: a quoted text, and a canonical atom beside it without a blank
-a_list : Reads (40 ∷ 34 ∷ 81 ∷ 34 ∷ 50 ∷ 58 ∷ 97 ∷ 32 ∷ 41 ∷ []) (Ok (Listed (leaf (81 ∷ []) ∷ leaf (97 ∷ 32 ∷ []) ∷ []), 9))
+a_list : ReadsAdvanced (40 ∷ 34 ∷ 81 ∷ 34 ∷ 50 ∷ 58 ∷ 97 ∷ 32 ∷ 41 ∷ []) (Ok (Listed (leaf (81 ∷ []) ∷ leaf (97 ∷ 32 ∷ []) ∷ []), 9))
 unfolding is_space_byte class_of quoted_piece numeral
 a_list = record {
   within = omega arith;
@@ -93,16 +93,16 @@ a_list_written = refl
 -- ---- faults
 
 -- the bytes end at once
-nothing_there : Reads [] (Err Short)
+nothing_there : ReadsAdvanced [] (Err Short)
 nothing_there = record { lists = []; shallow = omega arith; rest = []; begins = refl; found = ended; stands = refl; is = refl }
 
 -- ` )`
-an_end_too_many : Reads (32 ∷ 41 ∷ []) (Err (BadByte 1))
+an_end_too_many : ReadsAdvanced (32 ∷ 41 ∷ []) (Err (BadByte 1))
 unfolding is_space_byte class_of
 an_end_too_many = record { lists = []; shallow = omega arith; rest = 32 ∷ 41 ∷ []; begins = refl; found = sign Close []; stands = refl; is = refl }
 
 -- `(a [`: the place of the byte
-no_display_hint : Reads (40 ∷ 97 ∷ 32 ∷ 91 ∷ []) (Err (BadByte 3))
+no_display_hint : ReadsAdvanced (40 ∷ 97 ∷ 32 ∷ 91 ∷ []) (Err (BadByte 3))
 unfolding is_space_byte class_of is_token_mark is_token_start is_token_byte
 no_display_hint = record {
   lists = (leaf (97 ∷ []) ∷ []) ∷ [];
@@ -115,7 +115,7 @@ no_display_hint = record {
 }
 
 -- `(#4`: cut off; ` #4#`: an odd count of digits, with the place of the first `#`
-cut_in_hexadecimal : Reads (40 ∷ 35 ∷ 52 ∷ []) (Err Short)
+cut_in_hexadecimal : ReadsAdvanced (40 ∷ 35 ∷ 52 ∷ []) (Err Short)
 unfolding is_space_byte class_of pair pair_here low_digit hex_value
 cut_in_hexadecimal = record {
   lists = [] ∷ [];
@@ -127,7 +127,7 @@ cut_in_hexadecimal = record {
   is = refl;
 }
 
-an_odd_digit : Reads (32 ∷ 35 ∷ 52 ∷ 35 ∷ []) (Err (BadAtom 1))
+an_odd_digit : ReadsAdvanced (32 ∷ 35 ∷ 52 ∷ 35 ∷ []) (Err (BadAtom 1))
 unfolding is_space_byte class_of pair pair_here low_digit hex_value
 an_odd_digit = record {
   lists = [];
@@ -140,7 +140,7 @@ an_odd_digit = record {
 }
 
 -- `"a` and LF: the place of the quote
-a_bare_line_feed : Reads (34 ∷ 97 ∷ 10 ∷ []) (Err (BadAtom 0))
+a_bare_line_feed : ReadsAdvanced (34 ∷ 97 ∷ 10 ∷ []) (Err (BadAtom 0))
 unfolding is_space_byte class_of quoted_piece
 a_bare_line_feed = record {
   lists = [];
@@ -153,7 +153,7 @@ a_bare_line_feed = record {
 }
 
 -- `03:`: a canonical length with a zero in front
-a_leading_zero : Reads (48 ∷ 51 ∷ 58 ∷ []) (Err (BadAtom 0))
+a_leading_zero : ReadsAdvanced (48 ∷ 51 ∷ 58 ∷ []) (Err (BadAtom 0))
 unfolding is_space_byte class_of numeral length_fault
 a_leading_zero = record {
   lists = [];
@@ -180,15 +180,15 @@ a_leading_zero = record {
 no_lists : ℕ → OpenLists
 no_lists n = replicate n []
 
-opened : (n : ℕ) (rest : List ℕ) → Begins (replicate n 40 ++ rest) (opening (no_lists n)) rest
+opened : (n : ℕ) (rest : List ℕ) → Begins (replicate n 40 ++ rest) (opening_signs (no_lists n)) rest
 unfolding is_space_byte class_of no_lists
 opened zero rest = refl
 opened (suc n) rest = (replicate n 40 ++ rest, refl, opened n rest)
 
-as_deep_as_may_be : Reads (replicate 64 40) (Err Short)
+as_deep_as_may_be : ReadsAdvanced (replicate 64 40) (Err Short)
 unfolding no_lists
 as_deep_as_may_be = record { lists = no_lists 64; shallow = omega arith; rest = []; begins = opened 64 []; found = ended; stands = refl; is = refl }
 
-one_too_many : Reads (replicate 65 40) (Err (Deep 64))
+one_too_many : ReadsAdvanced (replicate 65 40) (Err (Deep 64))
 unfolding is_space_byte class_of no_lists
 one_too_many = record { lists = no_lists 64; shallow = omega arith; rest = 40 ∷ []; begins = opened 64 (40 ∷ []); found = sign Open []; stands = refl; is = refl }

@@ -36,9 +36,9 @@ pub record IsExpression (bytes : List ℕ) (tree : Sexp) (n : ℕ) : Type 0 wher
   pub spelled : Begins bytes (signs (tree_of tree)) (drop n bytes)
 
 -- the signs before a place where an item may begin, by the open lists with their items so far
-abbrev pub opening : OpenLists → List Sign
-opening [] = []
-opening (items ∷ inner) = Open ∷ flat_map signs items ++ opening inner
+abbrev pub opening_signs : OpenLists → List Sign
+opening_signs [] = []
+opening_signs (items ∷ inner) = Open ∷ flat_map signs items ++ opening_signs inner
 
 -- the fault of a sign at a place, where so many lists are open
 abbrev pub sign_fault : (place lists_open : ℕ) → Sign → Option AdvFault
@@ -58,15 +58,15 @@ abbrev pub place_of : (text rest : List ℕ) → ℕ
 place_of text rest = length text - length rest
 
 -- All is well up to some place where an item may begin, and the fault is that of what stands there, behind any blanks.
-pub record IsFirstFault (text : List ℕ) (fault : AdvFault) : Type 0 where
+pub record IsFirstAdvFault (text : List ℕ) (fault : AdvFault) : Type 0 where
   pub lists : OpenLists
   pub shallow : open_depth lists ≤ most_depth
   pub rest : List ℕ
-  pub begins : Begins text (opening lists) rest
+  pub begins : Begins text (opening_signs lists) rest
   pub found : Found
   pub stands : IsAt (without_front is_space_byte rest) found
   pub is : fault_of (place_of text (without_front is_space_byte rest)) (length lists) found ≡ Some fault
 
-abbrev pub Reads : List ℕ → Result (Sexp × ℕ) AdvFault → Type 0
-Reads bytes (Ok read) = IsExpression bytes read.0 read.1
-Reads bytes (Err fault) = IsFirstFault bytes fault
+abbrev pub ReadsAdvanced : List ℕ → Result (Sexp × ℕ) AdvFault → Type 0
+ReadsAdvanced bytes (Ok read) = IsExpression bytes read.0 read.1
+ReadsAdvanced bytes (Err fault) = IsFirstAdvFault bytes fault

@@ -1,6 +1,6 @@
 -- What an item of a text is: a mark of a list, or an atom in one of its four forms.
 use Rattle.std.specs.Prelude.{◌≡◌, ℕ, List, [], ◌∷◌, drop, Option, Some, None, Result, Ok, Err}
-use Rattle.sexp_canonical.specs.Reading.{Reads as ReadsCanonical}
+use Rattle.sexp_canonical.specs.Reading.{ReadsCanonical}
 use Rattle.sexp_canonical.specs.declared.tree.Sexp.{Sexp}
 use Rattle.sexp_canonical.specs.declared.tree.Sexp.TheVariants.{Atom as Atomic, List as Listed}
 use Rattle.sexp_canonical.specs.declared.fault.SexpFault.{SexpFault}

@@ -3,7 +3,7 @@ ghost use Rattle.sexp_canonical.specs.View.{tree_of};
 ghost use Rattle.sexp_canonical.specs.Spelling.{most_depth, depth};
 ghost use Rattle.sexp_canonical.specs.declared.tree.Sexp.{Sexp};
 ghost use Rattle.sexp_advanced.specs.Bytes.{is_space_byte, without_front};
-ghost use Rattle.sexp_advanced.specs.Reading.{Reads, IsExpression, IsFirstFault};
+ghost use Rattle.sexp_advanced.specs.Reading.{ReadsAdvanced, IsExpression, IsFirstAdvFault};
 ghost use Rattle.sexp_advanced.specs.Writing.{advanced_of, EndsToken};
 ghost use Rattle.sexp_advanced.specs.Octets.{IsOfOctets};
 ghost use Rattle.sexp_advanced.specs.Signs.{sign, IsDelimited};
@@ -15,8 +15,8 @@ ghost use Rattle.sexp_advanced.specs.declared.fault.AdvFault.{AdvFault};
 /// What is to be answered for some bytes is determined: where an expression is read there is no
 /// fault, and the first fault is one.
 pub fn one_answer()
-    ensures { (bytes : List ℕ) (a b : Result (Sexp × ℕ) AdvFault) → Reads bytes a
-        → Reads bytes b → a ≡ b }
+    ensures { (bytes : List ℕ) (a b : Result (Sexp × ℕ) AdvFault) → ReadsAdvanced bytes a
+        → ReadsAdvanced bytes b → a ≡ b }
 {}
 
 /// What is written reads as the same expression, whatever blanks stand before it, and whatever
@@ -25,7 +25,7 @@ pub fn one_answer()
 pub fn written_is_read()
     ensures { (tree : Sexp) (blanks more : List ℕ)
         → without_front is_space_byte blanks ≡ [] → IsOfOctets (tree_of tree)
-        → depth (tree_of tree) ≤ most_depth → EndsToken more → Reads (blanks
+        → depth (tree_of tree) ≤ most_depth → EndsToken more → ReadsAdvanced (blanks
         ++ (advanced_of tree ++ more)) (Ok (tree, length (blanks ++ advanced_of tree))) }
 {}
 
@@ -40,7 +40,7 @@ pub fn what_follows_does_not_matter()
 /// cut off.
 pub fn first_faults_stay()
     ensures { (text more : List ℕ) (fault : AdvFault) → (fault ≡ AdvFault.Short → ⊥)
-        → IsFirstFault text fault → IsFirstFault (text ++ more) fault }
+        → IsFirstAdvFault text fault → IsFirstAdvFault (text ++ more) fault }
 {}
 
 /// The atoms between two marks are those of the grammar: the spellings of their bytes one after

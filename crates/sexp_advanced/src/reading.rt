@@ -7,7 +7,7 @@ ghost use Rattle.sexp_canonical.specs.declared.tree.Sexp.{Sexp};
 ghost use Rattle.sexp_advanced.specs.Bytes.{is_space_byte, without_front};
 ghost use Rattle.sexp_advanced.specs.Writing.{advanced_of, EndsToken};
 ghost use Rattle.sexp_advanced.specs.Octets.{IsOfOctets};
-ghost use Rattle.sexp_advanced.specs.Reading.{Reads, IsExpression, IsFirstFault, sign_fault};
+ghost use Rattle.sexp_advanced.specs.Reading.{ReadsAdvanced, IsExpression, IsFirstAdvFault, sign_fault};
 ghost use Rattle.sexp_advanced.specs.Steps.{Adds};
 ghost use Rattle.sexp_advanced.specs.declared.fault.AdvFault.{AdvFault};
 
@@ -31,11 +31,11 @@ pub fn read_advanced(alloc: Global, bytes: &[u8]) -> Result<(Sexp, usize), AdvFa
 
     // Else the fault is the first one from the left. Only a lack of memory may come at any time.
     ensures fault { IfErr result
-        (λ fault. (fault ≡ AdvFault.NoMemory) ⊎ IsFirstFault bytes.now fault) }
+        (λ fault. (fault ≡ AdvFault.NoMemory) ⊎ IsFirstAdvFault bytes.now fault) }
 
     // What the bytes say is the answer: no fault hides an expression, and no later fault an earlier
     // one. This follows from the first two by the law `one_answer`, and stands here for callers.
-    ensures only { (answer : Result (Sexp × ℕ) AdvFault) → Reads bytes.now answer
+    ensures only { (answer : Result (Sexp × ℕ) AdvFault) → ReadsAdvanced bytes.now answer
         → (result ≡ Err AdvFault.NoMemory) ⊎ (result ≡ answer) }
 
     // What is written within the limit is read, with any blanks before it, and anything behind it
@@ -51,7 +51,7 @@ pub fn read_advanced(alloc: Global, bytes: &[u8]) -> Result<(Sexp, usize), AdvFa
 fn read_front(alloc: Global, text: &[u8]) -> Result<(Sexp, usize), AdvFault>
     ensures found { IfOk result (λ read. IsExpression text.now read.0 read.1) }
     ensures fault { IfErr result
-        (λ fault. (fault ≡ AdvFault.NoMemory) ⊎ IsFirstFault text.now fault) }
+        (λ fault. (fault ≡ AdvFault.NoMemory) ⊎ IsFirstAdvFault text.now fault) }
 {
     let mut lists: Vec<Vec<Sexp>> = Vec::new(alloc);
     let mut rest = text;

@@ -4,7 +4,7 @@ ghost use Rattle.sexp_canonical.specs.Tree.{leaf, row};
 ghost use Rattle.sexp_canonical.specs.View.{tree_of, trees};
 ghost use Rattle.sexp_canonical.specs.Spelling.{most_depth, depth};
 ghost use Rattle.sexp_canonical.specs.Writing.{begun_lists};
-ghost use Rattle.sexp_advanced.specs.Reading.{Reads};
+ghost use Rattle.sexp_advanced.specs.Reading.{ReadsAdvanced};
 ghost use Rattle.sexp_advanced.specs.Writing.{advanced, advanced_of, is_token, are_token_bytes};
 ghost use Rattle.sexp_advanced.specs.Writing.{hex_pairs, hex_glyph};
 ghost use Rattle.sexp_advanced.specs.Octets.{AreOctets, IsOfOctets, AreOfOctets};
@@ -24,7 +24,7 @@ pub fn write_advanced(alloc: Global, tree: &Sexp) -> Result<Vec<u8>, AllocError>
     // What is written reads as the same expression, with the whole length, where no more lists are
     // open than reading takes.
     ensures again { IfOk result (λ text. depth (tree_of tree.now) ≤ most_depth
-        → Reads text.items (Ok (tree.now, length text.items))) }
+        → ReadsAdvanced text.items (Ok (tree.now, length text.items))) }
 
     // The atoms hold bytes, as the law `written_is_read` wants for more text behind it.
     ensures octets { IfOk result (λ text. IsOfOctets (tree_of tree.now)) }

@@ -6,7 +6,7 @@ use Rattle.std.proofs.lemmas.List.Concat.{flat_map-cons}
 use Rattle.std.specs.Char.{is_ascii_digit}
 use Rattle.sexp_canonical.specs.Tree.{Tree, Row, leaf, branch, end, item, row}
 use Rattle.sexp_canonical.specs.Spelling.{most_bytes, most_depth, numeral, spelling, spellings, depth, depths}
-use Rattle.sexp_canonical.specs.Reading.{OpenLists, opening, open_depth, item_fault, length_fault, IsFaultAt}
+use Rattle.sexp_canonical.specs.Reading.{OpenLists, opening_bytes, open_depth, item_fault, length_fault, IsFaultAt}
 use Rattle.sexp_canonical.specs.declared.fault.SexpFault.{SexpFault}
 use Rattle.sexp_canonical.specs.declared.fault.SexpFault.TheVariants.{BadLength}
 use Rattle.sexp_canonical.proofs.Numerals.{Ends, one_numeral}
@@ -106,8 +106,8 @@ one_fault_here bytes place lists_open f g (inr a) (inr b) =
 
 -- ---- under open lists
 
-opening_then : (items : List Tree) (inner : OpenLists) (x : List ℕ) → opening (items ∷ inner) ++ x ≡ 40 ∷ (flat_map spelling items ++ (opening inner ++ x))
-opening_then items inner x = ap (λ (s : List ℕ). 40 ∷ s) (append_assoc (flat_map spelling items) (opening inner) x)
+opening_then : (items : List Tree) (inner : OpenLists) (x : List ℕ) → opening_bytes (items ∷ inner) ++ x ≡ 40 ∷ (flat_map spelling items ++ (opening_bytes inner ++ x))
+opening_then items inner x = ap (λ (s : List ℕ). 40 ∷ s) (append_assoc (flat_map spelling items) (opening_bytes inner) x)
 
 items_then : (t : Tree) (ts : List Tree) (x : List ℕ) → flat_map spelling (t ∷ ts) ++ x ≡ spelling t ++ (flat_map spelling ts ++ x)
 items_then t ts x = ap (λ (s : List ℕ). s ++ x) (flat_map-cons spelling t ts) ∙ append_assoc (spelling t) (flat_map spelling ts) x
@@ -115,31 +115,31 @@ items_then t ts x = ap (λ (s : List ℕ). s ++ x) (flat_map-cons spelling t ts)
 -- no fault stands in these lists where a tree of at most this depth is spelled
 abbrev NoFaultIn : OpenLists → List ℕ → (place lists_open : ℕ) → SexpFault → ℕ → Type 0
 NoFaultIn inner bytes place lists_open fault k =
-    (t : Tree) (y : List ℕ) → opening inner ++ bytes ≡ spelling t ++ y → k + depth t ≤ most_depth → ⊥
+    (t : Tree) (y : List ℕ) → opening_bytes inner ++ bytes ≡ spelling t ++ y → k + depth t ≤ most_depth → ⊥
 
 no_fault_inside : (items : List Tree) (inner : OpenLists) (bytes y : List ℕ) (place lists_open k : ℕ) (fault : SexpFault) (r : Row)
-    → NoFaultIn inner bytes place lists_open fault k → flat_map spelling items ++ (opening inner ++ bytes) ≡ spellings r ++ 41 ∷ y
+    → NoFaultIn inner bytes place lists_open fault k → flat_map spelling items ++ (opening_bytes inner ++ bytes) ≡ spellings r ++ 41 ∷ y
     → 0 < k → k + depths r ≤ most_depth → lists_open ≡ k + length inner → IsFaultAt place lists_open bytes fault → ⊥
 no_fault_inside [] [] bytes y place lists_open k fault end deeper e within shallow count at = no_fault_at_close bytes y place lists_open fault e (omega arith) at
 no_fault_inside [] (items ∷ inner) bytes y place lists_open k fault end deeper e within shallow count at =
-    let same = first_is 40 41 (flat_map spelling items ++ (opening inner ++ bytes)) y (sym (opening_then items inner bytes) ∙ e) in omega arith
+    let same = first_is 40 41 (flat_map spelling items ++ (opening_bytes inner ++ bytes)) y (sym (opening_then items inner bytes) ∙ e) in omega arith
 no_fault_inside [] inner bytes y place lists_open k fault (item t r) deeper e within shallow count at =
     deeper t (spellings r ++ 41 ∷ y) (e ∙ item_then t r (41 ∷ y)) (omega arith)
 no_fault_inside (i ∷ items) inner bytes y place lists_open k fault end deeper e within shallow count at =
-    no_end i (flat_map spelling items ++ (opening inner ++ bytes)) y (sym (items_then i items (opening inner ++ bytes)) ∙ e)
+    no_end i (flat_map spelling items ++ (opening_bytes inner ++ bytes)) y (sym (items_then i items (opening_bytes inner ++ bytes)) ∙ e)
 no_fault_inside (i ∷ items) inner bytes y place lists_open k fault (item t r) deeper e within shallow count at =
-    let cut = one_spelling i t (flat_map spelling items ++ (opening inner ++ bytes)) (spellings r ++ 41 ∷ y) (sym (items_then i items (opening inner ++ bytes)) ∙ e ∙ item_then t r (41 ∷ y)) in
+    let cut = one_spelling i t (flat_map spelling items ++ (opening_bytes inner ++ bytes)) (spellings r ++ 41 ∷ y) (sym (items_then i items (opening_bytes inner ++ bytes)) ∙ e ∙ item_then t r (41 ∷ y)) in
     no_fault_inside items inner bytes y place lists_open k fault r deeper cut.1 within (omega arith) count at
 
-pub no_fault : (lists : OpenLists) (bytes : List ℕ) (place lists_open k : ℕ) (fault : SexpFault) → length (opening lists ++ bytes) ≤ most_bytes → lists_open ≡ k + length lists → IsFaultAt place lists_open bytes fault
+pub no_fault : (lists : OpenLists) (bytes : List ℕ) (place lists_open k : ℕ) (fault : SexpFault) → length (opening_bytes lists ++ bytes) ≤ most_bytes → lists_open ≡ k + length lists → IsFaultAt place lists_open bytes fault
     → NoFaultIn lists bytes place lists_open fault k
 no_fault [] bytes place lists_open k fault short count at t y e shallow = no_fault_here t bytes y place lists_open fault e short (omega arith) at
 no_fault (items ∷ inner) bytes place lists_open k fault short count at (leaf b) y e shallow =
-    no_numeral (length b) 40 (58 ∷ (b ++ y)) (flat_map spelling items ++ (opening inner ++ bytes)) refl (sym (leaf_then b y) ∙ sym e ∙ opening_then items inner bytes)
+    no_numeral (length b) 40 (58 ∷ (b ++ y)) (flat_map spelling items ++ (opening_bytes inner ++ bytes)) refl (sym (leaf_then b y) ∙ sym e ∙ opening_then items inner bytes)
 no_fault (items ∷ inner) bytes place lists_open k fault short count at (branch r) y e shallow =
-    let whole : 40 ∷ (flat_map spelling items ++ (opening inner ++ bytes)) ≡ 40 ∷ (spellings r ++ 41 ∷ y) = sym (opening_then items inner bytes) ∙ e ∙ branch_then r y in
-    let inside = rest_is 40 40 (flat_map spelling items ++ (opening inner ++ bytes)) (spellings r ++ 41 ∷ y) whole in
-    let len : length (opening inner ++ bytes) ≤ most_bytes = omega (arith, ap length (opening_then items inner bytes), length-append (flat_map spelling items) (opening inner ++ bytes)) in
+    let whole : 40 ∷ (flat_map spelling items ++ (opening_bytes inner ++ bytes)) ≡ 40 ∷ (spellings r ++ 41 ∷ y) = sym (opening_then items inner bytes) ∙ e ∙ branch_then r y in
+    let inside = rest_is 40 40 (flat_map spelling items ++ (opening_bytes inner ++ bytes)) (spellings r ++ 41 ∷ y) whole in
+    let len : length (opening_bytes inner ++ bytes) ≤ most_bytes = omega (arith, ap length (opening_then items inner bytes), length-append (flat_map spelling items) (opening_bytes inner ++ bytes)) in
     no_fault_inside items inner bytes y place lists_open (k + 1) fault r
     (no_fault inner bytes place lists_open (k + 1) fault len (omega arith) at)
     inside (omega arith) (omega arith) (omega arith) at
@@ -147,41 +147,41 @@ no_fault (items ∷ inner) bytes place lists_open k fault short count at (branch
 -- ---- two readings of one text
 
 module _ (inner more : OpenLists) (bytes others : List ℕ) (k p q i j : ℕ) (f g : SexpFault) (f-at : IsFaultAt p i bytes f) (g-at : IsFaultAt q j others g) (f-count : i ≡ k + length inner) (g-count : j ≡ k + length more)
-    (deeper : (place : ℕ) → p ≡ place + length (opening inner) → q ≡ place + length (opening more) → opening inner ++ bytes ≡ opening more ++ others → f ≡ g) where
-  one_fault_inside : (ts us : List Tree) (place : ℕ) → flat_map spelling ts ++ (opening inner ++ bytes) ≡ flat_map spelling us ++ (opening more ++ others)
-      → length (flat_map spelling ts ++ (opening inner ++ bytes)) ≤ most_bytes → k + depths (row ts) ≤ most_depth → k + depths (row us) ≤ most_depth
-      → p ≡ place + length (flat_map spelling ts) + length (opening inner) → q ≡ place + length (flat_map spelling us) + length (opening more) → f ≡ g
+    (deeper : (place : ℕ) → p ≡ place + length (opening_bytes inner) → q ≡ place + length (opening_bytes more) → opening_bytes inner ++ bytes ≡ opening_bytes more ++ others → f ≡ g) where
+  one_fault_inside : (ts us : List Tree) (place : ℕ) → flat_map spelling ts ++ (opening_bytes inner ++ bytes) ≡ flat_map spelling us ++ (opening_bytes more ++ others)
+      → length (flat_map spelling ts ++ (opening_bytes inner ++ bytes)) ≤ most_bytes → k + depths (row ts) ≤ most_depth → k + depths (row us) ≤ most_depth
+      → p ≡ place + length (flat_map spelling ts) + length (opening_bytes inner) → q ≡ place + length (flat_map spelling us) + length (opening_bytes more) → f ≡ g
   one_fault_inside [] [] place e short low high p-is q-is = deeper place (omega arith) (omega arith) e
   one_fault_inside [] (u ∷ us) place e short low high p-is q-is =
-      absurd (no_fault inner bytes p i k f short f-count f-at u (flat_map spelling us ++ (opening more ++ others)) (e ∙ items_then u us (opening more ++ others)) (omega arith))
+      absurd (no_fault inner bytes p i k f short f-count f-at u (flat_map spelling us ++ (opening_bytes more ++ others)) (e ∙ items_then u us (opening_bytes more ++ others)) (omega arith))
   one_fault_inside (t ∷ ts) [] place e short low high p-is q-is =
-      absurd (no_fault more others q j k g (omega (arith, ap length e)) g-count g-at t (flat_map spelling ts ++ (opening inner ++ bytes)) (sym e ∙ items_then t ts (opening inner ++ bytes)) (omega arith))
+      absurd (no_fault more others q j k g (omega (arith, ap length e)) g-count g-at t (flat_map spelling ts ++ (opening_bytes inner ++ bytes)) (sym e ∙ items_then t ts (opening_bytes inner ++ bytes)) (omega arith))
   one_fault_inside (t ∷ ts) (u ∷ us) place e short low high p-is q-is =
-      let cut = one_spelling t u (flat_map spelling ts ++ (opening inner ++ bytes)) (flat_map spelling us ++ (opening more ++ others)) (sym (items_then t ts (opening inner ++ bytes)) ∙ e ∙ items_then u us (opening more ++ others)) in
+      let cut = one_spelling t u (flat_map spelling ts ++ (opening_bytes inner ++ bytes)) (flat_map spelling us ++ (opening_bytes more ++ others)) (sym (items_then t ts (opening_bytes inner ++ bytes)) ∙ e ∙ items_then u us (opening_bytes more ++ others)) in
       let same-len : length (spelling t) ≡ length (spelling u) = ap (λ (v : Tree). length (spelling v)) cut.0 in
       let t-len : length (flat_map spelling (t ∷ ts)) ≡ length (spelling t) + length (flat_map spelling ts) = ap length (flat_map-cons spelling t ts) ∙ length-append (spelling t) (flat_map spelling ts) in
       let u-len : length (flat_map spelling (u ∷ us)) ≡ length (spelling u) + length (flat_map spelling us) = ap length (flat_map-cons spelling u us) ∙ length-append (spelling u) (flat_map spelling us) in
-      let whole : length (flat_map spelling (t ∷ ts) ++ (opening inner ++ bytes)) ≡ length (spelling t) + length (flat_map spelling ts ++ (opening inner ++ bytes)) =
-      ap length (items_then t ts (opening inner ++ bytes)) ∙ length-append (spelling t) (flat_map spelling ts ++ (opening inner ++ bytes)) in
+      let whole : length (flat_map spelling (t ∷ ts) ++ (opening_bytes inner ++ bytes)) ≡ length (spelling t) + length (flat_map spelling ts ++ (opening_bytes inner ++ bytes)) =
+      ap length (items_then t ts (opening_bytes inner ++ bytes)) ∙ length-append (spelling t) (flat_map spelling ts ++ (opening_bytes inner ++ bytes)) in
       one_fault_inside ts us (place + length (spelling t)) cut.1 (omega arith) (omega arith) (omega arith) (omega arith) (omega arith)
 
-pub one_fault : (ls ms : OpenLists) (bytes others : List ℕ) (place k p q i j : ℕ) (f g : SexpFault) → opening ls ++ bytes ≡ opening ms ++ others → length (opening ls ++ bytes) ≤ most_bytes
-    → k + open_depth ls ≤ most_depth → k + open_depth ms ≤ most_depth → p ≡ place + length (opening ls) → q ≡ place + length (opening ms) → i ≡ k + length ls → j ≡ k + length ms
+pub one_fault : (ls ms : OpenLists) (bytes others : List ℕ) (place k p q i j : ℕ) (f g : SexpFault) → opening_bytes ls ++ bytes ≡ opening_bytes ms ++ others → length (opening_bytes ls ++ bytes) ≤ most_bytes
+    → k + open_depth ls ≤ most_depth → k + open_depth ms ≤ most_depth → p ≡ place + length (opening_bytes ls) → q ≡ place + length (opening_bytes ms) → i ≡ k + length ls → j ≡ k + length ms
     → IsFaultAt p i bytes f → IsFaultAt q j others g → f ≡ g
 one_fault [] [] bytes others place k p q i j f g e short low high p-is q-is i-is j-is f-at g-at =
     let same-place : q ≡ p = omega arith in
     let same-count : j ≡ i = omega arith in
     one_fault_here bytes p i f g f-at (subst (λ (x : ℕ × ℕ × List ℕ). IsFaultAt x.0 x.1 x.2 g) (λ n. (same-place n, same-count n, sym e n)) g-at)
 one_fault [] (us ∷ ms) bytes others place k p q i j f g e short low high p-is q-is i-is j-is f-at g-at =
-    absurd (no_fault_at_open bytes (flat_map spelling us ++ (opening ms ++ others)) p i f (e ∙ opening_then us ms others) (omega arith) f-at)
+    absurd (no_fault_at_open bytes (flat_map spelling us ++ (opening_bytes ms ++ others)) p i f (e ∙ opening_then us ms others) (omega arith) f-at)
 one_fault (ts ∷ ls) [] bytes others place k p q i j f g e short low high p-is q-is i-is j-is f-at g-at =
-    absurd (no_fault_at_open others (flat_map spelling ts ++ (opening ls ++ bytes)) q j g (sym e ∙ opening_then ts ls bytes) (omega arith) g-at)
+    absurd (no_fault_at_open others (flat_map spelling ts ++ (opening_bytes ls ++ bytes)) q j g (sym e ∙ opening_then ts ls bytes) (omega arith) g-at)
 one_fault (ts ∷ ls) (us ∷ ms) bytes others place k p q i j f g e short low high p-is q-is i-is j-is f-at g-at =
-    let whole : 40 ∷ (flat_map spelling ts ++ (opening ls ++ bytes)) ≡ 40 ∷ (flat_map spelling us ++ (opening ms ++ others)) = sym (opening_then ts ls bytes) ∙ e ∙ opening_then us ms others in
-    let inside = rest_is 40 40 (flat_map spelling ts ++ (opening ls ++ bytes)) (flat_map spelling us ++ (opening ms ++ others)) whole in
-    let len : length (flat_map spelling ts ++ (opening ls ++ bytes)) ≤ most_bytes = omega (arith, ap length (opening_then ts ls bytes)) in
+    let whole : 40 ∷ (flat_map spelling ts ++ (opening_bytes ls ++ bytes)) ≡ 40 ∷ (flat_map spelling us ++ (opening_bytes ms ++ others)) = sym (opening_then ts ls bytes) ∙ e ∙ opening_then us ms others in
+    let inside = rest_is 40 40 (flat_map spelling ts ++ (opening_bytes ls ++ bytes)) (flat_map spelling us ++ (opening_bytes ms ++ others)) whole in
+    let len : length (flat_map spelling ts ++ (opening_bytes ls ++ bytes)) ≤ most_bytes = omega (arith, ap length (opening_then ts ls bytes)) in
     one_fault_inside ls ms bytes others (k + 1) p q i j f g f-at g-at (omega arith) (omega arith)
-    (λ at p-at q-at same. one_fault ls ms bytes others at (k + 1) p q i j f g same (omega (arith, length-append (flat_map spelling ts) (opening ls ++ bytes))) (omega arith) (omega arith) p-at q-at (omega arith) (omega arith) f-at g-at)
+    (λ at p-at q-at same. one_fault ls ms bytes others at (k + 1) p q i j f g same (omega (arith, length-append (flat_map spelling ts) (opening_bytes ls ++ bytes))) (omega arith) (omega arith) p-at q-at (omega arith) (omega arith) f-at g-at)
     ts us (place + 1) inside len (omega arith) (omega arith)
-    (omega (arith, length-append (flat_map spelling ts) (opening ls)))
-    (omega (arith, length-append (flat_map spelling us) (opening ms)))
+    (omega (arith, length-append (flat_map spelling ts) (opening_bytes ls)))
+    (omega (arith, length-append (flat_map spelling us) (opening_bytes ms)))

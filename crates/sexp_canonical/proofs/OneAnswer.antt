@@ -5,7 +5,7 @@ use Rattle.std.proofs.Math.Seq.{take-append_seam}
 use Rattle.std.specs.Prelude.{IfOk, IfErr}
 use Rattle.sexp_canonical.specs.View.{tree_of}
 use Rattle.sexp_canonical.specs.Spelling.{most_bytes, spelling, spelling_of, IsReadable}
-use Rattle.sexp_canonical.specs.Reading.{opening, IsFirstFault, Reads}
+use Rattle.sexp_canonical.specs.Reading.{opening_bytes, IsFirstSexpFault, ReadsCanonical}
 use Rattle.sexp_canonical.specs.declared.tree.Sexp.{Sexp}
 use Rattle.sexp_canonical.specs.declared.fault.SexpFault.{SexpFault}
 use Rattle.sexp_canonical.specs.declared.fault.SexpFault.TheVariants.{NoMemory}
@@ -18,18 +18,18 @@ take-take : (n m : ℕ) (bytes : List ℕ) → n ≤ m → n ≤ length bytes �
 take-take n m bytes h g =
     sym (take-append-le n (take m bytes) (drop m bytes) (omega (arith, length-take m bytes))) ∙ ap (take n) (take-append-drop m bytes)
 
-no_fault_where_read : (bytes : List ℕ) (tree : Sexp) (n : ℕ) (fault : SexpFault) → n ≤ length bytes → IsReadable (take n bytes) tree → IsFirstFault (take most_bytes bytes) fault → ⊥
+no_fault_where_read : (bytes : List ℕ) (tree : Sexp) (n : ℕ) (fault : SexpFault) → n ≤ length bytes → IsReadable (take n bytes) tree → IsFirstSexpFault (take most_bytes bytes) fault → ⊥
 no_fault_where_read bytes tree n fault within read first =
     let len : length (take n bytes) ≡ n = length-take-le n bytes within in
     let short : n ≤ most_bytes = omega (arith, read.short) in
     let front : take n (take most_bytes bytes) ≡ spelling_of tree = take-take n most_bytes bytes short within ∙ read.spelled in
-    let parts : opening first.lists ++ first.bytes ≡ spelling_of tree ++ drop n (take most_bytes bytes) =
+    let parts : opening_bytes first.lists ++ first.bytes ≡ spelling_of tree ++ drop n (take most_bytes bytes) =
     sym first.parts ∙ sym (take-append-drop n (take most_bytes bytes)) ∙ ap (λ (s : List ℕ). s ++ drop n (take most_bytes bytes)) front in
-    no_fault first.lists first.bytes (length (opening first.lists)) (length first.lists) 0 fault
+    no_fault first.lists first.bytes (length (opening_bytes first.lists)) (length first.lists) 0 fault
     (omega (arith, ap length first.parts, length-take most_bytes bytes)) (omega arith) first.at
     (tree_of tree) (drop n (take most_bytes bytes)) parts (omega (arith, read.shallow))
 
-pub one_answer : (bytes : List ℕ) (a b : Result (Sexp × ℕ) SexpFault) → Reads bytes a → Reads bytes b → a ≡ b
+pub one_answer : (bytes : List ℕ) (a b : Result (Sexp × ℕ) SexpFault) → ReadsCanonical bytes a → ReadsCanonical bytes b → a ≡ b
 one_answer bytes (Ok x) (Ok y) h g =
     let parts : spelling_of x.0 ++ drop x.1 bytes ≡ spelling_of y.0 ++ drop y.1 bytes =
     ap (λ (s : List ℕ). s ++ drop x.1 bytes) (sym h.1.spelled) ∙ take-append-drop x.1 bytes ∙ sym (take-append-drop y.1 bytes) ∙ ap (λ (s : List ℕ). s ++ drop y.1 bytes) g.1.spelled in
@@ -41,7 +41,7 @@ one_answer bytes (Ok x) (Ok y) h g =
 one_answer bytes (Ok x) (Err g) h first = absurd (no_fault_where_read bytes x.0 x.1 g h.0 h.1 first)
 one_answer bytes (Err f) (Ok y) first g = absurd (no_fault_where_read bytes y.0 y.1 f g.0 g.1 first)
 one_answer bytes (Err f) (Err g) a b =
-    ap Err (one_fault a.lists b.lists a.bytes b.bytes 0 0 (length (opening a.lists)) (length (opening b.lists)) (length a.lists) (length b.lists) f g
+    ap Err (one_fault a.lists b.lists a.bytes b.bytes 0 0 (length (opening_bytes a.lists)) (length (opening_bytes b.lists)) (length a.lists) (length b.lists) f g
     (sym a.parts ∙ b.parts) (omega (arith, ap length a.parts, length-take most_bytes bytes)) (omega (arith, a.shallow)) (omega (arith, b.shallow))
     (omega arith) (omega arith) (omega arith) (omega arith) a.at b.at)
 
@@ -70,20 +70,20 @@ pub found : (bytes : List ℕ) (n : ℕ) (r : Result (Sexp × ℕ) SexpFault) �
 found bytes n (Ok read) e at = found_from_front bytes n read e at
 found bytes n (Err fault) e at = tt
 
-pub faulted : (bytes : List ℕ) (n : ℕ) (r : Result (Sexp × ℕ) SexpFault) → n ≡ min (length bytes) most_bytes → IfErr r (λ fault. (fault ≡ NoMemory) ⊎ IsFirstFault (take n bytes) fault)
-    → IfErr r (λ fault. (fault ≡ NoMemory) ⊎ IsFirstFault (take most_bytes bytes) fault)
+pub faulted : (bytes : List ℕ) (n : ℕ) (r : Result (Sexp × ℕ) SexpFault) → n ≡ min (length bytes) most_bytes → IfErr r (λ fault. (fault ≡ NoMemory) ⊎ IsFirstSexpFault (take n bytes) fault)
+    → IfErr r (λ fault. (fault ≡ NoMemory) ⊎ IsFirstSexpFault (take most_bytes bytes) fault)
 faulted bytes n (Ok read) e at = tt
 faulted bytes n (Err fault) e (inl memory) = inl memory
-faulted bytes n (Err fault) e (inr first) = inr (subst (λ (text : List ℕ). IsFirstFault text fault) (front_is bytes n e) first)
+faulted bytes n (Err fault) e (inr first) = inr (subst (λ (text : List ℕ). IsFirstSexpFault text fault) (front_is bytes n e) first)
 
 -- an answer that is one of those of the bytes is the only one
-pub only : (bytes : List ℕ) (r : Result (Sexp × ℕ) SexpFault) → IfOk r (λ read. (read.1 ≤ length bytes) × IsReadable (take read.1 bytes) read.0) → IfErr r (λ fault. (fault ≡ NoMemory) ⊎ IsFirstFault (take most_bytes bytes) fault)
-    → (answer : Result (Sexp × ℕ) SexpFault) → Reads bytes answer → (r ≡ Err NoMemory) ⊎ (r ≡ answer)
+pub only : (bytes : List ℕ) (r : Result (Sexp × ℕ) SexpFault) → IfOk r (λ read. (read.1 ≤ length bytes) × IsReadable (take read.1 bytes) read.0) → IfErr r (λ fault. (fault ≡ NoMemory) ⊎ IsFirstSexpFault (take most_bytes bytes) fault)
+    → (answer : Result (Sexp × ℕ) SexpFault) → ReadsCanonical bytes answer → (r ≡ Err NoMemory) ⊎ (r ≡ answer)
 only bytes (Ok read) is_read failed answer h = inr (one_answer bytes (Ok read) answer is_read h)
 only bytes (Err fault) is_read (inl memory) answer h = inl (ap Err memory)
 only bytes (Err fault) is_read (inr first) answer h = inr (one_answer bytes (Err fault) answer first h)
 
-pub spelled_is_read : (bytes : List ℕ) (tree : Sexp) (more : List ℕ) → IsReadable (spelling_of tree) tree → bytes ≡ spelling_of tree ++ more → Reads bytes (Ok (tree, length (spelling_of tree)))
+pub spelled_is_read : (bytes : List ℕ) (tree : Sexp) (more : List ℕ) → IsReadable (spelling_of tree) tree → bytes ≡ spelling_of tree ++ more → ReadsCanonical bytes (Ok (tree, length (spelling_of tree)))
 spelled_is_read bytes tree more readable parts =
     let front : take (length (spelling_of tree)) bytes ≡ spelling_of tree = ap (take (length (spelling_of tree))) parts ∙ take-append_seam (spelling_of tree) more in
     (omega (arith, ap length parts, length-append (spelling_of tree) more), subst (λ (text : List ℕ). IsReadable text tree) (sym front) readable)

@@ -12,7 +12,7 @@ use Rattle.std.specs.Char.{is_ascii_digit}
 use Rattle.sexp_canonical.specs.Tree.{Tree, list_of}
 use Rattle.sexp_canonical.specs.View.{tree_of, trees}
 use Rattle.sexp_canonical.specs.Spelling.{most_depth, spelling, spelling_of, depth}
-use Rattle.sexp_canonical.specs.Reading.{OpenLists, opening, open_depth, item_fault, IsLengthFault, IsFirstFault}
+use Rattle.sexp_canonical.specs.Reading.{OpenLists, opening_bytes, open_depth, item_fault, IsLengthFault, IsFirstSexpFault}
 use Rattle.sexp_canonical.specs.Adding.{lists_of, AddsItem}
 use Rattle.sexp_canonical.specs.Steps.{HasAtom, HasExpression}
 use Rattle.sexp_canonical.specs.declared.tree.Sexp.{Sexp}
@@ -25,21 +25,21 @@ use Rattle.sexp_canonical.proofs.Steps.{drop_at_place}
 
 -- ---- what lists are open
 
-opening-append : (xs ys : OpenLists) → opening (xs ++ ys) ≡ opening xs ++ opening ys
+opening-append : (xs ys : OpenLists) → opening_bytes (xs ++ ys) ≡ opening_bytes xs ++ opening_bytes ys
 opening-append [] ys = refl
 opening-append (items ∷ xs) ys =
-    ap (λ (s : List ℕ). 40 ∷ (flat_map spelling items ++ s)) (opening-append xs ys) ∙ ap (λ (s : List ℕ). 40 ∷ s) (sym (append_assoc (flat_map spelling items) (opening xs) (opening ys)))
+    ap (λ (s : List ℕ). 40 ∷ (flat_map spelling items ++ s)) (opening-append xs ys) ∙ ap (λ (s : List ℕ). 40 ∷ s) (sym (append_assoc (flat_map spelling items) (opening_bytes xs) (opening_bytes ys)))
 
-opening-last : (outer : OpenLists) (items : List Tree) → opening (outer ++ items ∷ []) ≡ opening outer ++ 40 ∷ flat_map spelling items
-opening-last outer items = opening-append outer (items ∷ []) ∙ ap (λ (s : List ℕ). opening outer ++ 40 ∷ s) (append-nil (flat_map spelling items))
+opening-last : (outer : OpenLists) (items : List Tree) → opening_bytes (outer ++ items ∷ []) ≡ opening_bytes outer ++ 40 ∷ flat_map spelling items
+opening-last outer items = opening-append outer (items ∷ []) ∙ ap (λ (s : List ℕ). opening_bytes outer ++ 40 ∷ s) (append-nil (flat_map spelling items))
 
 flat_map-last : (items : List Tree) (t : Tree) → flat_map spelling (items ++ t ∷ []) ≡ flat_map spelling items ++ spelling t
 flat_map-last items t = flat_map-append spelling items (t ∷ []) ∙ ap (λ (s : List ℕ). flat_map spelling items ++ s) (flat_map-cons spelling t [] ∙ append-nil (spelling t))
 
-opening-more : (outer : OpenLists) (items : List Tree) (t : Tree) → opening (outer ++ (items ++ t ∷ []) ∷ []) ≡ opening (outer ++ items ∷ []) ++ spelling t
+opening-more : (outer : OpenLists) (items : List Tree) (t : Tree) → opening_bytes (outer ++ (items ++ t ∷ []) ∷ []) ≡ opening_bytes (outer ++ items ∷ []) ++ spelling t
 opening-more outer items t =
-    opening-last outer (items ++ t ∷ []) ∙ ap (λ (s : List ℕ). opening outer ++ 40 ∷ s) (flat_map-last items t)
-    ∙ sym (append_assoc (opening outer) (40 ∷ flat_map spelling items) (spelling t)) ∙ ap (λ (s : List ℕ). s ++ spelling t) (sym (opening-last outer items))
+    opening-last outer (items ++ t ∷ []) ∙ ap (λ (s : List ℕ). opening_bytes outer ++ 40 ∷ s) (flat_map-last items t)
+    ∙ sym (append_assoc (opening_bytes outer) (40 ∷ flat_map spelling items) (spelling t)) ∙ ap (λ (s : List ℕ). s ++ spelling t) (sym (opening-last outer items))
 
 -- ---- places
 
@@ -47,27 +47,27 @@ opening-more outer items t =
 pub record IsOpenAt (text : List ℕ) (place : ℕ) (lists : OpenLists) : Type 0 where
   pub within : place ≤ length text
   pub shallow : open_depth lists ≤ most_depth
-  pub parts : text ≡ opening lists ++ drop place text
+  pub parts : text ≡ opening_bytes lists ++ drop place text
 
 -- up to the end stand the open lists, and this tree behind them
 pub record IsFinished (text : List ℕ) (end : ℕ) (lists : OpenLists) (tree : Tree) : Type 0 where
   pub within : end ≤ length text
   pub shallow : open_depth lists ≤ most_depth
   pub fits : length lists + depth tree ≤ most_depth
-  pub parts : text ≡ opening lists ++ (spelling tree ++ drop end text)
+  pub parts : text ≡ opening_bytes lists ++ (spelling tree ++ drop end text)
 
 pub at_front : (text : List ℕ) → IsOpenAt text 0 []
 at_front text = record { within = omega arith; shallow = omega arith; parts = refl }
 
-place_is : (text : List ℕ) (place : ℕ) (lists : OpenLists) → IsOpenAt text place lists → length (opening lists) ≡ place
-place_is text place lists at = let w = at.within in omega (arith, ap length at.parts, length-append (opening lists) (drop place text), length-drop place text)
+place_is : (text : List ℕ) (place : ℕ) (lists : OpenLists) → IsOpenAt text place lists → length (opening_bytes lists) ≡ place
+place_is text place lists at = let w = at.within in omega (arith, ap length at.parts, length-append (opening_bytes lists) (drop place text), length-drop place text)
 
 pub list_opened : (text : List ℕ) (place : ℕ) (lists : OpenLists) → IsOpenAt text place lists → place < length text → get_or text place 0 ≡ 40 → length lists < most_depth → IsOpenAt text (place + 1) (lists ++ [] ∷ [])
 list_opened text place lists at within byte room = record {
   within = omega arith;
   shallow = let s = at.shallow in omega (arith, deeper-new lists);
-  parts = at.parts ∙ ap (λ (s : List ℕ). opening lists ++ s) (drop_at_place text place within ∙ ap (λ (b : ℕ). b ∷ drop (place + 1) text) byte)
-      ∙ sym (append_assoc (opening lists) (40 ∷ []) (drop (place + 1) text)) ∙ ap (λ (s : List ℕ). s ++ drop (place + 1) text) (sym (opening-last lists []));
+  parts = at.parts ∙ ap (λ (s : List ℕ). opening_bytes lists ++ s) (drop_at_place text place within ∙ ap (λ (b : ℕ). b ∷ drop (place + 1) text) byte)
+      ∙ sym (append_assoc (opening_bytes lists) (40 ∷ []) (drop (place + 1) text)) ∙ ap (λ (s : List ℕ). s ++ drop (place + 1) text) (sym (opening-last lists []));
 }
 
 pub room_left : (text : List ℕ) (place : ℕ) (lists : OpenLists) → IsOpenAt text place lists → (length lists ≡ most_depth → ⊥) → length lists < most_depth
@@ -78,7 +78,7 @@ atom_finished text place end lists tree at read = record {
   within = read.within;
   shallow = at.shallow;
   fits = let s = at.shallow in omega (arith, length-le-open_depth lists, read.flat);
-  parts = at.parts ∙ ap (λ (s : List ℕ). opening lists ++ s) read.parts;
+  parts = at.parts ∙ ap (λ (s : List ℕ). opening_bytes lists ++ s) read.parts;
 }
 
 pub list_finished : (text : List ℕ) (place : ℕ) (outer : OpenLists) (items : List Tree) → IsOpenAt text place (outer ++ items ∷ []) → place < length text → get_or text place 0 ≡ 41 → IsFinished text (place + 1) outer (list_of items)
@@ -90,9 +90,9 @@ list_finished text place outer items at within byte =
       within = omega arith;
       shallow = let s = at.shallow in omega (arith, deeper-outer outer items);
       fits = let s = at.shallow in omega (arith, deeper-last outer items);
-      parts = at.parts ∙ ap (λ (s : List ℕ). opening (outer ++ items ∷ []) ++ s) (drop_at_place text place within ∙ ap (λ (b : ℕ). b ∷ rest) byte)
-          ∙ ap (λ (s : List ℕ). s ++ 41 ∷ rest) (opening-last outer items) ∙ append_assoc (opening outer) (40 ∷ flat_map spelling items) (41 ∷ rest)
-          ∙ ap (λ (s : List ℕ). opening outer ++ s) inside;
+      parts = at.parts ∙ ap (λ (s : List ℕ). opening_bytes (outer ++ items ∷ []) ++ s) (drop_at_place text place within ∙ ap (λ (b : ℕ). b ∷ rest) byte)
+          ∙ ap (λ (s : List ℕ). s ++ 41 ∷ rest) (opening-last outer items) ∙ append_assoc (opening_bytes outer) (40 ∷ flat_map spelling items) (41 ∷ rest)
+          ∙ ap (λ (s : List ℕ). opening_bytes outer ++ s) inside;
     }
 
 pub item_added : (text : List ℕ) (end : ℕ) (old new : List (Vec Sexp)) (tree : Sexp) → IsFinished text end (lists_of old) (tree_of tree) → AddsItem (lists_of old) (lists_of new) (tree_of tree) → IsOpenAt text end (lists_of new)
@@ -102,17 +102,17 @@ item_added text end old new tree done adds =
     let new-depth : open_depth (lists_of new) ≡ open_depth (adds.outer ++ (adds.items ++ tree_of tree ∷ []) ∷ []) = ap open_depth adds.after in
     let f = done.fits in
     let s = done.shallow in
-    let written : opening (lists_of new) ≡ opening (lists_of old) ++ spelling_of tree =
-    ap opening adds.after ∙ opening-more adds.outer adds.items (tree_of tree) ∙ ap (λ (ls : OpenLists). opening ls ++ spelling_of tree) (sym adds.before) in
+    let written : opening_bytes (lists_of new) ≡ opening_bytes (lists_of old) ++ spelling_of tree =
+    ap opening_bytes adds.after ∙ opening-more adds.outer adds.items (tree_of tree) ∙ ap (λ (ls : OpenLists). opening_bytes ls ++ spelling_of tree) (sym adds.before) in
     record {
       within = done.within;
       shallow = omega (arith, deeper-more adds.outer adds.items (tree_of tree));
-      parts = done.parts ∙ sym (append_assoc (opening (lists_of old)) (spelling_of tree) (drop end text)) ∙ ap (λ (s : List ℕ). s ++ drop end text) (sym written);
+      parts = done.parts ∙ sym (append_assoc (opening_bytes (lists_of old)) (spelling_of tree) (drop end text)) ∙ ap (λ (s : List ℕ). s ++ drop end text) (sym written);
     }
 
 pub whole_read : (text : List ℕ) (end : ℕ) (old : List (Vec Sexp)) (tree whole : Sexp) → IsFinished text end (lists_of old) (tree_of tree) → (lists_of old ≡ []) × (tree_of whole ≡ tree_of tree) → HasExpression text (whole, end)
 whole_read text end old tree whole done alone =
-    let parts : text ≡ spelling_of tree ++ drop end text = done.parts ∙ ap (λ (ls : OpenLists). opening ls ++ (spelling_of tree ++ drop end text)) alone.0 in
+    let parts : text ≡ spelling_of tree ++ drop end text = done.parts ∙ ap (λ (ls : OpenLists). opening_bytes ls ++ (spelling_of tree ++ drop end text)) alone.0 in
     let w = done.within in
     let len : length (spelling_of tree) ≡ end = omega (arith, ap length parts, length-append (spelling_of tree) (drop end text), length-drop end text) in
     let f = done.fits in
@@ -124,7 +124,7 @@ whole_read text end old tree whole done alone =
 
 -- ---- faults
 
-fault_at : (text : List ℕ) (place : ℕ) (lists : OpenLists) (fault : SexpFault) → IsOpenAt text place lists → item_fault place (length lists) (drop place text) ≡ Some fault → IsFirstFault text fault
+fault_at : (text : List ℕ) (place : ℕ) (lists : OpenLists) (fault : SexpFault) → IsOpenAt text place lists → item_fault place (length lists) (drop place text) ≡ Some fault → IsFirstSexpFault text fault
 fault_at text place lists fault at e = record {
   lists = lists;
   shallow = at.shallow;
@@ -133,7 +133,7 @@ fault_at text place lists fault at e = record {
   at = inl (ap (λ (n : ℕ). item_fault n (length lists) (drop place text)) (place_is text place lists at) ∙ e);
 }
 
-pub length_fault_at : (text : List ℕ) (place : ℕ) (lists : OpenLists) (fault : SexpFault) → IsOpenAt text place lists → IsLengthFault place (drop place text) fault → IsFirstFault text fault
+pub length_fault_at : (text : List ℕ) (place : ℕ) (lists : OpenLists) (fault : SexpFault) → IsOpenAt text place lists → IsLengthFault place (drop place text) fault → IsFirstSexpFault text fault
 length_fault_at text place lists fault at length-fault = record {
   lists = lists;
   shallow = at.shallow;
@@ -142,24 +142,24 @@ length_fault_at text place lists fault at length-fault = record {
   at = inr (subst (λ (n : ℕ). IsLengthFault n (drop place text) fault) (sym (place_is text place lists at)) length-fault);
 }
 
-pub short_at : (text : List ℕ) (place : ℕ) (lists : OpenLists) → IsOpenAt text place lists → length text ≤ place → IsFirstFault text Short
+pub short_at : (text : List ℕ) (place : ℕ) (lists : OpenLists) → IsOpenAt text place lists → length text ≤ place → IsFirstSexpFault text Short
 unfolding item_fault
 short_at text place lists at past = fault_at text place lists Short at (rw (drop_all place text past) refl)
 
-pub deep_at : (text : List ℕ) (place : ℕ) (lists : OpenLists) → IsOpenAt text place lists → place < length text → get_or text place 0 ≡ 40 → length lists ≡ most_depth → IsFirstFault text (Deep place)
+pub deep_at : (text : List ℕ) (place : ℕ) (lists : OpenLists) → IsOpenAt text place lists → place < length text → get_or text place 0 ≡ 40 → length lists ≡ most_depth → IsFirstSexpFault text (Deep place)
 unfolding item_fault
 deep_at text place lists at within byte full =
     let test : eqb (length lists) most_depth ≡ true = eq-eqb (length lists) most_depth full in
     fault_at text place lists (Deep place) at (rw (drop_at_place text place within, byte, test) refl)
 
-pub bad_end_at : (text : List ℕ) (place : ℕ) (lists : OpenLists) → IsOpenAt text place lists → place < length text → get_or text place 0 ≡ 41 → lists ≡ [] → IsFirstFault text (BadByte place)
+pub bad_end_at : (text : List ℕ) (place : ℕ) (lists : OpenLists) → IsOpenAt text place lists → place < length text → get_or text place 0 ≡ 41 → lists ≡ [] → IsFirstSexpFault text (BadByte place)
 unfolding item_fault
 bad_end_at text place lists at within byte none =
     let count : length lists ≡ 0 = ap length none in
     fault_at text place lists (BadByte place) at (rw (drop_at_place text place within, byte, count) refl)
 
 pub bad_byte_at : (text : List ℕ) (place : ℕ) (lists : OpenLists) → IsOpenAt text place lists → place < length text
-    → is_ascii_digit (get_or text place 0) ≡ false → (get_or text place 0 ≡ 40 → ⊥) → (get_or text place 0 ≡ 41 → ⊥) → IsFirstFault text (BadByte place)
+    → is_ascii_digit (get_or text place 0) ≡ false → (get_or text place 0 ≡ 40 → ⊥) → (get_or text place 0 ≡ 41 → ⊥) → IsFirstSexpFault text (BadByte place)
 unfolding item_fault
 bad_byte_at text place lists at within other no_open no_close =
     let first : eqb (get_or text place 0) 40 ≡ false = ne_eqb (get_or text place 0) 40 no_open in

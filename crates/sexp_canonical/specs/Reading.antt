@@ -14,9 +14,9 @@ abbrev pub OpenLists : Type 0
 OpenLists = List (List Tree)
 
 -- what stands before a place where an item may begin
-abbrev pub opening : OpenLists → List ℕ
-opening [] = []
-opening (items ∷ inner) = left_paren ∷ flat_map spelling items ++ opening inner
+abbrev pub opening_bytes : OpenLists → List ℕ
+opening_bytes [] = []
+opening_bytes (items ∷ inner) = left_paren ∷ flat_map spelling items ++ opening_bytes inner
 
 -- how many lists are open at the deepest place so far
 abbrev pub open_depth : OpenLists → ℕ
@@ -53,14 +53,14 @@ abbrev pub IsFaultAt : (place lists_open : ℕ) → List ℕ → SexpFault → T
 IsFaultAt place lists_open bytes fault = (item_fault place lists_open bytes ≡ Some fault) ⊎ IsLengthFault place bytes fault
 
 -- All is well up to some place where an item may begin, and the fault is at that item.
-pub record IsFirstFault (text : List ℕ) (fault : SexpFault) : Type 0 where
+pub record IsFirstSexpFault (text : List ℕ) (fault : SexpFault) : Type 0 where
   pub lists : OpenLists
   pub shallow : open_depth lists ≤ most_depth
   pub bytes : List ℕ
-  pub parts : text ≡ opening lists ++ bytes
-  pub at : IsFaultAt (length (opening lists)) (length lists) bytes fault
+  pub parts : text ≡ opening_bytes lists ++ bytes
+  pub at : IsFaultAt (length (opening_bytes lists)) (length lists) bytes fault
 
 -- An expression is read where the first n bytes are readable as it. A fault is the first one of as many bytes as are looked at.
-abbrev pub Reads : List ℕ → Result (Sexp × ℕ) SexpFault → Type 0
-Reads bytes (Ok read) = (read.1 ≤ length bytes) × IsReadable (take read.1 bytes) read.0
-Reads bytes (Err fault) = IsFirstFault (take most_bytes bytes) fault
+abbrev pub ReadsCanonical : List ℕ → Result (Sexp × ℕ) SexpFault → Type 0
+ReadsCanonical bytes (Ok read) = (read.1 ≤ length bytes) × IsReadable (take read.1 bytes) read.0
+ReadsCanonical bytes (Err fault) = IsFirstSexpFault (take most_bytes bytes) fault

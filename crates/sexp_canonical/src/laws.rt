@@ -5,7 +5,7 @@ ghost use Rattle.std.specs.List.{flat_map};
 ghost use Rattle.sexp_canonical.specs.Tree.{Tree, Row, branch, row, list_of, items_of};
 ghost use Rattle.sexp_canonical.specs.Spelling.{left_paren, right_paren, numeral, spelling};
 ghost use Rattle.sexp_canonical.specs.Spelling.{spelling_of, depth};
-ghost use Rattle.sexp_canonical.specs.Reading.{Reads};
+ghost use Rattle.sexp_canonical.specs.Reading.{ReadsCanonical};
 ghost use Rattle.sexp_canonical.specs.declared.tree.Sexp.{Sexp};
 ghost use Rattle.sexp_canonical.specs.declared.fault.SexpFault.{SexpFault};
 
@@ -19,8 +19,8 @@ pub fn no_spelling_begins_another()
 /// What is to be answered for some bytes is determined: where an expression is read there is no
 /// fault, and the first fault is one.
 pub fn one_answer()
-    ensures { (bytes : List ℕ) (a b : Result (Sexp × ℕ) SexpFault) → Reads bytes a
-        → Reads bytes b → a ≡ b }
+    ensures { (bytes : List ℕ) (a b : Result (Sexp × ℕ) SexpFault) → ReadsCanonical bytes a
+        → ReadsCanonical bytes b → a ≡ b }
 {}
 
 /// Each list is that of its items and of no others. It is spelled by them, one after another, and

@@ -1,6 +1,6 @@
 ghost use Rattle.std.specs.Prelude.{◌≡◌, ◌⊎◌, ◌+◌, ◌-◌, ◌*◌, ◌++◌, ◌<◌, ◌≤◌, ℕ, List, length, take};
 ghost use Rattle.std.specs.Prelude.{drop, Result, IfOk, IfErr, MatchOption};
-ghost use Rattle.sexp_canonical.specs.Reading.{Reads, IsFirstFault, IsLengthFault};
+ghost use Rattle.sexp_canonical.specs.Reading.{ReadsCanonical, IsFirstSexpFault, IsLengthFault};
 ghost use Rattle.sexp_canonical.specs.Spelling.{IsReadable, most_bytes, spelling_of};
 ghost use Rattle.sexp_canonical.specs.View.{tree_of};
 ghost use Rattle.sexp_canonical.specs.Adding.{AddsTree, lists_of};
@@ -24,12 +24,12 @@ pub fn read(alloc: Global, bytes: &[u8]) -> Result<(Sexp, usize), SexpFault>
     // Else the fault is the first one from the left of the bytes that are looked at. Only a lack of
     // memory may come at any time.
     ensures fault { IfErr result
-        (λ fault. (fault ≡ SexpFault.NoMemory) ⊎ IsFirstFault (take most_bytes bytes.now) fault) }
+        (λ fault. (fault ≡ SexpFault.NoMemory) ⊎ IsFirstSexpFault (take most_bytes bytes.now) fault) }
 
     // What the bytes say is the answer: no fault hides an expression, and no later fault an earlier
     // one. This and the next clause follow from the first two by the law `one_answer`, and stand
     // here for callers.
-    ensures only { (answer : Result (Sexp × ℕ) SexpFault) → Reads bytes.now answer
+    ensures only { (answer : Result (Sexp × ℕ) SexpFault) → ReadsCanonical bytes.now answer
         → (result ≡ Err SexpFault.NoMemory) ⊎ (result ≡ answer) }
 
     // What is spelled within the limits is read, with anything after it.
@@ -44,7 +44,7 @@ pub fn read(alloc: Global, bytes: &[u8]) -> Result<(Sexp, usize), SexpFault>
 fn read_front(alloc: Global, text: &[u8]) -> Result<(Sexp, usize), SexpFault>
     ensures found { IfOk result (HasExpression text.now) }
     ensures fault { IfErr result
-        (λ fault. (fault ≡ SexpFault.NoMemory) ⊎ IsFirstFault text.now fault) }
+        (λ fault. (fault ≡ SexpFault.NoMemory) ⊎ IsFirstSexpFault text.now fault) }
 {
     let mut lists: Vec<Vec<Sexp>> = Vec::new(alloc);
     let mut place = 0;

@@ -5,7 +5,7 @@ use Rattle.sexp_canonical.specs.Tree.{Tree, leaf, list_of}
 use Rattle.sexp_keys.specs.Names.{algorithm_name, form_name}
 use Rattle.sexp_keys.specs.Parameters.{is_list, are_public, are_private}
 use Rattle.sexp_keys.specs.Key.{Key, IsKey}
-use Rattle.sexp_keys.specs.Faults.{named_fault, IsFirstFault, Reads}
+use Rattle.sexp_keys.specs.Faults.{named_fault, IsFirstKeyFault, ReadsKey}
 use Rattle.sexp_keys.specs.Named.{HasNames, AreParts}
 use Rattle.sexp_keys.specs.declared.algorithm.Algorithm.{Algorithm}
 use Rattle.sexp_keys.specs.declared.fault.KeyFault.{KeyFault}
@@ -31,11 +31,11 @@ key_read t c a ps fs public private us vs ws names parts lists e f g = record {
   };
 }
 
-bad_key : (t : Tree) (c : Bool) (a : Algorithm) (ps fs : List Tree) → HasNames t c a ps fs → ((k : Key) → IsKey t k → ⊥) → IsFirstFault t BadSecKey
+bad_key : (t : Tree) (c : Bool) (a : Algorithm) (ps fs : List Tree) → HasNames t c a ps fs → ((k : Key) → IsKey t k → ⊥) → IsFirstKeyFault t BadSecKey
 bad_key t c a ps fs names none = inr (named_fault-names t c a ps fs names, none, refl)
 
 -- the parameters are no key's
-pub bad_parameters : (t : Tree) (c : Bool) (a : Algorithm) (ps fs : List Tree) → HasNames t c a ps fs → ((public private : List Tree) → AreParts c a ps public private → ⊥) → IsFirstFault t BadSecKey
+pub bad_parameters : (t : Tree) (c : Bool) (a : Algorithm) (ps fs : List Tree) → HasNames t c a ps fs → ((public private : List Tree) → AreParts c a ps public private → ⊥) → IsFirstKeyFault t BadSecKey
 bad_parameters t c a ps fs names none = bad_key t c a ps fs names (λ k h.
     let same = same_names t c k.is_clear a k.algorithm ps (k.public ++ k.private) fs k.further names (key_names t k h) in
     none k.public k.private (record {
@@ -45,7 +45,7 @@ bad_parameters t c a ps fs names none = bad_key t c a ps fs names (λ k h.
     }))
 
 -- an item that follows is no list
-pub bad_further : (t : Tree) (c : Bool) (a : Algorithm) (ps fs : List Tree) → HasNames t c a ps fs → list_all is_list fs ≡ false → IsFirstFault t BadSecKey
+pub bad_further : (t : Tree) (c : Bool) (a : Algorithm) (ps fs : List Tree) → HasNames t c a ps fs → list_all is_list fs ≡ false → IsFirstKeyFault t BadSecKey
 bad_further t c a ps fs names other = bad_key t c a ps fs names (λ k h.
     let same = same_names t c k.is_clear a k.algorithm ps (k.public ++ k.private) fs k.further names (key_names t k h) in
     let lists : list_all is_list fs ≡ true = ap (list_all is_list) same.further ∙ h.formed.further in
@@ -70,25 +70,25 @@ one_key t k l h g =
 no_named_fault : (t : Tree) (k : Key) → IsKey t k → named_fault t ≡ None
 no_named_fault t k h = named_fault-names t k.is_clear k.algorithm (k.public ++ k.private) k.further (key_names t k h)
 
-no_fault : (t : Tree) (k : Key) (fault : KeyFault) → IsKey t k → IsFirstFault t fault → ⊥
+no_fault : (t : Tree) (k : Key) (fault : KeyFault) → IsKey t k → IsFirstKeyFault t fault → ⊥
 no_fault t k fault h (inl e) = let none = no_named_fault t k h in cc
 no_fault t k fault h (inr e) = e.1 k h
 
-one_fault : (t : Tree) (f g : KeyFault) → IsFirstFault t f → IsFirstFault t g → f ≡ g
+one_fault : (t : Tree) (f g : KeyFault) → IsFirstKeyFault t f → IsFirstKeyFault t g → f ≡ g
 one_fault t f g (inl d) (inl e) = let same : Some f ≡ Some g = sym d ∙ e in cc
 one_fault t f g (inl d) (inr e) = absurd (let none = e.0 in cc)
 one_fault t f g (inr d) (inl e) = absurd (let none = d.0 in cc)
 one_fault t f g (inr d) (inr e) = d.2 ∙ sym e.2
 
-pub one_answer : (t : Tree) (a b : Result Key KeyFault) → Reads t a → Reads t b → a ≡ b
+pub one_answer : (t : Tree) (a b : Result Key KeyFault) → ReadsKey t a → ReadsKey t b → a ≡ b
 one_answer t (Ok k) (Ok l) h g = ap Ok (one_key t k l h g)
 one_answer t (Ok k) (Err f) h g = absurd (no_fault t k f h g)
 one_answer t (Err f) (Ok k) h g = absurd (no_fault t k f g h)
 one_answer t (Err f) (Err g) h k = ap Err (one_fault t f g h k)
 
 -- what is found or answered as a fault is the answer
-pub only : (t : Tree) (result : Result Key KeyFault) → IfOk result (IsKey t) → IfErr result (λ fault. (fault ≡ NoMemory) ⊎ IsFirstFault t fault)
-    → (answer : Result Key KeyFault) → Reads t answer → (result ≡ Err NoMemory) ⊎ (result ≡ answer)
+pub only : (t : Tree) (result : Result Key KeyFault) → IfOk result (IsKey t) → IfErr result (λ fault. (fault ≡ NoMemory) ⊎ IsFirstKeyFault t fault)
+    → (answer : Result Key KeyFault) → ReadsKey t answer → (result ≡ Err NoMemory) ⊎ (result ≡ answer)
 only t (Ok k) found faulted answer h = inr (one_answer t (Ok k) answer found h)
 only t (Err f) found (inl e) answer h = inl (ap Err e)
 only t (Err f) found (inr e) answer h = inr (one_answer t (Err f) answer e h)

@@ -38,12 +38,12 @@ abbrev pub named_fault : Tree → Option KeyFault
 named_fault tree = first_fault (form_fault (items tree)) (algorithm_fault (items tree))
 
 -- A fault of the names comes first. Where they are right, all that is no key is a bad key.
-abbrev pub IsFirstFault : Tree → KeyFault → Type 0
-IsFirstFault tree fault =
+abbrev pub IsFirstKeyFault : Tree → KeyFault → Type 0
+IsFirstKeyFault tree fault =
     (named_fault tree ≡ Some fault)
     ⊎ ((named_fault tree ≡ None) × ((key : Key) → IsKey tree key → ⊥) × (fault ≡ BadSecKey))
 
 -- what is answered for an expression
-abbrev pub Reads : Tree → Result Key KeyFault → Type 0
-Reads tree (Ok key) = IsKey tree key
-Reads tree (Err fault) = IsFirstFault tree fault
+abbrev pub ReadsKey : Tree → Result Key KeyFault → Type 0
+ReadsKey tree (Ok key) = IsKey tree key
+ReadsKey tree (Err fault) = IsFirstKeyFault tree fault

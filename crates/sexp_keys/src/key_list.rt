@@ -2,7 +2,7 @@ ghost use Rattle.std.specs.Prelude.{◌≡◌, ◌⊎◌, ◌↔◌, Result, IfO
 ghost use Rattle.sexp_canonical.specs.View.{tree_of, trees};
 ghost use Rattle.sexp_keys.specs.Key.{Key, IsKey, clear_with};
 ghost use Rattle.sexp_keys.specs.Parameters.{are_secret};
-ghost use Rattle.sexp_keys.specs.Faults.{Reads, IsFirstFault};
+ghost use Rattle.sexp_keys.specs.Faults.{ReadsKey, IsFirstKeyFault};
 ghost use Rattle.sexp_keys.specs.declared.fault.KeyFault.{KeyFault};
 
 use crate::algorithm::Algorithm;
@@ -55,10 +55,10 @@ impl KeyList {
 
         // Else the fault is the first one. Only a lack of memory may come at any time.
         ensures fault { IfErr result
-            (λ fault. (fault ≡ KeyFault.NoMemory) ⊎ IsFirstFault (tree_of tree.now) fault) }
+            (λ fault. (fault ≡ KeyFault.NoMemory) ⊎ IsFirstKeyFault (tree_of tree.now) fault) }
 
         // An expression has one answer, so no fault hides a key.
-        ensures only { (answer : Result Key KeyFault) → Reads (tree_of tree.now) answer
+        ensures only { (answer : Result Key KeyFault) → ReadsKey (tree_of tree.now) answer
             → (result ≡ Err KeyFault.NoMemory) ⊎ (result ≡ answer) }
     {
         read_key(alloc, tree)
@@ -88,7 +88,7 @@ impl KeyList {
 fn read_key(alloc: Global, tree: &Sexp) -> Result<KeyList, KeyFault>
     ensures found { IfOk result (IsKey (tree_of tree.now)) }
     ensures fault { IfErr result
-        (λ fault. (fault ≡ KeyFault.NoMemory) ⊎ IsFirstFault (tree_of tree.now) fault) }
+        (λ fault. (fault ≡ KeyFault.NoMemory) ⊎ IsFirstKeyFault (tree_of tree.now) fault) }
 {
     let named = names_of(tree)?;
     let Some((public, private)) = parts_of(named.is_clear, named.algorithm, named.parameters) else {

@@ -1,13 +1,13 @@
 use Rattle.std.proofs.Common.{◌++◌, [], ℕ, List, length, Ok, subst, append-nil, refl}
 use Rattle.sexp_canonical.specs.declared.tree.Sexp.{Sexp}
-use Rattle.sexp_advanced.specs.Reading.{Reads}
+use Rattle.sexp_advanced.specs.Reading.{ReadsAdvanced}
 use Rattle.sexp_advanced.specs.Writing.{advanced_of}
 use Rattle.key_lines.proofs.Replaced.{IsReadAgain, replaced, replaced-canon}
 use Rattle.key_lines.proofs.laws.other_key_is_read.Goals as goal
 
 -- what is written is read again, with nothing behind it
-again : (tree : Sexp) → Reads (advanced_of tree ++ []) (Ok (tree, length (advanced_of tree))) → IsReadAgain tree
-again tree h = subst (λ (text : List ℕ). Reads text (Ok (tree, length (advanced_of tree)))) (append-nil (advanced_of tree)) h
+again : (tree : Sexp) → ReadsAdvanced (advanced_of tree ++ []) (Ok (tree, length (advanced_of tree))) → IsReadAgain tree
+again tree h = subst (λ (text : List ℕ). ReadsAdvanced text (Ok (tree, length (advanced_of tree)))) (append-nil (advanced_of tree)) h
 
 pub returns-clause-key : goal.returns-clause-key
 returns-clause-key c file key tree has octets shallow short =

@@ -3,7 +3,7 @@ use Rattle.std.specs.Prelude.{IfOk}
 use Rattle.sexp_canonical.specs.declared.tree.Sexp.{Sexp}
 use Rattle.sexp_advanced.specs.declared.fault.AdvFault.{AdvFault}
 use Rattle.sexp_advanced.proofs.Following.{following_read}
-use Rattle.sexp_advanced.specs.Reading.{Reads, IsExpression}
+use Rattle.sexp_advanced.specs.Reading.{ReadsAdvanced, IsExpression}
 use Rattle.sexp_advanced.specs.Writing.{advanced_of, EndsToken}
 use Rattle.sexp_advanced.proofs.OneAnswer as answers
 use Rattle.sexp_advanced.proofs.Again.{written_again}
@@ -16,7 +16,7 @@ pub returns-clause-again : goal.returns-clause-again
 returns-clause-again c =
     λ tree blanks more before octets shallow ends parts.
     answers.only c.args.bytes.now c.read_front.result c.read_front.ensures.found c.read_front.ensures.fault (Ok (tree, length (blanks ++ advanced_of tree)))
-    (subst (λ (text : List ℕ). Reads text (Ok (tree, length (blanks ++ advanced_of tree)))) (sym parts) (written_again tree blanks more before octets shallow ends))
+    (subst (λ (text : List ℕ). ReadsAdvanced text (Ok (tree, length (blanks ++ advanced_of tree)))) (sym parts) (written_again tree blanks more before octets shallow ends))
 
 if_read : (bytes : List ℕ) (r : Result (Sexp × ℕ) AdvFault) → IfOk r (λ read. IsExpression bytes read.0 read.1)
     → IfOk r (λ read. (more : List ℕ) → (EndsToken (drop read.1 bytes) → EndsToken more) → IsExpression (take read.1 bytes ++ more) read.0 read.1)

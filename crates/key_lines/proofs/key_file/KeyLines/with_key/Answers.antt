@@ -3,7 +3,7 @@ use Rattle.std.specs.Prelude.{codes, IfOk}
 use Rattle.sexp_canonical.specs.View.{tree_of}
 use Rattle.sexp_canonical.specs.Spelling.{most_bytes, most_depth, spelling_of, depth}
 use Rattle.sexp_canonical.specs.declared.tree.Sexp.{Sexp}
-use Rattle.sexp_advanced.specs.Reading.{Reads}
+use Rattle.sexp_advanced.specs.Reading.{ReadsAdvanced}
 use Rattle.sexp_advanced.specs.Writing.{advanced_of}
 use Rattle.key_lines.specs.KeyFile.{KeyFile, IsKeyFile}
 use Rattle.key_lines.specs.Canon.{is_canonical, Canon}
@@ -32,8 +32,8 @@ canon_of (Ok v) items key tree text is same again = λ file extended has shallow
     (replaced-canon file key tree extended has (again shallow) short)
 canon_of (Err e) items key tree text is same again = is
 
-read_again : (tree : Sexp) (text : List ℕ) → text ≡ advanced_of tree → Reads text (Ok (tree, length text)) → IsReadAgain tree
-read_again tree text is reads = subst (λ (t : List ℕ). Reads t (Ok (tree, length t))) is reads
+read_again : (tree : Sexp) (text : List ℕ) → text ≡ advanced_of tree → ReadsAdvanced text (Ok (tree, length text)) → IsReadAgain tree
+read_again tree text is reads = subst (λ (t : List ℕ). ReadsAdvanced t (Ok (tree, length t))) is reads
 
 pub returns-clause-again : goal.returns-clause-again
 returns-clause-again c =
