@@ -24,7 +24,8 @@ pub fn read(alloc: Global, bytes: &[u8]) -> Result<(Sexp, usize), SexpFault>
     // Else the fault is the first one from the left of the bytes that are looked at. Only a lack of
     // memory may come at any time.
     ensures fault { IfErr result
-        (λ fault. (fault ≡ SexpFault.NoMemory) ⊎ IsFirstSexpFault (take most_bytes bytes.now) fault) }
+        (λ fault. (fault ≡ SexpFault.NoMemory)
+        ⊎ IsFirstSexpFault (take most_bytes bytes.now) fault) }
 
     // What the bytes say is the answer: no fault hides an expression, and no later fault an earlier
     // one. This and the next clause follow from the first two by the law `one_answer`, and stand

@@ -7,6 +7,7 @@ ghost use Rattle.sexp_keys.specs.declared.fault.KeyFault.{KeyFault};
 /// A law: an expression has one answer at most. It is one key, or has one first fault, and not
 /// both. The expression of each key is that key.
 pub fn one_answer()
-    ensures one { (tree : Tree) (a b : Result Key KeyFault) → ReadsKey tree a → ReadsKey tree b → a ≡ b }
+    ensures one { (tree : Tree) (a b : Result Key KeyFault) → ReadsKey tree a → ReadsKey tree b
+        → a ≡ b }
     ensures again { (key : Key) → IsFormed key → IsKey (key_tree key) key }
 {}
