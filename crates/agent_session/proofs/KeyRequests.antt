@@ -1,9 +1,9 @@
 -- Requests on keys, each of whose refusals has its cause.
 use Rattle.std.specs.List.{AllByRecursion}
-use Rattle.std.proofs.Common.{◌≡◌, ◌≢◌, ◌==◌, ℕ, Bool, true, false, List, [], ◌∷◌, length, codes, Option, Some, None, Result, Ok, Err, refl, sym, subst, inl, inr, arith}
-use Rattle.std.specs.Prelude.{⊤, not, take, drop}
+use Rattle.std.proofs.Common.{◌≡◌, ◌≢◌, ◌==◌, ℕ, Bool, true, false, List, [], ◌∷◌, ◌++◌, length, codes, Option, Some, None, Result, Ok, Err, refl, sym, ap, ◌∙◌, subst, append_assoc, append-nil, inl, inr, arith}
+use Rattle.std.specs.Prelude.{⊤, not, map, take, drop}
 use Rattle.std.proofs.lemmas.Bool.Decides.{nat_tests}
-use Rattle.std.proofs.lemmas.List.{nil_from_length}
+use Rattle.std.proofs.lemmas.List.{map-append, nil_from_length}
 use Rattle.agent_ask.specs.Further.{FurtherEvent, Keys, Read, Replaced}
 use Rattle.agent_ask.specs.SessionEvents.{Further, cache_turn}
 use Rattle.agent_ports.specs.declared.grip.Grip.{Grip}
@@ -32,7 +32,8 @@ use Rattle.key_commands.specs.KeyParts.{Tells, tells, Protects, IsShort, HasOne 
 use Rattle.key_commands.specs.KeyParts.{Unwraps, ReceivesKey, NamesKey, IsFree, LooksOver, WrapsKey, Consents}
 use Rattle.key_commands.specs.KeyParts as parts
 use Rattle.key_commands.specs.Lines.{limit_line}
-use Rattle.key_commands.specs.Parts.{Part, Returns, unless, needed, or_else, wanted, read_fault}
+use Rattle.key_commands.specs.Parts.{Part, Returns, needed, or_else, wanted, read_fault}
+use Rattle.key_commands.specs.Parts as small
 use Rattle.key_commands.specs.Passphrases.{OpensBy, ClientOld, UncachedOld, OpensLocked, OldPassphrase, VerifiesPassphrase, ClientNew, NewPassphrase, ask_key, way_of}
 use Rattle.key_commands.specs.Wrapping.{WrappedSays}
 use Rattle.key_commands.specs.Wrapping as wrapping
@@ -41,7 +42,7 @@ use Rattle.key_commands.specs.declared.refusal.Refusal.TheVariants.{Agent}
 use Rattle.key_commands.specs.declared.request.Direction.{Direction}
 use Rattle.key_commands.specs.declared.request.KeyRequest.{KeyRequest}
 use Rattle.key_commands.specs.declared.request.KeyRequest.TheVariants as on
-use Rattle.agent_session.specs.Causes.{Has, StandIn, IsCaused, IsSent, IsUnread, LacksKeys, on_keys, IsRefusedBy, one, IsRead, IsReadOf, IsDrawn, IsListOf, protected, IsReadLocked, OpensRead, Unlocks, exports}
+use Rattle.agent_session.specs.Causes.{Has, here, StandIn, IsCaused, IsSent, AreUnread, IsUnread, LacksKeys, on_keys, IsRefusedBy, one, IsRead, IsReadOf, IsDrawn, IsListOf, protected, IsReadLocked, OpensRead, Unlocks, exports}
 use Rattle.agent_session.specs.Causes.{is_clear, key_data, KeyDataSays, data_says, faulty, long, long_file, by_mode, deletion, stays, empty, no_import, no_export, there, GivesNone, none_given}
 use Rattle.agent_session.specs.Causes.{GivesNoneFor, ByNonce, HasNoEntry, exported, changed, verified, imported, renewed, IsUnprompted}
 use Rattle.agent_session.specs.Causes as causes
@@ -54,7 +55,7 @@ use Rattle.agent_session.proofs.Faulty.{first_fault_said}
 use Rattle.agent_session.proofs.KeyParts.{Either, fault_caused, looks_for_nonce, takes_seat, keeps_new, locks, tries, tries_found, prompts_old, prompts_new, agrees, reads_file, removes, replaces}
 use Rattle.agent_session.proofs.KeyParts.{FoundByNonce, nonce_none, none_opens, nonce_none_opens, NoneOpens}
 use Rattle.agent_session.proofs.Replying.{IsReply, reply_ok, reply_status, reply_nonce, reply_keys}
-use Rattle.agent_session.proofs.Standing.{has_first}
+use Rattle.agent_session.proofs.Standing.{has_first, has_in, has_right}
 
 module _ (rules : Rules) (kept : Kept) (request : Request) (whole : List (Event FurtherEvent)) where
   abbrev CausedHere : Code → Type 0
@@ -162,17 +163,28 @@ module _ (rules : Rules) (kept : Kept) (request : Request) (whole : List (Event 
   writes_infos [] = returned rules kept request whole Anything tt tt
   writes_infos (grip ∷ more) = bind rules kept request whole Anything Anything (tells_listed grip) (λ told any. writes_infos more)
 
-  -- one of them is there, or all are absent
-  has_more : (grip : Grip) (more : List Grip) (found : Bool) → IsFound rules kept request whole grip found → (IsUnread whole grip → ExplainsHere (HasOneKey more) Anything)
-      → ExplainsHere (unless found (HasOneKey more)) Anything
-  has_more grip more true so others = returned rules kept request whole Anything tt tt
-  has_more grip more false so others = others so
+  -- one of them is there, or all are absent, those among them that were read earlier
+  abbrev unread : Grip → Event FurtherEvent
+  unread grip = Further (Keys (Read grip key_read.Absent))
 
-  has_one : (grips : List Grip) → (AllByRecursion (IsUnread whole) grips → CausedHere code.NoSecKey) → ExplainsHere (HasOneKey grips) Anything
-  has_one [] lacks = refused rules kept request whole Anything (Agent code.NoSecKey) (lacks tt)
-  has_one (grip ∷ more) lacks =
-      bind rules kept request whole (IsFound rules kept request whole grip) Anything (finds rules kept request whole grip)
-      (λ found so. has_more grip more found so (λ absent. has_one more (λ each. lacks (absent, each))))
+  has_one_of : (earlier grips : List Grip) → (AreUnread whole (earlier ++ grips) → CausedHere code.NoSecKey) → (before : Option ℕ) (events : List (Event FurtherEvent)) (result : Result (Unit {0}) Refusal)
+      (after : Option ℕ) → HasOneKey grips before events result after → StandIn (map unread earlier ++ events) whole → ComesHere Anything events result
+  has_one_of earlier [] lacks before events result after small.refuses stands = record {
+    silent = tt;
+    explained = lacks (subst (λ l. AreUnread whole l) (sym (append-nil earlier)) (subst (λ e. StandIn e whole) (append-nil (map unread earlier)) stands));
+  }
+  has_one_of earlier (grip ∷ more) lacks before events result after (small.goes_on small.found small.returns) stands = record { silent = (tt, tt); explained = tt }
+  has_one_of earlier (grip ∷ more) lacks before events result after (small.goes_on {events = rest} {mid} small.absent does) stands =
+      let joined : map unread (earlier ++ grip ∷ []) ++ rest ≡ map unread earlier ++ (unread grip ∷ rest) =
+      ap (λ e. e ++ rest) (map-append unread earlier (grip ∷ [])) ∙ append_assoc (map unread earlier) (unread grip ∷ []) rest in
+      let comes = has_one_of (earlier ++ grip ∷ []) more (λ each. lacks (subst (λ l. AreUnread whole l) (append_assoc earlier (grip ∷ []) more) each)) mid rest result after does
+      (subst (λ e. StandIn e whole) (sym joined) stands) in
+      record { silent = (tt, comes.silent); explained = comes.explained }
+  has_one_of earlier (grip ∷ more) lacks before events result after (small.stops small.faulted) stands = record { silent = (tt, tt); explained = one _ tt (has_in stands (has_right (map unread earlier) here)) }
+  has_one_of earlier (grip ∷ more) lacks before events result after (small.stops small.no_memory) stands = record { silent = (tt, tt); explained = one _ tt (has_in stands (has_right (map unread earlier) here)) }
+
+  has_one : (grips : List Grip) → (AreUnread whole grips → CausedHere code.NoSecKey) → ExplainsHere (HasOneKey grips) Anything
+  has_one grips lacks = record { of = has_one_of [] grips lacks }
 
   -- ---- wrapped keys
 

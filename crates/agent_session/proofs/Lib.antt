@@ -9,6 +9,14 @@ mod Counting
 mod Courses
 pub mod DoorAnswering
 mod ErrorLines
+mod Exact
+mod ExactCache
+mod ExactFiles
+mod ExactHave
+mod ExactKeys
+mod ExactParts
+mod ExactPrompts
+mod ExactReads
 mod Explained
 mod Explaining
 pub mod Fair

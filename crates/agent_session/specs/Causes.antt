@@ -1,7 +1,6 @@
 -- Why a request is answered by an error line: what must have happened in its exchange, for each code. The codes and their causes are this project's
 -- own.
-use Rattle.std.specs.List.{AllByRecursion}
-use Rattle.std.specs.Prelude.{◌≡◌, ◌<◌, ◌⊎◌, ◌++◌, ℕ, Bool, true, false, List, [], ◌∷◌, length, take, drop, codes, Option, Some, None, Result, Ok, Err, ⊤}
+use Rattle.std.specs.Prelude.{◌≡◌, ◌<◌, ◌⊎◌, ◌++◌, ℕ, Bool, true, false, List, [], ◌∷◌, length, map, take, drop, codes, Option, Some, None, Result, Ok, Err, ⊤}
 use Rattle.arrayvec.specs.ArrayVec.{ArrayVec}
 use Rattle.agent_ask.specs.Events.{Call, GetPin, Confirm, Start, Called, OutOfMemory, PromptEvent}
 use Rattle.agent_ask.specs.Further.{FurtherEvent, KeyCall, Read, Listed, Replaced, Removed, Drew, NotDrawn, Prompt, Keys, Dice, Trust, NoMemory}
@@ -265,9 +264,13 @@ module _ (events : List (Event FurtherEvent)) where
   abbrev pub IsUnremoved : Grip → Type 0
   IsUnremoved grip = Has (Further (Keys (Removed grip key_done.Absent))) events
 
+  -- these were read one after another, and each read said so
+  abbrev pub AreUnread : List Grip → Type 0
+  AreUnread grips = StandIn (map (λ grip. Further (Keys (Read grip key_read.Absent))) grips) events
+
   -- of the keys that a request names none is there
   abbrev pub LacksKeys : Option KeyRequest → Type 0
-  LacksKeys (Some (on.HaveKey grips)) = AllByRecursion IsUnread grips
+  LacksKeys (Some (on.HaveKey grips)) = AreUnread grips
   LacksKeys (Some (on.KeyInfo grip)) = IsUnread grip
   LacksKeys (Some (on.ExportKey grip id)) = IsUnread grip
   LacksKeys (Some (on.Passwd grip old new verify)) = IsUnread grip

@@ -2,6 +2,7 @@ pub mod Causes
 pub mod Completeness
 pub mod DoorCauses
 pub mod DoorCompleteness
+pub mod Exactly
 pub mod Refusals
 pub mod Sessions
 pub mod TrustCalls

@@ -11,6 +11,7 @@
 
 mod completeness;
 mod doors;
+mod exactly;
 mod laws;
 mod refusals;
 mod session;
@@ -24,6 +25,7 @@ pub use doors::{
     a_session_at_a_door_without_faults_is_answered, an_exchange_at_a_door_is_a_sessions,
     each_error_at_a_door_has_its_cause, without_a_cause_the_answer_at_a_door_is_ok,
 };
+pub use exactly::each_cause_has_its_error;
 pub use laws::{a_session_at_a_door_extends_a_run, a_session_extends_a_run, key_commands_are_read};
 pub use refusals::{
     a_call_of_the_trust_file_decides_its_request, a_prompt_is_opened_first,

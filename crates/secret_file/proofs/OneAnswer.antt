@@ -76,13 +76,13 @@ one_protection t p q h g =
     let count : p.count ≡ q.count = m.value ∙ ap octets written ∙ sym n.value in
     λ i. record { salt = salt i; count = count i; cipher = cipher i; encrypted = encrypted i }
 
-one_protection_fault : (t : Tree) (f g : KeyFault) → IsProtectionFault t f → IsProtectionFault t g → f ≡ g
+pub one_protection_fault : (t : Tree) (f g : KeyFault) → IsProtectionFault t f → IsProtectionFault t g → f ≡ g
 one_protection_fault t f g (inl x) (inl y) = x.1 ∙ sym y.1
 one_protection_fault t f g (inl x) (inr y) = absurd (let e = x.0 in let d = y.0 in cc)
 one_protection_fault t f g (inr x) (inl y) = absurd (let e = x.0 in let d = y.0 in cc)
 one_protection_fault t f g (inr x) (inr y) = x.2 ∙ sym y.2
 
-no_protection_fault : (t : Tree) (p : Protection) (f : KeyFault) → IsProtection t p → IsProtectionFault t f → ⊥
+pub no_protection_fault : (t : Tree) (p : Protection) (f : KeyFault) → IsProtection t p → IsProtectionFault t f → ⊥
 no_protection_fault t p f h (inl x) = let e = x.0 in let d = right_names t p h in cc
 no_protection_fault t p f h (inr x) = x.1 p h
 
@@ -115,7 +115,7 @@ one_tree : (file : List ℕ) (t u : Sexp) → IsReadable file t → IsReadable f
 one_tree file t u h g =
     tree_of_injective t u (one_spelling (tree_of t) (tree_of u) [] [] (ap (λ (s : List ℕ). s ++ []) (sym h.spelled ∙ g.spelled))).0
 
-one_file : (file : List ℕ) (k l : Key) → IsFile file k → IsFile file l → k ≡ l
+pub one_file : (file : List ℕ) (k l : Key) → IsFile file k → IsFile file l → k ≡ l
 one_file file k l h g =
     let same = one_tree file h.tree g.tree h.read g.read in
     let keys_same : Ok k ≡ Ok l = keys.one_answer (tree_of g.tree) (Ok k) (Ok l) (subst (λ (t : Sexp). IsKey (tree_of t) k) same h.is) g.is in
@@ -127,14 +127,14 @@ fault_of_key t k f h g = let e : Ok k ≡ Err f = keys.one_answer t (Ok k) (Err 
 one_first_fault : (t : Tree) (f g : KeyFault) → IsFirstKeyFault t f → IsFirstKeyFault t g → f ≡ g
 one_first_fault t f g h k = let e : Err f ≡ Err g = keys.one_answer t (Err f) (Err g) h k in cc
 
-one_file_fault : (file : List ℕ) (f g : KeyFault) → IsFileFault file f → IsFileFault file g → f ≡ g
+pub one_file_fault : (file : List ℕ) (f g : KeyFault) → IsFileFault file f → IsFileFault file g → f ≡ g
 one_file_fault file f g (inl x) (inl y) = x.1 ∙ sym y.1
 one_file_fault file f g (inl x) (inr y) = absurd (x.0 y.0 y.1)
 one_file_fault file f g (inr x) (inl y) = absurd (y.0 x.0 x.1)
 one_file_fault file f g (inr x) (inr y) =
     one_first_fault (tree_of y.0) f g (subst (λ (t : Sexp). IsFirstKeyFault (tree_of t) f) (one_tree file x.0 y.0 x.1 y.1) x.2) y.2
 
-no_file_fault : (file : List ℕ) (k : Key) (f : KeyFault) → IsFile file k → IsFileFault file f → ⊥
+pub no_file_fault : (file : List ℕ) (k : Key) (f : KeyFault) → IsFile file k → IsFileFault file f → ⊥
 no_file_fault file k f h (inl x) = x.0 h.tree h.read
 no_file_fault file k f h (inr x) =
     fault_of_key (tree_of h.tree) k f h.is (subst (λ (t : Sexp). IsFirstKeyFault (tree_of t) f) (one_tree file x.0 h.tree x.1 h.read) x.2)

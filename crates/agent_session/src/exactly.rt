@@ -1,0 +1,24 @@
+ghost use Rattle.std.specs.List.{AllByRecursion};
+ghost use Rattle.std.specs.Prelude.{List, ℕ};
+ghost use Rattle.assuan_server.specs.declared.errors.Code.{Code};
+ghost use Rattle.assuan_server.specs.declared.errors.Origin.TheVariants.{Agent};
+ghost use Rattle.agent_commands.specs.Requests.{request_of};
+ghost use Rattle.agent_commands.specs.declared.went.Went.{Went};
+ghost use Rattle.agent_origin.specs.SessionExchanges.{SessionExchange};
+ghost use Rattle.agent_origin.specs.declared.kept.Kept.{Kept};
+ghost use Rattle.agent_session.specs.Completeness.{HasError, Remembers};
+ghost use Rattle.agent_session.specs.Exactly.{ExactCause};
+ghost use Rattle.key_commands.specs.Events.{Event};
+ghost use Rattle.session_options.specs.declared.rules.Rules.{Rules};
+
+/// Where the cause of one of these codes stands in an exchange, the request is answered by the
+/// error line of that code, unless memory was wanted: so each of them is answered exactly where its
+/// cause stands.
+pub fn each_cause_has_its_error()
+    ensures { (rules : Rules) (kept now : Kept) (line : List ℕ) (events : List Event) (went : Went)
+        → SessionExchange rules kept line events now went → AllByRecursion Remembers events
+        → (why : Code) → ExactCause events rules kept (request_of line) why
+        → HasError why Agent events }
+{
+    key_lines::one_answer();
+}
