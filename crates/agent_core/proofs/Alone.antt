@@ -51,7 +51,7 @@ alone_own asked before turn after alone (waiting {mid = mid} step waits) =
     }) waits)
 
 -- a turn is then its own step
-alone_turn : (asked : MarkStep) (before : AtSolo) (turn : Turn) (after : AtSolo) → IsAlone before → TurnsSolo before asked turn after → OwnStep before asked turn after
+pub alone_turn : (asked : MarkStep) (before : AtSolo) (turn : Turn) (after : AtSolo) → IsAlone before → TurnsSolo before asked turn after → OwnStep before asked turn after
 alone_turn asked before turn after alone turns =
     let same = alone_next before turns.listed turns.there alone.script turns.plays in
     alone_own asked before turn after alone (subst (λ (s : AtSolo). TakesOwn asked s turn after) same turns.own)

@@ -2,3 +2,7 @@ mod Counting
 mod Lifting
 mod Pairs
 mod Works
+mod OnePrompt
+pub mod PromptedParts
+pub mod PromptedLines
+pub mod PromptedSessions

@@ -2,3 +2,4 @@ pub mod Gates
 pub mod Pairs
 pub mod Serves
 pub mod Working
+pub mod Prompts

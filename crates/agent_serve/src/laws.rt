@@ -3,14 +3,17 @@ ghost use Rattle.agent_ask.specs.SessionEvents.{turns_in};
 ghost use Rattle.agent_commands.specs.declared.went.SessionEnd.{SessionEnd as Ends};
 ghost use Rattle.agent_origin.specs.OuterRuns.{LeavesDesk};
 ghost use Rattle.agent_origin.specs.OuterTurns.{LeavesCache};
+ghost use Rattle.agent_origin.specs.declared.door.Door.{Door};
 ghost use Rattle.agent_origin.specs.declared.door.Door.TheVariants.{Outer};
 ghost use Rattle.agent_ports.specs.declared.session.SessionId.{SessionId};
 ghost use Rattle.counted_lock.specs.Passes.{AtPass};
 ghost use Rattle.counted_lock.specs.Turns.{at_counted};
 ghost use Rattle.session_options.specs.declared.rules.Rules.{Rules};
+ghost use Rattle.agent_serve.specs.Prompts.{HavePrompts};
 ghost use Rattle.agent_serve.specs.Serves.{LinkSides, ServesOne};
 
 use agent_ports::Host;
+use pinentry_client::a_pinentry_is_a_prompter;
 
 /// A restricted session of the daemon takes the seat for prompts of which nothing is kept, gives it
 /// back, and looks whether passphrases are cached. So its marks in the one run store and clear
@@ -34,3 +37,20 @@ pub fn a_restricted_session_leaves_the_run<H: Host>()
         → LeavesDesk (at_counted (record pass { sessions = session.count + 1 }) session None)
         (turns_in serves.served.events) (at_counted now session None) }
 {}
+
+/// The prompter's calls in a session of the daemon are those of prompts, one after another, each
+/// from its start to its end. The children that its launcher had are theirs, in order: one for each
+/// prompt, with which its calls are a dialogue, but for a prompt whose launch failed.
+pub fn prompts_of_a_daemons_session_have_their_children<H: Host>()
+    ensures { (path : List ℕ) (rules : Rules) (door : Door) (session : SessionId)
+        (before after : LinkSides) (pass now : AtPass) (end : Ends) → (serves : ServesOne (record {
+          launches = H.Launcher.launches;
+          readings = H.Clock.readings;
+          draws = H.Dice.draws;
+          keys = H.Keys.keys;
+        }) H.Trust.trust (H.of_folder path) rules door session before pass end after now)
+        → HavePrompts rules.pinentry.items serves.served.events
+        (H.Launcher.launches serves.parts.launcher) serves.launches_now }
+{
+    a_pinentry_is_a_prompter();
+}

@@ -14,6 +14,8 @@ mod serving;
 mod workers;
 
 pub use gated::GatedPrompter;
-pub use laws::a_restricted_session_leaves_the_run;
+pub use laws::{
+    a_restricted_session_leaves_the_run, prompts_of_a_daemons_session_have_their_children,
+};
 pub use serving::serve_one;
 pub use workers::run_workers;

@@ -1,6 +1,6 @@
 -- Requests that ask the cache alone, or clear it, at a desk that finds no memory only for steps that may want some.
 use Rattle.std.specs.List.{AllByRecursion}
-use Rattle.std.proofs.Common.{◌≡◌, ℕ, Bool, List, Option, refl, subst}
+use Rattle.std.proofs.Common.{◌≡◌, ℕ, Bool, List, [], ◌∷◌, Option, refl, subst}
 use Rattle.std.specs.Prelude.{⊤}
 use Rattle.agent_ask.specs.Events.{Call}
 use Rattle.agent_ask.specs.Further.{FurtherEvent}
@@ -32,6 +32,32 @@ abbrev pub IsFair : Event FurtherEvent → Type 0
 IsFair (CacheTurn taken) = taken.turn ≡ Refused → MayWantMemory taken.asked
 IsFair _ = ⊤
 
+-- the first event is so
+abbrev pub IsFirstFair : List (Event FurtherEvent) → Type 0
+IsFirstFair [] = ⊤
+IsFirstFair (event ∷ more) = IsFair event
+
+first_of_all : (events : List (Event FurtherEvent)) → AllByRecursion IsFair events → IsFirstFair events
+first_of_all [] each = tt
+first_of_all (event ∷ more) each = each.0
+
+-- the same of the desk where the events begin
+module _ {D P : Type 0} (turned : D → MarkStep → Turn → D → Type 0) (prompted : P → Call → P → Type 0) {supply : Supply} where
+  fair_at : {before after : Outside (FurtherWorld turned prompted)} {event : Event FurtherEvent}
+      → ((asked : MarkStep) (desk : D) → turned before.desk asked Refused desk → MayWantMemory asked) → Does (FurtherWorld turned prompted) supply before event after → IsFair event
+  fair_at wants (worlds.received known needed) = tt
+  fair_at wants worlds.sent = tt
+  fair_at wants worlds.cut = tt
+  fair_at wants (worlds.asked known needed) = tt
+  fair_at wants (worlds.not_asked unsent split) = tt
+  fair_at {before} wants (worlds.turned {taken} {desk} does) = λ refused. wants taken.asked desk (subst (λ t. turned before.desk taken.asked t desk) refused does)
+  fair_at wants (worlds.further does) = tt
+
+  pub first_fair : {before after : Outside (FurtherWorld turned prompted)} {events : List (Event FurtherEvent)}
+      → ((asked : MarkStep) (desk : D) → turned before.desk asked Refused desk → MayWantMemory asked) → Leads (Does (FurtherWorld turned prompted) supply) before events after → IsFirstFair events
+  first_fair wants none = tt
+  first_fair wants (one does leads) = fair_at wants does
+
 module _ {D P : Type 0} (turned : D → MarkStep → Turn → D → Type 0) (prompted : P → Call → P → Type 0)
     (wants : (before after : D) (asked : MarkStep) → turned before asked Refused after → MayWantMemory asked) {supply : Supply} where
   event_fair : {before after : Outside (FurtherWorld turned prompted)} {event : Event FurtherEvent} → Does (FurtherWorld turned prompted) supply before event after → IsFair event
@@ -51,16 +77,16 @@ module _ {D P : Type 0} (turned : D → MarkStep → Turn → D → Type 0) (pro
 turn_calm : (asked : MarkStep) (turn : Turn) → (MayWantMemory asked → ⊥) → IsFair (cache_turn asked turn) → (IsStopped (cache_turn asked turn) → ⊥) → IsCalm (cache_turn asked turn)
 turn_calm asked turn never fair still = ((λ wants. never (fair wants)), still)
 
-looks_calm : {plain : Bool} {id : Option (List ℕ)} {events : List (Event FurtherEvent)} {went : Went} → LooksFirst plain id (Refuses code.NoData) events went → AllByRecursion IsFair events
+looks_calm : {plain : Bool} {id : Option (List ℕ)} {events : List (Event FurtherEvent)} {went : Went} → LooksFirst plain id (Refuses code.NoData) events went → IsFirstFair events
     → AllByRecursion (λ event. ¬ IsStopped event) events → AllByRecursion IsCalm events
-looks_calm (exchanges.answered (exchanges.given {id} {grant} is)) fair still = (turn_calm (ask id) (Given grant) (λ wants. wants) fair.0 still.0, (((λ wants. wants), (λ stopped. stopped)), tt))
-looks_calm (exchanges.answered (exchanges.interrupted {id} {turn} why)) fair still = (turn_calm (ask id) turn (λ wants. wants) fair.0 still.0, (((λ wants. wants), (λ stopped. stopped)), tt))
+looks_calm (exchanges.answered (exchanges.given {id} {grant} is)) fair still = (turn_calm (ask id) (Given grant) (λ wants. wants) fair still.0, (((λ wants. wants), (λ stopped. stopped)), tt))
+looks_calm (exchanges.answered (exchanges.interrupted {id} {turn} why)) fair still = (turn_calm (ask id) turn (λ wants. wants) fair still.0, (((λ wants. wants), (λ stopped. stopped)), tt))
 looks_calm (exchanges.goes_on exchanges.no_id exchanges.refused) fair still = (((λ wants. wants), (λ stopped. stopped)), tt)
-looks_calm (exchanges.goes_on (exchanges.empty {id}) exchanges.refused) fair still = (turn_calm (ask id) Empty (λ wants. wants) fair.0 still.0, (((λ wants. wants), (λ stopped. stopped)), tt))
+looks_calm (exchanges.goes_on (exchanges.empty {id}) exchanges.refused) fair still = (turn_calm (ask id) Empty (λ wants. wants) fair still.0, (((λ wants. wants), (λ stopped. stopped)), tt))
 
 module _ (rules : Rules) where
   cached_alone : {options after : OptionValues} (request : Request) {events : List (Event FurtherEvent)} {went : Went} → Exchange rules options request events after went → AllByRecursion FitsTurn events
-      → AllByRecursion IsFair events → AllByRecursion (λ event. ¬ IsStopped event) events → AnswersAlone request events
+      → IsFirstFair events → AllByRecursion (λ event. ¬ IsStopped event) events → AnswersAlone request events
   cached_alone request exchanges.refused fits fair still = tt
   cached_alone request exchanges.nop fits fair still = tt
   cached_alone request exchanges.reset fits fair still = tt
@@ -79,11 +105,15 @@ module _ (rules : Rules) where
   cached_alone request (exchanges.unconfirmed refusal) fits fair still = tt
   cached_alone request (exchanges.one_turn (exchanges.preset allow) comes) fits fair still = tt
   cached_alone request (exchanges.one_turn (exchanges.clear {id} {mode}) comes) fits fair still =
-      done_is_answered (Clear id mode) (λ late. absurd (cc late)) refl comes fits.0 (turn_calm (Clear id mode) _ (λ wants. wants) fair.0 still.0)
-  cached_alone request (exchanges.one_turn exchanges.reload comes) fits fair still = done_is_answered Flush (λ late. absurd (cc late)) refl comes fits.0 (turn_calm Flush _ (λ wants. wants) fair.0 still.0)
+      done_is_answered (Clear id mode) (λ late. absurd (cc late)) refl comes fits.0 (turn_calm (Clear id mode) _ (λ wants. wants) fair still.0)
+  cached_alone request (exchanges.one_turn exchanges.reload comes) fits fair still = done_is_answered Flush (λ late. absurd (cc late)) refl comes fits.0 (turn_calm Flush _ (λ wants. wants) fair still.0)
   cached_alone request (exchanges.one_turn exchanges.kill comes) fits fair still = tt
+
+  pub alone_first : {before after : Kept} (request : Request) {events : List (Event FurtherEvent)} {went : Went} → RequestExchange rules before request events after went → AllByRecursion FitsTurn events
+      → IsFirstFair events → AllByRecursion (λ event. ¬ IsStopped event) events → AnswersAlone request events
+  alone_first request (cache exchange) fits fair still = cached_alone request exchange fits fair still
+  alone_first request (keys exchange) fits fair still = tt
 
   pub alone : {before after : Kept} (request : Request) {events : List (Event FurtherEvent)} {went : Went} → RequestExchange rules before request events after went → AllByRecursion FitsTurn events
       → AllByRecursion IsFair events → AllByRecursion (λ event. ¬ IsStopped event) events → AnswersAlone request events
-  alone request (cache exchange) fits fair still = cached_alone request exchange fits fair still
-  alone request (keys exchange) fits fair still = tt
+  alone request {events} exchange fits fair still = alone_first request exchange fits (first_of_all events fair) still

@@ -32,6 +32,7 @@ mod Prompted
 mod RefusedCourses
 mod Refusing
 mod Replying
+pub mod RunExchanges
 mod SessionCourses
 mod Standing
 mod Talking

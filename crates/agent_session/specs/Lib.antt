@@ -7,3 +7,4 @@ pub mod Refusals
 pub mod Sessions
 pub mod TrustCalls
 pub mod Counting
+pub mod RunExchanges

@@ -4,6 +4,7 @@ mod Ears
 mod Lifting
 mod Loading
 mod Rounds
+mod RunLaws
 mod Running
 mod OptionReading
 mod OptionRows

@@ -10,6 +10,7 @@
 mod completeness;
 mod daemon;
 mod load;
+mod runs;
 mod status;
 mod top;
 mod words;
@@ -22,6 +23,10 @@ pub use completeness::{
 };
 pub use daemon::run_daemon;
 pub use load::run_load;
+pub use runs::{
+    each_request_of_a_daemon_is_lawful, each_request_of_a_server_is_lawful,
+    prompts_of_a_server_have_their_children,
+};
 pub use status::Status;
 pub use top::{run_agent, run_server};
 pub use words::{WordsFault, read_words, words_are_read_as_spelled};

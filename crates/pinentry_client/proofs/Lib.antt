@@ -9,3 +9,5 @@ mod Alike
 mod OnlyTalk
 mod OnlyDialogue
 mod Spending
+pub mod Children
+mod WorkedExamples

@@ -4,3 +4,4 @@ pub mod Talking
 pub mod States
 pub mod Dialogues
 pub mod Whole
+pub mod Children

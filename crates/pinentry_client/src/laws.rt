@@ -1,9 +1,12 @@
 //! Laws: each function's contract is a fact about the definitions.
 
+ghost use Rattle.std.specs.List.{count_by};
 ghost use Rattle.std.specs.Prelude.{◌≡◌, ◌+◌, ℕ, List, length, Option, Some};
 ghost use Rattle.agent_ask.specs.Events.{Call};
-ghost use Rattle.agent_ask.specs.Prompters.{IsCall};
+ghost use Rattle.agent_ask.specs.Prompters.{IsCall, is_failed};
+ghost use Rattle.agent_ports.specs.Counts.{RoseBy};
 ghost use Rattle.agent_ports.specs.Leads.{Leads};
+ghost use Rattle.pinentry_client.specs.Children.{ArePrompts, HaveTheirChildren};
 ghost use Rattle.pinentry_client.specs.Dialogues.{PinentryCall, PinentryDoes};
 ghost use Rattle.pinentry_client.specs.States.{AtPinentry, PinentryState, at_prompter};
 ghost use Rattle.pinentry_client.specs.Whole.{IsOnePrompt, HasItsChild, Dialogue, AskAlike};
@@ -26,6 +29,23 @@ pub fn a_prompt_has_its_child<La: Launcher>()
     ensures { (before after : PinentryState La) (calls : List Call) → IsOnePrompt calls
         → Leads (PinentryCall La.launches) before calls after → HasItsChild before.program calls
         (La.launches before.launcher) (La.launches after.launcher) }
+{}
+
+/// The calls of prompts, one after another, are dialogues with children, one for each prompt in
+/// their order, but for a prompt whose launch failed. The children run the pinentry's program, are
+/// the next that the launcher starts, and then the last that it has finished.
+pub fn prompts_have_their_children()
+    ensures { (before after : AtPinentry) (prompts : List (List Call)) (calls : List Call)
+        → ArePrompts prompts calls → Leads PinentryDoes before calls after
+        → HaveTheirChildren before.program prompts before.launches after.launches }
+{}
+
+/// Of a pinentry's calls, one after another, at most as many fail as the count of its launcher and
+/// its child rises by, as long as that is below its last value.
+pub fn failures_of_a_pinentry_are_counted()
+    ensures { (before after : AtPinentry) (calls : List Call)
+        → Leads PinentryDoes before calls after → RoseBy (count_by is_failed calls)
+        (at_prompter before).faults (at_prompter after).faults }
 {}
 
 /// The bytes that a child could give decide what the calls of a prompt are answered: where the same

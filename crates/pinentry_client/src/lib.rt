@@ -22,6 +22,6 @@ pub type Word = ArrayVec<u8, MAX_VALUE_LEN>;
 
 pub use laws::{
     a_dialogue_has_one_outcome, a_pinentry_is_a_prompter, a_prompt_has_its_child,
-    a_spent_child_gave_all,
+    a_spent_child_gave_all, failures_of_a_pinentry_are_counted, prompts_have_their_children,
 };
 pub use pinentry::Pinentry;

@@ -1,0 +1,131 @@
+-- Runs of `--server`, and sessions of a daemon: the laws on single requests hold of each of their exchanges, and their prompts have their children.
+use Rattle.std.proofs.Common.{◌≡◌, ◌<◌, ◌+◌, ℕ, Bool, List, Option, Some, None, length, true, refl, sym, ap, subst, ◌∙◌, arith}
+use Rattle.std.specs.Prelude.{⊤, IfSome}
+use Rattle.agent_ask.specs.Events.{Call}
+use Rattle.agent_ask.specs.Prompters.{IsCall}
+use Rattle.agent_ask.specs.SessionEvents.{CacheTurn}
+use Rattle.agent_ask.specs.Worlds.{Outside, Does}
+use Rattle.agent_ask.specs.Worlds as worlds
+use Rattle.agent_commands.specs.declared.went.SessionEnd.{SessionEnd}
+use Rattle.agent_core.specs.Known.{MayRefuse, TakesStep, wants, begins, leaves}
+use Rattle.agent_core.specs.Known as known
+use Rattle.agent_core.specs.Solos.{AtSolo, OwnStep, TurnsSolo, at_desk}
+use Rattle.agent_core.proofs.Alone.{IsAlone, alone_turn}
+use Rattle.agent_core.specs.Cores.{WantsMemory}
+use Rattle.agent_origin.specs.DoorSessions.{DoorExchange}
+use Rattle.agent_origin.specs.FurtherStates.{FurtherWorld}
+use Rattle.agent_origin.specs.SessionExchanges.{SessionExchange, kept_at_start}
+use Rattle.agent_origin.specs.declared.door.Door.{Door}
+use Rattle.agent_ports.specs.HostParts.{Views, InFolder}
+use Rattle.agent_ports.specs.Readings.{Readings}
+use Rattle.agent_ports.specs.TrustFiles.{TrustState}
+use Rattle.agent_ports.specs.declared.session.SessionId.{SessionId}
+use Rattle.agent_serve.proofs.PromptedLines.{request_prompted}
+use Rattle.agent_serve.proofs.PromptedSessions.{session_prompted, have_prompts}
+use Rattle.agent_serve.specs.Serves.{LinkSides, ServesOne}
+use Rattle.agent_session.proofs.Answering.{in_session}
+use Rattle.agent_session.proofs.DoorAnswering.{at_door, door_is_session}
+use Rattle.agent_session.proofs.RunExchanges.{session_between, lawful}
+use Rattle.agent_session.specs.Completeness.{SessionCauses}
+use Rattle.agent_session.specs.DoorCauses.{IsCausedAtDoor}
+use Rattle.agent_session.specs.RunExchanges.{LawfulExchange}
+use Rattle.assuan_server.specs.Reading.{Supply}
+use Rattle.cache_policy.specs.declared.entry.Entry.{Entry}
+use Rattle.cache_policy.specs.Histories.{History}
+use Rattle.cache_policy.specs.Policy.{Reply, ask_ruling}
+use Rattle.cache_policy.specs.Runs.{last_history, next_history}
+use Rattle.cache_policy.specs.Seat.{seat}
+use Rattle.cache_policy.specs.Turns.{Turn, Refused, MayWantMemory}
+use Rattle.cache_policy.specs.declared.bounds.TheConstants.{MAX_MARKS}
+use Rattle.cache_policy.specs.declared.history.Held.{Held}
+use Rattle.cache_policy.specs.declared.life.Limits.{Limits}
+use Rattle.cache_policy.specs.declared.mark.MarkReply.TheVariants as reply
+use Rattle.cache_policy.specs.declared.mark.MarkStep.{MarkStep}
+use Rattle.cache_policy.specs.declared.mark.MarkStep.TheVariants.{Ask, Seat, Peek, Close, Put, Clear, Flush, Stop}
+use Rattle.cache_policy.specs.declared.mark.Way.TheVariants.{Quiet, Prompt}
+use Rattle.counted_lock.specs.Passes.{AtPass}
+use Rattle.counted_lock.specs.Turns.{AtCountedDesk, CountedTurn, at_counted}
+use Rattle.key_commands.specs.Events.{Event}
+use Rattle.pinentry_client.specs.Dialogues.{PinentryDoes}
+use Rattle.pinentry_client.specs.States.{AtPinentry, at_prompter}
+use Rattle.session_options.specs.declared.rules.Rules.{Rules}
+use Rattle.agent_top.specs.Runs.{IsWithinHistory, IsOfEverySession, IsLawfulRun, IsLawfulSession, RunHasPrompts}
+use Rattle.agent_top.specs.Top.{Machine, RunsServer, ran}
+use Rattle.agent_top.specs.Top as top
+
+-- ---- the desk of a run: nobody else steps there
+
+never_opens : (entry : Option Entry) (stops : Bool) (held : Option Held) (late : Bool) → ask_ruling entry Quiet stops held late ≡ Reply reply.Open → ⊥
+never_opens None stops held late is = cc is
+never_opens (Some found) stops held late is = cc is
+
+-- what wants memory for itself may want some
+wants_may : (limits : Limits) (next : History) (asked : MarkStep) (moment : ℕ) → WantsMemory limits next asked moment → MayWantMemory asked
+wants_may limits next (Put id mode life secret) moment wanted = tt
+wants_may limits next (Ask id mode Prompt since) moment wanted = tt
+wants_may limits next (Ask id mode Quiet since) moment wanted = never_opens _ _ _ _ wanted
+wants_may limits next (Seat under since) moment wanted = wanted.0
+wants_may limits next (Peek id mode) moment wanted = wanted
+wants_may limits next (Close ticket keep) moment wanted = wanted
+wants_may limits next (Clear id mode) moment wanted = wanted
+wants_may limits next Flush moment wanted = wanted
+wants_may limits next Stop moment wanted = wanted
+
+within_may : (limits : Limits) (last : History) (session : SessionId) (asked : MarkStep) (moment : ℕ) → length last.marks + 1 < MAX_MARKS → MayRefuse limits last session asked moment → MayWantMemory asked
+within_may limits last session asked moment within (wants wanted) = wants_may limits (next_history last) asked moment wanted
+within_may limits last session asked moment within (begins no_close full free) = absurd (omega (arith, within, full))
+within_may limits last session asked moment within (leaves answer no_close full rules out) = absurd (omega (arith, within, full))
+
+takes_may : {limits : Limits} {run after : List History} {session : SessionId} {moment : ℕ} {asked : MarkStep} → IfSome (last_history run) (λ last. length last.marks + 1 < MAX_MARKS)
+    → TakesStep limits run session moment asked Refused after → MayWantMemory asked
+takes_may within (known.marked last answer last_is below rules shows is) = absurd shows
+takes_may {limits} {session} {moment} {asked} within (known.refused last last_is below why is) =
+    within_may limits last session asked moment (subst (λ (h : Option History). IfSome h (λ last. length last.marks + 1 < MAX_MARKS)) last_is within) why
+
+-- a turn within a history finds no memory only for a step that may want some
+solo_may : (before : AtSolo) (asked : MarkStep) (after : AtSolo) → IsAlone before → IsWithinHistory before → TurnsSolo before asked Refused after → MayWantMemory asked
+solo_may before asked after alone within turns = takes_may within (alone_turn asked before Refused after alone turns).takes.takes
+
+alone_stays : (before : AtSolo) (asked : MarkStep) (turn : Turn) (after : AtSolo) → TurnsSolo before asked turn after → IsAlone before → IsAlone after
+alone_stays before asked turn after turns alone =
+    let step = alone_turn asked before turn after alone turns in
+    record { script = ap (λ (s : AtSolo). s.script) step.same ∙ alone.script; nobody = ap (λ (s : AtSolo). s.holder) step.same ∙ alone.nobody }
+
+stays_alone : {supply : Supply} (before : Outside (FurtherWorld TurnsSolo PinentryDoes)) (event : Event) (after : Outside (FurtherWorld TurnsSolo PinentryDoes))
+    → Does (FurtherWorld TurnsSolo PinentryDoes) supply before event after → IsAlone before.desk → IsAlone after.desk
+stays_alone before event after (worlds.received known_so needed) alone = alone
+stays_alone before event after worlds.sent alone = alone
+stays_alone before event after worlds.cut alone = alone
+stays_alone before event after (worlds.asked known_so needed) alone = alone
+stays_alone before event after (worlds.not_asked unsent split) alone = alone
+stays_alone before event after (worlds.turned {taken} {desk} does) alone = alone_stays before.desk taken.asked taken.turn desk does alone
+stays_alone before event after (worlds.further does) alone = alone
+
+-- ---- the laws
+
+module _ (promise : (before : AtPinentry) (call : Call) (after : AtPinentry) → PinentryDoes before call after → IsCall (at_prompter before) call (at_prompter after)) where
+  pub server_prompts : {rules : Rules} {before after : Machine} {number : ℕ} (runs : RunsServer rules before number after) → RunHasPrompts runs
+  server_prompts {rules} {before} {after} (ran run) =
+      have_prompts TurnsSolo promise rules.pinentry.items before.launches after.launches refl refl
+      (session_prompted (SessionExchange rules) (λ kept line events now went exchanged. request_prompted _ exchanged) run.served.session) run.served.leads
+  server_prompts top.no_memory = tt
+
+  pub server_lawful : {rules : Rules} {before after : Machine} {number : ℕ} (runs : RunsServer rules before number after) → IsLawfulRun runs
+  server_lawful {rules} {before} (ran run) =
+      session_between (SessionExchange rules) (LawfulExchange TurnsSolo PinentryDoes at_prompter rules (SessionCauses rules) (λ line. ⊤) IsWithinHistory) IsAlone stays_alone
+      (lawful TurnsSolo PinentryDoes at_desk at_prompter (λ b asked turn a turns. turns.is) promise rules IsWithinHistory IsAlone (λ b asked a alone within refused. solo_may b asked a alone within refused)
+      (in_session rules) (λ b line events a went caused. caused.answered) (λ line. ⊤) (λ b line events a went exchange is. exchange))
+      _ _ (record { script = refl; nobody = refl }) run.served.session run.served.leads
+  server_lawful top.no_memory = tt
+
+  module _ {La C R K T : Type 0} {views : Views La C R K} {trusts : T → TrustState} {folder : InFolder K T} {rules : Rules} {door : Door} {session : SessionId} {before after : LinkSides} {pass now : AtPass} {end : SessionEnd}
+      (one : ServesOne views trusts folder rules door session before pass end after now) where
+    pub daemon_lawful : IsLawfulSession one
+    daemon_lawful =
+        session_between (DoorExchange door rules)
+        (LawfulExchange (CountedTurn (λ (readings : Readings). readings)) PinentryDoes at_prompter rules (IsCausedAtDoor door rules) (IsOfEverySession door) (λ (desk : AtCountedDesk Readings). ⊤))
+        (λ (desk : AtCountedDesk Readings). ⊤) (λ b event a does so. tt)
+        (lawful (CountedTurn (λ (readings : Readings). readings)) PinentryDoes (λ (desk : AtCountedDesk Readings). at_counted desk.pass desk.session desk.out) at_prompter
+        (λ b asked turn a does. does.is) promise rules (λ (desk : AtCountedDesk Readings). ⊤) (λ (desk : AtCountedDesk Readings). ⊤) (λ b asked a so spares does. does.turns.memory refl)
+        (at_door door rules) (λ b line events a went caused. caused.by_cause.answered) (IsOfEverySession door) (λ b line events a went exchange is. door_is_session exchange is.0 is.1))
+        _ _ tt one.served.session one.served.leads

@@ -1,0 +1,67 @@
+-- Runs of `--server`, and sessions of a daemon: what the laws on single requests say of each of their exchanges, and their prompts. This is the project's own.
+use Rattle.std.specs.Prelude.{◌≡◌, ◌<◌, ◌+◌, ℕ, List, true, length, IfSome, None, ⊤}
+use Rattle.agent_commands.specs.Talks.{Session}
+use Rattle.agent_commands.specs.declared.went.SessionEnd.{SessionEnd}
+use Rattle.agent_core.specs.Solos.{AtSolo, TurnsSolo}
+use Rattle.agent_origin.specs.DoorSessions.{DoorExchange}
+use Rattle.agent_origin.specs.Doors.{allowed}
+use Rattle.agent_origin.specs.FurtherStates.{FurtherWorld}
+use Rattle.agent_origin.specs.Names.{door_command_named}
+use Rattle.agent_origin.specs.SessionExchanges.{SessionExchange, kept_at_start}
+use Rattle.agent_origin.specs.Sessions.{Surroundings, supply_of}
+use Rattle.agent_origin.specs.declared.door.Door.{Door}
+use Rattle.agent_ports.specs.HostParts.{Views, InFolder}
+use Rattle.agent_ports.specs.Readings.{Readings}
+use Rattle.agent_ports.specs.TrustFiles.{TrustState}
+use Rattle.agent_ports.specs.declared.session.SessionId.{SessionId}
+use Rattle.agent_serve.specs.Prompts.{HavePrompts}
+use Rattle.agent_serve.specs.Serves.{LinkSides, ServesOne, at_pass}
+use Rattle.agent_session.specs.Completeness.{SessionCauses}
+use Rattle.agent_session.specs.DoorCauses.{IsCausedAtDoor}
+use Rattle.agent_session.specs.RunExchanges.{Between, ExchangeBetween, LawfulExchange}
+use Rattle.agent_commands.specs.Outside.{World}
+use Rattle.assuan_text.specs.Words.{command_of}
+use Rattle.cache_policy.specs.Runs.{last_history}
+use Rattle.cache_policy.specs.declared.bounds.TheConstants.{MAX_MARKS}
+use Rattle.counted_lock.specs.Passes.{AtPass}
+use Rattle.counted_lock.specs.Turns.{AtCountedDesk, CountedTurn}
+use Rattle.pinentry_client.specs.Dialogues.{PinentryDoes}
+use Rattle.pinentry_client.specs.States.{at_prompter}
+use Rattle.session_options.specs.declared.rules.Rules.{Rules}
+use Rattle.agent_top.specs.Cache.{limits_of, fresh_desk}
+use Rattle.agent_top.specs.Top.{Machine, RunsServer, ran, with_desk}
+use Rattle.agent_top.specs.Top as top
+
+-- what stands before the first exchange of a session
+abbrev pub first_state : {w : World} {S : Type 0} → S → Surroundings w → Between w S
+first_state kept around = record { kept = kept; desk = around.desk; ends = around.ends }
+
+-- The next step isn't at a turn-over: the last history has room for its mark, and isn't full by it.
+abbrev pub IsWithinHistory : AtSolo → Type 0
+IsWithinHistory desk = IfSome (last_history desk.run) (λ last. length last.marks + 1 < MAX_MARKS)
+
+-- the line's exchange at a door is one of every session: the line is allowed there, and its command isn't the door's own
+abbrev pub IsOfEverySession : Door → List ℕ → Type 0
+IsOfEverySession door line = (allowed door line ≡ true) × (door_command_named (command_of line) ≡ None)
+
+-- What the laws say holds of each exchange of a run.
+abbrev pub IsLawfulRun : {rules : Rules} {before : Machine} {number : ℕ} {after : Machine} → RunsServer rules before number after → Type 0
+IsLawfulRun {rules} {before} (ran run) =
+    Session (ExchangeBetween {w = FurtherWorld TurnsSolo PinentryDoes} (supply_of before.input.bytes) (SessionExchange rules)
+    (LawfulExchange TurnsSolo PinentryDoes at_prompter rules (SessionCauses rules) (λ line. ⊤) IsWithinHistory))
+    (first_state (kept_at_start rules) (with_desk rules (fresh_desk (limits_of rules) before.clock) before)) run.served.events run.end
+IsLawfulRun top.no_memory = ⊤
+
+-- the prompts of a run have their children
+abbrev pub RunHasPrompts : {rules : Rules} {before : Machine} {number : ℕ} {after : Machine} → RunsServer rules before number after → Type 0
+RunHasPrompts {rules} {before} {after} (ran run) = HavePrompts rules.pinentry.items run.served.events before.launches after.launches
+RunHasPrompts top.no_memory = ⊤
+
+-- What the laws say holds of each exchange of a session of a daemon.
+abbrev pub IsLawfulSession : {La C R K T : Type 0} {views : Views La C R K} {trusts : T → TrustState} {folder : InFolder K T} {rules : Rules} {door : Door} {session : SessionId} {before after : LinkSides}
+    {pass now : AtPass} {end : SessionEnd} → ServesOne views trusts folder rules door session before pass end after now → Type 0
+IsLawfulSession {views} {trusts} {rules} {door} {session} {before} {pass} {end} one =
+    Session (ExchangeBetween {w = FurtherWorld (CountedTurn (λ readings. readings)) PinentryDoes} (supply_of before.input.bytes) (DoorExchange door rules)
+    (LawfulExchange (CountedTurn (λ (readings : Readings). readings)) PinentryDoes at_prompter rules (IsCausedAtDoor door rules) (IsOfEverySession door) (λ (desk : AtCountedDesk Readings). ⊤)))
+    (first_state (kept_at_start rules) (at_pass rules session before (record pass { sessions = session.count + 1 }) (views.readings one.parts.clock) (views.launches one.parts.launcher)
+    (views.keys one.parts.keys) (views.draws one.parts.dice) (trusts one.trust_file))) one.served.events end
