@@ -6,3 +6,4 @@ mod OnePrompt
 pub mod PromptedParts
 pub mod PromptedLines
 pub mod PromptedSessions
+mod WorkedExamples

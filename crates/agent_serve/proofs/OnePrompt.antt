@@ -1,6 +1,6 @@
 -- What is asked of a prompter by one prompt are the calls of one prompt.
 use Rattle.std.specs.List.{AllByRecursion}
-use Rattle.std.proofs.Common.{◌≡◌, ℕ, Bool, List, [], ◌∷◌, ◌++◌, Option, Result, zero, suc, refl, ap, sym, subst}
+use Rattle.std.proofs.Common.{◌≡◌, ℕ, Bool, List, [], ◌∷◌, ◌++◌, Result, zero, suc, refl, ap, sym, subst}
 use Rattle.std.specs.Prelude.{⊤}
 use Rattle.agent_ask.specs.Consents.{AsksConsent, ConsentBefore}
 use Rattle.agent_ask.specs.Consents as consents

@@ -1,6 +1,6 @@
 -- Lines of a session, at either door, in whose exchanges the prompter's calls are those of prompts, one after another.
 use Rattle.std.specs.List.{AllByRecursion}
-use Rattle.std.proofs.Common.{◌≡◌, ℕ, Bool, true, false, List, [], ◌∷◌, ◌++◌, Option, Some, None, Result, Ok, Err}
+use Rattle.std.proofs.Common.{ℕ, Bool, true, false, List, [], ◌∷◌, ◌++◌, Option, Some, None}
 use Rattle.std.specs.Prelude.{⊤}
 use Rattle.agent_ask.specs.Consents.{AsksConsent}
 use Rattle.agent_ask.specs.Events.{PromptEvent}
@@ -38,7 +38,7 @@ use Rattle.agent_origin.specs.declared.kept.Kept.{Kept}
 use Rattle.agent_origin.specs.declared.request.TrustPurpose.{TrustPurpose}
 use Rattle.agent_origin.specs.declared.request.TrustRequest.{TrustRequest}
 use Rattle.agent_origin.specs.declared.request.TrustRequest.TheVariants.{IsTrusted, MarkTrusted, Bad}
-use Rattle.trust_list.specs.Trust.{trust, with_entry}
+use Rattle.trust_list.specs.Trust.{trust}
 use Rattle.agent_serve.proofs.OnePrompt.{calls_of, pin_is_one, consent_is_one}
 use Rattle.agent_serve.proofs.PromptedParts.{Prompted, prompted_append, IsUncalled, uncalled, said_uncalled, shown_prompted, key_prompted}
 use Rattle.pinentry_client.specs.Whole.{IsOnePrompt}

@@ -1,6 +1,6 @@
 -- Sessions with a pinentry: their prompts, one after another, and the children of these.
 use Rattle.std.specs.List.{count_by}
-use Rattle.std.proofs.Common.{◌≡◌, ◌+◌, ◌-◌, ◌^◌, ◌≤◌, ℕ, List, [], ◌∷◌, ◌++◌, min, refl, sym, ap, subst, ◌∙◌, arith}
+use Rattle.std.proofs.Common.{◌≡◌, ◌+◌, ◌-◌, ◌^◌, ℕ, List, [], ◌∷◌, ◌++◌, min, sym, ap, subst, ◌∙◌, arith}
 use Rattle.agent_ask.proofs.Counting.{failures}
 use Rattle.agent_ask.specs.Doing.{called, out_of_memory}
 use Rattle.agent_ask.specs.Events.{Call}
@@ -14,18 +14,17 @@ use Rattle.agent_commands.specs.Talks as talks
 use Rattle.agent_commands.specs.declared.went.SessionEnd.{SessionEnd}
 use Rattle.agent_commands.specs.declared.went.Went.{Went}
 use Rattle.agent_origin.specs.FurtherStates.{FurtherWorld}
-use Rattle.agent_origin.specs.Sessions.{ServesSession, Surroundings}
 use Rattle.agent_ports.specs.Counts.{RoseBy}
 use Rattle.agent_ports.specs.Launches.{Launches}
 use Rattle.agent_ports.specs.Leads.{Leads, none, one}
 use Rattle.agent_serve.specs.Prompts.{calls_in, HavePrompts}
-use Rattle.agent_serve.proofs.PromptedParts.{Prompted, IsUncalled, calls_append, prompted_append, uncalled}
+use Rattle.agent_serve.proofs.PromptedParts.{Prompted, calls_append, prompted_append, uncalled}
 use Rattle.assuan_server.specs.Reading.{Supply}
 use Rattle.cache_policy.specs.Turns.{Turn}
 use Rattle.cache_policy.specs.declared.mark.MarkStep.{MarkStep}
 use Rattle.key_commands.specs.Events.{Event}
 use Rattle.pinentry_client.proofs.Children.{their_children}
-use Rattle.pinentry_client.specs.Children.{ArePrompts, HaveTheirChildren}
+use Rattle.pinentry_client.specs.Children.{ArePrompts}
 use Rattle.pinentry_client.specs.Dialogues.{PinentryDoes}
 use Rattle.pinentry_client.specs.States.{AtPinentry, at_prompter, idle}
 
