@@ -47,14 +47,15 @@ use Rattle.agent_session.proofs.ExactKeys.{by_said, NoFault, due_of, deciding_of
 use Rattle.agent_session.proofs.ExactPrompts.{Deciding, SaidDecides, IsDecided}
 use Rattle.agent_session.proofs.ExactReads.{SentRefuses, IsUnlockable, FileRefuses, faulty, owes, ReadRefuses, by_file}
 
+-- what the client said decides its request
+pub said_decides : (deciding : Deciding) {events : List Event} {why : Code} (unheard : Unheard) → refusal_code unheard ≡ Some why → IsSaid events unheard → IsDecided deciding events why
+said_decides deciding {why} unheard is (said {word} {params} {limit} {inquired} says has) =
+    record { event = Inquiry word params limit inquired; has = has; decides = subst (λ r. SaidDecides deciding limit r why) (sym says) is }
+
 module _ (rules : Rules) (kept : Kept) (request : Request) (events : List Event) where
   -- ---- what the client said
 
   module _ (deciding : Deciding) where
-    said_decides : {why : Code} (unheard : Unheard) → refusal_code unheard ≡ Some why → IsSaid events unheard → IsDecided deciding events why
-    said_decides {why} unheard is (said {word} {params} {limit} {inquired} says has) =
-        record { event = Inquiry word params limit inquired; has = has; decides = subst (λ r. SaidDecides deciding limit r why) (sym says) is }
-
     data_decides : {why : Code} → ((bytes : List ℕ) → SentRefuses kept.wraps.import bytes why → deciding.sent bytes why) → KeyDataSays events rules kept request (Err why) → IsDecided deciding events why
     data_decides {why} refuses_so (data_says {wrap} {wrapped} drawn (sent {inquired} says has) wrapped_says) =
         record {

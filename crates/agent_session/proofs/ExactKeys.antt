@@ -42,7 +42,7 @@ use Rattle.agent_session.proofs.Standing.{each_left, has_left, has_right}
 
 -- nothing but what the client said, and the bytes of a key that it sent
 abbrev pub by_said : Option (List ℕ) → Deciding
-by_said wrap = record { sent = SentRefuses wrap; reads = λ grip answer why. ⊥; removed = λ answer why. ⊥ }
+by_said wrap = record { sent = SentRefuses wrap; reads = λ grip answer why. ⊥; removed = λ answer why. ⊥; trust = λ call why. ⊥ }
 
 abbrev pub NoFault : Key → Code → Type 0
 NoFault key why = ⊥

@@ -63,7 +63,7 @@ ReadRefuses Owes key_read.Absent why = code.NoSecKey ≡ why
 ReadRefuses Owes _ why = ⊥
 
 abbrev pub by_file : Option (List ℕ) → (Key → Code → Type 0) → Deciding
-by_file wrap Owes = record { sent = SentRefuses wrap; reads = λ grip answer why. ReadRefuses Owes answer why; removed = λ answer why. ⊥ }
+by_file wrap Owes = record { sent = SentRefuses wrap; reads = λ grip answer why. ReadRefuses Owes answer why; removed = λ answer why. ⊥; trust = λ call why. ⊥ }
 
 module _ (one_canon : (file : List ℕ) (a b : Option (List ℕ)) → Canon file a → Canon file b → a ≡ b) (wrap : Option (List ℕ)) (Owes : Key → Code → Type 0) where
   is_owed : (file : List ℕ) (key : Key) (why : Code) → FileSays file (Ok key) → FileRefuses Owes file why → Owes key why
@@ -135,7 +135,7 @@ RemovalRefuses key_done.Absent why = code.NoSecKey ≡ why
 RemovalRefuses _ why = ⊥
 
 abbrev pub by_absence : Option (List ℕ) → Deciding
-by_absence wrap = record { sent = SentRefuses wrap; reads = λ grip answer why. AbsentRefuses answer why; removed = RemovalRefuses }
+by_absence wrap = record { sent = SentRefuses wrap; reads = λ grip answer why. AbsentRefuses answer why; removed = RemovalRefuses; trust = λ call why. ⊥ }
 
 -- it isn't there
 abbrev pub IsLacking : Bool → Code → Type 0
@@ -190,7 +190,7 @@ FoundRefuses false (key_read.Found file) why = code.FileExists ≡ why
 FoundRefuses _ _ why = ⊥
 
 abbrev pub by_import : (force : Bool) → Option (List ℕ) → Deciding
-by_import force wrap = record { sent = SentRefuses wrap; reads = λ grip answer why. FoundRefuses force answer why; removed = λ answer why. ⊥ }
+by_import force wrap = record { sent = SentRefuses wrap; reads = λ grip answer why. FoundRefuses force answer why; removed = λ answer why. ⊥; trust = λ call why. ⊥ }
 
 module _ (force : Bool) (wrap : List ℕ) where
   abbrev ByImport : Deciding
