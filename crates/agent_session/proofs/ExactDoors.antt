@@ -1,6 +1,6 @@
 -- At a door each code is answered wherever its cause stands.
 use Rattle.std.specs.List.{AllByRecursion}
-use Rattle.std.proofs.Common.{◌≡◌, ◌⊎◌, ◌<◌, ℕ, Bool, true, false, cond, List, [], ◌∷◌, ◌++◌, length, Option, Some, None, Ok, Err, bytes_eq, codes, refl, sym, subst, inl, inr}
+use Rattle.std.proofs.Common.{◌≡◌, ◌<◌, ℕ, Bool, true, false, cond, List, [], ◌∷◌, ◌++◌, length, Option, Some, None, Ok, Err, bytes_eq, codes, refl, sym, subst, inl, inr}
 use Rattle.std.specs.Str.{str_to_ascii_lowercase}
 use Rattle.std.proofs.lemmas.Slice.Eq.{bytes_eq-Decides}
 use Rattle.agent_ask.specs.Failing.{said_last}
@@ -40,7 +40,6 @@ use Rattle.agent_session.specs.Exactly.{IsReadAgain, read_again, too_long, Exact
 use Rattle.agent_session.proofs.DoorAnswering.{is_word, no_command, door_is_session}
 use Rattle.agent_session.proofs.Exact.{said_decides, cause_answered}
 use Rattle.agent_session.proofs.ExactKeys.{by_said, said_free, decided_before}
-use Rattle.agent_session.proofs.ExactPrompts.{IsDecided, IsFree}
 use Rattle.agent_session.proofs.ExactTrust.{SaysBy, ByLong, marked_long, due_trust, said_error, trust_answered}
 use Rattle.agent_session.proofs.ExactParts.{NoneOwed}
 use Rattle.agent_session.proofs.Standing.{each_left}

@@ -5,7 +5,7 @@ use Rattle.std.specs.Prelude.{⊤}
 use Rattle.agent_ask.specs.Callers.{SaysNote, unheard_of}
 use Rattle.agent_ask.specs.Consents.{AsksConsent, ConsentBefore}
 use Rattle.agent_ask.specs.Consents as consents
-use Rattle.agent_ask.specs.Events.{Called, Notified, OutOfMemory, PromptEvent, Shut}
+use Rattle.agent_ask.specs.Events.{Called, Notified, PromptEvent, Shut}
 use Rattle.agent_ask.specs.Further.{Keys, Read, Removed, Trust}
 use Rattle.agent_ask.specs.TrustCalls.{TrustCall}
 use Rattle.agent_ask.specs.Prompts.{AsksPin, AsksBefore, Tries, IsTry, Repeats, repeated}

@@ -1,6 +1,6 @@
 -- Reads of a key's file, and keys that a client sent, by which a request is refused.
 use Rattle.std.specs.List.{AllByRecursion}
-use Rattle.std.proofs.Common.{◌≡◌, ◌∙◌, ◌⊎◌, ℕ, Bool, true, false, List, [], ◌∷◌, codes, Option, Some, None, Result, Ok, Err, refl, sym, ap, subst, inl, inr}
+use Rattle.std.proofs.Common.{◌≡◌, ◌∙◌, ◌⊎◌, ℕ, Bool, true, false, List, [], codes, Option, Some, None, Result, Ok, Err, sym, ap, subst, inl, inr}
 use Rattle.std.specs.Prelude.{not}
 use Rattle.agent_ports.specs.declared.grip.Grip.{Grip}
 use Rattle.agent_ports.specs.declared.keys.KeyDone.{KeyDone}
@@ -28,11 +28,10 @@ use Rattle.key_commands.specs.Passphrases as passphrases
 use Rattle.key_commands.specs.Wrapping.{WrappedSays}
 use Rattle.key_commands.specs.declared.refusal.Refusal.{Refusal}
 use Rattle.key_commands.specs.declared.refusal.Refusal.TheVariants.{Agent}
-use Rattle.agent_session.specs.Causes.{Has, here, later}
 use Rattle.agent_session.specs.Completeness.{Remembers}
 use Rattle.agent_session.proofs.ExactFiles.{one_says, one_locked_fault, no_locked_fault, one_wrapped}
 use Rattle.agent_session.proofs.ExactParts.{NoneDue, NoneOwed, SaysTo, Heeds, by_never, bind, decided_only, inquires_of, returns_never, writes_never}
-use Rattle.agent_session.proofs.ExactPrompts.{Deciding, Decides, IsDecided, never_decided}
+use Rattle.agent_session.proofs.ExactPrompts.{Deciding, IsDecided, never_decided}
 
 -- the line of a code is that of the same code
 same_line : {one other : Code} → one ≡ other → refusal_line (Agent one) ≡ Some (failed other)

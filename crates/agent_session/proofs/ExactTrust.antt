@@ -1,24 +1,21 @@
 -- Requests on the trust list: what decides one is what it is refused by.
 use Rattle.std.specs.List.{AllByRecursion}
-use Rattle.std.proofs.Common.{◌≡◌, ◌⊎◌, ◌∙◌, ◌<◌, ◌≤◌, ℕ, Bool, true, false, List, [], ◌∷◌, ◌++◌, length, Option, Some, None, Result, Ok, Err, arith, refl, sym, ap, subst, inl, inr}
+use Rattle.std.proofs.Common.{◌≡◌, ◌⊎◌, ◌∙◌, ◌<◌, ℕ, Bool, true, false, List, [], ◌∷◌, ◌++◌, length, Option, Some, None, Result, Ok, Err, arith, refl, sym, ap, subst, inl, inr}
 use Rattle.std.specs.Option.{option_map}
 use Rattle.agent_ask.specs.Callers.{unheard_of}
 use Rattle.agent_ask.specs.Failing.{said_last}
-use Rattle.agent_ask.specs.SessionEvents.{Sent, CacheTurn}
+use Rattle.agent_ask.specs.SessionEvents.{CacheTurn}
 use Rattle.agent_ask.specs.TrustCalls.{TrustCall, Read, Replaced}
 use Rattle.agent_ask.specs.declared.caller.Heard.{Heard}
 use Rattle.agent_ask.specs.declared.caller.Heard.TheVariants as heard_as
 use Rattle.agent_ask.specs.declared.consent.Agreed.TheVariants as agreed
 use Rattle.agent_commands.specs.declared.went.Went.{Went}
 use Rattle.agent_ports.specs.declared.grip.Grip.{Grip}
-use Rattle.agent_ports.specs.declared.trust.TrustRead.{TrustRead}
-use Rattle.agent_ports.specs.declared.trust.TrustRead.TheVariants as trust_read
 use Rattle.assuan_server.specs.Clients.{refusal_code}
 use Rattle.assuan_server.specs.Written.{failed}
 use Rattle.assuan_server.specs.declared.errors.Code.{Code}
 use Rattle.assuan_server.specs.declared.errors.Code.TheVariants as code
 use Rattle.assuan_server.specs.declared.errors.Origin.TheVariants.{Agent as OfAgent}
-use Rattle.cache_policy.specs.Extending.{Taken}
 use Rattle.key_commands.specs.Events.{Event}
 use Rattle.session_client.specs.declared.unheard.Unheard.{Unheard}
 use Rattle.session_client.specs.declared.unheard.Unheard.TheVariants as unheard_as
@@ -35,7 +32,7 @@ use Rattle.agent_origin.specs.Parts as parts
 use Rattle.agent_origin.specs.declared.request.TrustPurpose.{TrustPurpose}
 use Rattle.agent_origin.specs.declared.request.TrustRequest.{TrustRequest}
 use Rattle.agent_origin.specs.declared.request.TrustRequest.TheVariants.{IsTrusted, MarkTrusted, Bad}
-use Rattle.agent_session.specs.Causes.{Has, here, later}
+use Rattle.agent_session.specs.Causes.{here}
 use Rattle.agent_session.specs.Completeness.{Remembers, HasError}
 use Rattle.agent_session.proofs.Explained.{has_split}
 use Rattle.agent_session.proofs.ExactKeys.{said_free, decided_before, by_said}

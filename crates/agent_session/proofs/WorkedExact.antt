@@ -1,6 +1,6 @@
 -- Worked examples: exchanges in which a cause stands, and their answers.
 use Rattle.std.specs.List.{AllByRecursion}
-use Rattle.std.proofs.Common.{◌≡◌, ℕ, true, false, List, [], ◌∷◌, codes, Option, Some, None, refl, sym, ap, subst}
+use Rattle.std.proofs.Common.{◌≡◌, ℕ, true, false, List, [], ◌∷◌, codes, Option, Some, None, refl, sym, subst}
 use Rattle.arrayvec.specs.ArrayVec.{ArrayVec}
 use Rattle.agent_ask.specs.SessionEvents.{Sent, cache_turn}
 use Rattle.agent_commands.specs.Exchanges as exchanges
@@ -35,7 +35,7 @@ use Rattle.agent_origin.specs.declared.door.Door.{Door}
 use Rattle.agent_origin.specs.declared.kept.Kept.{Kept}
 use Rattle.agent_origin.specs.declared.names.TrustCommandName.TheVariants as name
 use Rattle.agent_origin.specs.declared.request.TrustRequest.TheVariants.{Bad}
-use Rattle.agent_session.specs.Causes.{Has, here, LacksKeys, empty}
+use Rattle.agent_session.specs.Causes.{here, LacksKeys, empty}
 use Rattle.agent_session.specs.Completeness.{Remembers, HasError}
 use Rattle.agent_session.specs.Exactly.{on_trust}
 use Rattle.agent_session.proofs.Exact.{cause_answered}
