@@ -61,10 +61,10 @@ none_by help trust false true third is = absurd (cc is)
 none_by help trust false false true is = absurd (cc is)
 none_by help trust false false false is = refl
 
-abbrev is_word : List ℕ → List ℕ → Bool
+abbrev pub is_word : List ℕ → List ℕ → Bool
 is_word row word = bytes_eq (str_to_ascii_lowercase row) (str_to_ascii_lowercase word)
 
-no_command : (word : List ℕ) → door_command_named word ≡ None → command_named word ≡ None
+pub no_command : (word : List ℕ) → door_command_named word ≡ None → command_named word ≡ None
 unfolding door_command_named command_named
 no_command word is = none_by _ _ (is_word (codes "HELP") word) (is_word (codes "ISTRUSTED") word) (is_word (codes "MARKTRUSTED") word) is
 

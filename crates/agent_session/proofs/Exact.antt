@@ -1,13 +1,13 @@
 -- Each code is answered wherever its cause stands.
 use Rattle.std.specs.List.{AllByRecursion}
-use Rattle.std.proofs.Common.{◌≡◌, ◌⊎◌, ◌∙◌, ℕ, Bool, true, false, List, [], ◌∷◌, ◌++◌, Option, Some, None, Result, Ok, Err, refl, sym, ap, subst, inl, inr}
+use Rattle.std.proofs.Common.{◌≡◌, ◌⊎◌, ◌∙◌, ℕ, List, [], ◌∷◌, Option, Some, None, Result, Err, refl, sym, ap, subst, inl, inr}
 use Rattle.agent_ask.specs.Further.{Keys, Read, Removed}
 use Rattle.agent_ask.specs.SessionEvents.{Sent, Inquiry, Further}
 use Rattle.agent_ports.specs.declared.grip.Grip.{Grip}
 use Rattle.agent_ports.specs.declared.keys.KeyDone.TheVariants as key_done
 use Rattle.agent_ports.specs.declared.keys.KeyRead.{KeyRead}
 use Rattle.agent_ports.specs.declared.keys.KeyRead.TheVariants as key_read
-use Rattle.assuan_server.specs.Clients.{session_lines, refusal_code}
+use Rattle.assuan_server.specs.Clients.{refusal_code}
 use Rattle.assuan_server.specs.declared.errors.Code.{Code}
 use Rattle.assuan_server.specs.declared.errors.Code.TheVariants as code
 use Rattle.assuan_server.specs.declared.errors.Origin.TheVariants.{Agent}
@@ -15,7 +15,7 @@ use Rattle.key_lines.specs.Canon.{Canon}
 use Rattle.session_client.specs.declared.unheard.Gone.TheVariants as gone
 use Rattle.session_client.specs.declared.unheard.Unheard.{Unheard}
 use Rattle.session_client.specs.declared.unheard.Unheard.TheVariants as unheard
-use Rattle.session_options.specs.OptionValues.{OptionValues, applied}
+use Rattle.session_options.specs.OptionValues.{OptionValues}
 use Rattle.session_options.specs.declared.options.OptionAnswer.{OptionAnswer}
 use Rattle.session_options.specs.declared.options.OptionAnswer.TheVariants as option_answer
 use Rattle.session_options.specs.declared.rules.Rules.{Rules}
@@ -47,14 +47,15 @@ use Rattle.agent_session.proofs.ExactKeys.{by_said, NoFault, due_of, deciding_of
 use Rattle.agent_session.proofs.ExactPrompts.{Deciding, SaidDecides, IsDecided}
 use Rattle.agent_session.proofs.ExactReads.{SentRefuses, IsUnlockable, FileRefuses, faulty, owes, ReadRefuses, by_file}
 
+-- what the client said decides its request
+pub said_decides : (deciding : Deciding) {events : List Event} {why : Code} (unheard : Unheard) → refusal_code unheard ≡ Some why → IsSaid events unheard → IsDecided deciding events why
+said_decides deciding {why} unheard is (said {word} {params} {limit} {inquired} says has) =
+    record { event = Inquiry word params limit inquired; has = has; decides = subst (λ r. SaidDecides deciding limit r why) (sym says) is }
+
 module _ (rules : Rules) (kept : Kept) (request : Request) (events : List Event) where
   -- ---- what the client said
 
   module _ (deciding : Deciding) where
-    said_decides : {why : Code} (unheard : Unheard) → refusal_code unheard ≡ Some why → IsSaid events unheard → IsDecided deciding events why
-    said_decides {why} unheard is (said {word} {params} {limit} {inquired} says has) =
-        record { event = Inquiry word params limit inquired; has = has; decides = subst (λ r. SaidDecides deciding limit r why) (sym says) is }
-
     data_decides : {why : Code} → ((bytes : List ℕ) → SentRefuses kept.wraps.import bytes why → deciding.sent bytes why) → KeyDataSays events rules kept request (Err why) → IsDecided deciding events why
     data_decides {why} refuses_so (data_says {wrap} {wrapped} drawn (sent {inquired} says has) wrapped_says) =
         record {

@@ -41,13 +41,12 @@ use Rattle.agent_commands.specs.declared.request.Texts.{Texts}
 use Rattle.agent_commands.specs.declared.went.Went.{Went}
 use Rattle.key_commands.specs.Events.{Event}
 use Rattle.key_commands.specs.KeyParts.{max_key_data}
-use Rattle.key_commands.proofs.EachEvent.{each_append}
 use Rattle.agent_session.specs.Causes.{Has, here, later}
 use Rattle.agent_session.specs.Completeness.{HasError}
 use Rattle.agent_session.proofs.Explained.{has_split}
 use Rattle.agent_session.proofs.ExactKeys.{said_free}
 use Rattle.agent_session.proofs.ExactPrompts.{Deciding, Decides, SaidDecides, IsDecided, IsFree, never_decided, IsNoted, shown_noted, pin_heard, consent_heard}
-use Rattle.agent_session.proofs.Standing.{has_left, has_right}
+use Rattle.agent_session.proofs.Standing.{has_right}
 
 -- what a client said that gave nothing is the answer
 pub failure_said : {events : List Event} {went : Went} (unheard : Unheard) (why : Code) → Fails unheard events went → refusal_code unheard ≡ Some why → HasError why Agent events

@@ -5,7 +5,6 @@ use Rattle.std.specs.Prelude.{take, drop}
 use Rattle.agent_ask.specs.Failing.{said_last}
 use Rattle.agent_ask.specs.SessionEvents.{Sent}
 use Rattle.agent_ports.specs.declared.grip.Grip.{Grip}
-use Rattle.assuan_escape.specs.Escapes.{hex_text}
 use Rattle.assuan_server.specs.Written.{failed}
 use Rattle.assuan_server.specs.declared.errors.Code.{Code}
 use Rattle.assuan_server.specs.declared.errors.Code.TheVariants as code
@@ -15,7 +14,7 @@ use Rattle.session_options.specs.OptionValues.{OptionValues}
 use Rattle.session_options.specs.declared.rules.Rules.{Rules}
 use Rattle.sexp_keys.specs.Key.{Key}
 use Rattle.key_commands.specs.Events.{Event}
-use Rattle.key_commands.specs.Exchanges.{Exchange, answered, refused, KeyReply, Replies, HaveKeyReplies, KeyInfoReplies, ListKeysReplies, KeyWrapReplies, ImportKeyReplies, ExportKeyReplies, PasswdReplies, VerifyReplies, DeleteKeyReplies}
+use Rattle.key_commands.specs.Exchanges.{Exchange, answered, refused, Replies, HaveKeyReplies, KeyInfoReplies, ListKeysReplies, KeyWrapReplies, ImportKeyReplies, ExportKeyReplies, PasswdReplies, VerifyReplies, DeleteKeyReplies}
 use Rattle.key_commands.specs.Exchanges.{wrap_key, StoresKey, FoundOrNew, RenewsPassphrase, RewritesFile, ChangesOpened}
 use Rattle.key_commands.specs.KeyParts.{HasOne, ReadsListed, TellsListed, WritesInfos}
 use Rattle.key_commands.specs.KeyParts as parts
@@ -30,19 +29,19 @@ use Rattle.key_commands.specs.declared.request.KeyRequest.TheVariants as on
 use Rattle.key_commands.specs.declared.went.KeyWent.{KeyWent}
 use Rattle.key_commands.specs.declared.wrap_keys.WrapKeys.{WrapKeys}
 use Rattle.key_commands.proofs.EachEvent.{each_append}
-use Rattle.agent_session.specs.Causes.{Has, here}
+use Rattle.agent_session.specs.Causes.{here}
 use Rattle.agent_session.specs.Completeness.{Remembers, HasError}
 use Rattle.agent_session.proofs.Explained.{has_split}
-use Rattle.agent_session.proofs.ExactParts.{NoneDue, NoneOwed, SaysTo, Heeds, NeverDecides, by_never, bind, undue, is_needed, refuses_due, otherwise, returns_never, refuses_never, needed_never, changes_never, closes_never, draws_never}
+use Rattle.agent_session.proofs.ExactParts.{NoneDue, NoneOwed, SaysTo, Heeds, NeverDecides, by_never, bind, undue, is_needed, refuses_due, otherwise, returns_never, refuses_never, changes_never, closes_never, draws_never}
 use Rattle.agent_session.proofs.ExactParts.{tells_never, replaces_never, protects_never, is_short_never, rewrites_never, keeps_new_never, names_key_never, wraps_key_never, looks_over_never, nonce_never, lists_never}
 use Rattle.agent_session.proofs.ExactParts.{tells_info, writes_info, uncached_old, opens_locked, new_passphrase, consents}
 use Rattle.agent_session.proofs.ExactPrompts.{Deciding, IsDecided, IsFree, never_decided}
 use Rattle.agent_session.proofs.ExactReads.{SentRefuses, IsUnlockable, by_file, reads_file, locks, by_absence, IsLacking, finds, is_there, removes, by_import, receives_key, is_free}
-use Rattle.agent_session.proofs.Standing.{each_left, has_left, has_right}
+use Rattle.agent_session.proofs.Standing.{each_left, has_right}
 
 -- nothing but what the client said, and the bytes of a key that it sent
 abbrev pub by_said : Option (List ℕ) → Deciding
-by_said wrap = record { sent = SentRefuses wrap; reads = λ grip answer why. ⊥; removed = λ answer why. ⊥ }
+by_said wrap = record { sent = SentRefuses wrap; reads = λ grip answer why. ⊥; removed = λ answer why. ⊥; trust = λ call why. ⊥ }
 
 abbrev pub NoFault : Key → Code → Type 0
 NoFault key why = ⊥

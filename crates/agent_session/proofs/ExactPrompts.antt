@@ -5,8 +5,9 @@ use Rattle.std.specs.Prelude.{⊤}
 use Rattle.agent_ask.specs.Callers.{SaysNote, unheard_of}
 use Rattle.agent_ask.specs.Consents.{AsksConsent, ConsentBefore}
 use Rattle.agent_ask.specs.Consents as consents
-use Rattle.agent_ask.specs.Events.{Called, Notified, OutOfMemory, PromptEvent, Shut}
-use Rattle.agent_ask.specs.Further.{Keys, Read, Removed}
+use Rattle.agent_ask.specs.Events.{Called, Notified, PromptEvent, Shut}
+use Rattle.agent_ask.specs.Further.{Keys, Read, Removed, Trust}
+use Rattle.agent_ask.specs.TrustCalls.{TrustCall}
 use Rattle.agent_ask.specs.Prompts.{AsksPin, AsksBefore, Tries, IsTry, Repeats, repeated}
 use Rattle.agent_ask.specs.Prompts as prompts
 use Rattle.agent_ask.specs.SessionEvents.{Inquiry, Further}
@@ -33,15 +34,12 @@ use Rattle.key_commands.proofs.EachEvent.{each_append}
 use Rattle.agent_session.specs.Causes.{Has, here, later}
 use Rattle.agent_session.proofs.Standing.{each_has}
 
--- the bytes of a key that a client sent, the reads of a key's file and the removals of one by which a request is refused by a code
+-- the bytes of a key that a client sent, the reads of a key's file, the removals of one, and the calls of the trust file by which a request is refused by a code
 pub record Deciding : Type 1 where
   pub sent : List ℕ → Code → Type 0
   pub reads : Grip → KeyRead → Code → Type 0
   pub removed : KeyDone → Code → Type 0
-
--- none are
-abbrev pub none_decides : Deciding
-none_decides = record { sent = λ bytes why. ⊥; reads = λ grip answer why. ⊥; removed = λ answer why. ⊥ }
+  pub trust : TrustCall → Code → Type 0
 
 module _ (deciding : Deciding) where
   abbrev pub SaidDecides : ℕ → Result (List ℕ) Unheard → Code → Type 0
@@ -53,6 +51,7 @@ module _ (deciding : Deciding) where
   Decides (Inquiry word params limit inquired) why = SaidDecides limit (said_by session_lines inquired) why
   Decides (Further (Keys (Read grip answer))) why = deciding.reads grip answer why
   Decides (Further (Keys (Removed grip answer))) why = deciding.removed answer why
+  Decides (Further (Trust call)) why = deciding.trust call why
   Decides _ why = ⊥
 
   pub record IsDecided (events : List Event) (why : Code) : Type 0 where

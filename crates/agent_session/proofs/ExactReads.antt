@@ -1,6 +1,6 @@
 -- Reads of a key's file, and keys that a client sent, by which a request is refused.
 use Rattle.std.specs.List.{AllByRecursion}
-use Rattle.std.proofs.Common.{◌≡◌, ◌∙◌, ◌⊎◌, ℕ, Bool, true, false, List, [], ◌∷◌, codes, Option, Some, None, Result, Ok, Err, refl, sym, ap, subst, inl, inr}
+use Rattle.std.proofs.Common.{◌≡◌, ◌∙◌, ◌⊎◌, ℕ, Bool, true, false, List, [], codes, Option, Some, None, Result, Ok, Err, sym, ap, subst, inl, inr}
 use Rattle.std.specs.Prelude.{not}
 use Rattle.agent_ports.specs.declared.grip.Grip.{Grip}
 use Rattle.agent_ports.specs.declared.keys.KeyDone.{KeyDone}
@@ -28,11 +28,10 @@ use Rattle.key_commands.specs.Passphrases as passphrases
 use Rattle.key_commands.specs.Wrapping.{WrappedSays}
 use Rattle.key_commands.specs.declared.refusal.Refusal.{Refusal}
 use Rattle.key_commands.specs.declared.refusal.Refusal.TheVariants.{Agent}
-use Rattle.agent_session.specs.Causes.{Has, here, later}
 use Rattle.agent_session.specs.Completeness.{Remembers}
 use Rattle.agent_session.proofs.ExactFiles.{one_says, one_locked_fault, no_locked_fault, one_wrapped}
 use Rattle.agent_session.proofs.ExactParts.{NoneDue, NoneOwed, SaysTo, Heeds, by_never, bind, decided_only, inquires_of, returns_never, writes_never}
-use Rattle.agent_session.proofs.ExactPrompts.{Deciding, Decides, IsDecided, never_decided}
+use Rattle.agent_session.proofs.ExactPrompts.{Deciding, IsDecided, never_decided}
 
 -- the line of a code is that of the same code
 same_line : {one other : Code} → one ≡ other → refusal_line (Agent one) ≡ Some (failed other)
@@ -63,7 +62,7 @@ ReadRefuses Owes key_read.Absent why = code.NoSecKey ≡ why
 ReadRefuses Owes _ why = ⊥
 
 abbrev pub by_file : Option (List ℕ) → (Key → Code → Type 0) → Deciding
-by_file wrap Owes = record { sent = SentRefuses wrap; reads = λ grip answer why. ReadRefuses Owes answer why; removed = λ answer why. ⊥ }
+by_file wrap Owes = record { sent = SentRefuses wrap; reads = λ grip answer why. ReadRefuses Owes answer why; removed = λ answer why. ⊥; trust = λ call why. ⊥ }
 
 module _ (one_canon : (file : List ℕ) (a b : Option (List ℕ)) → Canon file a → Canon file b → a ≡ b) (wrap : Option (List ℕ)) (Owes : Key → Code → Type 0) where
   is_owed : (file : List ℕ) (key : Key) (why : Code) → FileSays file (Ok key) → FileRefuses Owes file why → Owes key why
@@ -135,7 +134,7 @@ RemovalRefuses key_done.Absent why = code.NoSecKey ≡ why
 RemovalRefuses _ why = ⊥
 
 abbrev pub by_absence : Option (List ℕ) → Deciding
-by_absence wrap = record { sent = SentRefuses wrap; reads = λ grip answer why. AbsentRefuses answer why; removed = RemovalRefuses }
+by_absence wrap = record { sent = SentRefuses wrap; reads = λ grip answer why. AbsentRefuses answer why; removed = RemovalRefuses; trust = λ call why. ⊥ }
 
 -- it isn't there
 abbrev pub IsLacking : Bool → Code → Type 0
@@ -190,7 +189,7 @@ FoundRefuses false (key_read.Found file) why = code.FileExists ≡ why
 FoundRefuses _ _ why = ⊥
 
 abbrev pub by_import : (force : Bool) → Option (List ℕ) → Deciding
-by_import force wrap = record { sent = SentRefuses wrap; reads = λ grip answer why. FoundRefuses force answer why; removed = λ answer why. ⊥ }
+by_import force wrap = record { sent = SentRefuses wrap; reads = λ grip answer why. FoundRefuses force answer why; removed = λ answer why. ⊥; trust = λ call why. ⊥ }
 
 module _ (force : Bool) (wrap : List ℕ) where
   abbrev ByImport : Deciding

@@ -1,5 +1,4 @@
 -- Requests on keys, each of whose refusals has its cause.
-use Rattle.std.specs.List.{AllByRecursion}
 use Rattle.std.proofs.Common.{◌≡◌, ◌≢◌, ◌==◌, ℕ, Bool, true, false, List, [], ◌∷◌, ◌++◌, length, codes, Option, Some, None, Result, Ok, Err, refl, sym, ap, ◌∙◌, subst, append_assoc, append-nil, inl, inr, arith}
 use Rattle.std.specs.Prelude.{⊤, not, map, take, drop}
 use Rattle.std.proofs.lemmas.Bool.Decides.{nat_tests}

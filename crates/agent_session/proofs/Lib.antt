@@ -11,12 +11,14 @@ pub mod DoorAnswering
 mod ErrorLines
 mod Exact
 mod ExactCache
+mod ExactDoors
 mod ExactFiles
 mod ExactHave
 mod ExactKeys
 mod ExactParts
 mod ExactPrompts
 mod ExactReads
+mod ExactTrust
 mod Explained
 mod Explaining
 pub mod Fair
@@ -40,4 +42,5 @@ mod TrustDenied
 mod TrustEnds
 mod TrustExplained
 mod Uncaused
+mod WorkedExact
 mod WorkedExamples

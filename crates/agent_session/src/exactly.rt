@@ -4,10 +4,12 @@ ghost use Rattle.assuan_server.specs.declared.errors.Code.{Code};
 ghost use Rattle.assuan_server.specs.declared.errors.Origin.TheVariants.{Agent};
 ghost use Rattle.agent_commands.specs.Requests.{request_of};
 ghost use Rattle.agent_commands.specs.declared.went.Went.{Went};
+ghost use Rattle.agent_origin.specs.DoorSessions.{DoorExchange};
 ghost use Rattle.agent_origin.specs.SessionExchanges.{SessionExchange};
+ghost use Rattle.agent_origin.specs.declared.door.Door.{Door};
 ghost use Rattle.agent_origin.specs.declared.kept.Kept.{Kept};
 ghost use Rattle.agent_session.specs.Completeness.{HasError, Remembers};
-ghost use Rattle.agent_session.specs.Exactly.{ExactCause};
+ghost use Rattle.agent_session.specs.Exactly.{ExactCause, ExactCauseAtDoor};
 ghost use Rattle.key_commands.specs.Events.{Event};
 ghost use Rattle.session_options.specs.declared.rules.Rules.{Rules};
 
@@ -18,6 +20,18 @@ pub fn each_cause_has_its_error()
     ensures { (rules : Rules) (kept now : Kept) (line : List ℕ) (events : List Event) (went : Went)
         → SessionExchange rules kept line events now went → AllByRecursion Remembers events
         → (why : Code) → ExactCause events rules kept (request_of line) why
+        → HasError why Agent events }
+{
+    key_lines::one_answer();
+}
+
+/// The same of a line at a door, whether it isn't allowed there, is a request on the trust list, or
+/// is one of any session.
+pub fn each_cause_at_a_door_has_its_error()
+    ensures { (door : Door) (rules : Rules) (kept now : Kept) (line : List ℕ) (events : List Event)
+        (went : Went) → DoorExchange door rules kept line events now went
+        → AllByRecursion Remembers events
+        → (why : Code) → ExactCauseAtDoor door rules kept line events why
         → HasError why Agent events }
 {
     key_lines::one_answer();
