@@ -13,12 +13,19 @@ mod Explained
 mod Explaining
 pub mod Fair
 mod Faulty
+mod ImportCourses
 mod KeyCourses
 mod KeyExplained
 mod KeyParts
 mod KeyRequests
 mod LineFaults
 mod Opens
+mod OwnCache
+mod OwnFacts
+mod OwnKeys
+mod OwnParts
+pub mod OwnSessions
+mod OwnTrust
 mod PromptCourses
 mod Prompted
 mod RefusedCourses
@@ -32,3 +39,4 @@ mod TrustEnds
 mod TrustExplained
 mod Uncaused
 mod WorkedExamples
+mod WorkedPassphrases

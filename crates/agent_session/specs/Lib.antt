@@ -2,6 +2,8 @@ pub mod Causes
 pub mod Completeness
 pub mod DoorCauses
 pub mod DoorCompleteness
+pub mod Imports
+pub mod OwnPassphrases
 pub mod Refusals
 pub mod Sessions
 pub mod TrustCalls

@@ -12,6 +12,7 @@
 mod completeness;
 mod doors;
 mod laws;
+mod own_passphrases;
 mod refusals;
 mod session;
 
@@ -25,9 +26,11 @@ pub use doors::{
     each_error_at_a_door_has_its_cause, without_a_cause_the_answer_at_a_door_is_ok,
 };
 pub use laws::{a_session_at_a_door_extends_a_run, a_session_extends_a_run, key_commands_are_read};
+pub use own_passphrases::{a_session_stores_its_requests_own, each_request_stores_its_own};
 pub use refusals::{
     a_call_of_the_trust_file_decides_its_request, a_prompt_is_opened_first,
     a_refused_request_does_nothing_more, a_refused_turn_leaves_the_desk,
+    a_session_goes_on_after_an_error, an_import_stores_with_its_file,
     each_request_takes_its_course, requests_on_the_cache_alone_want_no_memory,
 };
 pub use session::serve_session;
