@@ -83,7 +83,7 @@ module _ (rules : Rules) (kept : Kept) (whole : List (Event FurtherEvent)) (requ
   unheard_explained unheard.Cancelled is = failed [] code.Cancelled Agent tt (by_client is) tt
   unheard_explained unheard.TooMuch is = failed [] code.TooMuch Agent tt is tt
   unheard_explained unheard.Unexpected is = failed [] code.Unexpected Agent tt is tt
-  unheard_explained (unheard.Gone gone.TooLong) is = failed [] code.LineTooLong Agent tt is tt
+  unheard_explained (unheard.Gone gone.TooLong) is = failed [] code.LineTooLong Agent tt is refl
   unheard_explained (unheard.Gone gone.Ended) is = silent tt is
   unheard_explained (unheard.Gone gone.Spent) is = silent tt is
   unheard_explained (unheard.Gone gone.ReadFault) is = silent tt is

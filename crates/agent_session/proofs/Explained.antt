@@ -6,6 +6,7 @@ use Rattle.agent_ask.specs.Further.{FurtherEvent}
 use Rattle.agent_ask.specs.SessionEvents.{Sent}
 use Rattle.assuan_server.specs.Errors.{error_text}
 use Rattle.assuan_server.specs.declared.errors.Code.{Code}
+use Rattle.assuan_server.specs.declared.errors.Code.TheVariants as code
 use Rattle.assuan_server.specs.declared.errors.Origin.{Origin}
 use Rattle.assuan_text.specs.LineEnds.{line_of}
 use Rattle.agent_commands.specs.Events.{Event}
@@ -29,6 +30,37 @@ IsLast (End Killed) = ⊤
 IsLast (End TooLong) = ⊤
 IsLast _ = ⊥
 
+-- after an error line the session goes on, unless its client is told that a line was too long
+abbrev pub GoesOnAfter : Went → Code → Type 0
+GoesOnAfter On why = ⊤
+GoesOnAfter (End TooLong) why = why ≡ code.LineTooLong
+GoesOnAfter (End Bye) why = ⊥
+GoesOnAfter (End Killed) why = ⊥
+GoesOnAfter (End Ended) why = ⊥
+GoesOnAfter (End Spent) why = ⊥
+GoesOnAfter (End ReadFault) why = ⊥
+GoesOnAfter (End WriteFault) why = ⊥
+
+is_last : (went : Went) (why : Code) → GoesOnAfter went why → IsLast went
+is_last On why goes = tt
+is_last (End TooLong) why goes = tt
+is_last (End Bye) why goes = tt
+is_last (End Killed) why goes = tt
+is_last (End Ended) why goes = absurd goes
+is_last (End Spent) why goes = absurd goes
+is_last (End ReadFault) why goes = absurd goes
+is_last (End WriteFault) why goes = absurd goes
+
+pub went_on : (went : Went) (why : Code) → GoesOnAfter went why → (why ≡ code.LineTooLong → ⊥) → went ≡ On
+went_on On why goes other = refl
+went_on (End TooLong) why goes other = absurd (other goes)
+went_on (End Bye) why goes other = absurd goes
+went_on (End Killed) why goes other = absurd goes
+went_on (End Ended) why goes other = absurd goes
+went_on (End Spent) why goes other = absurd goes
+went_on (End ReadFault) why goes other = absurd goes
+went_on (End WriteFault) why goes other = absurd goes
+
 abbrev pub IsLost : List (Event FurtherEvent) → Went → Type 0
 IsLost events (End Ended) = IsSaid events (unheard.Gone gone.Ended)
 IsLost events (End Spent) = IsSaid events (unheard.Gone gone.Spent)
@@ -42,7 +74,7 @@ error_line why origin = Sent (line_of (error_text why origin))
 -- these events of an exchange with all those
 pub data Explained (whole : List (Event FurtherEvent)) (Caused : Code → Origin → Type 0) : List (Event FurtherEvent) → Went → Type 0 where
   replied : (before : List (Event FurtherEvent)) (text : List ℕ) {went : Went} → AllByRecursion AnswersNothing before → IsReply text → IsLast went → Explained whole Caused (before ++ Sent text ∷ []) went
-  failed : (before : List (Event FurtherEvent)) {went : Went} (why : Code) (origin : Origin) → AllByRecursion AnswersNothing before → Caused why origin → IsLast went
+  failed : (before : List (Event FurtherEvent)) {went : Went} (why : Code) (origin : Origin) → AllByRecursion AnswersNothing before → Caused why origin → GoesOnAfter went why
       → Explained whole Caused (before ++ error_line why origin ∷ []) went
   silent : {events : List (Event FurtherEvent)} {went : Went} → AllByRecursion AnswersNothing events → IsLost whole went → Explained whole Caused events went
 
@@ -89,7 +121,7 @@ module _ (whole : List (Event FurtherEvent)) (Caused : Code → Origin → Type 
 
   pub is_answered : {events : List (Event FurtherEvent)} {went : Went} → Explained whole Caused events went → whole ≡ events → IsAnsweredBy went whole
   is_answered (replied before text {went} nothing reply last) is = last_answers went whole last (record { before = before; text = text; is = is; nothing_before = nothing; answer = done (reply_ends_in_ok reply) })
-  is_answered (failed before {went} why origin nothing caused last) is = last_answers went whole last (record { before = before; text = _; is = is; nothing_before = nothing; answer = error why origin refl })
+  is_answered (failed before {went} why origin nothing caused goes) is = last_answers went whole (is_last went why goes) (record { before = before; text = _; is = is; nothing_before = nothing; answer = error why origin refl })
   is_answered (silent {events} {went} nothing lost) is = lost_answers went lost (subst (AllByRecursion AnswersNothing) (sym is) nothing)
 
   -- no error line is among events that answer nothing
@@ -115,3 +147,14 @@ module _ (whole : List (Event FurtherEvent)) (Caused : Code → Origin → Type 
         | inr only ↦ is_same given why from origin (sent_same _ _ (has_only only)) caused
       ]
   is_caused (silent {events} nothing lost) why origin has = absurd (no_error why origin events nothing has)
+
+  -- how the session goes on after one
+  pub goes_on : {events : List (Event FurtherEvent)} {went : Went} → Explained whole Caused events went → (why : Code) (origin : Origin) → HasError why origin events → GoesOnAfter went why
+  goes_on (replied before text nothing reply last) why origin has =
+      elim (has_split before (Sent text ∷ []) has) [ inl first ↦ absurd (no_error why origin before nothing first) | inr only ↦ absurd (no_reply why origin reply (sent_same _ _ (has_only only))) ]
+  goes_on (failed before {went} given from nothing caused goes) why origin has =
+      elim (has_split before (error_line given from ∷ []) has) [
+        | inl first ↦ absurd (no_error why origin before nothing first)
+        | inr only ↦ subst (GoesOnAfter went) (sym (same_code why given origin from (sent_same _ _ (has_only only)))) goes
+      ]
+  goes_on (silent {events} nothing lost) why origin has = absurd (no_error why origin events nothing has)

@@ -5,6 +5,8 @@ use Rattle.agent_ask.specs.SessionEvents.{Further}
 use Rattle.agent_ports.specs.declared.grip.Grip.{Grip}
 use Rattle.agent_ports.specs.declared.keys.KeyDone.TheVariants as key_done
 use Rattle.assuan_server.specs.declared.errors.Code.{Code}
+use Rattle.assuan_server.specs.declared.errors.Code.TheVariants as code
+use Rattle.assuan_server.specs.declared.errors.Origin.{Origin}
 use Rattle.assuan_server.specs.declared.errors.Origin.TheVariants as origin
 use Rattle.session_client.specs.declared.unheard.Gone.TheVariants as gone
 use Rattle.session_client.specs.declared.unheard.Unheard.{Unheard}
@@ -16,6 +18,7 @@ use Rattle.session_client.specs.Asking.{gone_of}
 use Rattle.agent_commands.specs.Requests.{request_of}
 use Rattle.agent_commands.specs.declared.request.Request.{Request}
 use Rattle.agent_commands.specs.declared.went.Went.{Went}
+use Rattle.agent_commands.specs.declared.went.Went.TheVariants.{On}
 use Rattle.key_commands.specs.Exchanges.{Exchange, answered, refused}
 use Rattle.key_commands.specs.Parts.{refusal_events, refusal_went}
 use Rattle.key_commands.specs.declared.refusal.Refusal.{Refusal}
@@ -24,11 +27,11 @@ use Rattle.key_commands.specs.declared.request.KeyRequest.{KeyRequest}
 use Rattle.key_commands.specs.declared.went.KeyWent.{KeyWent}
 use Rattle.key_commands.specs.declared.wrap_keys.WrapKeys.{WrapKeys}
 use Rattle.agent_session.specs.Causes.{Has, StandIn, IsCaused, IsRefusedBy, on_keys, IsSaid}
-use Rattle.agent_session.specs.Completeness.{CausedInSession}
+use Rattle.agent_session.specs.Completeness.{CausedInSession, HasError}
 use Rattle.agent_origin.specs.SessionExchanges.{RequestExchange, cache, keys, SessionExchange, went_after_key}
 use Rattle.agent_origin.specs.declared.kept.Kept.{Kept}
 use Rattle.agent_session.proofs.CacheRequests.{cache_explained, unheard_explained as cached_unheard_explained}
-use Rattle.agent_session.proofs.Explained.{Explained, replied, failed, silent, after_these, is_answered, is_caused}
+use Rattle.agent_session.proofs.Explained.{Explained, replied, failed, silent, after_these, is_answered, is_caused, goes_on, went_on}
 use Rattle.agent_session.proofs.Explaining.{CausedRefusal, ClientSays, cut, client_said, Comes, Anything, closes_of}
 use Rattle.agent_session.proofs.KeyRequests.{Replied, replies}
 use Rattle.agent_session.proofs.LineFaults.{line_caused}
@@ -89,3 +92,10 @@ pub exchange_caused : (rules : Rules) (kept : Kept) (line : List ℕ) {events : 
 exchange_caused rules kept line {events} never_absent exchange =
     let explained = request_explained rules kept (request_of line) events (line_caused rules kept line events) never_absent exchange (stand_all events) in
     record { exchange = exchange; answered = is_answered events (IsCaused events rules kept (request_of line)) explained refl; caused = is_caused events (IsCaused events rules kept (request_of line)) explained }
+
+-- after an error line the session goes on, but after one
+pub exchange_goes_on : (rules : Rules) (kept : Kept) (line : List ℕ) {events : List (Event FurtherEvent)} {after : Kept} {went : Went} → NeverAbsent events → SessionExchange rules kept line events after went
+    → (why : Code) (origin : Origin) → HasError why origin events → (why ≡ code.LineTooLong → ⊥) → went ≡ On
+exchange_goes_on rules kept line {events} {went} never_absent exchange why origin has =
+    let explained = request_explained rules kept (request_of line) events (line_caused rules kept line events) never_absent exchange (stand_all events) in
+    went_on went why (goes_on events (IsCaused events rules kept (request_of line)) explained why origin has)

@@ -23,12 +23,19 @@ mod Explained
 mod Explaining
 pub mod Fair
 mod Faulty
+mod ImportCourses
 mod KeyCourses
 mod KeyExplained
 mod KeyParts
 mod KeyRequests
 mod LineFaults
 mod Opens
+mod OwnCache
+mod OwnFacts
+mod OwnKeys
+mod OwnParts
+pub mod OwnSessions
+mod OwnTrust
 mod PromptCourses
 mod Prompted
 mod RefusedCourses
@@ -44,3 +51,4 @@ mod TrustExplained
 mod Uncaused
 mod WorkedExact
 mod WorkedExamples
+mod WorkedPassphrases

@@ -191,7 +191,7 @@ module _ (rules : Rules) (kept : Kept) (other : Request) (request : TrustRequest
   client_explained unheard.Cancelled is = failed [] code.Cancelled Agent tt (by_client is) tt
   client_explained unheard.TooMuch is = failed [] code.TooMuch Agent tt (inquired is) tt
   client_explained unheard.Unexpected is = failed [] code.Unexpected Agent tt is tt
-  client_explained (unheard.Gone gone.TooLong) is = failed [] code.LineTooLong Agent tt is tt
+  client_explained (unheard.Gone gone.TooLong) is = failed [] code.LineTooLong Agent tt is refl
   client_explained (unheard.Gone gone.Ended) is = silent tt is
   client_explained (unheard.Gone gone.Spent) is = silent tt is
   client_explained (unheard.Gone gone.ReadFault) is = silent tt is

@@ -3,6 +3,8 @@ pub mod Completeness
 pub mod DoorCauses
 pub mod DoorCompleteness
 pub mod Exactly
+pub mod Imports
+pub mod OwnPassphrases
 pub mod Refusals
 pub mod Sessions
 pub mod TrustCalls

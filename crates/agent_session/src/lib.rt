@@ -13,6 +13,7 @@ mod completeness;
 mod doors;
 mod exactly;
 mod laws;
+mod own_passphrases;
 mod refusals;
 mod session;
 
@@ -27,9 +28,11 @@ pub use doors::{
 };
 pub use exactly::{each_cause_at_a_door_has_its_error, each_cause_has_its_error};
 pub use laws::{a_session_at_a_door_extends_a_run, a_session_extends_a_run, key_commands_are_read};
+pub use own_passphrases::{a_session_stores_its_requests_own, each_request_stores_its_own};
 pub use refusals::{
     a_call_of_the_trust_file_decides_its_request, a_prompt_is_opened_first,
     a_refused_request_does_nothing_more, a_refused_turn_leaves_the_desk,
+    a_session_goes_on_after_an_error, an_import_stores_with_its_file,
     each_request_takes_its_course, requests_on_the_cache_alone_want_no_memory,
 };
 pub use session::serve_session;

@@ -1,17 +1,23 @@
 ghost use Rattle.std.specs.List.{AllByRecursion};
-ghost use Rattle.std.specs.Prelude.{List, ℕ};
+ghost use Rattle.std.specs.Prelude.{◌≡◌, ◌≢◌, Bool, List, Option, ℕ, Some};
 ghost use Rattle.agent_ask.specs.Worlds.{Outside, Does};
 ghost use Rattle.agent_ports.specs.Leads.{Leads};
 ghost use Rattle.assuan_server.specs.Reading.{Supply};
 ghost use Rattle.assuan_server.specs.declared.errors.Code.{Code};
+ghost use Rattle.assuan_server.specs.declared.errors.Code.TheVariants.{LineTooLong};
+ghost use Rattle.assuan_server.specs.declared.errors.Origin.{Origin};
 ghost use Rattle.assuan_server.specs.declared.errors.Origin.TheVariants.{Agent};
 ghost use Rattle.agent_commands.specs.Requests.{request_of};
 ghost use Rattle.agent_commands.specs.declared.went.Went.{Went};
+ghost use Rattle.agent_commands.specs.declared.went.Went.TheVariants.{On};
 ghost use Rattle.cache_policy.specs.Turns.{MayWantMemory, Refused};
 ghost use Rattle.cache_policy.specs.declared.mark.MarkStep.{MarkStep};
 ghost use Rattle.key_commands.specs.Events.{Event};
 ghost use Rattle.session_options.specs.declared.rules.Rules.{Rules};
+ghost use Rattle.key_commands.specs.declared.request.KeyRequest.TheVariants.{ImportKey};
+ghost use Rattle.agent_session.specs.Causes.{on_keys};
 ghost use Rattle.agent_session.specs.Completeness.{HasError, IsStopped};
+ghost use Rattle.agent_session.specs.Imports.{ImportCourse};
 ghost use Rattle.agent_origin.specs.SessionExchanges.{SessionExchange};
 ghost use Rattle.agent_session.specs.Refusals.{AnswersAlone, Course, IsOwnCode, LeavesDesk};
 ghost use Rattle.agent_session.specs.Refusals.{OpensFirst, RefusedCourse};
@@ -44,6 +50,26 @@ pub fn a_refused_request_does_nothing_more<D: Desk, P: Prompter>()
         (why : Code) → SessionExchange rules kept line events now went
         → Leads (Does (FurtherWorld D.turned P.prompted) supply) before events after → IsOwnCode why
         → HasError why Agent events → RefusedCourse (request_of line) why events }
+{}
+
+/// After an error line the session goes on, so after `Cannot allocate memory` too. One alone ends
+/// it: that a line of the client's was too long.
+pub fn a_session_goes_on_after_an_error<D: Desk, P: Prompter>()
+    ensures { (rules : Rules) (kept now : Kept) (line : List ℕ) (events : List Event)
+        (went : Went) (supply : Supply) (before after : Outside (FurtherWorld D.turned P.prompted))
+        (why : Code) (origin : Origin) → SessionExchange rules kept line events now went
+        → Leads (Does (FurtherWorld D.turned P.prompted) supply) before events after
+        → HasError why origin events → why ≢ LineTooLong → went ≡ On }
+{}
+
+/// An IMPORT_KEY hands nothing to the cache before its nonce was drawn. Then it stores under that
+/// nonce, and where this is done it replaces the key's file next. So one that is refused before it
+/// calls the keys for that has stored nothing, under the nonce neither.
+pub fn an_import_stores_with_its_file()
+    ensures { (rules : Rules) (kept now : Kept) (line : List ℕ) (events : List Event) (went : Went)
+        (force : Bool) (nonce : Option (List ℕ))
+        → on_keys (request_of line) ≡ Some (ImportKey force nonce)
+        → SessionExchange rules kept line events now went → ImportCourse events }
 {}
 
 /// A prompt is opened before the prompter is called, and no other one behind that. So where a turn

@@ -1,0 +1,144 @@
+-- What an IMPORT_KEY hands to the cache, in its order.
+use Rattle.std.specs.List.{AllByRecursion}
+use Rattle.std.proofs.Common.{◌≡◌, ℕ, Bool, List, [], ◌∷◌, ◌++◌, Option, Some, None, Result, Ok, Err, refl, sym, ap, ◌∙◌, subst, append_assoc}
+use Rattle.agent_ask.specs.Failing.{said_last}
+use Rattle.agent_ask.specs.Further.{FurtherEvent}
+use Rattle.agent_ask.specs.SessionEvents.{Sent}
+use Rattle.agent_ports.specs.declared.grip.Grip.{Grip}
+use Rattle.agent_ports.specs.declared.keys.KeyDone.{KeyDone}
+use Rattle.agent_ports.specs.declared.keys.KeyDone.TheVariants as key_done
+use Rattle.assuan_server.specs.Clients.{session_lines}
+use Rattle.assuan_server.specs.declared.errors.Code.{Code}
+use Rattle.assuan_server.specs.declared.errors.Code.TheVariants as code
+use Rattle.session_options.specs.OptionValues.{OptionValues}
+use Rattle.session_options.specs.declared.options.PinMode.{PinMode}
+use Rattle.session_options.specs.declared.options.PinMode.TheVariants as mode
+use Rattle.session_options.specs.declared.rules.Rules.{Rules}
+use Rattle.sexp_keys.specs.Key.{Key}
+use Rattle.agent_commands.specs.Events.{Event}
+use Rattle.agent_commands.specs.declared.request.Request.{Request}
+use Rattle.agent_commands.specs.declared.request.Request.TheVariants.{Cache, Key as OnKeys, Bad}
+use Rattle.agent_commands.specs.declared.went.Went.{Went}
+use Rattle.key_commands.specs.Exchanges.{Exchange, ImportKeyReplies, StoresKey, FoundOrNew}
+use Rattle.key_commands.specs.Exchanges as exchange
+use Rattle.key_commands.specs.KeyParts.{change_fault}
+use Rattle.key_commands.specs.KeyParts as parts
+use Rattle.key_commands.specs.Parts.{Part, ◌>>=◌, Follows, goes_on, stops, Returns, Closes, refusal_events, refusal_line}
+use Rattle.key_commands.specs.Parts as small
+use Rattle.key_commands.specs.Passphrases as passphrases
+use Rattle.key_commands.specs.declared.refusal.Refusal.{Refusal}
+use Rattle.key_commands.specs.declared.refusal.Refusal.TheVariants.{Agent}
+use Rattle.key_commands.specs.declared.request.KeyRequest.{KeyRequest}
+use Rattle.key_commands.specs.declared.request.KeyRequest.TheVariants as on
+use Rattle.key_commands.specs.declared.went.KeyWent.{KeyWent}
+use Rattle.key_commands.specs.declared.wrap_keys.WrapKeys.{WrapKeys}
+use Rattle.key_commands.proofs.EachEvent.{each_append, EachSo, each_bind, each_refused, each_needed, each_otherwise, receives_key, names_key, is_free, looks_over, takes_seat, prompts_new, client_new}
+use Rattle.agent_origin.specs.SessionExchanges.{RequestExchange, cache, keys}
+use Rattle.agent_origin.specs.declared.kept.Kept.{Kept}
+use Rattle.agent_session.specs.Causes.{on_keys}
+use Rattle.agent_session.specs.Imports.{HandsNothing, HandNothing, put, given_back, ImportCourse, not_drawn, not_put, not_replaced, replaced}
+use Rattle.agent_session.proofs.OwnKeys.{still_quiet}
+use Rattle.agent_session.proofs.OwnParts.{kept_none}
+
+-- behind what hands nothing in, and before it
+course_behind : (first : List (Event FurtherEvent)) {events : List (Event FurtherEvent)} → HandNothing first → ImportCourse events → ImportCourse (first ++ events)
+course_behind first each (not_drawn {events} nothing) = not_drawn (each_append HandsNothing first events each nothing)
+course_behind first each (not_put early late drawn pass nothing long why behind) =
+    subst ImportCourse (append_assoc first early _) (not_put (first ++ early) late drawn pass (each_append HandsNothing first early each nothing) long why behind)
+course_behind first each (not_replaced early late drawn pass file grip answer nothing long other behind) =
+    subst ImportCourse (append_assoc first early _) (not_replaced (first ++ early) late drawn pass file grip answer (each_append HandsNothing first early each nothing) long other behind)
+course_behind first each (replaced early late drawn pass file turn nothing long keeps behind) =
+    subst ImportCourse (append_assoc first early _) (replaced (first ++ early) late drawn pass file turn (each_append HandsNothing first early each nothing) long keeps behind)
+
+course_before : (last : List (Event FurtherEvent)) {events : List (Event FurtherEvent)} → HandNothing last → ImportCourse events → ImportCourse (events ++ last)
+course_before last each (not_drawn {events} nothing) = not_drawn (each_append HandsNothing events last nothing each)
+course_before last each (not_put early late drawn pass nothing long why behind) =
+    subst ImportCourse (sym (append_assoc early _ last)) (not_put early (late ++ last) drawn pass nothing long why (each_append HandsNothing late last behind each))
+course_before last each (not_replaced early late drawn pass file grip answer nothing long other behind) =
+    subst ImportCourse (sym (append_assoc early _ last)) (not_replaced early (late ++ last) drawn pass file grip answer nothing long other (each_append HandsNothing late last behind each))
+course_before last each (replaced early late drawn pass file turn nothing long keeps behind) =
+    subst ImportCourse (sym (append_assoc early _ last)) (replaced early (late ++ last) drawn pass file turn nothing long keeps (each_append HandsNothing late last behind each))
+
+abbrev IsImport : {A : Type 0} → Part A → Type 0
+IsImport {A} part = (before : Option ℕ) (events : List (Event FurtherEvent)) (result : Result A Refusal) (after : Option ℕ) → part before events result after → ImportCourse events
+
+module _ {A B : Type 0} {part : Part A} {next : A → Part B} (first : EachSo HandsNothing part) (then : (value : A) → IsImport (next value)) where
+  quiet_then : IsImport (part >>= next)
+  quiet_then before events result after (goes_on {first = some} {events = more} {value} {mid} does next_does) =
+      course_behind some (first.of before some (Ok value) mid does) (then value mid more result after next_does)
+  quiet_then before events result after (stops {refusal = why} does) = not_drawn (first.of before events (Err why) after does)
+
+-- ---- the key is stored
+
+undone : (answer : KeyDone) {why : Code} → change_fault answer ≡ Some why → answer ≡ key_done.Done → ⊥
+undone answer is done = let never : None ≡ Some _ = sym (ap change_fault done) ∙ is in cc never
+
+stores_of : (count : ℕ) (key : Key) (grip : Grip) (pass : List ℕ) → IsImport (StoresKey count key grip pass)
+stores_of count key grip pass before events result after (stops small.faulted) = not_drawn (tt, tt)
+stores_of count key grip pass before events result after (goes_on (small.drawn long) (stops parts.no_memory)) = not_drawn (tt, (tt, tt))
+stores_of count key grip pass before events result after (goes_on (small.drawn long) (goes_on parts.made (stops (small.interrupted why)))) = not_put [] [] _ _ tt long why tt
+stores_of count key grip pass before events result after (goes_on (small.drawn long) (goes_on parts.made (goes_on small.done (stops (parts.not_done {answer} is))))) =
+    not_replaced [] [] _ _ _ _ _ tt long (undone answer is) tt
+stores_of count key grip pass None events result after (goes_on (small.drawn long) (goes_on parts.made (goes_on small.done (goes_on parts.done (stops (small.interrupted why)))))) =
+    replaced [] [] _ _ _ _ tt long put tt
+stores_of count key grip pass None events result after (goes_on (small.drawn long) (goes_on parts.made (goes_on small.done (goes_on parts.done (goes_on small.done small.returns))))) =
+    replaced [] [] _ _ _ _ tt long put tt
+stores_of count key grip pass (Some number) events result after (goes_on (small.drawn long) (goes_on parts.made (goes_on small.done (goes_on parts.done (goes_on (small.closed turn) small.returns))))) =
+    replaced [] [] _ _ _ _ tt long given_back tt
+stores_of count key grip pass (Some number) events result after (goes_on (small.drawn long) (goes_on parts.made (goes_on small.done (goes_on parts.done (stops never))))) = elim never [ ]
+
+-- ---- before
+
+new_quiet : (rules : Rules) (options : OptionValues) (grip : Grip) (way : PinMode) → EachSo HandsNothing (passphrases.new_by rules options grip way)
+new_quiet rules options grip mode.Ask = each_bind HandsNothing (takes_seat HandsNothing grip (λ turn hands. elim hands [ ])) (λ seated. prompts_new HandsNothing still_quiet (λ event. tt) rules options grip)
+new_quiet rules options grip mode.Cancel = each_refused HandsNothing (Agent code.Cancelled)
+new_quiet rules options grip mode.Error = each_refused HandsNothing (Agent code.NoPinentry)
+new_quiet rules options grip mode.Loopback = client_new HandsNothing still_quiet
+
+found_quiet : (rules : Rules) (options : OptionValues) (nonce : Option (List ℕ)) (grip : Grip) → EachSo HandsNothing (FoundOrNew rules options nonce grip)
+found_quiet rules options nonce grip =
+    each_bind HandsNothing (looks_over HandsNothing nonce (λ named turn hands. elim hands [ ])) (λ found. each_otherwise HandsNothing found (new_quiet rules options grip options.mode))
+
+made_of : {A B : Type 0} {part : Part A} (make : A → B) → IsImport part → IsImport (part >>= λ value. Returns (make value))
+made_of make is_import before events result after (goes_on {first = some} {value} {mid} does small.returns) = course_before [] tt (is_import before some (Ok value) mid does)
+made_of make is_import before events result after (stops {refusal = why} does) = is_import before events (Err why) after does
+
+module _ (rules : Rules) (options : OptionValues) (wraps : WrapKeys) where
+  import_so : (force : Bool) (nonce : Option (List ℕ)) → IsImport (ImportKeyReplies rules options wraps force nonce)
+  unfolding ImportKeyReplies
+  import_so force nonce =
+      quiet_then (each_needed HandsNothing code.Parameter wraps.import) (λ wrap. quiet_then (receives_key HandsNothing still_quiet wrap) (λ key. quiet_then (names_key HandsNothing still_quiet key)
+      (λ grip. quiet_then (is_free HandsNothing still_quiet force grip) (λ free. quiet_then (found_quiet rules options nonce grip) (λ pass. made_of _ (stores_of options.s2k_count key grip pass))))))
+
+  back_nothing : {held : Option ℕ} {back : List (Event FurtherEvent)} → Closes None held back (Ok tt) None → HandNothing back
+  back_nothing small.unheld = tt
+  back_nothing (small.closed turn) = (kept_none _, tt)
+
+  refusal_nothing : (line : Option (List ℕ)) → HandNothing (said_last {T = session_lines.Took} {O = session_lines.Outcome} {F = FurtherEvent} line)
+  refusal_nothing None = tt
+  refusal_nothing (Some line) = (tt, tt)
+
+  pub import_exchange : (asked : KeyRequest) {force : Bool} {nonce : Option (List ℕ)} → asked ≡ on.ImportKey force nonce → {events : List (Event FurtherEvent)} {after : WrapKeys} {went : KeyWent}
+      → Exchange rules options wraps asked events after went → ImportCourse events
+  import_exchange (on.ImportKey force nonce) is (exchange.answered events held reply {back} does closes) =
+      course_before (back ++ Sent reply.text ∷ []) (each_append HandsNothing back _ (back_nothing closes) (tt, tt)) (import_so force nonce None events (Ok reply) held does)
+  import_exchange (on.ImportKey force nonce) is (exchange.refused events held why {back} does closes) =
+      course_before (back ++ refusal_events why) (each_append HandsNothing back (refusal_events why) (back_nothing closes) (refusal_nothing (refusal_line why))) (import_so force nonce None events (Err why) held does)
+  import_exchange (on.HaveKey grips) is exchanged = absurd (cc is)
+  import_exchange (on.KeyInfo grip) is exchanged = absurd (cc is)
+  import_exchange on.ListKeys is exchanged = absurd (cc is)
+  import_exchange (on.KeyWrap way) is exchanged = absurd (cc is)
+  import_exchange (on.ExportKey grip id) is exchanged = absurd (cc is)
+  import_exchange (on.Passwd grip old new verify) is exchanged = absurd (cc is)
+  import_exchange (on.DeleteKey grip force) is exchanged = absurd (cc is)
+  import_exchange (on.Bad why) is exchanged = absurd (cc is)
+
+some_key : {one other : KeyRequest} → Some one ≡ Some other → one ≡ other
+some_key is = cc is
+
+pub import_course : (request : Request) {force : Bool} {nonce : Option (List ℕ)} → on_keys request ≡ Some (on.ImportKey force nonce) → {rules : Rules} {kept now : Kept} {events : List (Event FurtherEvent)} {went : Went}
+    → RequestExchange rules kept request events now went → ImportCourse events
+import_course (Cache command) is exchanged = absurd (cc is)
+import_course (Bad why) is exchanged = absurd (cc is)
+import_course (OnKeys line) is {rules} {kept} (keys exchanged) = import_exchange rules kept.options kept.wraps _ (some_key is) exchanged
+import_course (OnKeys line) is (cache exchanged) = elim exchanged [ ]

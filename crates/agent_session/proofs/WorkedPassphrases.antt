@@ -1,0 +1,183 @@
+-- Worked exchanges: whose their passphrases are, and what stands after a refusal.
+use Rattle.std.specs.List.{AllByRecursion}
+use Rattle.std.specs.Prelude.{⊤, take, drop}
+use Rattle.std.proofs.Common.{◌≡◌, ◌≤◌, ℕ, false, true, List, [], ◌∷◌, ◌++◌, length, Option, Some, None, Ok, Err, refl, sym, subst, arith, codes}
+use Rattle.agent_ask.specs.Events.{PromptEvent, Start, GetPin, Shut, Called}
+use Rattle.agent_ask.specs.Further.{FurtherEvent, Prompt, Replaced}
+use Rattle.agent_ask.specs.Plans.{IsSpec, plan_of}
+use Rattle.agent_ask.specs.Prompts.{AsksPin, tried, quiet, good, accepted, same}
+use Rattle.agent_ask.specs.SessionEvents.{Received, Sent, Inquiry, Further, cache_turn}
+use Rattle.agent_ask.specs.Tests.{test_of}
+use Rattle.agent_ask.specs.UnderTickets.{AnyInSession, next, asked as asked_under}
+use Rattle.agent_ask.specs.UnderTickets as under
+use Rattle.agent_ask.specs.declared.ask.Asked.TheVariants as asked
+use Rattle.agent_ask.specs.declared.prompter.Opened.TheVariants as opened
+use Rattle.agent_ask.specs.declared.prompter.Outcome.TheVariants as outcome
+use Rattle.agent_ask.specs.declared.spec.AskPlan.{AskPlan}
+use Rattle.agent_ask.specs.declared.spec.PromptSpec.{PromptSpec}
+use Rattle.agent_ask.specs.declared.test.Tested.TheVariants.{Yes}
+use Rattle.agent_ports.specs.declared.grip.Grip.{Grip}
+use Rattle.agent_ports.specs.declared.keys.KeyDone.TheVariants as key_done
+use Rattle.assuan_escape.specs.Escapes.{hex_text}
+use Rattle.assuan_line.specs.declared.reader.Took.TheVariants as took
+use Rattle.assuan_server.specs.Clients.{session_lines}
+use Rattle.assuan_server.specs.Inquiries.{Data}
+use Rattle.assuan_server.specs.Written.{failed, greeting, ok_text}
+use Rattle.assuan_server.specs.declared.errors.Code.TheVariants as code
+use Rattle.assuan_server.specs.declared.errors.Origin.TheVariants.{Agent as OfAgent}
+use Rattle.assuan_text.specs.LineEnds.{line_of}
+use Rattle.cache_policy.specs.Turns.{Given, Open, Done, Refused}
+use Rattle.cache_policy.specs.declared.grant.Grant.{Grant}
+use Rattle.cache_policy.specs.declared.life.Life.{Life}
+use Rattle.cache_policy.specs.declared.mark.MarkStep.TheVariants.{Close}
+use Rattle.secret_file.specs.Protects.{ocb_protection, protected_file}
+use Rattle.session_client.specs.Asking.{Asked}
+use Rattle.session_options.specs.OptionValues.{OptionValues}
+use Rattle.session_options.specs.declared.options.PinMode.TheVariants as mode
+use Rattle.session_options.specs.declared.rules.Rules.{Rules}
+use Rattle.sexp_keys.specs.Key.{Key}
+use Rattle.sexp_keys.specs.Lists.{grip_of}
+use Rattle.agent_commands.specs.Events.{Event}
+use Rattle.agent_commands.specs.Exchanges as exchanges
+use Rattle.agent_commands.specs.Exchanges.{want, put}
+use Rattle.agent_commands.specs.Requests.{GetFields, get_passphrase, request_of}
+use Rattle.agent_commands.specs.Talks.{Session, whole, greeted}
+use Rattle.agent_commands.specs.Talks as talks
+use Rattle.agent_commands.specs.declared.request.CacheCommand.TheVariants.{PresetPassphrase}
+use Rattle.agent_commands.specs.declared.request.Request.{Request}
+use Rattle.agent_commands.specs.declared.request.Request.TheVariants.{Cache}
+use Rattle.agent_commands.specs.declared.request.Texts.{Texts}
+use Rattle.agent_commands.specs.declared.went.SessionEnd.TheVariants.{Ended}
+use Rattle.agent_commands.specs.declared.went.Went.TheVariants.{On}
+use Rattle.key_commands.specs.Events.{drew, called}
+use Rattle.key_commands.specs.Exchanges as key_exchange
+use Rattle.key_commands.specs.Exchanges.{ImportKeyReplies, KeyReply}
+use Rattle.key_commands.specs.KeyParts as parts
+use Rattle.key_commands.specs.KeyParts.{max_key_data}
+use Rattle.key_commands.specs.Lines.{limit_line}
+use Rattle.key_commands.specs.Parts as small
+use Rattle.key_commands.specs.Parts.{goes_on, stops, returns}
+use Rattle.key_commands.specs.Passphrases.{ask_nonce}
+use Rattle.key_commands.specs.Wrapping.{WrappedSays}
+use Rattle.key_commands.specs.declared.refusal.Refusal.TheVariants.{Agent}
+use Rattle.key_commands.specs.declared.request.KeyRequest.TheVariants as on
+use Rattle.key_commands.specs.declared.went.KeyWent.TheVariants as key_went
+use Rattle.key_commands.specs.declared.wrap_keys.WrapKeys.{WrapKeys}
+use Rattle.agent_origin.specs.SessionExchanges.{SessionExchange, RequestExchange, cache}
+use Rattle.agent_origin.specs.declared.kept.Kept.{Kept}
+use Rattle.agent_session.specs.Causes.{Has, here, later}
+use Rattle.agent_session.specs.Completeness.{HasError}
+use Rattle.agent_session.specs.Imports.{put_nonce, ImportCourse}
+use Rattle.agent_session.specs.OwnPassphrases.{StoresOwn, StoresOwnIn, keeps}
+use Rattle.agent_session.proofs.ImportCourses.{import_exchange}
+use Rattle.agent_session.proofs.KeyExplained.{exchange_goes_on}
+use Rattle.agent_session.proofs.OwnCache.{request_own}
+use Rattle.agent_session.proofs.OwnParts.{Fit, own_at}
+use Rattle.agent_session.proofs.OwnSessions.{exchange_own, session_own}
+
+-- ---- a passphrase is typed, and kept
+
+module _ (rules : Rules) (kept : Kept) (id pin : List ℕ) (texts : Texts) (spec : PromptSpec) (mode_is : kept.options.mode ≡ mode.Ask) (unnoted : kept.options.notify ≡ false)
+    (is_spec : IsSpec rules kept.options texts.description texts.prompt false spec) (pid ticket : ℕ) where
+  abbrev fields : GetFields
+  fields = record { plain = false; check = false; no_ask = false; repeat = 0; quality = false; id = Some id; texts = Some texts }
+
+  abbrev request : Request
+  request = Cache (get_passphrase fields)
+
+  abbrev plan : AskPlan
+  plan = plan_of rules kept.options texts.error false 0
+
+  abbrev prompt : List PromptEvent
+  prompt = Called (Start spec (opened.Pid pid)) ∷ Called (GetPin texts.error.items (outcome.Pin pin)) ∷ Called Shut ∷ []
+
+  abbrev shown : List (Event FurtherEvent)
+  shown = Further (Prompt (Called (Start spec (opened.Pid pid)))) ∷ Further (Prompt (Called (GetPin texts.error.items (outcome.Pin pin)))) ∷ Further (Prompt (Called Shut)) ∷ []
+
+  one_try : 1 ≤ 3
+  one_try = omega arith
+
+  asks : AsksPin spec plan (λ pin. ⊤) prompt (asked.Pin pin)
+  asks = record {
+    before = Called (Start spec (opened.Pid pid)) ∷ Called (GetPin texts.error.items (outcome.Pin pin)) ∷ [];
+    whole = refl;
+    tests = test_of pin Yes ∷ [];
+    asks = tried (quiet unnoted) (good one_try (accepted tt tt same));
+  }
+
+  in_session : AnyInSession session_lines prompt shown
+  in_session = under.called (under.called (under.called under.AnyInSession.none))
+
+  abbrev before_close : List (Event FurtherEvent)
+  before_close = cache_turn (want (Some id)) (Open ticket) ∷ shown
+
+  abbrev events : List (Event FurtherEvent)
+  events = before_close ++ cache_turn (Close ticket (Some pin)) Done ∷ Sent (line_of (ok_text (hex_text pin))) ∷ []
+
+  exchange : RequestExchange rules kept request events kept On
+  exchange =
+      cache (exchanges.by_prompt {fields = fields} spec refl refl mode_is is_spec
+      (exchanges.prompted (exchanges.opened (asked_under Done (next {before = []} asks in_session under.Prompts.none) (exchanges.EndsPin.pin refl)))))
+
+  fits : Fit events
+  fits = (tt, (tt, (tt, (tt, (tt, (tt, tt))))))
+
+  -- it enters the cache by the return of its own ticket
+  typed_is_own : StoresOwn request before_close (Close ticket (Some pin))
+  typed_is_own = own_at request [] events before_close (Close ticket (Some pin)) Done (Sent (line_of (ok_text (hex_text pin))) ∷ []) (request_own request exchange fits) refl keeps
+
+  -- and in a session by that of the line that was read last
+  module _ (line : List ℕ) (says : request_of line ≡ request) where
+    abbrev all : List (Event FurtherEvent)
+    all = Sent (line_of greeting) ∷ Received (took.Line line) ∷ (events ++ Received took.End ∷ [])
+
+    line_exchange : SessionExchange rules kept line events kept On
+    line_exchange = subst (λ r. RequestExchange rules kept r events kept On) (sym says) exchange
+
+    session : Session (SessionExchange rules) kept all Ended
+    session = greeted (talks.Talk.goes_on line (whole line_exchange) talks.Talk.ended)
+
+    typed_is_its_lines : StoresOwnIn (Sent (line_of greeting) ∷ Received (took.Line line) ∷ before_close) (Close ticket (Some pin))
+    typed_is_its_lines =
+        session_own (SessionExchange rules) (λ prior other events now went exchanged fits. exchange_own other exchanged fits) session (tt, (tt, (tt, (tt, (tt, (tt, (tt, (tt, (tt, tt)))))))))
+        (Sent (line_of greeting) ∷ Received (took.Line line) ∷ before_close) (Sent (line_of (ok_text (hex_text pin))) ∷ Received took.End ∷ []) (Close ticket (Some pin)) Done refl keeps
+
+-- ---- a preset finds no memory, and the session goes on
+
+module _ (rules : Rules) (kept : Kept) (allowed : rules.allow_preset ≡ true) (id pass : List ℕ) (life : Life) (line : List ℕ) (says : request_of line ≡ Cache (PresetPassphrase id life (Some pass))) where
+  abbrev refused : List (Event FurtherEvent)
+  refused = cache_turn (put id life pass) Refused ∷ Sent (failed code.NoMemory) ∷ []
+
+  refused_exchange : SessionExchange rules kept line refused kept On
+  refused_exchange = subst (λ r. RequestExchange rules kept r refused kept On) (sym says) (cache (exchanges.one_turn (exchanges.IsOneTurn.preset allowed) (exchanges.ComesOut.interrupted exchanges.Interrupts.refused)))
+
+  refused_goes_on : On ≡ On
+  refused_goes_on = exchange_goes_on rules kept line none_absent refused_exchange code.NoMemory OfAgent (later here) (λ is. cc is)
+    where
+      none_absent : (grip : Grip) (file : List ℕ) → Has (called (Replaced grip file key_done.Absent)) refused → ⊥
+      none_absent grip file (later (later has)) = elim has [ ]
+
+-- ---- a key comes in, and its file can't be replaced
+
+module _ (rules : Rules) (options : OptionValues) (wrap wrapped : List ℕ) (key : Key) (says : WrappedSays wrap wrapped (Ok key)) (grip : Grip) (named : grip.0 ≡ grip_of key) (nonce : List ℕ) (grant : Grant)
+    (drawn : List ℕ) (long : length drawn ≡ 32) where
+  abbrev wraps : WrapKeys
+  wraps = record { import = Some wrap; export = None }
+
+  abbrev file : List ℕ
+  file = protected_file key (ocb_protection key grant.entry.secret (take 8 drawn) (take 12 (drop 8 drawn)) options.s2k_count None) None
+
+  abbrev imports : List (Event FurtherEvent)
+  imports =
+      Sent (limit_line max_key_data) ∷ Inquiry (codes "KEYDATA") [] max_key_data (Asked (Data wrapped)) ∷ cache_turn (ask_nonce nonce) (Given grant) ∷ drew drawn
+      ∷ cache_turn (put_nonce drawn grant.entry.secret) Done ∷ called (Replaced grip file key_done.Failed) ∷ []
+
+  import_fails : ImportKeyReplies rules options wraps true (Some nonce) None imports (Err (Agent code.General)) None
+  unfolding ImportKeyReplies
+  import_fails =
+      goes_on returns (goes_on (goes_on small.written (goes_on (parts.asked (small.given refl)) (parts.is_key says))) (goes_on (parts.named named) (goes_on returns
+      (goes_on (goes_on parts.given returns) (stops (goes_on (small.drawn long) (goes_on parts.made (goes_on small.done (stops (parts.not_done refl))))))))))
+
+  -- the passphrase stays under the nonce, and nothing is kept for the key
+  import_stores : ImportCourse (imports ++ Sent (failed code.General) ∷ [])
+  import_stores = import_exchange rules options wraps (on.ImportKey true (Some nonce)) refl (key_exchange.Exchange.refused imports None (Agent code.General) import_fails small.Closes.unheld)

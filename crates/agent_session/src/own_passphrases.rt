@@ -1,0 +1,45 @@
+ghost use Rattle.std.specs.Prelude.{List, ℕ};
+ghost use Rattle.agent_ask.specs.Worlds.{Outside, Does};
+ghost use Rattle.agent_ports.specs.Leads.{Leads};
+ghost use Rattle.assuan_server.specs.Reading.{Supply};
+ghost use Rattle.agent_commands.specs.Requests.{request_of};
+ghost use Rattle.agent_commands.specs.declared.went.SessionEnd.{SessionEnd as Ends};
+ghost use Rattle.agent_commands.specs.declared.went.Went.{Went};
+ghost use Rattle.key_commands.specs.Events.{Event};
+ghost use Rattle.session_options.specs.declared.rules.Rules.{Rules};
+ghost use Rattle.agent_origin.specs.DoorSessions.{ServesDoor};
+ghost use Rattle.agent_origin.specs.FurtherStates.{FurtherWorld};
+ghost use Rattle.agent_origin.specs.SessionExchanges.{SessionExchange};
+ghost use Rattle.agent_origin.specs.Sessions.{Surroundings};
+ghost use Rattle.agent_origin.specs.declared.door.Door.{Door};
+ghost use Rattle.agent_origin.specs.declared.kept.Kept.{Kept};
+ghost use Rattle.agent_session.specs.OwnPassphrases.{StoresOwnAlone, StoresOwnThroughout};
+ghost use Rattle.agent_session.specs.Sessions.{ServesRules};
+
+use agent_ask::Prompter;
+use cache_policy::Desk;
+
+/// Whose a passphrase is. What a request hands to the cache is its own: the one in its line, the
+/// data of its own inquiry, what it was given under the nonce of a new one, or what its own prompt
+/// accepted. A prompt's answer enters the cache by the return of the prompt's own ticket, under
+/// what the request names, or by an IMPORT_KEY under the nonce that it drew, and by no other turn.
+pub fn each_request_stores_its_own<D: Desk, P: Prompter>()
+    ensures { (rules : Rules) (kept now : Kept) (line : List ℕ) (events : List Event) (went : Went)
+        (supply : Supply) (before after : Outside (FurtherWorld D.turned P.prompted))
+        → SessionExchange rules kept line events now went
+        → Leads (Does (FurtherWorld D.turned P.prompted) supply) before events after
+        → StoresOwnAlone (request_of line) events }
+{}
+
+/// Over a session, also over one that came in by a door, what is handed to the cache is of the last
+/// line that was read before, and of nothing that was done for another.
+pub fn a_session_stores_its_requests_own<D: Desk, P: Prompter>()
+    ensures session { (rules : Rules)
+        (before after : Surroundings (FurtherWorld D.turned P.prompted)) (end : Ends)
+        → (served : ServesRules D.turned P.prompted rules before end after)
+        → StoresOwnThroughout served.events }
+    ensures door { (door : Door) (rules : Rules)
+        (before after : Surroundings (FurtherWorld D.turned P.prompted)) (end : Ends)
+        → (served : ServesDoor D.turned P.prompted door rules before end after)
+        → StoresOwnThroughout served.events }
+{}
