@@ -33,3 +33,4 @@ mod TrustEnds
 mod TrustExplained
 mod Uncaused
 mod WorkedExamples
+mod WorkedRuns
