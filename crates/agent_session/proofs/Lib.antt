@@ -52,3 +52,4 @@ mod Uncaused
 mod WorkedExact
 mod WorkedExamples
 mod WorkedPassphrases
+mod WorkedRuns

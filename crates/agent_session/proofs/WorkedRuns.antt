@@ -1,0 +1,73 @@
+-- Worked examples: a session with the one request NOP, of whose exchange the laws hold.
+use Rattle.std.proofs.Common.{◌≡◌, ℕ, List, [], ◌∷◌, None, Option, refl, sym, subst}
+use Rattle.std.specs.Prelude.{⊤, codes}
+use Rattle.agent_ask.specs.Events.{Call}
+use Rattle.agent_ask.specs.Prompters.{AtPrompter}
+use Rattle.agent_ask.specs.SessionEvents.{Received, Sent}
+use Rattle.agent_ask.specs.Worlds.{Outside, Does}
+use Rattle.agent_ask.specs.Worlds as worlds
+use Rattle.agent_commands.specs.Answers.{ok}
+use Rattle.agent_commands.specs.Exchanges as exchanges
+use Rattle.agent_commands.specs.Names.{command_named}
+use Rattle.agent_commands.specs.Requests.{request_of}
+use Rattle.agent_commands.specs.Talks.{Session}
+use Rattle.agent_commands.specs.Talks as talks
+use Rattle.agent_commands.specs.declared.request.CacheCommand.TheVariants.{Nop}
+use Rattle.agent_commands.specs.declared.request.Request.{Request}
+use Rattle.agent_commands.specs.declared.request.Request.TheVariants.{Cache}
+use Rattle.agent_commands.specs.declared.went.SessionEnd.TheVariants.{Ended}
+use Rattle.agent_commands.specs.declared.went.Went.TheVariants.{On}
+use Rattle.agent_origin.specs.FurtherStates.{FurtherWorld}
+use Rattle.agent_origin.specs.SessionExchanges.{SessionExchange, RequestExchange, cache}
+use Rattle.agent_origin.specs.declared.kept.Kept.{Kept}
+use Rattle.agent_ports.specs.KeyFiles.{KeyFiles}
+use Rattle.agent_ports.specs.Leads.{Leads, none, one}
+use Rattle.agent_ports.specs.Sides.{Side}
+use Rattle.agent_ports.specs.TrustFiles.{TrustState}
+use Rattle.assuan_line.specs.declared.reader.Took.TheVariants as took
+use Rattle.assuan_server.specs.Reading.{Supply}
+use Rattle.assuan_server.specs.Written.{greeting}
+use Rattle.assuan_text.specs.LineEnds.{line_of}
+use Rattle.cache_policy.specs.Desks.{AtDesk}
+use Rattle.cache_policy.specs.Turns.{Turn}
+use Rattle.cache_policy.specs.declared.mark.MarkStep.{MarkStep}
+use Rattle.key_commands.specs.Events.{Event}
+use Rattle.session_options.specs.declared.rules.Rules.{Rules}
+use Rattle.agent_session.specs.Completeness.{SessionCauses}
+use Rattle.agent_session.specs.RunExchanges.{ExchangeBetween, LawfulExchange}
+use Rattle.agent_session.proofs.Answering.{in_session}
+use Rattle.agent_session.proofs.RunExchanges.{between, session_between, lawful}
+
+-- a desk and a prompter of which nobody wants anything
+abbrev no_turn : Unit {0} → MarkStep → Turn → Unit {0} → Type 0
+no_turn before asked turn after = ⊥
+
+abbrev no_call : Unit {0} → Call → Unit {0} → Type 0
+no_call before call after = ⊥
+
+nop_line : request_of (codes "NOP") ≡ Cache Nop
+unfolding request_of command_named
+nop_line = refl
+
+module _ (rules : Rules) (kept : Kept) (supply : Supply) (desk : AtDesk) (prompter : AtPrompter) (keys : KeyFiles) (dice : Side) (trust : TrustState) where
+  abbrev at : Outside (FurtherWorld no_turn no_call)
+  at = record { input = None; source = None; output = None; desk = tt; ends = record { prompter = tt; keys = keys; dice = dice; trust = trust } }
+
+  abbrev events : List Event
+  events = Sent (line_of greeting) ∷ Received (took.Line (codes "NOP")) ∷ Sent ok ∷ Received took.End ∷ []
+
+  nop : SessionExchange rules kept (codes "NOP") (Sent ok ∷ []) kept On
+  nop = subst (λ (r : Request). RequestExchange rules kept r (Sent ok ∷ []) kept On) (sym nop_line) (cache exchanges.nop)
+
+  session : Session (SessionExchange rules) kept events Ended
+  session = talks.greeted (talks.goes_on (codes "NOP") (talks.whole nop) talks.ended)
+
+  leads : Leads (Does (FurtherWorld no_turn no_call) supply) at events at
+  leads = one worlds.sent (one (worlds.received {input = None} {source = None} tt tt) (one worlds.sent (one (worlds.received {input = None} {source = None} tt tt) none)))
+
+  lawful_session : Session (ExchangeBetween supply (SessionExchange rules) (LawfulExchange no_turn no_call (λ at_rest. prompter) rules (SessionCauses rules) (λ line. ⊤) (λ at_rest. ⊤))) (between kept at) events Ended
+  lawful_session =
+      session_between (SessionExchange rules) (LawfulExchange no_turn no_call (λ at_rest. prompter) rules (SessionCauses rules) (λ line. ⊤) (λ at_rest. ⊤)) (λ at_rest. ⊤) (λ before event after does so. tt)
+      (lawful no_turn no_call (λ at_rest. desk) (λ at_rest. prompter) (λ before asked turn after never. absurd never) (λ before call after never. absurd never) rules (λ at_rest. ⊤) (λ at_rest. ⊤)
+      (λ before asked after so spares never. absurd never) (in_session rules) (λ before line own after went caused. caused.answered) (λ line. ⊤) (λ before line own after went exchange is. exchange))
+      at at tt session leads
