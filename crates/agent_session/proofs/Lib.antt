@@ -12,6 +12,7 @@ mod ErrorLines
 mod Exact
 mod ExactCache
 mod ExactDoors
+mod ExactEnds
 mod ExactFiles
 mod ExactHave
 mod ExactKeys

@@ -2,19 +2,23 @@
 use Rattle.std.specs.List.{AllByRecursion}
 use Rattle.std.proofs.Common.{◌≡◌, ℕ, true, false, List, [], ◌∷◌, codes, Option, Some, None, refl, sym, subst}
 use Rattle.arrayvec.specs.ArrayVec.{ArrayVec}
+use Rattle.agent_ask.specs.Failing.{fails}
 use Rattle.agent_ask.specs.SessionEvents.{Sent, cache_turn}
 use Rattle.agent_commands.specs.Exchanges as exchanges
-use Rattle.agent_commands.specs.Exchanges.{ask}
+use Rattle.agent_commands.specs.Exchanges.{ask, inquiry, limit_line}
 use Rattle.agent_commands.specs.Requests.{GetFields, get_passphrase}
+use Rattle.agent_commands.specs.declared.request.CacheCommand.TheVariants.{PresetPassphrase}
 use Rattle.agent_commands.specs.declared.request.Request.TheVariants.{Cache, Key as OnKeys}
 use Rattle.agent_commands.specs.declared.went.Went.{Went}
 use Rattle.agent_ports.specs.declared.grip.Grip.{Grip}
 use Rattle.agent_ports.specs.declared.keys.KeyRead.TheVariants as key_read
+use Rattle.assuan_server.specs.Inquiries.{TooLong}
 use Rattle.assuan_server.specs.Written.{failed}
 use Rattle.assuan_server.specs.declared.errors.Code.TheVariants as code
 use Rattle.assuan_server.specs.declared.errors.Origin.TheVariants.{Agent}
 use Rattle.assuan_text.specs.Words.{command_of}
 use Rattle.cache_policy.specs.Turns.{Empty}
+use Rattle.cache_policy.specs.declared.life.Life.{Life}
 use Rattle.key_commands.specs.Events.{Event, read}
 use Rattle.key_commands.specs.Exchanges.{Exchange, KeyInfoReplies}
 use Rattle.key_commands.specs.Exchanges as key_exchanges
@@ -25,6 +29,9 @@ use Rattle.key_commands.specs.declared.refusal.Refusal.TheVariants as refusals
 use Rattle.key_commands.specs.declared.request.KeyRequest.TheVariants as on
 use Rattle.key_commands.specs.declared.went.KeyWent.TheVariants as key_went
 use Rattle.key_lines.specs.Canon.{Canon}
+use Rattle.session_client.specs.Asking.{Asked}
+use Rattle.session_client.specs.declared.unheard.Gone.TheVariants as gone
+use Rattle.session_client.specs.declared.unheard.Unheard.TheVariants as unheard
 use Rattle.session_options.specs.declared.rules.Rules.{Rules}
 use Rattle.agent_origin.specs.DoorSessions.{DoorExchange}
 use Rattle.agent_origin.specs.Doors.{allowed}
@@ -40,6 +47,7 @@ use Rattle.agent_session.specs.Completeness.{Remembers, HasError}
 use Rattle.agent_session.specs.Exactly.{on_trust}
 use Rattle.agent_session.proofs.Exact.{cause_answered}
 use Rattle.agent_session.proofs.ExactDoors.{door_cause}
+use Rattle.agent_session.proofs.ExactEnds.{end_told}
 
 module _ (one_canon : (file : List ℕ) (a b : Option (List ℕ)) → Canon file a → Canon file b → a ≡ b) (rules : Rules) (kept : Kept) where
   -- GET_PASSPHRASE of the cache alone, which has nothing
@@ -56,6 +64,11 @@ module _ (one_canon : (file : List ℕ) (a b : Option (List ℕ)) → Canon file
   no_data =
       cause_answered one_canon rules kept (Cache (get_passphrase quietly)) (cache (exchanges.quiet {fields = quietly} refl (exchanges.goes_on exchanges.empty exchanges.refused))) remembers_turn code.NoData
       (empty quietly (codes "k") refl refl refl here)
+
+  -- a preset whose client sends a line that is too long in place of a passphrase
+  module _ (allows : rules.allow_preset ≡ true) (id : List ℕ) (life : Life) where
+    long_line : HasError code.LineTooLong Agent (Sent limit_line ∷ inquiry (Asked TooLong) ∷ Sent (failed code.LineTooLong) ∷ [])
+    long_line = end_told {rules = rules} {kept = kept} {request = Cache (PresetPassphrase id life None)} (cache (exchanges.without_data allows (exchanges.no_data {why = unheard.Gone gone.TooLong} refl fails))) refl
 
   -- KEYINFO of a key that isn't there
   module _ (line : ArrayVec ℕ) (grip : Grip) (is : key_request_of line.items ≡ on.KeyInfo grip) where

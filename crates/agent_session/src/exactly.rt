@@ -1,9 +1,12 @@
 ghost use Rattle.std.specs.List.{AllByRecursion};
 ghost use Rattle.std.specs.Prelude.{List, ℕ};
 ghost use Rattle.assuan_server.specs.declared.errors.Code.{Code};
+ghost use Rattle.assuan_server.specs.declared.errors.Code.TheVariants.{LineTooLong};
 ghost use Rattle.assuan_server.specs.declared.errors.Origin.TheVariants.{Agent};
 ghost use Rattle.agent_commands.specs.Requests.{request_of};
+ghost use Rattle.agent_commands.specs.declared.went.SessionEnd.TheVariants.{TooLong};
 ghost use Rattle.agent_commands.specs.declared.went.Went.{Went};
+ghost use Rattle.agent_commands.specs.declared.went.Went.TheVariants.{End};
 ghost use Rattle.agent_origin.specs.DoorSessions.{DoorExchange};
 ghost use Rattle.agent_origin.specs.SessionExchanges.{SessionExchange};
 ghost use Rattle.agent_origin.specs.declared.door.Door.{Door};
@@ -36,3 +39,12 @@ pub fn each_cause_at_a_door_has_its_error()
 {
     key_lines::one_answer();
 }
+
+/// A session ends since a line was too long only where its client was told so: by the last exchange
+/// whose inquiry that line was to answer, or where the line was to be a request, as the session's
+/// own end says.
+pub fn a_line_that_ends_a_session_is_answered()
+    ensures { (rules : Rules) (kept now : Kept) (line : List ℕ) (events : List Event)
+        → SessionExchange rules kept line events now (End TooLong)
+        → HasError LineTooLong Agent events }
+{}

@@ -5,8 +5,9 @@
 //! it leaves no ticket out and no prompt open. The laws say when a request is answered: each error
 //! has its cause ([`each_error_has_its_cause`]), mostly exactly where that stands
 //! ([`each_cause_has_its_error`]), and without one there is an answer
-//! ([`a_session_without_faults_is_answered`]); at a door too ([`each_error_at_a_door_has_its_cause`]).
-//! Definitions begin in `specs/Sessions`, the causes in `specs/Causes`, at a door `DoorCauses`.
+//! ([`a_session_without_faults_is_answered`]). At a door it is the same
+//! ([`each_error_at_a_door_has_its_cause`]). Definitions begin in `specs/Sessions`, the causes in
+//! `specs/Causes`.
 #![tactic(auto)]
 
 mod completeness;
@@ -26,7 +27,10 @@ pub use doors::{
     a_session_at_a_door_without_faults_is_answered, an_exchange_at_a_door_is_a_sessions,
     each_error_at_a_door_has_its_cause, without_a_cause_the_answer_at_a_door_is_ok,
 };
-pub use exactly::{each_cause_at_a_door_has_its_error, each_cause_has_its_error};
+pub use exactly::{
+    a_line_that_ends_a_session_is_answered, each_cause_at_a_door_has_its_error,
+    each_cause_has_its_error,
+};
 pub use laws::{a_session_at_a_door_extends_a_run, a_session_extends_a_run, key_commands_are_read};
 pub use own_passphrases::{a_session_stores_its_requests_own, each_request_stores_its_own};
 pub use refusals::{
