@@ -3,6 +3,7 @@ pub mod Completeness
 pub mod DoorCauses
 pub mod DoorCompleteness
 pub mod Imports
+pub mod OwnAnswers
 pub mod OwnPassphrases
 pub mod Refusals
 pub mod Sessions
