@@ -34,6 +34,7 @@ mod Opens
 mod OwnCache
 mod OwnFacts
 mod OwnKeys
+mod OwnLines
 mod OwnParts
 pub mod OwnSessions
 mod OwnTrust

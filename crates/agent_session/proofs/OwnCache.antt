@@ -19,7 +19,6 @@ use Rattle.cache_policy.specs.Turns.{Turn}
 use Rattle.cache_policy.specs.declared.mark.MarkStep.{MarkStep}
 use Rattle.cache_policy.specs.declared.mark.MarkStep.TheVariants.{Close, Seat}
 use Rattle.cache_policy.specs.declared.mode.Mode.TheVariants.{User}
-use Rattle.cache_policy.specs.declared.secret.TheConstants.{MAX_SECRET_LEN}
 use Rattle.session_client.specs.declared.unheard.Unheard.{Unheard}
 use Rattle.session_options.specs.OptionValues.{OptionValues}
 use Rattle.session_options.specs.declared.options.PinMode.{PinMode}
@@ -42,7 +41,7 @@ use Rattle.agent_session.specs.OwnPassphrases as whose
 use Rattle.agent_session.specs.Refusals.{MayStore, preset, given}
 use Rattle.agent_session.proofs.OwnFacts.{ticket_more}
 use Rattle.agent_session.proofs.OwnKeys.{still_quiet, stand_last, key_own}
-use Rattle.agent_session.proofs.OwnParts.{IsQuiet, kept_none, Fit, IsOwn, AreOwn, own_then, quiet_are_own}
+use Rattle.agent_session.proofs.OwnParts.{IsQuiet, kept_none, Fit, AreOwn, own_then, quiet_are_own}
 use Rattle.agent_session.proofs.Standing.{has_right}
 
 -- ---- what hands nothing in

@@ -1,30 +1,24 @@
 -- What was done for a request stays so, whatever is done then; and the parts of requests on keys by which nothing is handed to the cache and the ticket stays.
 use Rattle.std.specs.List.{AllByRecursion}
-use Rattle.std.specs.Prelude.{not}
-use Rattle.std.proofs.Common.{◌≡◌, ℕ, Bool, true, false, List, [], ◌∷◌, ◌++◌, Option, Some, None, Result, Ok, Err, refl, ap, ◌∙◌, append_assoc}
+use Rattle.std.proofs.Common.{◌≡◌, ℕ, Bool, List, [], ◌++◌, Option, Some, None, Result, Ok, refl, ap, ◌∙◌, append_assoc}
 use Rattle.agent_ask.specs.Further.{FurtherEvent}
 use Rattle.agent_ports.specs.declared.grip.Grip.{Grip}
-use Rattle.assuan_server.specs.declared.errors.Code.TheVariants as code
-use Rattle.cache_policy.specs.declared.mark.MarkStep.{MarkStep}
-use Rattle.cache_policy.specs.declared.mark.MarkStep.TheVariants.{Ask}
-use Rattle.cache_policy.specs.declared.mark.Way.TheVariants.{Quiet as QuietWay}
 use Rattle.secret_file.specs.Opens.{LockedKey, IsLocked}
 use Rattle.sexp_keys.specs.Key.{Key}
 use Rattle.agent_commands.specs.Events.{Event}
 use Rattle.agent_commands.specs.declared.request.Request.{Request}
 use Rattle.key_commands.specs.Files.{Rewrites}
 use Rattle.key_commands.specs.Files as files
-use Rattle.key_commands.specs.KeyParts.{Tells, tells, ReadsFile, Replaces, Protects, IsShort, max_key_data, AsksKeyData, Unwraps, ReceivesKey, NamesKey, IsFree, LooksOver, WrapsKey}
+use Rattle.key_commands.specs.KeyParts.{Tells, tells, ReadsFile, Replaces, Protects, IsShort, AsksKeyData, Unwraps, NamesKey, LooksOver, WrapsKey}
 use Rattle.key_commands.specs.KeyParts as parts
-use Rattle.key_commands.specs.Lines.{limit_line}
-use Rattle.key_commands.specs.Parts.{Part, Asks, Writes, Inquires, AsksClient, Finds, Draws}
+use Rattle.key_commands.specs.Parts.{Asks, Writes, Inquires, Finds, Draws}
 use Rattle.key_commands.specs.Parts as small
 use Rattle.key_commands.specs.Passphrases.{LooksForNonce, Locks, Tries, ask_nonce}
 use Rattle.key_commands.specs.Passphrases as passphrases
 use Rattle.key_commands.specs.declared.refusal.Refusal.{Refusal}
-use Rattle.agent_session.specs.Causes.{Has, here, StandIn, IsSent, sent, IsDrawn, IsRead, read, IsReadLocked}
-use Rattle.agent_session.specs.OwnPassphrases.{HandsIn, HasTicket, has_ticket, IsAccepted, any, opening, IsGivenNew, given, NamesNew}
-use Rattle.agent_session.proofs.OwnParts.{IsQuiet, Fit, HoldsOf, whatever, Stays, Quiet, QuietWith, OwnSo, own_bind, own_returned, own_weaker, own_where, own_wanted, quietly, quiet_with}
+use Rattle.agent_session.specs.Causes.{here, StandIn, IsSent, sent, IsDrawn, IsRead, read, IsReadLocked}
+use Rattle.agent_session.specs.OwnPassphrases.{HasTicket, has_ticket, IsAccepted, any, opening, IsGivenNew, given, NamesNew}
+use Rattle.agent_session.proofs.OwnParts.{IsQuiet, Fit, HoldsOf, Quiet, QuietWith}
 use Rattle.agent_session.proofs.Standing.{has_left, has_right}
 
 pub stand_more : {E : Type 0} {part whole : List E} (more : List E) → StandIn part whole → StandIn part (whole ++ more)

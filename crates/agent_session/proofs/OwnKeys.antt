@@ -1,7 +1,7 @@
 -- What requests on keys hand to the cache is their own.
 use Rattle.std.specs.List.{AllByRecursion}
-use Rattle.std.specs.Prelude.{not, take, drop, ⊤, ◌⊎◌}
-use Rattle.std.proofs.Common.{◌≡◌, ◌==◌, ℕ, Bool, true, false, List, [], ◌∷◌, ◌++◌, length, codes, Option, Some, None, Result, Ok, Err, refl, sym, ap, ◌∙◌, subst, inl, inr, append-nil, append_assoc}
+use Rattle.std.specs.Prelude.{not, take, drop}
+use Rattle.std.proofs.Common.{◌≡◌, ◌==◌, ℕ, Bool, true, false, List, [], ◌∷◌, ◌++◌, length, codes, Option, Some, None, Result, Ok, Err, refl, sym, ap, subst, append-nil}
 use Rattle.agent_ask.specs.Further.{FurtherEvent}
 use Rattle.agent_ask.specs.Failing.{said_last}
 use Rattle.agent_ask.specs.SessionEvents.{Received, Sent, Cut, Inquiry, CacheTurn, Further, cache_turn}
@@ -9,11 +9,10 @@ use Rattle.assuan_server.specs.Clients.{session_lines}
 use Rattle.agent_ports.specs.declared.grip.Grip.{Grip}
 use Rattle.assuan_escape.specs.Escapes.{hex_text}
 use Rattle.assuan_server.specs.declared.errors.Code.TheVariants as code
-use Rattle.cache_policy.specs.Turns.{Turn, Open}
+use Rattle.cache_policy.specs.Turns.{Open}
 use Rattle.cache_policy.specs.declared.life.Life.TheVariants.{Default}
-use Rattle.cache_policy.specs.declared.mark.MarkStep.{MarkStep}
 use Rattle.cache_policy.specs.declared.mark.MarkStep.TheVariants.{Close, Put}
-use Rattle.cache_policy.specs.declared.mode.Mode.TheVariants.{Normal, Nonce}
+use Rattle.cache_policy.specs.declared.mode.Mode.TheVariants.{Nonce}
 use Rattle.cache_policy.specs.declared.secret.TheConstants.{MAX_SECRET_LEN}
 use Rattle.secret_file.specs.Opens.{LockedKey, IsLocked}
 use Rattle.session_options.specs.OptionValues.{OptionValues}
@@ -25,12 +24,12 @@ use Rattle.agent_commands.specs.Events.{Event}
 use Rattle.agent_commands.specs.declared.request.Request.{Request}
 use Rattle.key_commands.specs.Exchanges as exchange
 use Rattle.key_commands.specs.Exchanges.{Exchange, Replies, HaveKeyReplies, KeyInfoReplies, ListKeysReplies, KeyWrapReplies, DeleteKeyReplies, wrap_key}
-use Rattle.key_commands.specs.Exchanges.{RewritesFile, ChangesOpened, StoresKey, FoundOrNew, RenewsPassphrase, ExportKeyReplies, PasswdReplies, VerifyReplies, ImportKeyReplies}
+use Rattle.key_commands.specs.Exchanges.{RewritesFile, ChangesOpened, StoresKey, FoundOrNew, ExportKeyReplies, PasswdReplies, VerifyReplies, ImportKeyReplies}
 use Rattle.key_commands.specs.KeyParts.{KeepsNew, ReceivesKey, max_key_data, IsFree, Consents}
-use Rattle.key_commands.specs.Lines.{grip_text, limit_line}
-use Rattle.key_commands.specs.Parts.{Part, ◌>>=◌, Asks, Seats, Changes, Closes, AsksClient, or_else, refusal_events, refusal_line}
+use Rattle.key_commands.specs.Lines.{limit_line}
+use Rattle.key_commands.specs.Parts.{Part, Asks, Changes, Closes, AsksClient, or_else, refusal_events, refusal_line}
 use Rattle.key_commands.specs.Parts as small
-use Rattle.key_commands.specs.Passphrases.{PromptsOld, PromptsNew, ClientOld, UncachedOld, CachedOld, OpensLocked, ClientNew, TakesSeat, TriesFound, Locks, ask_key, seat_for, put_key, way_of}
+use Rattle.key_commands.specs.Passphrases.{PromptsOld, PromptsNew, ClientOld, UncachedOld, OpensLocked, ClientNew, TakesSeat, TriesFound, Locks, ask_key, put_key, way_of}
 use Rattle.key_commands.specs.Passphrases as passphrases
 use Rattle.key_commands.specs.declared.refusal.Refusal.{Refusal}
 use Rattle.key_commands.specs.declared.refusal.Refusal.TheVariants.{Agent}
@@ -42,11 +41,11 @@ use Rattle.key_commands.specs.declared.wrap_keys.WrapKeys.{WrapKeys}
 use Rattle.key_commands.proofs.EachEvent.{each_append, each_shown, IsStill, EachSo, each_bind, each_returned, each_refused, each_otherwise, each_wanted, each_seats, each_changes, finds, draws, reads_file, lists, told, has_one, removes, tells_info, writes_infos, agrees}
 use Rattle.agent_session.specs.Causes as causes
 use Rattle.agent_session.specs.Causes.{here, StandIn, on_keys, Unlocks, IsSent, IsDrawn, IsRead, IsReadLocked}
-use Rattle.agent_session.specs.OwnPassphrases.{IsAbout, named, brought, MayPut, by_command, of_key, NamesNew, brings, changes, WantsTicket, by_key, by_seat, HasTicket, has_ticket, IsAccepted, any, opening, IsGivenNew}
+use Rattle.agent_session.specs.OwnPassphrases.{IsAbout, named, brought, by_command, of_key, NamesNew, brings, changes, WantsTicket, by_key, by_seat, HasTicket, has_ticket, IsAccepted, any, opening, IsGivenNew}
 use Rattle.agent_session.specs.OwnPassphrases.{StoresOwn, HandsIn}
 use Rattle.agent_session.specs.OwnPassphrases as whose
 use Rattle.agent_session.specs.Refusals.{imported}
-use Rattle.agent_session.proofs.OwnFacts.{stand_more, sent_more, drawn_more, read_more, locked_more, ticket_more, accepted_more, given_more, FoundNew}
+use Rattle.agent_session.proofs.OwnFacts.{sent_more, drawn_more, read_more, locked_more, ticket_more, accepted_more, given_more, FoundNew}
 use Rattle.agent_session.proofs.OwnFacts as quiet
 use Rattle.agent_session.proofs.OwnParts.{IsQuiet, kept_none, Fit, AreOwn, own_then, each_quiet, forget, HoldsOf, OwnSo, own_bind, own_weaker, own_where, Stays, quiet_with, quietly, quiet_are_own, Anything, own_returned, own_refused, own_needed, own_wanted}
 use Rattle.agent_session.proofs.AtOnce.{FitsTurn}

@@ -1,7 +1,7 @@
 -- Parts of a request on keys, by which nothing is handed to the cache but the request's own: how they follow one another.
 use Rattle.std.specs.List.{AllByRecursion}
 use Rattle.std.specs.Prelude.{⊤}
-use Rattle.std.proofs.Common.{◌≡◌, ℕ, Bool, true, false, List, [], ◌∷◌, ◌++◌, Option, Some, None, Result, Ok, Err, refl, sym, ap, ◌∙◌, subst, append_assoc, append-nil}
+use Rattle.std.proofs.Common.{◌≡◌, ℕ, Bool, true, false, List, [], ◌∷◌, ◌++◌, Option, Some, None, Result, Ok, Err, sym, subst, append_assoc, append-nil}
 use Rattle.agent_ask.specs.Further.{FurtherEvent}
 use Rattle.agent_ask.specs.SessionEvents.{Received, Sent, Cut, Inquiry, CacheTurn, Further, cache_turn}
 use Rattle.cache_policy.specs.Turns.{Turn}
@@ -10,7 +10,7 @@ use Rattle.cache_policy.specs.declared.mark.MarkStep.TheVariants.{Close}
 use Rattle.agent_commands.specs.Events.{Event}
 use Rattle.agent_commands.specs.declared.request.Request.{Request}
 use Rattle.assuan_server.specs.declared.errors.Code.{Code}
-use Rattle.key_commands.specs.Parts.{Part, ◌>>=◌, Follows, goes_on, stops, Returns, returns, Refuses, needed, or_else, wanted, Closes}
+use Rattle.key_commands.specs.Parts.{Part, ◌>>=◌, Follows, goes_on, stops, Returns, returns, Refuses, needed, wanted}
 use Rattle.key_commands.specs.Parts as small
 use Rattle.key_commands.specs.declared.refusal.Refusal.{Refusal}
 use Rattle.key_commands.specs.declared.refusal.Refusal.TheVariants.{Agent}

@@ -1,7 +1,6 @@
 -- Worked exchanges: whose their passphrases are, and what stands after a refusal.
-use Rattle.std.specs.List.{AllByRecursion}
 use Rattle.std.specs.Prelude.{⊤, take, drop}
-use Rattle.std.proofs.Common.{◌≡◌, ◌≤◌, ℕ, false, true, List, [], ◌∷◌, ◌++◌, length, Option, Some, None, Ok, Err, refl, sym, subst, arith, codes}
+use Rattle.std.proofs.Common.{◌≡◌, ◌≤◌, ℕ, false, true, List, [], ◌∷◌, ◌++◌, length, Some, None, Ok, Err, refl, sym, subst, arith, codes}
 use Rattle.agent_ask.specs.Events.{PromptEvent, Start, GetPin, Shut, Called}
 use Rattle.agent_ask.specs.Further.{FurtherEvent, Prompt, Replaced}
 use Rattle.agent_ask.specs.Plans.{IsSpec, plan_of}
@@ -51,7 +50,7 @@ use Rattle.agent_commands.specs.declared.went.SessionEnd.TheVariants.{Ended}
 use Rattle.agent_commands.specs.declared.went.Went.TheVariants.{On}
 use Rattle.key_commands.specs.Events.{drew, called}
 use Rattle.key_commands.specs.Exchanges as key_exchange
-use Rattle.key_commands.specs.Exchanges.{ImportKeyReplies, KeyReply}
+use Rattle.key_commands.specs.Exchanges.{ImportKeyReplies}
 use Rattle.key_commands.specs.KeyParts as parts
 use Rattle.key_commands.specs.KeyParts.{max_key_data}
 use Rattle.key_commands.specs.Lines.{limit_line}
@@ -61,12 +60,10 @@ use Rattle.key_commands.specs.Passphrases.{ask_nonce}
 use Rattle.key_commands.specs.Wrapping.{WrappedSays}
 use Rattle.key_commands.specs.declared.refusal.Refusal.TheVariants.{Agent}
 use Rattle.key_commands.specs.declared.request.KeyRequest.TheVariants as on
-use Rattle.key_commands.specs.declared.went.KeyWent.TheVariants as key_went
 use Rattle.key_commands.specs.declared.wrap_keys.WrapKeys.{WrapKeys}
 use Rattle.agent_origin.specs.SessionExchanges.{SessionExchange, RequestExchange, cache}
 use Rattle.agent_origin.specs.declared.kept.Kept.{Kept}
 use Rattle.agent_session.specs.Causes.{Has, here, later}
-use Rattle.agent_session.specs.Completeness.{HasError}
 use Rattle.agent_session.specs.Imports.{put_nonce, ImportCourse}
 use Rattle.agent_session.specs.OwnPassphrases.{StoresOwn, StoresOwnIn, keeps}
 use Rattle.agent_session.proofs.ImportCourses.{import_exchange}

@@ -4,6 +4,7 @@ pub mod DoorCauses
 pub mod DoorCompleteness
 pub mod Exactly
 pub mod Imports
+pub mod OwnAnswers
 pub mod OwnPassphrases
 pub mod Refusals
 pub mod Sessions

@@ -17,7 +17,6 @@ use Rattle.assuan_server.specs.Clients.{session_lines}
 use Rattle.cache_policy.specs.Turns.{Turn, Given, Open}
 use Rattle.cache_policy.specs.declared.grant.Grant.{Grant}
 use Rattle.cache_policy.specs.declared.life.Life.{Life}
-use Rattle.cache_policy.specs.declared.life.Life.TheVariants.{Default}
 use Rattle.cache_policy.specs.declared.mark.MarkStep.{MarkStep}
 use Rattle.cache_policy.specs.declared.mark.MarkStep.TheVariants.{Seat, Put, Close}
 use Rattle.cache_policy.specs.declared.mark.Way.TheVariants.{Prompt}

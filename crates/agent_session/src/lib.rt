@@ -32,7 +32,10 @@ pub use exactly::{
     each_cause_has_its_error,
 };
 pub use laws::{a_session_at_a_door_extends_a_run, a_session_extends_a_run, key_commands_are_read};
-pub use own_passphrases::{a_session_stores_its_requests_own, each_request_stores_its_own};
+pub use own_passphrases::{
+    a_session_stores_its_requests_own, each_passphrase_is_written_to_its_request,
+    each_request_stores_its_own,
+};
 pub use refusals::{
     a_call_of_the_trust_file_decides_its_request, a_prompt_is_opened_first,
     a_refused_request_does_nothing_more, a_refused_turn_leaves_the_desk,

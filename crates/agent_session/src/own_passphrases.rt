@@ -2,10 +2,12 @@ ghost use Rattle.std.specs.Prelude.{List, ℕ};
 ghost use Rattle.agent_ask.specs.Worlds.{Outside, Does};
 ghost use Rattle.agent_ports.specs.Leads.{Leads};
 ghost use Rattle.assuan_server.specs.Reading.{Supply};
+ghost use Rattle.agent_commands.specs.Exchanges.{LineExchange};
 ghost use Rattle.agent_commands.specs.Requests.{request_of};
 ghost use Rattle.agent_commands.specs.declared.went.SessionEnd.{SessionEnd as Ends};
 ghost use Rattle.agent_commands.specs.declared.went.Went.{Went};
 ghost use Rattle.key_commands.specs.Events.{Event};
+ghost use Rattle.session_options.specs.OptionValues.{OptionValues};
 ghost use Rattle.session_options.specs.declared.rules.Rules.{Rules};
 ghost use Rattle.agent_origin.specs.DoorSessions.{ServesDoor};
 ghost use Rattle.agent_origin.specs.FurtherStates.{FurtherWorld};
@@ -13,6 +15,7 @@ ghost use Rattle.agent_origin.specs.SessionExchanges.{SessionExchange};
 ghost use Rattle.agent_origin.specs.Sessions.{Surroundings};
 ghost use Rattle.agent_origin.specs.declared.door.Door.{Door};
 ghost use Rattle.agent_origin.specs.declared.kept.Kept.{Kept};
+ghost use Rattle.agent_session.specs.OwnAnswers.{SaysOwnAlone};
 ghost use Rattle.agent_session.specs.OwnPassphrases.{StoresOwnAlone, StoresOwnThroughout};
 ghost use Rattle.agent_session.specs.Sessions.{ServesRules};
 
@@ -29,6 +32,15 @@ pub fn each_request_stores_its_own<D: Desk, P: Prompter>()
         → SessionExchange rules kept line events now went
         → Leads (Does (FurtherWorld D.turned P.prompted) supply) before events after
         → StoresOwnAlone (request_of line) events }
+{}
+
+/// To whom a passphrase is written. A line of a request on the cache or on the session has no
+/// passphrase in it, or it has the one that this request asked for: what the cache gave to its own
+/// question, what its own prompt accepted, or what its own client gave.
+pub fn each_passphrase_is_written_to_its_request()
+    ensures { (rules : Rules) (kept now : OptionValues) (line : List ℕ) (events : List Event)
+        (went : Went) → LineExchange rules kept line events now went
+        → SaysOwnAlone rules (request_of line) events }
 {}
 
 /// Over a session, also over one that came in by a door, what is handed to the cache is of the last

@@ -1,0 +1,48 @@
+-- To whom a passphrase is written: each line of a request on the cache or on the session has no passphrase in it, or it has the one that the request itself
+-- asked for: what the cache gave to its own question, what its own prompt accepted, or what its own client gave. This is the project's own.
+use Rattle.std.specs.Prelude.{◌≡◌, ℕ, List, ◌∷◌, ◌++◌, Some}
+use Rattle.agent_ask.specs.Further.{FurtherEvent}
+use Rattle.agent_ask.specs.SessionEvents.{Sent, cache_turn}
+use Rattle.assuan_server.specs.Errors.{error_text}
+use Rattle.assuan_server.specs.declared.errors.Code.{Code}
+use Rattle.assuan_server.specs.declared.errors.Origin.{Origin}
+use Rattle.assuan_text.specs.LineEnds.{line_of}
+use Rattle.cache_policy.specs.Turns.{Given}
+use Rattle.cache_policy.specs.declared.grant.Grant.{Grant}
+use Rattle.agent_commands.specs.Answers.{ok, closing, help, IsInfo, IsPassphrase}
+use Rattle.agent_commands.specs.Events.{Event}
+use Rattle.agent_commands.specs.Exchanges.{ask, want}
+use Rattle.agent_commands.specs.Requests.{GetFields, get_passphrase}
+use Rattle.agent_commands.specs.declared.request.Info.{Info}
+use Rattle.agent_commands.specs.declared.request.Request.{Request}
+use Rattle.agent_commands.specs.declared.request.Request.TheVariants.{Cache}
+use Rattle.session_options.specs.declared.rules.Rules.{Rules}
+use Rattle.agent_session.specs.Causes.{Has, IsSent}
+use Rattle.agent_session.specs.OwnPassphrases.{IsAccepted}
+use Rattle.agent_session.specs.Refusals.{IsNotice}
+
+-- a line that has no passphrase in it
+pub data IsPublic (rules : Rules) : List ℕ → Type 0 where
+  error : (why : Code) (origin : Origin) → IsPublic rules (line_of (error_text why origin))
+  done : IsPublic rules ok
+  closes : IsPublic rules closing
+  helps : IsPublic rules help
+  tells : (what : Info) {text : List ℕ} → IsInfo rules what text → IsPublic rules text
+  notice : {text : List ℕ} → IsNotice text → IsPublic rules text
+
+module _ (request : Request) (before : List (Event FurtherEvent)) where
+  -- the passphrase that a request with these fields asked for
+  pub data IsAnswered (fields : GetFields) : List ℕ → Type 0 where
+    -- the cache gave it to its question, for itself alone or before a prompt
+    cached : {id : List ℕ} {grant : Grant} → fields.id ≡ Some id → Has (cache_turn (ask id) (Given grant)) before → IsAnswered fields grant.entry.secret
+    unprompted : {id : List ℕ} {grant : Grant} → fields.id ≡ Some id → Has (cache_turn (want (Some id)) (Given grant)) before → IsAnswered fields grant.entry.secret
+    typed : {pin : List ℕ} → IsAccepted request before pin → IsAnswered fields pin
+    sent : {word pass : List ℕ} {limit : ℕ} → IsSent before word limit pass → IsAnswered fields pass
+
+  pub data SaysOwn (rules : Rules) : List ℕ → Type 0 where
+    public : {text : List ℕ} → IsPublic rules text → SaysOwn rules text
+    passphrase : {pass text : List ℕ} (fields : GetFields) → request ≡ Cache (get_passphrase fields) → IsAnswered fields pass → IsPassphrase fields.plain pass text → SaysOwn rules text
+
+-- so of each line that is written for a request
+abbrev pub SaysOwnAlone : Rules → Request → List (Event FurtherEvent) → Type 0
+SaysOwnAlone rules request events = (before later : List (Event FurtherEvent)) (text : List ℕ) → events ≡ before ++ Sent text ∷ later → SaysOwn request before rules text
