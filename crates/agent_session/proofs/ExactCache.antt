@@ -272,7 +272,8 @@ module _ {rules : Rules} {before : OptionValues} where
       → events ≡ Sent (option_text (applied before text.items).answer) ∷ []
   option_said {events} {after} {went} text is exchange = option_line text (subst (λ r. Exchange rules before r events after went) is exchange)
 
-  pub quiet_looks : {events : List Event} {request : Request} {after : OptionValues} {went : Went} (fields : GetFields) → Exchange rules before request events after went → request ≡ Cache (get_passphrase fields) → is_quiet fields.no_ask fields.texts ≡ true
+  pub quiet_looks : {events : List Event} {request : Request} {after : OptionValues} {went : Went} (fields : GetFields) → Exchange rules before request events after went
+      → request ≡ Cache (get_passphrase fields) → is_quiet fields.no_ask fields.texts ≡ true
       → LooksFirst fields.plain fields.id (Refuses code.NoData) events went
   quiet_looks {events} {went} fields (exchanges.quiet {fields = other} quiet looks) is is_so =
       let got : Some other ≡ Some fields = ap (λ r. get_fields r) is in
@@ -304,7 +305,8 @@ module _ {rules : Rules} {before : OptionValues} where
   quiet_looks fields (exchanges.one_turn exchanges.reload comes) is is_so = absurd (cc is)
   quiet_looks fields (exchanges.one_turn exchanges.kill comes) is is_so = absurd (cc is)
 
-  pub none_without : {events : List Event} {request : Request} {after : OptionValues} {went : Went} (fields : GetFields) → Exchange rules before request events after went → request ≡ Cache (get_passphrase fields) → is_quiet fields.no_ask fields.texts ≡ true
+  pub none_without : {events : List Event} {request : Request} {after : OptionValues} {went : Went} (fields : GetFields) → Exchange rules before request events after went
+      → request ≡ Cache (get_passphrase fields) → is_quiet fields.no_ask fields.texts ≡ true
       → fields.id ≡ None → HasError code.NoData Agent events
   none_without fields exchange is quiet none = quiet_without (quiet_looks fields exchange is quiet) none
 
