@@ -1,7 +1,5 @@
 -- Each exchange of a session stands between two states of its desk and of its further ends, and the laws on single requests hold of it.
-use Rattle.std.specs.List.{AllByRecursion}
-use Rattle.std.proofs.Common.{◌≡◌, ℕ, List, [], ◌∷◌, ◌++◌, refl, sym, subst}
-use Rattle.std.specs.Prelude.{⊤}
+use Rattle.std.proofs.Common.{ℕ, List, [], ◌∷◌, ◌++◌, sym, subst}
 use Rattle.agent_ask.specs.Events.{Call}
 use Rattle.agent_ask.specs.Prompters.{AtPrompter, IsCall}
 use Rattle.agent_ask.specs.SessionEvents.{Sent, Cut, CutAtLast}
@@ -34,7 +32,7 @@ use Rattle.agent_session.proofs.Answering.{Judging}
 use Rattle.agent_session.proofs.AtOnce.{all_fit, at_once, each_calm}
 use Rattle.agent_session.proofs.Completing.{failures_rise, all_possible, never_absent}
 use Rattle.agent_session.proofs.Counting.{counts_failures}
-use Rattle.agent_session.proofs.Fair.{IsFirstFair, first_fair, alone_first}
+use Rattle.agent_session.proofs.Fair.{first_fair, alone_first}
 use Rattle.agent_session.proofs.KeyExplained.{exchange_caused}
 use Rattle.agent_session.proofs.RefusedCourses.{caused_refuses, refused_course}
 use Rattle.agent_session.proofs.SessionCourses.{request_course}

@@ -1,5 +1,5 @@
 -- Worked examples: a session with the one request NOP, of whose exchange the laws hold.
-use Rattle.std.proofs.Common.{◌≡◌, ℕ, List, [], ◌∷◌, None, Option, refl, sym, subst}
+use Rattle.std.proofs.Common.{◌≡◌, List, [], ◌∷◌, None, refl, sym, subst}
 use Rattle.std.specs.Prelude.{⊤, codes}
 use Rattle.agent_ask.specs.Events.{Call}
 use Rattle.agent_ask.specs.Prompters.{AtPrompter}

@@ -1,20 +1,19 @@
 -- Runs of `--server`, and sessions of a daemon: the laws on single requests hold of each of their exchanges, and their prompts have their children.
-use Rattle.std.proofs.Common.{◌≡◌, ◌<◌, ◌+◌, ℕ, Bool, List, Option, Some, None, length, true, refl, sym, ap, subst, ◌∙◌, arith}
+use Rattle.std.proofs.Common.{◌≡◌, ◌<◌, ◌+◌, ℕ, Bool, List, Option, Some, None, length, refl, ap, subst, ◌∙◌, arith}
 use Rattle.std.specs.Prelude.{⊤, IfSome}
 use Rattle.agent_ask.specs.Events.{Call}
 use Rattle.agent_ask.specs.Prompters.{IsCall}
-use Rattle.agent_ask.specs.SessionEvents.{CacheTurn}
 use Rattle.agent_ask.specs.Worlds.{Outside, Does}
 use Rattle.agent_ask.specs.Worlds as worlds
 use Rattle.agent_commands.specs.declared.went.SessionEnd.{SessionEnd}
 use Rattle.agent_core.specs.Known.{MayRefuse, TakesStep, wants, begins, leaves}
 use Rattle.agent_core.specs.Known as known
-use Rattle.agent_core.specs.Solos.{AtSolo, OwnStep, TurnsSolo, at_desk}
+use Rattle.agent_core.specs.Solos.{AtSolo, TurnsSolo, at_desk}
 use Rattle.agent_core.proofs.Alone.{IsAlone, alone_turn}
 use Rattle.agent_core.specs.Cores.{WantsMemory}
 use Rattle.agent_origin.specs.DoorSessions.{DoorExchange}
 use Rattle.agent_origin.specs.FurtherStates.{FurtherWorld}
-use Rattle.agent_origin.specs.SessionExchanges.{SessionExchange, kept_at_start}
+use Rattle.agent_origin.specs.SessionExchanges.{SessionExchange}
 use Rattle.agent_origin.specs.declared.door.Door.{Door}
 use Rattle.agent_ports.specs.HostParts.{Views, InFolder}
 use Rattle.agent_ports.specs.Readings.{Readings}
@@ -34,7 +33,6 @@ use Rattle.cache_policy.specs.declared.entry.Entry.{Entry}
 use Rattle.cache_policy.specs.Histories.{History}
 use Rattle.cache_policy.specs.Policy.{Reply, ask_ruling}
 use Rattle.cache_policy.specs.Runs.{last_history, next_history}
-use Rattle.cache_policy.specs.Seat.{seat}
 use Rattle.cache_policy.specs.Turns.{Turn, Refused, MayWantMemory}
 use Rattle.cache_policy.specs.declared.bounds.TheConstants.{MAX_MARKS}
 use Rattle.cache_policy.specs.declared.history.Held.{Held}

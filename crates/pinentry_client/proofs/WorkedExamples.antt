@@ -1,5 +1,5 @@
 -- Worked examples: two prompts, the launch of the first of which failed, and whose second one has a child that ends without a word.
-use Rattle.std.proofs.Common.{◌≡◌, ◌≤◌, ℕ, false, List, [], ◌∷◌, ◌++◌, Some, None, Err, refl, inl, arith}
+use Rattle.std.proofs.Common.{◌≡◌, ℕ, List, [], ◌∷◌, Some, None, Err, refl, inl, arith}
 use Rattle.agent_ask.specs.Events.{Call, Start, Shut}
 use Rattle.agent_ask.specs.declared.prompter.Opened.TheVariants as opened
 use Rattle.agent_ask.specs.declared.spec.PromptSpec.{PromptSpec}
