@@ -5,6 +5,7 @@ pub mod Faults
 pub mod Forms
 pub mod Load
 pub mod Options
+pub mod OwnPassphrases
 pub mod Settings
 pub mod Top
 pub mod Within

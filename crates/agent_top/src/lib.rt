@@ -10,6 +10,7 @@
 mod completeness;
 mod daemon;
 mod load;
+mod own_passphrases;
 mod status;
 mod top;
 mod words;
@@ -22,6 +23,7 @@ pub use completeness::{
 };
 pub use daemon::run_daemon;
 pub use load::run_load;
+pub use own_passphrases::{a_daemon_stores_its_sessions_own, a_session_of_a_daemon_stores_its_own};
 pub use status::Status;
 pub use top::{run_agent, run_server};
 pub use words::{WordsFault, read_words, words_are_read_as_spelled};
