@@ -38,7 +38,7 @@ use Rattle.sexp_keys.specs.Key.{Key}
 use Rattle.sexp_keys.specs.Lists.{grip_of}
 use Rattle.agent_commands.specs.Events.{Event}
 use Rattle.agent_commands.specs.Exchanges as exchanges
-use Rattle.agent_commands.specs.Exchanges.{want, put}
+use Rattle.agent_commands.specs.Exchanges.{Exchange, want, put}
 use Rattle.agent_commands.specs.Requests.{GetFields, get_passphrase, request_of}
 use Rattle.agent_commands.specs.Talks.{Session, whole, greeted}
 use Rattle.agent_commands.specs.Talks as talks
@@ -65,10 +65,12 @@ use Rattle.agent_origin.specs.SessionExchanges.{SessionExchange, RequestExchange
 use Rattle.agent_origin.specs.declared.kept.Kept.{Kept}
 use Rattle.agent_session.specs.Causes.{Has, here, later}
 use Rattle.agent_session.specs.Imports.{put_nonce, ImportCourse}
+use Rattle.agent_session.specs.OwnAnswers.{SaysOwn}
 use Rattle.agent_session.specs.OwnPassphrases.{StoresOwn, StoresOwnIn, keeps}
 use Rattle.agent_session.proofs.ImportCourses.{import_exchange}
 use Rattle.agent_session.proofs.KeyExplained.{exchange_goes_on}
 use Rattle.agent_session.proofs.OwnCache.{request_own}
+use Rattle.agent_session.proofs.OwnLines.{lines_own, said_at}
 use Rattle.agent_session.proofs.OwnParts.{Fit, own_at}
 use Rattle.agent_session.proofs.OwnSessions.{exchange_own, session_own}
 
@@ -111,10 +113,13 @@ module _ (rules : Rules) (kept : Kept) (id pin : List ℕ) (texts : Texts) (spec
   abbrev events : List (Event FurtherEvent)
   events = before_close ++ cache_turn (Close ticket (Some pin)) Done ∷ Sent (line_of (ok_text (hex_text pin))) ∷ []
 
+  asked_so : Exchange rules kept.options request events kept.options On
+  asked_so =
+      exchanges.by_prompt {fields = fields} spec refl refl mode_is is_spec
+      (exchanges.prompted (exchanges.opened (asked_under Done (next {before = []} asks in_session under.Prompts.none) (exchanges.EndsPin.pin refl))))
+
   exchange : RequestExchange rules kept request events kept On
-  exchange =
-      cache (exchanges.by_prompt {fields = fields} spec refl refl mode_is is_spec
-      (exchanges.prompted (exchanges.opened (asked_under Done (next {before = []} asks in_session under.Prompts.none) (exchanges.EndsPin.pin refl)))))
+  exchange = cache asked_so
 
   fits : Fit events
   fits = (tt, (tt, (tt, (tt, (tt, (tt, tt))))))
@@ -122,6 +127,10 @@ module _ (rules : Rules) (kept : Kept) (id pin : List ℕ) (texts : Texts) (spec
   -- it enters the cache by the return of its own ticket
   typed_is_own : StoresOwn request before_close (Close ticket (Some pin))
   typed_is_own = own_at request [] events before_close (Close ticket (Some pin)) Done (Sent (line_of (ok_text (hex_text pin))) ∷ []) (request_own request exchange fits) refl keeps
+
+  -- and is answered to the request that asked for it
+  typed_is_answered : SaysOwn request (before_close ++ cache_turn (Close ticket (Some pin)) Done ∷ []) rules (line_of (ok_text (hex_text pin)))
+  typed_is_answered = said_at rules request [] events (before_close ++ cache_turn (Close ticket (Some pin)) Done ∷ []) (line_of (ok_text (hex_text pin))) [] (lines_own rules request asked_so) refl
 
   -- and in a session by that of the line that was read last
   module _ (line : List ℕ) (says : request_of line ≡ request) where

@@ -10,6 +10,7 @@ mod OptionReading
 mod OptionRows
 mod OptionPieces
 mod OptionWalk
+mod OwnPassphrases
 mod Stopping
 mod Spelling
 mod WorkedExamples

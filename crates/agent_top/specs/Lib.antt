@@ -6,6 +6,7 @@ pub mod Forms
 pub mod Load
 pub mod Options
 pub mod Runs
+pub mod OwnPassphrases
 pub mod Settings
 pub mod Top
 pub mod Within

@@ -10,6 +10,7 @@
 mod completeness;
 mod daemon;
 mod load;
+mod own_passphrases;
 mod runs;
 mod status;
 mod top;
@@ -23,6 +24,7 @@ pub use completeness::{
 };
 pub use daemon::run_daemon;
 pub use load::run_load;
+pub use own_passphrases::{a_daemon_stores_its_sessions_own, a_session_of_a_daemon_stores_its_own};
 pub use runs::{
     each_request_of_a_daemon_is_lawful, each_request_of_a_server_is_lawful,
     prompts_of_a_server_have_their_children,

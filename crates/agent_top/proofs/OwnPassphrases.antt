@@ -1,0 +1,218 @@
+-- What the sessions of a daemon hand to the cache is their own.
+use Rattle.std.specs.List.{AllByRecursion}
+use Rattle.std.specs.Prelude.{◌⊎◌, nat_eq, cond, filter}
+use Rattle.std.proofs.Common.{◌≡◌, ℕ, Bool, true, false, List, [], ◌∷◌, ◌++◌, length, Option, suc, refl, sym, ap, subst, inl, inr, arith}
+use Rattle.agent_ask.specs.SessionEvents.{Received, Sent, Cut, Inquiry, CacheTurn, Further, turns_in}
+use Rattle.agent_commands.specs.declared.went.SessionEnd.{SessionEnd}
+use Rattle.agent_origin.specs.DoorSessions.{DoorExchange}
+use Rattle.agent_origin.specs.declared.door.Door.{Door}
+use Rattle.agent_origin.specs.declared.door.Door.TheVariants.{Home}
+use Rattle.agent_ports.specs.HostParts.{Views, InFolder}
+use Rattle.agent_ports.specs.Readings.{Readings}
+use Rattle.agent_ports.specs.Sides.{Side}
+use Rattle.agent_ports.specs.TrustFiles.{TrustState}
+use Rattle.agent_ports.specs.declared.session.SessionId.{SessionId}
+use Rattle.agent_serve.specs.Pairs.{ByPlace}
+use Rattle.agent_serve.specs.Serves.{LinkSides, PassTurns, ServesOne}
+use Rattle.agent_serve.specs.Serves as serves
+use Rattle.agent_serve.specs.Working.{HostViews, ServesLinks, last_door, last_listener}
+use Rattle.agent_serve.specs.Working as working
+use Rattle.agent_session.specs.Causes.{Has, here, later}
+use Rattle.agent_session.specs.OwnPassphrases.{HandsIn}
+use Rattle.agent_session.proofs.AtOnce.{all_fit}
+use Rattle.agent_session.proofs.OwnSessions.{door_own, session_own}
+use Rattle.cache_policy.specs.Desks.{MakesMarks}
+use Rattle.cache_policy.specs.Desks as desks
+use Rattle.cache_policy.specs.Extending.{Taken}
+use Rattle.cache_policy.specs.Histories.{History}
+use Rattle.cache_policy.specs.Turns.{Turn, with_since}
+use Rattle.cache_policy.specs.declared.life.Limits.{Limits}
+use Rattle.cache_policy.specs.declared.mark.Mark.{Mark}
+use Rattle.cache_policy.specs.declared.mark.MarkStep.{MarkStep}
+use Rattle.cache_policy.specs.declared.mark.MarkStep.TheVariants.{Ask, Seat, Close, Put, Clear, Flush, Peek, Stop}
+use Rattle.counted_lock.specs.Passes.{AtCounted, AtPass, mine, AreNewPasses, StandsIn, AllStandIn, numbered}
+use Rattle.counted_lock.specs.Turns.{AtCountedDesk, at_counted, CountedTurn}
+use Rattle.key_commands.specs.Events.{Event}
+use Rattle.pinentry_client.specs.Dialogues.{PinentryDoes}
+use Rattle.session_options.specs.declared.rules.Rules.{Rules}
+use Rattle.std.proofs.lemmas.Bool.Decides.{nat_tests}
+use Rattle.agent_top.specs.Daemon.{PassRuns, AllRun, SumsUp}
+use Rattle.agent_top.specs.Daemon as daemon
+use Rattle.agent_top.specs.OwnPassphrases.{IsOwnTurn, IsOfSession}
+
+-- ---- elements of lists
+
+has_split : {E : Type 0} {one : E} (first more : List E) → Has one (first ++ more) → Has one first ⊎ Has one more
+has_split [] more has = inr has
+has_split (other ∷ first) more here = inl here
+has_split (other ∷ first) more (later has) = elim (has_split first more has) [ inl before ↦ inl (later before) | inr behind ↦ inr behind ]
+
+each_has : {E : Type 0} (Is : E → Type 0) {one : E} (list : List E) → AllByRecursion Is list → Has one list → Is one
+each_has Is [] each has = elim has [ ]
+each_has Is (one ∷ more) each here = each.0
+each_has Is (other ∷ more) each (later has) = each_has Is more each.1 has
+
+record Place {E : Type 0} (one : E) (list : List E) : Type 0 where
+  before : List E
+  behind : List E
+  is : list ≡ before ++ one ∷ behind
+
+place : {E : Type 0} {one : E} {list : List E} → Has one list → Place one list
+place (here {more}) = record { before = []; behind = more; is = refl }
+place (later {first} has) =
+    let there = place has in record { before = first ∷ there.before; behind = there.behind; is = ap (λ l. first ∷ l) there.is }
+
+-- what passes a test is kept
+kept : {E : Type 0} (test : E → Bool) {one : E} (list : List E) → Has one list → test one ≡ true → Has one (filter test list)
+kept test (one ∷ more) here so = subst (λ b. Has one (cond b (one ∷ filter test more) (filter test more))) (sym so) here
+kept test {one} (other ∷ more) (later has) so = go (test other) (kept test more has so)
+  where
+    go : (passes : Bool) → Has one (filter test more) → Has one (cond passes (other ∷ filter test more) (filter test more))
+    go true there = later there
+    go false there = there
+kept test [] has so = elim has [ ]
+
+record Passing {E : Type 0} (test : E → Bool) (list : List E) : Type 0 where
+  one : E
+  has : Has one list
+  passes : test one ≡ true
+
+-- and where something is kept, it is of the list
+some_passes : {E : Type 0} (test : E → Bool) (list : List E) → length (filter test list) ≡ 1 → Passing test list
+some_passes test [] long = absurd (cc long)
+some_passes test (one ∷ more) long = go (test one) refl (some_passes test more)
+  where
+    go : (passes : Bool) → test one ≡ passes → (length (filter test more) ≡ 1 → Passing test more) → Passing test (one ∷ more)
+    go true so rest = record { one = one; has = here; passes = so }
+    go false so rest =
+        let there = rest (subst (λ b. length (cond b (one ∷ filter test more) (filter test more)) ≡ 1) so long) in
+        record { one = there.one; has = later there.has; passes = there.passes }
+
+-- ---- a session
+
+-- a step that hands a passphrase in is marked as it was asked
+same_step : (step asked : MarkStep) (since : Option ℕ) → step ≡ with_since since asked → HandsIn step → asked ≡ step
+same_step step (Put id mode life pass) since is hands = sym is
+same_step step (Close ticket keep) since is hands = sym is
+same_step step (Ask id mode way first) since is hands = elim (subst HandsIn is hands) [ ]
+same_step step (Seat under first) since is hands = elim (subst HandsIn is hands) [ ]
+same_step step (Clear id mode) since is hands = elim (subst HandsIn is hands) [ ]
+same_step step (Peek id mode) since is hands = elim (subst HandsIn is hands) [ ]
+same_step step Flush since is hands = elim (subst HandsIn is hands) [ ]
+same_step step Stop since is hands = elim (subst HandsIn is hands) [ ]
+
+makes_same : {limits : Limits} {session : SessionId} {called : ℕ} {asked : MarkStep} {run : List History} {turn : Turn} {own : List Mark} {mark : Mark} → MakesMarks limits session called asked run turn own
+    → Has mark own → HandsIn mark.step → asked ≡ mark.step
+makes_same {asked} {mark} (desks.marked own is) here hands = same_step mark.step asked _ is.asked_is hands
+makes_same (desks.marked own is) (later has) hands = elim has [ ]
+makes_same desks.refused has hands = elim has [ ]
+makes_same (desks.spent is) has hands = elim has [ ]
+
+-- the turn that made a mark
+record TurnOf (mark : Mark) (turns : List Taken) : Type 0 where
+  turn : Turn
+  has : Has (record { asked = mark.step; turn = turn }) turns
+
+turn_of : {session : SessionId} {before after : AtPass} {first last : Readings} {turns : List Taken} {own : List Mark} {mark : Mark} → PassTurns session before first turns own after last → Has mark own → HandsIn mark.step
+    → TurnOf mark turns
+turn_of serves.none has hands = elim has [ ]
+turn_of {mark} (serves.turned {taken} {turns} {marks} does more) has hands =
+    elim (has_split does.own marks has) [
+      | inl made ↦
+          let same : taken.asked ≡ mark.step = makes_same does.makes made hands in
+          record { turn = taken.turn; has = subst (λ asked. Has (record { asked = asked; turn = taken.turn }) (taken ∷ turns)) same here }
+      | inr rest ↦ let there = turn_of more rest hands in record { turn = there.turn; has = later there.has }
+    ]
+
+turn_event : {taken : Taken} (events : List Event) → Has taken (turns_in events) → Has (CacheTurn taken) events
+turn_event [] has = elim has [ ]
+turn_event (Received took ∷ more) has = later (turn_event more has)
+turn_event (Sent text ∷ more) has = later (turn_event more has)
+turn_event (Cut text ∷ more) has = later (turn_event more has)
+turn_event (Inquiry word params limit inquired ∷ more) has = later (turn_event more has)
+turn_event (CacheTurn other ∷ more) here = here
+turn_event (CacheTurn other ∷ more) (later has) = later (turn_event more has)
+turn_event (Further what ∷ more) has = later (turn_event more has)
+
+module _ {La C R K T : Type 0} {views : Views La C R K} {trusts : T → TrustState} {folder : InFolder K T} {rules : Rules} {door : Door} {session : SessionId} {before after : LinkSides} {pass now : AtPass} {end : SessionEnd}
+    (one : ServesOne views trusts folder rules door session before pass end after now) where
+  pub own_turn : (mark : Mark) → Has mark one.own → HandsIn mark.step → IsOwnTurn one.served.events mark
+  own_turn mark has hands =
+      let taken = turn_of one.turns has hands in
+      let there = place (turn_event one.served.events taken.has) in
+      let fits =
+      all_fit (CountedTurn (λ (readings : Readings). readings)) PinentryDoes (λ (desk : AtCountedDesk Readings). at_counted desk.pass desk.session desk.out) (λ prior asked turn then does. does.is) one.served.leads in
+      record {
+        before = there.before;
+        turn = taken.turn;
+        later = there.behind;
+        events_are = there.is;
+        stores =
+            session_own (DoorExchange door rules) (λ prior line events then went exchange fits. door_own line exchange fits) one.served.session fits there.before there.behind mark.step taken.turn there.is hands;
+      }
+
+-- ---- the run
+
+module _ {Ls Li La C R K T : Type 0} (host : HostViews Ls Li La C R K T) (rules : Rules) (mark : Mark) (hands : HandsIn mark.step) where
+  abbrev Here : Type 0
+  Here = IsOfSession host rules mark
+
+  by_links : (door : Door) (listener : Ls) {first now : AtPass} → ServesLinks host rules door listener first now → Has mark (mine now) → Has mark (mine first) ⊎ Here
+  by_links door listener working.none has = inl has
+  by_links door listener (working.one_more {pass} {now} earlier next) has =
+      let one = next.serves in
+      elim (has_split (mine pass) one.own (subst (λ marks. Has mark marks) one.adds.mine_is has)) [
+        | inl before ↦ by_links door listener earlier before
+        | inr made ↦ inr (record {
+          door = door;
+          listener = listener;
+          pass = pass;
+          now = now;
+          serves = next;
+          made = made;
+          names = each_has (λ m. m.session ≡ working.next_session pass) one.own one.adds.by made;
+          turn = own_turn one mark made hands;
+        })
+      ]
+
+  by_runs : {Serves : AtPass → AtPass → Type 0} → ((first now : AtPass) → Serves first now → Has mark (mine now) → Has mark (mine first) ⊎ Here) → {first now : AtPass} → PassRuns Serves first now → Has mark (mine now)
+      → Has mark (mine first) ⊎ Here
+  by_runs serves_so daemon.begun has = inl has
+  by_runs serves_so (daemon.served earlier does) has = elim (serves_so _ _ does has) [ inl before ↦ by_runs serves_so earlier before | inr of_session ↦ inr of_session ]
+  by_runs serves_so (daemon.looked earlier looks) has = by_runs serves_so earlier (subst (λ marks. Has mark marks) looks.mine_is has)
+
+  module _ (Other Last : AtPass → AtPass → Type 0) (other_so : (first now : AtPass) → Other first now → Has mark (mine now) → Has mark (mine first) ⊎ Here)
+      (last_so : (first now : AtPass) → Last first now → Has mark (mine now) → Has mark (mine first) ⊎ Here) where
+    by_place : (first now : AtPass) (others : List AtPass) → ByPlace (PassRuns Other first now) (PassRuns Last first now) others → Has mark (mine now) → Has mark (mine first) ⊎ Here
+    by_place first now [] runs has = by_runs last_so runs has
+    by_place first now (next ∷ others) runs has = by_runs other_so runs has
+
+    all_run : (counted : AtCounted) (number : ℕ) (began passes : List AtPass) → AreNewPasses counted number began → AllRun Other Last began passes → {pass : AtPass} → Has pass passes → Has mark (mine pass) → Here
+    all_run counted number [] [] new runs in_passes has = elim in_passes [ ]
+    all_run counted number (first ∷ began) (now ∷ passes) new runs here has =
+        elim (by_place first now began runs.0 has) [
+          | inl before ↦ let none : mine first ≡ [] = ap mine new.0 in elim (subst (λ marks. Has mark marks) none before) [ ]
+          | inr of_session ↦ of_session
+        ]
+    all_run counted number (first ∷ began) (now ∷ passes) new runs (later in_passes) has = all_run counted (suc number) began passes new.1 runs.1 in_passes has
+    all_run counted number [] (now ∷ passes) new runs in_passes has = absurd runs
+    all_run counted number (first ∷ began) [] new runs in_passes has = absurd runs
+
+same_number : (one other : ℕ) → nat_eq one other ≡ true → nat_eq other one ≡ true
+same_number one other is = grind (arith, nat_tests)
+
+stands_in : {run : List Mark} (passes : List AtPass) → AllStandIn run passes → {pass : AtPass} → Has pass passes → StandsIn run pass
+stands_in [] all has = elim has [ ]
+stands_in (pass ∷ more) all here = all.0
+stands_in (other ∷ more) all (later has) = stands_in more all.1 has
+
+module _ {Ls Li La C R K T : Type 0} (host : HostViews Ls Li La C R K T) (rules : Rules) {listens listens_now number : ℕ} {before after : Side} (sums : SumsUp host rules listens before number listens_now after) where
+  pub of_session : (mark : Mark) → Has mark sums.closed.run → HandsIn mark.step → IsOfSession host rules mark
+  of_session mark has hands =
+      let found = some_passes (λ pass. nat_eq pass.number mark.session.pass) sums.passes (each_has (λ m. length (numbered m.session.pass sums.passes) ≡ 1) sums.closed.run sums.closed.each has) in
+      let stands = stands_in sums.passes sums.closed.all found.has in
+      let own : Has mark (mine found.one) =
+      subst (λ marks. Has mark marks) stands.own (kept (λ m. nat_eq m.session.pass found.one.number) sums.closed.run has (same_number found.one.number mark.session.pass found.passes)) in
+      all_run host rules mark hands (ServesLinks host rules Home sums.listener) (ServesLinks host rules (last_door rules.extra) (last_listener sums.listener sums.extra))
+      (λ first then links there. by_links host rules mark hands Home sums.listener links there)
+      (λ first then links there. by_links host rules mark hands (last_door rules.extra) (last_listener sums.listener sums.extra) links there) sums.counted 0 sums.began sums.passes sums.new sums.ran found.has own

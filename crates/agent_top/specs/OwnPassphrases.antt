@@ -1,0 +1,32 @@
+-- Whose the passphrases are that the daemon's sessions hand to the cache: each mark of the run by which one is handed in is the turn of one session, and
+-- the passphrase is of that session's own line. This is the project's own.
+use Rattle.std.specs.Prelude.{◌≡◌, List, ◌∷◌, ◌++◌}
+use Rattle.agent_ask.specs.SessionEvents.{cache_turn}
+use Rattle.agent_origin.specs.declared.door.Door.{Door}
+use Rattle.agent_serve.specs.Working.{HostViews, ServesNext, next_session}
+use Rattle.agent_session.specs.Causes.{Has}
+use Rattle.agent_session.specs.OwnPassphrases.{StoresOwnIn}
+use Rattle.cache_policy.specs.Turns.{Turn}
+use Rattle.cache_policy.specs.declared.mark.Mark.{Mark}
+use Rattle.counted_lock.specs.Passes.{AtPass}
+use Rattle.key_commands.specs.Events.{Event}
+use Rattle.session_options.specs.declared.rules.Rules.{Rules}
+
+-- the mark is a turn among these events, and what its step hands to the cache is of the last line that was read before
+pub record IsOwnTurn (events : List Event) (mark : Mark) : Type 0 where
+  pub before : List Event
+  pub turn : Turn
+  pub later : List Event
+  pub events_are : events ≡ before ++ cache_turn mark.step turn ∷ later
+  pub stores : StoresOwnIn before mark.step
+
+-- The mark was made by one of the sessions that were served, which it names, and is a turn of that session's.
+pub record IsOfSession {Ls Li La C R K T : Type 0} (host : HostViews Ls Li La C R K T) (rules : Rules) (mark : Mark) : Type 0 where
+  pub door : Door
+  pub listener : Ls
+  pub pass : AtPass
+  pub now : AtPass
+  pub serves : ServesNext host rules door listener pass now
+  pub made : Has mark serves.serves.own
+  pub names : mark.session ≡ next_session pass
+  pub turn : IsOwnTurn serves.serves.served.events mark
