@@ -38,7 +38,8 @@ use Rattle.key_commands.specs.declared.request.KeyRequest.{KeyRequest}
 use Rattle.key_commands.specs.declared.request.KeyRequest.TheVariants as on
 use Rattle.key_commands.specs.declared.went.KeyWent.{KeyWent}
 use Rattle.key_commands.specs.declared.wrap_keys.WrapKeys.{WrapKeys}
-use Rattle.key_commands.proofs.EachEvent.{each_append, each_shown, IsStill, EachSo, each_bind, each_returned, each_refused, each_otherwise, each_wanted, each_seats, each_changes, finds, draws, reads_file, lists, told, has_one, removes, tells_info, writes_infos, agrees}
+use Rattle.key_commands.proofs.EachEvent.{each_append, each_shown, IsStill, EachSo, each_bind, each_returned, each_refused, each_otherwise, each_wanted, each_seats}
+use Rattle.key_commands.proofs.EachEvent.{each_changes, finds, draws, reads_file, lists, told, has_one, removes, tells_info, writes_infos, agrees}
 use Rattle.agent_session.specs.Causes as causes
 use Rattle.agent_session.specs.Causes.{here, StandIn, on_keys, Unlocks, IsSent, IsDrawn, IsRead, IsReadLocked}
 use Rattle.agent_session.specs.OwnPassphrases.{IsAbout, named, brought, by_command, of_key, NamesNew, brings, changes, WantsTicket, by_key, by_seat, HasTicket, has_ticket, IsAccepted, any, opening, IsGivenNew}
@@ -47,7 +48,8 @@ use Rattle.agent_session.specs.OwnPassphrases as whose
 use Rattle.agent_session.specs.Refusals.{imported}
 use Rattle.agent_session.proofs.OwnFacts.{sent_more, drawn_more, read_more, locked_more, ticket_more, accepted_more, given_more, FoundNew}
 use Rattle.agent_session.proofs.OwnFacts as quiet
-use Rattle.agent_session.proofs.OwnParts.{IsQuiet, kept_none, Fit, AreOwn, own_then, each_quiet, forget, HoldsOf, OwnSo, own_bind, own_weaker, own_where, Stays, quiet_with, quietly, quiet_are_own, Anything, own_returned, own_refused, own_needed, own_wanted}
+use Rattle.agent_session.proofs.OwnParts.{IsQuiet, kept_none, Fit, AreOwn, own_then, each_quiet, forget, HoldsOf, OwnSo, own_bind}
+use Rattle.agent_session.proofs.OwnParts.{own_weaker, own_where, Stays, quiet_with, quietly, quiet_are_own, Anything, own_returned, own_refused, own_needed, own_wanted}
 use Rattle.agent_session.proofs.AtOnce.{FitsTurn}
 use Rattle.agent_session.proofs.Standing.{has_right, each_left}
 
