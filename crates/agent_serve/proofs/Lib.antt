@@ -1,4 +1,5 @@
 mod Counting
 mod Lifting
 mod Pairs
+mod WorkedExamples
 mod Works
