@@ -181,8 +181,8 @@ where
     requires ears { vec_len passes ≡ vec_len ears }
     ensures own { AreOf counted.now.table result.0.items }
     ensures all { (vec_len result.0 ≡ vec_len passes) × (vec_len result.1 ≡ vec_len ears) }
-    // What each did with its pass and its ear: each link that its listener gave it was served, and it
-    // ended for a cause.
+    // What each did with its pass and its ear: each link that its listener gave it was served, and
+    // it ended for a cause.
     ensures each { WorkEach (⟦<H as ViewedHost>⟧.views (H.homedir host.now)) rules.now listener.now
         (option_copied extra.entry) passes.items ears.items result.0.items result.1.items }
 {
