@@ -1,74 +1,37 @@
--- Worked examples: a request for consent whose pinentry couldn't be started. Its prompt has no child.
-use Rattle.std.proofs.Common.{◌≡◌, ℕ, false, List, [], ◌∷◌, Some, None, refl, arith}
-use Rattle.std.specs.Prelude.{⊤}
-use Rattle.agent_ask.specs.Consents as consents
-use Rattle.agent_ask.specs.Doing.{called}
-use Rattle.agent_ask.specs.Events.{Start, Shut, Called}
-use Rattle.agent_ask.specs.Further.{Prompt}
-use Rattle.agent_ask.specs.Further as further
-use Rattle.agent_ask.specs.Plans.{IsSpec}
-use Rattle.agent_ask.specs.Prompters.{IsCall}
-use Rattle.agent_ask.specs.Prompts as prompts
-use Rattle.agent_ask.specs.SessionEvents.{Sent, Further, cache_turn}
-use Rattle.agent_ask.specs.UnderTickets as tickets
-use Rattle.agent_ask.specs.Worlds.{Outside, Does}
-use Rattle.agent_ask.specs.Worlds as worlds
-use Rattle.agent_ask.specs.declared.prompter.Opened.TheVariants as opened
-use Rattle.agent_ask.specs.declared.spec.PromptSpec.{PromptSpec}
-use Rattle.agent_commands.specs.Exchanges as exchanges
-use Rattle.agent_commands.specs.declared.request.CacheCommand.TheVariants.{GetConfirmation}
-use Rattle.agent_commands.specs.declared.request.Request.TheVariants.{Cache}
-use Rattle.agent_commands.specs.declared.went.Went.TheVariants.{On}
-use Rattle.agent_origin.specs.FurtherStates.{FurtherWorld}
-use Rattle.agent_origin.specs.SessionExchanges.{RequestExchange, cache}
-use Rattle.agent_origin.specs.declared.kept.Kept.{Kept}
-use Rattle.agent_ports.specs.KeyFiles.{KeyFiles}
-use Rattle.agent_ports.specs.Launches.{Launches}
-use Rattle.agent_ports.specs.Leads.{Leads, none, one}
+-- A worker that was stopped, worked by hand.
+use Rattle.std.proofs.Common.{◌≡◌, ◌<◌, ◌-◌, ◌^◌, ℕ, None, refl, arith}
+use Rattle.agent_origin.specs.declared.door.Door.TheVariants.{Home}
+use Rattle.agent_ports.specs.HostParts.{Views, InFolder}
 use Rattle.agent_ports.specs.Sides.{Side}
 use Rattle.agent_ports.specs.TrustFiles.{TrustState}
-use Rattle.agent_serve.specs.Prompts.{HavePrompts}
-use Rattle.agent_serve.proofs.PromptedLines.{request_prompted}
-use Rattle.agent_serve.proofs.PromptedSessions.{have_prompts}
-use Rattle.assuan_server.specs.Reading.{Supply}
-use Rattle.assuan_server.specs.Written.{failed}
-use Rattle.assuan_server.specs.declared.errors.Code.TheVariants as code
-use Rattle.cache_policy.specs.Turns.{Turn, Open, Done}
-use Rattle.cache_policy.specs.declared.mark.MarkStep.{MarkStep}
-use Rattle.cache_policy.specs.declared.mark.MarkStep.TheVariants.{Seat, Close}
-use Rattle.key_commands.specs.Events.{Event}
-use Rattle.pinentry_client.specs.Dialogues.{PinentryDoes, unlaunched, shut_alone}
-use Rattle.pinentry_client.specs.States.{AtPinentry, at_prompter, idle}
-use Rattle.session_options.specs.declared.options.PinMode.TheVariants as mode
+use Rattle.agent_ports.specs.declared.listener.Next.TheVariants.{Stopped}
+use Rattle.counted_lock.specs.Passes.{AtPass}
 use Rattle.session_options.specs.declared.rules.Rules.{Rules}
+use Rattle.agent_serve.proofs.Works.{told_where_nothing_failed}
+use Rattle.agent_serve.specs.Working.{HostViews, Works, post_at, none, stopped}
 
--- at any desk
-abbrev any_turn : Unit {0} → MarkStep → Turn → Unit {0} → Type 0
-any_turn before asked turn after = ⊤
+module _ {Li La C R K T : Type 0} (input output : Li → Side) (parts : Views La C R K) (trust : T → TrustState) (folder : InFolder K T) (rules : Rules) where
+  -- Listeners are numbers here, and an ear is its count of faults. Listener 0 was told to stop, and answers so.
+  abbrev stopped_host : HostViews ℕ ℕ Li La C R K T
+  stopped_host = record {
+    gives = λ listener link. listener ≡ 1;
+    answers = λ listener ear answer back. (listener ≡ 0) × (answer ≡ Stopped) × (back ≡ ear);
+    is_told = λ listener. listener ≡ 0;
+    faults = λ ear. ear;
+    is_home = λ listener. listener ≡ 0;
+    is_extra = λ listener. listener ≡ 1;
+    input = input;
+    output = output;
+    parts = parts;
+    trust = trust;
+    folder = folder;
+  }
 
-module _ (rules : Rules) (kept : Kept) (description : _) (spec : PromptSpec) (asks : kept.options.mode ≡ mode.Ask) (is_spec : IsSpec rules kept.options description (record { items = [] }) false spec) where
-  abbrev unstarted : List Event
-  unstarted =
-      cache_turn (Seat None None) (Open 0) ∷ Further (Prompt (Called (Start spec opened.Failed))) ∷ Further (Prompt (Called Shut)) ∷ cache_turn (Close 0 None) Done ∷ Sent (failed code.NoPinentry) ∷ []
+  -- a worker that is stopped before a link came, and whose ear had heard three faults before
+  stopped_at_once : (pass : AtPass) → Works stopped_host rules (post_at Home 0 None) pass 3 pass 3
+  stopped_at_once pass = record { last = 3; serves = none; ends = stopped (refl, refl, refl) refl; unfallen = omega arith }
 
-  exchange : RequestExchange rules kept (Cache (GetConfirmation description)) unstarted kept On
-  exchange =
-      cache (exchanges.confirmation spec asks is_spec (exchanges.opened (tickets.asked Done
-      (tickets.next (record { before = Called (Start spec opened.Failed) ∷ []; whole = refl; asks = consents.unopened prompts.failed }) (tickets.called (tickets.called tickets.none)) tickets.none)
-      exchanges.no_pinentry)))
-
-  module _ (program : List ℕ) (keys : KeyFiles) (dice : Side) (trust : TrustState) (supply : Supply)
-      (promise : (before : AtPinentry) (call : _) (after : AtPinentry) → PinentryDoes before call after → IsCall (at_prompter before) call (at_prompter after)) where
-    abbrev launches : ℕ → Launches
-    launches faults = record { coming = Some []; launched = Some []; finished = Some []; faults = faults }
-
-    abbrev at : ℕ → List ℕ → Outside (FurtherWorld any_turn PinentryDoes)
-    at faults written = record { input = None; source = None; output = Some written; desk = tt; ends = record { prompter = idle program (launches faults); keys = keys; dice = dice; trust = trust } }
-
-    leads : Leads (Does (FurtherWorld any_turn PinentryDoes) supply) (at 0 []) unstarted (at 1 (failed code.NoPinentry))
-    leads =
-        one (worlds.turned tt) (one (worlds.further (further.prompt (called (unlaunched {launches = launches 1} (record { coming = refl; launched = refl; finished = refl; rose = omega arith; faults = omega arith })))))
-        (one (worlds.further (further.prompt (called shut_alone))) (one (worlds.turned tt) (one worlds.sent none))))
-
-    has_one_prompt : HavePrompts program unstarted (launches 0) (launches 1)
-    has_one_prompt = have_prompts any_turn promise program (launches 0) (launches 1) refl refl (request_prompted _ exchange) leads
+  -- so its listener was told to stop
+  was_told : (pass : AtPass) → pass.sessions < 2 ^ 64 - 1 → stopped_host.is_told 0
+  was_told pass numbered =
+      told_where_nothing_failed stopped_host rules (post_at Home 0 None) pass 3 pass 3 (stopped_at_once pass) (λ rose. omega (arith, rose)) numbered

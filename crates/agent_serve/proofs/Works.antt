@@ -1,31 +1,70 @@
 -- What a worker does, session after session.
-use Rattle.std.proofs.Common.{◌≡◌, ℕ, List, [], ◌∷◌, ◌≤◌, refl, ap, ◌∙◌}
+use Rattle.std.proofs.Common.{◌≡◌, ◌<◌, ◌≤◌, ◌-◌, ◌^◌, ◌⊎◌, inl, inr, List, [], ◌∷◌, Option, None, Some, refl, sym, subst, ap, arith, ◌∙◌}
+use Rattle.agent_ports.specs.Counts.{Rose}
+use Rattle.agent_ports.specs.declared.listener.Next.{Next}
+use Rattle.agent_ports.specs.declared.listener.Next.TheVariants.{Failed, Stopped}
 use Rattle.counted_lock.specs.Passes.{AtCounted, AtPass, AreOf}
 use Rattle.session_options.specs.declared.rules.Rules.{Rules}
-use Rattle.agent_origin.specs.declared.door.Door.{Door}
 use Rattle.agent_serve.proofs.Pairs.{by_either}
+use Rattle.agent_origin.specs.declared.door.Door.TheVariants.{Outer}
 use Rattle.agent_serve.specs.Pairs.{PairedTo}
-use Rattle.agent_serve.specs.Working.{HostViews, ServesNext, ServesLinks, none, one_more}
+use Rattle.agent_serve.specs.Working.{HostViews, Post, post_at, home_post, last_post, ServesNext, ServesLinks, EndsWork, Works, WorkEach, none, one_more, failed, stopped, numbers_spent}
 
--- a session leaves the pass at its table
-pub next_stays : {Ls Li La C R K T : Type 0} (host : HostViews Ls Li La C R K T) (rules : Rules) (door : Door) (listener : Ls) (pass now : AtPass) → ServesNext host rules door listener pass now → now.table ≡ pass.table
-next_stays host rules door listener pass now one = ap (λ (p : AtPass). p.table) one.serves.now_is
+module _ {Ls E Li La C R K T : Type 0} (host : HostViews Ls E Li La C R K T) (rules : Rules) where
+  -- the workers stand at these posts
+  abbrev pub WorkAt : Post Ls → Post Ls → List AtPass → List E → List AtPass → List E → Type 0
+  WorkAt other last = PairedTo (λ pass ear back. Works host rules other pass ear back.0 back.1) (λ pass ear back. Works host rules last pass ear back.0 back.1)
 
-stays : {Ls Li La C R K T : Type 0} (host : HostViews Ls Li La C R K T) (rules : Rules) (door : Door) (listener : Ls) (first now : AtPass) → ServesLinks host rules door listener first now → now.table ≡ first.table
-stays host rules door listener first _ none = refl
-stays host rules door listener first now (one_more {pass = pass} before one) = next_stays host rules door listener pass now one ∙ stays host rules door listener first pass before
+  -- a session leaves the pass at its table
+  pub next_stays : (post : Post Ls) (pass : AtPass) (link : Li) (now : AtPass) → ServesNext host rules post pass link now → now.table ≡ pass.table
+  next_stays post pass link now next = ap (λ (p : AtPass). p.table) next.serves.now_is
 
--- passes that come back are of their lock
-pub stay_of : {X Ls Li La C R K T : Type 0} (counted : AtCounted) (host : HostViews Ls Li La C R K T) (rules : Rules) (other last : Door) (at at_last : Ls) (faults : X → ℕ) (js fs : List AtPass) (ks bs : List X) → AreOf counted.table js
-    → PairedTo (λ pass ear back. ServesLinks host rules other at pass back.0 × (faults ear ≤ faults back.1))
-    (λ pass ear back. ServesLinks host rules last at_last pass back.0 × (faults ear ≤ faults back.1)) js ks fs bs → AreOf counted.table fs
-stay_of counted host rules other last at at_last faults [] [] [] [] all each = tt
-stay_of counted host rules other last at at_last faults (j ∷ js) (f ∷ fs) (k ∷ ks) (b ∷ bs) all each =
-    (by_either _ _ js (λ does. stays host rules other at j f does.0) (λ does. stays host rules last at_last j f does.0) each.0 ∙ all.0, stay_of counted host rules other last at at_last faults js fs ks bs all.1 each.1)
-stay_of counted host rules other last at at_last faults [] [] [] (b ∷ bs) all each = absurd each
-stay_of counted host rules other last at at_last faults [] [] (k ∷ ks) bs all each = absurd each
-stay_of counted host rules other last at at_last faults [] (f ∷ fs) [] bs all each = absurd each
-stay_of counted host rules other last at at_last faults [] (f ∷ fs) (k ∷ ks) bs all each = absurd each
-stay_of counted host rules other last at at_last faults (j ∷ js) fs [] bs all each = absurd each
-stay_of counted host rules other last at at_last faults (j ∷ js) [] (k ∷ ks) bs all each = absurd each
-stay_of counted host rules other last at at_last faults (j ∷ js) (f ∷ fs) (k ∷ ks) [] all each = absurd each
+  stays : (post : Post Ls) (first : AtPass) (early : E) (now : AtPass) (later : E) → ServesLinks host rules post first early now later → now.table ≡ first.table
+  stays post first early _ _ none = refl
+  stays post first early now later (one_more {pass = pass} {ear = ear} {link = link} before answers next) = next_stays post pass link now next ∙ stays post first early pass ear before
+
+  work_stays : (post : Post Ls) (pass : AtPass) (ear : E) (now : AtPass) (back : E) → Works host rules post pass ear now back → now.table ≡ pass.table
+  work_stays post pass ear now back works = stays post pass ear now works.last works.serves
+
+  -- passes that come back are of their lock
+  pub stay_of : (counted : AtCounted) (listener : Ls) (extra : Option Ls) (js fs : List AtPass) (ks bs : List E) → AreOf counted.table js → WorkEach host rules listener extra js ks fs bs → AreOf counted.table fs
+  stay_of counted listener extra [] [] [] [] all each = tt
+  stay_of counted listener extra (j ∷ js) (f ∷ fs) (k ∷ ks) (b ∷ bs) all each =
+      (by_either _ _ js (work_stays (home_post listener extra) j k f b) (work_stays (last_post listener extra) j k f b) each.0 ∙ all.0, stay_of counted listener extra js fs ks bs all.1 each.1)
+  stay_of counted listener extra [] [] [] (b ∷ bs) all each = absurd each
+  stay_of counted listener extra [] [] (k ∷ ks) bs all each = absurd each
+  stay_of counted listener extra [] (f ∷ fs) [] bs all each = absurd each
+  stay_of counted listener extra [] (f ∷ fs) (k ∷ ks) bs all each = absurd each
+  stay_of counted listener extra (j ∷ js) fs [] bs all each = absurd each
+  stay_of counted listener extra (j ∷ js) [] (k ∷ ks) bs all each = absurd each
+  stay_of counted listener extra (j ∷ js) (f ∷ fs) (k ∷ ks) [] all each = absurd each
+
+  -- a listener that gives no link ends its worker
+  pub ends_without_link : (post : Post Ls) (early last : E) (now : AtPass) (back : E) (answer : Next Li) → (answer ≡ Failed) ⊎ (answer ≡ Stopped) → host.answers post.listener last answer back
+      → (answer ≡ Stopped → host.is_told post.listener) → (answer ≡ Failed → Rose (host.faults last) (host.faults back)) → host.faults early ≤ host.faults last → EndsWork host rules post early last now back
+  ends_without_link post early last now back answer (inl is) answers told rose unfallen =
+      failed (subst (λ a. host.answers post.listener last a back) is answers) (omega (arith, rose is, unfallen))
+  ends_without_link post early last now back answer (inr is) answers told rose unfallen = stopped (subst (λ a. host.answers post.listener last a back) is answers) (told is)
+
+  -- where nothing failed and there are numbers left, the listener was told to stop
+  pub told_where_nothing_failed : (post : Post Ls) (pass : AtPass) (ear : E) (now : AtPass) (back : E) → Works host rules post pass ear now back → ¬ Rose (host.faults ear) (host.faults back) → now.sessions < 2 ^ 64 - 1
+      → host.is_told post.listener
+  told_where_nothing_failed post pass ear now back works still numbered = by_cause works.ends refl where
+    by_cause : {left : E} → EndsWork host rules post ear works.last now left → left ≡ back → host.is_told post.listener
+    by_cause (failed answers rose) is = absurd (still (subst (λ e. Rose (host.faults ear) (host.faults e)) is rose))
+    by_cause (stopped answers told) is = told
+    by_cause (numbers_spent spent) is = absurd (omega (arith, spent, numbered))
+
+  -- where there is no extra listener all workers stand alike
+  pub without_extra : (listener : Ls) (extra : Option Ls) (js : List AtPass) (ks : List E) (fs : List AtPass) (bs : List E) → extra ≡ None
+      → WorkAt (home_post listener extra) (home_post listener extra) js ks fs bs → WorkEach host rules listener extra js ks fs bs
+  without_extra listener None js ks fs bs is each = each
+  without_extra listener (Some given) js ks fs bs is each = absurd (cc is)
+
+  -- where there is one the last worker stands there
+  pub with_extra : (listener : Ls) (extra : Option Ls) (given : Ls) (js : List AtPass) (ks : List E) (fs : List AtPass) (bs : List E) → extra ≡ Some given
+      → WorkAt (home_post listener extra) (post_at Outer given (Some listener)) js ks fs bs → WorkEach host rules listener extra js ks fs bs
+  with_extra listener None given js ks fs bs is each = absurd (cc is)
+  with_extra listener (Some extra) given js ks fs bs is each = subst (λ other. WorkAt (home_post listener (Some extra)) (post_at Outer other (Some listener)) js ks fs bs) (sym (same is)) each where
+    same : Some extra ≡ Some given → extra ≡ given
+    same e = cc e

@@ -1,6 +1,10 @@
 -- What a worker does with its pass. This is the project's own.
-use Rattle.std.specs.Prelude.{Bool, true, false, Option, Some, None}
+use Rattle.std.specs.Prelude.{◌≡◌, ◌≤◌, ◌-◌, ◌^◌, ℕ, List, true, Option, Some, None, IfSome}
 use Rattle.agent_commands.specs.declared.went.SessionEnd.{SessionEnd}
+use Rattle.agent_commands.specs.declared.went.SessionEnd.TheVariants.{Killed}
+use Rattle.agent_ports.specs.Counts.{Rose}
+use Rattle.agent_ports.specs.declared.listener.Next.{Next}
+use Rattle.agent_ports.specs.declared.listener.Next.TheVariants.{Link, Failed, Stopped}
 use Rattle.agent_ports.specs.declared.session.SessionId.{SessionId}
 use Rattle.agent_ports.specs.HostParts.{Views, InFolder}
 use Rattle.agent_ports.specs.Listening.{NothingFailed}
@@ -8,18 +12,26 @@ use Rattle.agent_ports.specs.Sides.{Side}
 use Rattle.agent_ports.specs.TrustFiles.{TrustState}
 use Rattle.agent_origin.specs.declared.door.Door.{Door}
 use Rattle.agent_origin.specs.declared.door.Door.TheVariants.{Home, Outer}
+use Rattle.counted_lock.specs.Logs.{is_stopped}
 use Rattle.counted_lock.specs.Passes.{AtPass}
 use Rattle.session_options.specs.declared.rules.Rules.{Rules}
+use Rattle.agent_serve.specs.Pairs.{PairedTo}
 use Rattle.agent_serve.specs.Serves.{LinkSides, link_of, ServesOne}
 
 -- the session that a pass has next
 abbrev pub next_session : AtPass → SessionId
 next_session pass = record { pass = pass.number; count = pass.sessions }
 
--- how the listeners, the links, the parts and the trust files are seen that a host has for its sessions, and which of them are those of its folder
-pub record HostViews (Ls Li La C R K T : Type 0) : Type 1 where
+-- how the listeners, the ears, the links, the parts and the trust files are seen that a host has for its sessions, and which of them are those of its folder
+pub record HostViews (Ls E Li La C R K T : Type 0) : Type 1 where
   -- which links come in at a listener
   pub gives : Ls → Li → Type 0
+  -- what a listener answers that is asked with an ear, and what it leaves of the ear
+  pub answers : Ls → E → Next Li → E → Type 0
+  -- whether a listener was told to stop
+  pub is_told : Ls → Type 0
+  -- how many calls with an ear failed
+  pub faults : E → ℕ
   -- whether a listener is the daemon's own, and whether it is the one for restricted sessions
   pub is_home : Ls → Type 0
   pub is_extra : Ls → Type 0
@@ -29,30 +41,64 @@ pub record HostViews (Ls Li La C R K T : Type 0) : Type 1 where
   pub trust : T → TrustState
   pub folder : InFolder K T
 
--- the door by which the last worker's links come, where there is an extra listener, or none
-abbrev pub last_door : Bool → Door
-last_door true = Outer
-last_door false = Home
+-- where a worker stands: the door by which its links come, its listener, and the other one, which is stopped with it
+pub record Post (Ls : Type 0) : Type 0 where
+  pub door : Door
+  pub listener : Ls
+  pub other : Option Ls
 
--- the last worker's listener: the extra one, where there is one
-abbrev pub last_listener : {Ls : Type 0} → Ls → Option Ls → Ls
-last_listener listener None = listener
-last_listener listener (Some extra) = extra
+abbrev pub post_at : {Ls : Type 0} → Door → Ls → Option Ls → Post Ls
+post_at door listener other = record { door = door; listener = listener; other = other }
 
-module _ {Ls Li La C R K T : Type 0} (host : HostViews Ls Li La C R K T) (rules : Rules) (door : Door) (listener : Ls) where
+-- where the workers stand beside an extra listener, or none: the last one at the extra one, by the outer door, and all others at home
+abbrev pub home_post : {Ls : Type 0} → Ls → Option Ls → Post Ls
+home_post listener extra = post_at Home listener extra
+
+abbrev pub last_post : {Ls : Type 0} → Ls → Option Ls → Post Ls
+last_post listener None = home_post listener None
+last_post listener (Some extra) = post_at Outer extra (Some listener)
+
+-- both listeners were told to stop
+pub record ToldToStop {Ls E Li La C R K T : Type 0} (host : HostViews Ls E Li La C R K T) (post : Post Ls) : Type 0 where
+  pub own : host.is_told post.listener
+  pub further : IfSome post.other host.is_told
+
+module _ {Ls E Li La C R K T : Type 0} (host : HostViews Ls E Li La C R K T) (rules : Rules) (post : Post Ls) where
   abbrev pub sides : Li → LinkSides
   sides link = link_of (host.input link) (host.output link)
 
-  -- The pass's next session was served by the door, on a link that came in at the listener, and of which no read and no write had failed.
-  pub record ServesNext (pass now : AtPass) : Type 0 where
-    pub link : Li
-    pub came : host.gives listener link
+  -- The pass's next session was served by the door, on this link, which came in at the listener, and of which no read and no write had failed. Where
+  -- it stopped the agent, or the pass has seen that one did, both listeners were told to stop.
+  pub record ServesNext (pass : AtPass) (link : Li) (now : AtPass) : Type 0 where
+    pub came : host.gives post.listener link
     pub fresh : NothingFailed (host.input link) (host.output link)
     pub end : SessionEnd
     pub after : Li
-    pub serves : ServesOne host.parts host.trust host.folder rules door (next_session pass) (sides link) pass end (sides after) now
+    pub serves : ServesOne host.parts host.trust host.folder rules post.door (next_session pass) (sides link) pass end (sides after) now
+    pub killed : end ≡ Killed → ToldToStop host post
+    pub stopped : is_stopped now.seen ≡ true → ToldToStop host post
 
-  -- A worker's sessions, one after another: each found the pass as the one before had left it. Nothing else is done to the pass.
-  pub data ServesLinks : AtPass → AtPass → Type 0 where
-    none : {pass : AtPass} → ServesLinks pass pass
-    one_more : {first pass now : AtPass} → ServesLinks first pass → ServesNext pass now → ServesLinks first now
+  -- A worker asks its listener with its ear, again and again: each link that it is answered is served before it asks again, and found the pass as the session before had
+  -- left it. Nothing else is done to the pass or the ear, so no link is passed over.
+  pub data ServesLinks : AtPass → E → AtPass → E → Type 0 where
+    none : {pass : AtPass} {ear : E} → ServesLinks pass ear pass ear
+    one_more : {first pass now : AtPass} {early ear later : E} {link : Li} → ServesLinks first early pass ear → host.answers post.listener ear (Link link) later
+        → ServesNext pass link now → ServesLinks first early now later
+
+  -- Why a worker asks no more: its listener failed, and its ear's count rose meanwhile; or answered that it is stopped, as it was told to be; or the pass has no number for a further session.
+  pub data EndsWork (early last : E) (now : AtPass) : E → Type 0 where
+    failed : {back : E} → host.answers post.listener last Failed back → Rose (host.faults early) (host.faults back) → EndsWork early last now back
+    stopped : {back : E} → host.answers post.listener last Stopped back → host.is_told post.listener → EndsWork early last now back
+    numbers_spent : now.sessions ≡ 2 ^ 64 - 1 → EndsWork early last now last
+
+  -- What a worker does with its pass and its ear: it serves links, until it ends for one of these causes.
+  pub record Works (pass : AtPass) (ear : E) (now : AtPass) (back : E) : Type 0 where
+    pub last : E
+    pub serves : ServesLinks pass ear now last
+    pub ends : EndsWork ear last now back
+    pub unfallen : host.faults ear ≤ host.faults back
+
+-- the workers of a daemon, each with its pass and its ear, at these listeners
+abbrev pub WorkEach : {Ls E Li La C R K T : Type 0} → HostViews Ls E Li La C R K T → Rules → Ls → Option Ls → List AtPass → List E → List AtPass → List E → Type 0
+WorkEach host rules listener extra =
+    PairedTo (λ pass ear back. Works host rules (home_post listener extra) pass ear back.0 back.1) (λ pass ear back. Works host rules (last_post listener extra) pass ear back.0 back.1)

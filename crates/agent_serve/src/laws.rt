@@ -1,18 +1,21 @@
-ghost use Rattle.std.specs.Prelude.{◌+◌, ℕ, List, None};
+ghost use Rattle.std.specs.Prelude.{◌+◌, ◌-◌, ◌<◌, ◌^◌, ℕ, List, None};
 ghost use Rattle.agent_ask.specs.SessionEvents.{turns_in};
 ghost use Rattle.agent_commands.specs.declared.went.SessionEnd.{SessionEnd as Ends};
 ghost use Rattle.agent_origin.specs.OuterRuns.{LeavesDesk};
 ghost use Rattle.agent_origin.specs.OuterTurns.{LeavesCache};
 ghost use Rattle.agent_origin.specs.declared.door.Door.{Door};
 ghost use Rattle.agent_origin.specs.declared.door.Door.TheVariants.{Outer};
+ghost use Rattle.agent_ports.specs.Counts.{Rose};
 ghost use Rattle.agent_ports.specs.declared.session.SessionId.{SessionId};
 ghost use Rattle.counted_lock.specs.Passes.{AtPass};
 ghost use Rattle.counted_lock.specs.Turns.{at_counted};
 ghost use Rattle.session_options.specs.declared.rules.Rules.{Rules};
 ghost use Rattle.agent_serve.specs.Prompts.{HavePrompts};
 ghost use Rattle.agent_serve.specs.Serves.{LinkSides, ServesOne};
+ghost use Rattle.agent_serve.specs.Working.{Post, Works};
 
-use agent_ports::Host;
+use crate::listening::{ListeningHost, ViewedHost};
+use agent_ports::{Ear, Host};
 use pinentry_client::a_pinentry_is_a_prompter;
 
 /// A restricted session of the daemon takes the seat for prompts of which nothing is kept, gives it
@@ -54,3 +57,13 @@ pub fn prompts_of_a_daemons_session_have_their_children<H: Host>()
 {
     a_pinentry_is_a_prompter();
 }
+
+/// A worker ends for a cause: where no call with its ear failed, and its pass still has numbers for
+/// sessions, its listener was told to stop.
+pub fn a_worker_ends_for_a_cause<H: ListeningHost>()
+    ensures { (path : List ℕ) (rules : Rules) (post : Post H.Listener)
+        (pass now : AtPass) (ear back : H.Ear)
+        → Works (⟦<H as ViewedHost>⟧.views path) rules post pass ear now back
+        → ¬ Rose (H.Ear.faults ear) (H.Ear.faults back) → now.sessions < 2 ^ 64 - 1
+        → H.is_told post.listener }
+{}

@@ -10,12 +10,15 @@
 mod each;
 mod gated;
 mod laws;
+mod listening;
 mod serving;
 mod workers;
 
 pub use gated::GatedPrompter;
 pub use laws::{
-    a_restricted_session_leaves_the_run, prompts_of_a_daemons_session_have_their_children,
+    a_restricted_session_leaves_the_run, a_worker_ends_for_a_cause,
+    prompts_of_a_daemons_session_have_their_children,
 };
+pub use listening::{ListeningHost, ViewedHost};
 pub use serving::serve_one;
 pub use workers::run_workers;

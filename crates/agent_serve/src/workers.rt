@@ -1,12 +1,14 @@
-ghost use Rattle.std.specs.Prelude.{◌≡◌, ◌<◌, ◌≤◌, ◌-◌, ◌^◌, vec_len, is_some};
+ghost use Rattle.std.specs.Prelude.{◌≡◌, ◌<◌, ◌-◌, ◌^◌, true, vec_len};
 ghost use Rattle.std.specs.Option.{option_copied};
+ghost use Rattle.agent_commands.specs.declared.went.SessionEnd.{SessionEnd};
 ghost use Rattle.agent_ports.specs.Listening.{NothingFailed};
+ghost use Rattle.counted_lock.specs.Logs.{is_stopped};
 ghost use Rattle.counted_lock.specs.Passes.{AreOf};
-ghost use Rattle.agent_serve.specs.Pairs.{PairedTo};
-ghost use Rattle.agent_serve.specs.Working.{ServesLinks, ServesNext, last_door, last_listener};
-ghost use Rattle.agent_origin.specs.declared.door.Door.{Door};
+ghost use Rattle.agent_serve.specs.Working.{ServesNext, ToldToStop, Works};
+ghost use Rattle.agent_serve.specs.Working.{WorkEach, post_at};
 
 use crate::each::{Task, run_each};
+use crate::listening::{ListeningHost, ViewedHost};
 use crate::serving::serve_one;
 use agent_commands::SessionEnd;
 use agent_origin::Door;
@@ -20,7 +22,7 @@ use std::time;
 
 /// What the workers of a listener share.
 #[derive(Drop)]
-struct Working<'a, W: Wait + time::Clock, H: Host> {
+struct Working<'a, W: Wait + time::Clock, H: ListeningHost> {
     rt: &'a W,
     alloc: Global,
     rules: &'a Rules,
@@ -33,7 +35,7 @@ struct Working<'a, W: Wait + time::Clock, H: Host> {
     counted: &'a Counted,
 }
 
-impl<'a, W: Wait + time::Clock, H: Host> Working<'a, W, H>
+impl<'a, W: Wait + time::Clock, H: ListeningHost> Working<'a, W, H>
 where
     H::Launcher: Drop,
     H::Clock: Drop,
@@ -45,35 +47,22 @@ where
     /// session.
     fn work(&self, pass: CountedPass, ear: H::Ear) -> (CountedPass, H::Ear)
         requires { pass.table ≡ self.now.counted.now.table }
-        ensures pass { ServesLinks (record {
-          gives = H.Listener.gives;
-          is_home = H.is_home;
-          is_extra = H.is_extra;
-          input = H.Link.input;
-          output = H.Link.output;
-          parts = record {
-            launches = H.Launcher.launches;
-            readings = H.Clock.readings;
-            draws = H.Dice.draws;
-            keys = H.Keys.keys;
-          };
-          trust = H.Trust.trust;
-          folder = H.of_folder (H.homedir self.now.host.now);
-        }) self.now.rules.now self.now.door self.now.listener.now pass result.0 }
-        ensures ear { H.Ear.faults ear ≤ H.Ear.faults result.1 }
+        ensures { Works (⟦<H as ViewedHost>⟧.views (H.homedir self.now.host.now))
+            self.now.rules.now (post_at self.now.door self.now.listener.now
+            (option_copied self.now.other)) pass ear result.0 result.1 }
     {
         let mut pass = pass;
         let mut ear = ear;
         for _ in self.rt.forever() {
             if pass.sessions() == u64::MAX {
-                break;
+                return (pass, ear);
             }
-            match self.listener.next(&mut ear) {
+            match H::next_link(self.listener, &mut ear) {
                 Next::Link(link) => pass = self.serve(pass, link),
-                Next::Failed | Next::Stopped => break,
+                Next::Failed | Next::Stopped => return (pass, ear),
             }
         }
-        (pass, ear)
+        unreachable!()
     }
 
     /// Serves the session of one link. One that stopped the agent also stops the listeners, whether
@@ -83,21 +72,9 @@ where
         requires numbered { pass.sessions < 2 ^ 64 - 1 }
         requires came { H.Listener.gives self.now.listener.now link }
         requires fresh { NothingFailed (H.Link.input link) (H.Link.output link) }
-        ensures { ServesNext (record {
-          gives = H.Listener.gives;
-          is_home = H.is_home;
-          is_extra = H.is_extra;
-          input = H.Link.input;
-          output = H.Link.output;
-          parts = record {
-            launches = H.Launcher.launches;
-            readings = H.Clock.readings;
-            draws = H.Dice.draws;
-            keys = H.Keys.keys;
-          };
-          trust = H.Trust.trust;
-          folder = H.of_folder (H.homedir self.now.host.now);
-        }) self.now.rules.now self.now.door self.now.listener.now pass result }
+        ensures { ServesNext (⟦<H as ViewedHost>⟧.views (H.homedir self.now.host.now))
+            self.now.rules.now (post_at self.now.door self.now.listener.now
+            (option_copied self.now.other)) pass link result }
     {
         let mut link = link;
         let session = SessionId {
@@ -116,22 +93,41 @@ where
             self.door,
         );
         self.listener.done(link);
-        if end == SessionEnd::Killed || pass.stopped() {
-            self.stop();
-        }
+        self.stop_after(end, &pass);
         pass
     }
 
+    /// Stops the listeners behind a session that ended so, where it stopped the agent, or its pass
+    /// has seen that one did.
+    fn stop_after(&self, end: SessionEnd, pass: &CountedPass)
+        ensures killed { end ≡ SessionEnd.Killed → ToldToStop
+            (⟦<H as ViewedHost>⟧.views (H.homedir self.now.host.now))
+            (post_at self.now.door self.now.listener.now
+            (option_copied self.now.other)) }
+        ensures stopped { is_stopped pass.now.seen ≡ true → ToldToStop
+            (⟦<H as ViewedHost>⟧.views (H.homedir self.now.host.now))
+            (post_at self.now.door self.now.listener.now
+            (option_copied self.now.other)) }
+    {
+        if end == SessionEnd::Killed || pass.stopped() {
+            self.stop();
+        }
+    }
+
     /// From now on no link is taken at either listener.
-    fn stop(&self) {
-        self.listener.stop();
+    fn stop(&self)
+        ensures { ToldToStop (⟦<H as ViewedHost>⟧.views (H.homedir self.now.host.now))
+            (post_at self.now.door self.now.listener.now
+            (option_copied self.now.other)) }
+    {
+        H::stop_listener(self.listener);
         if let Some(other) = self.other {
-            other.stop();
+            H::stop_listener(other);
         }
     }
 }
 
-impl<'a, W: Wait + time::Clock, H: Host> Task<CountedPass, H::Ear> for Working<'a, W, H>
+impl<'a, W: Wait + time::Clock, H: ListeningHost> Task<CountedPass, H::Ear> for Working<'a, W, H>
 where
     H::Launcher: Drop,
     H::Clock: Drop,
@@ -141,22 +137,10 @@ where
 {
     ghost takes = { λ working pass ear. pass.table ≡ working.counted.now.table };
 
-    ghost did = { λ working pass ear back. ServesLinks (record {
-      gives = H.Listener.gives;
-      is_home = H.is_home;
-      is_extra = H.is_extra;
-      input = H.Link.input;
-      output = H.Link.output;
-      parts = record {
-        launches = H.Launcher.launches;
-        readings = H.Clock.readings;
-        draws = H.Dice.draws;
-        keys = H.Keys.keys;
-      };
-      trust = H.Trust.trust;
-      folder = H.of_folder (H.homedir working.host.now);
-    }) working.rules.now working.door working.listener.now pass back.0
-        × (H.Ear.faults ear ≤ H.Ear.faults back.1) };
+    ghost did = { λ working pass ear back. Works
+        (⟦<H as ViewedHost>⟧.views (H.homedir working.host.now)) working.rules.now
+        (post_at working.door working.listener.now
+        (option_copied working.other)) pass ear back.0 back.1 };
 
     fn run(&self, job: CountedPass, ear: H::Ear) -> (CountedPass, H::Ear) {
         self.work(job, ear)
@@ -171,7 +155,7 @@ where
 /// A worker takes links until its listener is stopped or fails, and hands each link back whose
 /// session has ended. It stops both listeners where its session has stopped the agent, or has seen
 /// that another one did.
-pub fn run_workers<W: Threads + Wait + time::Clock + Sync, H: Host + Sync>(
+pub fn run_workers<W: Threads + Wait + time::Clock + Sync, H: ListeningHost + Sync>(
     rt: &W,
     alloc: Global,
     rules: &Rules,
@@ -197,39 +181,10 @@ where
     requires ears { vec_len passes ≡ vec_len ears }
     ensures own { AreOf counted.now.table result.0.items }
     ensures all { (vec_len result.0 ≡ vec_len passes) × (vec_len result.1 ≡ vec_len ears) }
-    // What each did to its pass and its ear, by its door, on links that came in at its listener.
-    ensures each { PairedTo (λ pass ear back. ServesLinks (record {
-      gives = H.Listener.gives;
-      is_home = H.is_home;
-      is_extra = H.is_extra;
-      input = H.Link.input;
-      output = H.Link.output;
-      parts = record {
-        launches = H.Launcher.launches;
-        readings = H.Clock.readings;
-        draws = H.Dice.draws;
-        keys = H.Keys.keys;
-      };
-      trust = H.Trust.trust;
-      folder = H.of_folder (H.homedir host.now);
-    }) rules.now Door.Home listener.now pass back.0 × (H.Ear.faults ear ≤ H.Ear.faults back.1))
-        (λ pass ear back. ServesLinks (record {
-          gives = H.Listener.gives;
-          is_home = H.is_home;
-          is_extra = H.is_extra;
-          input = H.Link.input;
-          output = H.Link.output;
-          parts = record {
-            launches = H.Launcher.launches;
-            readings = H.Clock.readings;
-            draws = H.Dice.draws;
-            keys = H.Keys.keys;
-          };
-          trust = H.Trust.trust;
-          folder = H.of_folder (H.homedir host.now);
-        }) rules.now (last_door (is_some extra.entry)) (last_listener listener.now
-        (option_copied extra.entry)) pass back.0 × (H.Ear.faults ear ≤ H.Ear.faults back.1))
-        passes.items ears.items result.0.items result.1.items }
+    // What each did with its pass and its ear: each link that its listener gave it was served, and
+    // it ended for a cause.
+    ensures each { WorkEach (⟦<H as ViewedHost>⟧.views (H.homedir host.now)) rules.now listener.now
+        (option_copied extra.entry) passes.items ears.items result.0.items result.1.items }
 {
     let home = Working {
         rt,

@@ -38,7 +38,7 @@ by_summary is_stopped (Failed count) runs whole = absurd (whole count refl)
 by_summary true All runs whole = stopped
 by_summary false All runs whole = absurd (runs refl)
 
-pub daemon_ends_well : {Ls Li La C R K T : Type 0} {host : HostViews Ls Li La C R K T} {rules : Rules} {listens listens_now : ℕ} {before after : Side} {number : ℕ}
+pub daemon_ends_well : {Ls E Li La C R K T : Type 0} {host : HostViews Ls E Li La C R K T} {rules : Rules} {listens listens_now : ℕ} {before after : Side} {number : ℕ}
     → RunsDaemon host rules listens before number listens_now after → ¬ Rose listens listens_now → ¬ Rose before.faults after.faults → DaemonEndsWell number
 daemon_ends_well (summed sums) heard written =
     subst DaemonEndsWell (sym sums.number_is) (by_summary sums.tally.stopped sums.sent (λ is. heard (sums.unstopped is)) (λ count is. written (sums.cut (subst IsCut (sym is) tt))))

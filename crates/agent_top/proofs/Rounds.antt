@@ -1,64 +1,92 @@
--- What the daemon does with its passes, round after round.
-use Rattle.std.proofs.Common.{◌≡◌, ◌≤◌, ℕ, Bool, List, [], ◌∷◌, Option, subst, sym}
+-- What the daemon does with its passes and ears, round after round.
+use Rattle.std.proofs.Common.{◌≡◌, ◌⊎◌, inl, inr, List, [], ◌∷◌, Option, refl, subst, sym}
 use Rattle.counted_lock.specs.Passes.{AtPass, HasLooked}
-use Rattle.agent_origin.specs.declared.door.Door.TheVariants.{Home}
 use Rattle.agent_serve.specs.Pairs.{ByPlace, PairedTo}
-use Rattle.agent_serve.specs.Working.{HostViews, ServesLinks, last_door, last_listener}
+use Rattle.agent_serve.specs.Working.{HostViews}
 use Rattle.session_options.specs.declared.rules.Rules.{Rules}
-use Rattle.agent_top.specs.Daemon.{PassRuns, AllRun, FirstLooks, begun, served, looked}
+use Rattle.agent_top.specs.Daemon.{PassRuns, EachRuns, AllRun, FirstLooks, worked, worked_again, looked}
 
-module _ (Other Last : AtPass → AtPass → Type 0) where
-  -- what a pass did so far, behind which these stand
-  abbrev RunsSo : AtPass → AtPass → List AtPass → Type 0
-  RunsSo first now behind = ByPlace (PassRuns Other first now) (PassRuns Last first now) behind
+module _ {E : Type 0} (Other Last : AtPass → E → AtPass → E → Type 0) where
+  -- what the workers do in one round
+  abbrev pub EachWorks : List AtPass → List E → List AtPass → List E → Type 0
+  EachWorks = PairedTo (λ pass ear back. Other pass ear back.0 back.1) (λ pass ear back. Last pass ear back.0 back.1)
 
-  begun_by_place : (pass : AtPass) (behind : List AtPass) → RunsSo pass pass behind
-  begun_by_place pass [] = begun
-  begun_by_place pass (next ∷ later) = begun
+  -- what a worker does in one round, behind whose pass these stand
+  abbrev WorksSo : AtPass → E → AtPass → E → List AtPass → Type 0
+  WorksSo pass ear now back behind = ByPlace (Other pass ear now back) (Last pass ear now back) behind
 
-  pub all_begun : (passes : List AtPass) → AllRun Other Last passes passes
-  all_begun [] = tt
-  all_begun (pass ∷ later) = (begun_by_place pass later, all_begun later)
+  -- and what was done with the pass so far
+  abbrev RunsSo : AtPass → E → AtPass → E → List AtPass → Type 0
+  RunsSo pass ear now back behind = ByPlace (PassRuns Other pass ear now back) (PassRuns Last pass ear now back) behind
 
-  served_by_place : (E : Type 0) (first pass now : AtPass) (began behind : List AtPass) → AllRun Other Last began behind → RunsSo first pass began
-      → ByPlace (Other pass now × E) (Last pass now × E) behind → RunsSo first now began
-  served_by_place E first pass now [] [] ran before does = served before does.0
-  served_by_place E first pass now (a ∷ began) (j ∷ behind) ran before does = served before does.0
-  served_by_place E first pass now [] (j ∷ behind) ran before does = absurd ran
-  served_by_place E first pass now (a ∷ began) [] ran before does = absurd ran
+  worked_by_place : (pass : AtPass) (ear : E) (now : AtPass) (back : E) (behind : List AtPass) → WorksSo pass ear now back behind → RunsSo pass ear now back behind
+  worked_by_place pass ear now back [] does = worked does
+  worked_by_place pass ear now back (next ∷ later) does = worked does
 
-  looked_by_place : (first pass now : AtPass) (began : List AtPass) → RunsSo first pass began → HasLooked pass now → RunsSo first now began
-  looked_by_place first pass now [] before looks = looked before looks
-  looked_by_place first pass now (a ∷ began) before looks = looked before looks
+  -- the workers worked
+  pub all_worked : (js : List AtPass) (ks : List E) (fs : List AtPass) (bs : List E) → EachWorks js ks fs bs → EachRuns Other Last js ks fs bs
+  all_worked [] [] [] [] each = tt
+  all_worked (j ∷ js) (k ∷ ks) (f ∷ fs) (b ∷ bs) each = (worked_by_place j k f b js each.0, all_worked js ks fs bs each.1)
+  all_worked [] [] [] (b ∷ bs) each = absurd each
+  all_worked [] [] (f ∷ fs) bs each = absurd each
+  all_worked [] (k ∷ ks) fs bs each = absurd each
+  all_worked (j ∷ js) [] fs bs each = absurd each
+  all_worked (j ∷ js) (k ∷ ks) [] bs each = absurd each
+  all_worked (j ∷ js) (k ∷ ks) (f ∷ fs) [] each = absurd each
 
-  -- the workers served
-  pub all_served : {K : Type 0} (faults : K → ℕ) (began js fs : List AtPass) (ks bs : List K) → AllRun Other Last began js
-      → PairedTo (λ pass ear back. Other pass back.0 × (faults ear ≤ faults back.1)) (λ pass ear back. Last pass back.0 × (faults ear ≤ faults back.1)) js ks fs bs → AllRun Other Last began fs
-  all_served faults [] [] [] [] [] ran each = tt
-  all_served faults (a ∷ began) (j ∷ js) (f ∷ fs) (k ∷ ks) (b ∷ bs) ran each = (served_by_place _ a j f began js ran.1 ran.0 each.0, all_served faults began js fs ks bs ran.1 each.1)
-  all_served faults [] (j ∷ js) fs ks bs ran each = absurd ran
-  all_served faults (a ∷ began) [] fs ks bs ran each = absurd ran
-  all_served faults [] [] [] [] (b ∷ bs) ran each = absurd each
-  all_served faults [] [] [] (k ∷ ks) bs ran each = absurd each
-  all_served faults [] [] (f ∷ fs) [] bs ran each = absurd each
-  all_served faults [] [] (f ∷ fs) (k ∷ ks) bs ran each = absurd each
-  all_served faults (a ∷ began) (j ∷ js) fs [] bs ran each = absurd each
-  all_served faults (a ∷ began) (j ∷ js) [] (k ∷ ks) bs ran each = absurd each
-  all_served faults (a ∷ began) (j ∷ js) (f ∷ fs) (k ∷ ks) [] ran each = absurd each
+  again_by_place : (first : AtPass) (early : E) (pass : AtPass) (ear : E) (now : AtPass) (back : E) (began : List AtPass) (es : List E) (behind : List AtPass) (ks : List E) → EachRuns Other Last began es behind ks
+      → RunsSo first early pass ear began → WorksSo pass ear now back behind → RunsSo first early now back began
+  again_by_place first early pass ear now back [] es [] ks ran before does = worked_again before does
+  again_by_place first early pass ear now back (a ∷ began) es (j ∷ behind) ks ran before does = worked_again before does
+  again_by_place first early pass ear now back [] [] (j ∷ behind) ks ran before does = absurd ran
+  again_by_place first early pass ear now back [] (e ∷ es) (j ∷ behind) ks ran before does = absurd ran
+  again_by_place first early pass ear now back (a ∷ began) [] [] ks ran before does = absurd ran
+  again_by_place first early pass ear now back (a ∷ began) (e ∷ es) [] ks ran before does = absurd ran
+
+  -- and again
+  pub all_worked_again : (began : List AtPass) (es : List E) (js : List AtPass) (ks : List E) (fs : List AtPass) (bs : List E) → EachRuns Other Last began es js ks → EachWorks js ks fs bs → EachRuns Other Last began es fs bs
+  all_worked_again [] [] [] [] [] [] ran each = tt
+  all_worked_again (a ∷ began) (e ∷ es) (j ∷ js) (k ∷ ks) (f ∷ fs) (b ∷ bs) ran each =
+      (again_by_place a e j k f b began es js ks ran.1 ran.0 each.0, all_worked_again began es js ks fs bs ran.1 each.1)
+  all_worked_again [] [] [] [] [] (b ∷ bs) ran each = absurd each
+  all_worked_again [] [] [] [] (f ∷ fs) bs ran each = absurd each
+  all_worked_again [] [] [] (k ∷ ks) fs bs ran each = absurd ran
+  all_worked_again [] [] (j ∷ js) ks fs bs ran each = absurd ran
+  all_worked_again [] (e ∷ es) js ks fs bs ran each = absurd ran
+  all_worked_again (a ∷ began) [] js ks fs bs ran each = absurd ran
+  all_worked_again (a ∷ began) (e ∷ es) [] ks fs bs ran each = absurd ran
+  all_worked_again (a ∷ began) (e ∷ es) (j ∷ js) [] fs bs ran each = absurd ran
+  all_worked_again (a ∷ began) (e ∷ es) (j ∷ js) (k ∷ ks) [] bs ran each = absurd each
+  all_worked_again (a ∷ began) (e ∷ es) (j ∷ js) (k ∷ ks) (f ∷ fs) [] ran each = absurd each
+
+  looked_by_place : (first : AtPass) (early : E) (pass now : AtPass) (back : E) (began : List AtPass) → RunsSo first early pass back began → HasLooked pass now → RunsSo first early now back began
+  looked_by_place first early pass now back [] before looks = looked before looks
+  looked_by_place first early pass now back (a ∷ began) before looks = looked before looks
 
   -- the first of them looked
-  pub first_looked : (began passes now : List AtPass) → AllRun Other Last began passes → FirstLooks passes now → AllRun Other Last began now
-  first_looked (a ∷ began) (pass ∷ later) (now ∷ rest) ran looks = (looked_by_place a pass now began ran.0 looks.0, subst (AllRun Other Last began) (sym looks.1) ran.1)
-  first_looked [] [] now ran looks = absurd looks
-  first_looked [] (pass ∷ later) now ran looks = absurd ran
-  first_looked (a ∷ began) [] now ran looks = absurd ran
-  first_looked (a ∷ began) (pass ∷ later) [] ran looks = absurd looks
+  pub first_looked : (began : List AtPass) (es : List E) (js : List AtPass) (ks : List E) (fs : List AtPass) → EachRuns Other Last began es js ks → FirstLooks js fs → EachRuns Other Last began es fs ks
+  first_looked (a ∷ began) (e ∷ es) (j ∷ js) (k ∷ ks) (f ∷ fs) ran looks =
+      (looked_by_place a e j f k began ran.0 looks.0, subst (λ later. EachRuns Other Last began es later ks) (sym looks.1) ran.1)
+  first_looked [] [] [] ks fs ran looks = absurd looks
+  first_looked [] [] (j ∷ js) ks fs ran looks = absurd ran
+  first_looked [] (e ∷ es) js ks fs ran looks = absurd ran
+  first_looked (a ∷ began) [] js ks fs ran looks = absurd ran
+  first_looked (a ∷ began) (e ∷ es) [] ks fs ran looks = absurd ran
+  first_looked (a ∷ began) (e ∷ es) (j ∷ js) [] fs ran looks = absurd ran
+  first_looked (a ∷ began) (e ∷ es) (j ∷ js) (k ∷ ks) [] ran looks = absurd looks
 
--- the passes ran by the same doors, at the same listeners
-pub by_listeners : {Ls Li La C R K T : Type 0} (host : HostViews Ls Li La C R K T) (rules : Rules) (listener : Ls) (began passes : List AtPass) (flag same : Bool) (extra given : Option Ls)
-    → flag ≡ same → extra ≡ given
-    → AllRun (ServesLinks host rules Home listener) (ServesLinks host rules (last_door flag) (last_listener listener extra)) began passes
-    → AllRun (ServesLinks host rules Home listener) (ServesLinks host rules (last_door same) (last_listener listener given)) began passes
-by_listeners host rules listener began passes flag same extra given is alike ran =
-    subst (λ e. AllRun (ServesLinks host rules Home listener) (ServesLinks host rules (last_door same) (last_listener listener e)) began passes) alike
-    (subst (λ f. AllRun (ServesLinks host rules Home listener) (ServesLinks host rules (last_door f) (last_listener listener extra)) began passes) is ran)
+  -- these passes and ears are new to the workers, or they worked with them
+  abbrev pub NewOrRan : List AtPass → List E → List AtPass → List E → Type 0
+  NewOrRan began es js ks = ((js ≡ began) × (ks ≡ es)) ⊎ EachRuns Other Last began es js ks
+
+  -- a round, which ends with a look
+  pub one_more_round : (began : List AtPass) (es : List E) (js : List AtPass) (ks : List E) (fs : List AtPass) (bs : List E) (now : List AtPass) → NewOrRan began es js ks → EachWorks js ks fs bs → FirstLooks fs now
+      → EachRuns Other Last began es now bs
+  one_more_round began es js ks fs bs now (inl new) each looks =
+      first_looked began es fs bs now (all_worked began es fs bs (subst (λ j. EachWorks j es fs bs) new.0 (subst (λ k. EachWorks js k fs bs) new.1 each))) looks
+  one_more_round began es js ks fs bs now (inr ran) each looks = first_looked began es fs bs now (all_worked_again began es js ks fs bs ran each) looks
+
+-- the workers stood at the same listeners
+pub by_extra : {Ls E Li La C R K T : Type 0} (host : HostViews Ls E Li La C R K T) (rules : Rules) (listener : Ls) (extra given : Option Ls) (began : List AtPass) (es : List E) (passes : List AtPass) (ears : List E) → extra ≡ given
+    → AllRun host rules listener extra began es passes ears → AllRun host rules listener given began es passes ears
+by_extra host rules listener extra given began es passes ears alike ran = subst (λ e. AllRun host rules listener e began es passes ears) alike ran

@@ -89,8 +89,8 @@ no_words_served views rules pid number input output parts some is =
     any_rules rules (λ given. if_server given.run (record { had = had.0; has = had.0; had_is = had.1; has_is = had.1; goes_on = rw is no_memory }))
 
 -- nor the daemon
-pub no_words_for_daemon : {Ls Li La C R K T : Type 0} (host : Rules → HostViews Ls Li La C R K T) (rules : Option Rules) (pid number listens : ℕ) (input output : Side) (parts : Option (Parts La C R K)) → number ≡ exit_number status.NoMemory
-    → IfSome rules (λ given. IfDaemon given.run (RunsDaemon (host given) (with_pid pid given) listens output number listens output × (input ≡ input) × AreSettled (host given).parts parts parts))
+pub no_words_for_daemon : {Ls E Li La C R K T : Type 0} (host : Rules → HostViews Ls E Li La C R K T) (rules : Option Rules) (pid number listens : ℕ) (input output : Side) (parts : Option (Parts La C R K))
+    → number ≡ exit_number status.NoMemory → IfSome rules (λ given. IfDaemon given.run (RunsDaemon (host given) (with_pid pid given) listens output number listens output × (input ≡ input) × AreSettled (host given).parts parts parts))
 no_words_for_daemon host rules pid number listens input output parts is =
     any_rules rules (λ given. if_daemon given.run (rw is no_memory_for_it, refl, settled_already (host given).parts parts))
 

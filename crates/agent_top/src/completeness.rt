@@ -35,6 +35,7 @@ ghost use Rattle.pinentry_client.specs.Dialogues.{PinentryDoes};
 ghost use Rattle.session_options.specs.declared.rules.Rules.{Rules};
 
 use agent_ports::Host;
+use agent_serve::{ListeningHost, ViewedHost};
 use pinentry_client::a_pinentry_is_a_prompter;
 
 /// Where no count of its link's faults rose, a session on standard input and output ends with
@@ -66,24 +67,10 @@ pub fn each_error_of_a_server_has_its_cause()
 
 /// Where no call for a link and no write failed, a daemon that ends does so with status 0, or with
 /// 1 for want of memory.
-pub fn a_daemon_without_faults_ends_well<H: Host>()
+pub fn a_daemon_without_faults_ends_well<H: ListeningHost>()
     ensures { (path : List ℕ)
         (rules : Rules) (listens listens_now : ℕ) (before after : Side) (number : ℕ)
-        → RunsDaemon (record {
-          gives = H.Listener.gives;
-          is_home = H.is_home;
-          is_extra = H.is_extra;
-          input = H.Link.input;
-          output = H.Link.output;
-          parts = record {
-            launches = H.Launcher.launches;
-            readings = H.Clock.readings;
-            draws = H.Dice.draws;
-            keys = H.Keys.keys;
-          };
-          trust = H.Trust.trust;
-          folder = H.of_folder path;
-        }) rules listens before number listens_now after
+        → RunsDaemon (⟦<H as ViewedHost>⟧.views path) rules listens before number listens_now after
         → ¬ Rose listens listens_now → ¬ Rose before.faults after.faults → DaemonEndsWell number }
 {}
 

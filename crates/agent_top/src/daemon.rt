@@ -5,15 +5,13 @@ ghost use Rattle.agent_ports.specs.Counts.{Rose};
 ghost use Rattle.agent_ports.specs.Sides.{with_bytes, sent_part, IsCut};
 ghost use Rattle.arrayvec.specs.ArrayVec.{array_vec_len};
 ghost use Rattle.counted_lock.specs.Passes.{AreOf};
-ghost use Rattle.agent_origin.specs.declared.door.Door.{Door};
-ghost use Rattle.agent_serve.specs.Working.{ServesLinks, last_door, last_listener};
 ghost use Rattle.agent_top.specs.Daemon.{RunsDaemon, AllRun, FirstLooks, summary_line};
 ghost use Rattle.agent_top.specs.Daemon.{status_after, IsFirstStopped, workers_with};
 
 use crate::Status;
 use crate::top::limits_of;
 use agent_ports::{Ear, Host, Launcher, Link, Listener, Sent, Sink};
-use agent_serve::run_workers;
+use agent_serve::{ListeningHost, ViewedHost, run_workers};
 use arrayvec::ArrayVec;
 use cache_policy::Tally;
 use counted_lock::{Counted, CountedPass};
@@ -36,7 +34,7 @@ pub(crate) const SUMMARY_ROOM: usize = 256;
 /// no memory for the workers, 4 where the line can't be written, and 5 where a listener is wanting,
 /// or where one failed before the agent was stopped. Sessions that are being served when the agent
 /// is stopped go on until their clients end them.
-pub fn run_daemon<W: Threads + Wait + rt::Clock + Sync, S: Link, H: Host + Sync>(
+pub fn run_daemon<W: Threads + Wait + rt::Clock + Sync, S: Link, H: ListeningHost + Sync>(
     rt: &W,
     alloc: Global,
     rules: &Rules,
@@ -54,21 +52,8 @@ where
     H::Keys: Send + Sync + Drop,
     H::Trust: Send + Sync + Drop,
     H::Gate: Send + Sync,
-    ensures runs { RunsDaemon (record {
-      gives = H.Listener.gives;
-      is_home = H.is_home;
-      is_extra = H.is_extra;
-      input = H.Link.input;
-      output = H.Link.output;
-      parts = record {
-        launches = H.Launcher.launches;
-        readings = H.Clock.readings;
-        draws = H.Dice.draws;
-        keys = H.Keys.keys;
-      };
-      trust = H.Trust.trust;
-      folder = H.of_folder (H.homedir host.old);
-    }) rules.now (H.listens host.old) (S.output stdio.old) result (H.listens host.new)
+    ensures runs { RunsDaemon (⟦<H as ViewedHost>⟧.views (H.homedir host.old)) rules.now
+        (H.listens host.old) (S.output stdio.old) result (H.listens host.new)
         (S.output stdio.new) }
     ensures input { S.input stdio.new ≡ S.input stdio.old }
     ensures server { H.server host.new ≡ H.server host.old }
@@ -152,7 +137,7 @@ fn with_ears<L: Listener>(
 
 /// Has the workers serve links until the agent is stopped, or a listener failed. Where they came
 /// back for another reason they begin again.
-fn serve_rounds<W: Threads + Wait + rt::Clock + Sync, H: Host + Sync>(
+fn serve_rounds<W: Threads + Wait + rt::Clock + Sync, H: ListeningHost + Sync>(
     rt: &W,
     alloc: Global,
     rules: &Rules,
@@ -179,36 +164,8 @@ where
     requires some { 0 < vec_len passes }
     ensures own { AreOf counted.now.table result.0.items }
     ensures all { (vec_len result.0 ≡ vec_len passes) × (vec_len result.1 ≡ vec_len ears) }
-    ensures ran { AllRun (ServesLinks (record {
-      gives = H.Listener.gives;
-      is_home = H.is_home;
-      is_extra = H.is_extra;
-      input = H.Link.input;
-      output = H.Link.output;
-      parts = record {
-        launches = H.Launcher.launches;
-        readings = H.Clock.readings;
-        draws = H.Dice.draws;
-        keys = H.Keys.keys;
-      };
-      trust = H.Trust.trust;
-      folder = H.of_folder (H.homedir host.now);
-    }) rules.now Door.Home listener.now) (ServesLinks (record {
-      gives = H.Listener.gives;
-      is_home = H.is_home;
-      is_extra = H.is_extra;
-      input = H.Link.input;
-      output = H.Link.output;
-      parts = record {
-        launches = H.Launcher.launches;
-        readings = H.Clock.readings;
-        draws = H.Dice.draws;
-        keys = H.Keys.keys;
-      };
-      trust = H.Trust.trust;
-      folder = H.of_folder (H.homedir host.now);
-    }) rules.now (last_door (is_some extra.entry))
-        (last_listener listener.now (option_copied extra.entry))) passes.items result.0.items }
+    ensures ran { AllRun (⟦<H as ViewedHost>⟧.views (H.homedir host.now)) rules.now listener.now
+        (option_copied extra.entry) passes.items ears.items result.0.items result.1.items }
     ensures end { IsFirstStopped result.0.items ⊎ Any (λ ear. 0 < H.Ear.faults ear) result.1.items }
 {
     for _ in rt.forever() {

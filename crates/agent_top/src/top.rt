@@ -17,6 +17,7 @@ use crate::load::run_load;
 use crate::words::{WordsFault, read_words};
 use agent_core::{KnownCore, Solo};
 use agent_ports::{Clock, Dice, Host, Keys, Launcher, Link, SessionId};
+use agent_serve::{ListeningHost, ViewedHost};
 use agent_session::serve_session;
 use cache_policy::Limits;
 use pinentry_client::Pinentry;
@@ -39,7 +40,7 @@ pub(crate) const SESSION: SessionId = SessionId { pass: 0, count: 0 };
 /// With `--daemon` it is as `run_daemon` says, and with `--load` as `run_load` does.
 /// `--extra-socket` beside `--daemon` has restricted sessions served too, at a listener of their
 /// own.
-pub fn run_agent<W: Threads + Wait + rt::Clock + Sync, S: Link, H: Host + Sync>(
+pub fn run_agent<W: Threads + Wait + rt::Clock + Sync, S: Link, H: ListeningHost + Sync>(
     rt: &W,
     alloc: Global,
     words: &[String],
@@ -74,21 +75,9 @@ where
     // Words for a daemon: its sessions were served and its summary was written, unless there was no
     // listener or no memory. Nothing is read of standard input, and the host keeps its parts.
     ensures daemon { IfSome (rules_of (map string_bytes words.now))
-        (λ rules. IfDaemon rules.run (RunsDaemon (record {
-          gives = H.Listener.gives;
-          is_home = H.is_home;
-          is_extra = H.is_extra;
-          input = H.Link.input;
-          output = H.Link.output;
-          parts = record {
-            launches = H.Launcher.launches;
-            readings = H.Clock.readings;
-            draws = H.Dice.draws;
-            keys = H.Keys.keys;
-          };
-          trust = H.Trust.trust;
-          folder = H.of_folder rules.homedir.items;
-        }) (with_pid (H.process host.old) rules) (H.listens host.old) (S.output stdio.old) result
+        (λ rules. IfDaemon rules.run (RunsDaemon
+        (⟦<H as ViewedHost>⟧.views rules.homedir.items) (with_pid (H.process host.old) rules)
+        (H.listens host.old) (S.output stdio.old) result
         (H.listens host.new) (S.output stdio.new) × (S.input stdio.new ≡ S.input stdio.old)
         × AreSettled (record {
           launches = H.Launcher.launches;

@@ -1,5 +1,5 @@
 use Rattle.std.proofs.Common.{refl, ap, ◌∙◌, arith}
-use Rattle.agent_top.proofs.Rounds.{by_listeners}
+use Rattle.agent_top.proofs.Rounds.{by_extra}
 use Rattle.agent_top.proofs.Running.{listens_rose}
 use Rattle.agent_top.specs.Daemon.{summed, no_listener, no_memory}
 use Rattle.agent_top.specs.Top.{exit_number}
@@ -30,7 +30,9 @@ returns-clause-runs g c =
       extra = c.in-Some.extra;
       is_extra = c.in-Some.ensures.extra.0;
       extra_as = c.in-Some.ensures.extra.1;
-      ran = by_listeners _ c.args.rules.now c.in-Some.listener c.in-Ok.passes.items r.0.items _ _ _ _ (c.as_ref-further.ensures.variant ∙ c.in-Some.ensures.extra.1) c.as_ref-further.ensures.value
+      early = c.with_ears-ears.result.items;
+      ears = r.1.items;
+      ran = by_extra _ c.args.rules.now c.in-Some.listener _ _ c.in-Ok.passes.items c.with_ears-ears.result.items r.0.items r.1.items c.as_ref-further.ensures.value
           (rw c.in-Some.ensures.homedir at c.serve_rounds-passes.ensures.ran);
       tally = c.close-tally.result;
       closed = c.close-tally.ensures;

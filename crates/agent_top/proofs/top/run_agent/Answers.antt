@@ -33,6 +33,9 @@ pub returns-in-Err-NoMemory-clause-daemon : goal.returns-in-Err-NoMemory-clause-
 returns-in-Err-NoMemory-clause-daemon g c =
     no_words_for_daemon (λ given. record {
       gives = g.H.Listener.Listener.gives;
+      answers = g.H.ListeningHost.answers;
+      is_told = g.H.ListeningHost.is_told;
+      faults = g.H.Ear.Ear.faults;
       is_home = g.H.Host.is_home;
       is_extra = g.H.Host.is_extra;
       input = g.H.Link.Source.input;

@@ -1,6 +1,7 @@
-use Rattle.std.proofs.Common.{refl, arith, ◌∙◌}
-use Rattle.agent_serve.specs.Working.{none, one_more}
-use Rattle.agent_serve.proofs.Works.{next_stays}
+use Rattle.std.proofs.Common.{refl, sym, arith, ◌∙◌}
+use Rattle.std.specs.Option.{option_copied}
+use Rattle.agent_serve.specs.Working.{none, one_more, numbers_spent, post_at}
+use Rattle.agent_serve.proofs.Works.{next_stays, ends_without_link}
 use Rattle.agent_serve.proofs.workers.Working.work.Goals as goal
 
 pub loop-init : goal.loop-init
@@ -8,7 +9,25 @@ loop-init g c = record { serves = none; own = refl; faults = omega arith }
 
 pub loop-preserved : goal.loop-preserved
 loop-preserved g c = record {
-  serves = one_more c.loop.invariant.serves c.serve-pass.ensures;
-  own = next_stays _ c.args.self.now.rules.now c.args.self.now.door c.args.self.now.listener.now c.loop.pass c.serve-pass.result c.serve-pass.ensures ∙ c.loop.invariant.own;
+  serves = one_more c.loop.invariant.serves c.in-Link.ensures.answers c.serve-pass.ensures;
+  own = next_stays _ c.args.self.now.rules.now (post_at c.args.self.now.door c.args.self.now.listener.now (option_copied c.args.self.now.other)) c.loop.pass c.in-Link.link c.serve-pass.result
+      c.serve-pass.ensures ∙ c.loop.invariant.own;
   faults = omega (arith, c.loop.invariant.faults, c.in-Link.ensures.faults);
+}
+
+pub returns-then-sessions : goal.returns-then-sessions
+returns-then-sessions g c = record {
+  last = c.loop.ear;
+  serves = c.loop.invariant.serves;
+  ends = numbers_spent (sym c.sessions.ensures ∙ c.if-sessions.true);
+  unfallen = c.loop.invariant.faults;
+}
+
+pub returns-in-Failed : goal.returns-in-Failed
+returns-in-Failed g c = record {
+  last = c.loop.ear;
+  serves = c.loop.invariant.serves;
+  ends = ends_without_link _ c.args.self.now.rules.now (post_at c.args.self.now.door c.args.self.now.listener.now (option_copied c.args.self.now.other)) c.args.ear c.loop.ear c.loop.pass c.next_link.new.ear
+      c.next_link.result c.in-Failed.is c.next_link.ensures.answers c.next_link.ensures.stopped c.next_link.ensures.failed c.loop.invariant.faults;
+  unfallen = omega (arith, c.loop.invariant.faults, c.next_link.ensures.faults);
 }

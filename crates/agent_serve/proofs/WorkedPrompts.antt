@@ -1,0 +1,74 @@
+-- Worked examples: a request for consent whose pinentry couldn't be started. Its prompt has no child.
+use Rattle.std.proofs.Common.{◌≡◌, ℕ, false, List, [], ◌∷◌, Some, None, refl, arith}
+use Rattle.std.specs.Prelude.{⊤}
+use Rattle.agent_ask.specs.Consents as consents
+use Rattle.agent_ask.specs.Doing.{called}
+use Rattle.agent_ask.specs.Events.{Start, Shut, Called}
+use Rattle.agent_ask.specs.Further.{Prompt}
+use Rattle.agent_ask.specs.Further as further
+use Rattle.agent_ask.specs.Plans.{IsSpec}
+use Rattle.agent_ask.specs.Prompters.{IsCall}
+use Rattle.agent_ask.specs.Prompts as prompts
+use Rattle.agent_ask.specs.SessionEvents.{Sent, Further, cache_turn}
+use Rattle.agent_ask.specs.UnderTickets as tickets
+use Rattle.agent_ask.specs.Worlds.{Outside, Does}
+use Rattle.agent_ask.specs.Worlds as worlds
+use Rattle.agent_ask.specs.declared.prompter.Opened.TheVariants as opened
+use Rattle.agent_ask.specs.declared.spec.PromptSpec.{PromptSpec}
+use Rattle.agent_commands.specs.Exchanges as exchanges
+use Rattle.agent_commands.specs.declared.request.CacheCommand.TheVariants.{GetConfirmation}
+use Rattle.agent_commands.specs.declared.request.Request.TheVariants.{Cache}
+use Rattle.agent_commands.specs.declared.went.Went.TheVariants.{On}
+use Rattle.agent_origin.specs.FurtherStates.{FurtherWorld}
+use Rattle.agent_origin.specs.SessionExchanges.{RequestExchange, cache}
+use Rattle.agent_origin.specs.declared.kept.Kept.{Kept}
+use Rattle.agent_ports.specs.KeyFiles.{KeyFiles}
+use Rattle.agent_ports.specs.Launches.{Launches}
+use Rattle.agent_ports.specs.Leads.{Leads, none, one}
+use Rattle.agent_ports.specs.Sides.{Side}
+use Rattle.agent_ports.specs.TrustFiles.{TrustState}
+use Rattle.agent_serve.specs.Prompts.{HavePrompts}
+use Rattle.agent_serve.proofs.PromptedLines.{request_prompted}
+use Rattle.agent_serve.proofs.PromptedSessions.{have_prompts}
+use Rattle.assuan_server.specs.Reading.{Supply}
+use Rattle.assuan_server.specs.Written.{failed}
+use Rattle.assuan_server.specs.declared.errors.Code.TheVariants as code
+use Rattle.cache_policy.specs.Turns.{Turn, Open, Done}
+use Rattle.cache_policy.specs.declared.mark.MarkStep.{MarkStep}
+use Rattle.cache_policy.specs.declared.mark.MarkStep.TheVariants.{Seat, Close}
+use Rattle.key_commands.specs.Events.{Event}
+use Rattle.pinentry_client.specs.Dialogues.{PinentryDoes, unlaunched, shut_alone}
+use Rattle.pinentry_client.specs.States.{AtPinentry, at_prompter, idle}
+use Rattle.session_options.specs.declared.options.PinMode.TheVariants as mode
+use Rattle.session_options.specs.declared.rules.Rules.{Rules}
+
+-- at any desk
+abbrev any_turn : Unit {0} → MarkStep → Turn → Unit {0} → Type 0
+any_turn before asked turn after = ⊤
+
+module _ (rules : Rules) (kept : Kept) (description : _) (spec : PromptSpec) (asks : kept.options.mode ≡ mode.Ask) (is_spec : IsSpec rules kept.options description (record { items = [] }) false spec) where
+  abbrev unstarted : List Event
+  unstarted =
+      cache_turn (Seat None None) (Open 0) ∷ Further (Prompt (Called (Start spec opened.Failed))) ∷ Further (Prompt (Called Shut)) ∷ cache_turn (Close 0 None) Done ∷ Sent (failed code.NoPinentry) ∷ []
+
+  exchange : RequestExchange rules kept (Cache (GetConfirmation description)) unstarted kept On
+  exchange =
+      cache (exchanges.confirmation spec asks is_spec (exchanges.opened (tickets.asked Done
+      (tickets.next (record { before = Called (Start spec opened.Failed) ∷ []; whole = refl; asks = consents.unopened prompts.failed }) (tickets.called (tickets.called tickets.none)) tickets.none)
+      exchanges.no_pinentry)))
+
+  module _ (program : List ℕ) (keys : KeyFiles) (dice : Side) (trust : TrustState) (supply : Supply)
+      (promise : (before : AtPinentry) (call : _) (after : AtPinentry) → PinentryDoes before call after → IsCall (at_prompter before) call (at_prompter after)) where
+    abbrev launches : ℕ → Launches
+    launches faults = record { coming = Some []; launched = Some []; finished = Some []; faults = faults }
+
+    abbrev at : ℕ → List ℕ → Outside (FurtherWorld any_turn PinentryDoes)
+    at faults written = record { input = None; source = None; output = Some written; desk = tt; ends = record { prompter = idle program (launches faults); keys = keys; dice = dice; trust = trust } }
+
+    leads : Leads (Does (FurtherWorld any_turn PinentryDoes) supply) (at 0 []) unstarted (at 1 (failed code.NoPinentry))
+    leads =
+        one (worlds.turned tt) (one (worlds.further (further.prompt (called (unlaunched {launches = launches 1} (record { coming = refl; launched = refl; finished = refl; rose = omega arith; faults = omega arith })))))
+        (one (worlds.further (further.prompt (called shut_alone))) (one (worlds.turned tt) (one worlds.sent none))))
+
+    has_one_prompt : HavePrompts program unstarted (launches 0) (launches 1)
+    has_one_prompt = have_prompts any_turn promise program (launches 0) (launches 1) refl refl (request_prompted _ exchange) leads
