@@ -6,7 +6,6 @@ use Rattle.agent_ask.specs.SessionEvents.{Received, Sent, Cut, Inquiry, CacheTur
 use Rattle.agent_commands.specs.declared.went.SessionEnd.{SessionEnd}
 use Rattle.agent_origin.specs.DoorSessions.{DoorExchange}
 use Rattle.agent_origin.specs.declared.door.Door.{Door}
-use Rattle.agent_origin.specs.declared.door.Door.TheVariants.{Home}
 use Rattle.agent_ports.specs.HostParts.{Views, InFolder}
 use Rattle.agent_ports.specs.Readings.{Readings}
 use Rattle.agent_ports.specs.Sides.{Side}
@@ -15,7 +14,7 @@ use Rattle.agent_ports.specs.declared.session.SessionId.{SessionId}
 use Rattle.agent_serve.specs.Pairs.{ByPlace}
 use Rattle.agent_serve.specs.Serves.{LinkSides, PassTurns, ServesOne}
 use Rattle.agent_serve.specs.Serves as serves
-use Rattle.agent_serve.specs.Working.{HostViews, ServesLinks, last_door, last_listener}
+use Rattle.agent_serve.specs.Working.{HostViews, Post, ServesLinks, Works, home_post, last_post}
 use Rattle.agent_serve.specs.Working as working
 use Rattle.agent_session.specs.Causes.{Has, here, later}
 use Rattle.agent_session.specs.OwnPassphrases.{HandsIn}
@@ -36,7 +35,7 @@ use Rattle.key_commands.specs.Events.{Event}
 use Rattle.pinentry_client.specs.Dialogues.{PinentryDoes}
 use Rattle.session_options.specs.declared.rules.Rules.{Rules}
 use Rattle.std.proofs.lemmas.Bool.Decides.{nat_tests}
-use Rattle.agent_top.specs.Daemon.{PassRuns, AllRun, SumsUp}
+use Rattle.agent_top.specs.Daemon.{PassRuns, EachRuns, SumsUp}
 use Rattle.agent_top.specs.Daemon as daemon
 use Rattle.agent_top.specs.OwnPassphrases.{IsOwnTurn, IsOfSession}
 
@@ -153,20 +152,24 @@ module _ {La C R K T : Type 0} {views : Views La C R K} {trusts : T → TrustSta
 
 -- ---- the run
 
-module _ {Ls Li La C R K T : Type 0} (host : HostViews Ls Li La C R K T) (rules : Rules) (mark : Mark) (hands : HandsIn mark.step) where
-  abbrev Here : Type 0
+module _ {Ls E Li La C R K T : Type 0} (host : HostViews Ls E Li La C R K T) (rules : Rules) (mark : Mark) (hands : HandsIn mark.step) where
+  abbrev pub Here : Type 0
   Here = IsOfSession host rules mark
 
-  by_links : (door : Door) (listener : Ls) {first now : AtPass} → ServesLinks host rules door listener first now → Has mark (mine now) → Has mark (mine first) ⊎ Here
-  by_links door listener working.none has = inl has
-  by_links door listener (working.one_more {pass} {now} earlier next) has =
+  -- what a worker's work, or more of it, makes of the marks of its pass: those that hand something in are of one of its sessions
+  abbrev pub Made : (AtPass → E → AtPass → E → Type 0) → Type 0
+  Made Work = (first : AtPass) (early : E) (now : AtPass) (back : E) → Work first early now back → Has mark (mine now) → Has mark (mine first) ⊎ Here
+
+  by_links : (post : Post Ls) {first now : AtPass} {early back : E} → ServesLinks host rules post first early now back → Has mark (mine now) → Has mark (mine first) ⊎ Here
+  by_links post working.none has = inl has
+  by_links post (working.one_more {pass} {now} {link} earlier answered next) has =
       let one = next.serves in
       elim (has_split (mine pass) one.own (subst (λ marks. Has mark marks) one.adds.mine_is has)) [
-        | inl before ↦ by_links door listener earlier before
+        | inl before ↦ by_links post earlier before
         | inr made ↦ inr (record {
-          door = door;
-          listener = listener;
+          post = post;
           pass = pass;
+          link = link;
           now = now;
           serves = next;
           made = made;
@@ -175,28 +178,34 @@ module _ {Ls Li La C R K T : Type 0} (host : HostViews Ls Li La C R K T) (rules 
         })
       ]
 
-  by_runs : {Serves : AtPass → AtPass → Type 0} → ((first now : AtPass) → Serves first now → Has mark (mine now) → Has mark (mine first) ⊎ Here) → {first now : AtPass} → PassRuns Serves first now → Has mark (mine now)
-      → Has mark (mine first) ⊎ Here
-  by_runs serves_so daemon.begun has = inl has
-  by_runs serves_so (daemon.served earlier does) has = elim (serves_so _ _ does has) [ inl before ↦ by_runs serves_so earlier before | inr of_session ↦ inr of_session ]
-  by_runs serves_so (daemon.looked earlier looks) has = by_runs serves_so earlier (subst (λ marks. Has mark marks) looks.mine_is has)
+  by_works : (post : Post Ls) → Made (Works host rules post)
+  by_works post first early now back works has = by_links post works.serves has
 
-  module _ (Other Last : AtPass → AtPass → Type 0) (other_so : (first now : AtPass) → Other first now → Has mark (mine now) → Has mark (mine first) ⊎ Here)
-      (last_so : (first now : AtPass) → Last first now → Has mark (mine now) → Has mark (mine first) ⊎ Here) where
-    by_place : (first now : AtPass) (others : List AtPass) → ByPlace (PassRuns Other first now) (PassRuns Last first now) others → Has mark (mine now) → Has mark (mine first) ⊎ Here
-    by_place first now [] runs has = by_runs last_so runs has
-    by_place first now (next ∷ others) runs has = by_runs other_so runs has
+  by_runs : {Work : AtPass → E → AtPass → E → Type 0} → Made Work → Made (PassRuns Work)
+  by_runs work_so first early now back (daemon.worked does) has = work_so first early now back does has
+  by_runs work_so first early now back (daemon.worked_again {pass} {ear} earlier does) has =
+      elim (work_so pass ear now back does has) [ inl before ↦ by_runs work_so first early pass ear earlier before | inr of_session ↦ inr of_session ]
+  by_runs work_so first early now back (daemon.looked {pass} earlier looks) has = by_runs work_so first early pass back earlier (subst (λ marks. Has mark marks) looks.mine_is has)
 
-    all_run : (counted : AtCounted) (number : ℕ) (began passes : List AtPass) → AreNewPasses counted number began → AllRun Other Last began passes → {pass : AtPass} → Has pass passes → Has mark (mine pass) → Here
-    all_run counted number [] [] new runs in_passes has = elim in_passes [ ]
-    all_run counted number (first ∷ began) (now ∷ passes) new runs here has =
-        elim (by_place first now began runs.0 has) [
+  module _ (Other Last : AtPass → E → AtPass → E → Type 0) (other_so : Made Other) (last_so : Made Last) where
+    by_place : (first : AtPass) (early : E) (now : AtPass) (back : E) (others : List AtPass) → ByPlace (PassRuns Other first early now back) (PassRuns Last first early now back) others → Has mark (mine now)
+        → Has mark (mine first) ⊎ Here
+    by_place first early now back [] runs has = by_runs last_so first early now back runs has
+    by_place first early now back (next ∷ others) runs has = by_runs other_so first early now back runs has
+
+    all_run : (counted : AtCounted) (number : ℕ) (began : List AtPass) (early : List E) (passes : List AtPass) (ears : List E) → AreNewPasses counted number began → EachRuns Other Last began early passes ears
+        → {pass : AtPass} → Has pass passes → Has mark (mine pass) → Here
+    all_run counted number began early [] ears new runs in_passes has = elim in_passes [ ]
+    all_run counted number (first ∷ began) (ear ∷ early) (now ∷ passes) (back ∷ ears) new runs here has =
+        elim (by_place first ear now back began runs.0 has) [
           | inl before ↦ let none : mine first ≡ [] = ap mine new.0 in elim (subst (λ marks. Has mark marks) none before) [ ]
           | inr of_session ↦ of_session
         ]
-    all_run counted number (first ∷ began) (now ∷ passes) new runs (later in_passes) has = all_run counted (suc number) began passes new.1 runs.1 in_passes has
-    all_run counted number [] (now ∷ passes) new runs in_passes has = absurd runs
-    all_run counted number (first ∷ began) [] new runs in_passes has = absurd runs
+    all_run counted number (first ∷ began) (ear ∷ early) (now ∷ passes) (back ∷ ears) new runs (later in_passes) has = all_run counted (suc number) began early passes ears new.1 runs.1 in_passes has
+    all_run counted number [] [] (now ∷ passes) ears new runs in_passes has = absurd runs
+    all_run counted number [] (ear ∷ early) (now ∷ passes) ears new runs in_passes has = absurd runs
+    all_run counted number (first ∷ began) [] (now ∷ passes) ears new runs in_passes has = absurd runs
+    all_run counted number (first ∷ began) (ear ∷ early) (now ∷ passes) [] new runs in_passes has = absurd runs
 
 same_number : (one other : ℕ) → nat_eq one other ≡ true → nat_eq other one ≡ true
 same_number one other is = grind (arith, nat_tests)
@@ -206,13 +215,12 @@ stands_in [] all has = elim has [ ]
 stands_in (pass ∷ more) all here = all.0
 stands_in (other ∷ more) all (later has) = stands_in more all.1 has
 
-module _ {Ls Li La C R K T : Type 0} (host : HostViews Ls Li La C R K T) (rules : Rules) {listens listens_now number : ℕ} {before after : Side} (sums : SumsUp host rules listens before number listens_now after) where
+module _ {Ls E Li La C R K T : Type 0} (host : HostViews Ls E Li La C R K T) (rules : Rules) {listens listens_now number : ℕ} {before after : Side} (sums : SumsUp host rules listens before number listens_now after) where
   pub of_session : (mark : Mark) → Has mark sums.closed.run → HandsIn mark.step → IsOfSession host rules mark
   of_session mark has hands =
       let found = some_passes (λ pass. nat_eq pass.number mark.session.pass) sums.passes (each_has (λ m. length (numbered m.session.pass sums.passes) ≡ 1) sums.closed.run sums.closed.each has) in
       let stands = stands_in sums.passes sums.closed.all found.has in
       let own : Has mark (mine found.one) =
       subst (λ marks. Has mark marks) stands.own (kept (λ m. nat_eq m.session.pass found.one.number) sums.closed.run has (same_number found.one.number mark.session.pass found.passes)) in
-      all_run host rules mark hands (ServesLinks host rules Home sums.listener) (ServesLinks host rules (last_door rules.extra) (last_listener sums.listener sums.extra))
-      (λ first then links there. by_links host rules mark hands Home sums.listener links there)
-      (λ first then links there. by_links host rules mark hands (last_door rules.extra) (last_listener sums.listener sums.extra) links there) sums.counted 0 sums.began sums.passes sums.new sums.ran found.has own
+      all_run host rules mark hands (Works host rules (home_post sums.listener sums.extra)) (Works host rules (last_post sums.listener sums.extra)) (by_works host rules mark hands (home_post sums.listener sums.extra))
+      (by_works host rules mark hands (last_post sums.listener sums.extra)) sums.counted 0 sums.began sums.early sums.passes sums.ears sums.new sums.ran found.has own

@@ -2,8 +2,7 @@
 -- the passphrase is of that session's own line. This is the project's own.
 use Rattle.std.specs.Prelude.{◌≡◌, List, ◌∷◌, ◌++◌}
 use Rattle.agent_ask.specs.SessionEvents.{cache_turn}
-use Rattle.agent_origin.specs.declared.door.Door.{Door}
-use Rattle.agent_serve.specs.Working.{HostViews, ServesNext, next_session}
+use Rattle.agent_serve.specs.Working.{HostViews, Post, ServesNext, next_session}
 use Rattle.agent_session.specs.Causes.{Has}
 use Rattle.agent_session.specs.OwnPassphrases.{StoresOwnIn}
 use Rattle.cache_policy.specs.Turns.{Turn}
@@ -21,12 +20,12 @@ pub record IsOwnTurn (events : List Event) (mark : Mark) : Type 0 where
   pub stores : StoresOwnIn before mark.step
 
 -- The mark was made by one of the sessions that were served, which it names, and is a turn of that session's.
-pub record IsOfSession {Ls Li La C R K T : Type 0} (host : HostViews Ls Li La C R K T) (rules : Rules) (mark : Mark) : Type 0 where
-  pub door : Door
-  pub listener : Ls
+pub record IsOfSession {Ls E Li La C R K T : Type 0} (host : HostViews Ls E Li La C R K T) (rules : Rules) (mark : Mark) : Type 0 where
+  pub post : Post Ls
   pub pass : AtPass
+  pub link : Li
   pub now : AtPass
-  pub serves : ServesNext host rules door listener pass now
+  pub serves : ServesNext host rules post pass link now
   pub made : Has mark serves.serves.own
   pub names : mark.session ≡ next_session pass
   pub turn : IsOwnTurn serves.serves.served.events mark
