@@ -8,3 +8,4 @@ pub mod Doing
 pub mod Beside
 pub mod Clients
 pub mod Prompting
+pub mod ConsentParts

@@ -1,8 +1,10 @@
 -- A session's client as a prompt has to do with it. This is the project's own.
-use Rattle.std.specs.Prelude.{◌≡◌, ℕ, List, Result}
+use Rattle.std.specs.Prelude.{◌≡◌, ℕ, List, Result, Err}
 use Rattle.std.specs.Borrow.{GName}
-use Rattle.session_client.specs.Asking.{TellsClient, IsLost}
+use Rattle.session_client.specs.Asking.{TellsClient, IsLost, LeftBy}
 use Rattle.session_client.specs.Lines.{Lines, Views, IsOpen}
+use Rattle.session_client.specs.declared.refusal.Refusal.{Refusal}
+use Rattle.session_client.specs.declared.refusal.Refusal.TheVariants as refusal
 use Rattle.session_client.specs.declared.unheard.Unheard.{Unheard}
 use Rattle.agent_ask.specs.Callers.{IsHearing, SaysNote, SaysWish}
 use Rattle.agent_ask.specs.Events.{Question, Launched, Wanted}
@@ -31,6 +33,11 @@ module _ {lines : Lines} {C : Type 0} (views : Views lines C) where
   abbrev pub LeftByConsent : Agreed → C → C → Type 0
   LeftByConsent (agreed.Heard heard) start now = LeftByHeard heard start now
   LeftByConsent _ start now = IsOpen views now
+
+  -- and by a request that came to this: open, but where it is refused since the client is gone
+  abbrev pub LeftByPart : {A : Type 0} → Result A Refusal → C → C → Type 0
+  LeftByPart (Err (refusal.Client why)) start now = LeftBy views {A = List ℕ} (Err why) start now
+  LeftByPart _ start now = IsOpen views now
 
   module _ (Wished : C → List ℕ → Result (List ℕ) Unheard → C → Type 0) where
     -- a question to a client whose connection is open, and its answer

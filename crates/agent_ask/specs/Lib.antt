@@ -16,3 +16,8 @@ pub mod UnderTickets
 pub mod States
 pub mod Failing
 pub mod Plans
+pub mod Interrupts
+pub mod Parts
+pub mod TurnParts
+pub mod ConsentParts
+pub mod Seats

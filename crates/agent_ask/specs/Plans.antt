@@ -1,11 +1,15 @@
 -- What the agent's prompts say, and how a passphrase is asked for (GnuPG manual, "Agent GET_PASSPHRASE", "Agent GET_CONFIRMATION"). What is
 -- shown where is this project's own.
-use Rattle.std.specs.Prelude.{◌≡◌, ℕ, Bool, [], Some, None, if◌then◌else◌}
+use Rattle.std.specs.Prelude.{◌≡◌, ℕ, Bool, List, [], Some, None, if◌then◌else◌}
 use Rattle.arrayvec.specs.ArrayVec.{ArrayVec}
 use Rattle.agent_ask.specs.declared.spec.AskPlan.{AskPlan}
 use Rattle.agent_ask.specs.declared.spec.PromptSpec.{PromptSpec}
 use Rattle.session_options.specs.OptionValues.{OptionValues, words_of}
 use Rattle.session_options.specs.declared.rules.Rules.{Rules}
+
+-- the bytes as a text
+abbrev pub text : List ℕ → ArrayVec ℕ
+text bytes = record { items = bytes }
 
 -- What a prompt says: this description, and this before its field. The title and the buttons are the pinentry's own.
 pub record IsSpec (rules : Rules) (options : OptionValues) (description prompt : ArrayVec ℕ) (quality : Bool) (spec : PromptSpec) : Type 0 where

@@ -8,6 +8,7 @@
 //! `specs/Consents`.
 #![tactic(auto)]
 
+mod agreeing;
 mod ask;
 mod caller;
 mod client;
@@ -22,6 +23,7 @@ mod spec;
 mod test;
 mod tries;
 
+pub use agreeing::agree;
 pub use ask::{Asked, ask_pin};
 pub use caller::{Caller, Heard};
 pub use consent::{Agreed, ask_consent};
@@ -29,7 +31,7 @@ pub use laws::{a_consent_has_one_answer, a_prompt_has_one_answer, failures_are_c
 pub use lending::{AnyPin, ask_leave, ask_user};
 pub use plan::{ask_plan, prompt_spec};
 pub use prompter::{Consent, Opened, Outcome, Prompter};
-pub use seat::give_back;
+pub use seat::{give_back, take_seat, without_memory};
 pub use session_client::{Gone, MAX_NOTE_LEN};
 pub use spec::{AskPlan, PromptSpec};
 pub use test::{Test, Tested};

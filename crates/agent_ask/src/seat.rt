@@ -1,9 +1,43 @@
-ghost use Rattle.std.specs.Prelude.{◌≡◌, Some, None};
-ghost use Rattle.cache_policy.specs.declared.mark.MarkStep.TheVariants.{Close};
-ghost use Rattle.cache_policy.specs.Turns.{Turn};
+//! The seat before the prompt: it is taken at a desk, by a ticket that is given back.
 
-use cache_policy::{Desk, Reply, Secret, Step};
+ghost use Rattle.std.specs.Prelude.{◌≡◌, Ok, Err, Some, None, IfOk, IfErr};
+ghost use Rattle.agent_ask.specs.Seats.{WantsSeat};
+ghost use Rattle.cache_policy.specs.declared.mark.MarkStep.TheVariants.{Close, Seat};
+ghost use Rattle.cache_policy.specs.Turns.{Turn, asked_step, closes};
+
+use cache_policy::{Desk, Refused, Reply, Secret, Step, Under};
 use prompt_seat::Ticket;
+use session_client::{Code, Refusal};
+
+/// Takes the seat before a prompt, whose passphrase is cached so where it is one for a passphrase.
+pub fn take_seat<D: Desk>(under: Option<Under>, desk: &mut D) -> Result<Ticket, Refusal>
+    requires free { (D.at desk.old).out ≡ None }
+    ensures taken { IfOk result
+        (λ ticket. WantsSeat D.turned (Seat under None) desk.old (Ok ticket) desk.new) }
+    ensures refused { IfErr result
+        (λ why. WantsSeat D.turned (Seat under None) desk.old (Err why) desk.new) }
+    ensures out { IfOk result (λ ticket. (D.at desk.new).out ≡ Some ticket) }
+    ensures free { IfErr result (λ why. (D.at desk.new).out ≡ None) }
+{
+    match desk.turn(Step::Seat { under, wait: None }) {
+        Ok(Reply::Open(ticket)) => Ok(ticket),
+        Ok(Reply::Stopping) => Err(Refusal::Agent(Code::Cancelled)),
+        Ok(Reply::Late) => Err(Refusal::Agent(Code::Timeout)),
+        Ok(_) => unreachable!(),
+        Err(Refused { step }) => Err(without_memory(step)),
+    }
+}
+
+/// How a request is refused whose step found no memory. The step has no ticket.
+pub fn without_memory(step: Step) -> Refusal
+    requires { closes (asked_step step) ≡ None }
+    ensures { result ≡ Refusal.Agent Code.NoMemory }
+{
+    match step.into_ticket() {
+        None => Refusal::Agent(Code::NoMemory),
+        Some(_) => unreachable!(),
+    }
+}
 
 /// Gives a ticket back at a desk, with the passphrase that is kept. What that is replied decides
 /// nothing.

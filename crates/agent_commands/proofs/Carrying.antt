@@ -4,7 +4,7 @@ use Rattle.std.proofs.Common.{◌≡◌, ◌≤◌, ℕ, List, [], ◌∷◌, �
 use Rattle.assuan_line.specs.Next.{Reader, held}
 use Rattle.agent_ask.specs.Events.{Call}
 use Rattle.assuan_server.specs.Connections.{Connection}
-use Rattle.assuan_server.specs.declared.errors.Code.{Code}
+use Rattle.session_client.specs.declared.code.Code.{Code}
 use Rattle.cache_policy.specs.declared.mark.MarkStep.{MarkStep}
 use Rattle.cache_policy.specs.Turns.{Turn}
 use Rattle.assuan_server.specs.Written.{failed}

@@ -7,7 +7,7 @@ use Rattle.cache_policy.specs.declared.mode.Mode.TheVariants.{User, Normal, Ssh}
 use Rattle.agent_commands.specs.Names.{command_named, is_key_command, info_named, is_listed}
 use Rattle.agent_commands.specs.Fields.{text, passphrase}
 use Rattle.agent_commands.specs.Requests.{GetFields, request_of, get_passphrase}
-use Rattle.assuan_server.specs.declared.errors.Code.TheVariants.{NotSupported, UnknownCommand, Parameter}
+use Rattle.session_client.specs.declared.code.Code.TheVariants.{NotSupported, UnknownCommand, Parameter}
 use Rattle.agent_commands.specs.declared.request.Info.TheVariants.{Version, Listed}
 use Rattle.agent_commands.specs.declared.request.CacheCommand.TheVariants.{Nop, Bye, SetOption, GetInfo, PresetPassphrase, ClearPassphrase, GetConfirmation, KillAgent}
 use Rattle.agent_commands.specs.declared.request.Request.TheVariants.{Cache, Key, Bad}

@@ -10,6 +10,7 @@ use Rattle.agent_ask.specs.declared.ask.Asked.TheVariants as asked
 use Rattle.agent_ask.specs.Callers.{unheard_of}
 use Rattle.agent_ask.specs.Failing.{AnyFails}
 use Rattle.agent_ask.specs.Further.{FurtherEvent}
+use Rattle.agent_ask.specs.Interrupts.{Interrupts}
 use Rattle.agent_ask.specs.Plans.{IsSpec, plan_of}
 use Rattle.agent_ask.specs.declared.caller.Heard.{Heard}
 use Rattle.session_client.specs.Asking.{Asked, said_by}
@@ -20,9 +21,9 @@ use Rattle.agent_ask.specs.declared.consent.Agreed.TheVariants as agreed
 use Rattle.agent_ask.specs.declared.spec.AskPlan.{AskPlan}
 use Rattle.agent_ask.specs.declared.spec.PromptSpec.{PromptSpec}
 use Rattle.assuan_server.specs.Inquiries.{Data}
-use Rattle.assuan_server.specs.Written.{status_text}
-use Rattle.assuan_server.specs.declared.errors.Code.{Code}
-use Rattle.assuan_server.specs.declared.errors.Code.TheVariants as code
+use Rattle.assuan_server.specs.Written.{status_text, failed, failed_at_pinentry}
+use Rattle.session_client.specs.declared.code.Code.{Code}
+use Rattle.session_client.specs.declared.code.Code.TheVariants as code
 use Rattle.assuan_text.specs.LineEnds.{line_of}
 use Rattle.cache_policy.specs.declared.grant.Grant.{Grant}
 use Rattle.cache_policy.specs.declared.life.Life.{Life}
@@ -33,7 +34,7 @@ use Rattle.cache_policy.specs.declared.mark.Way.TheVariants.{Quiet, Prompt}
 use Rattle.cache_policy.specs.declared.mode.Mode.{Mode}
 use Rattle.cache_policy.specs.declared.mode.Mode.TheVariants.{Any, User}
 use Rattle.cache_policy.specs.declared.secret.TheConstants.{MAX_SECRET_LEN}
-use Rattle.cache_policy.specs.Turns.{Turn, Given, Empty, Open, Done, Stopping, Late, Refused}
+use Rattle.cache_policy.specs.Turns.{Turn, Given, Empty, Open, Done}
 use Rattle.session_options.specs.OptionValues.{OptionValues, at_start, applied, with_description}
 use Rattle.session_options.specs.declared.options.OptionAnswer.{OptionAnswer}
 use Rattle.session_options.specs.declared.options.OptionAnswer.TheVariants.{Set, Unknown, Parameter, NotSupported}
@@ -41,7 +42,6 @@ use Rattle.session_options.specs.declared.options.PinMode.{PinMode}
 use Rattle.session_options.specs.declared.options.PinMode.TheVariants as mode
 use Rattle.session_options.specs.declared.rules.Rules.{Rules}
 use Rattle.agent_commands.specs.Answers.{ok, closing, help, IsInfo, IsPassphrase}
-use Rattle.assuan_server.specs.Written.{failed, failed_at_pinentry}
 use Rattle.agent_commands.specs.Endings.{went_after}
 use Rattle.agent_commands.specs.Events.{Event, Inquired}
 use Rattle.agent_ask.specs.SessionEvents.{Sent, Cut, Inquiry, cache_turn}
@@ -76,12 +76,6 @@ ask id = Ask id User Quiet None
 
 abbrev pub put : List ℕ → Life → List ℕ → MarkStep
 put id life secret = Put id Any life secret
-
--- a turn that ends its command, and the code that this is answered by
-pub data Interrupts : Turn → Code → Type 0 where
-  refused : Interrupts Refused code.NoMemory
-  stopping : Interrupts Stopping code.Cancelled
-  late : Interrupts Late code.Timeout
 
 -- how long a passphrase may be is told before the client is asked for it
 abbrev pub limit_line : List ℕ

@@ -9,8 +9,8 @@ use Rattle.assuan_text.specs.Words.{command_of, rest_of, words}
 use Rattle.assuan_escape.specs.Escapes.{unescaped}
 use Rattle.agent_commands.specs.Names.{command_named, is_key_command, info_named, is_listed}
 use Rattle.agent_commands.specs.Fields.{cache_id, unless_placeholder, text, text_or, texts, repeats, life, cleared_mode, given_passphrase}
-use Rattle.assuan_server.specs.declared.errors.Code.{Code}
-use Rattle.assuan_server.specs.declared.errors.Code.TheVariants.{NotSupported, UnknownCommand, Parameter}
+use Rattle.session_client.specs.declared.code.Code.{Code}
+use Rattle.session_client.specs.declared.code.Code.TheVariants.{NotSupported, UnknownCommand, Parameter}
 use Rattle.agent_commands.specs.declared.names.CommandName.{CommandName}
 use Rattle.agent_commands.specs.declared.names.CommandName.TheVariants as name
 use Rattle.agent_commands.specs.declared.request.Texts.{Texts}

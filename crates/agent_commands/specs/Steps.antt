@@ -8,10 +8,11 @@ use Rattle.agent_ask.specs.declared.consent.Agreed.{Agreed}
 use Rattle.agent_ask.specs.declared.consent.Agreed.TheVariants as agreed
 use Rattle.agent_ports.specs.declared.link.Sent.TheVariants.{All, Failed as SentPart}
 use Rattle.assuan_server.specs.Connections.{Connection}
-use Rattle.assuan_server.specs.Written.{HasWritten}
-use Rattle.assuan_server.specs.declared.errors.Code.{Code}
-use Rattle.assuan_server.specs.declared.errors.Code.TheVariants as code
-use Rattle.assuan_server.specs.Clients.{connection_views, refusal_code}
+use Rattle.assuan_server.specs.Written.{HasWritten, failed, failed_at_pinentry, WritesText}
+use Rattle.session_client.specs.declared.code.Code.{Code}
+use Rattle.session_client.specs.declared.code.Code.TheVariants as code
+use Rattle.assuan_server.specs.Clients.{connection_views}
+use Rattle.session_client.specs.Refusals.{refusal_code}
 use Rattle.cache_policy.specs.declared.secret.TheConstants.{MAX_SECRET_LEN}
 use Rattle.session_client.specs.Asking.{AsksClient, gone_of}
 use Rattle.session_client.specs.declared.unheard.Unheard.{Unheard}
@@ -23,11 +24,11 @@ use Rattle.cache_policy.specs.declared.mode.Mode.TheVariants.{User}
 use Rattle.cache_policy.specs.Turns.{Turn, Given as TurnGiven, Empty, Done}
 use Rattle.session_options.specs.OptionValues.{OptionValues}
 use Rattle.agent_commands.specs.Answers.{ok, closing, help, version_text, IsDataAnswer, IsPassphrase}
-use Rattle.assuan_server.specs.Written.{failed, failed_at_pinentry}
 use Rattle.agent_commands.specs.Endings.{went_after}
 use Rattle.agent_commands.specs.Events.{Event}
 use Rattle.agent_ask.specs.SessionEvents.{Sent}
-use Rattle.agent_commands.specs.Exchanges.{Interrupts, ask, limit_line}
+use Rattle.agent_ask.specs.Interrupts.{Interrupts}
+use Rattle.agent_commands.specs.Exchanges.{ask, limit_line}
 use Rattle.agent_commands.specs.Outside.{World}
 use Rattle.agent_commands.specs.declared.answer.Answer.{Answer}
 use Rattle.agent_commands.specs.declared.request.CacheCommand.{CacheCommand}
@@ -38,7 +39,6 @@ use Rattle.agent_ports.specs.declared.link.WriteFault.{WriteFault as Fault}
 use Rattle.agent_commands.specs.declared.went.SessionEnd.TheVariants.{WriteFault}
 use Rattle.agent_commands.specs.declared.went.Went.{Went}
 use Rattle.agent_commands.specs.declared.went.Went.TheVariants.{On, End}
-use Rattle.assuan_server.specs.Written.{WritesText}
 use Rattle.agent_commands.specs.States.{SessionState, EventsLead, ReaderAfter, FaultsRise}
 
 -- the lines of a response

@@ -3,7 +3,7 @@
 use Rattle.std.specs.Prelude.{ℕ, List, [], ◌∷◌, ◌++◌}
 use Rattle.assuan_line.specs.declared.reader.Took.TheVariants as took
 use Rattle.assuan_server.specs.Written.{greeting}
-use Rattle.assuan_server.specs.declared.errors.Code.TheVariants.{LineTooLong}
+use Rattle.session_client.specs.declared.code.Code.TheVariants.{LineTooLong}
 use Rattle.assuan_text.specs.LineEnds.{line_of}
 use Rattle.assuan_server.specs.Written.{failed}
 use Rattle.agent_commands.specs.Events.{Event}

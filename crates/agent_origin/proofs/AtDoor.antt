@@ -6,7 +6,7 @@ use Rattle.agent_commands.specs.Talks.{WholeOrCut, whole, cut}
 use Rattle.agent_commands.specs.declared.went.Went.{Went}
 use Rattle.assuan_server.specs.Connections.{Connection}
 use Rattle.assuan_server.specs.Written.{failed}
-use Rattle.assuan_server.specs.declared.errors.Code.TheVariants.{Forbidden}
+use Rattle.session_client.specs.declared.code.Code.TheVariants.{Forbidden}
 use Rattle.assuan_text.specs.Words.{command_of}
 use Rattle.cache_policy.specs.declared.mark.MarkStep.{MarkStep}
 use Rattle.cache_policy.specs.Turns.{Turn}

@@ -14,7 +14,7 @@ use Rattle.agent_ask.specs.UnderTickets as shown
 use Rattle.agent_ask.specs.declared.ask.Asked.{Asked as Answer}
 use Rattle.agent_ask.specs.declared.consent.Agreed.{Agreed}
 use Rattle.assuan_server.specs.Clients.{session_lines}
-use Rattle.assuan_server.specs.declared.errors.Code.TheVariants as code
+use Rattle.session_client.specs.declared.code.Code.TheVariants as code
 use Rattle.cache_policy.specs.declared.mark.MarkStep.{MarkStep}
 use Rattle.cache_policy.specs.declared.mark.MarkStep.TheVariants.{Close}
 use Rattle.session_client.specs.declared.unheard.Unheard.{Unheard}

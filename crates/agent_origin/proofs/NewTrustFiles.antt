@@ -18,7 +18,7 @@ use Rattle.agent_commands.specs.declared.went.Went.{Went}
 use Rattle.agent_ports.specs.declared.grip.Grip.{Grip}
 use Rattle.agent_ports.specs.declared.trust.TrustDone.TheVariants.{Done}
 use Rattle.agent_ports.specs.declared.trust.TrustRead.{TrustRead}
-use Rattle.assuan_server.specs.declared.errors.Code.TheVariants as code
+use Rattle.session_client.specs.declared.code.Code.TheVariants as code
 use Rattle.cache_policy.specs.Turns.{Turn, Open}
 use Rattle.cache_policy.specs.declared.mark.MarkStep.TheVariants.{Seat, Close}
 use Rattle.key_commands.specs.Events.{Event}
@@ -33,16 +33,20 @@ use Rattle.agent_origin.specs.Exchanges.{flag_of, trust_question, fingerprint_qu
 use Rattle.agent_origin.specs.DoorSessions.{AllowedExchange, helped, trusts as on_trust, any, DoorExchange, forbidden, is_allowed}
 use Rattle.agent_origin.specs.Doors.{allowed}
 use Rattle.agent_origin.specs.NewTrustFiles.{replaced, HasConsents, HasConsentsIn}
-use Rattle.agent_origin.specs.Parts.{Part, goes_on, stops, returns, Refuses, refuses, Seats, opened, interrupted, UnderTicket, given_back, Agrees, consents, refused, prompts, trust_called}
-use Rattle.agent_origin.specs.Parts.{file_in, ReadsFile, has_read, AddsEntry, added, too_long, Replaces, refusal_line, refusal_events}
+use Rattle.agent_ask.specs.ConsentParts.{consents, refused}
+use Rattle.agent_ask.specs.Parts.{goes_on, stops, returns, Refuses, refuses}
+use Rattle.agent_ask.specs.TurnParts.{opened, interrupted}
+use Rattle.agent_origin.specs.Parts.{given_back, Agrees, file_in, has_read, added, too_long, trust_called}
+use Rattle.assuan_server.specs.Written.{refusal_line}
+use Rattle.key_commands.specs.Parts.{refusal_events}
 use Rattle.agent_origin.specs.Parts as parts
 use Rattle.agent_origin.specs.Requests.{trust_request_of}
 use Rattle.agent_origin.specs.declared.door.Door.{Door}
 use Rattle.agent_origin.specs.declared.door.Door.TheVariants.{Home, Outer}
 use Rattle.agent_origin.specs.declared.kept.Kept.{Kept}
 use Rattle.agent_origin.specs.declared.names.DoorCommand.{DoorCommand}
-use Rattle.agent_origin.specs.declared.refusal.Refusal.{Refusal}
-use Rattle.agent_origin.specs.declared.refusal.Refusal.TheVariants.{Agent}
+use Rattle.session_client.specs.declared.refusal.Refusal.{Refusal}
+use Rattle.session_client.specs.declared.refusal.Refusal.TheVariants.{Agent}
 use Rattle.agent_origin.specs.declared.request.TrustPurpose.{TrustPurpose}
 use Rattle.agent_origin.specs.declared.request.TrustRequest.{TrustRequest}
 use Rattle.agent_origin.specs.declared.request.TrustRequest.TheVariants.{IsTrusted, MarkTrusted, Bad}
@@ -109,22 +113,23 @@ one_place (event ∷ front) back (first ∷ other) more file that none none_too 
 
 -- ---- MARKTRUSTED
 
-agrees_none : {rules : Rules} {options : OptionValues} {question : List ℕ} (events : List Event) (result : Result (Unit {0}) Refusal) → Agrees rules options question events result → files events ≡ []
-agrees_none events result (consents spec is (prompts {shown} asks in_it)) = untrusting_none shown (shown_so IsBesideTrust (λ event is. is) in_it)
-agrees_none events result (refused spec is (prompts {shown} asks in_it) why) = untrusting_none shown (shown_so IsBesideTrust (λ event is. is) in_it)
+agrees_none : {rules : Rules} {options : OptionValues} {question : List ℕ} {before after : Option ℕ} (events : List Event) (result : Result (Unit {0}) Refusal)
+    → Agrees rules options question before events result after → files events ≡ []
+agrees_none events result (consents spec is prompt) = untrusting_none events (shown_so IsBesideTrust (λ event is. is) prompt.in_session)
+agrees_none events result (refused spec is prompt why) = untrusting_none events (shown_so IsBesideTrust (λ event is. is) prompt.in_session)
 
 module _ (fingerprint : Grip) (purpose : TrustPurpose) where
   abbrev new_file : List ℕ → List ℕ
   new_file old = with_entry old fingerprint.0 (flag_of purpose)
 
-  stores_by : (file : List ℕ) (events : List Event) (result : Result (Unit {0}) Refusal) → Stores fingerprint purpose file events result
+  stores_by : (before after : Option ℕ) (file : List ℕ) (events : List Event) (result : Result (Unit {0}) Refusal) → Stores fingerprint purpose file before events result after
       → (files events ≡ []) ⊎ ((events ≡ replaced (new_file file) ∷ []) × (length (new_file file) ≤ MAX_TRUST_FILE_LEN))
   unfolding Stores
-  stores_by file events result (goes_on (added fits) parts.replaced) = inr (refl, fits)
-  stores_by file events result (goes_on (added fits) (parts.Replaces.faulted)) = inl refl
-  stores_by file events result (goes_on (added fits) (parts.Replaces.no_memory)) = inl refl
-  stores_by file events result (stops (too_long long)) = inl refl
-  stores_by file events result (stops (parts.AddsEntry.no_memory)) = inl refl
+  stores_by before after file events result (goes_on (added fits) parts.replaced) = inr (refl, fits)
+  stores_by before after file events result (goes_on (added fits) (parts.Replaces.faulted)) = inl refl
+  stores_by before after file events result (goes_on (added fits) (parts.Replaces.no_memory)) = inl refl
+  stores_by before after file events result (stops (too_long long)) = inl refl
+  stores_by before after file events result (stops (parts.AddsEntry.no_memory)) = inl refl
 
   record Rewrites (events : List Event) : Type 0 where
     pub read : TrustRead
@@ -134,59 +139,63 @@ module _ (fingerprint : Grip) (purpose : TrustPurpose) where
     pub whole : events ≡ trust_called (Read read) ∷ replaced (new_file old) ∷ []
     pub fits : length (new_file old) ≤ MAX_TRUST_FILE_LEN
 
-  unsaid_so : (answer : TrustRead) (file : List ℕ) → file_in answer ≡ Some file → (said : Option Bool) → trust file fingerprint.0 ≡ said → (events : List Event) (result : Result (Unit {0}) Refusal)
-      → unless_said said (Stores fingerprint purpose file) events result → (files events ≡ []) ⊎ Rewrites (trust_called (Read answer) ∷ events)
-  unsaid_so answer file is (Some true) says events result returns = inl refl
-  unsaid_so answer file is (Some false) says events result refuses = inl refl
-  unsaid_so answer file is None says events result stores =
-      elim (stores_by file events result stores) [
+  unsaid_so : (answer : TrustRead) (file : List ℕ) → file_in answer ≡ Some file → (said : Option Bool) → trust file fingerprint.0 ≡ said → (before after : Option ℕ) (events : List Event)
+      (result : Result (Unit {0}) Refusal) → unless_said said (Stores fingerprint purpose file) before events result after → (files events ≡ []) ⊎ Rewrites (trust_called (Read answer) ∷ events)
+  unsaid_so answer file is (Some true) says before after events result returns = inl refl
+  unsaid_so answer file is (Some false) says before after events result refuses = inl refl
+  unsaid_so answer file is None says before after events result stores =
+      elim (stores_by before after file events result stores) [
         | inl none ↦ inl none
         | inr by ↦ inr (record { read = answer; old = file; old_is = is; unsaid = says; whole = ap (λ (e : List Event). trust_called (Read answer) ∷ e) by.0; fits = by.1 })
       ]
 
-  unsaid_by : (events : List Event) (result : Result (Unit {0}) Refusal) → StoresUnsaid fingerprint purpose events result → (files events ≡ []) ⊎ Rewrites events
+  unsaid_by : (before after : Option ℕ) (events : List Event) (result : Result (Unit {0}) Refusal) → StoresUnsaid fingerprint purpose before events result after → (files events ≡ []) ⊎ Rewrites events
   unfolding StoresUnsaid
-  unsaid_by events result (goes_on {events = more} (has_read {answer} {file} is) said) = unsaid_so answer file is (trust file fingerprint.0) refl more result said
-  unsaid_by events result (stops (parts.ReadsFile.faulted)) = inl refl
-  unsaid_by events result (stops (parts.ReadsFile.no_memory)) = inl refl
+  unsaid_by before after events result (goes_on {events = more} (has_read {answer} {file} is) said) = unsaid_so answer file is (trust file fingerprint.0) refl before after more result said
+  unsaid_by before after events result (stops (parts.ReadsFile.faulted)) = inl refl
+  unsaid_by before after events result (stops (parts.ReadsFile.no_memory)) = inl refl
 
   module _ (rules : Rules) (options : OptionValues) (name : List ℕ) where
-    record Consents (events : List Event) : Type 0 where
+    record Consents (ticket : ℕ) (events : List Event) : Type 0 where
       pub first : List Event
       pub second : List Event
       pub rewritten : List Event
-      pub trusts : Agrees rules options (trust_question name) first (Ok tt)
-      pub is_right : Agrees rules options (fingerprint_question fingerprint name) second (Ok tt)
+      pub trusts : Agrees rules options (trust_question name) (Some ticket) first (Ok tt) (Some ticket)
+      pub is_right : Agrees rules options (fingerprint_question fingerprint name) (Some ticket) second (Ok tt) (Some ticket)
       pub rewrites : Rewrites rewritten
       pub whole : events ≡ first ++ (second ++ rewritten)
 
-    consented_by : (events : List Event) (result : Result (Unit {0}) Refusal) → Consented rules options fingerprint purpose name events result → (files events ≡ []) ⊎ Consents events
+    consented_by : (ticket : ℕ) (events : List Event) (result : Result (Unit {0}) Refusal) → Consented rules options fingerprint purpose name (Some ticket) events result (Some ticket)
+        → (files events ≡ []) ⊎ Consents ticket events
     unfolding Consented
-    consented_by events result (goes_on {first} trusts (goes_on {first = second} {events = more} is_right unsaid)) =
-        elim (unsaid_by more result unsaid) [
+    consented_by ticket events result (goes_on {first} (consents spec is prompt) (goes_on {first = second} {events = more} (consents second_spec is_second second_prompt) unsaid)) =
+        let trusts : Agrees rules options (trust_question name) (Some ticket) first (Ok tt) (Some ticket) = consents spec is prompt in
+        let is_right : Agrees rules options (fingerprint_question fingerprint name) (Some ticket) second (Ok tt) (Some ticket) = consents second_spec is_second second_prompt in
+        elim (unsaid_by (Some ticket) (Some ticket) more result unsaid) [
           | inl none ↦ inl (none_then first (second ++ more) (agrees_none first _ trusts) (none_then second more (agrees_none second _ is_right) none))
           | inr rewrites ↦ inr (record { first = first; second = second; rewritten = more; trusts = trusts; is_right = is_right; rewrites = rewrites; whole = refl })
         ]
-    consented_by events result (goes_on {first} trusts (stops {first = second} declines)) = inl (none_then first second (agrees_none first _ trusts) (agrees_none second _ declines))
-    consented_by events result (stops {first} declines) = inl (agrees_none first _ declines)
+    consented_by ticket events result (goes_on {first} trusts (stops {first = second} declines)) = inl (none_then first second (agrees_none first _ trusts) (agrees_none second _ declines))
+    consented_by ticket events result (stops {first} declines) = inl (agrees_none first _ declines)
 
     record Under (events : List Event) : Type 0 where
       pub ticket : ℕ
       pub turn : Turn
       pub consented : List Event
-      pub by : Consents consented
+      pub by : Consents ticket consented
       pub whole : events ≡ cache_turn (Seat None None) (Open ticket) ∷ (consented ++ cache_turn (Close ticket None) turn ∷ [])
 
-    asked_by : (wanted : PinMode) (events : List Event) (result : Result (Unit {0}) Refusal) → asked_in rules options fingerprint purpose name wanted events result → (files events ≡ []) ⊎ Under events
-    asked_by mode.Ask events result (goes_on (opened {ticket}) (given_back {events = consented} turn part)) =
-        elim (consented_by consented result part) [
+    asked_by : (before after : Option ℕ) (wanted : PinMode) (events : List Event) (result : Result (Unit {0}) Refusal) → asked_in rules options fingerprint purpose name wanted before events result after
+        → (files events ≡ []) ⊎ Under events
+    asked_by before after mode.Ask events result (goes_on (opened {ticket}) (given_back {events = consented} turn part)) =
+        elim (consented_by ticket consented result part) [
           | inl none ↦ inl (none_then consented (cache_turn (Close ticket None) turn ∷ []) none refl)
           | inr by ↦ inr (record { ticket = ticket; turn = turn; consented = consented; by = by; whole = refl })
         ]
-    asked_by mode.Ask events result (stops (interrupted by)) = inl refl
-    asked_by mode.Cancel events result refuses = inl refl
-    asked_by mode.Error events result refuses = inl refl
-    asked_by mode.Loopback events result refuses = inl refl
+    asked_by before after mode.Ask events result (stops (interrupted by)) = inl refl
+    asked_by before after mode.Cancel events result refuses = inl refl
+    asked_by before after mode.Error events result refuses = inl refl
+    asked_by before after mode.Loopback events result refuses = inl refl
 
     record Marks (events : List Event) : Type 0 where
       pub early : TrustRead
@@ -194,21 +203,22 @@ module _ (fingerprint : Grip) (purpose : TrustPurpose) where
       pub under : Under asked
       pub whole : events ≡ trust_called (Read early) ∷ asked
 
-    marked_so : (answer : TrustRead) (said : Option Bool) (events : List Event) (result : Result (Unit {0}) Refusal) → unless_said said (asked_in rules options fingerprint purpose name options.mode) events result
+    marked_so : (before after : Option ℕ) (answer : TrustRead) (said : Option Bool) (events : List Event) (result : Result (Unit {0}) Refusal)
+        → unless_said said (asked_in rules options fingerprint purpose name options.mode) before events result after
         → (files events ≡ []) ⊎ Marks (trust_called (Read answer) ∷ events)
-    marked_so answer (Some true) events result returns = inl refl
-    marked_so answer (Some false) events result refuses = inl refl
-    marked_so answer None events result asks =
-        elim (asked_by options.mode events result asks) [
+    marked_so before after answer (Some true) events result returns = inl refl
+    marked_so before after answer (Some false) events result refuses = inl refl
+    marked_so before after answer None events result asks =
+        elim (asked_by before after options.mode events result asks) [
           | inl none ↦ inl none
           | inr under ↦ inr (record { early = answer; asked = events; under = under; whole = refl })
         ]
 
-    marked_by : (events : List Event) (result : Result (Unit {0}) Refusal) → Marked rules options fingerprint purpose name events result → (files events ≡ []) ⊎ Marks events
+    marked_by : (before after : Option ℕ) (events : List Event) (result : Result (Unit {0}) Refusal) → Marked rules options fingerprint purpose name before events result after → (files events ≡ []) ⊎ Marks events
     unfolding Marked
-    marked_by events result (goes_on {events = more} (has_read {answer} {file} is) said) = marked_so answer (trust file fingerprint.0) more result said
-    marked_by events result (stops (parts.ReadsFile.faulted)) = inl refl
-    marked_by events result (stops (parts.ReadsFile.no_memory)) = inl refl
+    marked_by before after events result (goes_on {events = more} (has_read {answer} {file} is) said) = marked_so before after answer (trust file fingerprint.0) more result said
+    marked_by before after events result (stops (parts.ReadsFile.faulted)) = inl refl
+    marked_by before after events result (stops (parts.ReadsFile.no_memory)) = inl refl
 
 -- ---- exchanges
 
@@ -277,22 +287,22 @@ module _ (rules : Rules) (options : OptionValues) where
         };
       }
 
-  said_so : (said : Option Bool) (events : List Event) (result : Result (Unit {0}) Refusal) → unless_said said (Refuses (Agent code.NotTrusted)) events result → files events ≡ []
-  said_so (Some true) events result returns = refl
-  said_so (Some false) events result refuses = refl
-  said_so None events result refuses = refl
+  said_so : (before after : Option ℕ) (said : Option Bool) (events : List Event) (result : Result (Unit {0}) Refusal) → unless_said said (Refuses (Agent code.NotTrusted)) before events result after → files events ≡ []
+  said_so before after (Some true) events result returns = refl
+  said_so before after (Some false) events result refuses = refl
+  said_so before after None events result refuses = refl
 
-  now_none : (fingerprint : Grip) (events : List Event) (result : Result (Unit {0}) Refusal) → TrustedNow fingerprint events result → files events ≡ []
+  now_none : (before after : Option ℕ) (fingerprint : Grip) (events : List Event) (result : Result (Unit {0}) Refusal) → TrustedNow fingerprint before events result after → files events ≡ []
   unfolding TrustedNow
-  now_none fingerprint events result (goes_on (has_read {file} is) said) = said_so (trust file fingerprint.0) _ _ said
-  now_none fingerprint events result (stops (parts.ReadsFile.faulted)) = refl
-  now_none fingerprint events result (stops (parts.ReadsFile.no_memory)) = refl
+  now_none before after fingerprint events result (goes_on (has_read {file} is) said) = said_so before after (trust file fingerprint.0) _ _ said
+  now_none before after fingerprint events result (stops (parts.ReadsFile.faulted)) = refl
+  now_none before after fingerprint events result (stops (parts.ReadsFile.no_memory)) = refl
 
-  carried_by : (request : TrustRequest) (events tail : List Event) (result : Result (Unit {0}) Refusal) → files tail ≡ [] → Carried rules options request events result
+  carried_by : (request : TrustRequest) (events tail : List Event) (result : Result (Unit {0}) Refusal) → files tail ≡ [] → Carried rules options request None events result None
       → (files (events ++ tail) ≡ []) ⊎ Placed rules options request (events ++ tail)
-  carried_by (IsTrusted fingerprint) events tail result none carried = inl (none_then events tail (now_none fingerprint events result carried) none)
+  carried_by (IsTrusted fingerprint) events tail result none carried = inl (none_then events tail (now_none None None fingerprint events result carried) none)
   carried_by (MarkTrusted fingerprint purpose name) events tail result none carried =
-      elim (marked_by fingerprint purpose rules options name.items events result carried) [
+      elim (marked_by fingerprint purpose rules options name.items None None events result carried) [
         | inl nothing ↦ inl (none_then events tail nothing none)
         | inr marks ↦ inr (marks_placed fingerprint purpose name events tail none marks)
       ]

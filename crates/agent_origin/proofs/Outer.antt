@@ -29,12 +29,12 @@ use Rattle.agent_commands.specs.declared.request.Request.{Request}
 use Rattle.agent_commands.specs.declared.request.Request.TheVariants.{Cache, Key, Bad}
 use Rattle.agent_commands.specs.declared.went.Went.{Went}
 use Rattle.assuan_server.specs.Clients.{session_lines}
-use Rattle.assuan_server.specs.declared.errors.Code.{Code}
+use Rattle.session_client.specs.declared.code.Code.{Code}
 use Rattle.assuan_text.specs.Options.{arguments_of}
 use Rattle.assuan_text.specs.Rows.{found_in_any_case}
 use Rattle.assuan_text.specs.Words.{command_of, rest_of, words}
 use Rattle.arrayvec.specs.ArrayVec.{ArrayVec}
-use Rattle.assuan_server.specs.declared.errors.Code.TheVariants.{UnknownCommand}
+use Rattle.session_client.specs.declared.code.Code.TheVariants.{UnknownCommand}
 use Rattle.cache_policy.specs.declared.mark.MarkStep.{MarkStep}
 use Rattle.cache_policy.specs.declared.mark.MarkStep.TheVariants.{Seat, Close}
 use Rattle.session_options.specs.declared.options.PinMode.{PinMode}

@@ -13,19 +13,22 @@ use Rattle.agent_commands.specs.declared.request.CacheCommand.{CacheCommand}
 use Rattle.agent_commands.specs.declared.request.Request.TheVariants.{Key, Bad as BadLine}
 use Rattle.agent_ports.specs.declared.grip.Grip.{Grip}
 use Rattle.arrayvec.specs.ArrayVec.{ArrayVec}
-use Rattle.assuan_server.specs.declared.errors.Code.{Code}
-use Rattle.assuan_server.specs.declared.errors.Code.TheVariants.{UnknownCommand}
+use Rattle.session_client.specs.declared.code.Code.{Code}
+use Rattle.session_client.specs.declared.code.Code.TheVariants.{UnknownCommand}
 use Rattle.assuan_text.specs.Options.{options_of, arguments_of, has_option}
 use Rattle.assuan_text.specs.Rows.{found_in_any_case}
 use Rattle.assuan_text.specs.Words.{command_of, rest_of, words}
 use Rattle.key_commands.specs.Exchanges.{Exchange, answered, refused, KeyReply, Replies, HaveKeyReplies, KeyInfoReplies}
 use Rattle.key_commands.specs.KeyParts.{HasOne, is_key, faulty, no_memory as no_key_memory, unread}
 use Rattle.key_commands.specs.Names.{commands, command_named}
-use Rattle.key_commands.specs.Parts.{goes_on, stops, returns, refuses, Finds, found, absent, faulted, no_memory, peeked, interrupted, Closes, unheld, closed, refusal_line}
+use Rattle.agent_ask.specs.Parts.{goes_on, stops, returns, refuses}
+use Rattle.key_commands.specs.Parts.{Finds, found, absent, faulted, no_memory}
+use Rattle.agent_ask.specs.TurnParts.{peeked, interrupted, Closes, unheld, closed}
+use Rattle.assuan_server.specs.Written.{refusal_line}
 use Rattle.key_commands.specs.Requests.{◌>>=◌, needed, either, some_grips, first_grip, request_by, key_request_of}
 use Rattle.key_commands.specs.declared.names.KeyCommandName.{KeyCommandName}
 use Rattle.key_commands.specs.declared.names.KeyCommandName.TheVariants as name
-use Rattle.key_commands.specs.declared.refusal.Refusal.{Refusal}
+use Rattle.session_client.specs.declared.refusal.Refusal.{Refusal}
 use Rattle.key_commands.specs.declared.request.KeyRequest.{KeyRequest}
 use Rattle.key_commands.specs.declared.request.KeyRequest.TheVariants.{HaveKey, KeyInfo, ListKeys, KeyWrap, ImportKey, ExportKey, Passwd, DeleteKey, Bad}
 use Rattle.key_commands.specs.declared.went.KeyWent.{KeyWent}

@@ -6,8 +6,8 @@ use Rattle.agent_ask.specs.SessionEvents.{Sent}
 use Rattle.agent_commands.specs.Answers.{ok}
 use Rattle.agent_commands.specs.declared.went.Went.{Went}
 use Rattle.agent_ports.specs.declared.grip.Grip.{Grip}
-use Rattle.assuan_server.specs.declared.errors.Code.{Code}
-use Rattle.assuan_server.specs.declared.errors.Code.TheVariants as code
+use Rattle.session_client.specs.declared.code.Code.{Code}
+use Rattle.session_client.specs.declared.code.Code.TheVariants as code
 use Rattle.assuan_text.specs.Words.{command_of}
 use Rattle.key_commands.specs.Events.{Event}
 use Rattle.key_commands.specs.Requests.{◌>>=◌}
@@ -18,15 +18,17 @@ use Rattle.agent_origin.specs.Doors.{rules, rule_named, passes_by, allowed}
 use Rattle.agent_origin.specs.Exchanges.{TrustExchange, answered, refused, Carried, TrustedNow, unless_said}
 use Rattle.agent_origin.specs.Names.{command_named}
 use Rattle.agent_origin.specs.OuterTurns.{no_turns, LeavesCache}
-use Rattle.agent_origin.specs.Parts.{goes_on, stops, returns, Refuses, refuses, has_read, faulted, no_memory, refusal_line}
+use Rattle.agent_ask.specs.Parts.{goes_on, stops, returns, Refuses, refuses}
+use Rattle.agent_origin.specs.Parts.{has_read, faulted, no_memory}
+use Rattle.assuan_server.specs.Written.{refusal_line}
 use Rattle.agent_origin.specs.Requests.{either, request_by, trust_request_of}
 use Rattle.agent_origin.specs.declared.door.Door.TheVariants.{Outer}
 use Rattle.agent_origin.specs.declared.door.Rule.{Rule}
 use Rattle.agent_origin.specs.declared.door.Rule.TheVariants.{Never}
 use Rattle.agent_origin.specs.declared.names.TrustCommandName.{TrustCommandName}
 use Rattle.agent_origin.specs.declared.names.TrustCommandName.TheVariants as name
-use Rattle.agent_origin.specs.declared.refusal.Refusal.{Refusal}
-use Rattle.agent_origin.specs.declared.refusal.Refusal.TheVariants.{Agent}
+use Rattle.session_client.specs.declared.refusal.Refusal.{Refusal}
+use Rattle.session_client.specs.declared.refusal.Refusal.TheVariants.{Agent}
 use Rattle.agent_origin.specs.declared.request.TrustRequest.{TrustRequest}
 use Rattle.agent_origin.specs.declared.request.TrustRequest.TheVariants.{IsTrusted, MarkTrusted, Bad}
 use Rattle.agent_origin.proofs.Outer.{leaves_then, said_leaves}
@@ -55,20 +57,20 @@ abbrev pub IsOuterTrust : TrustRequest → Type 0
 IsOuterTrust (MarkTrusted fingerprint purpose owner) = ⊥
 IsOuterTrust _ = Unit {0}
 
-said_so : (said : Option Bool) (events : List Event) (result : Result (Unit {0}) Refusal) → unless_said said (Refuses (Agent code.NotTrusted)) events result → LeavesCache events
-said_so (Some true) events result returns = no_turns
-said_so (Some false) events result refuses = no_turns
-said_so None events result refuses = no_turns
+said_so : (before after : Option ℕ) (said : Option Bool) (events : List Event) (result : Result (Unit {0}) Refusal) → unless_said said (Refuses (Agent code.NotTrusted)) before events result after → LeavesCache events
+said_so before after (Some true) events result returns = no_turns
+said_so before after (Some false) events result refuses = no_turns
+said_so before after None events result refuses = no_turns
 
-now_leaves : (fingerprint : Grip) (events : List Event) (result : Result (Unit {0}) Refusal) → TrustedNow fingerprint events result → LeavesCache events
+now_leaves : (before after : Option ℕ) (fingerprint : Grip) (events : List Event) (result : Result (Unit {0}) Refusal) → TrustedNow fingerprint before events result after → LeavesCache events
 unfolding TrustedNow
-now_leaves fingerprint events result (goes_on (has_read {file} is) said) = said_so (trust file fingerprint.0) _ _ said
-now_leaves fingerprint events result (stops faulted) = no_turns
-now_leaves fingerprint events result (stops no_memory) = no_turns
+now_leaves before after fingerprint events result (goes_on (has_read {file} is) said) = said_so before after (trust file fingerprint.0) _ _ said
+now_leaves before after fingerprint events result (stops faulted) = no_turns
+now_leaves before after fingerprint events result (stops no_memory) = no_turns
 
 module _ (agent : Rules) (options : OptionValues) where
-  carried_leaves : (request : TrustRequest) → IsOuterTrust request → (events : List Event) (result : Result (Unit {0}) Refusal) → Carried agent options request events result → LeavesCache events
-  carried_leaves (IsTrusted fingerprint) outer events result carried = now_leaves fingerprint events result carried
+  carried_leaves : (request : TrustRequest) → IsOuterTrust request → (events : List Event) (result : Result (Unit {0}) Refusal) → Carried agent options request None events result None → LeavesCache events
+  carried_leaves (IsTrusted fingerprint) outer events result carried = now_leaves None None fingerprint events result carried
   carried_leaves (MarkTrusted fingerprint purpose owner) outer events result carried = absurd outer
   carried_leaves (Bad code) outer events result refuses = no_turns
 

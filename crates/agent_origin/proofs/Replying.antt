@@ -15,7 +15,7 @@ use Rattle.agent_ports.specs.Writing.{StopsWriting}
 use Rattle.agent_ports.specs.declared.link.WriteFault.{WriteFault}
 use Rattle.assuan_line.specs.Next.{Reader}
 use Rattle.assuan_server.specs.Connections.{Connection}
-use Rattle.assuan_server.specs.Written.{WritesText}
+use Rattle.assuan_server.specs.Written.{WritesText, refusal_line, WritesLine}
 use Rattle.assuan_server.proofs.Clients.{said_so}
 use Rattle.cache_policy.specs.declared.mark.MarkStep.{MarkStep}
 use Rattle.cache_policy.specs.Turns.{Turn}
@@ -24,9 +24,9 @@ use Rattle.session_options.specs.OptionValues.{OptionValues}
 use Rattle.session_options.specs.declared.rules.Rules.{Rules}
 use Rattle.agent_origin.specs.Exchanges.{Carried, TrustExchange, answered, refused as is_refused}
 use Rattle.agent_origin.specs.FurtherStates.{FurtherWorld, FurtherState}
-use Rattle.agent_origin.specs.Parts.{refusal_line, refusal_went}
-use Rattle.agent_origin.specs.States.{DoesPart, WritesLine, went_unless_cut, RespondsTo, carried, refused}
-use Rattle.agent_origin.specs.declared.refusal.Refusal.{Refusal}
+use Rattle.agent_origin.specs.Parts.{refusal_went}
+use Rattle.agent_origin.specs.States.{DoesPart, went_unless_cut, RespondsTo, carried, refused}
+use Rattle.session_client.specs.declared.refusal.Refusal.{Refusal}
 use Rattle.agent_origin.specs.declared.request.TrustRequest.{TrustRequest}
 
 module _ {D P : Type 0} (turned : D → MarkStep → Turn → D → Type 0) (prompted : P → Call → P → Type 0) (rules : Rules) (options : OptionValues) (request : TrustRequest)
@@ -69,7 +69,7 @@ module _ {D P : Type 0} (turned : D → MarkStep → Turn → D → Type 0) (pro
         rw (says.0, says.1) (record { events = first ++ []; exchanges = whole is; done = done_then done (done_none (at_conn mid)); fits = fits; faults = faults })
     line_written (Some text) is written now says = text_written text is written now says
 
-  pub answers : (result : Result (Unit {0}) Refusal) (went : Went) (now : Connection) → DoesPart turned prompted (Carried rules options request) start result (at_conn mid)
+  pub answers : (result : Result (Unit {0}) Refusal) (went : Went) (now : Connection) → DoesPart turned prompted (Carried rules options request) None start result None (at_conn mid)
       → RespondsTo mid result went now → Answers went now
   answers result went now part (carried written said) =
       text_written On part.events part.done part.fits (record { read = λ e. absurd (cc e); write = λ e. absurd (cc e) }) ok (answered part.events part.does) written now said

@@ -6,7 +6,7 @@ use Rattle.assuan_line.specs.declared.reader.Took.{Took}
 use Rattle.assuan_line.specs.declared.reader.Took.TheVariants as took
 use Rattle.assuan_server.specs.Connections.{Connection}
 use Rattle.assuan_server.specs.Requests.{NextRequest}
-use Rattle.assuan_server.specs.declared.errors.Code.TheVariants.{LineTooLong}
+use Rattle.session_client.specs.declared.code.Code.TheVariants.{LineTooLong}
 use Rattle.assuan_server.specs.Written.{failed}
 use Rattle.agent_commands.specs.Events.{Event}
 use Rattle.agent_ask.specs.SessionEvents.{Received, Sent, Cut}

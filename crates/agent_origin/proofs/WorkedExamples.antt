@@ -6,7 +6,7 @@ use Rattle.percent_encoding.proofs.OnLiterals.{percent_encoding_on_literals}
 use Rattle.agent_commands.specs.Names.{command_named as cache_command_named}
 use Rattle.agent_commands.specs.Requests.{request_of}
 use Rattle.agent_ports.specs.declared.grip.Grip.{Grip}
-use Rattle.assuan_server.specs.declared.errors.Code.TheVariants.{UnknownCommand, Parameter}
+use Rattle.session_client.specs.declared.code.Code.TheVariants.{UnknownCommand, Parameter}
 use Rattle.agent_origin.specs.Doors.{rule_named, allowed}
 use Rattle.agent_origin.specs.Names.{command_named}
 use Rattle.agent_origin.specs.Requests.{trust_request_of}

@@ -6,7 +6,7 @@ use Rattle.hex.specs.Hex.{encode_with}
 use Rattle.agent_ask.specs.Consents.{AsksConsent, agreed_of, asked}
 use Rattle.agent_ask.specs.Events.{Called, Start, Confirm, Shut}
 use Rattle.agent_ask.specs.Further.{Prompt}
-use Rattle.agent_ask.specs.Plans.{IsSpec}
+use Rattle.agent_ask.specs.Plans.{IsSpec, text}
 use Rattle.agent_ask.specs.Prompts.{quiet}
 use Rattle.agent_ask.specs.SessionEvents.{Sent, Further, cache_turn}
 use Rattle.agent_ask.specs.TrustCalls.{Read, Replaced}
@@ -29,13 +29,16 @@ use Rattle.session_options.specs.declared.options.PinMode.TheVariants as mode
 use Rattle.session_options.specs.declared.rules.Rules.{Rules}
 use Rattle.trust_list.specs.Trust.{with_entry}
 use Rattle.agent_origin.specs.Exchanges.{trust_question, fingerprint_question, TrustExchange, answered, refused, TrustedNow, Stores, StoresUnsaid, Consented, Marked}
-use Rattle.agent_origin.specs.Parts.{goes_on, stops, returns, refuses, opened, given_back, consents, refused as dissents, prompts, text, has_read, faulted, added, replaced, file_in, trust_called}
-use Rattle.agent_origin.specs.declared.refusal.Refusal.TheVariants.{Agent, Pinentry}
+use Rattle.agent_ask.specs.ConsentParts.{consents, refused as dissents}
+use Rattle.agent_ask.specs.Parts.{goes_on, stops, returns, refuses}
+use Rattle.agent_ask.specs.TurnParts.{opened}
+use Rattle.agent_origin.specs.Parts.{given_back, has_read, faulted, added, replaced, file_in, trust_called}
+use Rattle.session_client.specs.declared.refusal.Refusal.TheVariants.{Agent, Pinentry}
 use Rattle.agent_origin.specs.declared.request.TrustPurpose.TheVariants.{X509}
 use Rattle.agent_origin.specs.declared.request.TrustRequest.{TrustRequest}
 use Rattle.agent_origin.specs.declared.request.TrustRequest.TheVariants.{IsTrusted, MarkTrusted}
 use Rattle.assuan_server.specs.Written.{failed, failed_at_pinentry}
-use Rattle.assuan_server.specs.declared.errors.Code.TheVariants.{General, NotTrusted, NotConfirmed, Forbidden}
+use Rattle.session_client.specs.declared.code.Code.TheVariants.{General, NotTrusted, NotConfirmed, Forbidden}
 
 not_trusted_line : failed NotTrusted ≡ codes "ERR 67108962 Not trusted <GPG Agent>" ++ 10 ∷ []
 unfolding digits
@@ -114,8 +117,8 @@ module _ (rules : Rules) (values : OptionValues) where
           (goes_on (has_read refl)
           (goes_on opened
           (given_back {events = prompt first Yes ++ (prompt second Yes ++ (trust_called (Read Absent) ∷ trust_called (Replaced (with_entry [] certificate.0 83) IsDone) ∷ []))} Done
-          (goes_on {first = prompt first Yes} (consents first is_first (prompts (asks first false refl Yes) (shown (shown (shown none)))))
-          (goes_on {first = prompt second Yes} (consents second is_second (prompts (asks second false refl Yes) (shown (shown (shown none)))))
+          (goes_on {first = prompt first Yes} (consents first is_first (record { prompt = _; asks = asks first false refl Yes; in_session = shown (shown (shown none)) }))
+          (goes_on {first = prompt second Yes} (consents second is_second (record { prompt = _; asks = asks second false refl Yes; in_session = shown (shown (shown none)) }))
           (goes_on (has_read refl)
           (goes_on {first = []} (added (lit≤ tt)) replaced)))))))
 
@@ -131,5 +134,5 @@ module _ (rules : Rules) (values : OptionValues) where
           (goes_on (has_read refl)
           (goes_on opened
           (given_back {events = prompt first Yes ++ prompt second No} Done
-          (goes_on {first = prompt first Yes} (consents first is_first (prompts (asks first false refl Yes) (shown (shown (shown none)))))
-          (stops {first = prompt second No} (dissents second is_second (prompts (asks second false refl No) (shown (shown (shown none)))) refl))))))
+          (goes_on {first = prompt first Yes} (consents first is_first (record { prompt = _; asks = asks first false refl Yes; in_session = shown (shown (shown none)) }))
+          (stops {first = prompt second No} (dissents second is_second (record { prompt = _; asks = asks second false refl No; in_session = shown (shown (shown none)) }) refl))))))

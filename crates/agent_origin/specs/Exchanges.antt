@@ -2,7 +2,9 @@
 -- codes, the texts and the order of what is done are this project's own.
 use Rattle.std.specs.Prelude.{◌++◌, ℕ, Bool, true, false, List, [], ◌∷◌, codes, Option, Some, None, Ok, Err}
 use Rattle.agent_ask.specs.Events.{Call}
+use Rattle.agent_ask.specs.Parts.{◌>>=◌, Returns, Refuses}
 use Rattle.agent_ask.specs.SessionEvents.{Sent}
+use Rattle.agent_ask.specs.TurnParts.{Seats}
 use Rattle.agent_commands.specs.Answers.{ok}
 use Rattle.agent_commands.specs.States.{AnswersRequest}
 use Rattle.agent_commands.specs.declared.went.Went.{Went}
@@ -12,20 +14,22 @@ use Rattle.agent_ports.specs.Sides.{Side}
 use Rattle.agent_ports.specs.TrustFiles.{TrustState}
 use Rattle.agent_ports.specs.declared.grip.Grip.{Grip}
 use Rattle.assuan_server.specs.Connections.{Connection}
-use Rattle.assuan_server.specs.declared.errors.Code.TheVariants as code
+use Rattle.session_client.specs.declared.code.Code.TheVariants as code
 use Rattle.cache_policy.specs.Turns.{Turn}
 use Rattle.cache_policy.specs.declared.mark.MarkStep.{MarkStep}
+use Rattle.cache_policy.specs.declared.mark.MarkStep.TheVariants.{Seat}
 use Rattle.hex.specs.Hex.{encode_upper}
 use Rattle.key_commands.specs.Events.{Event}
+use Rattle.key_commands.specs.Parts.{Part, refusal_events}
 use Rattle.session_options.specs.OptionValues.{OptionValues}
 use Rattle.session_options.specs.declared.options.PinMode.{PinMode}
 use Rattle.session_options.specs.declared.options.PinMode.TheVariants as mode
 use Rattle.session_options.specs.declared.rules.Rules.{Rules}
 use Rattle.trust_list.specs.Trust.{trust}
 use Rattle.agent_origin.specs.FurtherStates.{FurtherWorld, further_state}
-use Rattle.agent_origin.specs.Parts.{Part, ◌>>=◌, Returns, Refuses, Seats, UnderTicket, Agrees, ReadsFile, AddsEntry, Replaces, refusal_events, refusal_went}
-use Rattle.agent_origin.specs.declared.refusal.Refusal.{Refusal}
-use Rattle.agent_origin.specs.declared.refusal.Refusal.TheVariants.{Agent}
+use Rattle.agent_origin.specs.Parts.{UnderTicket, Agrees, ReadsFile, AddsEntry, Replaces, refusal_went}
+use Rattle.session_client.specs.declared.refusal.Refusal.{Refusal}
+use Rattle.session_client.specs.declared.refusal.Refusal.TheVariants.{Agent}
 use Rattle.agent_origin.specs.declared.request.TrustPurpose.{TrustPurpose}
 use Rattle.agent_origin.specs.declared.request.TrustPurpose.TheVariants.{X509, OpenPgp}
 use Rattle.agent_origin.specs.declared.request.TrustRequest.{TrustRequest}
@@ -78,8 +82,8 @@ module _ (rules : Rules) (options : OptionValues) (fingerprint : Grip) (purpose 
   -- the user is asked, where the client wants prompts
   abbrev pub asked_in : PinMode → Part (Unit {0})
   asked_in mode.Ask = do
-    ticket ← Seats
-    UnderTicket ticket Consented
+    seated ← Seats (Seat None None)
+    UnderTicket Consented
   asked_in mode.Cancel = Refuses (Agent code.Cancelled)
   asked_in mode.Error = Refuses (Agent code.NoPinentry)
   asked_in mode.Loopback = Refuses (Agent code.NoPinentry)
@@ -98,8 +102,8 @@ Carried rules options (Bad code) = Refuses (Agent code)
 
 -- A request: what the session does for it, and how the session goes on. No ticket is held when it is answered.
 pub data TrustExchange (rules : Rules) (options : OptionValues) (request : TrustRequest) : List Event → Went → Type 0 where
-  answered : (events : List Event) → Carried rules options request events (Ok tt) → TrustExchange rules options request (events ++ Sent ok ∷ []) On
-  refused : (events : List Event) (why : Refusal) → Carried rules options request events (Err why)
+  answered : (events : List Event) → Carried rules options request None events (Ok tt) None → TrustExchange rules options request (events ++ Sent ok ∷ []) On
+  refused : (events : List Event) (why : Refusal) → Carried rules options request None events (Err why) None
       → TrustExchange rules options request (events ++ refusal_events why) (refusal_went why)
 
 module _ {D P : Type 0} (turned : D → MarkStep → Turn → D → Type 0) (prompted : P → Call → P → Type 0) (rules : Rules) (options : OptionValues) (request : TrustRequest) where

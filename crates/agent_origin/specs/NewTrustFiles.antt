@@ -39,8 +39,8 @@ pub record HasConsents (rules : Rules) (options : OptionValues) (request : Trust
   pub second : List Event
   pub read : TrustRead
   pub in_order : before ≡ trust_called (Read early) ∷ cache_turn (Seat None None) (Open ticket) ∷ (first ++ (second ++ trust_called (Read read) ∷ []))
-  pub trusts : Agrees rules options (trust_question name.items) first (Ok tt)
-  pub is_right : Agrees rules options (fingerprint_question fingerprint name.items) second (Ok tt)
+  pub trusts : Agrees rules options (trust_question name.items) (Some ticket) first (Ok tt) (Some ticket)
+  pub is_right : Agrees rules options (fingerprint_question fingerprint name.items) (Some ticket) second (Ok tt) (Some ticket)
   pub old : List ℕ
   pub old_is : file_in read ≡ Some old
   pub unsaid : trust old fingerprint.0 ≡ None

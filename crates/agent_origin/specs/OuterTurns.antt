@@ -4,8 +4,8 @@
 use Rattle.std.specs.Prelude.{◌≢◌, ℕ, List, [], ◌∷◌, Option, None}
 use Rattle.std.specs.List.{AllByRecursion}
 use Rattle.agent_ask.specs.SessionEvents.{AnyEvent, turns_in}
-use Rattle.agent_commands.specs.Exchanges.{Interrupts}
-use Rattle.assuan_server.specs.declared.errors.Code.{Code}
+use Rattle.agent_ask.specs.Interrupts.{Interrupts}
+use Rattle.session_client.specs.declared.code.Code.{Code}
 use Rattle.cache_policy.specs.Extending.{Taken}
 use Rattle.cache_policy.specs.Turns.{Turn, Given, Open}
 use Rattle.cache_policy.specs.declared.grant.Grant.{Grant}

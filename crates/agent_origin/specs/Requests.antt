@@ -4,8 +4,8 @@ use Rattle.std.specs.Prelude.{ℕ, nat_le, true, List, ◌∷◌, length, codes,
 use Rattle.std.specs.Str.{bytes_eq}
 use Rattle.arrayvec.specs.ArrayVec.{ArrayVec}
 use Rattle.assuan_escape.specs.Escapes.{unescaped}
-use Rattle.assuan_server.specs.declared.errors.Code.{Code}
-use Rattle.assuan_server.specs.declared.errors.Code.TheVariants.{UnknownCommand, Parameter}
+use Rattle.session_client.specs.declared.code.Code.{Code}
+use Rattle.session_client.specs.declared.code.Code.TheVariants.{UnknownCommand, Parameter}
 use Rattle.assuan_text.specs.Options.{arguments_of}
 use Rattle.assuan_text.specs.Words.{command_of, rest_of, words}
 use Rattle.key_commands.specs.Requests.{◌>>=◌, needed, grip, first_grip}

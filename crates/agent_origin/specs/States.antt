@@ -1,11 +1,7 @@
 -- Private: parts of a request that are done in the code, and how its session stands before and after.
-use Rattle.std.specs.Prelude.{◌≡◌, ℕ, List, [], ◌∷◌, Option, Some, None, Result, Ok, Err, ⊤}
-use Rattle.agent_ask.specs.Callers.{IsUnheardBy}
+use Rattle.std.specs.Prelude.{◌≡◌, ℕ, List, [], ◌∷◌, Option, None, Result, Ok, Err}
 use Rattle.agent_ask.specs.Events.{Call}
-use Rattle.agent_ask.specs.SessionEvents.{cache_turn}
 use Rattle.agent_ask.specs.TrustCalls.{TrustCall, DoesTrust}
-use Rattle.agent_ask.specs.declared.consent.Agreed.{Agreed}
-use Rattle.agent_ask.specs.declared.consent.Agreed.TheVariants as agreed
 use Rattle.agent_commands.specs.Answers.{ok}
 use Rattle.agent_commands.specs.States.{EventsLead, ReaderAfter, FaultsRise}
 use Rattle.agent_commands.specs.declared.went.SessionEnd.TheVariants as ends
@@ -16,14 +12,15 @@ use Rattle.agent_ports.specs.Sides.{Side}
 use Rattle.agent_ports.specs.TrustFiles.{TrustState}
 use Rattle.agent_ports.specs.declared.link.WriteFault.{WriteFault}
 use Rattle.assuan_server.specs.Connections.{Connection}
-use Rattle.assuan_server.specs.Written.{WritesText}
+use Rattle.assuan_server.specs.Written.{WritesText, WritesLine, refusal_line}
 use Rattle.cache_policy.specs.declared.mark.MarkStep.{MarkStep}
 use Rattle.cache_policy.specs.Turns.{Turn}
 use Rattle.key_commands.specs.Events.{Event, out_of_memory}
 use Rattle.key_commands.specs.Partial.{NoTurn}
+use Rattle.key_commands.specs.Parts.{Part}
 use Rattle.agent_origin.specs.FurtherStates.{FurtherWorld, FurtherState, further_state}
-use Rattle.agent_origin.specs.Parts.{Part, consent_refusal, refusal_line, refusal_went, trust_called}
-use Rattle.agent_origin.specs.declared.refusal.Refusal.{Refusal}
+use Rattle.agent_origin.specs.Parts.{refusal_went, trust_called}
+use Rattle.session_client.specs.declared.refusal.Refusal.{Refusal}
 
 -- how the session goes on after a part that came to this
 abbrev pub went_by : {A : Type 0} → Result A Refusal → Went
@@ -32,27 +29,12 @@ went_by (Err why) = refusal_went why
 
 module _ {D P : Type 0} (turned : D → MarkStep → Turn → D → Type 0) (prompted : P → Call → P → Type 0) where
   -- a part of a request was done: by these events, which led there
-  pub record DoesPart {A : Type 0} (part : Part A) (start : FurtherState turned prompted) (result : Result A Refusal) (now : FurtherState turned prompted) : Type 0 where
+  pub record DoesPart {A : Type 0} (part : Part A) (before : Option ℕ) (start : FurtherState turned prompted) (result : Result A Refusal) (after : Option ℕ) (now : FurtherState turned prompted) : Type 0 where
     pub events : List Event
-    pub does : part events result
+    pub does : part before events result after
     pub done : EventsLead {w = FurtherWorld turned prompted} events start now
     pub fits : ReaderAfter (went_by result) start.conn.reader now.conn.reader
     pub faults : FaultsRise {w = FurtherWorld turned prompted} (went_by result) start now
-
--- what a prompt for consent comes to: where it isn't yes or no, the client gave nothing
-abbrev pub IsAgreed : Agreed → Type 0
-IsAgreed (agreed.Heard heard) = IsUnheardBy heard
-IsAgreed _ = ⊤
-
--- the request goes on, or is refused so
-abbrev pub IsConsented : Agreed → Result (Unit {0}) Refusal → Type 0
-IsConsented answer (Ok consented) = answer ≡ agreed.Yes
-IsConsented answer (Err why) = consent_refusal answer ≡ Some why
-
--- a line was written, where there is one
-abbrev pub WritesLine : Option (List ℕ) → Connection → Result (Unit {0}) WriteFault → Connection → Type 0
-WritesLine None before result after = (result ≡ Ok tt) × (after ≡ before)
-WritesLine (Some line) before result after = WritesText line before result after
 
 -- how the session goes on whose last write came to this
 abbrev pub went_unless_cut : Went → Result (Unit {0}) WriteFault → Went
@@ -67,38 +49,31 @@ pub data TrustLead : TrustState → List Event → TrustState → Type 0 where
   calls : {before mid after : TrustState} {call : TrustCall} {events : List Event} → DoesTrust before call mid → TrustLead mid events after → TrustLead before (trust_called call ∷ events) after
   wants_memory : {before after : TrustState} {events : List Event} → TrustLead before events after → TrustLead before (out_of_memory ∷ events) after
 
--- a part in which the trust file alone is called
+-- a part in which the trust file alone is called, whatever ticket is held
 pub record DoesTrustCalls {A : Type 0} (part : Part A) (before : TrustState) (result : Result A Refusal) (after : TrustState) : Type 0 where
   pub events : List Event
   pub lead : TrustLead before events after
-  pub does : part events result
+  pub does : (held : Option ℕ) → part held events result held
   pub on : went_by result ≡ On
 
--- a part that is one turn at the desk
-pub record DoesTurn {D : Type 0} (turned : D → MarkStep → Turn → D → Type 0) {A : Type 0} (part : Part A) (desk : D) (result : Result A Refusal) (now : D) : Type 0 where
-  pub step : MarkStep
-  pub turn : Turn
-  pub turned_so : turned desk step turn now
-  pub does : part (cache_turn step turn ∷ []) result
-  pub on : went_by result ≡ On
-
-module _ {P : Type 0} (prompted : P → Call → P → Type 0) {A : Type 0} (part : Part A) where
+module _ {P : Type 0} (prompted : P → Call → P → Type 0) {A : Type 0} (part : Part A) (held : Option ℕ) where
   -- a part in which no turn is taken, and neither the keys are called nor dice are thrown
   abbrev pub LeavesDesk : Connection → P → TrustState → Result A Refusal → Connection → P → TrustState → Type 0
   LeavesDesk conn prompter trust result conn_now prompter_now trust_now =
       (keys : KeyFiles) (dice : Side)
-      → DoesPart NoTurn prompted part (further_state NoTurn prompted conn tt prompter keys dice trust) result (further_state NoTurn prompted conn_now tt prompter_now keys dice trust_now)
+      → DoesPart NoTurn prompted part held (further_state NoTurn prompted conn tt prompter keys dice trust) result held (further_state NoTurn prompted conn_now tt prompter_now keys dice trust_now)
 
   -- nor is the trust file called
   abbrev pub DoesAtPrompter : Connection → P → Result A Refusal → Connection → P → Type 0
   DoesAtPrompter conn prompter result conn_now prompter_now = (trust : TrustState) → LeavesDesk conn prompter trust result conn_now prompter_now trust
 
 module _ {D P : Type 0} (turned : D → MarkStep → Turn → D → Type 0) (prompted : P → Call → P → Type 0) {A : Type 0} (part : Part A) where
-  -- a part in which neither the keys are called nor dice are thrown
+  -- a part in which neither the keys are called nor dice are thrown, and around which no ticket is held
   abbrev pub LeavesKeys : Connection → D → P → TrustState → Result A Refusal → Connection → D → P → TrustState → Type 0
   LeavesKeys conn desk prompter trust result conn_now desk_now prompter_now trust_now =
       (keys : KeyFiles) (dice : Side)
-      → DoesPart turned prompted part (further_state turned prompted conn desk prompter keys dice trust) result (further_state turned prompted conn_now desk_now prompter_now keys dice trust_now)
+      → DoesPart turned prompted part None (further_state turned prompted conn desk prompter keys dice trust) result None
+      (further_state turned prompted conn_now desk_now prompter_now keys dice trust_now)
 
 -- ---- replies
 

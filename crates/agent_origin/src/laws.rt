@@ -9,7 +9,7 @@ ghost use Rattle.agent_commands.specs.declared.went.Went.{Went as Goes};
 ghost use Rattle.agent_commands.specs.declared.went.Went.TheVariants.{On};
 ghost use Rattle.arrayvec.specs.ArrayVec.{ArrayVec};
 ghost use Rattle.assuan_server.specs.Written.{failed};
-ghost use Rattle.assuan_server.specs.declared.errors.Code.TheVariants.{Forbidden};
+ghost use Rattle.session_client.specs.declared.code.Code.TheVariants.{Forbidden};
 ghost use Rattle.key_commands.specs.Events.{Event};
 ghost use Rattle.key_commands.specs.Exchanges.{Exchange as KeyExchange};
 ghost use Rattle.key_commands.specs.Names.{command_named as key_command_named};

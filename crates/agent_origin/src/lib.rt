@@ -19,7 +19,6 @@ mod laws;
 mod marking;
 mod names;
 mod read;
-mod refusal;
 mod reply;
 mod request;
 mod run;

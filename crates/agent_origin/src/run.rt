@@ -8,7 +8,6 @@ ghost use Rattle.agent_origin.specs.States.{LeavesKeys};
 
 use crate::TrustRequest;
 use crate::marking::{Marking, mark_trusted};
-use crate::refusal::Refusal;
 use crate::reply::respond;
 use crate::trust_calls::trusted_now;
 use agent_ask::Prompter;
@@ -16,6 +15,7 @@ use agent_commands::Went;
 use agent_ports::{Link, TrustFile};
 use assuan_server::Conn;
 use cache_policy::Desk;
+use session_client::Refusal;
 use session_options::{Options, Rules};
 use std::alloc::Global;
 

@@ -6,9 +6,9 @@ ghost use Rattle.agent_origin.specs.Parts.{ReadsFile, Replaces};
 ghost use Rattle.agent_origin.specs.States.{DoesTrustCalls};
 
 use crate::TrustPurpose;
-use crate::refusal::Refusal;
 use agent_ports::{Grip, TrustDone, TrustFile, TrustRead};
 use assuan_server::Code;
+use session_client::Refusal;
 use std::alloc::Global;
 use trust_list::{TrustFault, add_trust, trusted};
 

@@ -11,7 +11,7 @@ use Rattle.agent_ports.specs.declared.grip.Grip.{Grip}
 use Rattle.agent_serve.specs.Prompts.{calls_in}
 use Rattle.agent_serve.proofs.OnePrompt.{calls_of, pin_is_one, consent_is_one, shown_calls}
 use Rattle.assuan_server.specs.Clients.{session_lines}
-use Rattle.assuan_server.specs.declared.errors.Code.TheVariants as code
+use Rattle.session_client.specs.declared.code.Code.TheVariants as code
 use Rattle.secret_file.specs.Opens.{LockedKey}
 use Rattle.session_options.specs.OptionValues.{OptionValues}
 use Rattle.session_options.specs.declared.options.PinMode.{PinMode}
@@ -24,11 +24,14 @@ use Rattle.key_commands.specs.Exchanges.{DeleteKeyReplies, Replies, wrap_key, Fo
 use Rattle.key_commands.specs.Exchanges as exchange
 use Rattle.key_commands.specs.KeyParts.{Agrees, Consents}
 use Rattle.key_commands.specs.KeyParts as parts
-use Rattle.key_commands.specs.Parts.{Part, ◌>>=◌, Follows, goes_on, stops, Closes, or_else, refusal_line}
+use Rattle.key_commands.specs.Parts.{Part, ◌>>=◌}
+use Rattle.agent_ask.specs.Parts.{Follows, goes_on, stops, or_else}
+use Rattle.agent_ask.specs.TurnParts.{Closes}
+use Rattle.assuan_server.specs.Written.{refusal_line}
 use Rattle.key_commands.specs.Passphrases.{PromptsOld, PromptsNew, UncachedOld, OpensLocked, old_by, verified_by, new_by}
 use Rattle.key_commands.specs.Passphrases as passphrases
-use Rattle.key_commands.specs.declared.refusal.Refusal.{Refusal}
-use Rattle.key_commands.specs.declared.refusal.Refusal.TheVariants.{Agent}
+use Rattle.session_client.specs.declared.refusal.Refusal.{Refusal}
+use Rattle.session_client.specs.declared.refusal.Refusal.TheVariants.{Agent}
 use Rattle.key_commands.specs.declared.request.Direction.{Direction}
 use Rattle.key_commands.specs.declared.request.KeyRequest.{KeyRequest}
 use Rattle.key_commands.specs.declared.request.KeyRequest.TheVariants as on

@@ -32,7 +32,7 @@ use Rattle.agent_serve.proofs.PromptedLines.{request_prompted}
 use Rattle.agent_serve.proofs.PromptedSessions.{have_prompts}
 use Rattle.assuan_server.specs.Reading.{Supply}
 use Rattle.assuan_server.specs.Written.{failed}
-use Rattle.assuan_server.specs.declared.errors.Code.TheVariants as code
+use Rattle.session_client.specs.declared.code.Code.TheVariants as code
 use Rattle.cache_policy.specs.Turns.{Turn, Open, Done}
 use Rattle.cache_policy.specs.declared.mark.MarkStep.{MarkStep}
 use Rattle.cache_policy.specs.declared.mark.MarkStep.TheVariants.{Seat, Close}

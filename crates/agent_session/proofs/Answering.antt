@@ -5,8 +5,8 @@ use Rattle.agent_ask.specs.Events.{Call}
 use Rattle.agent_ask.specs.Further.{Drew, NotDrawn, Prompt, Keys, Dice, Trust, NoMemory}
 use Rattle.agent_ask.specs.Prompters.{AtPrompter, IsCall, is_failed}
 use Rattle.agent_ask.specs.SessionEvents.{Received, Sent, Cut, Inquiry, CacheTurn, Further, CutAtLast}
-use Rattle.assuan_server.specs.declared.errors.Code.{Code}
-use Rattle.assuan_server.specs.declared.errors.Code.TheVariants as code
+use Rattle.session_client.specs.declared.code.Code.{Code}
+use Rattle.session_client.specs.declared.code.Code.TheVariants as code
 use Rattle.assuan_server.specs.declared.errors.Origin.{Origin}
 use Rattle.assuan_server.specs.declared.errors.Origin.TheVariants.{Agent}
 use Rattle.cache_policy.specs.declared.mark.MarkStep.{MarkStep}

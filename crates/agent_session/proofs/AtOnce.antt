@@ -9,8 +9,8 @@ use Rattle.agent_ask.specs.Worlds.{Outside, Does}
 use Rattle.agent_ask.specs.Worlds as worlds
 use Rattle.agent_ports.specs.Leads.{Leads, none, one}
 use Rattle.assuan_server.specs.Reading.{Supply}
-use Rattle.assuan_server.specs.declared.errors.Code.{Code}
-use Rattle.assuan_server.specs.declared.errors.Code.TheVariants as code
+use Rattle.session_client.specs.declared.code.Code.{Code}
+use Rattle.session_client.specs.declared.code.Code.TheVariants as code
 use Rattle.cache_policy.specs.Desks.{AtDesk, IsTurn}
 use Rattle.cache_policy.specs.Turns.{Turn, Done, Late, FitsStep}
 use Rattle.cache_policy.specs.declared.life.Life.{Life}
@@ -21,7 +21,9 @@ use Rattle.session_options.specs.declared.rules.Rules.{Rules}
 use Rattle.agent_commands.specs.Answers.{ok}
 use Rattle.agent_commands.specs.Events.{Event}
 use Rattle.agent_commands.specs.Exchanges as exchanges
-use Rattle.agent_commands.specs.Exchanges.{Exchange, Interrupts, LooksFirst, Refuses, ComesOut, is_quiet, ask, put}
+use Rattle.agent_commands.specs.Exchanges.{Exchange, LooksFirst, Refuses, ComesOut, is_quiet, ask, put}
+use Rattle.agent_ask.specs.Interrupts.{Interrupts}
+use Rattle.agent_ask.specs.Interrupts as turns
 use Rattle.agent_commands.specs.declared.request.CacheCommand.TheVariants.{PresetPassphrase}
 use Rattle.agent_commands.specs.declared.request.Request.{Request}
 use Rattle.agent_commands.specs.declared.request.Request.TheVariants.{Cache}
@@ -59,9 +61,9 @@ IsCalm event = (¬ WantsMemory event) × (¬ IsStopped event)
 
 module _ (step : MarkStep) (unhurried : FitsStep step Late → ⊥) where
   not_interrupted : {turn : Turn} {why : Code} → Interrupts turn why → FitsTurn (cache_turn step turn) → IsCalm (cache_turn step turn) → ⊥
-  not_interrupted exchanges.refused fits calm = calm.0 refl
-  not_interrupted exchanges.stopping fits calm = calm.1 refl
-  not_interrupted exchanges.late fits calm = unhurried fits
+  not_interrupted turns.refused fits calm = calm.0 refl
+  not_interrupted turns.stopping fits calm = calm.1 refl
+  not_interrupted turns.late fits calm = unhurried fits
 
   pub done_is_answered : {text answer : List ℕ} {done went : Went} {turn : Turn} → text ≡ ok → ComesOut text done turn answer went → FitsTurn (cache_turn step turn) → IsCalm (cache_turn step turn)
       → AnswersDone step (cache_turn step turn ∷ Sent answer ∷ [])

@@ -13,8 +13,8 @@ use Rattle.agent_ask.specs.declared.consent.Agreed.{Agreed}
 use Rattle.agent_ask.specs.declared.spec.AskPlan.{AskPlan}
 use Rattle.agent_ask.specs.declared.spec.PromptSpec.{PromptSpec}
 use Rattle.assuan_server.specs.Clients.{session_lines}
-use Rattle.assuan_server.specs.declared.errors.Code.{Code}
-use Rattle.assuan_server.specs.declared.errors.Code.TheVariants as code
+use Rattle.session_client.specs.declared.code.Code.{Code}
+use Rattle.session_client.specs.declared.code.Code.TheVariants as code
 use Rattle.assuan_server.specs.declared.errors.Origin.TheVariants.{Agent, Pinentry}
 use Rattle.assuan_server.specs.Written.{failed}
 use Rattle.cache_policy.specs.Turns.{Turn, closes}
@@ -32,7 +32,9 @@ use Rattle.session_options.specs.declared.rules.Rules.{Rules}
 use Rattle.agent_commands.specs.Answers.{IsInfo}
 use Rattle.agent_commands.specs.Events.{Event}
 use Rattle.agent_commands.specs.Exchanges as exchanges
-use Rattle.agent_commands.specs.Exchanges.{Exchange, Interrupts, Fails, WithoutPassphrase, Looks, LooksFirst, Refuses, IsOneTurn, ComesOut, Keeps, WithoutPrompt, EndsPin, EndsConsent, WantsPrompt, want, ByPrompt, option_text}
+use Rattle.agent_commands.specs.Exchanges.{Exchange, Fails, WithoutPassphrase, Looks, LooksFirst, Refuses, IsOneTurn, ComesOut, Keeps, WithoutPrompt, EndsPin, EndsConsent, WantsPrompt, want, ByPrompt, option_text}
+use Rattle.agent_ask.specs.Interrupts.{Interrupts}
+use Rattle.agent_ask.specs.Interrupts as turns
 use Rattle.agent_commands.specs.Prompting.{UnderTicket}
 use Rattle.agent_commands.specs.declared.request.CacheCommand.{CacheCommand}
 use Rattle.agent_commands.specs.declared.request.Info.{Info}
@@ -81,9 +83,9 @@ module _ (request : Request) where
 
   module _ (step : MarkStep) (no_close : closes step ≡ None) (allowed : IsWorkStep request step) where
     interrupts : {turn : Turn} {why : Code} → Interrupts turn why → Here (cache_turn step turn ∷ Sent (failed why) ∷ [])
-    interrupts exchanges.refused = work_and_end [] tt (refused allowed (by_turn _ _ no_close refl) no_ticket)
-    interrupts exchanges.stopping = answers (_ ∷ []) ((allowed, by_turn _ _ no_close refl), tt) (said (is_failed code.Cancelled))
-    interrupts exchanges.late = answers (_ ∷ []) ((allowed, by_turn _ _ no_close refl), tt) (said (is_failed code.Timeout))
+    interrupts turns.refused = work_and_end [] tt (refused allowed (by_turn _ _ no_close refl) no_ticket)
+    interrupts turns.stopping = answers (_ ∷ []) ((allowed, by_turn _ _ no_close refl), tt) (said (is_failed code.Cancelled))
+    interrupts turns.late = answers (_ ∷ []) ((allowed, by_turn _ _ no_close refl), tt) (said (is_failed code.Timeout))
 
     comes_out : {text reply : List ℕ} {went after : Went} {turn : Turn} → IsReply text → ComesOut text went turn reply after → Here (cache_turn step turn ∷ Sent reply ∷ [])
     comes_out is exchanges.done = answers (_ ∷ []) ((allowed, by_turn _ _ no_close refl), tt) (said (is_reply is))

@@ -15,8 +15,8 @@ use Rattle.agent_ask.specs.declared.consent.Agreed.{Agreed}
 use Rattle.agent_ask.specs.declared.spec.AskPlan.{AskPlan}
 use Rattle.agent_ask.specs.declared.spec.PromptSpec.{PromptSpec}
 use Rattle.assuan_server.specs.Clients.{session_lines}
-use Rattle.assuan_server.specs.declared.errors.Code.{Code}
-use Rattle.assuan_server.specs.declared.errors.Code.TheVariants as code
+use Rattle.session_client.specs.declared.code.Code.{Code}
+use Rattle.session_client.specs.declared.code.Code.TheVariants as code
 use Rattle.assuan_server.specs.declared.errors.Origin.{Origin}
 use Rattle.assuan_server.specs.declared.errors.Origin.TheVariants.{Agent, Pinentry}
 use Rattle.cache_policy.specs.Turns.{Turn, Refused, closes, Empty}
@@ -36,8 +36,9 @@ use Rattle.agent_commands.specs.Answers.{IsInfo}
 use Rattle.agent_commands.specs.Endings.{went_after}
 use Rattle.agent_commands.specs.Events.{Event}
 use Rattle.agent_commands.specs.Exchanges as exchanges
-use Rattle.agent_commands.specs.Exchanges.{Exchange, Interrupts, Fails, WithoutPassphrase, Looks, LooksFirst, Refuses, IsOneTurn, ComesOut, Keeps, WithoutPrompt, EndsPin, EndsConsent, WantsPrompt}
-use Rattle.agent_commands.specs.Exchanges.{want, ByPrompt, refusal_of, option_text, is_quiet}
+use Rattle.agent_commands.specs.Exchanges.{Exchange, Fails, WithoutPassphrase, Looks, LooksFirst, Refuses, IsOneTurn, ComesOut, Keeps, WithoutPrompt, EndsPin, EndsConsent, WantsPrompt, want, ByPrompt, refusal_of, option_text, is_quiet}
+use Rattle.agent_ask.specs.Interrupts.{Interrupts}
+use Rattle.agent_ask.specs.Interrupts as turns
 use Rattle.agent_commands.specs.Prompting.{UnderTicket}
 use Rattle.agent_commands.specs.Requests.{GetFields, get_passphrase}
 use Rattle.agent_commands.specs.declared.request.CacheCommand.{CacheCommand}
@@ -73,9 +74,9 @@ module _ (rules : Rules) (kept : Kept) (whole : List (Event FurtherEvent)) (requ
   -- ---- turns
 
   interrupts : (step : MarkStep) → closes step ≡ None → {turn : Turn} {why : Code} {more : List (Event FurtherEvent)} → Interrupts turn why → StandIn (cache_turn step turn ∷ more) whole → CausedHere why Agent
-  interrupts step keeps exchanges.refused stands = one (cache_turn step Refused) refl (has_first stands)
-  interrupts step keeps exchanges.stopping stands = by_stop (turned step keeps (has_first stands))
-  interrupts step keeps exchanges.late stands = turned step keeps (has_first stands)
+  interrupts step keeps turns.refused stands = one (cache_turn step Refused) refl (has_first stands)
+  interrupts step keeps turns.stopping stands = by_stop (turned step keeps (has_first stands))
+  interrupts step keeps turns.late stands = turned step keeps (has_first stands)
 
   -- ---- the client
 

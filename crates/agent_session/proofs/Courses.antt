@@ -1,15 +1,16 @@
 -- Parts of a request on keys by which no file is changed and no ticket is given back: all their events are the request's work, but one that refuses it.
 use Rattle.std.proofs.Common.{◌≡◌, ℕ, Bool, true, false, List, [], ◌∷◌, ◌++◌, Option, Some, None, Result, Ok, Err, refl, sym, ap, ◌∙◌, subst, append_assoc, append-nil}
 use Rattle.agent_ask.specs.Further.{FurtherEvent}
-use Rattle.assuan_server.specs.declared.errors.Code.{Code}
+use Rattle.session_client.specs.declared.code.Code.{Code}
 use Rattle.cache_policy.specs.Turns.{Turn, closes}
 use Rattle.cache_policy.specs.declared.mark.MarkStep.{MarkStep}
 use Rattle.agent_commands.specs.Events.{Event}
 use Rattle.agent_commands.specs.declared.request.Request.{Request}
-use Rattle.key_commands.specs.Parts.{Part, ◌>>=◌, Follows, goes_on, stops, Returns, returns, Refuses, needed, or_else, unless, wanted}
-use Rattle.key_commands.specs.Parts as parts
-use Rattle.key_commands.specs.declared.refusal.Refusal.{Refusal}
-use Rattle.key_commands.specs.declared.refusal.Refusal.TheVariants.{Agent}
+use Rattle.key_commands.specs.Parts.{Part}
+use Rattle.agent_ask.specs.Parts.{◌>>=◌, Follows, goes_on, stops, Returns, returns, Refuses, needed, or_else, unless, wanted}
+use Rattle.agent_ask.specs.Parts as chain
+use Rattle.session_client.specs.declared.refusal.Refusal.{Refusal}
+use Rattle.session_client.specs.declared.refusal.Refusal.TheVariants.{Agent}
 use Rattle.key_commands.proofs.EachEvent.{each_append}
 use Rattle.agent_session.specs.Refusals.{turn_refuses, refuses, IsAllowed, IsWork, AreWork, shuts}
 
@@ -81,7 +82,7 @@ module _ (request : Request) where
     returned value = record { of = returns_of value }
 
     refuses_of : (why : Refusal) (before : Option ℕ) (events : List (Event FurtherEvent)) (result : Result A Refusal) (after : Option ℕ) → Refuses {A = A} why before events result after → Works events result
-    refuses_of why before events result after parts.refuses = works tt
+    refuses_of why before events result after chain.refuses = works tt
 
     pub refuses_by : (why : Refusal) → WorksSo (Refuses {A = A} why)
     refuses_by why = record { of = refuses_of why }

@@ -9,8 +9,8 @@ use Rattle.agent_commands.specs.Names.{command_names}
 use Rattle.agent_commands.specs.Requests.{request_of}
 use Rattle.agent_commands.specs.declared.went.Went.{Went}
 use Rattle.assuan_server.specs.Written.{failed as failed_line}
-use Rattle.assuan_server.specs.declared.errors.Code.{Code}
-use Rattle.assuan_server.specs.declared.errors.Code.TheVariants as code
+use Rattle.session_client.specs.declared.code.Code.{Code}
+use Rattle.session_client.specs.declared.code.Code.TheVariants as code
 use Rattle.assuan_server.specs.declared.errors.Origin.{Origin}
 use Rattle.assuan_server.specs.declared.errors.Origin.TheVariants.{Agent}
 use Rattle.assuan_text.specs.Words.{command_of}

@@ -3,8 +3,8 @@ use Rattle.std.proofs.Common.{◌≡◌, ◌==◌, ◌+◌, ◌*◌, ◌-◌, �
 use Rattle.std.specs.Fmt.{digits}
 use Rattle.std.specs.Prelude.{if◌then◌else◌, nat_lt}
 use Rattle.assuan_server.specs.Errors.{error_text}
-use Rattle.assuan_server.specs.declared.errors.Code.{Code}
-use Rattle.assuan_server.specs.declared.errors.Code.TheVariants as code
+use Rattle.session_client.specs.declared.code.Code.{Code}
+use Rattle.session_client.specs.declared.code.Code.TheVariants as code
 use Rattle.assuan_server.specs.declared.errors.Origin.{Origin}
 use Rattle.assuan_server.specs.declared.errors.Origin.TheVariants.{Agent, Pinentry}
 use Rattle.assuan_text.specs.LineEnds.{line_of}

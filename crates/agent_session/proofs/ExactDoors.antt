@@ -8,8 +8,8 @@ use Rattle.agent_commands.specs.Requests.{request_of}
 use Rattle.agent_commands.specs.declared.went.Went.{Went}
 use Rattle.agent_ports.specs.declared.grip.Grip.{Grip}
 use Rattle.arrayvec.specs.ArrayVec.{ArrayVec}
-use Rattle.assuan_server.specs.declared.errors.Code.{Code}
-use Rattle.assuan_server.specs.declared.errors.Code.TheVariants as code
+use Rattle.session_client.specs.declared.code.Code.{Code}
+use Rattle.session_client.specs.declared.code.Code.TheVariants as code
 use Rattle.assuan_server.specs.declared.errors.Origin.TheVariants.{Agent}
 use Rattle.assuan_text.specs.Words.{command_of}
 use Rattle.key_commands.specs.Events.{Event}
@@ -24,7 +24,7 @@ use Rattle.agent_origin.specs.DoorSessions as doors
 use Rattle.agent_origin.specs.Exchanges.{flag_of, Marked, TrustExchange}
 use Rattle.agent_origin.specs.Exchanges as trusts
 use Rattle.agent_origin.specs.Names.{command_named, door_command_named}
-use Rattle.agent_origin.specs.Parts.{refusal_line}
+use Rattle.assuan_server.specs.Written.{refusal_line}
 use Rattle.agent_origin.specs.Requests.{trust_request_of}
 use Rattle.agent_origin.specs.declared.door.Door.{Door}
 use Rattle.agent_origin.specs.declared.kept.Kept.{Kept}

@@ -18,14 +18,14 @@ use Rattle.agent_commands.specs.declared.went.SessionEnd.TheVariants.{TooLong}
 use Rattle.agent_commands.specs.declared.went.Went.{Went}
 use Rattle.agent_commands.specs.declared.went.Went.TheVariants.{End}
 use Rattle.assuan_server.specs.Clients.{session_lines}
-use Rattle.assuan_server.specs.declared.errors.Code.TheVariants as code
+use Rattle.session_client.specs.declared.code.Code.TheVariants as code
 use Rattle.assuan_server.specs.declared.errors.Origin.TheVariants.{Agent}
 use Rattle.cache_policy.specs.declared.mark.MarkStep.{MarkStep}
 use Rattle.key_commands.specs.Events.{Event}
 use Rattle.key_commands.specs.Exchanges.{Exchange as KeyExchange, answered, refused}
 use Rattle.key_commands.specs.Parts.{refusal_went, refusal_events}
-use Rattle.key_commands.specs.declared.refusal.Refusal.{Refusal}
-use Rattle.key_commands.specs.declared.refusal.Refusal.TheVariants as refusals
+use Rattle.session_client.specs.declared.refusal.Refusal.{Refusal}
+use Rattle.session_client.specs.declared.refusal.Refusal.TheVariants as refusals
 use Rattle.key_commands.specs.declared.request.KeyRequest.{KeyRequest}
 use Rattle.key_commands.specs.declared.went.KeyWent.{KeyWent}
 use Rattle.key_commands.specs.declared.wrap_keys.WrapKeys.{WrapKeys}

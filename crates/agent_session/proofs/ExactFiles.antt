@@ -1,8 +1,8 @@
 -- What a key's file, its protection and the bytes of a key that a client sent say is one answer.
 use Rattle.std.proofs.Common.{◌≡◌, ℕ, true, false, List, ◌++◌, length, Option, Some, None, Result, Ok, Err, arith, refl, sym, ap, subst, ◌∙◌, inl, inr}
 use Rattle.std.specs.Prelude.{◌≤◌, ◌<◌, replicate}
-use Rattle.assuan_server.specs.declared.errors.Code.{Code}
-use Rattle.assuan_server.specs.declared.errors.Code.TheVariants as code
+use Rattle.session_client.specs.declared.code.Code.{Code}
+use Rattle.session_client.specs.declared.code.Code.TheVariants as code
 use Rattle.key_lines.specs.Canon.{Canon}
 use Rattle.secret_file.specs.Answers.{IsLockedFault}
 use Rattle.secret_file.specs.Opens.{LockedKey, IsLocked, first_of}
@@ -11,7 +11,7 @@ use Rattle.secret_file.specs.Protection.{IsProtectionFault}
 use Rattle.sexp_canonical.specs.View.{tree_of}
 use Rattle.sexp_canonical.specs.declared.tree.Sexp.{Sexp}
 use Rattle.sexp_canonical.proofs.Trees.{one_spelling, tree_of_injective}
-use Rattle.sexp_keys.specs.Faults.{Reads}
+use Rattle.sexp_keys.specs.Faults.{ReadsKey}
 use Rattle.sexp_keys.specs.Key.{Key}
 use Rattle.sexp_keys.specs.Lists.{key_list_of}
 use Rattle.sexp_keys.specs.declared.fault.KeyFault.{KeyFault}
@@ -83,13 +83,13 @@ record IsTaken (bytes : List ℕ) (answer : Result Key Code) : Type 0 where
   tree : Sexp
   padded : ArePadded bytes tree
   read : Result Key KeyFault
-  reads : Reads (tree_of tree) read
+  reads : ReadsKey (tree_of tree) read
   takes : Takes read answer
 
 one_is_taken : (bytes : List ℕ) (a b : Result Key Code) → IsTaken bytes a → IsTaken bytes b → a ≡ b
 one_is_taken bytes a b is also =
     let same : is.tree ≡ also.tree = one_padded bytes is.tree also.tree is.padded also.padded in
-    let read_same : is.read ≡ also.read = keys.one_answer (tree_of also.tree) is.read also.read (subst (λ t. Reads (tree_of t) is.read) same is.reads) also.reads in
+    let read_same : is.read ≡ also.read = keys.one_answer (tree_of also.tree) is.read also.read (subst (λ t. ReadsKey (tree_of t) is.read) same is.reads) also.reads in
     one_taken (subst (λ r. Takes r a) read_same is.takes) also.takes
 
 data IsPlain (bytes : List ℕ) (answer : Result Key Code) : Type 0 where

@@ -6,17 +6,20 @@ use Rattle.agent_ask.specs.Further.{Keys, Read}
 use Rattle.agent_ask.specs.SessionEvents.{Sent, Further}
 use Rattle.agent_ports.specs.declared.grip.Grip.{Grip}
 use Rattle.agent_ports.specs.declared.keys.KeyRead.TheVariants as key_read
-use Rattle.assuan_server.specs.declared.errors.Code.TheVariants as code
+use Rattle.session_client.specs.declared.code.Code.TheVariants as code
 use Rattle.assuan_server.specs.declared.errors.Origin.TheVariants.{Agent as OfAgent}
 use Rattle.session_options.specs.OptionValues.{OptionValues}
 use Rattle.session_options.specs.declared.rules.Rules.{Rules}
 use Rattle.key_commands.specs.Events.{Event}
 use Rattle.key_commands.specs.Exchanges.{Exchange, answered, refused, HaveKeyReplies, KeyReply}
 use Rattle.key_commands.specs.KeyParts.{HasOne}
-use Rattle.key_commands.specs.Parts.{Closes, goes_on, stops, refusal_line, refusal_events}
+use Rattle.key_commands.specs.Parts.{refusal_events}
+use Rattle.agent_ask.specs.TurnParts.{Closes}
+use Rattle.agent_ask.specs.Parts.{goes_on, stops}
+use Rattle.assuan_server.specs.Written.{refusal_line}
 use Rattle.key_commands.specs.Parts as small
-use Rattle.key_commands.specs.declared.refusal.Refusal.{Refusal}
-use Rattle.key_commands.specs.declared.refusal.Refusal.TheVariants.{Agent}
+use Rattle.session_client.specs.declared.refusal.Refusal.{Refusal}
+use Rattle.session_client.specs.declared.refusal.Refusal.TheVariants.{Agent}
 use Rattle.key_commands.specs.declared.request.KeyRequest.TheVariants as on
 use Rattle.key_commands.specs.declared.went.KeyWent.{KeyWent}
 use Rattle.key_commands.specs.declared.wrap_keys.WrapKeys.{WrapKeys}

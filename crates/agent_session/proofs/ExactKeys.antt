@@ -5,9 +5,9 @@ use Rattle.std.specs.Prelude.{take, drop}
 use Rattle.agent_ask.specs.Failing.{said_last}
 use Rattle.agent_ask.specs.SessionEvents.{Sent}
 use Rattle.agent_ports.specs.declared.grip.Grip.{Grip}
-use Rattle.assuan_server.specs.Written.{failed}
-use Rattle.assuan_server.specs.declared.errors.Code.{Code}
-use Rattle.assuan_server.specs.declared.errors.Code.TheVariants as code
+use Rattle.assuan_server.specs.Written.{failed, refusal_line}
+use Rattle.session_client.specs.declared.code.Code.{Code}
+use Rattle.session_client.specs.declared.code.Code.TheVariants as code
 use Rattle.assuan_server.specs.declared.errors.Origin.TheVariants.{Agent as OfAgent}
 use Rattle.key_lines.specs.Canon.{Canon}
 use Rattle.session_options.specs.OptionValues.{OptionValues}
@@ -18,11 +18,12 @@ use Rattle.key_commands.specs.Exchanges.{Exchange, answered, refused, Replies, H
 use Rattle.key_commands.specs.Exchanges.{wrap_key, StoresKey, FoundOrNew, RenewsPassphrase, RewritesFile, ChangesOpened}
 use Rattle.key_commands.specs.KeyParts.{HasOne, ReadsListed, TellsListed, WritesInfos}
 use Rattle.key_commands.specs.KeyParts as parts
-use Rattle.key_commands.specs.Parts.{Part, ◌>>=◌, Follows, goes_on, stops, Returns, Finds, needed, unless, refusal_line, refusal_events}
+use Rattle.key_commands.specs.Parts.{Part, ◌>>=◌, Finds, refusal_events}
+use Rattle.agent_ask.specs.Parts.{Follows, goes_on, stops, Returns, needed, unless}
 use Rattle.key_commands.specs.Parts as small
 use Rattle.key_commands.specs.Passphrases.{OldPassphrase, VerifiesPassphrase}
-use Rattle.key_commands.specs.declared.refusal.Refusal.{Refusal}
-use Rattle.key_commands.specs.declared.refusal.Refusal.TheVariants as refusals
+use Rattle.session_client.specs.declared.refusal.Refusal.{Refusal}
+use Rattle.session_client.specs.declared.refusal.Refusal.TheVariants as refusals
 use Rattle.key_commands.specs.declared.request.Direction.{Direction}
 use Rattle.key_commands.specs.declared.request.KeyRequest.{KeyRequest}
 use Rattle.key_commands.specs.declared.request.KeyRequest.TheVariants as on

@@ -7,10 +7,10 @@ use Rattle.agent_ask.specs.Callers.{unheard_of}
 use Rattle.agent_ask.specs.declared.ask.Asked.TheVariants as asked
 use Rattle.agent_ask.specs.declared.consent.Agreed.TheVariants as agreed
 use Rattle.agent_ports.specs.declared.grip.Grip.{Grip}
-use Rattle.assuan_server.specs.Clients.{refusal_code}
-use Rattle.assuan_server.specs.Written.{failed}
-use Rattle.assuan_server.specs.declared.errors.Code.{Code}
-use Rattle.assuan_server.specs.declared.errors.Code.TheVariants as code
+use Rattle.session_client.specs.Refusals.{refusal_code}
+use Rattle.assuan_server.specs.Written.{failed, refusal_line}
+use Rattle.session_client.specs.declared.code.Code.{Code}
+use Rattle.session_client.specs.declared.code.Code.TheVariants as code
 use Rattle.cache_policy.specs.declared.mark.MarkStep.{MarkStep}
 use Rattle.cache_policy.specs.declared.secret.TheConstants.{MAX_SECRET_LEN}
 use Rattle.secret_file.specs.Opens.{LockedKey}
@@ -22,15 +22,18 @@ use Rattle.sexp_keys.specs.Key.{Key}
 use Rattle.key_commands.specs.Events.{Event}
 use Rattle.key_commands.specs.Files.{Rewrites}
 use Rattle.key_commands.specs.Files as files
-use Rattle.key_commands.specs.KeyParts.{Tells, Replaces, Protects, IsShort, KeepsNew, TellsInfo, ListsGrips, max_key_data, NamesKey, LooksOver, WrapsKey, Agrees, Consents, consent_refusal, WritesInfo}
+use Rattle.key_commands.specs.KeyParts.{Tells, Replaces, Protects, IsShort, KeepsNew, TellsInfo, ListsGrips, max_key_data, NamesKey, LooksOver, WrapsKey, Agrees, Consents, WritesInfo}
+use Rattle.agent_ask.specs.ConsentParts.{consent_refusal}
 use Rattle.key_commands.specs.KeyParts as parts
 use Rattle.key_commands.specs.Lines.{limit_line}
-use Rattle.key_commands.specs.Parts.{Part, ◌>>=◌, Follows, goes_on, stops, Returns, Refuses, needed, or_else, wanted, Asks, Seats, Changes, Peeks, Closes, Writes, Inquires, AsksClient, Draws, refusal_line}
+use Rattle.key_commands.specs.Parts.{Part, ◌>>=◌, Writes, Inquires, AsksClient, Draws}
+use Rattle.agent_ask.specs.Parts.{Follows, goes_on, stops, Returns, Refuses, needed, or_else, wanted}
+use Rattle.agent_ask.specs.TurnParts.{Asks, Seats, Changes, Peeks, Closes}
 use Rattle.key_commands.specs.Parts as small
 use Rattle.key_commands.specs.Passphrases.{LooksForNonce, TakesSeat, ask_nonce, Tries, TriesFound, PromptsOld, PromptsNew, ClientOld, ClientNew, UncachedOld, OpensLocked, NewPassphrase, pin_refusal, ask_key, way_of, put_key, seat_for}
 use Rattle.key_commands.specs.Passphrases as passphrases
-use Rattle.key_commands.specs.declared.refusal.Refusal.{Refusal}
-use Rattle.key_commands.specs.declared.refusal.Refusal.TheVariants.{Agent, Client}
+use Rattle.session_client.specs.declared.refusal.Refusal.{Refusal}
+use Rattle.session_client.specs.declared.refusal.Refusal.TheVariants.{Agent, Client}
 use Rattle.agent_session.specs.Causes.{Has, here, later}
 use Rattle.agent_session.specs.Completeness.{Remembers}
 use Rattle.agent_session.proofs.Explained.{has_split}

@@ -23,8 +23,9 @@ use Rattle.agent_ask.specs.declared.spec.PromptSpec.{PromptSpec}
 use Rattle.agent_ports.specs.declared.grip.Grip.{Grip}
 use Rattle.agent_ports.specs.declared.keys.KeyDone.{KeyDone}
 use Rattle.agent_ports.specs.declared.keys.KeyRead.{KeyRead}
-use Rattle.assuan_server.specs.Clients.{session_lines, refusal_code}
-use Rattle.assuan_server.specs.declared.errors.Code.{Code}
+use Rattle.assuan_server.specs.Clients.{session_lines}
+use Rattle.session_client.specs.Refusals.{refusal_code}
+use Rattle.session_client.specs.declared.code.Code.{Code}
 use Rattle.session_client.specs.Asking.{said_by, without_data}
 use Rattle.session_client.specs.declared.client.TheConstants.{MAX_NOTE_LEN}
 use Rattle.session_client.specs.declared.unheard.Unheard.{Unheard}

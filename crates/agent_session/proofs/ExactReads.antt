@@ -7,9 +7,9 @@ use Rattle.agent_ports.specs.declared.keys.KeyDone.{KeyDone}
 use Rattle.agent_ports.specs.declared.keys.KeyDone.TheVariants as key_done
 use Rattle.agent_ports.specs.declared.keys.KeyRead.{KeyRead}
 use Rattle.agent_ports.specs.declared.keys.KeyRead.TheVariants as key_read
-use Rattle.assuan_server.specs.Written.{failed}
-use Rattle.assuan_server.specs.declared.errors.Code.{Code}
-use Rattle.assuan_server.specs.declared.errors.Code.TheVariants as code
+use Rattle.assuan_server.specs.Written.{failed, refusal_line}
+use Rattle.session_client.specs.declared.code.Code.{Code}
+use Rattle.session_client.specs.declared.code.Code.TheVariants as code
 use Rattle.key_lines.specs.Canon.{Canon}
 use Rattle.secret_file.specs.Answers.{IsLockedFault}
 use Rattle.secret_file.specs.Opens.{LockedKey}
@@ -21,13 +21,14 @@ use Rattle.key_commands.specs.Files.{FileSays}
 use Rattle.key_commands.specs.KeyParts.{ReadsFile, Removes, IsFree, AsksKeyData, Unwraps, ReceivesKey, file_in, change_fault, max_key_data}
 use Rattle.key_commands.specs.KeyParts as parts
 use Rattle.key_commands.specs.Lines.{limit_line}
-use Rattle.key_commands.specs.Parts.{Finds, wanted, read_fault, refusal_line, refuses, returns}
+use Rattle.key_commands.specs.Parts.{Finds, read_fault}
+use Rattle.agent_ask.specs.Parts.{wanted, refuses, returns}
 use Rattle.key_commands.specs.Parts as small
 use Rattle.key_commands.specs.Passphrases.{Locks}
 use Rattle.key_commands.specs.Passphrases as passphrases
 use Rattle.key_commands.specs.Wrapping.{WrappedSays}
-use Rattle.key_commands.specs.declared.refusal.Refusal.{Refusal}
-use Rattle.key_commands.specs.declared.refusal.Refusal.TheVariants.{Agent}
+use Rattle.session_client.specs.declared.refusal.Refusal.{Refusal}
+use Rattle.session_client.specs.declared.refusal.Refusal.TheVariants.{Agent}
 use Rattle.agent_session.specs.Completeness.{Remembers}
 use Rattle.agent_session.proofs.ExactFiles.{one_says, one_locked_fault, no_locked_fault, one_wrapped}
 use Rattle.agent_session.proofs.ExactParts.{NoneDue, NoneOwed, SaysTo, Heeds, by_never, bind, decided_only, inquires_of, returns_never, writes_never}

@@ -11,10 +11,10 @@ use Rattle.agent_ask.specs.declared.caller.Heard.TheVariants as heard_as
 use Rattle.agent_ask.specs.declared.consent.Agreed.TheVariants as agreed
 use Rattle.agent_commands.specs.declared.went.Went.{Went}
 use Rattle.agent_ports.specs.declared.grip.Grip.{Grip}
-use Rattle.assuan_server.specs.Clients.{refusal_code}
-use Rattle.assuan_server.specs.Written.{failed}
-use Rattle.assuan_server.specs.declared.errors.Code.{Code}
-use Rattle.assuan_server.specs.declared.errors.Code.TheVariants as code
+use Rattle.session_client.specs.Refusals.{refusal_code}
+use Rattle.assuan_server.specs.Written.{failed, refusal_line}
+use Rattle.session_client.specs.declared.code.Code.{Code}
+use Rattle.session_client.specs.declared.code.Code.TheVariants as code
 use Rattle.assuan_server.specs.declared.errors.Origin.TheVariants.{Agent as OfAgent}
 use Rattle.key_commands.specs.Events.{Event}
 use Rattle.session_client.specs.declared.unheard.Unheard.{Unheard}
@@ -27,7 +27,11 @@ use Rattle.trust_list.specs.Trust.{trust, with_entry}
 use Rattle.trust_list.specs.declared.TheConstants.{MAX_TRUST_FILE_LEN}
 use Rattle.agent_origin.specs.Exchanges.{flag_of, trust_question, fingerprint_question, unless_said, TrustedNow, Stores, StoresUnsaid, Consented, asked_in, Marked, Carried, TrustExchange}
 use Rattle.agent_origin.specs.Exchanges as trusts
-use Rattle.agent_origin.specs.Parts.{Part, ◌>>=◌, Follows, Returns, Refuses, Seats, UnderTicket, Agrees, ReadsFile, AddsEntry, Replaces, file_in, refusal_events, refusal_line, trust_called, consent_refusal}
+use Rattle.agent_origin.specs.Parts.{◌>>=◌, UnderTicket, Agrees, ReadsFile, AddsEntry, Replaces, file_in, trust_called}
+use Rattle.key_commands.specs.Parts.{Part, refusal_events}
+use Rattle.agent_ask.specs.Parts.{Follows, Returns, Refuses}
+use Rattle.agent_ask.specs.TurnParts.{Seats}
+use Rattle.agent_ask.specs.ConsentParts.{consent_refusal}
 use Rattle.agent_origin.specs.Parts as parts
 use Rattle.agent_origin.specs.declared.request.TrustPurpose.{TrustPurpose}
 use Rattle.agent_origin.specs.declared.request.TrustRequest.{TrustRequest}

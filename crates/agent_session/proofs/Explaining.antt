@@ -6,9 +6,10 @@ use Rattle.agent_ask.specs.Further.{FurtherEvent, Keys, Read, Dice, NotDrawn, No
 use Rattle.agent_ask.specs.SessionEvents.{Further, cache_turn}
 use Rattle.agent_ports.specs.declared.grip.Grip.{Grip}
 use Rattle.agent_ports.specs.declared.keys.KeyRead.TheVariants as key_read
-use Rattle.assuan_server.specs.declared.errors.Code.{Code}
-use Rattle.assuan_server.specs.declared.errors.Code.TheVariants as code
+use Rattle.session_client.specs.declared.code.Code.{Code}
+use Rattle.session_client.specs.declared.code.Code.TheVariants as code
 use Rattle.assuan_server.specs.declared.errors.Origin.TheVariants.{Agent as OfAgent, Pinentry as OfPinentry}
+use Rattle.cache_policy.specs.declared.mode.Mode.TheVariants.{Normal}
 use Rattle.cache_policy.specs.Turns.{Turn, Refused, closes, Given, Empty, Open}
 use Rattle.cache_policy.specs.declared.grant.Grant.{Grant}
 use Rattle.cache_policy.specs.declared.mark.MarkStep.{MarkStep}
@@ -18,11 +19,16 @@ use Rattle.session_client.specs.declared.unheard.Unheard.TheVariants as unheard
 use Rattle.session_options.specs.declared.rules.Rules.{Rules}
 use Rattle.agent_commands.specs.Events.{Event}
 use Rattle.agent_commands.specs.declared.request.Request.{Request}
-use Rattle.key_commands.specs.Parts.{Part, ◌>>=◌, Follows, goes_on, stops, Returns, returns, Refuses, refuses, needed, or_else, unless, wanted, Interrupts, Asks, Seats, Changes, Peeks, Closes, Writes, Inquires, AsksClient, Finds, Draws}
+use Rattle.key_commands.specs.Parts.{Part, Writes, Inquires, AsksClient, Finds, Draws}
+use Rattle.agent_ask.specs.Parts.{◌>>=◌, Follows, goes_on, stops, Returns, returns, Refuses, refuses, needed, or_else, unless, wanted}
+use Rattle.agent_ask.specs.Interrupts.{Interrupts}
+use Rattle.agent_ask.specs.Interrupts as turns
+use Rattle.agent_ask.specs.TurnParts as taken
+use Rattle.agent_ask.specs.TurnParts.{Asks, Seats, Changes, Peeks, Closes}
 use Rattle.key_commands.specs.Parts as parts
-use Rattle.key_commands.specs.Lines.{limit_line}
-use Rattle.key_commands.specs.declared.refusal.Refusal.{Refusal}
-use Rattle.key_commands.specs.declared.refusal.Refusal.TheVariants.{Agent, Pinentry, Client}
+use Rattle.key_commands.specs.Lines.{grip_text, limit_line}
+use Rattle.session_client.specs.declared.refusal.Refusal.{Refusal}
+use Rattle.session_client.specs.declared.refusal.Refusal.TheVariants.{Agent, Pinentry, Client}
 use Rattle.key_commands.proofs.EachEvent.{each_append}
 use Rattle.agent_session.specs.Causes.{Has, StandIn, IsCaused, IsSaid, said, IsSent, sent, IsUnread, IsDrawn, one, turned, by_stop, GivesNone, none_given}
 use Rattle.agent_session.specs.Completeness.{AnswersNothing, IsStatus}
@@ -135,9 +141,9 @@ module _ (rules : Rules) (kept : Kept) (request : Request) (whole : List (Event 
 
   pub interrupts : (step : MarkStep) → closes step ≡ None → {turn : Turn} {why : Code} {more : List (Event FurtherEvent)} → Interrupts turn why → StandIn (cache_turn step turn ∷ more) whole
       → Caused why
-  interrupts step keeps parts.refused stands = one (cache_turn step Refused) refl (has_first stands)
-  interrupts step keeps parts.stopping stands = by_stop (turned step keeps (has_first stands))
-  interrupts step keeps parts.late stands = turned step keeps (has_first stands)
+  interrupts step keeps turns.refused stands = one (cache_turn step Refused) refl (has_first stands)
+  interrupts step keeps turns.stopping stands = by_stop (turned step keeps (has_first stands))
+  interrupts step keeps turns.late stands = turned step keeps (has_first stands)
 
   -- what the cache gave, or nothing
   pub data FoundBy (step : MarkStep) : Option (List ℕ) → Type 0 where
@@ -147,44 +153,44 @@ module _ (rules : Rules) (kept : Kept) (request : Request) (whole : List (Event 
   module _ (step : MarkStep) (keeps : closes step ≡ None) where
     looks_of : (before : Option ℕ) (events : List (Event FurtherEvent)) (result : Result (Option (List ℕ)) Refusal) (after : Option ℕ) → Asks step before events result after
         → StandIn events whole → Comes (FoundBy step) events result
-    looks_of before events result after parts.given stands = record { silent = (tt, tt); explained = found (has_first stands) }
-    looks_of before events result after parts.empty stands = record { silent = (tt, tt); explained = found_none (none_given Empty tt (has_first stands)) }
-    looks_of before events result after (parts.opened {ticket}) stands = record { silent = (tt, tt); explained = found_none (none_given (Open ticket) tt (has_first stands)) }
-    looks_of before events result after (parts.interrupted why) stands = record { silent = (tt, tt); explained = interrupts step keeps why stands }
+    looks_of before events result after taken.given stands = record { silent = (tt, tt); explained = found (has_first stands) }
+    looks_of before events result after taken.empty stands = record { silent = (tt, tt); explained = found_none (none_given Empty tt (has_first stands)) }
+    looks_of before events result after (taken.opened {ticket}) stands = record { silent = (tt, tt); explained = found_none (none_given (Open ticket) tt (has_first stands)) }
+    looks_of before events result after (taken.interrupted why) stands = record { silent = (tt, tt); explained = interrupts step keeps why stands }
 
     pub looks : Explains (Asks step) (FoundBy step)
     looks = record { of = looks_of }
 
     seats_of : (before : Option ℕ) (events : List (Event FurtherEvent)) (result : Result (Unit {0}) Refusal) (after : Option ℕ) → Seats step before events result after
         → StandIn events whole → Comes Anything events result
-    seats_of before events result after parts.opened stands = record { silent = (tt, tt); explained = tt }
-    seats_of before events result after (parts.interrupted why) stands = record { silent = (tt, tt); explained = interrupts step keeps why stands }
+    seats_of before events result after taken.opened stands = record { silent = (tt, tt); explained = tt }
+    seats_of before events result after (taken.interrupted why) stands = record { silent = (tt, tt); explained = interrupts step keeps why stands }
 
     pub seats : Explains (Seats step) Anything
     seats = record { of = seats_of }
 
     changes_of : (before : Option ℕ) (events : List (Event FurtherEvent)) (result : Result (Unit {0}) Refusal) (after : Option ℕ) → Changes step before events result after
         → StandIn events whole → Comes Anything events result
-    changes_of before events result after parts.done stands = record { silent = (tt, tt); explained = tt }
-    changes_of before events result after (parts.interrupted why) stands = record { silent = (tt, tt); explained = interrupts step keeps why stands }
+    changes_of before events result after taken.done stands = record { silent = (tt, tt); explained = tt }
+    changes_of before events result after (taken.interrupted why) stands = record { silent = (tt, tt); explained = interrupts step keeps why stands }
 
     pub changes : Explains (Changes step) Anything
     changes = record { of = changes_of }
 
   module _ (grip : Grip) where
-    peeks_of : (before : Option ℕ) (events : List (Event FurtherEvent)) (result : Result Bool Refusal) (after : Option ℕ) → Peeks grip before events result after
+    peeks_of : (before : Option ℕ) (events : List (Event FurtherEvent)) (result : Result Bool Refusal) (after : Option ℕ) → Peeks (grip_text grip) Normal before events result after
         → StandIn events whole → Comes Anything events result
-    peeks_of before events result after parts.peeked stands = record { silent = (tt, tt); explained = tt }
-    peeks_of before events result after (parts.interrupted why) stands = record { silent = (tt, tt); explained = interrupts _ refl why stands }
+    peeks_of before events result after taken.peeked stands = record { silent = (tt, tt); explained = tt }
+    peeks_of before events result after (taken.interrupted why) stands = record { silent = (tt, tt); explained = interrupts _ refl why stands }
 
-    pub peeks : Explains (Peeks grip) Anything
+    pub peeks : Explains (Peeks (grip_text grip) Normal) Anything
     peeks = record { of = peeks_of }
 
   module _ (keep : Option (List ℕ)) where
     pub closes_of : (before : Option ℕ) (events : List (Event FurtherEvent)) (result : Result (Unit {0}) Refusal) (after : Option ℕ) → Closes keep before events result after
         → StandIn events whole → Comes Anything events result
-    closes_of before events result after parts.unheld stands = record { silent = tt; explained = tt }
-    closes_of before events result after (parts.closed turn) stands = record { silent = (tt, tt); explained = tt }
+    closes_of before events result after taken.unheld stands = record { silent = tt; explained = tt }
+    closes_of before events result after (taken.closed turn) stands = record { silent = (tt, tt); explained = tt }
 
     pub closes_explained : Explains (Closes keep) Anything
     closes_explained = record { of = closes_of }

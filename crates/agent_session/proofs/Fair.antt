@@ -9,7 +9,7 @@ use Rattle.agent_ask.specs.Worlds.{Outside, Does}
 use Rattle.agent_ask.specs.Worlds as worlds
 use Rattle.agent_ports.specs.Leads.{Leads, none, one}
 use Rattle.assuan_server.specs.Reading.{Supply}
-use Rattle.assuan_server.specs.declared.errors.Code.TheVariants as code
+use Rattle.session_client.specs.declared.code.Code.TheVariants as code
 use Rattle.cache_policy.specs.Turns.{Turn, Given, Empty, Refused, MayWantMemory}
 use Rattle.cache_policy.specs.declared.mark.MarkStep.{MarkStep}
 use Rattle.cache_policy.specs.declared.mark.MarkStep.TheVariants.{Clear, Flush}

@@ -14,8 +14,8 @@ use Rattle.agent_ports.specs.declared.keys.KeyNames.{KeyNames}
 use Rattle.agent_ports.specs.declared.keys.KeyNames.TheVariants as key_names
 use Rattle.agent_ports.specs.declared.keys.KeyRead.{KeyRead}
 use Rattle.agent_ports.specs.declared.keys.KeyRead.TheVariants as key_read
-use Rattle.assuan_server.specs.declared.errors.Code.{Code}
-use Rattle.assuan_server.specs.declared.errors.Code.TheVariants as code
+use Rattle.session_client.specs.declared.code.Code.{Code}
+use Rattle.session_client.specs.declared.code.Code.TheVariants as code
 use Rattle.assuan_server.specs.declared.errors.Origin.TheVariants as origin
 use Rattle.cache_policy.specs.Turns.{Turn, Done, closes}
 use Rattle.cache_policy.specs.declared.mark.MarkStep.{MarkStep}
@@ -38,17 +38,24 @@ use Rattle.key_commands.specs.Exchanges as exchange
 use Rattle.key_commands.specs.Files.{Rewrites}
 use Rattle.key_commands.specs.Files as files
 use Rattle.key_commands.specs.KeyParts.{Tells, tells, ReadsFile, Replaces, Removes, KeepsNew, Protects, IsShort, HasOne, TellsInfo, ListsGrips, ReadsListed, WritesInfo, TellsListed, WritesInfos}
-use Rattle.key_commands.specs.KeyParts.{max_key_data, AsksKeyData, Unwraps, ReceivesKey, NamesKey, IsFree, LooksOver, WrapsKey, PromptsConsent, Agrees, Consents, file_in, grips_in, change_fault}
-use Rattle.key_commands.specs.KeyParts.{consent_refusal}
+use Rattle.key_commands.specs.KeyParts.{max_key_data, AsksKeyData, Unwraps, ReceivesKey, NamesKey, IsFree, LooksOver, WrapsKey, Agrees, Consents, file_in, grips_in, change_fault}
+use Rattle.agent_ask.specs.ConsentParts.{consent_refusal}
 use Rattle.key_commands.specs.KeyParts as parts
 use Rattle.key_commands.specs.Lines.{ok, grip_text, info_line, limit_line}
-use Rattle.key_commands.specs.Parts.{Part, ◌>>=◌, Follows, goes_on, stops, Returns, returns, Refuses, Interrupts, Asks, Seats, Changes, Peeks, Closes, Writes, Inquires, AsksClient, Finds, Draws, read_fault, refusal_events, refusal_went}
+use Rattle.key_commands.specs.Parts.{Part, Writes, Inquires, AsksClient, Finds, Draws, read_fault, refusal_events, refusal_went}
+use Rattle.agent_ask.specs.Parts.{◌>>=◌, Follows, goes_on, stops, Returns, returns, Refuses}
+use Rattle.agent_ask.specs.Interrupts.{Interrupts}
+use Rattle.agent_ask.specs.Interrupts as turns
+use Rattle.agent_ask.specs.TurnParts as taken
+use Rattle.agent_ask.specs.TurnParts.{Asks, Seats, Changes, Peeks, Closes}
+use Rattle.agent_ask.specs.Parts as chain
+use Rattle.agent_ask.specs.ConsentParts as consent
 use Rattle.key_commands.specs.Parts as small
 use Rattle.key_commands.specs.Passphrases.{PromptsPin, PromptsOld, PromptsNew, ClientOld, UncachedOld, CachedOld, OpensLocked, OldPassphrase, VerifiesPassphrase, ClientNew, NewPassphrase}
 use Rattle.key_commands.specs.Passphrases.{LooksForNonce, TakesSeat, Locks, Tries, TriesFound, ask_nonce, ask_key, seat_for, put_key, way_of, pin_refusal}
 use Rattle.key_commands.specs.Passphrases as passphrases
-use Rattle.key_commands.specs.declared.refusal.Refusal.{Refusal}
-use Rattle.key_commands.specs.declared.refusal.Refusal.TheVariants.{Agent, Pinentry, Client}
+use Rattle.session_client.specs.declared.refusal.Refusal.{Refusal}
+use Rattle.session_client.specs.declared.refusal.Refusal.TheVariants.{Agent, Pinentry, Client}
 use Rattle.key_commands.specs.declared.request.Direction.{Direction}
 use Rattle.key_commands.specs.declared.request.KeyRequest.{KeyRequest}
 use Rattle.key_commands.specs.declared.request.KeyRequest.TheVariants as on
@@ -92,29 +99,29 @@ module _ (request : Request) where
 
   module _ {step : MarkStep} (own : IsOwn step) where
     interrupt_here : {A : Type 0} {turn : Turn} {why : Code} → Interrupts turn why → Here {A = A} (cache_turn step turn ∷ []) (Err (Agent why))
-    interrupt_here small.refused = refused_by own.allowed (by_turn step _ own.no_close refl) refl
-    interrupt_here small.stopping = one_works request own.allowed (by_turn step _ own.no_close refl)
-    interrupt_here small.late = one_works request own.allowed (by_turn step _ own.no_close refl)
+    interrupt_here turns.refused = refused_by own.allowed (by_turn step _ own.no_close refl) refl
+    interrupt_here turns.stopping = one_works request own.allowed (by_turn step _ own.no_close refl)
+    interrupt_here turns.late = one_works request own.allowed (by_turn step _ own.no_close refl)
 
     looks_of : (before : Option ℕ) (events : List (Event FurtherEvent)) (result : Result (Option (List ℕ)) Refusal) (after : Option ℕ) → Asks step before events result after → Here events result
-    looks_of before events result after small.given = one_works request own.allowed (by_turn step _ own.no_close refl)
-    looks_of before events result after small.empty = one_works request own.allowed (by_turn step _ own.no_close refl)
-    looks_of before events result after small.opened = one_works request own.allowed (by_turn step _ own.no_close refl)
-    looks_of before events result after (small.interrupted why) = interrupt_here why
+    looks_of before events result after taken.given = one_works request own.allowed (by_turn step _ own.no_close refl)
+    looks_of before events result after taken.empty = one_works request own.allowed (by_turn step _ own.no_close refl)
+    looks_of before events result after taken.opened = one_works request own.allowed (by_turn step _ own.no_close refl)
+    looks_of before events result after (taken.interrupted why) = interrupt_here why
 
     looks : PartHere (Asks step)
     looks = record { of = looks_of }
 
     seats_of : (before : Option ℕ) (events : List (Event FurtherEvent)) (result : Result (Unit {0}) Refusal) (after : Option ℕ) → Seats step before events result after → Here events result
-    seats_of before events result after small.opened = one_works request own.allowed (by_turn step _ own.no_close refl)
-    seats_of before events result after (small.interrupted why) = interrupt_here why
+    seats_of before events result after taken.opened = one_works request own.allowed (by_turn step _ own.no_close refl)
+    seats_of before events result after (taken.interrupted why) = interrupt_here why
 
     seats : PartHere (Seats step)
     seats = record { of = seats_of }
 
     changes_of : (before : Option ℕ) (events : List (Event FurtherEvent)) (result : Result (Unit {0}) Refusal) (after : Option ℕ) → Changes step before events result after → Here events result
-    changes_of before events result after small.done = one_works request own.allowed (by_turn step _ own.no_close refl)
-    changes_of before events result after (small.interrupted why) = interrupt_here why
+    changes_of before events result after taken.done = one_works request own.allowed (by_turn step _ own.no_close refl)
+    changes_of before events result after (taken.interrupted why) = interrupt_here why
 
     changes : PartHere (Changes step)
     changes = record { of = changes_of }
@@ -122,11 +129,11 @@ module _ (request : Request) where
   own_step : (step : MarkStep) → closes step ≡ None → IsWorkStep request step → IsOwn step
   own_step asked no_close allowed = record { no_close = no_close; allowed = allowed }
 
-  peeks_of : (grip : Grip) (before : Option ℕ) (events : List (Event FurtherEvent)) (result : Result Bool Refusal) (after : Option ℕ) → Peeks grip before events result after → Here events result
-  peeks_of grip before events result after small.peeked = one_works request tt refl
-  peeks_of grip before events result after (small.interrupted why) = interrupt_here (own_step _ refl tt) why
+  peeks_of : (grip : Grip) (before : Option ℕ) (events : List (Event FurtherEvent)) (result : Result Bool Refusal) (after : Option ℕ) → Peeks (grip_text grip) Normal before events result after → Here events result
+  peeks_of grip before events result after taken.peeked = one_works request tt refl
+  peeks_of grip before events result after (taken.interrupted why) = interrupt_here (own_step _ refl tt) why
 
-  peeks : (grip : Grip) → PartHere (Peeks grip)
+  peeks : (grip : Grip) → PartHere (Peeks (grip_text grip) Normal)
   peeks grip = record { of = peeks_of grip }
 
   looks_for_nonce : (id : Option (List ℕ)) → PartHere (LooksForNonce id)
@@ -375,8 +382,8 @@ module _ (request : Request) where
 
   module _ (rules : Rules) (options : OptionValues) (grip : Grip) where
     agrees_of : (before : Option ℕ) (events : List (Event FurtherEvent)) (result : Result (Unit {0}) Refusal) (after : Option ℕ) → Agrees rules options grip before events result after → Here events result
-    agrees_of before events result after (parts.consents spec is prompt) = shown_ok (consent_shows_work request prompt.asks prompt.in_session)
-    agrees_of before events result after (parts.refused {answer} spec is prompt refusal) =
+    agrees_of before events result after (consent.consents spec is prompt) = shown_ok (consent_shows_work request prompt.asks prompt.in_session)
+    agrees_of before events result after (consent.refused {answer} spec is prompt refusal) =
         shown_err (consent_shows_work request prompt.asks prompt.in_session) (λ stop so. stopped_consent answer refusal so)
 
     agrees : PartHere (Agrees rules options grip)
@@ -520,9 +527,9 @@ module _ (request : Request) where
   module _ (grip : Grip) (file pass : List ℕ) where
     replaces_so_of : (before : Option ℕ) (events : List (Event FurtherEvent)) (result : Result (Unit {0}) Refusal) (after : Option ℕ)
         → (Replaces grip file >>= λ replaced. KeepsNew grip pass) before events result after → Ends events result after
-    replaces_so_of None events result after (goes_on parts.done small.done) = ends_with put
-    replaces_so_of None events result after (goes_on parts.done (small.interrupted why)) = ends_with (unput why)
-    replaces_so_of (Some number) events result after (goes_on parts.done (small.closed turn)) = ends_with (kept turn)
+    replaces_so_of None events result after (goes_on parts.done taken.done) = ends_with put
+    replaces_so_of None events result after (goes_on parts.done (taken.interrupted why)) = ends_with (unput why)
+    replaces_so_of (Some number) events result after (goes_on parts.done (taken.closed turn)) = ends_with (kept turn)
     replaces_so_of before events result after (stops (parts.not_done {answer} is)) = working_ends (unchanged answer (λ given. Replaced grip file given) (λ given other. other) (λ given. refl) is)
 
     ends_replacing : EndsSo (Replaces grip file >>= λ replaced. KeepsNew grip pass)
@@ -531,33 +538,33 @@ module _ (request : Request) where
     -- and then a value
     stores_so_of : {A : Type 0} (value : A) (before : Option ℕ) (events : List (Event FurtherEvent)) (result : Result A Refusal) (after : Option ℕ)
         → (Replaces grip file >>= λ replaced. (KeepsNew grip pass >>= λ kept. Returns value)) before events result after → Ends events result after
-    stores_so_of value None events result after (goes_on parts.done (goes_on small.done returns)) = ends_with put
-    stores_so_of value None events result after (goes_on parts.done (stops (small.interrupted why))) = ends_with (unput why)
-    stores_so_of value (Some number) events result after (goes_on parts.done (goes_on (small.closed turn) returns)) = ends_with (kept turn)
+    stores_so_of value None events result after (goes_on parts.done (goes_on taken.done returns)) = ends_with put
+    stores_so_of value None events result after (goes_on parts.done (stops (taken.interrupted why))) = ends_with (unput why)
+    stores_so_of value (Some number) events result after (goes_on parts.done (goes_on (taken.closed turn) returns)) = ends_with (kept turn)
     stores_so_of value (Some number) events result after (goes_on parts.done (stops never)) = elim never [ ]
     stores_so_of value before events result after (stops (parts.not_done {answer} is)) = working_ends (unchanged answer (λ given. Replaced grip file given) (λ given other. other) (λ given. refl) is)
 
   removes_so_of : {A : Type 0} (grip : Grip) (value : A) (before : Option ℕ) (events : List (Event FurtherEvent)) (result : Result A Refusal) (after : Option ℕ)
       → (Removes grip >>= λ removed. (Changes (Clear (grip_text grip) Normal) >>= λ cleared. Returns value)) before events result after → Ends events result after
-  removes_so_of grip value before events result after (goes_on parts.done (goes_on small.done returns)) = ends_with cleared
-  removes_so_of grip value before events result after (goes_on parts.done (stops (small.interrupted why))) = ends_with (uncleared why)
+  removes_so_of grip value before events result after (goes_on parts.done (goes_on taken.done returns)) = ends_with cleared
+  removes_so_of grip value before events result after (goes_on parts.done (stops (taken.interrupted why))) = ends_with (uncleared why)
   removes_so_of grip value before events result after (stops (parts.not_done {answer} is)) = working_ends (unchanged answer (λ given. Removed grip given) (λ given other. other) (λ given. refl) is)
 
   -- a ticket is given back
   gives_back_of : {A : Type 0} (keep : Option (List ℕ)) (value : A) (before : Option ℕ) (events : List (Event FurtherEvent)) (result : Result A Refusal) (after : Option ℕ)
       → (Closes keep >>= λ closed. Returns value) before events result after → Ends events result after
-  gives_back_of keep value before events result after (goes_on small.unheld returns) = working_ends (works request tt)
-  gives_back_of keep value before events result after (goes_on (small.closed turn) returns) = ends_with (closed turn)
+  gives_back_of keep value before events result after (goes_on taken.unheld returns) = working_ends (works request tt)
+  gives_back_of keep value before events result after (goes_on (taken.closed turn) returns) = ends_with (closed turn)
   gives_back_of keep value before events result after (stops never) = elim never [ ]
 
   wraps_last_of : (keep : Option (List ℕ)) (wrap : List ℕ) (key : Key) (wraps : WrapKeys) (before : Option ℕ) (events : List (Event FurtherEvent)) (result : Result KeyReply Refusal) (after : Option ℕ)
       → (Closes keep >>= λ closed. (WrapsKey wrap key >>= λ wrapped. (Tells wrapped >>= λ text. Returns (exchange.reply wraps text)))) before events result after → Ends events result after
-  wraps_last_of keep wrap key wraps before events result after (goes_on small.unheld (goes_on parts.is_wrapped (goes_on (tells answers) returns))) = working_ends (works request tt)
-  wraps_last_of keep wrap key wraps before events result after (goes_on small.unheld (stops parts.no_memory)) = working_ends (refused_by tt refl refl)
-  wraps_last_of keep wrap key wraps before events result after (goes_on (small.closed turn) (goes_on parts.is_wrapped (goes_on (tells answers) returns))) = ends_with (closed turn)
-  wraps_last_of keep wrap key wraps before events result after (goes_on (small.closed turn) (stops parts.no_memory)) = ends_with (unwrapped turn)
-  wraps_last_of keep wrap key wraps before events result after (goes_on small.unheld (goes_on parts.is_wrapped (stops never))) = elim never [ ]
-  wraps_last_of keep wrap key wraps before events result after (goes_on (small.closed turn) (goes_on parts.is_wrapped (stops never))) = elim never [ ]
+  wraps_last_of keep wrap key wraps before events result after (goes_on taken.unheld (goes_on parts.is_wrapped (goes_on (tells answers) returns))) = working_ends (works request tt)
+  wraps_last_of keep wrap key wraps before events result after (goes_on taken.unheld (stops parts.no_memory)) = working_ends (refused_by tt refl refl)
+  wraps_last_of keep wrap key wraps before events result after (goes_on (taken.closed turn) (goes_on parts.is_wrapped (goes_on (tells answers) returns))) = ends_with (closed turn)
+  wraps_last_of keep wrap key wraps before events result after (goes_on (taken.closed turn) (stops parts.no_memory)) = ends_with (unwrapped turn)
+  wraps_last_of keep wrap key wraps before events result after (goes_on taken.unheld (goes_on parts.is_wrapped (stops never))) = elim never [ ]
+  wraps_last_of keep wrap key wraps before events result after (goes_on (taken.closed turn) (goes_on parts.is_wrapped (stops never))) = elim never [ ]
   wraps_last_of keep wrap key wraps before events result after (stops never) = elim never [ ]
 
   -- ---- requests
@@ -649,27 +656,27 @@ module _ (request : Request) where
   last_of (Client (unheard.Gone gone.WriteFault)) = client_gone
 
   held_back : {held : Option ℕ} {back : List (Event FurtherEvent)} (last : List (Event FurtherEvent)) → Closes None held back (Ok tt) None → GivesBack last (back ++ last)
-  held_back last small.unheld = no_ticket
-  held_back last (small.closed turn) = with_ticket turn
+  held_back last taken.unheld = no_ticket
+  held_back last (taken.closed turn) = with_ticket turn
 
   last_end : {held : Option ℕ} {back last : List (Event FurtherEvent)} → IsLast last → Closes None held back (Ok tt) None → IsEnd request (back ++ last)
-  last_end is_last small.unheld = course.answered is_last
-  last_end is_last (small.closed turn) = course.given_back turn is_last
+  last_end is_last taken.unheld = course.answered is_last
+  last_end is_last (taken.closed turn) = course.given_back turn is_last
 
   ok_end_closes : {last back : List (Event FurtherEvent)} {held : Option ℕ} {reply : KeyReply} → EndsInOk reply.text → KeyEnd last (Ok reply) held → Closes None held back (Ok tt) None
       → IsEnd request (last ++ (back ++ Sent reply.text ∷ []))
   ok_end_closes good (working no_more) closes_so = last_end (said (done good)) closes_so
-  ok_end_closes good (closed turn) small.unheld = course.given_back turn (said (done good))
-  ok_end_closes good (kept turn) small.unheld = course.kept turn good
-  ok_end_closes good put small.unheld = course.stored (settled good)
+  ok_end_closes good (closed turn) taken.unheld = course.given_back turn (said (done good))
+  ok_end_closes good (kept turn) taken.unheld = course.kept turn good
+  ok_end_closes good put taken.unheld = course.stored (settled good)
   ok_end_closes good cleared closes_so = course.cleared (settled good) (held_back _ closes_so)
 
   err_end_closes : {last back : List (Event FurtherEvent)} {held : Option ℕ} {why : Refusal} → KeyEnd {A = KeyReply} last (Err why) held → Closes None held back (Ok tt) None
       → IsEnd request (last ++ (back ++ refusal_events why))
   err_end_closes (working no_more) closes_so = last_end (last_of _) closes_so
   err_end_closes (working (refused {event} allowed is)) closes_so = course.refused allowed is (held_back _ closes_so)
-  err_end_closes (unwrapped turn) small.unheld = course.unanswered turn
-  err_end_closes (unput why) small.unheld = course.stored (interrupted why)
+  err_end_closes (unwrapped turn) taken.unheld = course.unanswered turn
+  err_end_closes (unput why) taken.unheld = course.stored (interrupted why)
   err_end_closes (uncleared why) closes_so = course.cleared (interrupted why) (held_back _ closes_so)
 
   ends_course : {A : Type 0} {events : List (Event FurtherEvent)} {result : Result A Refusal} {held : Option ℕ} (ends : Ends events result held) (more : List (Event FurtherEvent)) → IsEnd request (ends.last ++ more)
@@ -747,7 +754,7 @@ module _ (rules : Rules) (options : OptionValues) (wraps : WrapKeys) where
 
   bad_ok_of : (why : Code) {before after : Option ℕ} {events : List (Event FurtherEvent)} {result : Result KeyReply Refusal} {reply : KeyReply} → Refuses (Agent why) before events result after → result ≡ Ok reply
       → EndsInOk reply.text
-  bad_ok_of why small.refuses is = absurd (cc is)
+  bad_ok_of why chain.refuses is = absurd (cc is)
 
   bad_ok : (why : Code) → RepliesOk (Replies rules options wraps (on.Bad why))
   bad_ok why = record { of = λ does. bad_ok_of why does refl }

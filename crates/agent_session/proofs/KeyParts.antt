@@ -24,8 +24,8 @@ use Rattle.agent_ports.specs.declared.keys.KeyDone.TheVariants as key_done
 use Rattle.agent_ports.specs.declared.keys.KeyRead.{KeyRead}
 use Rattle.agent_ports.specs.declared.keys.KeyRead.TheVariants as key_read
 use Rattle.assuan_server.specs.Clients.{session_lines}
-use Rattle.assuan_server.specs.declared.errors.Code.{Code}
-use Rattle.assuan_server.specs.declared.errors.Code.TheVariants as code
+use Rattle.session_client.specs.declared.code.Code.{Code}
+use Rattle.session_client.specs.declared.code.Code.TheVariants as code
 use Rattle.cache_policy.specs.declared.mark.MarkStep.{MarkStep}
 use Rattle.session_client.specs.declared.unheard.Unheard.{Unheard}
 use Rattle.session_client.specs.declared.unheard.Unheard.TheVariants as unheard
@@ -37,13 +37,15 @@ use Rattle.secret_file.specs.Opens.{LockedKey}
 use Rattle.agent_commands.specs.Events.{Event}
 use Rattle.agent_commands.specs.declared.request.Request.{Request}
 use Rattle.key_commands.specs.Faults.{fault_code}
-use Rattle.key_commands.specs.KeyParts.{ReadsFile, change_fault, Replaces, Removes, KeepsNew, consent_refusal, Agrees}
+use Rattle.key_commands.specs.KeyParts.{ReadsFile, change_fault, Replaces, Removes, KeepsNew, Agrees}
+use Rattle.agent_ask.specs.ConsentParts.{consent_refusal}
+use Rattle.agent_ask.specs.ConsentParts as consent
 use Rattle.key_commands.specs.KeyParts as parts
 use Rattle.key_commands.specs.Parts.{read_fault}
 use Rattle.key_commands.specs.Passphrases.{ask_nonce, LooksForNonce, TakesSeat, pin_refusal, Locks, OpensBy, Tries, TriesFound, PromptsOld, PromptsNew}
 use Rattle.key_commands.specs.Passphrases as passphrases
-use Rattle.key_commands.specs.declared.refusal.Refusal.{Refusal}
-use Rattle.key_commands.specs.declared.refusal.Refusal.TheVariants.{Client}
+use Rattle.session_client.specs.declared.refusal.Refusal.{Refusal}
+use Rattle.session_client.specs.declared.refusal.Refusal.TheVariants.{Client}
 use Rattle.agent_session.specs.Causes.{Has, StandIn, IsSaid, said, IsUnread, IsUnremoved, LacksKeys, on_keys, one, IsRead, read, IsReadOf, read_of, IsReadLocked, OpensRead, opens, IsFaulty, Unlocks, Judges}
 use Rattle.agent_session.specs.Causes.{protection, faulty, HasCall, GivesNone, GivesNoneFor, none_at_all, wrong, ByNonce}
 use Rattle.agent_session.specs.Causes as causes
@@ -268,8 +270,8 @@ module _ (rules : Rules) (kept : Kept) (request : Request) (whole : List (Event 
 
     agrees_of : (before : Option ℕ) (events : List (Event FurtherEvent)) (result : Result (Unit {0}) Refusal) (after : Option ℕ) → Agrees rules kept.options grip before events result after
         → StandIn events whole → ComesHere Anything events result
-    agrees_of before events result after (parts.consents spec is prompt) stands = record { silent = prompt_silent prompt.in_session; explained = tt }
-    agrees_of before events result after (parts.refused {answer} {why} spec is prompt refusal) stands =
+    agrees_of before events result after (consent.consents spec is prompt) stands = record { silent = prompt_silent prompt.in_session; explained = tt }
+    agrees_of before events result after (consent.refused {answer} {why} spec is prompt refusal) stands =
         record { silent = prompt_silent prompt.in_session; explained = consent_caused prompt.in_session stands answer why (consent_shows prompt.asks) refusal }
 
     pub agrees : ExplainsHere (Agrees rules kept.options grip) Anything

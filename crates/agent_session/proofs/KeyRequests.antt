@@ -9,8 +9,8 @@ use Rattle.agent_ports.specs.declared.grip.Grip.{Grip}
 use Rattle.agent_ports.specs.declared.keys.KeyDone.TheVariants as key_done
 use Rattle.agent_ports.specs.declared.keys.KeyRead.{KeyRead}
 use Rattle.agent_ports.specs.declared.keys.KeyRead.TheVariants as key_read
-use Rattle.assuan_server.specs.declared.errors.Code.{Code}
-use Rattle.assuan_server.specs.declared.errors.Code.TheVariants as code
+use Rattle.session_client.specs.declared.code.Code.{Code}
+use Rattle.session_client.specs.declared.code.Code.TheVariants as code
 use Rattle.assuan_server.specs.declared.errors.Origin.TheVariants.{Agent as OfAgent}
 use Rattle.cache_policy.specs.Turns.{Refused, Empty, Stopping}
 use Rattle.cache_policy.specs.declared.secret.TheConstants.{MAX_SECRET_LEN}
@@ -31,13 +31,14 @@ use Rattle.key_commands.specs.KeyParts.{Tells, tells, Protects, IsShort, HasOne 
 use Rattle.key_commands.specs.KeyParts.{Unwraps, ReceivesKey, NamesKey, IsFree, LooksOver, WrapsKey, Consents}
 use Rattle.key_commands.specs.KeyParts as parts
 use Rattle.key_commands.specs.Lines.{limit_line}
-use Rattle.key_commands.specs.Parts.{Part, Returns, needed, or_else, wanted, read_fault}
+use Rattle.key_commands.specs.Parts.{Part, read_fault}
+use Rattle.agent_ask.specs.Parts.{Returns, needed, or_else, wanted, unless}
 use Rattle.key_commands.specs.Parts as small
 use Rattle.key_commands.specs.Passphrases.{OpensBy, ClientOld, UncachedOld, OpensLocked, OldPassphrase, VerifiesPassphrase, ClientNew, NewPassphrase, ask_key, way_of}
 use Rattle.key_commands.specs.Wrapping.{WrappedSays}
 use Rattle.key_commands.specs.Wrapping as wrapping
-use Rattle.key_commands.specs.declared.refusal.Refusal.{Refusal}
-use Rattle.key_commands.specs.declared.refusal.Refusal.TheVariants.{Agent}
+use Rattle.session_client.specs.declared.refusal.Refusal.{Refusal}
+use Rattle.session_client.specs.declared.refusal.Refusal.TheVariants.{Agent}
 use Rattle.key_commands.specs.declared.request.Direction.{Direction}
 use Rattle.key_commands.specs.declared.request.KeyRequest.{KeyRequest}
 use Rattle.key_commands.specs.declared.request.KeyRequest.TheVariants as on

@@ -2,8 +2,8 @@
 use Rattle.std.proofs.Common.{◌≡◌, ℕ, Bool, true, false, List, [], ◌∷◌, codes, Option, Some, None, Result, Ok, Err, subst, inl, inr}
 use Rattle.std.specs.Prelude.{if◌then◌else◌, ⊤}
 use Rattle.agent_ask.specs.Further.{FurtherEvent}
-use Rattle.assuan_server.specs.declared.errors.Code.{Code}
-use Rattle.assuan_server.specs.declared.errors.Code.TheVariants as code
+use Rattle.session_client.specs.declared.code.Code.{Code}
+use Rattle.session_client.specs.declared.code.Code.TheVariants as code
 use Rattle.assuan_server.specs.declared.errors.Origin.TheVariants.{Agent}
 use Rattle.assuan_text.specs.Options.{options_of, arguments_of, has_option, last_option, last_value}
 use Rattle.assuan_text.specs.Words.{command_of, rest_of, words}

@@ -4,7 +4,7 @@ use Rattle.std.proofs.Common.{◌≡◌, ℕ, Bool, true, false, List, [], ◌�
 use Rattle.agent_ask.specs.Further.{FurtherEvent, Keys, Dice, NoMemory, Prompt, Trust}
 use Rattle.agent_ask.specs.SessionEvents.{Received, Sent, Cut, Inquiry, CacheTurn, Further}
 use Rattle.agent_ports.specs.declared.grip.Grip.{Grip}
-use Rattle.assuan_server.specs.declared.errors.Code.TheVariants as code
+use Rattle.session_client.specs.declared.code.Code.TheVariants as code
 use Rattle.secret_file.specs.Opens.{LockedKey}
 use Rattle.session_options.specs.OptionValues.{OptionValues}
 use Rattle.session_options.specs.declared.options.PinMode.{PinMode}
@@ -18,22 +18,24 @@ use Rattle.key_commands.specs.Exchanges as exchange
 use Rattle.key_commands.specs.KeyParts.{IsShort, Consents}
 use Rattle.key_commands.specs.KeyParts as parts
 use Rattle.key_commands.specs.Lines.{ok}
-use Rattle.key_commands.specs.Parts.{Part, ◌>>=◌, Follows, goes_on, stops, Returns, or_else, Closes, refusal_events}
-use Rattle.key_commands.specs.Parts as small
+use Rattle.key_commands.specs.Parts.{Part, refusal_events}
+use Rattle.agent_ask.specs.Parts.{◌>>=◌, Follows, goes_on, stops, Returns, or_else}
+use Rattle.agent_ask.specs.TurnParts.{Closes}
+use Rattle.agent_ask.specs.Parts as chain
+use Rattle.agent_ask.specs.TurnParts as taken
 use Rattle.key_commands.specs.Passphrases.{PromptsOld, PromptsNew, UncachedOld, OpensLocked, OldPassphrase, NewPassphrase, LooksForNonce, TakesSeat}
 use Rattle.key_commands.specs.Passphrases as passphrases
-use Rattle.key_commands.specs.declared.refusal.Refusal.{Refusal}
-use Rattle.key_commands.specs.declared.refusal.Refusal.TheVariants.{Agent, Pinentry, Client}
+use Rattle.session_client.specs.declared.refusal.Refusal.{Refusal}
+use Rattle.session_client.specs.declared.refusal.Refusal.TheVariants.{Agent, Pinentry, Client}
 use Rattle.key_commands.specs.declared.request.Direction.{Direction}
 use Rattle.key_commands.specs.declared.request.KeyRequest.{KeyRequest}
 use Rattle.key_commands.specs.declared.request.KeyRequest.TheVariants as on
 use Rattle.key_commands.specs.declared.went.KeyWent.{KeyWent}
 use Rattle.key_commands.specs.declared.wrap_keys.WrapKeys.{WrapKeys}
-use Rattle.key_commands.proofs.EachEvent.{each_append}
+use Rattle.key_commands.proofs.EachEvent.{each_append, IsStill, EachSo, each_bind, each_returned, each_refused, each_needed, each_otherwise, each_wanted, each_looks, each_seats, each_changes, looks_nonce}
 use Rattle.session_client.specs.declared.unheard.Gone.TheVariants as gone
 use Rattle.session_client.specs.declared.unheard.Unheard.TheVariants as unheard
 use Rattle.agent_session.specs.Refusals.{IsUncalled, IsUnopening, OpensFirst}
-use Rattle.key_commands.proofs.EachEvent.{IsStill, EachSo, each_bind, each_returned, each_refused, each_needed, each_otherwise, each_wanted, each_looks, each_seats, each_changes, looks_nonce}
 use Rattle.key_commands.proofs.EachEvent.{looks_over, takes_seat, each_closes, finds, draws, reads_file, lists, told, is_short, names_key, wraps_key, receives_key, is_free, has_one, locks}
 use Rattle.key_commands.proofs.EachEvent.{tries_found, removes, tells_info, writes_infos, client_old, rewrites_file, stores_key, client_new, prompts_old, prompts_new, agrees}
 
@@ -223,16 +225,16 @@ short_stays key number events result after (parts.short few) = refl
 short_stays key number events result after (parts.long many) = refl
 
 nonce_stays : (id : Option (List ℕ)) (number : ℕ) (events : List (Event FurtherEvent)) (result : Result (Option (List ℕ)) Refusal) (after : Option ℕ) → LooksForNonce id (Some number) events result after → after ≡ Some number
-nonce_stays None number events result after small.returns = refl
-nonce_stays (Some id) number events result after small.given = refl
-nonce_stays (Some id) number events result after small.empty = refl
-nonce_stays (Some id) number events result after (small.interrupted why) = refl
+nonce_stays None number events result after chain.returns = refl
+nonce_stays (Some id) number events result after taken.given = refl
+nonce_stays (Some id) number events result after taken.empty = refl
+nonce_stays (Some id) number events result after (taken.interrupted why) = refl
 
 seat_taken_stays : (grip : Grip) (number : ℕ) (events : List (Event FurtherEvent)) (result : Result (Unit {0}) Refusal) (after : Option ℕ) → TakesSeat grip (Some number) events result after → after ≡ Some number
-seat_taken_stays grip number events result after small.returns = refl
+seat_taken_stays grip number events result after chain.returns = refl
 
 seat_taken_each : (grip : Grip) (number : ℕ) (events : List (Event FurtherEvent)) (result : Result (Unit {0}) Refusal) (after : Option ℕ) → TakesSeat grip (Some number) events result after → Unopening events
-seat_taken_each grip number events result after small.returns = tt
+seat_taken_each grip number events result after chain.returns = tt
 
 module _ (rules : Rules) (options : OptionValues) (grip : Grip) where
   new_by_seated : (way : PinMode) (number : ℕ) (events : List (Event FurtherEvent)) (result : Result (List ℕ) Refusal) (after : Option ℕ) → passphrases.new_by rules options grip way (Some number) events result after
@@ -276,7 +278,7 @@ module _ (rules : Rules) (options : OptionValues) (grip : Grip) where
 
   changed_seated : (wraps : WrapKeys) (id : Option (List ℕ)) (file : List ℕ) (key : Key) (number : ℕ) (events : List (Event FurtherEvent)) (result : Result KeyReply Refusal) (after : Option ℕ)
       → (ChangesOpened rules options grip id file key >>= λ changed. Returns (exchange.reply wraps ok)) (Some number) events result after → Unopening events
-  changed_seated wraps id file key number events result after (goes_on {first = some} {events = more} {value} {mid} does small.returns) =
+  changed_seated wraps id file key number events result after (goes_on {first = some} {events = more} {value} {mid} does chain.returns) =
       each_append IsUnopening some more (changes_seated id file key number some (Ok value) mid does) tt
   changed_seated wraps id file key number events result after (stops {refusal = why} does) = changes_seated id file key number events (Err why) after does
 
@@ -358,8 +360,8 @@ module _ (rules : Rules) (options : OptionValues) (wraps : WrapKeys) where
   replies (on.Bad why) = prompts_opens (uncalled_prompts (each_refused IsUncalled (Agent why)))
 
   back_unopening : {held : Option ℕ} {back : List (Event FurtherEvent)} (last : List (Event FurtherEvent)) → Unopening last → Closes None held back (Ok tt) None → Unopening (back ++ last)
-  back_unopening last each small.unheld = each
-  back_unopening last each (small.closed turn) = (refl, each)
+  back_unopening last each taken.unheld = each
+  back_unopening last each (taken.closed turn) = (refl, each)
 
   refusal_unopening : (why : Refusal) → Unopening (refusal_events why)
   refusal_unopening (Agent why) = (tt, tt)

@@ -11,11 +11,12 @@ use Rattle.key_commands.specs.Files.{Rewrites}
 use Rattle.key_commands.specs.Files as files
 use Rattle.key_commands.specs.KeyParts.{Tells, tells, ReadsFile, Replaces, Protects, IsShort, AsksKeyData, Unwraps, NamesKey, LooksOver, WrapsKey}
 use Rattle.key_commands.specs.KeyParts as parts
-use Rattle.key_commands.specs.Parts.{Asks, Writes, Inquires, Finds, Draws}
+use Rattle.key_commands.specs.Parts.{Writes, Inquires, Finds, Draws}
+use Rattle.agent_ask.specs.TurnParts.{Asks}
 use Rattle.key_commands.specs.Parts as small
 use Rattle.key_commands.specs.Passphrases.{LooksForNonce, Locks, Tries, ask_nonce}
 use Rattle.key_commands.specs.Passphrases as passphrases
-use Rattle.key_commands.specs.declared.refusal.Refusal.{Refusal}
+use Rattle.session_client.specs.declared.refusal.Refusal.{Refusal}
 use Rattle.agent_session.specs.Causes.{here, StandIn, IsSent, sent, IsDrawn, IsRead, read, IsReadLocked}
 use Rattle.agent_session.specs.OwnPassphrases.{HasTicket, has_ticket, IsAccepted, any, opening, IsGivenNew, given, NamesNew}
 use Rattle.agent_session.proofs.OwnParts.{IsQuiet, Fit, HoldsOf, Quiet, QuietWith}

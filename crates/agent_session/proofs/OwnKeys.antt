@@ -8,7 +8,7 @@ use Rattle.agent_ask.specs.SessionEvents.{Received, Sent, Cut, Inquiry, CacheTur
 use Rattle.assuan_server.specs.Clients.{session_lines}
 use Rattle.agent_ports.specs.declared.grip.Grip.{Grip}
 use Rattle.assuan_escape.specs.Escapes.{hex_text}
-use Rattle.assuan_server.specs.declared.errors.Code.TheVariants as code
+use Rattle.session_client.specs.declared.code.Code.TheVariants as code
 use Rattle.cache_policy.specs.Turns.{Open}
 use Rattle.cache_policy.specs.declared.life.Life.TheVariants.{Default}
 use Rattle.cache_policy.specs.declared.mark.MarkStep.TheVariants.{Close, Put}
@@ -27,12 +27,15 @@ use Rattle.key_commands.specs.Exchanges.{Exchange, Replies, HaveKeyReplies, KeyI
 use Rattle.key_commands.specs.Exchanges.{RewritesFile, ChangesOpened, StoresKey, FoundOrNew, ExportKeyReplies, PasswdReplies, VerifyReplies, ImportKeyReplies}
 use Rattle.key_commands.specs.KeyParts.{KeepsNew, ReceivesKey, max_key_data, IsFree, Consents}
 use Rattle.key_commands.specs.Lines.{limit_line}
-use Rattle.key_commands.specs.Parts.{Part, Asks, Changes, Closes, AsksClient, or_else, refusal_events, refusal_line}
+use Rattle.key_commands.specs.Parts.{Part, AsksClient, refusal_events}
+use Rattle.agent_ask.specs.TurnParts.{Asks, Changes, Closes}
+use Rattle.agent_ask.specs.Parts.{or_else}
+use Rattle.assuan_server.specs.Written.{refusal_line}
 use Rattle.key_commands.specs.Parts as small
 use Rattle.key_commands.specs.Passphrases.{PromptsOld, PromptsNew, ClientOld, UncachedOld, OpensLocked, ClientNew, TakesSeat, TriesFound, Locks, ask_key, put_key, way_of}
 use Rattle.key_commands.specs.Passphrases as passphrases
-use Rattle.key_commands.specs.declared.refusal.Refusal.{Refusal}
-use Rattle.key_commands.specs.declared.refusal.Refusal.TheVariants.{Agent}
+use Rattle.session_client.specs.declared.refusal.Refusal.{Refusal}
+use Rattle.session_client.specs.declared.refusal.Refusal.TheVariants.{Agent}
 use Rattle.key_commands.specs.declared.request.Direction.{Direction}
 use Rattle.key_commands.specs.declared.request.KeyRequest.{KeyRequest}
 use Rattle.key_commands.specs.declared.request.KeyRequest.TheVariants as on
@@ -42,8 +45,7 @@ use Rattle.key_commands.proofs.EachEvent.{each_append, each_shown, IsStill, Each
 use Rattle.key_commands.proofs.EachEvent.{each_changes, finds, draws, reads_file, lists, told, has_one, removes, tells_info, writes_infos, agrees}
 use Rattle.agent_session.specs.Causes as causes
 use Rattle.agent_session.specs.Causes.{here, StandIn, on_keys, Unlocks, IsSent, IsDrawn, IsRead, IsReadLocked}
-use Rattle.agent_session.specs.OwnPassphrases.{IsAbout, named, brought, by_command, of_key, NamesNew, brings, changes, WantsTicket, by_key, by_seat, HasTicket, has_ticket, IsAccepted, any, opening, IsGivenNew}
-use Rattle.agent_session.specs.OwnPassphrases.{StoresOwn, HandsIn}
+use Rattle.agent_session.specs.OwnPassphrases.{IsAbout, named, brought, by_command, of_key, NamesNew, brings, changes, WantsTicket, by_key, by_seat, HasTicket, has_ticket, IsAccepted, any, opening, IsGivenNew, StoresOwn, HandsIn}
 use Rattle.agent_session.specs.OwnPassphrases as whose
 use Rattle.agent_session.specs.Refusals.{imported}
 use Rattle.agent_session.proofs.OwnFacts.{sent_more, drawn_more, read_more, locked_more, ticket_more, accepted_more, given_more, FoundNew}

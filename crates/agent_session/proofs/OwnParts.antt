@@ -9,11 +9,12 @@ use Rattle.cache_policy.specs.declared.mark.MarkStep.{MarkStep}
 use Rattle.cache_policy.specs.declared.mark.MarkStep.TheVariants.{Close}
 use Rattle.agent_commands.specs.Events.{Event}
 use Rattle.agent_commands.specs.declared.request.Request.{Request}
-use Rattle.assuan_server.specs.declared.errors.Code.{Code}
-use Rattle.key_commands.specs.Parts.{Part, ◌>>=◌, Follows, goes_on, stops, Returns, returns, Refuses, needed, wanted}
+use Rattle.session_client.specs.declared.code.Code.{Code}
+use Rattle.key_commands.specs.Parts.{Part, ◌>>=◌}
+use Rattle.agent_ask.specs.Parts.{Follows, goes_on, stops, Returns, returns, Refuses, needed, wanted}
 use Rattle.key_commands.specs.Parts as small
-use Rattle.key_commands.specs.declared.refusal.Refusal.{Refusal}
-use Rattle.key_commands.specs.declared.refusal.Refusal.TheVariants.{Agent}
+use Rattle.session_client.specs.declared.refusal.Refusal.{Refusal}
+use Rattle.session_client.specs.declared.refusal.Refusal.TheVariants.{Agent}
 use Rattle.key_commands.proofs.EachEvent.{EachSo}
 use Rattle.agent_session.specs.Imports.{HandsNothing}
 use Rattle.agent_session.specs.OwnPassphrases.{StoresOwn, HandsIn}

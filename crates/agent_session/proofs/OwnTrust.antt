@@ -14,7 +14,11 @@ use Rattle.session_options.specs.declared.rules.Rules.{Rules}
 use Rattle.trust_list.specs.Trust.{trust}
 use Rattle.agent_origin.specs.Exchanges.{unless_said, TrustedNow, Stores, StoresUnsaid, Consented, asked_in, Marked, Carried, TrustExchange}
 use Rattle.agent_origin.specs.Exchanges as trusts
-use Rattle.agent_origin.specs.Parts.{Part, ◌>>=◌, Follows, Returns, Refuses, Seats, UnderTicket, Agrees, ReadsFile, AddsEntry, Replaces, refusal_line, refusal_events}
+use Rattle.agent_origin.specs.Parts.{◌>>=◌, UnderTicket, Agrees, ReadsFile, AddsEntry, Replaces}
+use Rattle.key_commands.specs.Parts.{Part, refusal_events}
+use Rattle.agent_ask.specs.Parts.{Follows, Returns, Refuses}
+use Rattle.agent_ask.specs.TurnParts.{Seats}
+use Rattle.assuan_server.specs.Written.{refusal_line}
 use Rattle.agent_origin.specs.Parts as parts
 use Rattle.agent_origin.specs.declared.request.TrustPurpose.{TrustPurpose}
 use Rattle.agent_origin.specs.declared.request.TrustRequest.{TrustRequest}

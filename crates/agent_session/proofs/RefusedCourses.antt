@@ -5,6 +5,7 @@ use Rattle.agent_ask.specs.Events.{Called, OutOfMemory, Notified}
 use Rattle.agent_ask.specs.Further.{FurtherEvent, Read, Listed, Replaced, Removed, Drew, NotDrawn, Prompt, Keys, Dice, NoMemory, Trust}
 use Rattle.agent_ask.specs.SessionEvents.{Received, Sent, Cut, Inquiry, CacheTurn, Further, cache_turn}
 use Rattle.agent_ask.specs.TrustCalls as trust_call
+use Rattle.agent_ask.specs.Interrupts as turns
 use Rattle.agent_ports.specs.declared.grip.Grip.{Grip}
 use Rattle.agent_ports.specs.declared.keys.KeyDone.TheVariants as key_done
 use Rattle.agent_ports.specs.declared.keys.KeyNames.TheVariants as key_names
@@ -12,8 +13,8 @@ use Rattle.agent_ports.specs.declared.keys.KeyRead.TheVariants as key_read
 use Rattle.agent_ports.specs.declared.trust.TrustDone.TheVariants as trust_done
 use Rattle.agent_ports.specs.declared.trust.TrustRead.TheVariants as trust_read
 use Rattle.assuan_server.specs.Written.{failed}
-use Rattle.assuan_server.specs.declared.errors.Code.{Code}
-use Rattle.assuan_server.specs.declared.errors.Code.TheVariants as code
+use Rattle.session_client.specs.declared.code.Code.{Code}
+use Rattle.session_client.specs.declared.code.Code.TheVariants as code
 use Rattle.assuan_server.specs.declared.errors.Origin.TheVariants.{Agent}
 use Rattle.cache_policy.specs.Turns.{Turn, Refused, FitsStep, closes}
 use Rattle.cache_policy.specs.declared.mark.MarkStep.{MarkStep}
@@ -23,7 +24,6 @@ use Rattle.session_options.specs.declared.rules.Rules.{Rules}
 use Rattle.agent_commands.specs.Events.{Event}
 use Rattle.agent_commands.specs.declared.request.Request.{Request}
 use Rattle.key_commands.specs.Lines.{grip_text}
-use Rattle.key_commands.specs.Parts as small
 use Rattle.key_commands.specs.Passphrases.{put_key}
 use Rattle.agent_session.specs.Causes.{Has, here, later, HasOne, one, WantsMemory, FailsAtKeysOrDice, IsCaused}
 use Rattle.agent_session.specs.Refusals as course
@@ -174,14 +174,14 @@ module _ (request : Request) where
       subst (λ c. RefusedEnd request c (event ∷ (shuts event ++ ending))) same (at_work allowed is back)
   refused_end (course.kept turn ok) has = absurd (none_refuses _ (refl, (refl, (refl, tt))) has)
   refused_end (course.stored (course.settled ok)) has = absurd (none_refuses _ (refl, (refl, (refl, tt))) has)
-  refused_end (course.stored {grip} {file} {pass} (course.interrupted small.refused)) has = subst (λ c. RefusedEnd request c (stored_events grip file pass)) (cc (only_first _ (refl, tt) (not_first refl has))) at_store
-  refused_end (course.stored (course.interrupted small.stopping)) has = absurd (none_refuses _ (refl, (refl, (refl, tt))) has)
-  refused_end (course.stored (course.interrupted small.late)) has = absurd (none_refuses _ (refl, (refl, (refl, tt))) has)
+  refused_end (course.stored {grip} {file} {pass} (course.interrupted turns.refused)) has = subst (λ c. RefusedEnd request c (stored_events grip file pass)) (cc (only_first _ (refl, tt) (not_first refl has))) at_store
+  refused_end (course.stored (course.interrupted turns.stopping)) has = absurd (none_refuses _ (refl, (refl, (refl, tt))) has)
+  refused_end (course.stored (course.interrupted turns.late)) has = absurd (none_refuses _ (refl, (refl, (refl, tt))) has)
   refused_end (course.cleared (course.settled ok) back) has = absurd (none_refuses _ (refl, (refl, back_goes back)) has)
-  refused_end (course.cleared {grip} {ending} (course.interrupted small.refused) back) has =
+  refused_end (course.cleared {grip} {ending} (course.interrupted turns.refused) back) has =
       subst (λ c. RefusedEnd request c (cleared_events grip ending)) (cc (only_first _ (back_goes back) (not_first refl has))) (at_clear back)
-  refused_end (course.cleared (course.interrupted small.stopping) back) has = absurd (none_refuses _ (refl, (refl, back_goes back)) has)
-  refused_end (course.cleared (course.interrupted small.late) back) has = absurd (none_refuses _ (refl, (refl, back_goes back)) has)
+  refused_end (course.cleared (course.interrupted turns.stopping) back) has = absurd (none_refuses _ (refl, (refl, back_goes back)) has)
+  refused_end (course.cleared (course.interrupted turns.late) back) has = absurd (none_refuses _ (refl, (refl, back_goes back)) has)
 
   in_last : {why : Code} (work : List (Event FurtherEvent)) {last : List (Event FurtherEvent)} → AreWork request work → HasRefusal why (work ++ last) → HasRefusal why last
   in_last work each (has_refusal event is has) = elim (has_split work _ has) [

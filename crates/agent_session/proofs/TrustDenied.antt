@@ -7,9 +7,10 @@ use Rattle.agent_ask.specs.TrustCalls.{TrustCall}
 use Rattle.agent_commands.specs.Answers.{ok}
 use Rattle.agent_commands.specs.declared.went.Went.{Went}
 use Rattle.agent_ports.specs.declared.grip.Grip.{Grip}
-use Rattle.assuan_server.specs.Written.{failed}
-use Rattle.assuan_server.specs.declared.errors.Code.TheVariants as code
+use Rattle.assuan_server.specs.Written.{failed, refusal_line}
+use Rattle.session_client.specs.declared.code.Code.TheVariants as code
 use Rattle.assuan_server.specs.declared.errors.Origin.TheVariants.{Agent}
+use Rattle.cache_policy.specs.declared.mark.MarkStep.TheVariants.{Seat}
 use Rattle.cache_policy.specs.Extending.{Taken}
 use Rattle.key_commands.specs.Events.{Event}
 use Rattle.key_commands.proofs.EachRequest.{IsBesideTrust}
@@ -20,7 +21,13 @@ use Rattle.session_options.specs.declared.rules.Rules.{Rules}
 use Rattle.trust_list.specs.Trust.{trust}
 use Rattle.agent_origin.specs.Exchanges.{flag_of, trust_question, fingerprint_question, unless_said, TrustedNow, Stores, StoresUnsaid, Consented, asked_in, Marked, Carried, TrustExchange}
 use Rattle.agent_origin.specs.Exchanges as trusts
-use Rattle.agent_origin.specs.Parts.{Part, ◌>>=◌, Follows, Returns, Refuses, Seats, UnderTicket, Agrees, ReadsFile, AddsEntry, Replaces, file_in, refusal_events, refusal_line, trust_called}
+use Rattle.agent_ask.specs.ConsentParts as consent
+use Rattle.agent_ask.specs.Parts.{◌>>=◌, Follows, Returns, Refuses}
+use Rattle.agent_ask.specs.Parts as chain
+use Rattle.agent_ask.specs.TurnParts.{Seats}
+use Rattle.agent_ask.specs.TurnParts as taken
+use Rattle.agent_origin.specs.Parts.{UnderTicket, Agrees, ReadsFile, AddsEntry, Replaces, file_in, trust_called}
+use Rattle.key_commands.specs.Parts.{Part}
 use Rattle.agent_origin.specs.Parts as parts
 use Rattle.agent_origin.specs.declared.request.TrustPurpose.{TrustPurpose}
 use Rattle.agent_origin.specs.declared.request.TrustRequest.{TrustRequest}
@@ -48,12 +55,12 @@ split_read first more (read_trust {answer} is has) = elim (split first more has)
 module _ (fingerprint : Grip) (file : List ℕ) where
   -- by no event of such a part the file is read that has these bytes
   record ReadsNot {A : Type 0} (part : Part A) : Type 0 where
-    never : (events : List Event) {result : _} → part events result → ¬ IsReadTrust events file
+    never : {before after : Option ℕ} (events : List Event) {result : _} → part before events result after → ¬ IsReadTrust events file
 
   -- where it is read by a part, that is refused as Not trusted
   record Heeds {A : Type 0} (part : Part A) : Type 0 where
-    fine : (events : List Event) (value : A) → part events (Ok value) → ¬ IsReadTrust events file
-    denies : (events : List Event) {why : _} → part events (Err why) → IsReadTrust events file → refusal_line why ≡ Some (failed code.NotTrusted)
+    fine : {before after : Option ℕ} (events : List Event) (value : A) → part before events (Ok value) after → ¬ IsReadTrust events file
+    denies : {before after : Option ℕ} (events : List Event) {why : _} → part before events (Err why) after → IsReadTrust events file → refusal_line why ≡ Some (failed code.NotTrusted)
 
   by_never : {A : Type 0} {part : Part A} → ReadsNot part → Heeds part
   by_never reads = record { fine = λ events value does is_read. reads.never events does is_read; denies = λ events does is_read. absurd (reads.never events does is_read) }
@@ -64,33 +71,33 @@ module _ (fingerprint : Grip) (file : List ℕ) where
   returns_never : {A : Type 0} (value : A) → ReadsNot (Returns value)
   returns_never value = record { never = none_of }
     where
-      none_of : (events : List Event) {result : _} → Returns value events result → ¬ IsReadTrust events file
-      none_of events parts.returns is_read = none_read is_read
+      none_of : {before after : Option ℕ} (events : List Event) {result : _} → Returns value before events result after → ¬ IsReadTrust events file
+      none_of events chain.returns is_read = none_read is_read
 
   refuses_never : {A : Type 0} {why : _} → ReadsNot (Refuses {A = A} why)
   refuses_never {A} {why} = record { never = none_of }
     where
-      none_of : (events : List Event) {result : _} → Refuses {A = A} why events result → ¬ IsReadTrust events file
-      none_of events parts.refuses is_read = none_read is_read
+      none_of : {before after : Option ℕ} (events : List Event) {result : _} → Refuses {A = A} why before events result after → ¬ IsReadTrust events file
+      none_of events chain.refuses is_read = none_read is_read
 
-  seats_never : ReadsNot Seats
+  seats_never : ReadsNot (Seats (Seat None None))
   seats_never = record { never = none_of }
     where
-      none_of : (events : List Event) {result : _} → Seats events result → ¬ IsReadTrust events file
-      none_of events parts.opened (read_trust is (later has)) = elim has [ ]
-      none_of events (parts.interrupted why) (read_trust is (later has)) = elim has [ ]
+      none_of : {before after : Option ℕ} (events : List Event) {result : _} → Seats (Seat None None) before events result after → ¬ IsReadTrust events file
+      none_of events taken.opened (read_trust is (later has)) = elim has [ ]
+      none_of events (taken.interrupted why) (read_trust is (later has)) = elim has [ ]
 
   agrees_never : (rules : Rules) (options : OptionValues) (question : List ℕ) → ReadsNot (Agrees rules options question)
   agrees_never rules options question = record { never = none_of }
     where
-      none_of : (events : List Event) {result : _} → Agrees rules options question events result → ¬ IsReadTrust events file
-      none_of events (parts.consents spec is (parts.prompts {shown} asks shows)) (read_trust found has) = none_called shown (shown_so IsBesideTrust (λ event is. is) shows) has
-      none_of events (parts.refused spec is (parts.prompts {shown} asks shows) refusal) (read_trust found has) = none_called shown (shown_so IsBesideTrust (λ event is. is) shows) has
+      none_of : {before after : Option ℕ} (events : List Event) {result : _} → Agrees rules options question before events result after → ¬ IsReadTrust events file
+      none_of events (consent.consents spec is prompt) (read_trust found has) = none_called events (shown_so IsBesideTrust (λ event is. is) prompt.in_session) has
+      none_of events (consent.refused spec is prompt refusal) (read_trust found has) = none_called events (shown_so IsBesideTrust (λ event is. is) prompt.in_session) has
 
   adds_never : (old : List ℕ) (flag : ℕ) → ReadsNot (AddsEntry old fingerprint flag)
   adds_never old flag = record { never = none_of }
     where
-      none_of : (events : List Event) {result : _} → AddsEntry old fingerprint flag events result → ¬ IsReadTrust events file
+      none_of : {before after : Option ℕ} (events : List Event) {result : _} → AddsEntry old fingerprint flag before events result after → ¬ IsReadTrust events file
       none_of events (parts.added fits) is_read = none_read is_read
       none_of events (parts.too_long long) is_read = none_read is_read
       none_of events parts.no_memory (read_trust is (later has)) = elim has [ ]
@@ -98,7 +105,7 @@ module _ (fingerprint : Grip) (file : List ℕ) where
   replaces_never : (new : List ℕ) → ReadsNot (Replaces new)
   replaces_never new = record { never = none_of }
     where
-      none_of : (events : List Event) {result : _} → Replaces new events result → ¬ IsReadTrust events file
+      none_of : {before after : Option ℕ} (events : List Event) {result : _} → Replaces new before events result after → ¬ IsReadTrust events file
       none_of events parts.replaced (read_trust is (later has)) = elim has [ ]
       none_of events parts.faulted (read_trust is (later has)) = elim has [ ]
       none_of events parts.no_memory (read_trust is (later has)) = elim has [ ]
@@ -108,44 +115,44 @@ module _ (fingerprint : Grip) (file : List ℕ) where
     behind : Heeds (part >>= next)
     behind = record { fine = is_fine; denies = is_denied }
       where
-        is_fine : (events : List Event) (value : B) → Follows part next events (Ok value) → ¬ IsReadTrust events file
-        is_fine _ value (parts.goes_on {first} {events = more} {value = mid} does next_does) is_read =
+        is_fine : {before after : Option ℕ} (events : List Event) (value : B) → Follows part next before events (Ok value) after → ¬ IsReadTrust events file
+        is_fine _ value (chain.goes_on {first} {events = more} {value = mid} does next_does) is_read =
             elim (split_read first more is_read) [ inl before ↦ reads.never first does before | inr later_read ↦ (heeds mid).fine more value next_does later_read ]
 
-        is_denied : (events : List Event) {why : _} → Follows part next events (Err why) → IsReadTrust events file → refusal_line why ≡ Some (failed code.NotTrusted)
-        is_denied _ (parts.goes_on {first} {events = more} {value = mid} does next_does) is_read =
+        is_denied : {before after : Option ℕ} (events : List Event) {why : _} → Follows part next before events (Err why) after → IsReadTrust events file → refusal_line why ≡ Some (failed code.NotTrusted)
+        is_denied _ (chain.goes_on {first} {events = more} {value = mid} does next_does) is_read =
             elim (split_read first more is_read) [ inl before ↦ absurd (reads.never first does before) | inr later_read ↦ (heeds mid).denies more next_does later_read ]
-        is_denied events (parts.stops does) is_read = absurd (reads.never events does is_read)
+        is_denied events (chain.stops does) is_read = absurd (reads.never events does is_read)
 
-  module _ {A : Type 0} {part : Part A} (ticket : ℕ) (heeds : Heeds part) where
+  module _ {A : Type 0} {part : Part A} (heeds : Heeds part) where
     none_closed : (events : List Event) (turn : Taken) → IsReadTrust (events ++ CacheTurn turn ∷ []) file → IsReadTrust events file
     none_closed events turn is_read = elim (split_read events _ is_read) [ inl before ↦ before | inr (read_trust is (later has)) ↦ elim has [ ] ]
 
-    under : Heeds (UnderTicket ticket part)
+    under : Heeds (UnderTicket part)
     under = record { fine = is_fine; denies = is_denied }
       where
-        is_fine : (events : List Event) (value : A) → UnderTicket ticket part events (Ok value) → ¬ IsReadTrust events file
+        is_fine : {before after : Option ℕ} (events : List Event) (value : A) → UnderTicket part before events (Ok value) after → ¬ IsReadTrust events file
         is_fine _ value (parts.given_back {events} turn does) is_read = heeds.fine events value does (none_closed events _ is_read)
 
-        is_denied : (events : List Event) {why : _} → UnderTicket ticket part events (Err why) → IsReadTrust events file → refusal_line why ≡ Some (failed code.NotTrusted)
+        is_denied : {before after : Option ℕ} (events : List Event) {why : _} → UnderTicket part before events (Err why) after → IsReadTrust events file → refusal_line why ≡ Some (failed code.NotTrusted)
         is_denied _ (parts.given_back {events} turn does) is_read = heeds.denies events does (none_closed events _ is_read)
 
   -- a part that comes to nothing else than Not trusted
   record Denies {A : Type 0} (part : Part A) : Type 0 where
-    never : (events : List Event) (value : A) → part events (Ok value) → ⊥
-    denial_is_said : (events : List Event) {why : _} → part events (Err why) → refusal_line why ≡ Some (failed code.NotTrusted)
+    never : {before after : Option ℕ} (events : List Event) (value : A) → part before events (Ok value) after → ⊥
+    denial_is_said : {before after : Option ℕ} (events : List Event) {why : _} → part before events (Err why) after → refusal_line why ≡ Some (failed code.NotTrusted)
 
   denies_refused : {A : Type 0} {why : _} → refusal_line why ≡ Some (failed code.NotTrusted) → Denies (Refuses {A = A} why)
   denies_refused {A} {why} is = record { never = never_ok; denial_is_said = is_denied }
     where
-      comes_to : {events : List Event} {result : _} → Refuses {A = A} why events result → result ≡ Err why
-      comes_to parts.refuses = refl
+      comes_to : {before after : Option ℕ} {events : List Event} {result : _} → Refuses {A = A} why before events result after → result ≡ Err why
+      comes_to chain.refuses = refl
 
-      never_ok : (events : List Event) (value : A) → Refuses {A = A} why events (Ok value) → ⊥
+      never_ok : {before after : Option ℕ} (events : List Event) (value : A) → Refuses {A = A} why before events (Ok value) after → ⊥
       never_ok events value does = absurd (cc (comes_to does))
 
-      is_denied : (events : List Event) {other : _} → Refuses {A = A} why events (Err other) → refusal_line other ≡ Some (failed code.NotTrusted)
-      is_denied events parts.refuses = is
+      is_denied : {before after : Option ℕ} (events : List Event) {other : _} → Refuses {A = A} why before events (Err other) after → refusal_line other ≡ Some (failed code.NotTrusted)
+      is_denied events chain.refuses = is
 
   unless_heeds : (said : Option Bool) (other : Part (Unit {0})) → Heeds other → Heeds (unless_said said other)
   unless_heeds (Some true) other heeds = by_never (returns_never tt)
@@ -166,21 +173,21 @@ module _ (fingerprint : Grip) (file : List ℕ) where
     decides : Heeds (ReadsFile >>= Decided)
     decides = record { fine = is_fine; denies = is_denied }
       where
-        is_fine : (events : List Event) (value : Unit {0}) → Follows ReadsFile Decided events (Ok value) → ¬ IsReadTrust events file
-        is_fine _ value (parts.goes_on {events = more} (parts.has_read {file = other} is) does) (read_trust found here) =
-            let same : other ≡ file = cc in (unless_denies (trust file fingerprint.0) refl).never more value (subst (λ o. Decided o more (Ok value)) same does)
-        is_fine _ value (parts.goes_on {events = more} (parts.has_read {file = other} is) does) (read_trust {answer} found (later has)) =
+        is_fine : {before after : Option ℕ} (events : List Event) (value : Unit {0}) → Follows ReadsFile Decided before events (Ok value) after → ¬ IsReadTrust events file
+        is_fine {before} {after} _ value (chain.goes_on {events = more} (parts.has_read {file = other} is) does) (read_trust found here) =
+            let same : other ≡ file = cc in (unless_denies (trust file fingerprint.0) refl).never more value (subst (λ o. Decided o before more (Ok value) after) same does)
+        is_fine _ value (chain.goes_on {events = more} (parts.has_read {file = other} is) does) (read_trust {answer} found (later has)) =
             (unless_heeds (trust other fingerprint.0) (otherwise other) (heeds other)).fine more value does (read_trust {answer = answer} found has)
 
-        is_denied : (events : List Event) {why : _} → Follows ReadsFile Decided events (Err why) → IsReadTrust events file → refusal_line why ≡ Some (failed code.NotTrusted)
-        is_denied _ {why} (parts.goes_on {events = more} (parts.has_read {file = other} is) does) (read_trust found here) =
-            let same : other ≡ file = cc in (unless_denies (trust file fingerprint.0) refl).denial_is_said more (subst (λ o. Decided o more (Err why)) same does)
-        is_denied _ (parts.goes_on {events = more} (parts.has_read {file = other} is) does) (read_trust {answer} found (later has)) =
+        is_denied : {before after : Option ℕ} (events : List Event) {why : _} → Follows ReadsFile Decided before events (Err why) after → IsReadTrust events file → refusal_line why ≡ Some (failed code.NotTrusted)
+        is_denied {before} {after} _ {why} (chain.goes_on {events = more} (parts.has_read {file = other} is) does) (read_trust found here) =
+            let same : other ≡ file = cc in (unless_denies (trust file fingerprint.0) refl).denial_is_said more (subst (λ o. Decided o before more (Err why) after) same does)
+        is_denied _ (chain.goes_on {events = more} (parts.has_read {file = other} is) does) (read_trust {answer} found (later has)) =
             (unless_heeds (trust other fingerprint.0) (otherwise other) (heeds other)).denies more does (read_trust {answer = answer} found has)
-        is_denied _ (parts.stops parts.faulted) (read_trust found here) = absurd (cc found)
-        is_denied _ (parts.stops parts.faulted) (read_trust found (later has)) = elim has [ ]
-        is_denied _ (parts.stops parts.no_memory) (read_trust found here) = absurd (cc found)
-        is_denied _ (parts.stops parts.no_memory) (read_trust found (later has)) = elim has [ ]
+        is_denied _ (chain.stops parts.faulted) (read_trust found here) = absurd (cc found)
+        is_denied _ (chain.stops parts.faulted) (read_trust found (later has)) = elim has [ ]
+        is_denied _ (chain.stops parts.no_memory) (read_trust found here) = absurd (cc found)
+        is_denied _ (chain.stops parts.no_memory) (read_trust found (later has)) = elim has [ ]
 
   -- ---- whole requests
 
@@ -205,7 +212,7 @@ module _ (fingerprint : Grip) (file : List ℕ) where
     consented_heeds = behind (agrees_never rules options (trust_question name)) (λ trusted. behind (agrees_never rules options (fingerprint_question fingerprint name)) (λ right. unsaid_heeds))
 
     prompt_heeds : (way : PinMode) → Heeds (asked_in rules options fingerprint purpose name way)
-    prompt_heeds mode.Ask = behind seats_never (λ ticket. under ticket consented_heeds)
+    prompt_heeds mode.Ask = behind seats_never (λ seated. under consented_heeds)
     prompt_heeds mode.Cancel = by_never refuses_never
     prompt_heeds mode.Error = by_never refuses_never
     prompt_heeds mode.Loopback = by_never refuses_never

@@ -12,7 +12,8 @@ use Rattle.agent_ports.specs.declared.grip.Grip.{Grip}
 use Rattle.agent_ports.specs.declared.trust.TrustRead.{TrustRead}
 use Rattle.agent_ports.specs.declared.trust.TrustRead.TheVariants as read
 use Rattle.cache_policy.specs.Turns.{Turn}
-use Rattle.cache_policy.specs.declared.mark.MarkStep.TheVariants.{Close}
+use Rattle.cache_policy.specs.declared.mark.MarkStep.TheVariants.{Close, Seat}
+use Rattle.session_client.specs.declared.refusal.Refusal.{Refusal}
 use Rattle.session_options.specs.OptionValues.{OptionValues}
 use Rattle.session_options.specs.declared.options.PinMode.{PinMode}
 use Rattle.session_options.specs.declared.options.PinMode.TheVariants as mode
@@ -22,7 +23,14 @@ use Rattle.agent_origin.specs.DoorSessions.{AllowedExchange, DoorExchange}
 use Rattle.agent_origin.specs.DoorSessions as doors
 use Rattle.agent_origin.specs.Exchanges.{flag_of, trust_question, fingerprint_question, unless_said, TrustedNow, Stores, StoresUnsaid, Consented, asked_in, Marked, Carried, TrustExchange}
 use Rattle.agent_origin.specs.Exchanges as trusts
-use Rattle.agent_origin.specs.Parts.{Part, ◌>>=◌, Follows, Returns, Refuses, Seats, UnderTicket, Agrees, ReadsFile, AddsEntry, Replaces, file_in, refusal_events, refusal_line, trust_called}
+use Rattle.agent_ask.specs.ConsentParts as consent
+use Rattle.agent_ask.specs.Parts.{◌>>=◌, Follows, Returns, Refuses}
+use Rattle.agent_ask.specs.Parts as chain
+use Rattle.agent_ask.specs.TurnParts.{Seats}
+use Rattle.agent_ask.specs.TurnParts as taken
+use Rattle.agent_origin.specs.Parts.{UnderTicket, Agrees, ReadsFile, AddsEntry, Replaces, file_in, trust_called}
+use Rattle.key_commands.specs.Parts.{Part, refusal_events}
+use Rattle.assuan_server.specs.Written.{refusal_line}
 use Rattle.agent_origin.specs.Parts as parts
 use Rattle.agent_origin.specs.declared.door.Door.{Door}
 use Rattle.agent_origin.specs.declared.kept.Kept.{Kept}
@@ -94,17 +102,17 @@ module _ {R : Type 0} (line : R → Option (List ℕ)) where
     decided : {text : List ℕ} {back : List Event} {result : Result A R} (work : List Event) (event : Event) → Undecided work → decided_line event ≡ Some text → Back back
         → text_of result ≡ Some text → Comes Back (work ++ event ∷ back) result
 
-abbrev Come : (List Event → Type 0) → {A : Type 0} → Part A
+abbrev Come : (List Event → Type 0) → {A : Type 0} → List Event → Result A Refusal → Type 0
 Come Back = Comes refusal_line Back
 
 module _ (Back : List Event → Type 0) (none_back : Back []) where
   record Ends {A : Type 0} (part : Part A) : Type 0 where
-    of : {events : List Event} {result : _} → part events result → Come Back events result
+    of : {before after : Option ℕ} {events : List Event} {result : _} → part before events result after → Come Back events result
 
   -- a part that others follow
   record Steps {A : Type 0} (part : Part A) : Type 0 where
-    fine : {events : List Event} {value : A} → part events (Ok value) → Undecided events
-    stops : {events : List Event} {why : _} → part events (Err why) → Come Back {A = A} events (Err why)
+    fine : {before after : Option ℕ} {events : List Event} {value : A} → part before events (Ok value) after → Undecided events
+    stops : {before after : Option ℕ} {events : List Event} {why : _} → part before events (Err why) after → Come Back {A = A} events (Err why)
 
   prepend : {A : Type 0} (first : List Event) {more : List Event} {result : _} → Undecided first → Come Back {A = A} more result → Come Back {A = A} (first ++ more) result
   prepend first {more} each (goes others) = goes (both_undecided first more each others)
@@ -116,39 +124,39 @@ module _ (Back : List Event → Type 0) (none_back : Back []) where
   as_refused (decided work event each is behind answers) = decided work event each is behind answers
 
   module _ {A B : Type 0} {part : Part A} {next : A → Part B} (steps : Steps part) (ends : (value : A) → Ends (next value)) where
-    follows_of : {events : List Event} {result : _} → Follows part next events result → Come Back events result
-    follows_of (parts.goes_on {first} {value} does next_does) = prepend first (steps.fine does) ((ends value).of next_does)
-    follows_of (parts.stops does) = as_refused (steps.stops does)
+    follows_of : {before after : Option ℕ} {events : List Event} {result : _} → Follows part next before events result after → Come Back events result
+    follows_of (chain.goes_on {first} {value} does next_does) = prepend first (steps.fine does) ((ends value).of next_does)
+    follows_of (chain.stops does) = as_refused (steps.stops does)
 
     bind : Ends (part >>= next)
     bind = record { of = follows_of }
 
-  returns_of : {A : Type 0} {value : A} {events : List Event} {result : _} → Returns value events result → Come Back events result
-  returns_of parts.returns = goes tt
+  returns_of : {A : Type 0} {value : A} {before after : Option ℕ} {events : List Event} {result : _} → Returns value before events result after → Come Back events result
+  returns_of chain.returns = goes tt
 
-  refuses_of : {A : Type 0} {why : _} {events : List Event} {result : _} → Refuses {A = A} why events result → Come Back {A = A} events result
-  refuses_of parts.refuses = goes tt
+  refuses_of : {A : Type 0} {why : _} {before after : Option ℕ} {events : List Event} {result : _} → Refuses {A = A} why before events result after → Come Back {A = A} events result
+  refuses_of chain.refuses = goes tt
 
   refused_ends : {A : Type 0} {why : _} → Ends (Refuses {A = A} why)
   refused_ends = record { of = refuses_of }
 
   -- ---- the user
 
-  seats_fine : {events : List Event} {ticket : ℕ} → Seats events (Ok ticket) → Undecided events
-  seats_fine parts.opened = (refl, tt)
+  seats_fine : {before after : Option ℕ} {events : List Event} {value : Unit {0}} → Seats (Seat None None) before events (Ok value) after → Undecided events
+  seats_fine taken.opened = (refl, tt)
 
-  seats_stops : {events : List Event} {why : _} → Seats events (Err why) → Come Back {A = ℕ} events (Err why)
-  seats_stops (parts.interrupted why) = goes (refl, tt)
+  seats_stops : {before after : Option ℕ} {events : List Event} {why : _} → Seats (Seat None None) before events (Err why) after → Come Back {A = Unit {0}} events (Err why)
+  seats_stops (taken.interrupted why) = goes (refl, tt)
 
-  seats : Steps Seats
+  seats : Steps (Seats (Seat None None))
   seats = record { fine = seats_fine; stops = seats_stops }
 
   module _ (rules : Rules) (options : OptionValues) (question : List ℕ) where
-    agrees_fine : {events : List Event} {value : Unit {0}} → Agrees rules options question events (Ok value) → Undecided events
-    agrees_fine (parts.consents spec is (parts.prompts {shown} asks shows)) = beside_undecided shown (shown_so IsBesideTrust (λ event is. is) shows)
+    agrees_fine : {before after : Option ℕ} {events : List Event} {value : Unit {0}} → Agrees rules options question before events (Ok value) after → Undecided events
+    agrees_fine {events} (consent.consents spec is prompt) = beside_undecided events (shown_so IsBesideTrust (λ event is. is) prompt.in_session)
 
-    agrees_stops : {events : List Event} {why : _} → Agrees rules options question events (Err why) → Come Back {A = Unit {0}} events (Err why)
-    agrees_stops (parts.refused spec is (parts.prompts {shown} asks shows) refusal) = goes (beside_undecided shown (shown_so IsBesideTrust (λ event is. is) shows))
+    agrees_stops : {before after : Option ℕ} {events : List Event} {why : _} → Agrees rules options question before events (Err why) after → Come Back {A = Unit {0}} events (Err why)
+    agrees_stops {events} (consent.refused spec is prompt refusal) = goes (beside_undecided events (shown_so IsBesideTrust (λ event is. is) prompt.in_session))
 
     agrees : Steps (Agrees rules options question)
     agrees = record { fine = agrees_fine; stops = agrees_stops }
@@ -161,17 +169,17 @@ module _ (Back : List Event → Type 0) (none_back : Back []) where
   read_undecided read.Failed is = absurd (cc is)
   read_undecided read.NoMemory is = absurd (cc is)
 
-  reads_fine : {events : List Event} {file : List ℕ} → ReadsFile events (Ok file) → Undecided events
+  reads_fine : {before after : Option ℕ} {events : List Event} {file : List ℕ} → ReadsFile before events (Ok file) after → Undecided events
   reads_fine (parts.has_read {answer} is) = (read_undecided answer is, tt)
 
-  reads_stops : {events : List Event} {why : _} → ReadsFile events (Err why) → Come Back {A = List ℕ} events (Err why)
+  reads_stops : {before after : Option ℕ} {events : List Event} {why : _} → ReadsFile before events (Err why) after → Come Back {A = List ℕ} events (Err why)
   reads_stops parts.faulted = decided [] _ tt refl none_back refl
   reads_stops parts.no_memory = decided [] _ tt refl none_back refl
 
   reads : Steps ReadsFile
   reads = record { fine = reads_fine; stops = reads_stops }
 
-  replaces_of : {file : List ℕ} {events : List Event} {result : _} → Replaces file events result → Come Back events result
+  replaces_of : {file : List ℕ} {before after : Option ℕ} {events : List Event} {result : _} → Replaces file before events result after → Come Back events result
   replaces_of parts.replaced = decided [] _ tt refl none_back refl
   replaces_of parts.faulted = decided [] _ tt refl none_back refl
   replaces_of parts.no_memory = decided [] _ tt refl none_back refl
@@ -187,10 +195,10 @@ module _ (Back : List Event → Type 0) (none_back : Back []) where
     trusted_now = bind reads (λ file. said_ends (trust file fingerprint.0) refused_ends)
 
     module _ (purpose : TrustPurpose) where
-      adds_fine : {old : List ℕ} {events : List Event} {file : List ℕ} → AddsEntry old fingerprint (flag_of purpose) events (Ok file) → Undecided events
+      adds_fine : {old : List ℕ} {before after : Option ℕ} {events : List Event} {file : List ℕ} → AddsEntry old fingerprint (flag_of purpose) before events (Ok file) after → Undecided events
       adds_fine (parts.added fits) = tt
 
-      adds_stops : {old : List ℕ} {events : List Event} {why : _} → AddsEntry old fingerprint (flag_of purpose) events (Err why) → Come Back {A = List ℕ} events (Err why)
+      adds_stops : {old : List ℕ} {before after : Option ℕ} {events : List Event} {why : _} → AddsEntry old fingerprint (flag_of purpose) before events (Err why) after → Come Back {A = List ℕ} events (Err why)
       adds_stops (parts.too_long long) = goes tt
       adds_stops parts.no_memory = goes (refl, tt)
 
@@ -214,12 +222,12 @@ closed ticket turn {events} (goes each) = goes (both_undecided events _ each (re
 closed ticket turn {result} (decided work event each is no_back answers) =
     subst (λ e. Come IsBack {A = Unit {0}} e result) (sym (append_assoc work (event ∷ []) (cache_turn (Close ticket None) turn ∷ []))) (decided work event each is (returned turn) answers)
 
-under_of : {ticket : ℕ} {part : Part (Unit {0})} → Ends NoBack no_back part → {events : List Event} {result : _} → UnderTicket ticket part events result → Come IsBack {A = Unit {0}} events result
-under_of {ticket} ends (parts.given_back turn does) = closed ticket turn (ends.of does)
+under_of : {part : Part (Unit {0})} → Ends NoBack no_back part → {before after : Option ℕ} {events : List Event} {result : _} → UnderTicket part before events result after → Come IsBack {A = Unit {0}} events result
+under_of ends (parts.given_back {ticket} turn does) = closed ticket turn (ends.of does)
 
 module _ (rules : Rules) (options : OptionValues) (fingerprint : Grip) (purpose : TrustPurpose) (name : List ℕ) where
   asked : (way : PinMode) → Ends IsBack unheld (asked_in rules options fingerprint purpose name way)
-  asked mode.Ask = bind IsBack unheld (seats IsBack unheld) (λ ticket. record { of = under_of (consented NoBack no_back fingerprint purpose rules options name) })
+  asked mode.Ask = bind IsBack unheld (seats IsBack unheld) (λ seated. record { of = under_of (consented NoBack no_back fingerprint purpose rules options name) })
   asked mode.Cancel = refused_ends IsBack unheld
   asked mode.Error = refused_ends IsBack unheld
   asked mode.Loopback = refused_ends IsBack unheld

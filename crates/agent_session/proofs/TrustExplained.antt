@@ -15,8 +15,8 @@ use Rattle.agent_ask.specs.declared.consent.Agreed.{Agreed}
 use Rattle.agent_ask.specs.declared.consent.Agreed.TheVariants as agreed
 use Rattle.agent_commands.specs.Answers.{ok}
 use Rattle.agent_commands.specs.Endings.{went_after}
-use Rattle.agent_commands.specs.Exchanges as exchanges
-use Rattle.agent_commands.specs.Exchanges.{Interrupts}
+use Rattle.agent_ask.specs.Interrupts.{Interrupts}
+use Rattle.agent_ask.specs.Interrupts as turns
 use Rattle.agent_commands.specs.declared.request.Request.{Request}
 use Rattle.agent_commands.specs.declared.went.Went.{Went}
 use Rattle.agent_commands.specs.declared.went.Went.TheVariants.{On}
@@ -24,10 +24,11 @@ use Rattle.agent_ports.specs.declared.grip.Grip.{Grip}
 use Rattle.agent_ports.specs.declared.trust.TrustDone.TheVariants as done
 use Rattle.agent_ports.specs.declared.trust.TrustRead.TheVariants as read
 use Rattle.arrayvec.specs.ArrayVec.{ArrayVec}
-use Rattle.assuan_server.specs.Clients.{session_lines, refusal_code}
+use Rattle.assuan_server.specs.Clients.{session_lines}
+use Rattle.session_client.specs.Refusals.{refusal_code}
 use Rattle.assuan_server.specs.Written as written
-use Rattle.assuan_server.specs.declared.errors.Code.{Code}
-use Rattle.assuan_server.specs.declared.errors.Code.TheVariants as code
+use Rattle.session_client.specs.declared.code.Code.{Code}
+use Rattle.session_client.specs.declared.code.Code.TheVariants as code
 use Rattle.assuan_server.specs.declared.errors.Origin.{Origin}
 use Rattle.assuan_server.specs.declared.errors.Origin.TheVariants.{Agent, Pinentry}
 use Rattle.cache_policy.specs.Turns.{Turn, Refused, closes}
@@ -50,7 +51,14 @@ use Rattle.trust_list.specs.Trust.{trust, with_entry}
 use Rattle.trust_list.specs.declared.TheConstants.{MAX_TRUST_FILE_LEN}
 use Rattle.agent_origin.specs.Exchanges.{flag_of, trust_question, fingerprint_question, unless_said, TrustedNow, Stores, StoresUnsaid, Consented, asked_in, Marked, Carried, TrustExchange}
 use Rattle.agent_origin.specs.Exchanges as trusts
-use Rattle.agent_origin.specs.Parts.{Part, ◌>>=◌, Follows, Returns, Refuses, Seats, UnderTicket, PromptsConsent, consent_refusal, Agrees, ReadsFile, AddsEntry, Replaces, refusal_events, refusal_went, trust_called}
+use Rattle.agent_ask.specs.ConsentParts.{consent_refusal}
+use Rattle.agent_ask.specs.ConsentParts as consent
+use Rattle.agent_ask.specs.Parts.{◌>>=◌, Follows, Returns, Refuses}
+use Rattle.agent_ask.specs.Parts as chain
+use Rattle.agent_ask.specs.TurnParts.{Seats}
+use Rattle.agent_ask.specs.TurnParts as taken
+use Rattle.agent_origin.specs.Parts.{UnderTicket, Agrees, ReadsFile, AddsEntry, Replaces, refusal_went, trust_called}
+use Rattle.key_commands.specs.Parts.{Part, refusal_events}
 use Rattle.agent_origin.specs.Parts as parts
 use Rattle.agent_origin.specs.Names.{command_named}
 use Rattle.agent_origin.specs.Requests.{purpose, owner, mark_trusted_of, asked_by, either, request_by, trust_request_of}
@@ -87,9 +95,9 @@ module _ (rules : Rules) (kept : Kept) (other : Request) (request : TrustRequest
 
   -- a part whose value is good, and whose refusals have their causes
   record Explains {A : Type 0} (part : Part A) (Good : A → Type 0) : Type 0 where
-    silent : (events : List Event) {result : _} → part events result → StandIn events whole → Silent events
-    good : (events : List Event) (value : A) → part events (Ok value) → StandIn events whole → Good value
-    caused : (events : List Event) {why : _} → part events (Err why) → StandIn events whole → Here (refusal_events why) (refusal_went why)
+    silent : {before after : Option ℕ} (events : List Event) {result : _} → part before events result after → StandIn events whole → Silent events
+    good : {before after : Option ℕ} (events : List Event) (value : A) → part before events (Ok value) after → StandIn events whole → Good value
+    caused : {before after : Option ℕ} (events : List Event) {why : _} → part before events (Err why) after → StandIn events whole → Here (refusal_events why) (refusal_went why)
 
   silent_append : (first more : List Event) → Silent first → Silent more → Silent (first ++ more)
   silent_append first more each others = each_append AnswersNothing first more each others
@@ -97,20 +105,20 @@ module _ (rules : Rules) (kept : Kept) (other : Request) (request : TrustRequest
   -- a part, and then what follows on its value
   module _ {A B : Type 0} {part : Part A} {next : A → Part B} (First : A → Type 0) (Good : B → Type 0) (first : Explains part First)
       (then : (value : A) → First value → Explains (next value) Good) where
-    bind_silent : (events : List Event) {result : _} → Follows part next events result → StandIn events whole → Silent events
-    bind_silent events (parts.goes_on {first = some} {events = more} {value} does next_does) stands =
+    bind_silent : {before after : Option ℕ} (events : List Event) {result : _} → Follows part next before events result after → StandIn events whole → Silent events
+    bind_silent events (chain.goes_on {first = some} {events = more} {value} does next_does) stands =
         silent_append some more (first.silent some does (stand_left some more stands))
         ((then value (first.good some value does (stand_left some more stands))).silent more next_does (stand_right some more stands))
-    bind_silent events (parts.stops does) stands = first.silent events does stands
+    bind_silent events (chain.stops does) stands = first.silent events does stands
 
-    bind_good : (events : List Event) (value : B) → Follows part next events (Ok value) → StandIn events whole → Good value
-    bind_good events value (parts.goes_on {first = some} {events = more} {value = mid} does next_does) stands =
+    bind_good : {before after : Option ℕ} (events : List Event) (value : B) → Follows part next before events (Ok value) after → StandIn events whole → Good value
+    bind_good events value (chain.goes_on {first = some} {events = more} {value = mid} does next_does) stands =
         (then mid (first.good some mid does (stand_left some more stands))).good more value next_does (stand_right some more stands)
 
-    bind_caused : (events : List Event) {why : _} → Follows part next events (Err why) → StandIn events whole → Here (refusal_events why) (refusal_went why)
-    bind_caused events (parts.goes_on {first = some} {events = more} {value = mid} does next_does) stands =
+    bind_caused : {before after : Option ℕ} (events : List Event) {why : _} → Follows part next before events (Err why) after → StandIn events whole → Here (refusal_events why) (refusal_went why)
+    bind_caused events (chain.goes_on {first = some} {events = more} {value = mid} does next_does) stands =
         (then mid (first.good some mid does (stand_left some more stands))).caused more next_does (stand_right some more stands)
-    bind_caused events (parts.stops does) stands = first.caused events does stands
+    bind_caused events (chain.stops does) stands = first.caused events does stands
 
     bind : Explains (part >>= next) Good
     bind = record { silent = bind_silent; good = bind_good; caused = bind_caused }
@@ -121,32 +129,32 @@ module _ (rules : Rules) (kept : Kept) (other : Request) (request : TrustRequest
     returned : (value : A) → Good value → Explains (Returns value) Good
     returned value good = record { silent = is_silent; good = is_good; caused = never }
       where
-        comes_to : {events : List Event} {result : _} → Returns value events result → result ≡ Ok value
-        comes_to parts.returns = refl
+        comes_to : {before after : Option ℕ} {events : List Event} {result : _} → Returns value before events result after → result ≡ Ok value
+        comes_to chain.returns = refl
 
-        never : (events : List Event) {why : _} → Returns value events (Err why) → StandIn events whole → Here (refusal_events why) (refusal_went why)
+        never : {before after : Option ℕ} (events : List Event) {why : _} → Returns value before events (Err why) after → StandIn events whole → Here (refusal_events why) (refusal_went why)
         never events does stands = absurd (cc (comes_to does))
 
-        is_silent : (events : List Event) {result : _} → Returns value events result → StandIn events whole → Silent events
-        is_silent events parts.returns stands = tt
+        is_silent : {before after : Option ℕ} (events : List Event) {result : _} → Returns value before events result after → StandIn events whole → Silent events
+        is_silent events chain.returns stands = tt
 
-        is_good : (events : List Event) (other : A) → Returns value events (Ok other) → StandIn events whole → Good other
-        is_good events other parts.returns stands = good
+        is_good : {before after : Option ℕ} (events : List Event) (other : A) → Returns value before events (Ok other) after → StandIn events whole → Good other
+        is_good events other chain.returns stands = good
 
     refused_by : {why : _} → Here (refusal_events why) (refusal_went why) → Explains (Refuses {A = A} why) Good
     refused_by {why} explained = record { silent = is_silent; good = never; caused = is_caused }
       where
-        comes_to : {events : List Event} {result : _} → Refuses {A = A} why events result → result ≡ Err why
-        comes_to parts.refuses = refl
+        comes_to : {before after : Option ℕ} {events : List Event} {result : _} → Refuses {A = A} why before events result after → result ≡ Err why
+        comes_to chain.refuses = refl
 
-        never : (events : List Event) (value : A) → Refuses {A = A} why events (Ok value) → StandIn events whole → Good value
+        never : {before after : Option ℕ} (events : List Event) (value : A) → Refuses {A = A} why before events (Ok value) after → StandIn events whole → Good value
         never events value does stands = absurd (cc (comes_to does))
 
-        is_silent : (events : List Event) {result : _} → Refuses {A = A} why events result → StandIn events whole → Silent events
-        is_silent events parts.refuses stands = tt
+        is_silent : {before after : Option ℕ} (events : List Event) {result : _} → Refuses {A = A} why before events result after → StandIn events whole → Silent events
+        is_silent events chain.refuses stands = tt
 
-        is_caused : (events : List Event) {other : _} → Refuses {A = A} why events (Err other) → StandIn events whole → Here (refusal_events other) (refusal_went other)
-        is_caused events parts.refuses stands = explained
+        is_caused : {before after : Option ℕ} (events : List Event) {other : _} → Refuses {A = A} why before events (Err other) after → StandIn events whole → Here (refusal_events other) (refusal_went other)
+        is_caused events chain.refuses stands = explained
 
   is_unless : (said : Option Bool) (otherwise : Part (Unit {0})) → (said ≡ Some false → Caused code.NotTrusted Agent) → (said ≡ None → Explains otherwise Anything)
       → Explains (unless_said said otherwise) Anything
@@ -158,31 +166,31 @@ module _ (rules : Rules) (kept : Kept) (other : Request) (request : TrustRequest
 
   interrupts : (step : MarkStep) → closes step ≡ None → {turn : Turn} {why : Code} {more : List Event} → Interrupts turn why
       → StandIn (cache_turn step turn ∷ more) whole → Caused why Agent
-  interrupts step keeps exchanges.refused stands = one (cache_turn step Refused) refl (has_first stands)
-  interrupts step keeps exchanges.stopping stands = by_stop (turned step keeps (has_first stands))
-  interrupts step keeps exchanges.late stands = turned step keeps (has_first stands)
+  interrupts step keeps turns.refused stands = one (cache_turn step Refused) refl (has_first stands)
+  interrupts step keeps turns.stopping stands = by_stop (turned step keeps (has_first stands))
+  interrupts step keeps turns.late stands = turned step keeps (has_first stands)
 
-  seats : Explains Seats Anything
+  seats : Explains (Seats (Seat None None)) Anything
   seats = record { silent = is_silent; good = λ events value does stands. tt; caused = is_caused }
     where
-      is_silent : (events : List Event) {result : _} → Seats events result → StandIn events whole → Silent events
-      is_silent events parts.opened stands = (tt, tt)
-      is_silent events (parts.interrupted why) stands = (tt, tt)
+      is_silent : {before after : Option ℕ} (events : List Event) {result : _} → Seats (Seat None None) before events result after → StandIn events whole → Silent events
+      is_silent events taken.opened stands = (tt, tt)
+      is_silent events (taken.interrupted why) stands = (tt, tt)
 
-      is_caused : (events : List Event) {why : _} → Seats events (Err why) → StandIn events whole → Here (refusal_events why) (refusal_went why)
-      is_caused events (parts.interrupted {code = why} is) stands = failed [] why Agent tt (interrupts (Seat None None) refl is stands) tt
+      is_caused : {before after : Option ℕ} (events : List Event) {why : _} → Seats (Seat None None) before events (Err why) after → StandIn events whole → Here (refusal_events why) (refusal_went why)
+      is_caused events (taken.interrupted {code = why} is) stands = failed [] why Agent tt (interrupts (Seat None None) refl is stands) tt
 
-  module _ {A : Type 0} {part : Part A} (Good : A → Type 0) (ticket : ℕ) (explains : Explains part Good) where
-    under_ticket : Explains (UnderTicket ticket part) Good
+  module _ {A : Type 0} {part : Part A} (Good : A → Type 0) (explains : Explains part Good) where
+    under_ticket : Explains (UnderTicket part) Good
     under_ticket = record { silent = is_silent; good = is_good; caused = is_caused }
       where
-        is_silent : (events : List Event) {result : _} → UnderTicket ticket part events result → StandIn events whole → Silent events
+        is_silent : {before after : Option ℕ} (events : List Event) {result : _} → UnderTicket part before events result after → StandIn events whole → Silent events
         is_silent _ (parts.given_back {events} turn does) stands = silent_append events (_ ∷ []) (explains.silent events does (stand_left events _ stands)) (tt, tt)
 
-        is_good : (events : List Event) (value : A) → UnderTicket ticket part events (Ok value) → StandIn events whole → Good value
+        is_good : {before after : Option ℕ} (events : List Event) (value : A) → UnderTicket part before events (Ok value) after → StandIn events whole → Good value
         is_good _ value (parts.given_back {events} turn does) stands = explains.good events value does (stand_left events _ stands)
 
-        is_caused : (events : List Event) {why : _} → UnderTicket ticket part events (Err why) → StandIn events whole → Here (refusal_events why) (refusal_went why)
+        is_caused : {before after : Option ℕ} (events : List Event) {why : _} → UnderTicket part before events (Err why) after → StandIn events whole → Here (refusal_events why) (refusal_went why)
         is_caused _ (parts.given_back {events} turn does) stands = explains.caused events does (stand_left events _ stands)
 
   -- ---- the user
@@ -225,28 +233,28 @@ module _ (rules : Rules) (kept : Kept) (other : Request) (request : TrustRequest
     agrees : Explains (Agrees rules kept.options question) Anything
     agrees = record { silent = is_silent; good = λ events value does stands. tt; caused = is_caused }
       where
-        is_silent : (events : List Event) {result : _} → Agrees rules kept.options question events result → StandIn events whole → Silent events
-        is_silent events (parts.consents spec is (parts.prompts asks shows)) stands = prompt_silent shows
-        is_silent events (parts.refused spec is (parts.prompts asks shows) refusal) stands = prompt_silent shows
+        is_silent : {before after : Option ℕ} (events : List Event) {result : _} → Agrees rules kept.options question before events result after → StandIn events whole → Silent events
+        is_silent events (consent.consents spec is prompt) stands = prompt_silent prompt.in_session
+        is_silent events (consent.refused spec is prompt refusal) stands = prompt_silent prompt.in_session
 
-        is_caused : (events : List Event) {why : _} → Agrees rules kept.options question events (Err why) → StandIn events whole → Here (refusal_events why) (refusal_went why)
-        is_caused events (parts.refused {answer} spec is (parts.prompts {shown} asks shows) refusal) stands =
-            if_some (λ why. Here (refusal_events why) (refusal_went why)) refusal (consent_refused shows stands answer (consent_shows asks))
+        is_caused : {before after : Option ℕ} (events : List Event) {why : _} → Agrees rules kept.options question before events (Err why) after → StandIn events whole → Here (refusal_events why) (refusal_went why)
+        is_caused events (consent.refused {answer} spec is prompt refusal) stands =
+            if_some (λ why. Here (refusal_events why) (refusal_went why)) refusal (consent_refused prompt.in_session stands answer (consent_shows prompt.asks))
 
   -- ---- the trust file
 
   reads_file : Explains ReadsFile (IsReadTrust whole)
   reads_file = record { silent = is_silent; good = is_good; caused = is_caused }
     where
-      is_silent : (events : List Event) {result : _} → ReadsFile events result → StandIn events whole → Silent events
+      is_silent : {before after : Option ℕ} (events : List Event) {result : _} → ReadsFile before events result after → StandIn events whole → Silent events
       is_silent events (parts.has_read is) stands = (tt, tt)
       is_silent events parts.faulted stands = (tt, tt)
       is_silent events parts.no_memory stands = (tt, tt)
 
-      is_good : (events : List Event) (file : List ℕ) → ReadsFile events (Ok file) → StandIn events whole → IsReadTrust whole file
+      is_good : {before after : Option ℕ} (events : List Event) (file : List ℕ) → ReadsFile before events (Ok file) after → StandIn events whole → IsReadTrust whole file
       is_good events file (parts.has_read is) stands = read_trust is (has_first stands)
 
-      is_caused : (events : List Event) {why : _} → ReadsFile events (Err why) → StandIn events whole → Here (refusal_events why) (refusal_went why)
+      is_caused : {before after : Option ℕ} (events : List Event) {why : _} → ReadsFile before events (Err why) after → StandIn events whole → Here (refusal_events why) (refusal_went why)
       is_caused events parts.faulted stands = failed [] code.General Agent tt (called_trust (Read read.Failed) tt (has_first stands)) tt
       is_caused events parts.no_memory stands = failed [] code.NoMemory Agent tt (one (trust_called (Read read.NoMemory)) tt (has_first stands)) tt
 
@@ -254,12 +262,12 @@ module _ (rules : Rules) (kept : Kept) (other : Request) (request : TrustRequest
     replaces : Explains (Replaces file) Anything
     replaces = record { silent = is_silent; good = λ events value does stands. tt; caused = is_caused }
       where
-        is_silent : (events : List Event) {result : _} → Replaces file events result → StandIn events whole → Silent events
+        is_silent : {before after : Option ℕ} (events : List Event) {result : _} → Replaces file before events result after → StandIn events whole → Silent events
         is_silent events parts.replaced stands = (tt, tt)
         is_silent events parts.faulted stands = (tt, tt)
         is_silent events parts.no_memory stands = (tt, tt)
 
-        is_caused : (events : List Event) {why : _} → Replaces file events (Err why) → StandIn events whole → Here (refusal_events why) (refusal_went why)
+        is_caused : {before after : Option ℕ} (events : List Event) {why : _} → Replaces file before events (Err why) after → StandIn events whole → Here (refusal_events why) (refusal_went why)
         is_caused events parts.faulted stands = failed [] code.General Agent tt (called_trust (Replaced file done.Failed) tt (has_first stands)) tt
         is_caused events parts.no_memory stands = failed [] code.NoMemory Agent tt (one (trust_called (Replaced file done.NoMemory)) tt (has_first stands)) tt
 
@@ -267,12 +275,12 @@ module _ (rules : Rules) (kept : Kept) (other : Request) (request : TrustRequest
       adds_entry : Explains (AddsEntry file fingerprint flag) Anything
       adds_entry = record { silent = is_silent; good = λ events value does stands. tt; caused = is_caused }
         where
-          is_silent : (events : List Event) {result : _} → AddsEntry file fingerprint flag events result → StandIn events whole → Silent events
+          is_silent : {before after : Option ℕ} (events : List Event) {result : _} → AddsEntry file fingerprint flag before events result after → StandIn events whole → Silent events
           is_silent events (parts.added fits) stands = tt
           is_silent events (parts.too_long long) stands = tt
           is_silent events parts.no_memory stands = (tt, tt)
 
-          is_caused : (events : List Event) {why : _} → AddsEntry file fingerprint flag events (Err why) → StandIn events whole → Here (refusal_events why) (refusal_went why)
+          is_caused : {before after : Option ℕ} (events : List Event) {why : _} → AddsEntry file fingerprint flag before events (Err why) after → StandIn events whole → Here (refusal_events why) (refusal_went why)
           is_caused events (parts.too_long long) stands = failed [] code.TooMuch Agent tt (too_much long) tt
           is_caused events parts.no_memory stands = failed [] code.NoMemory Agent tt (one (Further NoMemory) tt (has_first stands)) tt
 
@@ -307,7 +315,7 @@ module _ (rules : Rules) (kept : Kept) (other : Request) (request : TrustRequest
 
     asked : (file : List ℕ) → IsMarked whole request fingerprint purpose file None → (way : PinMode) → kept.options.mode ≡ way
         → Explains (asked_in rules kept.options fingerprint purpose name.items way) Anything
-    asked file is mode.Ask same = bind Anything Anything seats (λ ticket good. under_ticket Anything ticket consented)
+    asked file is mode.Ask same = bind Anything Anything seats (λ seated good. under_ticket Anything consented)
     asked file is mode.Cancel same = refused_by Anything (failed [] code.Cancelled Agent tt (by_mode is same) tt)
     asked file is mode.Error same = refused_by Anything (failed [] code.NoPinentry Agent tt (inl (error is same)) tt)
     asked file is mode.Loopback same = refused_by Anything (failed [] code.NoPinentry Agent tt (inl (loopback is same)) tt)

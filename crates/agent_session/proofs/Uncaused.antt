@@ -2,7 +2,7 @@
 use Rattle.std.proofs.Common.{ℕ, List, sym, subst}
 use Rattle.agent_ask.specs.Further.{FurtherEvent}
 use Rattle.agent_ask.specs.SessionEvents.{Sent}
-use Rattle.assuan_server.specs.declared.errors.Code.{Code}
+use Rattle.session_client.specs.declared.code.Code.{Code}
 use Rattle.assuan_server.specs.declared.errors.Origin.{Origin}
 use Rattle.agent_commands.specs.Events.{Event}
 use Rattle.agent_commands.specs.declared.went.SessionEnd.TheVariants.{Bye, Killed, Ended, TooLong, Spent, ReadFault, WriteFault}

@@ -14,7 +14,7 @@ use Rattle.agent_ports.specs.declared.grip.Grip.{Grip}
 use Rattle.agent_ports.specs.declared.keys.KeyRead.TheVariants as key_read
 use Rattle.assuan_server.specs.Inquiries.{TooLong}
 use Rattle.assuan_server.specs.Written.{failed}
-use Rattle.assuan_server.specs.declared.errors.Code.TheVariants as code
+use Rattle.session_client.specs.declared.code.Code.TheVariants as code
 use Rattle.assuan_server.specs.declared.errors.Origin.TheVariants.{Agent}
 use Rattle.assuan_text.specs.Words.{command_of}
 use Rattle.cache_policy.specs.Turns.{Empty}
@@ -25,7 +25,7 @@ use Rattle.key_commands.specs.Exchanges as key_exchanges
 use Rattle.key_commands.specs.KeyParts as key_parts
 use Rattle.key_commands.specs.Parts as small
 use Rattle.key_commands.specs.Requests.{key_request_of}
-use Rattle.key_commands.specs.declared.refusal.Refusal.TheVariants as refusals
+use Rattle.session_client.specs.declared.refusal.Refusal.TheVariants as refusals
 use Rattle.key_commands.specs.declared.request.KeyRequest.TheVariants as on
 use Rattle.key_commands.specs.declared.went.KeyWent.TheVariants as key_went
 use Rattle.key_lines.specs.Canon.{Canon}

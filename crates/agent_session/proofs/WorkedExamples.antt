@@ -12,7 +12,7 @@ use Rattle.agent_ask.specs.declared.prompter.Opened.TheVariants as opened
 use Rattle.agent_ask.specs.declared.prompter.Outcome.TheVariants as outcome
 use Rattle.agent_ask.specs.declared.spec.PromptSpec.{PromptSpec}
 use Rattle.assuan_server.specs.Written.{failed}
-use Rattle.assuan_server.specs.declared.errors.Code.TheVariants as code
+use Rattle.session_client.specs.declared.code.Code.TheVariants as code
 use Rattle.assuan_server.specs.declared.errors.Origin.TheVariants.{Agent}
 use Rattle.cache_policy.specs.Turns.{Given, Open, Done}
 use Rattle.cache_policy.specs.declared.grant.Grant.{Grant}

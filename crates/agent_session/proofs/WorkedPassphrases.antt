@@ -22,7 +22,7 @@ use Rattle.assuan_line.specs.declared.reader.Took.TheVariants as took
 use Rattle.assuan_server.specs.Clients.{session_lines}
 use Rattle.assuan_server.specs.Inquiries.{Data}
 use Rattle.assuan_server.specs.Written.{failed, greeting, ok_text}
-use Rattle.assuan_server.specs.declared.errors.Code.TheVariants as code
+use Rattle.session_client.specs.declared.code.Code.TheVariants as code
 use Rattle.assuan_server.specs.declared.errors.Origin.TheVariants.{Agent as OfAgent}
 use Rattle.assuan_text.specs.LineEnds.{line_of}
 use Rattle.cache_policy.specs.Turns.{Given, Open, Done, Refused}
@@ -55,10 +55,10 @@ use Rattle.key_commands.specs.KeyParts as parts
 use Rattle.key_commands.specs.KeyParts.{max_key_data}
 use Rattle.key_commands.specs.Lines.{limit_line}
 use Rattle.key_commands.specs.Parts as small
-use Rattle.key_commands.specs.Parts.{goes_on, stops, returns}
+use Rattle.agent_ask.specs.Parts.{goes_on, stops, returns}
 use Rattle.key_commands.specs.Passphrases.{ask_nonce}
 use Rattle.key_commands.specs.Wrapping.{WrappedSays}
-use Rattle.key_commands.specs.declared.refusal.Refusal.TheVariants.{Agent}
+use Rattle.session_client.specs.declared.refusal.Refusal.TheVariants.{Agent}
 use Rattle.key_commands.specs.declared.request.KeyRequest.TheVariants as on
 use Rattle.key_commands.specs.declared.wrap_keys.WrapKeys.{WrapKeys}
 use Rattle.agent_origin.specs.SessionExchanges.{SessionExchange, RequestExchange, cache}

@@ -24,8 +24,8 @@ use Rattle.agent_ports.specs.declared.keys.KeyRead.TheVariants as key_read
 use Rattle.agent_ports.specs.declared.trust.TrustDone.TheVariants as trust_done
 use Rattle.agent_ports.specs.declared.trust.TrustRead.TheVariants as trust_read
 use Rattle.assuan_server.specs.Clients.{session_lines}
-use Rattle.assuan_server.specs.declared.errors.Code.{Code}
-use Rattle.assuan_server.specs.declared.errors.Code.TheVariants as code
+use Rattle.session_client.specs.declared.code.Code.{Code}
+use Rattle.session_client.specs.declared.code.Code.TheVariants as code
 use Rattle.assuan_server.specs.declared.errors.Origin.{Origin}
 use Rattle.assuan_server.specs.declared.errors.Origin.TheVariants.{Agent, Pinentry}
 use Rattle.cache_policy.specs.Turns.{Turn, Given, Empty, Stopping, Late, Refused, closes}

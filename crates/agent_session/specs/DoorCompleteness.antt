@@ -4,7 +4,7 @@ use Rattle.agent_ask.specs.SessionEvents.{Sent}
 use Rattle.agent_commands.specs.Requests.{request_of}
 use Rattle.agent_commands.specs.declared.went.Went.{Went}
 use Rattle.assuan_server.specs.Written.{failed}
-use Rattle.assuan_server.specs.declared.errors.Code.TheVariants as code
+use Rattle.session_client.specs.declared.code.Code.TheVariants as code
 use Rattle.assuan_server.specs.declared.errors.Origin.TheVariants.{Agent}
 use Rattle.key_commands.specs.Events.{Event}
 use Rattle.session_options.specs.declared.rules.Rules.{Rules}

@@ -7,7 +7,7 @@ use Rattle.agent_ports.specs.declared.grip.Grip.{Grip}
 use Rattle.agent_ports.specs.declared.keys.KeyDone.{KeyDone}
 use Rattle.agent_ports.specs.declared.keys.KeyDone.TheVariants as key_done
 use Rattle.assuan_escape.specs.Escapes.{hex_text}
-use Rattle.assuan_server.specs.declared.errors.Code.{Code}
+use Rattle.session_client.specs.declared.code.Code.{Code}
 use Rattle.cache_policy.specs.Turns.{Turn, Done}
 use Rattle.cache_policy.specs.declared.life.Life.TheVariants.{Default}
 use Rattle.cache_policy.specs.declared.mark.MarkStep.{MarkStep}
@@ -15,7 +15,7 @@ use Rattle.cache_policy.specs.declared.mark.MarkStep.TheVariants.{Close, Put}
 use Rattle.cache_policy.specs.declared.mode.Mode.TheVariants.{Nonce}
 use Rattle.agent_commands.specs.Events.{Event}
 use Rattle.key_commands.specs.Events.{drew, called}
-use Rattle.key_commands.specs.Parts.{Interrupts}
+use Rattle.agent_ask.specs.Interrupts.{Interrupts}
 use Rattle.key_commands.specs.Passphrases.{put_key}
 use Rattle.agent_session.specs.OwnPassphrases.{HandsIn}
 

@@ -20,8 +20,8 @@ use Rattle.agent_ports.specs.declared.trust.TrustDone.TheVariants as trust_done
 use Rattle.agent_ports.specs.declared.trust.TrustRead.TheVariants as trust_read
 use Rattle.assuan_escape.specs.Escapes.{hex_text}
 use Rattle.assuan_server.specs.Written.{failed}
-use Rattle.assuan_server.specs.declared.errors.Code.{Code}
-use Rattle.assuan_server.specs.declared.errors.Code.TheVariants as code
+use Rattle.session_client.specs.declared.code.Code.{Code}
+use Rattle.session_client.specs.declared.code.Code.TheVariants as code
 use Rattle.cache_policy.specs.Desks.{AtDesk, is_of}
 use Rattle.cache_policy.specs.Histories.{History}
 use Rattle.cache_policy.specs.Runs.{joined}
@@ -39,7 +39,7 @@ use Rattle.agent_commands.specs.declared.request.CacheCommand.TheVariants.{GetPa
 use Rattle.agent_commands.specs.declared.request.Request.{Request}
 use Rattle.agent_commands.specs.declared.request.Request.TheVariants.{Cache}
 use Rattle.key_commands.specs.Lines.{grip_text, info_line, limit_line}
-use Rattle.key_commands.specs.Parts.{Interrupts}
+use Rattle.agent_ask.specs.Interrupts.{Interrupts}
 use Rattle.key_commands.specs.Passphrases.{put_key}
 use Rattle.key_commands.specs.declared.request.KeyRequest.TheVariants as on
 use Rattle.agent_session.specs.Causes.{on_keys}

@@ -14,7 +14,7 @@ use Rattle.agent_origin.specs.Sessions.{LineRelation}
 use Rattle.agent_origin.specs.declared.kept.Kept.{Kept}
 use Rattle.agent_ports.specs.Leads.{Leads}
 use Rattle.assuan_server.specs.Reading.{Supply}
-use Rattle.assuan_server.specs.declared.errors.Code.{Code}
+use Rattle.session_client.specs.declared.code.Code.{Code}
 use Rattle.assuan_server.specs.declared.errors.Origin.TheVariants.{Agent}
 use Rattle.cache_policy.specs.Turns.{Turn}
 use Rattle.cache_policy.specs.declared.mark.MarkStep.{MarkStep}

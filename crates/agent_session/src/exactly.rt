@@ -1,7 +1,7 @@
 ghost use Rattle.std.specs.List.{AllByRecursion};
 ghost use Rattle.std.specs.Prelude.{List, ℕ};
-ghost use Rattle.assuan_server.specs.declared.errors.Code.{Code};
-ghost use Rattle.assuan_server.specs.declared.errors.Code.TheVariants.{LineTooLong};
+ghost use Rattle.session_client.specs.declared.code.Code.{Code};
+ghost use Rattle.session_client.specs.declared.code.Code.TheVariants.{LineTooLong};
 ghost use Rattle.assuan_server.specs.declared.errors.Origin.TheVariants.{Agent};
 ghost use Rattle.agent_commands.specs.Requests.{request_of};
 ghost use Rattle.agent_commands.specs.declared.went.SessionEnd.TheVariants.{TooLong};

@@ -3,9 +3,10 @@ ghost use Rattle.std.specs.Prelude.{◌≡◌, ◌≢◌, Bool, List, Option, �
 ghost use Rattle.agent_ask.specs.Worlds.{Outside, Does};
 ghost use Rattle.agent_ports.specs.Leads.{Leads};
 ghost use Rattle.assuan_server.specs.Reading.{Supply};
-ghost use Rattle.assuan_server.specs.declared.errors.Code.{Code};
-ghost use Rattle.assuan_server.specs.declared.errors.Code.TheVariants.{LineTooLong};
+ghost use Rattle.session_client.specs.declared.code.Code.{Code};
+ghost use Rattle.session_client.specs.declared.code.Code.TheVariants.{LineTooLong};
 ghost use Rattle.assuan_server.specs.declared.errors.Origin.{Origin};
+ghost use Rattle.session_client.specs.declared.code.Code.{Code};
 ghost use Rattle.assuan_server.specs.declared.errors.Origin.TheVariants.{Agent};
 ghost use Rattle.agent_commands.specs.Requests.{request_of};
 ghost use Rattle.agent_commands.specs.declared.went.Went.{Went};

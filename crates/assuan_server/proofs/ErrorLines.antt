@@ -3,9 +3,9 @@ use Rattle.std.proofs.Common.{refl, lit≤}
 use Rattle.std.specs.Fmt.{digits}
 use Rattle.assuan_line.specs.Lines.{IsLine}
 use Rattle.assuan_server.specs.Errors.{error_text}
-use Rattle.assuan_server.specs.declared.errors.Code.{Code}
-use Rattle.assuan_server.specs.declared.errors.Code.TheVariants.{General, BadSecKey, Checksum, BadPass, NoSecKey, NoData, NotSupported, Timeout, InvSexp, NoPinentry}
-use Rattle.assuan_server.specs.declared.errors.Code.TheVariants.{NotTrusted, Cancelled, NotConfirmed, UnknownOption, Forbidden, LineTooLong, TooMuch, Unexpected, UnknownCommand, Parameter, FileExists, NoMemory}
+use Rattle.session_client.specs.declared.code.Code.{Code}
+use Rattle.session_client.specs.declared.code.Code.TheVariants.{General, BadSecKey, Checksum, BadPass, NoSecKey, NoData, NotSupported, Timeout, InvSexp, NoPinentry}
+use Rattle.session_client.specs.declared.code.Code.TheVariants.{NotTrusted, Cancelled, NotConfirmed, UnknownOption, Forbidden, LineTooLong, TooMuch, Unexpected, UnknownCommand, Parameter, FileExists, NoMemory}
 use Rattle.assuan_server.specs.declared.errors.Origin.{Origin}
 use Rattle.assuan_server.specs.declared.errors.Origin.TheVariants.{Agent, Pinentry}
 

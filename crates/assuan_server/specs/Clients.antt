@@ -1,5 +1,5 @@
 -- A connection as that of a session's client: the lines that its server reads, what is seen of it, and what the client has said by an
--- inquiry (Assuan manual, "server responses"). How a request is refused whose client gave nothing is this project's own.
+-- inquiry (Assuan manual, "server responses").
 use Rattle.std.specs.Prelude.{◌≡◌, ◌≢◌, ℕ, List, [], codes, decimal, Option, Some, None, Result, Ok, Err, IfSome}
 use Rattle.std.specs.Option.{option_map}
 use Rattle.assuan_line.specs.Lines.{IsLine}
@@ -12,6 +12,7 @@ use Rattle.assuan_text.specs.LineEnds.{line_of}
 use Rattle.cache_policy.specs.declared.secret.TheConstants.{MAX_SECRET_LEN}
 use Rattle.session_client.specs.Asking.{AsksClient, LeftBy, without_data}
 use Rattle.session_client.specs.Lines.{Lines, Views}
+use Rattle.session_client.specs.Refusals.{refusal_code}
 use Rattle.session_client.specs.declared.client.TheConstants.{MAX_NOTE_LEN}
 use Rattle.session_client.specs.declared.unheard.Gone.{Gone}
 use Rattle.session_client.specs.declared.unheard.Gone.TheVariants as gone
@@ -22,8 +23,6 @@ use Rattle.assuan_server.specs.Connections.{Connection}
 use Rattle.assuan_server.specs.Inquiries.{Outcome, Data, Cancelled, TooMuch, Unexpected, Ended, TooLong, Spent, ReadFault, Answers, AnswersDropped, inquire_text, is_skipped, outcome_of_dropped, outcome_of_secret}
 use Rattle.assuan_server.specs.Reading.{Supply, ReadsRequest, ReadsInquiry, IsSupply, unread}
 use Rattle.assuan_server.specs.Written.{failed}
-use Rattle.assuan_server.specs.declared.errors.Code.{Code}
-use Rattle.assuan_server.specs.declared.errors.Code.TheVariants as code
 use Rattle.assuan_server.specs.declared.inquiry.Dropped.{Dropped}
 use Rattle.assuan_server.specs.declared.inquiry.Dropped.TheVariants as dropped
 use Rattle.assuan_server.specs.declared.inquiry.InquiredSecret.{InquiredSecret}
@@ -59,14 +58,6 @@ answer_of gone.TooLong = Some took.TooLong
 answer_of gone.Spent = Some took.Spent
 answer_of gone.ReadFault = Some took.ReadFault
 answer_of gone.WriteFault = None
-
--- the code by which a request is refused whose client has said this: one that is gone is told no more, but that its line was too long
-abbrev pub refusal_code : Unheard → Option Code
-refusal_code unheard.Cancelled = Some code.Cancelled
-refusal_code unheard.TooMuch = Some code.TooMuch
-refusal_code unheard.Unexpected = Some code.Unexpected
-refusal_code (unheard.Gone gone.TooLong) = Some code.LineTooLong
-refusal_code (unheard.Gone how) = None
 
 -- the lines that a session's server reads
 abbrev pub session_lines : Lines

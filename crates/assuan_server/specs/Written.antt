@@ -1,5 +1,6 @@
 -- The lines that a server writes, as the Assuan manual has them ("server responses"), and what a write of them leaves.
-use Rattle.std.specs.Prelude.{◌≡◌, ◌≤◌, ◌==◌, ◌^◌, ◌-◌, min, List, ℕ, ◌++◌, length, codes, if◌then◌else◌, Result, Ok, Err, ⊤}
+use Rattle.std.specs.Prelude.{◌≡◌, ◌≤◌, ◌==◌, ◌^◌, ◌-◌, min, List, ℕ, ◌++◌, length, codes, if◌then◌else◌, Option, Some, None, Result, Ok, Err, ⊤}
+use Rattle.std.specs.Option.{option_map}
 use Rattle.agent_ports.specs.declared.link.Sent.{Sent}
 use Rattle.agent_ports.specs.declared.link.Sent.TheVariants.{All, Failed}
 use Rattle.assuan_escape.specs.DataLines.{AreData, data_text}
@@ -9,7 +10,10 @@ use Rattle.agent_ports.specs.Writing.{Writes}
 use Rattle.agent_ports.specs.declared.link.WriteFault.{WriteFault as Fault}
 use Rattle.assuan_server.specs.Connections.{Connection}
 use Rattle.assuan_server.specs.Errors.{error_text}
-use Rattle.assuan_server.specs.declared.errors.Code.{Code}
+use Rattle.session_client.specs.Refusals.{refusal_code}
+use Rattle.session_client.specs.declared.code.Code.{Code}
+use Rattle.session_client.specs.declared.refusal.Refusal.{Refusal}
+use Rattle.session_client.specs.declared.refusal.Refusal.TheVariants as refusal
 use Rattle.assuan_server.specs.declared.errors.Origin.TheVariants.{Agent, Pinentry}
 
 abbrev pub greeting : List ℕ
@@ -31,6 +35,12 @@ failed code = line_of (error_text code Agent)
 -- the line of an error that the pinentry gave
 abbrev pub failed_at_pinentry : Code → List ℕ
 failed_at_pinentry code = line_of (error_text code Pinentry)
+
+-- the line that a refusal is answered by, where there is one
+abbrev pub refusal_line : Refusal → Option (List ℕ)
+refusal_line (refusal.Agent code) = Some (failed code)
+refusal_line (refusal.Pinentry code) = Some (failed_at_pinentry code)
+refusal_line (refusal.Client why) = option_map failed (refusal_code why)
 
 -- a call wrote these bytes to a connection, or some first ones of them, and left the rest of it alone
 pub record HasWritten (bytes : List ℕ) (before : Connection) (sent : Sent) (after : Connection) : Type 0 where
@@ -63,3 +73,8 @@ pub record WritesText (text : List ℕ) (before : Connection) (result : Result (
   pub input : after.input ≡ before.input
   pub reader : after.reader ≡ before.reader
   pub link : after.link ≡ before.link
+
+-- a line was written, where there is one
+abbrev pub WritesLine : Option (List ℕ) → Connection → Result (Unit {0}) Fault → Connection → Type 0
+WritesLine None before result after = (result ≡ Ok tt) × (after ≡ before)
+WritesLine (Some line) before result after = WritesText line before result after

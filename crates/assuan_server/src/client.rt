@@ -1,9 +1,9 @@
 //! A connection as that of a session's client.
 
 ghost use Rattle.std.specs.Prelude.{◌≡◌};
-ghost use Rattle.assuan_server.specs.Clients.{secret_said, drop_said, refusal_code};
+ghost use Rattle.assuan_server.specs.Clients.{secret_said, drop_said};
 
-use crate::{Code, Conn, Dropped, InquiredSecret};
+use crate::{Conn, Dropped, InquiredSecret};
 use agent_ports::Link;
 use assuan_line::Line;
 use assuan_text::MAX_LINE_LEN;
@@ -79,21 +79,5 @@ impl InquiredSecret {
             InquiredSecret::ReadFault => Unheard::Gone(Gone::ReadFault),
             InquiredSecret::WriteFault => Unheard::Gone(Gone::WriteFault),
         })
-    }
-}
-
-impl Code {
-    /// The code by which a request is refused whose client has said this. One that is gone is told
-    /// no more, but that its line was too long.
-    pub fn refusing(unheard: Unheard) -> Option<Code>
-        ensures { result ≡ refusal_code unheard }
-    {
-        match unheard {
-            Unheard::Cancelled => Some(Code::Cancelled),
-            Unheard::TooMuch => Some(Code::TooMuch),
-            Unheard::Unexpected => Some(Code::Unexpected),
-            Unheard::Gone(Gone::TooLong) => Some(Code::LineTooLong),
-            Unheard::Gone(_) => None,
-        }
     }
 }

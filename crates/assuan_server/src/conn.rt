@@ -10,12 +10,13 @@ ghost use Rattle.assuan_server.specs.Connections.{IsOpen};
 ghost use Rattle.assuan_server.specs.Requests.{NextRequest};
 ghost use Rattle.assuan_server.specs.Errors.{error_text};
 ghost use Rattle.assuan_server.specs.Written.{greeting, ok_text, status_text, comment_text};
-ghost use Rattle.assuan_server.specs.Written.{HasWritten};
+ghost use Rattle.assuan_server.specs.Written.{HasWritten, WritesLine, refusal_line};
 
-use crate::errors::{Code, Origin, error_text};
+use crate::errors::{Origin, error_text};
 use crate::request::Ignored;
-use agent_ports::{Link, Sent};
+use agent_ports::{Link, Sent, WriteFault};
 use assuan_line::{LineFilter, LineReader, Took, next_after_skipped, write_text};
+use session_client::{Code, Refusal};
 use std::alloc::Global;
 use std::marker::Model;
 
@@ -110,6 +111,22 @@ impl<'a, L: Link> Conn<'a, L> {
         ensures { HasWritten (line_of (error_text code origin)) self.old result self.new }
     {
         self.say(&[&error_text(code, origin)])
+    }
+
+    /// Says why a request isn't carried out, where its client is to be told.
+    #[tactic(auto, using(crate::proofs::Saying::said))]
+    pub fn refuse(&mut self, why: Refusal) -> Result<(), WriteFault>
+        ensures { WritesLine (refusal_line why) self.old result self.new }
+    {
+        let (code, origin) = match why {
+            Refusal::Agent(code) => (code, Origin::Agent),
+            Refusal::Pinentry(code) => (code, Origin::Pinentry),
+            Refusal::Client(why) => match Code::refusing(why) {
+                Some(code) => (code, Origin::Agent),
+                None => return Ok(()),
+            },
+        };
+        self.err(code, origin).whole()
     }
 
     /// Writes a status line, `S`, the word and the text, each behind a blank.

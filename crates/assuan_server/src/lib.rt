@@ -15,6 +15,7 @@ mod inquiry;
 mod request;
 
 pub use conn::Conn;
-pub use errors::{Code, Origin};
+pub use errors::Origin;
 pub use inquiry::{Dropped, Inquired, InquiredSecret, inquiries_come_to_one_outcome};
 pub use request::requests_are_the_only_ones;
+pub use session_client::Code;

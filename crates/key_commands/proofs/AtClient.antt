@@ -16,7 +16,7 @@ use Rattle.session_client.specs.declared.unheard.Unheard.TheVariants as unheard
 use Rattle.key_commands.specs.Parts.{Writes, written, cut, Inquires, given, not_given, refusal_went}
 use Rattle.key_commands.specs.Partial.{NoTurn, NoCall, DoesAtClient}
 use Rattle.key_commands.specs.States.{KeyWorld, ReaderAfter, FaultsRise, KeyState, key_state}
-use Rattle.key_commands.specs.declared.refusal.Refusal.TheVariants.{Client}
+use Rattle.session_client.specs.declared.refusal.Refusal.TheVariants.{Client}
 use Rattle.agent_ask.specs.Events.{Call}
 use Rattle.cache_policy.specs.declared.mark.MarkStep.{MarkStep}
 use Rattle.cache_policy.specs.Turns.{Turn}

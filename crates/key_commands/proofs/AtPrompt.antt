@@ -1,7 +1,7 @@
 -- Prompts for a passphrase as parts of a request.
 use Rattle.std.proofs.Common.{◌≡◌, ◌≢◌, ℕ, Bool, List, [], Option, Some, Ok, Err, IsSome, refl, ap, ◌∙◌, subst}
 use Rattle.agent_ask.specs.Callers.{IsUnheardBy}
-use Rattle.agent_ask.specs.Clients.{Hears, LeftByPin}
+use Rattle.agent_ask.specs.Clients.{Hears, LeftByPin, LeftByPart}
 use Rattle.agent_ask.specs.Doing.{PromptEnds, DoesPrompt, HasEvents}
 use Rattle.agent_ask.specs.Events.{Call}
 use Rattle.agent_ask.specs.Plans.{IsSpec, plan_of}
@@ -18,34 +18,35 @@ use Rattle.agent_ports.specs.Leads.{none, one}
 use Rattle.arrayvec.specs.ArrayVec.{ArrayVec}
 use Rattle.assuan_server.specs.Clients.{connection_views, Wishes}
 use Rattle.assuan_server.specs.Connections.{Connection, IsOpen}
-use Rattle.assuan_server.specs.declared.errors.Code.TheVariants as code
+use Rattle.session_client.specs.declared.code.Code.TheVariants as code
 use Rattle.secret_file.specs.Opens.{LockedKey, OpensTo, FitsFile}
 use Rattle.session_options.specs.OptionValues.{OptionValues}
 use Rattle.session_options.specs.declared.rules.Rules.{Rules}
 use Rattle.sexp_keys.specs.Key.{Key}
 use Rattle.key_commands.specs.Events.{Event}
-use Rattle.key_commands.specs.Lines.{text}
+use Rattle.agent_ask.specs.Plans.{text}
 use Rattle.key_commands.specs.Parts.{Part}
 use Rattle.key_commands.specs.Partial.{DoesAtPrompter}
 use Rattle.key_commands.specs.Passphrases.{PromptsPin, pin_refusal}
 use Rattle.key_commands.specs.Trials.{IsTrial, IsUsable}
-use Rattle.key_commands.specs.declared.refusal.Refusal.{Refusal}
-use Rattle.key_commands.specs.declared.refusal.Refusal.TheVariants.{Agent, Pinentry}
-use Rattle.key_commands.proofs.Prompts.{IsLeft, part_prompted, left_open, left_unheard}
+use Rattle.session_client.specs.declared.refusal.Refusal.{Refusal}
+use Rattle.session_client.specs.declared.refusal.Refusal.TheVariants.{Agent, Pinentry}
+use Rattle.agent_ask.proofs.ConsentParts.{left_open, left_unheard}
+use Rattle.key_commands.proofs.Prompts.{part_prompted}
 use Rattle.key_commands.proofs.Opening.{opened_is_usable}
 
 -- ---- one prompt
 
 -- how the connection is left by a prompt whose answer refuses its request
 left_by_pin : (A : Type 0) (start now : Connection) (answer : Asked) (why : Refusal) → pin_refusal answer ≡ Some why → LeftByPin connection_views answer start now
-    → IsLeft {A = A} (Err why) start now
+    → LeftByPart connection_views {A = A} (Err why) start now
 left_by_pin A start now (asked.Pin pin) why is left = cc is
-left_by_pin A start now asked.Cancelled why is left = left_open A start now (Pinentry code.Cancelled) why is left
-left_by_pin A start now asked.TimedOut why is left = left_open A start now (Pinentry code.Timeout) why is left
-left_by_pin A start now asked.NoPinentry why is left = left_open A start now (Agent code.NoPinentry) why is left
-left_by_pin A start now asked.Bad why is left = left_open A start now (Agent code.BadPass) why is left
-left_by_pin A start now asked.NoMemory why is left = left_open A start now (Agent code.NoMemory) why is left
-left_by_pin A start now (asked.Heard heard) why is left = left_unheard A start now heard why is left
+left_by_pin A start now asked.Cancelled why is left = left_open connection_views start now A (Pinentry code.Cancelled) why is left
+left_by_pin A start now asked.TimedOut why is left = left_open connection_views start now A (Pinentry code.Timeout) why is left
+left_by_pin A start now asked.NoPinentry why is left = left_open connection_views start now A (Agent code.NoPinentry) why is left
+left_by_pin A start now asked.Bad why is left = left_open connection_views start now A (Agent code.BadPass) why is left
+left_by_pin A start now asked.NoMemory why is left = left_open connection_views start now A (Agent code.NoMemory) why is left
+left_by_pin A start now (asked.Heard heard) why is left = left_unheard connection_views start now A heard why is left
 
 module _ {P : Type 0} (prompted : P → Call → P → Type 0) {T : Type 0} {tested : T → List ℕ → Tested → T → Type 0} {before after : T} {spec : PromptSpec} {plan : AskPlan}
     {Rule : List ℕ → Type 0} {answer : Asked} {start now : PromptEnds P Connection}

@@ -5,20 +5,21 @@ use Rattle.agent_ports.specs.KeyFiles.{KeyFiles}
 use Rattle.agent_ports.specs.Sides.{Side}
 use Rattle.agent_ports.specs.declared.grip.Grip.{Grip}
 use Rattle.assuan_server.specs.Connections.{Connection, IsOpen}
-use Rattle.assuan_server.specs.declared.errors.Code.{Code}
+use Rattle.session_client.specs.declared.code.Code.{Code}
 use Rattle.cache_policy.specs.declared.mark.MarkStep.{MarkStep}
 use Rattle.cache_policy.specs.Turns.{Turn}
 use Rattle.session_options.specs.OptionValues.{OptionValues}
 use Rattle.session_options.specs.declared.rules.Rules.{Rules}
 use Rattle.key_commands.specs.Exchanges.{KeyReply, HaveKeyReplies}
 use Rattle.key_commands.specs.KeyParts.{HasOne}
-use Rattle.key_commands.specs.Parts.{Part, Refuses, returns, refuses}
+use Rattle.key_commands.specs.Parts.{Part}
+use Rattle.agent_ask.specs.Parts.{Refuses, returns, refuses}
 use Rattle.key_commands.specs.Partial.{NoTurn, NoCall}
 use Rattle.key_commands.specs.Replies.{CarriesOut, comes_to, stops_at}
 use Rattle.key_commands.specs.States.{key_state}
 use Rattle.key_commands.specs.Steps.{DoesKeyCalls}
-use Rattle.key_commands.specs.declared.refusal.Refusal.{Refusal}
-use Rattle.key_commands.specs.declared.refusal.Refusal.TheVariants.{Agent}
+use Rattle.session_client.specs.declared.refusal.Refusal.{Refusal}
+use Rattle.session_client.specs.declared.refusal.Refusal.TheVariants.{Agent}
 use Rattle.key_commands.specs.declared.reply.Reply.{Reply}
 use Rattle.key_commands.specs.declared.reply.Reply.TheVariants as replies
 use Rattle.key_commands.specs.declared.wrap_keys.WrapKeys.{WrapKeys}

@@ -5,7 +5,7 @@ use Rattle.agent_ports.specs.KeyFiles.{KeyFiles}
 use Rattle.agent_ports.specs.Sides.{Side}
 use Rattle.agent_ports.specs.declared.grip.Grip.{Grip}
 use Rattle.assuan_server.specs.Connections.{Connection, IsOpen}
-use Rattle.assuan_server.specs.declared.errors.Code.TheVariants as code
+use Rattle.session_client.specs.declared.code.Code.TheVariants as code
 use Rattle.cache_policy.specs.declared.mark.MarkStep.{MarkStep}
 use Rattle.cache_policy.specs.declared.mark.MarkStep.TheVariants.{Clear}
 use Rattle.cache_policy.specs.declared.mode.Mode.TheVariants.{Normal}
@@ -15,13 +15,15 @@ use Rattle.session_options.specs.declared.rules.Rules.{Rules}
 use Rattle.key_commands.specs.Exchanges.{DeleteKeyReplies}
 use Rattle.key_commands.specs.KeyParts.{Consents, Removes}
 use Rattle.key_commands.specs.Lines.{grip_text}
-use Rattle.key_commands.specs.Parts.{Finds, Changes, returns, refuses}
+use Rattle.key_commands.specs.Parts.{Finds}
+use Rattle.agent_ask.specs.TurnParts.{Changes}
+use Rattle.agent_ask.specs.Parts.{returns, refuses}
 use Rattle.key_commands.specs.Partial.{LeavesKeys}
 use Rattle.key_commands.specs.Replies.{CarriesOut, comes_to, stops_at}
 use Rattle.key_commands.specs.States.{KeyState, key_state}
 use Rattle.key_commands.specs.Steps.{DoesTurn, DoesKeyCalls}
-use Rattle.key_commands.specs.declared.refusal.Refusal.{Refusal}
-use Rattle.key_commands.specs.declared.refusal.Refusal.TheVariants.{Agent}
+use Rattle.session_client.specs.declared.refusal.Refusal.{Refusal}
+use Rattle.session_client.specs.declared.refusal.Refusal.TheVariants.{Agent}
 use Rattle.key_commands.specs.declared.reply.Reply.TheVariants as replies
 use Rattle.key_commands.specs.declared.wrap_keys.WrapKeys.{WrapKeys}
 use Rattle.key_commands.proofs.Doing.{part_called, part_turned, part_still, part_then, part_stops}

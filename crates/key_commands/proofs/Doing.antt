@@ -10,17 +10,18 @@ use Rattle.agent_ports.specs.declared.keys.KeyDone.{KeyDone}
 use Rattle.agent_ports.specs.declared.keys.KeyDone.TheVariants.{Done}
 use Rattle.assuan_line.specs.Next.{Reader, held}
 use Rattle.assuan_server.specs.Connections.{Connection, IsOpen}
-use Rattle.assuan_server.specs.declared.errors.Code.{Code}
+use Rattle.session_client.specs.declared.code.Code.{Code}
 use Rattle.cache_policy.specs.declared.mark.MarkStep.{MarkStep}
 use Rattle.cache_policy.specs.Turns.{Turn}
 use Rattle.key_commands.specs.Events.{Event, called, out_of_memory}
 use Rattle.key_commands.specs.KeyEnds.{KeyEnds, keys as does_keys, dice as does_dice, no_memory}
 use Rattle.key_commands.specs.KeyParts.{change_fault}
-use Rattle.key_commands.specs.Parts.{Part, ◌>>=◌, goes_on, stops}
+use Rattle.key_commands.specs.Parts.{Part}
+use Rattle.agent_ask.specs.Parts.{◌>>=◌, goes_on, stops}
 use Rattle.key_commands.specs.States.{KeyWorld, KeyState, KeyLead, key_state, ReaderAfter, FaultsRise, went_by, DoesPart}
 use Rattle.key_commands.specs.Steps.{DoesTurn, DoesTurns, still, one, AreAlone, nothing, memory, DoesAlone, KeysLead, none, calls, wants_memory, DoesKeyCalls, DoesDrawing, DoesDrawings, no_draw, one_draw, IsChanged}
-use Rattle.key_commands.specs.declared.refusal.Refusal.{Refusal}
-use Rattle.key_commands.specs.declared.refusal.Refusal.TheVariants.{Agent}
+use Rattle.session_client.specs.declared.refusal.Refusal.{Refusal}
+use Rattle.session_client.specs.declared.refusal.Refusal.TheVariants.{Agent}
 use Rattle.key_commands.specs.declared.went.KeyWent.{KeyWent}
 use Rattle.key_commands.specs.declared.went.KeyWent.TheVariants.{On, Gone}
 

@@ -9,8 +9,8 @@ use Rattle.agent_ask.specs.UnderTickets.{AnyInSession}
 use Rattle.agent_ask.specs.UnderTickets as session
 use Rattle.agent_ports.specs.declared.grip.Grip.{Grip}
 use Rattle.assuan_server.specs.Clients.{session_lines}
-use Rattle.assuan_server.specs.declared.errors.Code.{Code}
-use Rattle.assuan_server.specs.declared.errors.Code.TheVariants as code
+use Rattle.session_client.specs.declared.code.Code.{Code}
+use Rattle.session_client.specs.declared.code.Code.TheVariants as code
 use Rattle.cache_policy.specs.Turns.{Turn}
 use Rattle.cache_policy.specs.declared.life.Life.TheVariants.{Default}
 use Rattle.cache_policy.specs.declared.mark.MarkStep.{MarkStep}
@@ -30,12 +30,17 @@ use Rattle.key_commands.specs.KeyParts.{Tells, tells, ReadsFile, Replaces, Remov
 use Rattle.key_commands.specs.KeyParts.{max_key_data, AsksKeyData, Unwraps, ReceivesKey, NamesKey, IsFree, LooksOver, WrapsKey, Agrees}
 use Rattle.key_commands.specs.KeyParts as parts
 use Rattle.key_commands.specs.Lines.{grip_text, limit_line}
-use Rattle.key_commands.specs.Parts.{Part, ◌>>=◌, Follows, goes_on, stops, Returns, returns, Refuses, needed, or_else, unless, wanted, Asks, Seats, Changes, Peeks, Closes, Writes, Inquires, AsksClient, Finds, Draws}
+use Rattle.key_commands.specs.Parts.{Part, Writes, Inquires, AsksClient, Finds, Draws}
+use Rattle.agent_ask.specs.Parts.{◌>>=◌, Follows, goes_on, stops, Returns, returns, Refuses, needed, or_else, unless, wanted}
+use Rattle.agent_ask.specs.TurnParts.{Asks, Seats, Changes, Peeks, Closes}
+use Rattle.agent_ask.specs.Parts as chain
+use Rattle.agent_ask.specs.ConsentParts as consent
+use Rattle.agent_ask.specs.TurnParts as taken
 use Rattle.key_commands.specs.Parts as small
 use Rattle.key_commands.specs.Passphrases.{PromptsOld, PromptsNew, ClientOld, ClientNew, LooksForNonce, TakesSeat, Locks, Tries, TriesFound, ask_nonce, seat_for, put_key}
 use Rattle.key_commands.specs.Passphrases as passphrases
-use Rattle.key_commands.specs.declared.refusal.Refusal.{Refusal}
-use Rattle.key_commands.specs.declared.refusal.Refusal.TheVariants.{Agent}
+use Rattle.session_client.specs.declared.refusal.Refusal.{Refusal}
+use Rattle.session_client.specs.declared.refusal.Refusal.TheVariants.{Agent}
 
 -- a list, and what comes behind it
 pub each_append : {E : Type 0} (Is : E → Type 0) (first more : List E) → AllByRecursion Is first → AllByRecursion Is more → AllByRecursion Is (first ++ more)
@@ -76,7 +81,7 @@ module _ (Is : Event → Type 0) where
     each_returned value = record { of = each_returned_of value }
 
     each_refused_of : (why : Refusal) (before : Option ℕ) (events : List Event) (result : Result A Refusal) (after : Option ℕ) → Refuses {A = A} why before events result after → All events
-    each_refused_of why before events result after small.refuses = tt
+    each_refused_of why before events result after chain.refuses = tt
 
     pub each_refused : (why : Refusal) → EachSo (Refuses {A = A} why)
     each_refused why = record { of = each_refused_of why }
@@ -100,32 +105,32 @@ module _ (Is : Event → Type 0) where
   -- ---- turns, each of whose outcomes is so
   module _ {step : MarkStep} (turns : (turn : Turn) → Is (cache_turn step turn)) where
     looks_of : (before : Option ℕ) (events : List Event) (result : Result (Option (List ℕ)) Refusal) (after : Option ℕ) → Asks step before events result after → All events
-    looks_of before events result after small.given = (turns _, tt)
-    looks_of before events result after small.empty = (turns _, tt)
-    looks_of before events result after small.opened = (turns _, tt)
-    looks_of before events result after (small.interrupted why) = (turns _, tt)
+    looks_of before events result after taken.given = (turns _, tt)
+    looks_of before events result after taken.empty = (turns _, tt)
+    looks_of before events result after taken.opened = (turns _, tt)
+    looks_of before events result after (taken.interrupted why) = (turns _, tt)
 
     pub each_looks : EachSo (Asks step)
     each_looks = record { of = looks_of }
 
     seats_of : (before : Option ℕ) (events : List Event) (result : Result (Unit {0}) Refusal) (after : Option ℕ) → Seats step before events result after → All events
-    seats_of before events result after small.opened = (turns _, tt)
-    seats_of before events result after (small.interrupted why) = (turns _, tt)
+    seats_of before events result after taken.opened = (turns _, tt)
+    seats_of before events result after (taken.interrupted why) = (turns _, tt)
 
     pub each_seats : EachSo (Seats step)
     each_seats = record { of = seats_of }
 
     changes_of : (before : Option ℕ) (events : List Event) (result : Result (Unit {0}) Refusal) (after : Option ℕ) → Changes step before events result after → All events
-    changes_of before events result after small.done = (turns _, tt)
-    changes_of before events result after (small.interrupted why) = (turns _, tt)
+    changes_of before events result after taken.done = (turns _, tt)
+    changes_of before events result after (taken.interrupted why) = (turns _, tt)
 
     pub each_changes : EachSo (Changes step)
     each_changes = record { of = changes_of }
 
   peeks_of : (grip : Grip) → ((turn : Turn) → Is (cache_turn (Peek (grip_text grip) Normal) turn))
-      → (before : Option ℕ) (events : List Event) (result : Result Bool Refusal) (after : Option ℕ) → Peeks grip before events result after → All events
-  peeks_of grip turns before events result after small.peeked = (turns _, tt)
-  peeks_of grip turns before events result after (small.interrupted why) = (turns _, tt)
+      → (before : Option ℕ) (events : List Event) (result : Result Bool Refusal) (after : Option ℕ) → Peeks (grip_text grip) Normal before events result after → All events
+  peeks_of grip turns before events result after taken.peeked = (turns _, tt)
+  peeks_of grip turns before events result after (taken.interrupted why) = (turns _, tt)
 
   pub looks_nonce : (id : Option (List ℕ)) → ((named : List ℕ) (turn : Turn) → Is (cache_turn (ask_nonce named) turn)) → EachSo (LooksForNonce id)
   looks_nonce None turns = each_returned None
@@ -152,8 +157,8 @@ module _ (Is : Event → Type 0) where
 
   closes_of : (keep : Option (List ℕ)) → ((number : ℕ) (turn : Turn) → Is (cache_turn (Close number keep) turn)) → (before : Option ℕ) (events : List Event) (result : Result (Unit {0}) Refusal)
       (after : Option ℕ) → Closes keep before events result after → All events
-  closes_of keep turns before events result after small.unheld = tt
-  closes_of keep turns before events result after (small.closed turn) = (turns _ turn, tt)
+  closes_of keep turns before events result after taken.unheld = tt
+  closes_of keep turns before events result after (taken.closed turn) = (turns _ turn, tt)
 
   pub each_closes : (keep : Option (List ℕ)) → ((number : ℕ) (turn : Turn) → Is (cache_turn (Close number keep) turn)) → EachSo (Closes keep)
   each_closes keep turns = record { of = closes_of keep turns }
@@ -365,8 +370,8 @@ module _ (Is : Event → Type 0) where
         prompts_new = record { of = prompts_new_of }
 
         agrees_of : (before : Option ℕ) (events : List Event) (result : Result (Unit {0}) Refusal) (after : Option ℕ) → Agrees rules options grip before events result after → All events
-        agrees_of before events result after (parts.consents spec is prompt) = each_shown prompt.in_session
-        agrees_of before events result after (parts.refused spec is prompt refusal) = each_shown prompt.in_session
+        agrees_of before events result after (consent.consents spec is prompt) = each_shown prompt.in_session
+        agrees_of before events result after (consent.refused spec is prompt refusal) = each_shown prompt.in_session
 
         pub agrees : EachSo (Agrees rules options grip)
         agrees = record { of = agrees_of }

@@ -2,19 +2,22 @@
 use Rattle.std.proofs.Common.{◌≡◌, ℕ, List, [], ◌∷◌, Bool, true, false, not, Option, Some, None, Result, refl}
 use Rattle.agent_ports.specs.Sides.{Side}
 use Rattle.agent_ports.specs.declared.grip.Grip.{Grip}
-use Rattle.assuan_server.specs.declared.errors.Code.{Code}
-use Rattle.assuan_server.specs.declared.errors.Code.TheVariants.{FileExists}
+use Rattle.session_client.specs.declared.code.Code.{Code}
+use Rattle.session_client.specs.declared.code.Code.TheVariants.{FileExists}
 use Rattle.cache_policy.specs.declared.mark.MarkStep.{MarkStep}
 use Rattle.cache_policy.specs.Turns.{Turn}
 use Rattle.sexp_keys.specs.Key.{Key}
+use Rattle.cache_policy.specs.declared.mode.Mode.{Mode}
 use Rattle.key_commands.specs.Events.{Event}
 use Rattle.key_commands.specs.KeyParts.{LooksOver, IsFree, HasOne, Unwraps, NamesKey, ReadsFile, is_key, faulty, no_memory as no_file_memory, unread, ListsGrips, listed, faulted as not_listed, no_memory as no_list_memory, ReadsListed, Removes, done as removed, not_done as not_removed}
 use Rattle.key_commands.specs.KeyParts as part
-use Rattle.key_commands.specs.Parts.{Part, wanted, or_else, unless, returns, refuses, stops, goes_on, Seats, Changes, Peeks, Finds, Draws, opened, done, interrupted, peeked, found, absent, faulted, no_memory, drawn}
+use Rattle.key_commands.specs.Parts.{Part, Finds, Draws, found, absent, faulted, no_memory, drawn}
+use Rattle.agent_ask.specs.Parts.{wanted, or_else, unless, returns, refuses, stops, goes_on}
+use Rattle.agent_ask.specs.TurnParts.{Seats, Changes, Peeks, opened, done, interrupted, peeked}
 use Rattle.key_commands.specs.States.{went_by}
 use Rattle.key_commands.specs.Steps.{DoesDrawings, no_draw, one_draw, DoesTurns, still, one}
 use Rattle.key_commands.specs.declared.key_calls.KeyFile.{KeyFile}
-use Rattle.key_commands.specs.declared.refusal.Refusal.{Refusal}
+use Rattle.session_client.specs.declared.refusal.Refusal.{Refusal}
 use Rattle.key_commands.specs.declared.went.KeyWent.TheVariants.{On}
 
 pub seats_on : {before after : Option ℕ} {events : List Event} {step : MarkStep} {result : Result (Unit {0}) Refusal} → Seats step before events result after → went_by result ≡ On
@@ -25,7 +28,7 @@ pub changes_on : {before after : Option ℕ} {events : List Event} {step : MarkS
 changes_on done = refl
 changes_on (interrupted by) = refl
 
-pub peeks_on : {before after : Option ℕ} {events : List Event} {grip : Grip} {result : Result Bool Refusal} → Peeks grip before events result after → went_by result ≡ On
+pub peeks_on : {before after : Option ℕ} {events : List Event} {id : List ℕ} {mode : Mode} {result : Result Bool Refusal} → Peeks id mode before events result after → went_by result ≡ On
 peeks_on peeked = refl
 peeks_on (interrupted by) = refl
 

@@ -3,7 +3,7 @@ use Rattle.std.proofs.Common.{◌≡◌, ℕ, Bool, true, false, List, [], Optio
 use Rattle.agent_ask.specs.Events.{Call}
 use Rattle.agent_ports.specs.declared.grip.Grip.{Grip}
 use Rattle.assuan_server.specs.Connections.{Connection, IsOpen}
-use Rattle.assuan_server.specs.declared.errors.Code.{Code}
+use Rattle.session_client.specs.declared.code.Code.{Code}
 use Rattle.cache_policy.specs.declared.mark.MarkStep.{MarkStep}
 use Rattle.cache_policy.specs.Turns.{Turn}
 use Rattle.secret_file.specs.Opens.{LockedKey}
@@ -11,14 +11,16 @@ use Rattle.session_options.specs.OptionValues.{OptionValues}
 use Rattle.session_options.specs.declared.rules.Rules.{Rules}
 use Rattle.sexp_keys.specs.Key.{Key}
 use Rattle.key_commands.specs.Events.{Event}
-use Rattle.key_commands.specs.Parts.{Part, ◌>>=◌, Asks, given, empty, opened, interrupted, opened as seat_opened, interrupted as seat_interrupted, returns, refuses, wanted}
+use Rattle.key_commands.specs.Parts.{Part}
+use Rattle.agent_ask.specs.Parts.{◌>>=◌, returns, refuses, wanted}
+use Rattle.agent_ask.specs.TurnParts.{Asks, given, empty, opened, interrupted, opened as seat_opened, interrupted as seat_interrupted}
 use Rattle.key_commands.specs.Partial.{LeavesKeys}
 use Rattle.key_commands.specs.Passphrases.{Locks, is_locked, has_fault, no_memory as no_lock_memory, Tries, opens, stays, no_memory, TriesFound, LooksForNonce, TakesSeat, old_by, verified_by}
 use Rattle.key_commands.specs.States.{went_by}
 use Rattle.key_commands.specs.Steps.{DoesTurn, DoesTurns, still, one, DoesAlone}
 use Rattle.key_commands.specs.declared.opened.OpenedKey.{OpenedKey}
-use Rattle.key_commands.specs.declared.refusal.Refusal.{Refusal}
-use Rattle.key_commands.specs.declared.refusal.Refusal.TheVariants.{Agent}
+use Rattle.session_client.specs.declared.refusal.Refusal.{Refusal}
+use Rattle.session_client.specs.declared.refusal.Refusal.TheVariants.{Agent}
 use Rattle.key_commands.specs.declared.went.KeyWent.TheVariants.{On}
 use Rattle.key_commands.proofs.Doing.{part_then, part_stops, part_turned, part_still, part_alone}
 
@@ -104,11 +106,11 @@ seated grip {before} {after} (one turn) = holds_ticket grip before after _ turn.
 
 -- ---- facts that have to be there
 
-pub wanted_there : (code : Code) (held : Option ℕ) (fact : Bool) → fact ≡ true → wanted code fact held [] (Ok tt) held
+pub wanted_there : (code : Code) (held : Option ℕ) (fact : Bool) → fact ≡ true → wanted {E = Event} code fact held [] (Ok tt) held
 wanted_there code held true is = returns
 wanted_there code held false is = cc is
 
-pub wanted_missing : (code : Code) (held : Option ℕ) (fact : Bool) → fact ≡ false → wanted code fact held [] (Err (Agent code)) held
+pub wanted_missing : (code : Code) (held : Option ℕ) (fact : Bool) → fact ≡ false → wanted {E = Event} code fact held [] (Err (Agent code)) held
 wanted_missing code held true is = cc is
 wanted_missing code held false is = refuses
 

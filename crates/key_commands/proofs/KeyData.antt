@@ -11,8 +11,8 @@ use Rattle.assuan_server.specs.Clients.{connection_views, outcome_says}
 use Rattle.assuan_server.specs.Connections.{Connection, IsOpen}
 use Rattle.assuan_server.specs.Inquiries as outcome
 use Rattle.assuan_server.specs.Inquiries.{Outcome, Inquiry as Comes, IsAtEnd, Answers, outcome_of, inquire_text}
-use Rattle.assuan_server.specs.declared.errors.Code.{Code}
-use Rattle.assuan_server.specs.declared.errors.Code.TheVariants as code
+use Rattle.session_client.specs.declared.code.Code.{Code}
+use Rattle.session_client.specs.declared.code.Code.TheVariants as code
 use Rattle.assuan_server.specs.declared.inquiry.Inquired.{Inquired}
 use Rattle.assuan_server.specs.declared.inquiry.Inquired.TheVariants as inquired
 use Rattle.assuan_server.proofs.Clients.{inquiry_is_done, not_inquired}
@@ -29,8 +29,8 @@ use Rattle.key_commands.specs.States.{KeyWorld}
 use Rattle.key_commands.specs.Steps.{key_data_of, DoesAlone, nothing, memory as memory_wanted}
 use Rattle.key_commands.specs.Trials.{IsUsable}
 use Rattle.key_commands.specs.Wrapping.{PlainSays, key as plain_key, WrappedSays, checked}
-use Rattle.key_commands.specs.declared.refusal.Refusal.{Refusal}
-use Rattle.key_commands.specs.declared.refusal.Refusal.TheVariants.{Agent}
+use Rattle.session_client.specs.declared.refusal.Refusal.{Refusal}
+use Rattle.session_client.specs.declared.refusal.Refusal.TheVariants.{Agent}
 use Rattle.key_commands.specs.declared.wrapping.TheConstants.{MAX_LIST_LEN}
 use Rattle.key_commands.proofs.AtClient.{gave, gave_none}
 

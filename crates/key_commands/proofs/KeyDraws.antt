@@ -7,12 +7,13 @@ use Rattle.session_options.specs.OptionValues.{OptionValues}
 use Rattle.session_options.specs.declared.rules.Rules.{Rules}
 use Rattle.key_commands.specs.Exchanges.{KeyWrapReplies, wrap_key, with_wrap_key}
 use Rattle.key_commands.specs.KeyParts.{tells}
-use Rattle.key_commands.specs.Parts.{Draws, or_else, returns}
+use Rattle.key_commands.specs.Parts.{Draws}
+use Rattle.agent_ask.specs.Parts.{or_else, returns}
 use Rattle.key_commands.specs.Partial.{NoTurn, NoCall}
 use Rattle.key_commands.specs.Replies.{CarriesOut, comes_to, stops_at}
 use Rattle.key_commands.specs.States.{key_state}
 use Rattle.key_commands.specs.Steps.{DoesDrawings}
-use Rattle.key_commands.specs.declared.refusal.Refusal.{Refusal}
+use Rattle.session_client.specs.declared.refusal.Refusal.{Refusal}
 use Rattle.key_commands.specs.declared.reply.Reply.TheVariants.{WrapKey}
 use Rattle.key_commands.specs.declared.request.Direction.{Direction}
 use Rattle.key_commands.specs.declared.wrap_keys.WrapKeys.{WrapKeys}

@@ -7,18 +7,19 @@ use Rattle.agent_ask.specs.Further.{Read, DoesKeys}
 use Rattle.agent_ports.specs.KeyFiles.{KeyFiles}
 use Rattle.agent_ports.specs.declared.grip.Grip.{Grip}
 use Rattle.agent_ports.specs.declared.keys.KeyRead.{KeyRead}
-use Rattle.assuan_server.specs.declared.errors.Code.TheVariants.{NoSecKey}
+use Rattle.session_client.specs.declared.code.Code.TheVariants.{NoSecKey}
 use Rattle.cache_policy.specs.declared.mark.MarkStep.{MarkStep}
 use Rattle.cache_policy.specs.Turns.{Turn}
 use Rattle.sexp_keys.specs.declared.fault.KeyFault.{KeyFault}
 use Rattle.sexp_keys.specs.declared.fault.KeyFault.TheVariants.{InvSexp, BadSecKey, Shadowed, NotSupported, NoMemory}
 use Rattle.key_commands.specs.Files.{FileSays}
 use Rattle.key_commands.specs.KeyParts.{file_in, ReadsListed, faulty, no_memory, HasOne, TellsListed, WritesInfos}
-use Rattle.key_commands.specs.Parts.{Finds, returns, refuses}
+use Rattle.key_commands.specs.Parts.{Finds}
+use Rattle.agent_ask.specs.Parts.{returns, refuses}
 use Rattle.key_commands.specs.States.{KeyState, DoesPart}
 use Rattle.key_commands.specs.Steps.{DoesKeyCalls, unlisted}
-use Rattle.key_commands.specs.declared.refusal.Refusal.{Refusal}
-use Rattle.key_commands.specs.declared.refusal.Refusal.TheVariants.{Agent}
+use Rattle.session_client.specs.declared.refusal.Refusal.{Refusal}
+use Rattle.session_client.specs.declared.refusal.Refusal.TheVariants.{Agent}
 use Rattle.key_commands.proofs.Doing.{one_call, one_call_of_memory, calls_then, calls_stop, no_calls, part_then, part_stops}
 
 -- a listed key's file was read, and has this fault

@@ -13,7 +13,7 @@ use Rattle.key_commands.specs.Parts.{Part}
 use Rattle.key_commands.specs.Partial.{NoTurn, NoCall, DoesAtPrompter, DoesAtDesk, DoesAtClient, LeavesKeys}
 use Rattle.key_commands.specs.Replies.{CarriesOut, comes_to, stops_at}
 use Rattle.key_commands.specs.States.{KeyWorld, KeyState, DoesPart, key_state}
-use Rattle.key_commands.specs.declared.refusal.Refusal.{Refusal}
+use Rattle.session_client.specs.declared.refusal.Refusal.{Refusal}
 use Rattle.key_commands.specs.declared.reply.Reply.{Reply}
 use Rattle.key_commands.specs.declared.wrap_keys.WrapKeys.{WrapKeys}
 

@@ -18,11 +18,14 @@ use Rattle.session_options.specs.declared.rules.Rules.{Rules}
 use Rattle.key_commands.specs.Events.{Event}
 use Rattle.key_commands.specs.Exchanges.{Exchange, Replies, reply, answered, refused as is_refused}
 use Rattle.key_commands.specs.KeyEnds.{KeyEnds}
-use Rattle.key_commands.specs.Parts.{Closes, refusal_line, refusal_went}
-use Rattle.key_commands.specs.Replies.{WritesLine, went_unless_cut, RespondsTo, replied, refused, CarriesOut, comes_to, stops_at}
+use Rattle.agent_ask.specs.TurnParts.{Closes}
+use Rattle.assuan_server.specs.Written.{refusal_line}
+use Rattle.key_commands.specs.Parts.{refusal_went}
+use Rattle.assuan_server.specs.Written.{WritesLine}
+use Rattle.key_commands.specs.Replies.{went_unless_cut, RespondsTo, replied, refused, CarriesOut, comes_to, stops_at}
 use Rattle.key_commands.specs.States.{KeyWorld, KeyState, KeyLead, ReaderAfter, FaultsRise, AnswersKey, whole, cut, DoesPart}
 use Rattle.key_commands.specs.Steps.{DoesTurns, still, one}
-use Rattle.key_commands.specs.declared.refusal.Refusal.{Refusal}
+use Rattle.session_client.specs.declared.refusal.Refusal.{Refusal}
 use Rattle.key_commands.specs.declared.reply.Reply.{Reply}
 use Rattle.key_commands.specs.declared.request.KeyRequest.{KeyRequest}
 use Rattle.key_commands.specs.declared.went.KeyWent.{KeyWent}

@@ -10,14 +10,16 @@ use Rattle.key_commands.specs.Exchanges.{KeyReply, reply}
 use Rattle.key_commands.specs.Files.{Rewrites, canonical_file, extended_file, too_long, no_memory as no_new_memory}
 use Rattle.key_commands.specs.KeyParts.{KeepsNew, Protects, made, no_memory, Replaces, done as is_replaced, not_done, IsShort, short, long, WrapsKey, is_wrapped, no_memory as no_wrap_memory}
 use Rattle.key_commands.specs.Lines.{ok}
-use Rattle.assuan_server.specs.declared.errors.Code.{Code}
-use Rattle.key_commands.specs.Parts.{Part, Changes, Closes, closed, needed, returns, refuses}
+use Rattle.session_client.specs.declared.code.Code.{Code}
+use Rattle.key_commands.specs.Parts.{Part}
+use Rattle.agent_ask.specs.TurnParts.{Changes, Closes, closed}
+use Rattle.agent_ask.specs.Parts.{needed, returns, refuses}
 use Rattle.key_commands.specs.Passphrases.{put_key}
 use Rattle.key_commands.specs.Replies.{CarriesOut, comes_to}
 use Rattle.key_commands.specs.States.{KeyState, DoesPart, went_by}
 use Rattle.key_commands.specs.Steps.{DoesTurn, DoesTurns, still, one}
-use Rattle.key_commands.specs.declared.refusal.Refusal.{Refusal}
-use Rattle.key_commands.specs.declared.refusal.Refusal.TheVariants.{Agent}
+use Rattle.session_client.specs.declared.refusal.Refusal.{Refusal}
+use Rattle.session_client.specs.declared.refusal.Refusal.TheVariants.{Agent}
 use Rattle.key_commands.specs.declared.reply.Reply.TheVariants as replies
 use Rattle.key_commands.specs.declared.went.KeyWent.TheVariants.{On}
 use Rattle.key_commands.specs.declared.wrap_keys.WrapKeys.{WrapKeys}
@@ -72,10 +74,10 @@ wraps_on no_wrap_memory = refl
 
 -- ---- values that have to be there
 
-pub needed_there : {A : Type 0} (code : Code) (held : Option ℕ) {value : A} (found : Option A) → found ≡ Some value → needed code found held [] (Ok value) held
+pub needed_there : {A : Type 0} (code : Code) (held : Option ℕ) {value : A} (found : Option A) → found ≡ Some value → needed {E = Event} code found held [] (Ok value) held
 needed_there code held None is = cc is
-needed_there {A} code held {value} (Some other) is = let same : other ≡ value = cc is in subst (λ (v : A). needed code (Some other) held [] (Ok v) held) same returns
+needed_there {A} code held {value} (Some other) is = let same : other ≡ value = cc is in subst (λ (v : A). needed {E = Event} code (Some other) held [] (Ok v) held) same returns
 
-pub needed_missing : {A : Type 0} (code : Code) (held : Option ℕ) (found : Option A) → found ≡ None → needed code found held [] (Err (Agent code)) held
+pub needed_missing : {A : Type 0} (code : Code) (held : Option ℕ) (found : Option A) → found ≡ None → needed {E = Event} code found held [] (Err (Agent code)) held
 needed_missing code held None is = refuses
 needed_missing code held (Some value) is = cc is

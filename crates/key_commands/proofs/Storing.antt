@@ -14,11 +14,13 @@ use Rattle.sexp_keys.specs.Key.{Key}
 use Rattle.key_commands.specs.Exchanges.{StoresKey}
 use Rattle.key_commands.specs.KeyEnds.{KeyEnds}
 use Rattle.key_commands.specs.KeyParts.{Protects, Replaces, KeepsNew}
-use Rattle.key_commands.specs.Parts.{Draws, Changes, returns}
+use Rattle.key_commands.specs.Parts.{Draws}
+use Rattle.agent_ask.specs.TurnParts.{Changes}
+use Rattle.agent_ask.specs.Parts.{returns}
 use Rattle.key_commands.specs.Partial.{NoCall}
 use Rattle.key_commands.specs.States.{DoesPart, KeyState, key_state}
 use Rattle.key_commands.specs.Steps.{DoesTurn, DoesTurns, DoesAlone, DoesKeyCalls, DoesDrawing}
-use Rattle.key_commands.specs.declared.refusal.Refusal.{Refusal}
+use Rattle.session_client.specs.declared.refusal.Refusal.{Refusal}
 use Rattle.key_commands.proofs.Doing.{part_drawn, part_alone, part_turned, part_turns, part_called, part_still, part_then, part_stops}
 use Rattle.key_commands.proofs.Going.{draws_on, changes_on, turns_on}
 use Rattle.key_commands.proofs.Requesting.{protects_on, replaces_on, kept_on}

@@ -9,8 +9,8 @@ use Rattle.sexp_canonical.specs.Spelling.{IsReadable}
 use Rattle.sexp_canonical.specs.declared.tree.Sexp.{Sexp}
 use Rattle.sexp_canonical.specs.declared.fault.SexpFault.{SexpFault}
 use Rattle.sexp_canonical.specs.declared.fault.SexpFault.TheVariants.{NoMemory}
-use Rattle.assuan_server.specs.declared.errors.Code.{Code}
-use Rattle.assuan_server.specs.declared.errors.Code.TheVariants.{NoMemory as OutOfMemory}
+use Rattle.session_client.specs.declared.code.Code.{Code}
+use Rattle.session_client.specs.declared.code.Code.TheVariants.{NoMemory as OutOfMemory}
 use Rattle.sexp_keys.specs.Key.{Key}
 use Rattle.key_commands.specs.Wrapping.{ArePadded, AreWrapped, unwrapped, PlainSays, WrappedSays, checked}
 use Rattle.key_commands.specs.Steps.{are_padding}

@@ -3,7 +3,7 @@ use Rattle.std.specs.Prelude.{◌≡◌, ℕ, List, [], ◌∷◌, ◌++◌, rep
 use Rattle.std.proofs.Common.{◌≤◌, length, arith}
 use Rattle.hex.proofs.OnLiterals.{hex_on_literals}
 use Rattle.agent_ports.specs.declared.grip.Grip.{Grip}
-use Rattle.assuan_server.specs.declared.errors.Code.TheVariants.{NotSupported, UnknownCommand, Parameter}
+use Rattle.session_client.specs.declared.code.Code.TheVariants.{NotSupported, UnknownCommand, Parameter}
 use Rattle.key_commands.specs.Names.{command_named}
 use Rattle.key_commands.specs.Requests.{key_request_of, ends_description}
 use Rattle.key_commands.specs.declared.request.Direction.TheVariants.{Import, Export}

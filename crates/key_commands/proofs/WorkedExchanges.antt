@@ -7,7 +7,7 @@ use Rattle.agent_ports.specs.declared.keys.KeyDone.TheVariants.{Done as IsDone}
 use Rattle.agent_ports.specs.declared.keys.KeyRead.{KeyRead}
 use Rattle.agent_ports.specs.declared.keys.KeyRead.TheVariants.{Absent}
 use Rattle.assuan_server.specs.Written.{failed}
-use Rattle.assuan_server.specs.declared.errors.Code.TheVariants.{NoSecKey, Parameter, General}
+use Rattle.session_client.specs.declared.code.Code.TheVariants.{NoSecKey, Parameter, General}
 use Rattle.cache_policy.specs.declared.grant.Grant.{Grant}
 use Rattle.cache_policy.specs.declared.mark.MarkStep.TheVariants.{Peek}
 use Rattle.cache_policy.specs.declared.mode.Mode.TheVariants.{Normal}
@@ -26,9 +26,11 @@ use Rattle.key_commands.specs.Exchanges.{Exchange, answered, refused, with_wrap_
 use Rattle.key_commands.specs.Files.{FileSays, canonical_file}
 use Rattle.key_commands.specs.KeyParts.{is_key, file_in, tells, short, made, done as replaced}
 use Rattle.key_commands.specs.Lines.{ok, info_line, grip_text, IsDataAnswer}
-use Rattle.key_commands.specs.Parts.{goes_on, stops, returns, refuses, peeked, absent, unheld, drawn, given, done, faulted}
+use Rattle.agent_ask.specs.Parts.{goes_on, stops, returns, refuses}
+use Rattle.agent_ask.specs.TurnParts.{given, peeked, unheld, done}
+use Rattle.key_commands.specs.Parts.{absent, drawn, faulted}
 use Rattle.key_commands.specs.Passphrases.{ask_nonce, put_key, is_locked, opens, OpensLocked}
-use Rattle.key_commands.specs.declared.refusal.Refusal.TheVariants.{Agent}
+use Rattle.session_client.specs.declared.refusal.Refusal.TheVariants.{Agent}
 use Rattle.key_commands.specs.declared.request.Direction.TheVariants.{Import}
 use Rattle.key_commands.specs.declared.request.KeyRequest.TheVariants.{KeyInfo, KeyWrap, ExportKey, Passwd, DeleteKey}
 use Rattle.key_commands.specs.declared.wrapping.TheConstants.{MAX_LIST_LEN}

@@ -3,7 +3,7 @@
 use Rattle.std.specs.Prelude.{◌++◌, ℕ, Bool, true, false, List, [], ◌∷◌, take, drop, Option, Some, None, Ok, Err}
 use Rattle.agent_ask.specs.SessionEvents.{Sent}
 use Rattle.agent_ports.specs.declared.grip.Grip.{Grip}
-use Rattle.assuan_server.specs.declared.errors.Code.TheVariants as code
+use Rattle.session_client.specs.declared.code.Code.TheVariants as code
 use Rattle.cache_policy.specs.declared.life.Life.TheVariants.{Default}
 use Rattle.cache_policy.specs.declared.mark.MarkStep.TheVariants.{Put, Clear}
 use Rattle.cache_policy.specs.declared.mode.Mode.TheVariants.{Normal, Nonce}
@@ -14,10 +14,12 @@ use Rattle.sexp_keys.specs.Key.{Key}
 use Rattle.key_commands.specs.Events.{Event}
 use Rattle.key_commands.specs.Files.{Rewrites}
 use Rattle.key_commands.specs.Lines.{ok, grip_text, nonce_line}
-use Rattle.key_commands.specs.Parts.{Part, ◌>>=◌, Returns, Refuses, needed, wanted, or_else, Changes, Closes, Finds, Draws, refusal_events, refusal_went}
+use Rattle.key_commands.specs.Parts.{Part, Finds, Draws, refusal_events, refusal_went}
+use Rattle.agent_ask.specs.Parts.{◌>>=◌, Returns, Refuses, needed, wanted, or_else}
+use Rattle.agent_ask.specs.TurnParts.{Changes, Closes}
 use Rattle.key_commands.specs.Passphrases.{OldPassphrase, NewPassphrase, VerifiesPassphrase, LooksForNonce}
-use Rattle.key_commands.specs.declared.refusal.Refusal.{Refusal}
-use Rattle.key_commands.specs.declared.refusal.Refusal.TheVariants.{Agent}
+use Rattle.session_client.specs.declared.refusal.Refusal.{Refusal}
+use Rattle.session_client.specs.declared.refusal.Refusal.TheVariants.{Agent}
 use Rattle.key_commands.specs.declared.request.Direction.{Direction}
 use Rattle.key_commands.specs.declared.request.Direction.TheVariants.{Import, Export}
 use Rattle.key_commands.specs.declared.request.KeyRequest.{KeyRequest}

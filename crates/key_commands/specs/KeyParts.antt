@@ -1,17 +1,8 @@
 -- The parts of requests on keys that are no passphrase's: what is done with key files and with wrapped keys, and how consent is asked for (GnuPG
 -- manual, "Agent's Assuan protocol"). The codes, the texts and the order of what is done are this project's own.
 use Rattle.std.specs.Prelude.{◌≡◌, ◌≢◌, ◌≤◌, ◌<◌, length, ℕ, Bool, true, false, List, [], ◌∷◌, codes, not, Option, Some, None, Result, Ok, Err}
-use Rattle.std.specs.Option.{option_map}
-use Rattle.agent_ask.specs.Callers.{unheard_of}
-use Rattle.agent_ask.specs.Consents.{AsksConsent}
-use Rattle.agent_ask.specs.Events.{PromptEvent}
 use Rattle.agent_ask.specs.Further.{Listed, Replaced, Removed}
-use Rattle.agent_ask.specs.Plans.{IsSpec}
 use Rattle.agent_ask.specs.SessionEvents.{Inquiry, cache_turn}
-use Rattle.agent_ask.specs.UnderTickets.{AnyInSession}
-use Rattle.agent_ask.specs.declared.consent.Agreed.{Agreed}
-use Rattle.agent_ask.specs.declared.consent.Agreed.TheVariants as agreed
-use Rattle.agent_ask.specs.declared.spec.PromptSpec.{PromptSpec}
 use Rattle.agent_ports.specs.declared.grip.Grip.{Grip}
 use Rattle.agent_ports.specs.declared.keys.KeyDone.{KeyDone}
 use Rattle.agent_ports.specs.declared.keys.KeyDone.TheVariants as key_done
@@ -20,10 +11,11 @@ use Rattle.agent_ports.specs.declared.keys.KeyRead.{KeyRead}
 use Rattle.agent_ports.specs.declared.keys.KeyRead.TheVariants as key_read
 use Rattle.assuan_server.specs.Clients.{session_lines}
 use Rattle.assuan_server.specs.Inquiries.{Outcome, IsAtEnd}
-use Rattle.assuan_server.specs.declared.errors.Code.{Code}
-use Rattle.assuan_server.specs.declared.errors.Code.TheVariants as code
+use Rattle.session_client.specs.declared.code.Code.{Code}
+use Rattle.session_client.specs.declared.code.Code.TheVariants as code
 use Rattle.cache_policy.specs.declared.grant.Grant.{Grant}
 use Rattle.cache_policy.specs.declared.mark.MarkStep.TheVariants.{Seat}
+use Rattle.cache_policy.specs.declared.mode.Mode.TheVariants.{Normal}
 use Rattle.cache_policy.specs.Turns.{Given, Empty, Stopping, Refused}
 use Rattle.secret_file.specs.Protects.{ocb_protection, protected_file}
 use Rattle.session_client.specs.Asking.{Asked}
@@ -36,14 +28,17 @@ use Rattle.sexp_keys.specs.Lists.{grip_of, key_list_of}
 use Rattle.sexp_keys.specs.declared.fault.KeyFault.{KeyFault}
 use Rattle.key_commands.specs.Events.{Event, called, read, out_of_memory}
 use Rattle.key_commands.specs.Files.{FileSays}
-use Rattle.key_commands.specs.Lines.{IsDataAnswer, info_line, limit_line, text, described, delete_description}
-use Rattle.key_commands.specs.Parts.{Part, ◌>>=◌, Returns, Refuses, wanted, unless, Seats, Changes, Peeks, Closes, Writes, Inquires, Finds, read_fault}
+use Rattle.key_commands.specs.Lines.{IsDataAnswer, grip_text, info_line, limit_line, described, delete_description}
+use Rattle.agent_ask.specs.ConsentParts.{AgreesTo}
+use Rattle.key_commands.specs.Parts.{Part, Writes, Inquires, Finds, read_fault}
+use Rattle.agent_ask.specs.Parts.{◌>>=◌, Returns, Refuses, wanted, unless}
+use Rattle.agent_ask.specs.TurnParts.{Seats, Changes, Peeks, Closes}
 use Rattle.key_commands.specs.Passphrases.{ask_nonce, put_key}
 use Rattle.key_commands.specs.Faults.{fault_code}
 use Rattle.key_commands.specs.Wrapping.{wrapped_key, WrappedSays}
 use Rattle.key_commands.specs.declared.key_calls.KeyFile.{KeyFile}
-use Rattle.key_commands.specs.declared.refusal.Refusal.{Refusal}
-use Rattle.key_commands.specs.declared.refusal.Refusal.TheVariants.{Agent, Pinentry, Client}
+use Rattle.session_client.specs.declared.refusal.Refusal.{Refusal}
+use Rattle.session_client.specs.declared.refusal.Refusal.TheVariants.{Agent}
 use Rattle.key_commands.specs.declared.wrapping.TheConstants.{MAX_LIST_LEN}
 use Rattle.agent_ports.specs.declared.keys.KeyNames.{KeyNames}
 
@@ -115,7 +110,7 @@ HasOne (grip ∷ more) = do
 -- a key's line
 abbrev pub TellsInfo : Grip → Key → Part (List ℕ)
 TellsInfo grip key = do
-  cached ← Peeks grip
+  cached ← Peeks (grip_text grip) Normal
   Returns (info_line grip cached key.is_clear)
 
 -- the keys that there are
@@ -204,28 +199,10 @@ pub data WrapsKey (wrap : List ℕ) (key : Key) (held : Option ℕ) : List Event
 
 -- ---- DELETE_KEY
 
--- how a request is refused whose prompt gave no consent
-abbrev pub consent_refusal : Agreed → Option Refusal
-consent_refusal agreed.Yes = None
-consent_refusal agreed.No = Some (Pinentry code.NotConfirmed)
-consent_refusal agreed.Cancelled = Some (Pinentry code.Cancelled)
-consent_refusal agreed.TimedOut = Some (Pinentry code.Timeout)
-consent_refusal agreed.NoPinentry = Some (Agent code.NoPinentry)
-consent_refusal (agreed.Heard heard) = option_map Client (unheard_of heard)
-
--- one prompt for consent, in the session: its events, and its answer
-pub record PromptsConsent (spec : PromptSpec) (notify : Bool) (shown : List Event) (answer : Agreed) : Type 0 where
-  pub prompt : List PromptEvent
-  pub asks : AsksConsent spec notify prompt answer
-  pub in_session : AnyInSession session_lines prompt shown
-
 module _ (rules : Rules) (options : OptionValues) where
-  -- one prompt for consent under the ticket that the request holds
-  pub data Agrees (grip : Grip) : Option ℕ → List Event → Result (Unit {0}) Refusal → Option ℕ → Type 0 where
-    consents : {ticket : ℕ} {shown : List Event} (spec : PromptSpec) → IsSpec rules options (text (described options.description (delete_description grip))) (text []) false spec
-        → PromptsConsent spec options.notify shown agreed.Yes → Agrees grip (Some ticket) shown (Ok tt) (Some ticket)
-    refused : {ticket : ℕ} {shown : List Event} {answer : Agreed} {why : Refusal} (spec : PromptSpec) → IsSpec rules options (text (described options.description (delete_description grip))) (text []) false spec
-        → PromptsConsent spec options.notify shown answer → consent_refusal answer ≡ Some why → Agrees grip (Some ticket) shown (Err why) (Some ticket)
+  -- the user agrees that this key is deleted
+  abbrev pub Agrees : Grip → Part (Unit {0})
+  Agrees grip = AgreesTo session_lines rules options (described options.description (delete_description grip))
 
   abbrev agrees_by : PinMode → Grip → Part (Unit {0})
   agrees_by mode.Ask grip = do

@@ -37,10 +37,6 @@ nonce_line nonce = line_of (status_text (codes "CACHE_NONCE") nonce)
 abbrev pub limit_line : ℕ → List ℕ
 limit_line limit = line_of (status_text (codes "INQUIRE_MAXLEN") (decimal limit))
 
--- the bytes as a text
-abbrev pub text : List ℕ → ArrayVec ℕ
-text bytes = record { items = bytes }
-
 -- what prompts about a key as it is say: what the client set for this request (SETKEYDESC of gpg-agent), or what they usually do
 abbrev pub described : Option (List ℕ) → List ℕ → List ℕ
 described None usual = usual

@@ -8,7 +8,7 @@ use Rattle.cache_policy.specs.declared.mark.MarkStep.{MarkStep}
 use Rattle.cache_policy.specs.Turns.{Turn}
 use Rattle.key_commands.specs.Parts.{Part}
 use Rattle.key_commands.specs.States.{DoesPart, key_state}
-use Rattle.key_commands.specs.declared.refusal.Refusal.{Refusal}
+use Rattle.session_client.specs.declared.refusal.Refusal.{Refusal}
 
 -- no turn is taken, and no prompter is called
 abbrev pub NoTurn : Unit {0} → MarkStep → Turn → Unit {0} → Type 0

@@ -13,7 +13,7 @@ use Rattle.agent_ask.specs.declared.spec.AskPlan.{AskPlan}
 use Rattle.agent_ask.specs.declared.spec.PromptSpec.{PromptSpec}
 use Rattle.agent_ports.specs.declared.grip.Grip.{Grip}
 use Rattle.assuan_server.specs.Clients.{session_lines}
-use Rattle.assuan_server.specs.declared.errors.Code.TheVariants as code
+use Rattle.session_client.specs.declared.code.Code.TheVariants as code
 use Rattle.cache_policy.specs.declared.life.Life.TheVariants.{Default}
 use Rattle.cache_policy.specs.declared.mark.MarkStep.{MarkStep}
 use Rattle.cache_policy.specs.declared.mark.MarkStep.TheVariants.{Ask, Seat, Put}
@@ -30,12 +30,15 @@ use Rattle.session_options.specs.declared.rules.Rules.{Rules}
 use Rattle.sexp_keys.specs.Key.{Key}
 use Rattle.sexp_keys.specs.declared.fault.KeyFault.{KeyFault}
 use Rattle.key_commands.specs.Events.{Event, out_of_memory}
-use Rattle.key_commands.specs.Lines.{grip_text, text, described, old_description, new_description, field_text}
-use Rattle.key_commands.specs.Parts.{Part, ◌>>=◌, Returns, Refuses, needed, wanted, or_else, Asks, Seats, Changes, AsksClient}
+use Rattle.key_commands.specs.Lines.{grip_text, described, old_description, new_description, field_text}
+use Rattle.agent_ask.specs.Plans.{text}
+use Rattle.key_commands.specs.Parts.{Part, AsksClient}
+use Rattle.agent_ask.specs.Parts.{◌>>=◌, Returns, Refuses, needed, wanted, or_else}
+use Rattle.agent_ask.specs.TurnParts.{Asks, Seats, Changes}
 use Rattle.key_commands.specs.Faults.{fault_code}
 use Rattle.key_commands.specs.declared.opened.OpenedKey.{OpenedKey}
-use Rattle.key_commands.specs.declared.refusal.Refusal.{Refusal}
-use Rattle.key_commands.specs.declared.refusal.Refusal.TheVariants.{Agent, Pinentry, Client}
+use Rattle.session_client.specs.declared.refusal.Refusal.{Refusal}
+use Rattle.session_client.specs.declared.refusal.Refusal.TheVariants.{Agent, Pinentry, Client}
 
 -- ---- the cache
 

@@ -4,15 +4,15 @@ use Rattle.agent_ask.specs.Events.{Call}
 use Rattle.agent_ports.specs.declared.link.WriteFault.{WriteFault}
 use Rattle.assuan_escape.specs.Escapes.{hex_text}
 use Rattle.assuan_server.specs.Connections.{Connection}
-use Rattle.assuan_server.specs.Written.{WritesText}
+use Rattle.assuan_server.specs.Written.{WritesText, WritesLine, refusal_line}
 use Rattle.cache_policy.specs.declared.mark.MarkStep.{MarkStep}
 use Rattle.cache_policy.specs.Turns.{Turn}
 use Rattle.session_client.specs.declared.unheard.Gone.TheVariants as gone
 use Rattle.key_commands.specs.Exchanges.{KeyReply, reply}
 use Rattle.key_commands.specs.Lines.{ok, info_line, nonce_line, IsDataAnswer}
-use Rattle.key_commands.specs.Parts.{Part, refusal_line, refusal_went}
+use Rattle.key_commands.specs.Parts.{Part, refusal_went}
 use Rattle.key_commands.specs.States.{KeyState, DoesPart}
-use Rattle.key_commands.specs.declared.refusal.Refusal.{Refusal}
+use Rattle.session_client.specs.declared.refusal.Refusal.{Refusal}
 use Rattle.key_commands.specs.declared.reply.Reply.{Reply}
 use Rattle.key_commands.specs.declared.reply.Reply.TheVariants as replies
 use Rattle.key_commands.specs.declared.went.KeyWent.{KeyWent}
@@ -26,11 +26,6 @@ IsReply (replies.Info grip cached clear) text = text ≡ info_line grip cached c
 IsReply (replies.WrapKey key) text = IsDataAnswer key text
 IsReply (replies.Data bytes) text = IsDataAnswer bytes text
 IsReply (replies.Nonce nonce) text = text ≡ nonce_line (hex_text nonce) ++ ok
-
--- a line was written, where there is one
-abbrev pub WritesLine : Option (List ℕ) → Connection → Result (Unit {0}) WriteFault → Connection → Type 0
-WritesLine None before result after = (result ≡ Ok tt) × (after ≡ before)
-WritesLine (Some line) before result after = WritesText line before result after
 
 -- how the session goes on whose last write came to this
 abbrev pub went_unless_cut : KeyWent → Result (Unit {0}) WriteFault → KeyWent

@@ -18,7 +18,7 @@ use Rattle.session_client.specs.declared.unheard.Gone.TheVariants.{ReadFault, Wr
 use Rattle.key_commands.specs.Events.{Event}
 use Rattle.key_commands.specs.KeyEnds.{DoesAtKeys}
 use Rattle.key_commands.specs.Parts.{Part, refusal_went}
-use Rattle.key_commands.specs.declared.refusal.Refusal.{Refusal}
+use Rattle.session_client.specs.declared.refusal.Refusal.{Refusal}
 use Rattle.key_commands.specs.declared.went.KeyWent.{KeyWent}
 use Rattle.key_commands.specs.declared.went.KeyWent.TheVariants.{On, Gone}
 use Rattle.key_commands.specs.declared.wrap_keys.WrapKeys.{WrapKeys}

@@ -1,17 +1,14 @@
 -- Private: what the steps of a request know.
-use Rattle.std.specs.Prelude.{◌≡◌, ℕ, ◌==◌, ◌&&◌, nat_lt, Bool, List, [], ◌∷◌, length, Option, Some, None, Result, Ok, Err, ⊤}
+use Rattle.std.specs.Prelude.{◌≡◌, ℕ, ◌==◌, ◌&&◌, nat_lt, Bool, List, [], ◌∷◌, length, Option, Some, None, Result, Ok, Err}
 use Rattle.std.specs.List.{list_all}
-use Rattle.agent_ask.specs.Callers.{IsUnheardBy}
 use Rattle.agent_ask.specs.Further.{KeyCall, Draw, Dice, DoesKeys, DoesDraw}
 use Rattle.agent_ask.specs.SessionEvents.{Further, cache_turn}
-use Rattle.agent_ask.specs.declared.consent.Agreed.{Agreed}
-use Rattle.agent_ask.specs.declared.consent.Agreed.TheVariants as agreed
 use Rattle.agent_ports.specs.KeyFiles.{KeyFiles}
 use Rattle.agent_ports.specs.Sides.{Side}
 use Rattle.agent_ports.specs.declared.keys.KeyDone.{KeyDone}
 use Rattle.agent_ports.specs.declared.keys.KeyDone.TheVariants.{Done}
-use Rattle.assuan_server.specs.declared.errors.Code.{Code}
-use Rattle.assuan_server.specs.declared.errors.Code.TheVariants as code
+use Rattle.session_client.specs.declared.code.Code.{Code}
+use Rattle.session_client.specs.declared.code.Code.TheVariants as code
 use Rattle.assuan_server.specs.declared.inquiry.Inquired.{Inquired}
 use Rattle.assuan_server.specs.declared.inquiry.Inquired.TheVariants as inquired
 use Rattle.cache_policy.specs.declared.mark.MarkStep.{MarkStep}
@@ -22,10 +19,10 @@ use Rattle.sexp_keys.specs.Key.{Key}
 use Rattle.sexp_keys.specs.declared.fault.KeyFault.{KeyFault}
 use Rattle.sexp_keys.specs.declared.fault.KeyFault.TheVariants as fault
 use Rattle.key_commands.specs.Events.{Event, called, out_of_memory}
-use Rattle.key_commands.specs.KeyParts.{change_fault, consent_refusal}
+use Rattle.key_commands.specs.KeyParts.{change_fault}
 use Rattle.key_commands.specs.Parts.{Part}
-use Rattle.key_commands.specs.declared.refusal.Refusal.{Refusal}
-use Rattle.key_commands.specs.declared.refusal.Refusal.TheVariants.{Agent, Client}
+use Rattle.session_client.specs.declared.refusal.Refusal.{Refusal}
+use Rattle.session_client.specs.declared.refusal.Refusal.TheVariants.{Agent, Client}
 
 -- these are zero bytes, and fewer than a block of the wrapping
 abbrev pub are_padding : List ℕ → Bool
@@ -88,16 +85,6 @@ IsChanged done (Err why) = (code : Code) × (change_fault done ≡ Some code) ×
 abbrev pub unlisted : KeyFault → Result (Option Key) Refusal
 unlisted fault.NoMemory = Err (Agent code.NoMemory)
 unlisted _ = Ok None
-
--- what a prompt for consent comes to: where it isn't yes or no, the client gave nothing
-abbrev pub IsAgreed : Agreed → Type 0
-IsAgreed (agreed.Heard heard) = IsUnheardBy heard
-IsAgreed _ = ⊤
-
--- the request goes on, or is refused so
-abbrev pub IsConsented : Agreed → Result (Unit {0}) Refusal → Type 0
-IsConsented answer (Ok consented) = answer ≡ agreed.Yes
-IsConsented answer (Err why) = consent_refusal answer ≡ Some why
 
 -- the bytes of a key that the client gave, or how its request is refused
 abbrev pub key_data_of : Inquired → Result (List ℕ) Refusal

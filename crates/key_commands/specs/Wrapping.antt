@@ -2,8 +2,8 @@
 -- last block, the limits, and which fault comes first, are this project's own.
 use Rattle.std.specs.Prelude.{◌≡◌, ◌≤◌, ◌<◌, ◌-◌, ◌%◌, ℕ, true, false, List, ◌++◌, length, replicate, Result, Ok, Err, IsTrue}
 use Rattle.std.specs.List.{concat}
-use Rattle.assuan_server.specs.declared.errors.Code.{Code}
-use Rattle.assuan_server.specs.declared.errors.Code.TheVariants as code
+use Rattle.session_client.specs.declared.code.Code.{Code}
+use Rattle.session_client.specs.declared.code.Code.TheVariants as code
 use Rattle.key_wrap.specs.KeyWrap.{initial_value, is_wrapped_length, unwrapped_of, wrapped_of}
 use Rattle.sexp_canonical.specs.Spelling.{IsReadable}
 use Rattle.sexp_canonical.specs.View.{tree_of}

@@ -5,26 +5,23 @@ ghost use Rattle.agent_ask.specs.Prompters.{IsShut};
 ghost use Rattle.assuan_server.specs.Connections.{IsOpen};
 ghost use Rattle.key_commands.specs.KeyParts.{Agrees, Consents};
 ghost use Rattle.key_commands.specs.Partial.{LeavesKeys, DoesAtPrompter};
-ghost use Rattle.key_commands.specs.Steps.{IsAgreed, IsConsented};
 
+use crate::asking::Asking;
 use crate::held::Held;
-use crate::refusal::Refusal;
 use crate::texts::{delete_description, described};
 use crate::turns::seat;
-use agent_ask::{Agreed, Prompter, ask_leave, prompt_spec};
-use agent_ports::{Grip, Link};
+use agent_ask::{Prompter, agree};
+use agent_ports::Link;
 use assuan_server::{Code, Conn};
-use assuan_text::Text;
 use cache_policy::Desk;
 use prompt_seat::Ticket;
-use session_options::{Options, PinMode, Rules};
+use session_client::Refusal;
+use session_options::PinMode;
 
 /// The user agrees that a key is deleted, unless nobody is to be asked.
 pub(crate) fn consent<L: Link, D: Desk, P: Prompter>(
     force: bool,
-    grip: &Grip,
-    rules: &Rules,
-    options: &Options,
+    asking: &Asking<'_>,
     held: &mut Held,
     conn: &mut Conn<'_, L>,
     desk: &mut D,
@@ -35,19 +32,19 @@ pub(crate) fn consent<L: Link, D: Desk, P: Prompter>(
     requires out { (D.at desk.old).out ≡ held.old }
     requires shut { IsShut (P.at prompter.old) }
     ensures consents { LeavesKeys D.turned P.prompted
-        (Consents rules.now options.now force grip.now) held.old conn.old desk.old prompter.old
-        result held.new conn.new desk.new prompter.new }
+        (Consents asking.now.rules.now asking.now.options.now force asking.now.grip.now)
+        held.old conn.old desk.old prompter.old result held.new conn.new desk.new prompter.new }
     ensures out { (D.at desk.new).out ≡ held.new }
     ensures shut { IsShut (P.at prompter.new) }
 {
     if force {
         return Ok(());
     }
-    match options.mode() {
+    match asking.options.mode() {
         PinMode::Ask => {
             seat(None, held, desk)?;
             match held.ticket() {
-                Some(ticket) => ask_consent(grip, rules, options, ticket, conn, prompter),
+                Some(ticket) => ask_consent(asking, ticket, conn, prompter),
                 None => unreachable!(),
             }
         }
@@ -58,40 +55,25 @@ pub(crate) fn consent<L: Link, D: Desk, P: Prompter>(
 
 /// Asks the user by one prompt under the ticket that the request holds.
 fn ask_consent<L: Link, P: Prompter>(
-    grip: &Grip,
-    rules: &Rules,
-    options: &Options,
+    asking: &Asking<'_>,
     ticket: &Ticket,
     conn: &mut Conn<'_, L>,
     prompter: &mut P,
 ) -> Result<(), Refusal>
     requires open { IsOpen conn.old }
     requires shut { IsShut (P.at prompter.old) }
-    ensures agrees { DoesAtPrompter (Agrees rules.now options.now grip.now) P.prompted
+    ensures agrees { DoesAtPrompter
+        (Agrees asking.now.rules.now asking.now.options.now asking.now.grip.now) P.prompted
         (Some ticket.now) conn.old prompter.old result conn.new prompter.new }
     ensures shut { IsShut (P.at prompter.new) }
 {
-    let spec = prompt_spec(
-        &described(options, delete_description(grip)),
-        &Text::new(),
-        false,
-        rules,
-        options,
-    );
-    consented(ask_leave(ticket, &spec, options.notify(), conn, prompter))
-}
-
-/// How a request goes on whose prompt came to this.
-fn consented(agreed: Agreed) -> Result<(), Refusal>
-    requires { IsAgreed agreed }
-    ensures { IsConsented agreed result }
-{
-    Err(match agreed {
-        Agreed::Yes => return Ok(()),
-        Agreed::No => Refusal::Pinentry(Code::NotConfirmed),
-        Agreed::Cancelled => Refusal::Pinentry(Code::Cancelled),
-        Agreed::TimedOut => Refusal::Pinentry(Code::Timeout),
-        Agreed::NoPinentry => Refusal::Agent(Code::NoPinentry),
-        Agreed::Heard(heard) => Refusal::Client(heard.unheard()),
-    })
+    let question = described(asking.options, delete_description(asking.grip));
+    agree(
+        &question,
+        asking.rules,
+        asking.options,
+        ticket,
+        conn,
+        prompter,
+    )
 }

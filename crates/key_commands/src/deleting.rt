@@ -9,26 +9,22 @@ ghost use Rattle.key_commands.specs.Replies.{CarriesOut};
 ghost use Rattle.key_commands.specs.States.{key_state};
 ghost use Rattle.key_commands.specs.declared.wrap_keys.WrapKeys.{WrapKeys as Wraps};
 
+use crate::asking::Asking;
 use crate::consent::consent;
 use crate::held::Held;
 use crate::key_calls::{has_file, remove_file};
-use crate::refusal::Refusal;
 use crate::reply::Reply;
 use crate::turns::clear_pass;
 use agent_ask::Prompter;
-use agent_ports::{Grip, Keys, Link};
+use agent_ports::{Keys, Link};
 use assuan_server::{Code, Conn};
 use cache_policy::Desk;
-use session_options::{Options, Rules};
-use std::alloc::Global;
+use session_client::Refusal;
 
 /// DELETE_KEY: removes a key's file, and its passphrase from the cache.
 pub(crate) fn delete_key<L: Link, D: Desk, P: Prompter, K: Keys>(
-    alloc: Global,
-    grip: &Grip,
+    asking: &Asking<'_>,
     force: bool,
-    rules: &Rules,
-    options: &Options,
     held: &mut Held,
     conn: &mut Conn<'_, L>,
     desk: &mut D,
@@ -40,17 +36,19 @@ pub(crate) fn delete_key<L: Link, D: Desk, P: Prompter, K: Keys>(
     requires out { (D.at desk.old).out ≡ held.old }
     requires shut { IsShut (P.at prompter.old) }
     ensures carries { (wraps : Wraps) (dice : Side) → CarriesOut D.turned P.prompted
-        (DeleteKeyReplies rules.now options.now wraps force grip.now) wraps
+        (DeleteKeyReplies asking.now.rules.now asking.now.options.now wraps force
+        asking.now.grip.now) wraps
         (key_state D.turned P.prompted conn.old desk.old prompter.old (K.keys keys.old) dice)
         result wraps held.new
         (key_state D.turned P.prompted conn.new desk.new prompter.new (K.keys keys.new) dice) }
     ensures out { (D.at desk.new).out ≡ held.new }
     ensures shut { IsShut (P.at prompter.new) }
 {
+    let (alloc, grip) = (asking.alloc, asking.grip);
     if !has_file(alloc, grip, keys)? {
         return Err(Refusal::Agent(Code::NoSecKey));
     }
-    consent(force, grip, rules, options, held, conn, desk, prompter)?;
+    consent(force, asking, held, conn, desk, prompter)?;
     remove_file(alloc, grip, keys)?;
     clear_pass(grip, held, desk)?;
     Ok(Reply::Ok)

@@ -4,9 +4,9 @@ ghost use Rattle.std.specs.Prelude.{◌≡◌, replicate};
 ghost use Rattle.key_commands.specs.Parts.{Draws};
 ghost use Rattle.key_commands.specs.Steps.{DoesDrawing};
 
-use crate::refusal::Refusal;
 use agent_ports::Dice;
 use assuan_server::Code;
+use session_client::Refusal;
 use std::marker::Model;
 use wiping::wipe;
 

@@ -10,10 +10,10 @@ ghost use Rattle.sexp_keys.specs.declared.fault.KeyFault.{KeyFault};
 ghost use Rattle.key_commands.specs.Files.{FileSays, IsSomeKey, IsSomeList, IsWithList, Rewrites};
 ghost use Rattle.key_commands.specs.Steps.{DoesAlone};
 
-use crate::refusal::Refusal;
 use assuan_server::Code;
 use key_lines::{KeyLines, LinesFault, read_lines};
 use secret_file::key_of;
+use session_client::Refusal;
 use sexp_canonical::{Bytes, MAX_BYTES, Sexp, SexpFault, read};
 use sexp_keys::{KeyFault, KeyList};
 use std::alloc::Global;

@@ -10,12 +10,11 @@ ghost use Rattle.key_commands.specs.Lines.{limit_line};
 ghost use Rattle.key_commands.specs.Parts.{AsksClient, Writes};
 ghost use Rattle.key_commands.specs.Partial.{DoesAtClient};
 
-use crate::refusal::Refusal;
 use agent_ports::{Link, WriteFault};
 use assuan_server::Conn;
 use cache_policy::{MAX_SECRET_LEN, Secret};
 use itoa::Buffer;
-use session_client::{Gone, Unheard};
+use session_client::{Gone, Refusal, Unheard};
 
 /// Asks the client for a passphrase by this word. It is told first how many bytes are taken.
 pub(crate) fn ask_client<L: Link>(word: &[u8], conn: &mut Conn<'_, L>) -> Result<Secret, Refusal>

@@ -12,9 +12,9 @@ ghost use Rattle.key_commands.specs.Steps.{DoesKeyCalls, IsChanged, unlisted};
 
 use crate::faults::fault_code;
 use crate::files::file_key;
-use crate::refusal::Refusal;
 use agent_ports::{Grip, KeyDone, KeyNames, KeyRead, Keys};
 use assuan_server::Code;
+use session_client::Refusal;
 use sexp_canonical::Bytes;
 use sexp_keys::{KeyFault, KeyList};
 use std::alloc::Global;

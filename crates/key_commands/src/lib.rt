@@ -30,7 +30,6 @@ mod prompting;
 mod protecting;
 mod read;
 mod receiving;
-mod refusal;
 mod reply;
 mod request;
 mod run;

@@ -18,14 +18,13 @@ ghost use Rattle.session_options.specs.declared.rules.Rules.{Rules as TheRules};
 use crate::grips::Grips;
 use crate::held::Held;
 use crate::key_calls::{has_file, list_grips, read_file, read_listed};
-use crate::refusal::Refusal;
 use crate::reply::Reply;
 use crate::texts::write_info;
 use crate::turns::peek;
 use agent_ports::{Grip, Keys, Link, WriteFault};
 use assuan_server::{Code, Conn};
 use cache_policy::Desk;
-use session_client::{Gone, Unheard};
+use session_client::{Gone, Refusal, Unheard};
 use sexp_keys::KeyList;
 use std::alloc::Global;
 

@@ -13,12 +13,12 @@ use crate::held::Held;
 use crate::inquiries::ask_client;
 use crate::nonces::look_for_nonce;
 use crate::prompting::prompt_new;
-use crate::refusal::Refusal;
 use crate::turns::take_seat;
 use agent_ask::Prompter;
 use agent_ports::Link;
 use assuan_server::{Code, Conn};
 use cache_policy::{CacheId, Desk, Secret};
+use session_client::Refusal;
 use session_options::PinMode;
 
 /// A new passphrase for a key, as the client wants it. The ticket of a prompt is held when it

@@ -5,9 +5,9 @@ ghost use Rattle.key_commands.specs.Passphrases.{LooksForNonce};
 ghost use Rattle.key_commands.specs.Steps.{DoesTurns};
 
 use crate::held::Held;
-use crate::refusal::Refusal;
 use crate::turns::ask_cache;
 use cache_policy::{CacheId, Desk, Mode, Secret, Way};
+use session_client::Refusal;
 
 /// What is cached under a nonce, where there is one. It opens no prompt.
 pub(crate) fn look_for_nonce<D: Desk>(

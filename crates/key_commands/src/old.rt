@@ -16,7 +16,6 @@ use crate::inquiries::ask_client;
 use crate::nonces::look_for_nonce;
 use crate::opened::{OpenedKey, lock_of, try_found, try_pass};
 use crate::prompting::prompt_old;
-use crate::refusal::Refusal;
 use crate::texts::key_id;
 use crate::turns::{ask_cache, keep_pass, take_seat};
 use agent_ask::Prompter;
@@ -24,6 +23,7 @@ use agent_ports::Link;
 use assuan_server::{Code, Conn};
 use cache_policy::{CacheId, Desk, Mode, Way};
 use secret_file::Locked;
+use session_client::Refusal;
 use session_options::PinMode;
 use sexp_keys::KeyList;
 

@@ -7,11 +7,11 @@ ghost use Rattle.key_commands.specs.Steps.{DoesAlone};
 ghost use Rattle.key_commands.specs.Trials.{IsUsable};
 
 use crate::faults::fault_code;
-use crate::refusal::Refusal;
 use agent_ask::{Test, Tested};
 use assuan_server::Code;
 use cache_policy::Secret;
 use secret_file::{Locked, Opened};
+use session_client::Refusal;
 use sexp_keys::KeyList;
 use std::alloc::Global;
 

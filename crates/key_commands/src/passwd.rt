@@ -23,13 +23,13 @@ use crate::key_calls::{read_file, replace_file};
 use crate::new::renewed_passphrase;
 use crate::old::{old_passphrase, verified_passphrase};
 use crate::protecting::{check_len, keep_new, protected_key, salt_and_iv};
-use crate::refusal::Refusal;
 use crate::reply::Reply;
 use crate::turns::close;
 use agent_ask::Prompter;
 use agent_ports::{Dice, Keys, Link};
 use assuan_server::Conn;
 use cache_policy::{CacheId, Desk, Secret};
+use session_client::Refusal;
 use sexp_keys::KeyList;
 
 /// PASSWD --verify: the passphrase of a key is asked for and tried, and its ticket given back with

@@ -11,7 +11,6 @@ ghost use Rattle.key_commands.specs.Trials.{IsUsable};
 use crate::asking::Asking;
 use crate::held::Held;
 use crate::opened::{OpenedKey, OpensKey};
-use crate::refusal::Refusal;
 use crate::texts::{described, new_description, old_description};
 use agent_ask::{AnyPin, Asked, Prompter, ask_plan, ask_user, prompt_spec};
 use agent_ports::Link;
@@ -19,6 +18,7 @@ use assuan_server::{Code, Conn};
 use assuan_text::Text;
 use cache_policy::Secret;
 use secret_file::Locked;
+use session_client::Refusal;
 
 /// Asks the user for the passphrase of a locked key: the clear key, as the accepted passphrase
 /// opened it.

@@ -13,13 +13,13 @@ ghost use Rattle.key_commands.specs.Trials.{IsUsable};
 ghost use Rattle.key_commands.specs.declared.wrapping.TheConstants.{MAX_LIST_LEN};
 
 use crate::held::Held;
-use crate::refusal::Refusal;
 use crate::turns::{close, keep_pass};
 use crate::wrapping::has_short_list;
 use agent_ports::Grip;
 use assuan_server::Code;
 use cache_policy::{Desk, Secret};
 use secret_file::protect;
+use session_client::Refusal;
 use sexp_canonical::Bytes;
 use sexp_keys::KeyList;
 use std::alloc::Global;

@@ -13,13 +13,12 @@ ghost use Rattle.key_commands.specs.declared.wrapping.TheConstants.{MAX_LIST_LEN
 use crate::held::Held;
 use crate::inquiries::tell_limit;
 use crate::key_calls::has_file;
-use crate::refusal::Refusal;
-use crate::turns::without_memory;
 use crate::wrapping::unwrapped_key;
+use agent_ask::without_memory;
 use agent_ports::{Grip, Keys, Link};
 use assuan_server::{Code, Conn, Inquired};
 use cache_policy::{CacheId, Desk, Mode, Refused, Reply, Secret, Step, Way};
-use session_client::{Gone, Unheard};
+use session_client::{Gone, Refusal, Unheard};
 use sexp_canonical::Bytes;
 use sexp_keys::KeyList;
 use std::alloc::Global;

@@ -5,17 +5,18 @@ ghost use Rattle.assuan_escape.specs.Escapes.{hex_text};
 ghost use Rattle.assuan_server.specs.Written.{WritesText};
 ghost use Rattle.assuan_text.specs.LineEnds.{has_lf};
 ghost use Rattle.key_commands.specs.Lines.{ok, nonce_line, IsDataAnswer};
-ghost use Rattle.key_commands.specs.Parts.{refusal_line, refusal_went};
-ghost use Rattle.key_commands.specs.Replies.{IsReply, WritesLine, RespondsTo, went_unless_cut};
+ghost use Rattle.assuan_server.specs.Written.{refusal_line};
+ghost use Rattle.key_commands.specs.Parts.{refusal_went};
+ghost use Rattle.key_commands.specs.Replies.{IsReply, RespondsTo, went_unless_cut};
+ghost use Rattle.assuan_server.specs.Written.{WritesLine};
 
 use crate::drawing::Drawn;
-use crate::refusal::Refusal;
 use crate::texts::write_info;
 use crate::went::KeyWent;
 use agent_ports::{Grip, Link, WriteFault};
 use assuan_escape::upper_hex;
 use assuan_server::{Code, Conn, Origin};
-use session_client::{Gone, Unheard};
+use session_client::{Gone, Refusal, Unheard};
 use sexp_canonical::Bytes;
 
 /// What a request is answered where it isn't refused.
@@ -42,7 +43,7 @@ pub(crate) fn respond<L: Link>(reply: &Result<Reply, Refusal>, conn: &mut Conn<'
 {
     match reply {
         Ok(reply) => went_unless_cut(KeyWent::On, write_reply(reply, conn)),
-        Err(why) => went_unless_cut(went_after(*why), write_refusal(*why, conn)),
+        Err(why) => went_unless_cut(went_after(*why), conn.refuse(*why)),
     }
 }
 
@@ -87,27 +88,12 @@ fn write_nonce<L: Link>(nonce: &[u8; 12], conn: &mut Conn<'_, L>) -> Result<(), 
     conn.status(b"CACHE_NONCE", &upper_hex(nonce)).whole()
 }
 
-/// Writes the line of a refusal, where there is one.
-fn write_refusal<L: Link>(why: Refusal, conn: &mut Conn<'_, L>) -> Result<(), WriteFault>
-    ensures { WritesLine (refusal_line why) conn.old result conn.new }
-{
-    let (code, origin) = match why {
-        Refusal::Agent(code) => (code, Origin::Agent),
-        Refusal::Pinentry(code) => (code, Origin::Pinentry),
-        Refusal::Client(why) => match Code::refusing(why) {
-            Some(code) => (code, Origin::Agent),
-            None => return Ok(()),
-        },
-    };
-    conn.err(code, origin).whole()
-}
-
 /// How a session goes on after a refusal.
 fn went_after(why: Refusal) -> KeyWent
     ensures { result ≡ refusal_went why }
 {
-    match why {
-        Refusal::Client(Unheard::Gone(gone)) => KeyWent::Gone(gone),
-        _ => KeyWent::On,
+    match why.gone() {
+        Some(how) => KeyWent::Gone(how),
+        None => KeyWent::On,
     }
 }

@@ -14,7 +14,6 @@ use crate::held::Held;
 use crate::importing::import_key;
 use crate::listing::{has_one, key_info, list_keys};
 use crate::passwd::{change_passphrase, verify_key};
-use crate::refusal::Refusal;
 use crate::reply::{Reply, respond};
 use crate::request::KeyRequest;
 use crate::turns::close;
@@ -24,6 +23,7 @@ use agent_ask::Prompter;
 use agent_ports::{Dice, Keys, Link};
 use assuan_server::Conn;
 use cache_policy::{CacheId, Desk};
+use session_client::Refusal;
 use session_options::{Options, Rules};
 use std::alloc::Global;
 
@@ -124,9 +124,10 @@ fn carry_out<L: Link, D: Desk, P: Prompter, K: Keys, R: Dice>(
                 &asking, nonce, new_nonce, held, conn, desk, prompter, keys, dice,
             )
         }
-        KeyRequest::DeleteKey { grip, force } => delete_key(
-            alloc, grip, *force, rules, options, held, conn, desk, prompter, keys,
-        ),
+        KeyRequest::DeleteKey { grip, force } => {
+            let asking = Asking::of(alloc, grip, rules, options);
+            delete_key(&asking, *force, held, conn, desk, prompter, keys)
+        }
         KeyRequest::Bad(code) => Err(Refusal::Agent(*code)),
     }
 }

@@ -6,18 +6,18 @@ ghost use Rattle.cache_policy.specs.declared.life.Life.TheVariants.{Default};
 ghost use Rattle.cache_policy.specs.declared.mark.MarkStep.TheVariants.{Ask, Seat, Put, Clear};
 ghost use Rattle.cache_policy.specs.declared.mode.Mode.TheVariants.{Normal, Nonce};
 ghost use Rattle.cache_policy.specs.Turns.{asked_step, closes, opens};
-ghost use Rattle.key_commands.specs.Parts.{Asks, Changes, Closes, Peeks, Seats};
+ghost use Rattle.agent_ask.specs.TurnParts.{Asks, Changes, Closes, Peeks, Seats};
 ghost use Rattle.key_commands.specs.Passphrases.{TakesSeat, put_key};
 ghost use Rattle.key_commands.specs.Lines.{grip_text};
 ghost use Rattle.key_commands.specs.Steps.{DoesTurn, DoesTurns};
 
 use crate::held::Held;
-use crate::refusal::Refusal;
 use crate::texts::{key_id, nonce_id};
-use agent_ask::give_back;
+use agent_ask::{give_back, without_memory};
 use agent_ports::Grip;
 use assuan_server::Code;
 use cache_policy::{CacheId, Desk, Life, Mode, Refused, Reply, Secret, Step, Under, Way};
+use session_client::Refusal;
 
 /// Asks for what is cached. Where that is wanted, it may open a prompt, whose ticket is held then.
 pub(crate) fn ask_cache<D: Desk>(
@@ -82,16 +82,9 @@ pub(crate) fn seat<D: Desk>(
     ensures out { (D.at desk.new).out ≡ held.new }
     ensures seated { IsOk result → IsSome held.new }
 {
-    match desk.turn(Step::Seat { under, wait: None }) {
-        Ok(Reply::Open(ticket)) => {
-            held.put(ticket);
-            Ok(())
-        }
-        Ok(Reply::Stopping) => Err(Refusal::Agent(Code::Cancelled)),
-        Ok(Reply::Late) => Err(Refusal::Agent(Code::Timeout)),
-        Ok(_) => unreachable!(),
-        Err(Refused { step }) => Err(without_memory(step)),
-    }
+    let ticket = agent_ask::take_seat(under, desk)?;
+    held.put(ticket);
+    Ok(())
 }
 
 /// Keeps a key's passphrase in the cache.
@@ -147,7 +140,8 @@ pub(crate) fn keep_by_nonce<D: Desk>(
 /// Whether a key's passphrase is cached. It isn't used, and lives no longer by this.
 pub(crate) fn peek<D: Desk>(grip: &Grip, held: &Held, desk: &mut D) -> Result<bool, Refusal>
     requires out { (D.at desk.old).out ≡ held.now }
-    ensures turn { DoesTurn D.turned (Peeks grip.now) held.now desk.old result held.now desk.new }
+    ensures turn { DoesTurn D.turned
+        (Peeks (grip_text grip.now) Normal) held.now desk.old result held.now desk.new }
     ensures out { (D.at desk.new).out ≡ held.now }
 {
     match desk.turn(Step::Peek {
@@ -188,16 +182,5 @@ pub(crate) fn close<D: Desk>(keep: Option<Secret>, held: &mut Held, desk: &mut D
 {
     if let Some(ticket) = held.take() {
         give_back(ticket, keep, desk);
-    }
-}
-
-/// How a request is refused whose step found no memory. The step has no ticket.
-pub(crate) fn without_memory(step: Step) -> Refusal
-    requires { closes (asked_step step) ≡ None }
-    ensures { result ≡ Refusal.Agent Code.NoMemory }
-{
-    match step.into_ticket() {
-        None => Refusal::Agent(Code::NoMemory),
-        Some(_) => unreachable!(),
     }
 }

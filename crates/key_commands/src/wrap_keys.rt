@@ -3,7 +3,8 @@ ghost use Rattle.std.specs.Option.{option_copied};
 ghost use Rattle.agent_ports.specs.KeyFiles.{KeyFiles as Files};
 ghost use Rattle.assuan_server.specs.Connections.{Connection, IsOpen};
 ghost use Rattle.key_commands.specs.Exchanges.{KeyWrapReplies, wrap_key, with_wrap_key};
-ghost use Rattle.key_commands.specs.Parts.{Draws, or_else};
+ghost use Rattle.key_commands.specs.Parts.{Draws};
+ghost use Rattle.agent_ask.specs.Parts.{or_else};
 ghost use Rattle.key_commands.specs.Partial.{NoTurn, NoCall};
 ghost use Rattle.key_commands.specs.Replies.{CarriesOut};
 ghost use Rattle.key_commands.specs.States.{key_state};
@@ -12,10 +13,10 @@ ghost use Rattle.session_options.specs.OptionValues.{OptionValues};
 ghost use Rattle.session_options.specs.declared.rules.Rules.{Rules};
 
 use crate::drawing::{Drawn, draw};
-use crate::refusal::Refusal;
 use crate::reply::Reply;
 use crate::request::Direction;
 use agent_ports::Dice;
+use session_client::Refusal;
 
 /// The wrapping keys of a session, where they were drawn (RFC 3394). They stay as they are until
 /// its end, and are overwritten when they are dropped.

@@ -1,5 +1,5 @@
 -- What is done with a connection: a read, a write, an inquiry; and how it is left. This is the project's own.
-use Rattle.std.specs.Prelude.{◌≡◌, ◌≤◌, ℕ, List, [], ◌++◌, codes, decimal, Option, Some, None, Result, Ok, Err, ⊤}
+use Rattle.std.specs.Prelude.{◌≡◌, ◌≤◌, ℕ, List, [], codes, decimal, Option, Some, None, Result, Ok, Err, ⊤}
 use Rattle.agent_ports.specs.Counts.{Rose}
 use Rattle.agent_ports.specs.Sides.{with_bytes, WhereKnown}
 use Rattle.agent_ports.specs.Writing.{Writes, StopsWriting}

@@ -1,2 +1,4 @@
 pub mod Lines
 pub mod Asking
+pub mod Codes
+pub mod Refusals

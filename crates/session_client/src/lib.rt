@@ -3,11 +3,16 @@
 //!
 //! Begin with [`Client`], which a server's connection is (`assuan_server`). What a client gives in
 //! place of an answer is an [`Unheard`], and whatever it answers leaves the connection as its
-//! promise says. Types and definitions alone, for all layers above; these begin in `specs/Asking`.
+//! promise says. A request that isn't carried out has a [`Refusal`], mostly by a [`Code`]. Types
+//! and definitions, for all layers above; these begin in `specs/Asking`, `specs/Refusals`.
 #![tactic(auto)]
 
 mod client;
+mod code;
+mod refusal;
 mod unheard;
 
 pub use client::{Client, MAX_NOTE_LEN};
+pub use code::Code;
+pub use refusal::Refusal;
 pub use unheard::{Gone, Unheard};

@@ -1,4 +1,4 @@
-use Rattle.assuan_server.specs.declared.errors.Code.TheVariants.{NotSupported}
+use Rattle.session_client.specs.declared.code.Code.TheVariants.{NotSupported}
 use Rattle.agent_commands.specs.Exchanges.{Exchange, not_allowed, preset}
 use Rattle.agent_commands.specs.Outside.{world}
 use Rattle.agent_commands.specs.declared.request.CacheCommand.TheVariants.{PresetPassphrase}

@@ -1,6 +1,6 @@
 use Rattle.std.proofs.Common.{subst, sym}
 use Rattle.cache_policy.specs.Turns.{Done, Stopping, Refused}
-use Rattle.agent_commands.specs.Exchanges.{stopping, refused}
+use Rattle.agent_ask.specs.Interrupts.{stopping, refused}
 use Rattle.agent_commands.specs.Steps.{AnswersTurn, is_done, is_interrupted}
 use Rattle.agent_commands.proofs.command.take_turn.Goals as goal
 

@@ -1,9 +1,10 @@
 use Rattle.std.proofs.Common.{[], ◌∷◌, None, arith}
-use Rattle.assuan_server.specs.declared.errors.Code.TheVariants.{NoMemory, Cancelled, Timeout}
+use Rattle.session_client.specs.declared.code.Code.TheVariants.{NoMemory, Cancelled, Timeout}
 use Rattle.cache_policy.specs.declared.mark.MarkStep.TheVariants.{Seat}
 use Rattle.cache_policy.specs.Turns.{Open, Stopping, Late, Refused}
 use Rattle.agent_ask.specs.SessionEvents.{cache_turn}
-use Rattle.agent_commands.specs.Exchanges.{opened, interrupted, stopping, late, refused}
+use Rattle.agent_commands.specs.Exchanges.{opened, interrupted}
+use Rattle.agent_ask.specs.Interrupts.{stopping, late, refused}
 use Rattle.agent_commands.specs.Outside.{prompt_world}
 use Rattle.agent_commands.proofs.Carrying.{carry_after, carry_turn}
 use Rattle.agent_ask.proofs.Doing.{done_turned}

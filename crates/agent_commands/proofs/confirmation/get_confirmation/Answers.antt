@@ -1,5 +1,5 @@
 use Rattle.std.proofs.Common.{sym, ◌∙◌, ap, false, [], inl, inr}
-use Rattle.assuan_server.specs.declared.errors.Code.TheVariants.{Cancelled, NoPinentry}
+use Rattle.session_client.specs.declared.code.Code.TheVariants.{Cancelled, NoPinentry}
 use Rattle.agent_commands.specs.Exchanges.{Exchange, confirmation, unconfirmed, refusal_of}
 use Rattle.agent_commands.specs.Outside.{prompt_world}
 use Rattle.agent_ask.specs.Plans.{IsSpec}

@@ -1,4 +1,4 @@
-use Rattle.assuan_server.specs.declared.errors.Code.TheVariants.{NoData}
+use Rattle.session_client.specs.declared.code.Code.TheVariants.{NoData}
 use Rattle.agent_commands.specs.Exchanges.{Refuses, refused}
 use Rattle.agent_commands.specs.Outside.{world}
 use Rattle.agent_commands.specs.States.{session_state}

@@ -1,8 +1,9 @@
 use Rattle.std.proofs.Common.{[], ◌∷◌, arith}
-use Rattle.assuan_server.specs.declared.errors.Code.TheVariants.{NoMemory, Cancelled, Timeout}
+use Rattle.session_client.specs.declared.code.Code.TheVariants.{NoMemory, Cancelled, Timeout}
 use Rattle.cache_policy.specs.Turns.{Open, Stopping, Late, Refused}
 use Rattle.agent_ask.specs.SessionEvents.{cache_turn}
-use Rattle.agent_commands.specs.Exchanges.{prompted, opened, interrupted, stopping, late, refused, want}
+use Rattle.agent_commands.specs.Exchanges.{prompted, opened, interrupted, want}
+use Rattle.agent_ask.specs.Interrupts.{stopping, late, refused}
 use Rattle.agent_commands.specs.Outside.{prompt_world}
 use Rattle.agent_commands.proofs.Carrying.{carry_after, carry_turn}
 use Rattle.agent_ask.proofs.Doing.{done_turned}

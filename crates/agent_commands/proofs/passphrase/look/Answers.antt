@@ -1,6 +1,6 @@
-use Rattle.assuan_server.specs.declared.errors.Code.TheVariants.{NoMemory, Cancelled}
+use Rattle.session_client.specs.declared.code.Code.TheVariants.{NoMemory, Cancelled}
 use Rattle.cache_policy.specs.Turns.{Stopping, Refused}
-use Rattle.agent_commands.specs.Exchanges.{stopping, refused}
+use Rattle.agent_ask.specs.Interrupts.{stopping, refused}
 use Rattle.agent_commands.specs.Steps.{no_id, empty, given, interrupted}
 use Rattle.agent_commands.proofs.passphrase.look.Goals as goal
 

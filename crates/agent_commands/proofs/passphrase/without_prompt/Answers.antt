@@ -1,4 +1,4 @@
-use Rattle.assuan_server.specs.declared.errors.Code.TheVariants.{Cancelled, NoPinentry}
+use Rattle.session_client.specs.declared.code.Code.TheVariants.{Cancelled, NoPinentry}
 use Rattle.agent_commands.specs.Exchanges.{WithoutPrompt, cancelled, no_pinentry}
 use Rattle.agent_commands.specs.Outside.{world}
 use Rattle.agent_commands.specs.States.{session_state}

@@ -1,30 +1,11 @@
-use Rattle.std.proofs.Common.{[], false, ap, ◌∙◌}
-use Rattle.agent_ask.specs.Plans.{IsSpec}
-use Rattle.agent_origin.specs.Parts.{text}
-use Rattle.agent_origin.proofs.Prompts.{part_prompted, left_by_consent, left_going, is_agreed, agrees}
+use Rattle.agent_ask.proofs.ConsentParts.{agrees}
+use Rattle.agent_origin.proofs.Prompts.{part_prompted, left_going}
 use Rattle.agent_origin.proofs.consent.ask_consent.Goals as goal
-
-pub consented-requires : goal.consented-requires
-consented-requires g c = is_agreed c.ask_leave.result c.ask_leave.ensures.unheard
 
 pub returns-clause-agrees : goal.returns-clause-agrees
 returns-clause-agrees g c =
-    let asked = c.ask_leave.ensures.asked in
-    let shows = c.prompt_spec-spec.ensures in
-    let spec_is : IsSpec c.args.rules.now c.args.options.now (text c.args.question.now.items) (text []) false c.prompt_spec-spec.result =
-    record {
-      title = shows.title;
-      description_is = shows.description_is;
-      prompt_is = shows.prompt_is ∙ ap (λ i. record { items = i }) c.new.ensures;
-      ok = shows.ok;
-      cancel = shows.cancel;
-      quality_is = shows.quality_is;
-      env = shows.env;
-      timeout = shows.timeout;
-    } in
-    part_prompted asked.lead
-    (λ events in_session. agrees c.ask_leave.result c.consented.result c.prompt_spec-spec.result spec_is (rw c.notify.ensures at asked.are) in_session c.consented.ensures)
-    (left_by_consent c.args.conn.now c.ask_leave.new.client c.ask_leave.result c.consented.result c.consented.ensures c.ask_leave.ensures.left)
+    let asked = c.agree.ensures.asked in
+    part_prompted asked.lead (λ events in_session. agrees c.args.ticket.now c.agree.result asked.are in_session) c.agree.ensures.left
 
 pub returns-clause-open : goal.returns-clause-open
-returns-clause-open g c = left_going c.args.conn.now c.ask_leave.new.client c.ask_leave.result c.consented.result c.consented.ensures c.ask_leave.ensures.left
+returns-clause-open g c = left_going c.agree.result c.args.conn.now c.agree.new.client c.agree.ensures.left

@@ -1,7 +1,7 @@
 use Rattle.std.proofs.Common.{sym, ◌∙◌, inl, inr}
 use Rattle.std.proofs.lemmas.Result.{err_from_is_err_and}
-use Rattle.assuan_server.specs.declared.errors.Code.TheVariants.{Cancelled, NoPinentry}
-use Rattle.agent_origin.specs.Parts.{refuses}
+use Rattle.session_client.specs.declared.code.Code.TheVariants.{Cancelled, NoPinentry}
+use Rattle.agent_ask.specs.Parts.{refuses}
 use Rattle.agent_origin.proofs.Trusting.{no_prompt, no_seat, seat_given_back}
 use Rattle.agent_origin.proofs.marking.ask.Goals as goal
 
@@ -17,7 +17,7 @@ pub returns-in_ok-ticket-in-Ask-clause-asks : goal.returns-in_ok-ticket-in-Ask-c
 returns-in_ok-ticket-in-Ask-clause-asks g c =
     let m = c.args.marking.now in
     seat_given_back m.rules.now m.options.now m.fingerprint.now m.purpose m.name.now.items g.D.Desk.turned g.P.Prompter.prompted c.args.conn.now c.args.prompter.now
-    (g.T.TrustFile.trust c.args.trust.now) c.requires.open (sym c.mode.ensures ∙ c.in-Ask.is) c.in_ok-ticket-in-Ask.ensures.seats c.mark_consented-marked.ensures.marks c.give_back.ensures.turned
+    (g.T.TrustFile.trust c.args.trust.now) c.requires.open (sym c.mode.ensures ∙ c.in-Ask.is) c.in_ok-ticket-in-Ask.ensures.taken c.mark_consented-marked.ensures.marks c.give_back.ensures.turned
 
 pub returns-in-Cancel-clause-asks : goal.returns-in-Cancel-clause-asks
 returns-in-Cancel-clause-asks g c =

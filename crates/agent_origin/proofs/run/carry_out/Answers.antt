@@ -1,6 +1,6 @@
 use Rattle.std.proofs.Common.{refl}
 use Rattle.agent_origin.specs.FurtherStates.{further_ends}
-use Rattle.agent_origin.specs.Parts.{refuses}
+use Rattle.agent_ask.specs.Parts.{refuses}
 use Rattle.agent_origin.proofs.Doing.{part_called, part_still}
 use Rattle.agent_origin.proofs.run.carry_out.Goals as goal
 

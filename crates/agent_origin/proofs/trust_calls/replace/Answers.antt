@@ -6,10 +6,10 @@ use Rattle.agent_origin.proofs.Doing.{one_call}
 use Rattle.agent_origin.proofs.trust_calls.replace.Goals as goal
 
 pub returns-in-Done : goal.returns-in-Done
-returns-in-Done g c = one_call (Replaced c.args.file.now Done) c.in-Done.ensures refl replaced
+returns-in-Done g c = one_call (Replaced c.args.file.now Done) c.in-Done.ensures refl (λ held. replaced)
 
 pub returns-in-Failed : goal.returns-in-Failed
-returns-in-Failed g c = one_call (Replaced c.args.file.now Failed) c.in-Failed.ensures refl faulted
+returns-in-Failed g c = one_call (Replaced c.args.file.now Failed) c.in-Failed.ensures refl (λ held. faulted)
 
 pub returns-in-NoMemory : goal.returns-in-NoMemory
-returns-in-NoMemory g c = one_call (Replaced c.args.file.now NoMemory) c.in-NoMemory.ensures refl no_memory
+returns-in-NoMemory g c = one_call (Replaced c.args.file.now NoMemory) c.in-NoMemory.ensures refl (λ held. no_memory)

@@ -1,7 +1,7 @@
 use Rattle.std.proofs.Common.{◌≡◌, Some, sym, ap, ◌∙◌, inl, inr, refl}
 use Rattle.std.proofs.lemmas.Result.{err_from_is_err_and}
 use Rattle.std.specs.Option.{option_copied}
-use Rattle.key_commands.specs.Parts.{returns, refuses}
+use Rattle.agent_ask.specs.Parts.{returns, refuses}
 use Rattle.key_commands.proofs.Doing.{part_still, part_turned, part_then, part_stops}
 use Rattle.key_commands.proofs.Going.{seats_on}
 use Rattle.key_commands.proofs.Partial.{beside_prompter}

@@ -1,9 +1,9 @@
 use Rattle.std.proofs.Common.{None, refl, sym}
 use Rattle.std.proofs.lemmas.Result.{err_from_is_err_and}
-use Rattle.assuan_server.specs.declared.errors.Code.TheVariants.{Parameter}
+use Rattle.session_client.specs.declared.code.Code.TheVariants.{Parameter}
 use Rattle.key_commands.specs.Exchanges.{ExportKeyReplies}
 use Rattle.key_commands.specs.KeyParts.{tells}
-use Rattle.key_commands.specs.Parts.{returns as is_returned}
+use Rattle.agent_ask.specs.Parts.{returns as is_returned}
 use Rattle.key_commands.specs.Replies.{comes_to, stops_at}
 use Rattle.key_commands.specs.declared.reply.Reply.TheVariants.{Data}
 use Rattle.key_commands.proofs.Doing.{part_then, part_stops, part_called}

@@ -1,6 +1,6 @@
 use Rattle.std.proofs.Common.{refl}
 use Rattle.std.proofs.lemmas.Result.{err_from_is_err_and}
-use Rattle.key_commands.specs.Parts.{returns as is_returned}
+use Rattle.agent_ask.specs.Parts.{returns as is_returned}
 use Rattle.key_commands.proofs.Going.{over_on}
 use Rattle.key_commands.proofs.Joining.{leaves_then, leaves_stop, leaves_still, leaves_turns}
 use Rattle.key_commands.proofs.importing.found_or_new.Goals as goal

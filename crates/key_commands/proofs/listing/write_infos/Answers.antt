@@ -1,6 +1,6 @@
 use Rattle.std.proofs.Common.{refl, None}
 use Rattle.std.proofs.lemmas.Result.{err_from_is_err_and}
-use Rattle.key_commands.specs.Parts.{returns}
+use Rattle.agent_ask.specs.Parts.{returns}
 use Rattle.key_commands.specs.Partial.{NoCall}
 use Rattle.key_commands.proofs.Doing.{part_still}
 use Rattle.key_commands.proofs.ListedKeys.{tells_on, tells_in_vain, tells_none}

@@ -4,7 +4,7 @@ use Rattle.assuan_server.specs.Connections.{IsOpen}
 use Rattle.key_commands.specs.KeyParts.{WritesInfos}
 use Rattle.key_commands.specs.Partial.{NoCall}
 use Rattle.key_commands.specs.States.{DoesPart, KeyState, key_state}
-use Rattle.key_commands.specs.declared.refusal.Refusal.{Refusal}
+use Rattle.session_client.specs.declared.refusal.Refusal.{Refusal}
 use Rattle.key_commands.proofs.listing.write_infos.Given as goal
 
 -- what is done for the keys that are left completes what is done for all

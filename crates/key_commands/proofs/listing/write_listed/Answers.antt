@@ -1,7 +1,7 @@
 use Rattle.std.proofs.Common.{refl}
 use Rattle.std.proofs.lemmas.Result.{err_from_is_err_and}
 use Rattle.key_commands.specs.KeyEnds.{KeyEnds}
-use Rattle.key_commands.specs.Parts.{returns}
+use Rattle.agent_ask.specs.Parts.{returns}
 use Rattle.key_commands.specs.Partial.{NoCall}
 use Rattle.key_commands.proofs.Doing.{part_still, part_then, part_stops, part_turned}
 use Rattle.key_commands.proofs.Going.{peeks_on}

@@ -1,9 +1,9 @@
 use Rattle.std.proofs.Common.{◌≡◌, ◌==◌, true, false, length, refl, ap}
 use Rattle.std.specs.Prelude.{not}
 use Rattle.std.proofs.lemmas.Result.{err_from_is_err_and}
-use Rattle.assuan_server.specs.declared.errors.Code.TheVariants.{BadPass}
+use Rattle.session_client.specs.declared.code.Code.TheVariants.{BadPass}
 use Rattle.key_commands.specs.Partial.{NoTurn, NoCall}
-use Rattle.key_commands.specs.Parts.{returns as is_returned}
+use Rattle.agent_ask.specs.Parts.{returns as is_returned}
 use Rattle.key_commands.specs.Passphrases.{ClientNew}
 use Rattle.key_commands.proofs.Joining.{leaves_then, leaves_stop, leaves_still, wanted_there, wanted_missing}
 use Rattle.key_commands.proofs.Partial.{open_after}

@@ -1,5 +1,5 @@
 use Rattle.std.proofs.Common.{refl, sym, ◌∙◌}
-use Rattle.key_commands.specs.Parts.{refuses}
+use Rattle.agent_ask.specs.Parts.{refuses}
 use Rattle.key_commands.proofs.Joining.{leaves_still}
 use Rattle.key_commands.proofs.Partial.{beside_client}
 use Rattle.key_commands.proofs.new.new_passphrase.Goals as goal

@@ -1,4 +1,4 @@
-use Rattle.key_commands.specs.Parts.{returns}
+use Rattle.agent_ask.specs.Parts.{returns}
 use Rattle.key_commands.specs.Steps.{still, one}
 use Rattle.key_commands.proofs.nonces.look_for_nonce.Goals as goal
 

@@ -1,7 +1,7 @@
 use Rattle.std.proofs.Common.{None, refl}
 use Rattle.std.proofs.lemmas.Result.{err_from_is_err_and}
 use Rattle.key_commands.specs.Partial.{NoCall}
-use Rattle.key_commands.specs.Parts.{returns as is_returned, refuses}
+use Rattle.agent_ask.specs.Parts.{returns as is_returned, refuses}
 use Rattle.key_commands.specs.Passphrases.{ClientOld}
 use Rattle.key_commands.proofs.Going.{changes_on}
 use Rattle.key_commands.proofs.Joining.{leaves_then, leaves_stop, leaves_still, leaves_alone, leaves_turned, tries_on}

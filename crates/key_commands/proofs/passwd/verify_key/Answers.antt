@@ -1,7 +1,7 @@
 use Rattle.std.proofs.Common.{None, refl}
 use Rattle.std.proofs.lemmas.Result.{err_from_is_err_and}
 use Rattle.key_commands.specs.Exchanges.{VerifyReplies}
-use Rattle.key_commands.specs.Parts.{returns as is_returned}
+use Rattle.agent_ask.specs.Parts.{returns as is_returned}
 use Rattle.key_commands.specs.Replies.{stops_at}
 use Rattle.key_commands.proofs.Doing.{part_then, part_stops, part_called}
 use Rattle.key_commands.proofs.Going.{file_on}

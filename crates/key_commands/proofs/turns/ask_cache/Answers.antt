@@ -1,7 +1,8 @@
 use Rattle.std.proofs.Common.{◌≡◌, None}
 use Rattle.cache_policy.specs.declared.mark.MarkStep.TheVariants.{Ask}
 use Rattle.cache_policy.specs.Turns.{Given, Empty, Open, Stopping, Late, Refused}
-use Rattle.key_commands.specs.Parts.{given, empty, opened, interrupted, stopping, late, refused}
+use Rattle.agent_ask.specs.TurnParts.{given, empty, opened, interrupted}
+use Rattle.agent_ask.specs.Interrupts.{stopping, late, refused}
 use Rattle.key_commands.proofs.Seating.{wants_prompt}
 use Rattle.key_commands.proofs.turns.ask_cache.Goals as goal
 

@@ -2,7 +2,8 @@ use Rattle.cache_policy.specs.declared.mark.MarkStep.TheVariants.{Clear}
 use Rattle.cache_policy.specs.declared.mode.Mode.TheVariants.{Normal}
 use Rattle.cache_policy.specs.Turns.{Done, Stopping, Refused}
 use Rattle.key_commands.specs.Lines.{grip_text}
-use Rattle.key_commands.specs.Parts.{done, interrupted, stopping, refused}
+use Rattle.agent_ask.specs.TurnParts.{done, interrupted}
+use Rattle.agent_ask.specs.Interrupts.{stopping, refused}
 use Rattle.key_commands.proofs.turns.clear_pass.Goals as goal
 
 pub returns-in-Ok-Done-clause-turn : goal.returns-in-Ok-Done-clause-turn

@@ -1,6 +1,6 @@
 use Rattle.std.proofs.Common.{◌≡◌, Some, None, sym, ◌∙◌}
 use Rattle.cache_policy.specs.declared.mark.MarkStep.TheVariants.{Close}
-use Rattle.key_commands.specs.Parts.{unheld, closed}
+use Rattle.agent_ask.specs.TurnParts.{unheld, closed}
 use Rattle.key_commands.specs.Steps.{still, one}
 use Rattle.key_commands.proofs.turns.close.Goals as goal
 

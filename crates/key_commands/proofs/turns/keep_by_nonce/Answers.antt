@@ -3,7 +3,8 @@ use Rattle.cache_policy.specs.declared.life.Life.TheVariants.{Default}
 use Rattle.cache_policy.specs.declared.mark.MarkStep.TheVariants.{Put}
 use Rattle.cache_policy.specs.declared.mode.Mode.TheVariants.{Nonce}
 use Rattle.cache_policy.specs.Turns.{Done, Stopping, Refused}
-use Rattle.key_commands.specs.Parts.{done, interrupted, stopping, refused}
+use Rattle.agent_ask.specs.TurnParts.{done, interrupted}
+use Rattle.agent_ask.specs.Interrupts.{stopping, refused}
 use Rattle.key_commands.proofs.turns.keep_by_nonce.Goals as goal
 
 pub returns-in-Ok-Done-clause-turn : goal.returns-in-Ok-Done-clause-turn

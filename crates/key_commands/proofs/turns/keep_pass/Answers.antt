@@ -1,5 +1,6 @@
 use Rattle.cache_policy.specs.Turns.{Done, Stopping, Refused}
-use Rattle.key_commands.specs.Parts.{done, interrupted, stopping, refused}
+use Rattle.agent_ask.specs.TurnParts.{done, interrupted}
+use Rattle.agent_ask.specs.Interrupts.{stopping, refused}
 use Rattle.key_commands.specs.Passphrases.{put_key}
 use Rattle.key_commands.proofs.turns.keep_pass.Goals as goal
 

@@ -2,7 +2,8 @@ use Rattle.cache_policy.specs.declared.mark.MarkStep.TheVariants.{Peek}
 use Rattle.cache_policy.specs.declared.mode.Mode.TheVariants.{Normal}
 use Rattle.cache_policy.specs.Turns.{Held, Stopping, Refused}
 use Rattle.key_commands.specs.Lines.{grip_text}
-use Rattle.key_commands.specs.Parts.{peeked, interrupted, stopping, refused}
+use Rattle.agent_ask.specs.TurnParts.{peeked, interrupted}
+use Rattle.agent_ask.specs.Interrupts.{stopping, refused}
 use Rattle.key_commands.proofs.turns.peek.Goals as goal
 
 pub returns-in-Ok-Held-clause-turn : goal.returns-in-Ok-Held-clause-turn

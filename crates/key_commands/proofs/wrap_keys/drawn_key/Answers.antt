@@ -1,7 +1,7 @@
 use Rattle.std.proofs.Common.{◌≡◌, Some, None, sym, ap, ◌∙◌}
 use Rattle.std.specs.Option.{option_copied}
 use Rattle.key_commands.specs.Exchanges.{wrap_key}
-use Rattle.key_commands.specs.Parts.{returns}
+use Rattle.agent_ask.specs.Parts.{returns}
 use Rattle.key_commands.specs.Steps.{no_draw, one_draw}
 use Rattle.key_commands.proofs.wrap_keys.drawn_key.Goals as goal
 

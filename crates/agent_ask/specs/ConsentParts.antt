@@ -1,0 +1,63 @@
+-- The user's consent as a part of a request. The codes are this project's own.
+use Rattle.std.specs.Prelude.{◌≡◌, ℕ, Bool, false, List, [], Option, Some, None, Result, Ok, Err, ⊤}
+use Rattle.std.specs.Option.{option_map}
+use Rattle.session_client.specs.Lines.{Lines}
+use Rattle.session_client.specs.declared.code.Code.TheVariants as code
+use Rattle.session_client.specs.declared.refusal.Refusal.{Refusal}
+use Rattle.session_client.specs.declared.refusal.Refusal.TheVariants.{Agent, Pinentry, Client}
+use Rattle.session_options.specs.OptionValues.{OptionValues}
+use Rattle.session_options.specs.declared.rules.Rules.{Rules}
+use Rattle.agent_ask.specs.Callers.{IsUnheardBy, unheard_of}
+use Rattle.agent_ask.specs.Consents.{AsksConsent}
+use Rattle.agent_ask.specs.Events.{PromptEvent}
+use Rattle.agent_ask.specs.Further.{EventOf}
+use Rattle.agent_ask.specs.Plans.{IsSpec, text}
+use Rattle.agent_ask.specs.UnderTickets.{AnyInSession}
+use Rattle.agent_ask.specs.declared.consent.Agreed.{Agreed}
+use Rattle.agent_ask.specs.declared.consent.Agreed.TheVariants as agreed
+use Rattle.agent_ask.specs.declared.spec.PromptSpec.{PromptSpec}
+
+-- how a request is refused whose prompt gave no consent
+abbrev pub consent_refusal : Agreed → Option Refusal
+consent_refusal agreed.Yes = None
+consent_refusal agreed.No = Some (Pinentry code.NotConfirmed)
+consent_refusal agreed.Cancelled = Some (Pinentry code.Cancelled)
+consent_refusal agreed.TimedOut = Some (Pinentry code.Timeout)
+consent_refusal agreed.NoPinentry = Some (Agent code.NoPinentry)
+consent_refusal (agreed.Heard heard) = option_map Client (unheard_of heard)
+
+-- what a prompt for consent comes to: where it isn't yes or no, the client gave nothing
+abbrev pub IsAgreed : Agreed → Type 0
+IsAgreed (agreed.Heard heard) = IsUnheardBy heard
+IsAgreed _ = ⊤
+
+-- the request goes on, or is refused so
+abbrev pub IsConsented : Agreed → Result (Unit {0}) Refusal → Type 0
+IsConsented answer (Ok consented) = answer ≡ agreed.Yes
+IsConsented answer (Err why) = consent_refusal answer ≡ Some why
+
+module _ (rules : Rules) (options : OptionValues) (question : List ℕ) where
+  -- a prompt that asks this question alone
+  abbrev pub IsQuestion : PromptSpec → Type 0
+  IsQuestion spec = IsSpec rules options (text question) (text []) false spec
+
+  -- one prompt for consent with this question: its events, and how a request goes on by its answer
+  pub record AsksQuestion (prompt : List PromptEvent) (result : Result (Unit {0}) Refusal) : Type 0 where
+    pub spec : PromptSpec
+    pub answer : Agreed
+    pub is : IsQuestion spec
+    pub asks : AsksConsent spec options.notify prompt answer
+    pub consented : IsConsented answer result
+
+-- one prompt for consent, in the session: its events, and its answer
+pub record PromptsConsent (lines : Lines) (spec : PromptSpec) (notify : Bool) (shown : List (EventOf lines)) (answer : Agreed) : Type 0 where
+  pub prompt : List PromptEvent
+  pub asks : AsksConsent spec notify prompt answer
+  pub in_session : AnyInSession lines prompt shown
+
+-- the user agrees to this question, by one prompt under the ticket that the request holds
+pub data AgreesTo (lines : Lines) (rules : Rules) (options : OptionValues) (question : List ℕ) : Option ℕ → List (EventOf lines) → Result (Unit {0}) Refusal → Option ℕ → Type 0 where
+  consents : {ticket : ℕ} {shown : List (EventOf lines)} (spec : PromptSpec) → IsQuestion rules options question spec
+      → PromptsConsent lines spec options.notify shown agreed.Yes → AgreesTo lines rules options question (Some ticket) shown (Ok tt) (Some ticket)
+  refused : {ticket : ℕ} {shown : List (EventOf lines)} {answer : Agreed} {why : Refusal} (spec : PromptSpec) → IsQuestion rules options question spec
+      → PromptsConsent lines spec options.notify shown answer → consent_refusal answer ≡ Some why → AgreesTo lines rules options question (Some ticket) shown (Err why) (Some ticket)

@@ -1,0 +1,19 @@
+-- How a request comes by the ticket of a prompt. This is the project's own.
+use Rattle.std.specs.Prelude.{ℕ, Result, Ok, Err}
+use Rattle.cache_policy.specs.declared.mark.MarkStep.{MarkStep}
+use Rattle.cache_policy.specs.Turns.{Turn, Open}
+use Rattle.session_client.specs.declared.code.Code.{Code}
+use Rattle.session_client.specs.declared.refusal.Refusal.{Refusal}
+use Rattle.session_client.specs.declared.refusal.Refusal.TheVariants.{Agent}
+use Rattle.agent_ask.specs.Interrupts.{Interrupts}
+
+-- what a turn that wants the seat gives: a ticket, or why the request is refused
+pub data Gives : Turn → Result ℕ Refusal → Type 0 where
+  opened : {number : ℕ} → Gives (Open number) (Ok number)
+  interrupted : {turn : Turn} {code : Code} → Interrupts turn code → Gives turn (Err (Agent code))
+
+-- the seat was wanted by one turn at a desk
+pub record WantsSeat {D : Type 0} (turned : D → MarkStep → Turn → D → Type 0) (step : MarkStep) (desk : D) (result : Result ℕ Refusal) (now : D) : Type 0 where
+  pub turn : Turn
+  pub turned_so : turned desk step turn now
+  pub gives : Gives turn result

@@ -1,0 +1,27 @@
+ghost use Rattle.std.specs.Prelude.{◌≡◌};
+ghost use Rattle.session_client.specs.Refusals.{gone_by};
+
+use crate::{Code, Gone, Unheard};
+
+/// Why a request isn't carried out further, once it was read.
+#[derive(Clone, Copy, Debug, PartialEq, Eq)]
+pub enum Refusal {
+    /// By an error of the agent's own.
+    Agent(Code),
+    /// By one that the pinentry gave.
+    Pinentry(Code),
+    /// The client gave nothing of what was wanted, or is gone.
+    Client(Unheard),
+}
+
+impl Refusal {
+    /// How the client is gone by whom the request is refused, where it is.
+    pub fn gone(self) -> Option<Gone>
+        ensures { result ≡ gone_by self }
+    {
+        match self {
+            Refusal::Client(Unheard::Gone(how)) => Some(how),
+            Refusal::Agent(_) | Refusal::Pinentry(_) | Refusal::Client(_) => None,
+        }
+    }
+}
