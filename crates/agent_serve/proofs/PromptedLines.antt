@@ -13,7 +13,7 @@ use Rattle.agent_ask.specs.declared.consent.Agreed.{Agreed}
 use Rattle.assuan_server.specs.Clients.{session_lines}
 use Rattle.session_client.specs.declared.code.Code.TheVariants as code
 use Rattle.cache_policy.specs.declared.mark.MarkStep.{MarkStep}
-use Rattle.cache_policy.specs.declared.mark.MarkStep.TheVariants.{Close}
+use Rattle.cache_policy.specs.declared.mark.MarkStep.TheVariants.{Close, Seat}
 use Rattle.session_client.specs.declared.unheard.Unheard.{Unheard}
 use Rattle.session_options.specs.OptionValues.{OptionValues}
 use Rattle.session_options.specs.declared.options.PinMode.{PinMode}
@@ -32,6 +32,11 @@ use Rattle.agent_origin.specs.DoorSessions as door
 use Rattle.agent_origin.specs.Exchanges.{TrustedNow, Stores, StoresUnsaid, Consented, Marked, Carried, TrustExchange, unless_said, asked_in, flag_of, trust_question, fingerprint_question}
 use Rattle.agent_origin.specs.Exchanges as trusting
 use Rattle.agent_origin.specs.Parts as trusts
+use Rattle.agent_ask.specs.ConsentParts as consent
+use Rattle.agent_ask.specs.Parts as chain
+use Rattle.agent_ask.specs.TurnParts as turning
+use Rattle.assuan_server.specs.Written.{refusal_line}
+use Rattle.key_commands.specs.Parts.{Part}
 use Rattle.agent_origin.specs.SessionExchanges.{RequestExchange, cache, keys}
 use Rattle.agent_origin.specs.declared.door.Door.{Door}
 use Rattle.agent_origin.specs.declared.kept.Kept.{Kept}
@@ -153,47 +158,47 @@ request_prompted {rules} {kept} request (keys exchange) = key_prompted rules kep
 
 -- ---- requests on the trust list
 
-abbrev PromptedTrust : {A : Type 0} → trusts.Part A → Type 0
-PromptedTrust {A} part = (events : List Event) (result : _) → part events result → Prompted events
+abbrev PromptedTrust : {A : Type 0} → Part A → Type 0
+PromptedTrust {A} part = (before : Option ℕ) (events : List Event) (result : _) (after : Option ℕ) → part before events result after → Prompted events
 
-follows : {A B : Type 0} {part : trusts.Part A} {after_it : A → trusts.Part B} → PromptedTrust part → ((value : A) → PromptedTrust (after_it value)) → PromptedTrust (trusts.Follows part after_it)
-follows first then events result (trusts.goes_on {first = some} {events = more} {value} does next_does) = prompted_append some more (first some _ does) (then value more result next_does)
-follows first then events result (trusts.stops does) = first events _ does
+follows : {A B : Type 0} {part : Part A} {after_it : A → Part B} → PromptedTrust part → ((value : A) → PromptedTrust (after_it value)) → PromptedTrust (chain.Follows part after_it)
+follows first then before events result after (chain.goes_on {first = some} {events = more} {value} {mid} does next_does) = prompted_append some more (first before some _ mid does) (then value mid more result after next_does)
+follows first then before events result after (chain.stops does) = first before events _ after does
 
-refused : {A : Type 0} (why : _) → PromptedTrust (trusts.Refuses {A = A} why)
-refused why events result trusts.refuses = uncalled [] tt
+refused : {A : Type 0} (why : _) → PromptedTrust (chain.Refuses {A = A} why)
+refused why before events result after chain.refuses = uncalled [] tt
 
-said : (answer : Option Bool) {other : trusts.Part (Unit {0})} → PromptedTrust other → PromptedTrust (unless_said answer other)
-said (Some true) other events result trusts.returns = uncalled [] tt
-said (Some false) other events result does = refused _ events result does
-said None other events result does = other events result does
+said : (answer : Option Bool) {other : Part (Unit {0})} → PromptedTrust other → PromptedTrust (unless_said answer other)
+said (Some true) other before events result after chain.returns = uncalled [] tt
+said (Some false) other before events result after does = refused _ before events result after does
+said None other before events result after does = other before events result after does
 
 reads : PromptedTrust trusts.ReadsFile
-reads events result (trusts.has_read is) = uncalled _ (tt, tt)
-reads events result trusts.faulted = uncalled _ (tt, tt)
-reads events result trusts.no_memory = uncalled _ (tt, tt)
+reads before events result after (trusts.has_read is) = uncalled _ (tt, tt)
+reads before events result after trusts.faulted = uncalled _ (tt, tt)
+reads before events result after trusts.no_memory = uncalled _ (tt, tt)
 
 adds : (file : List ℕ) (fingerprint : Grip) (flag : ℕ) → PromptedTrust (trusts.AddsEntry file fingerprint flag)
-adds file fingerprint flag events result (trusts.added few) = uncalled [] tt
-adds file fingerprint flag events result (trusts.too_long many) = uncalled [] tt
-adds file fingerprint flag events result trusts.no_memory = uncalled _ (tt, tt)
+adds file fingerprint flag before events result after (trusts.added few) = uncalled [] tt
+adds file fingerprint flag before events result after (trusts.too_long many) = uncalled [] tt
+adds file fingerprint flag before events result after trusts.no_memory = uncalled _ (tt, tt)
 
 replaces : (file : List ℕ) → PromptedTrust (trusts.Replaces file)
-replaces file events result trusts.replaced = uncalled _ (tt, tt)
-replaces file events result trusts.faulted = uncalled _ (tt, tt)
-replaces file events result trusts.no_memory = uncalled _ (tt, tt)
+replaces file before events result after trusts.replaced = uncalled _ (tt, tt)
+replaces file before events result after trusts.faulted = uncalled _ (tt, tt)
+replaces file before events result after trusts.no_memory = uncalled _ (tt, tt)
 
-seats : PromptedTrust trusts.Seats
-seats events result trusts.opened = uncalled _ (tt, tt)
-seats events result (trusts.interrupted why) = uncalled _ (tt, tt)
+seats : PromptedTrust (turning.Seats (Seat None None))
+seats before events result after turning.opened = uncalled _ (tt, tt)
+seats before events result after (turning.interrupted why) = uncalled _ (tt, tt)
 
-gives_back : {A : Type 0} (ticket : ℕ) {part : trusts.Part A} → PromptedTrust part → PromptedTrust (trusts.UnderTicket ticket part)
-gives_back ticket part events result (trusts.given_back {events = more} turn does) = prompted_append more _ (part more result does) (uncalled (cache_turn (Close ticket None) turn ∷ []) (tt, tt))
+gives_back : {A : Type 0} {part : Part A} → PromptedTrust part → PromptedTrust (trusts.UnderTicket part)
+gives_back part before events result after (trusts.given_back {events = more} turn does) = prompted_append more _ (part _ more result _ does) (uncalled (cache_turn (Close _ None) turn ∷ []) (tt, tt))
 
 module _ (rules : Rules) (options : OptionValues) where
   agrees : (question : List ℕ) → PromptedTrust (trusts.Agrees rules options question)
-  agrees question events result (trusts.consents spec is (trusts.prompts asks in_session)) = shown_prompted (consent_is_one asks) in_session
-  agrees question events result (trusts.refused spec is (trusts.prompts asks in_session) refusal) = shown_prompted (consent_is_one asks) in_session
+  agrees question before events result after (consent.consents spec is prompt) = shown_prompted (consent_is_one prompt.asks) prompt.in_session
+  agrees question before events result after (consent.refused spec is prompt refusal) = shown_prompted (consent_is_one prompt.asks) prompt.in_session
 
   trusted_now : (fingerprint : Grip) → PromptedTrust (TrustedNow fingerprint)
   unfolding TrustedNow
@@ -213,7 +218,7 @@ module _ (rules : Rules) (options : OptionValues) where
     consented = follows (agrees (trust_question name)) (λ trusted. follows (agrees (fingerprint_question fingerprint name)) (λ right. stores_unsaid fingerprint purpose))
 
     asks_in : (way : PinMode) → PromptedTrust (asked_in rules options fingerprint purpose name way)
-    asks_in mode.Ask = follows seats (λ ticket. gives_back ticket consented)
+    asks_in mode.Ask = follows seats (λ seated. gives_back consented)
     asks_in mode.Cancel = refused _
     asks_in mode.Error = refused _
     asks_in mode.Loopback = refused _
@@ -228,8 +233,8 @@ module _ (rules : Rules) (options : OptionValues) where
   carried (Bad why) = refused _
 
   trust_prompted : (request : TrustRequest) {events : List Event} {went : Went} → TrustExchange rules options request events went → Prompted events
-  trust_prompted request (trusting.answered events does) = prompted_append events _ (carried request events _ does) (uncalled _ (tt, tt))
-  trust_prompted request (trusting.refused events why does) = prompted_append events _ (carried request events _ does) (uncalled _ (said_uncalled (trusts.refusal_line why)))
+  trust_prompted request (trusting.answered events does) = prompted_append events _ (carried request None events _ None does) (uncalled _ (tt, tt))
+  trust_prompted request (trusting.refused events why does) = prompted_append events _ (carried request None events _ None does) (uncalled _ (said_uncalled (refusal_line why)))
 
 -- ---- at a door
 

@@ -24,6 +24,7 @@ use Rattle.key_commands.specs.Exchanges.{DeleteKeyReplies, Replies, wrap_key, Fo
 use Rattle.key_commands.specs.Exchanges as exchange
 use Rattle.key_commands.specs.KeyParts.{Agrees, Consents}
 use Rattle.key_commands.specs.KeyParts as parts
+use Rattle.agent_ask.specs.ConsentParts as consent
 use Rattle.key_commands.specs.Parts.{Part, ◌>>=◌}
 use Rattle.agent_ask.specs.Parts.{Follows, goes_on, stops, or_else}
 use Rattle.agent_ask.specs.TurnParts.{Closes}
@@ -162,8 +163,8 @@ module _ (rules : Rules) (options : OptionValues) (grip : Grip) where
   new_of before events result after (passphrases.refused spec is prompt refusal) = shown_prompted (pin_is_one prompt.asks) prompt.in_session
 
   agrees_of : (before : Option ℕ) (events : List Event) (result : Result (Unit {0}) Refusal) (after : Option ℕ) → Agrees rules options grip before events result after → Prompted events
-  agrees_of before events result after (parts.consents spec is prompt) = shown_prompted (consent_is_one prompt.asks) prompt.in_session
-  agrees_of before events result after (parts.refused spec is prompt refusal) = shown_prompted (consent_is_one prompt.asks) prompt.in_session
+  agrees_of before events result after (consent.consents spec is prompt) = shown_prompted (consent_is_one prompt.asks) prompt.in_session
+  agrees_of before events result after (consent.refused spec is prompt refusal) = shown_prompted (consent_is_one prompt.asks) prompt.in_session
 
   -- ---- passphrases
 

@@ -17,6 +17,8 @@ use Rattle.key_commands.specs.Parts.{refusal_events}
 use Rattle.agent_ask.specs.TurnParts.{Closes}
 use Rattle.agent_ask.specs.Parts.{goes_on, stops}
 use Rattle.assuan_server.specs.Written.{refusal_line}
+use Rattle.agent_ask.specs.Parts as chain
+use Rattle.agent_ask.specs.TurnParts as turning
 use Rattle.key_commands.specs.Parts as small
 use Rattle.session_client.specs.declared.refusal.Refusal.{Refusal}
 use Rattle.session_client.specs.declared.refusal.Refusal.TheVariants.{Agent}
@@ -48,18 +50,18 @@ absents_all [] = refl
 absents_all (grip ∷ more) = let e = absents_all more in omega arith
 
 absents_closed : {held : Option ℕ} {back : List Event} → Closes None held back (Ok tt) None → absents back ≡ 0
-absents_closed small.unheld = refl
-absents_closed (small.closed turn) = refl
+absents_closed turning.unheld = refl
+absents_closed (turning.closed turn) = refl
 
 -- where the request goes on, or is refused otherwise, fewer reads said so than it names keys
 found_first : (grips : List Grip) (before : Option ℕ) (events : List Event) (value : Unit {0}) (after : Option ℕ) → HasOne grips before events (Ok value) after → absents events < length grips
 found_first [] before events value after does = elim does [ ]
-found_first (grip ∷ more) before events value after (goes_on small.found small.returns) = omega arith
+found_first (grip ∷ more) before events value after (goes_on small.found chain.returns) = omega arith
 found_first (grip ∷ more) before events value after (goes_on {events = rest} {mid} small.absent does) = let e = found_first more mid rest value after does in omega arith
 
 refused_first : (grips : List Grip) (before : Option ℕ) (events : List Event) (why : Refusal) (after : Option ℕ) → HasOne grips before events (Err why) after
     → (Agent code.NoSecKey ≡ why) ⊎ (absents events < length grips)
-refused_first [] before events why after small.refuses = inl refl
+refused_first [] before events why after chain.refuses = inl refl
 refused_first (grip ∷ more) before events why after (goes_on small.found does) = elim does [ ]
 refused_first (grip ∷ more) before events why after (goes_on {events = rest} {mid} small.absent does) =
     elim (refused_first more mid rest why after does) [ inl is ↦ inl is | inr fewer ↦ inr (omega arith) ]
@@ -92,7 +94,7 @@ said_absents (Some text) = refl
 module _ (rules : Rules) (options : OptionValues) (wraps : WrapKeys) (grips : List Grip) where
   replied : (events : List Event) (held : Option ℕ) (reply : KeyReply) → HaveKeyReplies rules options wraps grips None events (Ok reply) held → absents events < length grips
   unfolding HaveKeyReplies
-  replied events held reply (goes_on {first} does small.returns) = let fewer = found_first grips _ first _ _ does in let joined = absents_append first [] in omega arith
+  replied events held reply (goes_on {first} does chain.returns) = let fewer = found_first grips _ first _ _ does in let joined = absents_append first [] in omega arith
 
   denied : (events : List Event) (held : Option ℕ) (why : Refusal) → HaveKeyReplies rules options wraps grips None events (Err why) held → (Agent code.NoSecKey ≡ why) ⊎ (absents events < length grips)
   unfolding HaveKeyReplies

@@ -20,6 +20,7 @@ use Rattle.key_commands.specs.KeyParts.{HasOne, ReadsListed, TellsListed, Writes
 use Rattle.key_commands.specs.KeyParts as parts
 use Rattle.key_commands.specs.Parts.{Part, ◌>>=◌, Finds, refusal_events}
 use Rattle.agent_ask.specs.Parts.{Follows, goes_on, stops, Returns, needed, unless}
+use Rattle.agent_ask.specs.Parts as chain
 use Rattle.key_commands.specs.Parts as small
 use Rattle.key_commands.specs.Passphrases.{OldPassphrase, VerifiesPassphrase}
 use Rattle.session_client.specs.declared.refusal.Refusal.{Refusal}
@@ -212,14 +213,14 @@ module _ (one_canon : (file : List ℕ) (a b : Option (List ℕ)) → Canon file
 
     lacks_of : (before : Option ℕ) (events : List Event) (result : Result B Refusal) (after : Option ℕ) → Follows (needed given nought) next before events result after → AllByRecursion Remembers events
         → (why : Code) → (nought ≡ None) × (given ≡ why) ⊎ IsDecided deciding events why → SaysTo NoneOwed result why
-    lacks_of before events result after (stops small.refuses) remembers why (inl due) = subst (λ c. refusal_line (refusals.Agent given) ≡ Some (failed c)) due.1 refl
-    lacks_of before events result after (stops small.refuses) remembers why (inr decided) = absurd (never_decided deciding [] tt decided)
+    lacks_of before events result after (stops chain.refuses) remembers why (inl due) = subst (λ c. refusal_line (refusals.Agent given) ≡ Some (failed c)) due.1 refl
+    lacks_of before events result after (stops chain.refuses) remembers why (inr decided) = absurd (never_decided deciding [] tt decided)
     lacks_of before events result after (goes_on does next_does) remembers why due = elim does [ ]
 
     has_of : (value : A) → Heeds deciding NoneDue (next value) NoneOwed → (before : Option ℕ) (events : List Event) (result : Result B Refusal) (after : Option ℕ) → Follows (needed given (Some value)) next before events result after
         → AllByRecursion Remembers events → (why : Code) → (Some value ≡ None) × (given ≡ why) ⊎ IsDecided deciding events why → SaysTo NoneOwed result why
-    has_of value heeds before events result after (goes_on small.returns does) remembers why (inl due) = absurd (cc (due.0))
-    has_of value heeds before events result after (goes_on {events = more} small.returns does) remembers why (inr decided) = heeds.of before more result after does remembers why (inr decided)
+    has_of value heeds before events result after (goes_on chain.returns does) remembers why (inl due) = absurd (cc (due.0))
+    has_of value heeds before events result after (goes_on {events = more} chain.returns does) remembers why (inr decided) = heeds.of before more result after does remembers why (inr decided)
     has_of value heeds before events result after (stops does) remembers why due = elim does [ ]
 
   import_key : (drawn : Option (List ℕ)) (wraps : WrapKeys) (force : Bool) (nonce : Option (List ℕ))

@@ -24,11 +24,16 @@ use Rattle.key_commands.specs.Files.{Rewrites}
 use Rattle.key_commands.specs.Files as files
 use Rattle.key_commands.specs.KeyParts.{Tells, Replaces, Protects, IsShort, KeepsNew, TellsInfo, ListsGrips, max_key_data, NamesKey, LooksOver, WrapsKey, Agrees, Consents, WritesInfo}
 use Rattle.agent_ask.specs.ConsentParts.{consent_refusal}
+use Rattle.key_commands.specs.Lines.{grip_text}
+use Rattle.cache_policy.specs.declared.mode.Mode.TheVariants.{Normal}
 use Rattle.key_commands.specs.KeyParts as parts
 use Rattle.key_commands.specs.Lines.{limit_line}
 use Rattle.key_commands.specs.Parts.{Part, ◌>>=◌, Writes, Inquires, AsksClient, Draws}
 use Rattle.agent_ask.specs.Parts.{Follows, goes_on, stops, Returns, Refuses, needed, or_else, wanted}
 use Rattle.agent_ask.specs.TurnParts.{Asks, Seats, Changes, Peeks, Closes}
+use Rattle.agent_ask.specs.Parts as chain
+use Rattle.agent_ask.specs.ConsentParts as consent
+use Rattle.agent_ask.specs.TurnParts as turning
 use Rattle.key_commands.specs.Parts as small
 use Rattle.key_commands.specs.Passphrases.{LooksForNonce, TakesSeat, ask_nonce, Tries, TriesFound, PromptsOld, PromptsNew, ClientOld, ClientNew, UncachedOld, OpensLocked, NewPassphrase, pin_refusal, ask_key, way_of, put_key, seat_for}
 use Rattle.key_commands.specs.Passphrases as passphrases
@@ -117,13 +122,13 @@ module _ (deciding : Deciding) where
 
   module _ {A : Type 0} where
     returns_of : (value : A) (before : Option ℕ) (events : List Event) (result : Result A Refusal) (after : Option ℕ) → Returns value before events result after → AllByRecursion (IsFree deciding) events
-    returns_of value before events result after small.returns = tt
+    returns_of value before events result after chain.returns = tt
 
     pub returns_never : (value : A) → NeverDecides (Returns value)
     returns_never value = record { of = returns_of value }
 
     refuses_of : (why : Refusal) (before : Option ℕ) (events : List Event) (result : Result A Refusal) (after : Option ℕ) → Refuses {A = A} why before events result after → AllByRecursion (IsFree deciding) events
-    refuses_of why before events result after small.refuses = tt
+    refuses_of why before events result after chain.refuses = tt
 
     pub refuses_never : (why : Refusal) → NeverDecides (Refuses {A = A} why)
     refuses_never why = record { of = refuses_of why }
@@ -145,36 +150,36 @@ module _ (deciding : Deciding) where
 
   asks_of : (taken : MarkStep) (before : Option ℕ) (events : List Event) (result : Result (Option (List ℕ)) Refusal) (after : Option ℕ) → Asks taken before events result after
       → AllByRecursion (IsFree deciding) events
-  asks_of taken before events result after small.given = (free, tt)
-  asks_of taken before events result after small.empty = (free, tt)
-  asks_of taken before events result after small.opened = (free, tt)
-  asks_of taken before events result after (small.interrupted why) = (free, tt)
+  asks_of taken before events result after turning.given = (free, tt)
+  asks_of taken before events result after turning.empty = (free, tt)
+  asks_of taken before events result after turning.opened = (free, tt)
+  asks_of taken before events result after (turning.interrupted why) = (free, tt)
 
   pub asks_never : (taken : MarkStep) → NeverDecides (Asks taken)
   asks_never taken = record { of = asks_of taken }
 
   seats_of : (taken : MarkStep) (before : Option ℕ) (events : List Event) (result : Result (Unit {0}) Refusal) (after : Option ℕ) → Seats taken before events result after → AllByRecursion (IsFree deciding) events
-  seats_of taken before events result after small.opened = (free, tt)
-  seats_of taken before events result after (small.interrupted why) = (free, tt)
+  seats_of taken before events result after turning.opened = (free, tt)
+  seats_of taken before events result after (turning.interrupted why) = (free, tt)
 
   pub seats_never : (taken : MarkStep) → NeverDecides (Seats taken)
   seats_never taken = record { of = seats_of taken }
 
   changes_of : (taken : MarkStep) (before : Option ℕ) (events : List Event) (result : Result (Unit {0}) Refusal) (after : Option ℕ) → Changes taken before events result after → AllByRecursion (IsFree deciding) events
-  changes_of taken before events result after small.done = (free, tt)
-  changes_of taken before events result after (small.interrupted why) = (free, tt)
+  changes_of taken before events result after turning.done = (free, tt)
+  changes_of taken before events result after (turning.interrupted why) = (free, tt)
 
   pub changes_never : (taken : MarkStep) → NeverDecides (Changes taken)
   changes_never taken = record { of = changes_of taken }
 
-  peeks_of : (grip : Grip) (before : Option ℕ) (events : List Event) (result : Result Bool Refusal) (after : Option ℕ) → Peeks grip before events result after → AllByRecursion (IsFree deciding) events
-  peeks_of grip before events result after small.peeked = (free, tt)
-  peeks_of grip before events result after (small.interrupted why) = (free, tt)
+  peeks_of : (grip : Grip) (before : Option ℕ) (events : List Event) (result : Result Bool Refusal) (after : Option ℕ) → Peeks (grip_text grip) Normal before events result after → AllByRecursion (IsFree deciding) events
+  peeks_of grip before events result after turning.peeked = (free, tt)
+  peeks_of grip before events result after (turning.interrupted why) = (free, tt)
 
   closes_of : (keep : Option (List ℕ)) (before : Option ℕ) (events : List Event) (result : Result (Unit {0}) Refusal) (after : Option ℕ) → Closes keep before events result after
       → AllByRecursion (IsFree deciding) events
-  closes_of keep before events result after small.unheld = tt
-  closes_of keep before events result after (small.closed turn) = (free, tt)
+  closes_of keep before events result after turning.unheld = tt
+  closes_of keep before events result after (turning.closed turn) = (free, tt)
 
   pub closes_never : (keep : Option (List ℕ)) → NeverDecides (Closes keep)
   closes_never keep = record { of = closes_of keep }
@@ -302,10 +307,10 @@ module _ (deciding : Deciding) where
   -- a value that has to be there, where it is due that it isn't
   needed_of : {A : Type 0} (given : Code) (value : Option A) (before : Option ℕ) (events : List Event) (result : Result A Refusal) (after : Option ℕ) → needed given value before events result after
       → AllByRecursion Remembers events → (why : Code) → (value ≡ None) × (given ≡ why) ⊎ IsDecided deciding events why → SaysTo NoneOwed result why
-  needed_of given None before events result after small.refuses remembers why (inl due) = ap (λ c. Some (failed c)) due.1
-  needed_of given None before events result after small.refuses remembers why (inr decided) = absurd (never_decided deciding [] tt decided)
-  needed_of given (Some value) before events result after small.returns remembers why (inl due) = absurd (cc (due.0))
-  needed_of given (Some value) before events result after small.returns remembers why (inr decided) = never_decided deciding [] tt decided
+  needed_of given None before events result after chain.refuses remembers why (inl due) = ap (λ c. Some (failed c)) due.1
+  needed_of given None before events result after chain.refuses remembers why (inr decided) = absurd (never_decided deciding [] tt decided)
+  needed_of given (Some value) before events result after chain.returns remembers why (inl due) = absurd (cc (due.0))
+  needed_of given (Some value) before events result after chain.returns remembers why (inr decided) = never_decided deciding [] tt decided
 
   pub is_needed : {A : Type 0} (given : Code) (value : Option A) → Heeds (λ why. (value ≡ None) × (given ≡ why)) (needed given value) NoneOwed
   is_needed given value = record { of = needed_of given value }
@@ -313,8 +318,8 @@ module _ (deciding : Deciding) where
   -- a refusal that is due
   refuses_due_of : {A : Type 0} (given : Code) (before : Option ℕ) (events : List Event) (result : Result A Refusal) (after : Option ℕ) → Refuses (Agent given) before events result after
       → AllByRecursion Remembers events → (why : Code) → (given ≡ why) ⊎ IsDecided deciding events why → SaysTo NoneOwed result why
-  refuses_due_of given before events result after small.refuses remembers why (inl due) = ap (λ c. Some (failed c)) due
-  refuses_due_of given before events result after small.refuses remembers why (inr decided) = absurd (never_decided deciding [] tt decided)
+  refuses_due_of given before events result after chain.refuses remembers why (inl due) = ap (λ c. Some (failed c)) due
+  refuses_due_of given before events result after chain.refuses remembers why (inr decided) = absurd (never_decided deciding [] tt decided)
 
   pub refuses_due : {A : Type 0} (given : Code) → Heeds {A = A} (λ why. given ≡ why) (Refuses (Agent given)) NoneOwed
   refuses_due given = record { of = refuses_due_of given }
@@ -405,9 +410,9 @@ module _ (deciding : Deciding) where
     agrees_of : (before : Option ℕ) (events : List Event) (result : Result (Unit {0}) Refusal) (after : Option ℕ) → Agrees rules options grip before events result after
         → AllByRecursion Remembers events → (why : Code) → NoneDue why ⊎ IsDecided deciding events why → SaysTo NoneOwed result why
     agrees_of before events result after does remembers why (inl due) = absurd due
-    agrees_of before events result after (parts.consents spec is prompts) remembers why (inr decided) =
+    agrees_of before events result after (consent.consents spec is prompts) remembers why (inr decided) =
         let other : agreed.Yes ≡ agreed.Heard _ = consent_heard prompts.asks (shown_noted deciding prompts.in_session decided) in absurd (cc other)
-    agrees_of before events result after (parts.refused {why = refusal} spec is prompts by) remembers why (inr decided) =
+    agrees_of before events result after (consent.refused {why = refusal} spec is prompts by) remembers why (inr decided) =
         let noted = shown_noted deciding prompts.in_session decided in
         heard_line why noted refusal (subst (λ a. consent_refusal a ≡ Some refusal) (consent_heard prompts.asks noted) by)
 

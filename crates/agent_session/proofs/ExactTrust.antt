@@ -27,12 +27,16 @@ use Rattle.trust_list.specs.Trust.{trust, with_entry}
 use Rattle.trust_list.specs.declared.TheConstants.{MAX_TRUST_FILE_LEN}
 use Rattle.agent_origin.specs.Exchanges.{flag_of, trust_question, fingerprint_question, unless_said, TrustedNow, Stores, StoresUnsaid, Consented, asked_in, Marked, Carried, TrustExchange}
 use Rattle.agent_origin.specs.Exchanges as trusts
-use Rattle.agent_origin.specs.Parts.{◌>>=◌, UnderTicket, Agrees, ReadsFile, AddsEntry, Replaces, file_in, trust_called}
+use Rattle.agent_origin.specs.Parts.{UnderTicket, Agrees, ReadsFile, AddsEntry, Replaces, file_in, trust_called}
 use Rattle.key_commands.specs.Parts.{Part, refusal_events}
-use Rattle.agent_ask.specs.Parts.{Follows, Returns, Refuses}
+use Rattle.agent_ask.specs.Parts.{◌>>=◌, Follows, Returns, Refuses}
 use Rattle.agent_ask.specs.TurnParts.{Seats}
 use Rattle.agent_ask.specs.ConsentParts.{consent_refusal}
 use Rattle.agent_origin.specs.Parts as parts
+use Rattle.agent_ask.specs.ConsentParts as consent
+use Rattle.agent_ask.specs.Parts as chain
+use Rattle.agent_ask.specs.TurnParts as turning
+use Rattle.cache_policy.specs.declared.mark.MarkStep.TheVariants.{Seat}
 use Rattle.agent_origin.specs.declared.request.TrustPurpose.{TrustPurpose}
 use Rattle.agent_origin.specs.declared.request.TrustRequest.{TrustRequest}
 use Rattle.agent_origin.specs.declared.request.TrustRequest.TheVariants.{IsTrusted, MarkTrusted, Bad}
@@ -69,13 +73,13 @@ heard_line (heard_as.Gone how) unheard why is code_is by =
 
 module _ (deciding : Deciding) where
   record Heeds {A : Type 0} (Due : Code → Type 0) (part : Part A) (Owed : A → Code → Type 0) : Type 0 where
-    of : (events : List Event) (result : _) → part events result → AllByRecursion Remembers events → (why : Code) → Due why ⊎ IsDecided deciding events why → SaysBy refusal_line Owed result why
+    of : {before after : Option ℕ} (events : List Event) (result : _) → part before events result after → AllByRecursion Remembers events → (why : Code) → Due why ⊎ IsDecided deciding events why → SaysBy refusal_line Owed result why
 
   record NeverDecides {A : Type 0} (part : Part A) : Type 0 where
-    of : (events : List Event) (result : _) → part events result → AllByRecursion (IsFree deciding) events
+    of : {before after : Option ℕ} (events : List Event) (result : _) → part before events result after → AllByRecursion (IsFree deciding) events
 
   module _ {A : Type 0} {part : Part A} (Owed : A → Code → Type 0) (never : NeverDecides part) where
-    by_never_of : (events : List Event) (result : _) → part events result → AllByRecursion Remembers events → (why : Code) → NoneDue why ⊎ IsDecided deciding events why → SaysBy refusal_line Owed result why
+    by_never_of : {before after : Option ℕ} (events : List Event) (result : _) → part before events result after → AllByRecursion Remembers events → (why : Code) → NoneDue why ⊎ IsDecided deciding events why → SaysBy refusal_line Owed result why
     by_never_of events result does remembers why (inl due) = absurd due
     by_never_of events result does remembers why (inr decided) = absurd (never_decided deciding events (never.of events result does) decided)
 
@@ -84,8 +88,8 @@ module _ (deciding : Deciding) where
 
   module _ {A B : Type 0} {part : Part A} {next : A → Part B} {Due : Code → Type 0} (Mid : A → Code → Type 0) {Owed : B → Code → Type 0} (first : Heeds Due part Mid)
       (then : (value : A) → Heeds (Mid value) (next value) Owed) where
-    bind_of : (events : List Event) (result : _) → Follows part next events result → AllByRecursion Remembers events → (why : Code) → Due why ⊎ IsDecided deciding events why → SaysBy refusal_line Owed result why
-    bind_of events result (parts.goes_on {first = some} {events = more} {value} does next_does) remembers why due =
+    bind_of : {before after : Option ℕ} (events : List Event) (result : _) → Follows part next before events result after → AllByRecursion Remembers events → (why : Code) → Due why ⊎ IsDecided deciding events why → SaysBy refusal_line Owed result why
+    bind_of events result (chain.goes_on {first = some} {events = more} {value} does next_does) remembers why due =
         (then value).of more result next_does (each_right Remembers some more remembers) why (passed due)
       where
         by_first : Due why ⊎ IsDecided deciding some why → Mid value why
@@ -98,7 +102,7 @@ module _ (deciding : Deciding) where
               | inl has ↦ inl (by_first (inr (record { event = decided.event; has = has; decides = decided.decides })))
               | inr has ↦ inr (record { event = decided.event; has = has; decides = decided.decides })
             ]
-    bind_of events result (parts.stops {refusal} does) remembers why due = first.of events (Err refusal) does remembers why due
+    bind_of events result (chain.stops {refusal} does) remembers why due = first.of events (Err refusal) does remembers why due
 
     bind : Heeds Due (part >>= next) Owed
     bind = record { of = bind_of }
@@ -107,53 +111,53 @@ module _ (deciding : Deciding) where
   free why none = none
 
   module _ {A : Type 0} where
-    returns_of : (value : A) (events : List Event) (result : _) → Returns value events result → AllByRecursion (IsFree deciding) events
-    returns_of value events result parts.returns = tt
+    returns_of : (value : A) {before after : Option ℕ} (events : List Event) (result : _) → Returns value before events result after → AllByRecursion (IsFree deciding) events
+    returns_of value events result chain.returns = tt
 
     returned : (value : A) → Heeds NoneDue (Returns value) NoneOwed
     returned value = by_never NoneOwed (record { of = returns_of value })
 
-    refuses_of : (refusal : _) (events : List Event) (result : _) → Refuses {A = A} refusal events result → AllByRecursion (IsFree deciding) events
-    refuses_of refusal events result parts.refuses = tt
+    refuses_of : (refusal : _) {before after : Option ℕ} (events : List Event) (result : _) → Refuses {A = A} refusal before events result after → AllByRecursion (IsFree deciding) events
+    refuses_of refusal events result chain.refuses = tt
 
     refused : (refusal : _) → Heeds NoneDue (Refuses {A = A} refusal) NoneOwed
     refused refusal = by_never NoneOwed (record { of = refuses_of refusal })
 
   -- a refusal that is due
-  due_of : (given : Code) (refusal : _) → refusal_line refusal ≡ Some (failed given) → (events : List Event) (result : _) → Refuses {A = Unit {0}} refusal events result → AllByRecursion Remembers events → (why : Code)
+  due_of : (given : Code) (refusal : _) → refusal_line refusal ≡ Some (failed given) → {before after : Option ℕ} (events : List Event) (result : _) → Refuses {A = Unit {0}} refusal before events result after → AllByRecursion Remembers events → (why : Code)
       → (given ≡ why) ⊎ IsDecided deciding events why → SaysBy refusal_line NoneOwed result why
-  due_of given refusal says events result parts.refuses remembers why (inl due) = says ∙ ap (λ c. Some (failed c)) due
-  due_of given refusal says events result parts.refuses remembers why (inr decided) = absurd (never_decided deciding [] tt decided)
+  due_of given refusal says events result chain.refuses remembers why (inl due) = says ∙ ap (λ c. Some (failed c)) due
+  due_of given refusal says events result chain.refuses remembers why (inr decided) = absurd (never_decided deciding [] tt decided)
 
   refused_due : (given : Code) (refusal : _) → refusal_line refusal ≡ Some (failed given) → Heeds (λ why. given ≡ why) (Refuses {A = Unit {0}} refusal) NoneOwed
   refused_due given refusal says = record { of = due_of given refusal says }
 
-  seats_of : (events : List Event) (result : _) → Seats events result → AllByRecursion (IsFree deciding) events
-  seats_of events result parts.opened = (free, tt)
-  seats_of events result (parts.interrupted why) = (free, tt)
+  seats_of : {before after : Option ℕ} (events : List Event) (result : _) → Seats (Seat None None) before events result after → AllByRecursion (IsFree deciding) events
+  seats_of events result turning.opened = (free, tt)
+  seats_of events result (turning.interrupted why) = (free, tt)
 
-  seats : Heeds NoneDue Seats NoneOwed
+  seats : Heeds NoneDue (Seats (Seat None None)) NoneOwed
   seats = by_never NoneOwed (record { of = seats_of })
 
-  module _ (ticket : ℕ) {part : Part (Unit {0})} (heeds : Heeds NoneDue part NoneOwed) where
-    under_of : (events : List Event) (result : _) → UnderTicket ticket part events result → AllByRecursion Remembers events → (why : Code) → NoneDue why ⊎ IsDecided deciding events why
+  module _ {part : Part (Unit {0})} (heeds : Heeds NoneDue part NoneOwed) where
+    under_of : {before after : Option ℕ} (events : List Event) (result : _) → UnderTicket part before events result after → AllByRecursion Remembers events → (why : Code) → NoneDue why ⊎ IsDecided deciding events why
         → SaysBy refusal_line NoneOwed result why
     under_of events result does remembers why (inl due) = absurd due
     under_of events result (parts.given_back {events = some} turn does) remembers why (inr decided) =
         heeds.of some result does (each_left Remembers some _ remembers) why (inr (decided_before deciding some (CacheTurn _ ∷ []) (free, tt) decided))
 
-    under : Heeds NoneDue (UnderTicket ticket part) NoneOwed
+    under : Heeds NoneDue (UnderTicket part) NoneOwed
     under = record { of = under_of }
 
   module _ (rules : Rules) (options : OptionValues) (question : List ℕ) where
-    agrees_of : (events : List Event) (result : _) → Agrees rules options question events result → AllByRecursion Remembers events → (why : Code) → NoneDue why ⊎ IsDecided deciding events why
+    agrees_of : {before after : Option ℕ} (events : List Event) (result : _) → Agrees rules options question before events result after → AllByRecursion Remembers events → (why : Code) → NoneDue why ⊎ IsDecided deciding events why
         → SaysBy refusal_line NoneOwed result why
     agrees_of events result does remembers why (inl due) = absurd due
-    agrees_of events result (parts.consents spec is (parts.prompts asks in_session)) remembers why (inr decided) =
-        let other : agreed.Yes ≡ agreed.Heard _ = consent_heard asks (shown_noted deciding in_session decided) in absurd (cc other)
-    agrees_of events result (parts.refused {why = refusal} spec is (parts.prompts asks in_session) by) remembers why (inr decided) =
-        let noted = shown_noted deciding in_session decided in
-        heard_line noted.heard noted.unheard why noted.is noted.code_is (subst (λ a. consent_refusal a ≡ Some refusal) (consent_heard asks noted) by)
+    agrees_of events result (consent.consents spec is prompt) remembers why (inr decided) =
+        let other : agreed.Yes ≡ agreed.Heard _ = consent_heard prompt.asks (shown_noted deciding prompt.in_session decided) in absurd (cc other)
+    agrees_of events result (consent.refused {why = refusal} spec is prompt by) remembers why (inr decided) =
+        let noted = shown_noted deciding prompt.in_session decided in
+        heard_line noted.heard noted.unheard why noted.is noted.code_is (subst (λ a. consent_refusal a ≡ Some refusal) (consent_heard prompt.asks noted) by)
 
     agrees : Heeds NoneDue (Agrees rules options question) NoneOwed
     agrees = record { of = agrees_of }
@@ -165,7 +169,7 @@ module _ (deciding : Deciding) where
     consented = bind NoneOwed (agrees rules options (trust_question name)) (λ trusted. bind NoneOwed (agrees rules options (fingerprint_question fingerprint name)) (λ right. stores))
 
     asked_so : (way : PinMode) → Heeds NoneDue (asked_in rules options fingerprint purpose name way) NoneOwed
-    asked_so mode.Ask = bind NoneOwed seats (λ ticket. under ticket consented)
+    asked_so mode.Ask = bind NoneOwed seats (λ seated. under consented)
     asked_so mode.Cancel = refused _
     asked_so mode.Error = refused _
     asked_so mode.Loopback = refused _
@@ -180,7 +184,7 @@ module _ (deciding : Deciding) where
 abbrev BySaid : Deciding
 BySaid = by_said None
 
-reads_of : (events : List Event) (result : _) → ReadsFile events result → AllByRecursion (IsFree BySaid) events
+reads_of : {before after : Option ℕ} (events : List Event) (result : _) → ReadsFile before events result after → AllByRecursion (IsFree BySaid) events
 reads_of events result (parts.has_read is) = ((λ why none. none), tt)
 reads_of events result parts.faulted = ((λ why none. none), tt)
 reads_of events result parts.no_memory = ((λ why none. none), tt)
@@ -193,13 +197,13 @@ unless (Some true) other = returned BySaid tt
 unless (Some false) other = refused BySaid _
 unless None other = other
 
-adds_of : (file : List ℕ) (fingerprint : Grip) (flag : ℕ) (events : List Event) (result : _) → AddsEntry file fingerprint flag events result → AllByRecursion (IsFree BySaid) events
+adds_of : (file : List ℕ) (fingerprint : Grip) (flag : ℕ) {before after : Option ℕ} (events : List Event) (result : _) → AddsEntry file fingerprint flag before events result after → AllByRecursion (IsFree BySaid) events
 adds_of file fingerprint flag events result (parts.added fits) = tt
 adds_of file fingerprint flag events result (parts.too_long long) = tt
 adds_of file fingerprint flag events result parts.no_memory = ((λ why none. none), tt)
 
-replaces_of : (deciding : Deciding) → ((file : List ℕ) (answer : _) (why : Code) → deciding.trust (Replaced file answer) why → ⊥) → (file : List ℕ) (events : List Event) (result : _)
-    → Replaces file events result → AllByRecursion (IsFree deciding) events
+replaces_of : (deciding : Deciding) → ((file : List ℕ) (answer : _) (why : Code) → deciding.trust (Replaced file answer) why → ⊥) → (file : List ℕ) {before after : Option ℕ} (events : List Event) (result : _)
+    → Replaces file before events result after → AllByRecursion (IsFree deciding) events
 replaces_of deciding never file events result parts.replaced = (never file _, tt)
 replaces_of deciding never file events result parts.faulted = (never file _, tt)
 replaces_of deciding never file events result parts.no_memory = (never file _, tt)
@@ -247,7 +251,7 @@ module _ (fingerprint : Grip) (purpose : TrustPurpose) where
   abbrev pub ByLong : Deciding
   ByLong = record { sent = λ bytes why. ⊥; reads = λ grip answer why. ⊥; removed = λ answer why. ⊥; trust = ReadRefuses }
 
-  long_of : (events : List Event) (result : _) → ReadsFile events result → AllByRecursion Remembers events → (why : Code) → NoneDue why ⊎ IsDecided ByLong events why
+  long_of : {before after : Option ℕ} (events : List Event) (result : _) → ReadsFile before events result after → AllByRecursion Remembers events → (why : Code) → NoneDue why ⊎ IsDecided ByLong events why
       → SaysBy refusal_line IsLong result why
   long_of events result does remembers why (inl due) = absurd due
   long_of events result (parts.has_read {file} is) remembers why (inr decided) =
@@ -258,7 +262,7 @@ module _ (fingerprint : Grip) (purpose : TrustPurpose) where
   long_of events result parts.faulted remembers why (inr decided) = let long = decided_only ByLong decided in absurd (cc (long.1))
   long_of events result parts.no_memory remembers why (inr decided) = let long = decided_only ByLong decided in absurd (cc (long.1))
 
-  adds_long_of : (file : List ℕ) (events : List Event) (result : _) → AddsEntry file fingerprint (flag_of purpose) events result → AllByRecursion Remembers events → (why : Code)
+  adds_long_of : (file : List ℕ) {before after : Option ℕ} (events : List Event) (result : _) → AddsEntry file fingerprint (flag_of purpose) before events result after → AllByRecursion Remembers events → (why : Code)
       → IsLong file why ⊎ IsDecided ByLong events why → SaysBy refusal_line NoneOwed result why
   adds_long_of file events result (parts.added fits) remembers why (inl long) = let many = long.1 in let no : ⊥ = omega arith in no
   adds_long_of file events result (parts.added fits) remembers why (inr decided) = never_decided ByLong [] tt decided
@@ -271,28 +275,28 @@ module _ (fingerprint : Grip) (purpose : TrustPurpose) where
   stores_long file =
       bind ByLong NoneOwed (record { of = adds_long_of file }) (λ new. by_never ByLong NoneOwed (record { of = replaces_of ByLong (λ file answer why none. none) new }))
 
-  unless_long_of : (file : List ℕ) (said : Option Bool) → trust file fingerprint.0 ≡ said → (events : List Event) (result : _) → unless_said said (Stores fingerprint purpose file) events result
+  unless_long_of : (file : List ℕ) (said : Option Bool) → trust file fingerprint.0 ≡ said → {before after : Option ℕ} (events : List Event) (result : _) → unless_said said (Stores fingerprint purpose file) before events result after
       → AllByRecursion Remembers events → (why : Code) → IsLong file why ⊎ IsDecided ByLong events why → SaysBy refusal_line NoneOwed result why
   unless_long_of file None is events result does remembers why due = (stores_long file).of events result does remembers why due
-  unless_long_of file (Some true) is events result parts.returns remembers why (inl long) = cc (is, long.0)
-  unless_long_of file (Some true) is events result parts.returns remembers why (inr decided) = never_decided ByLong [] tt decided
-  unless_long_of file (Some false) is events result parts.refuses remembers why (inl long) = absurd (cc (is, long.0))
-  unless_long_of file (Some false) is events result parts.refuses remembers why (inr decided) = absurd (never_decided ByLong [] tt decided)
+  unless_long_of file (Some true) is events result chain.returns remembers why (inl long) = cc (is, long.0)
+  unless_long_of file (Some true) is events result chain.returns remembers why (inr decided) = never_decided ByLong [] tt decided
+  unless_long_of file (Some false) is events result chain.refuses remembers why (inl long) = absurd (cc (is, long.0))
+  unless_long_of file (Some false) is events result chain.refuses remembers why (inr decided) = absurd (never_decided ByLong [] tt decided)
 
   stores_unsaid_long : Heeds ByLong NoneDue (StoresUnsaid fingerprint purpose) NoneOwed
   unfolding StoresUnsaid
   stores_unsaid_long = bind ByLong IsLong (record { of = long_of }) (λ file. record { of = unless_long_of file (trust file fingerprint.0) refl })
 
   -- what decides MARKTRUSTED stands behind its first read
-  pub marked_long : (rules : Rules) (options : OptionValues) (name : List ℕ) (events : List Event) (result : _) → Marked rules options fingerprint purpose name events result → AllByRecursion Remembers events
+  pub marked_long : (rules : Rules) (options : OptionValues) (name : List ℕ) {before after : Option ℕ} (events : List Event) (result : _) → Marked rules options fingerprint purpose name before events result after → AllByRecursion Remembers events
       → (why : Code) (first : Event) (more : List Event) → events ≡ first ∷ more → IsDecided ByLong more why → SaysBy refusal_line NoneOwed result why
   unfolding Marked
-  marked_long rules options name events result (parts.goes_on {events = rest} {value = file} (parts.has_read is) does) remembers why first more same decided =
+  marked_long rules options name events result (chain.goes_on {events = rest} {value = file} (parts.has_read is) does) remembers why first more same decided =
       let rest_is : more ≡ rest = cc same in
       (unless_asked ByLong rules options fingerprint purpose name stores_unsaid_long (trust file fingerprint.0)).of rest result does remembers.1 why (inr (subst (λ m. IsDecided ByLong m why) rest_is decided))
-  marked_long rules options name events result (parts.stops parts.faulted) remembers why first more same decided =
+  marked_long rules options name events result (chain.stops parts.faulted) remembers why first more same decided =
       let none : more ≡ [] = cc same in absurd (never_decided ByLong [] tt (subst (λ m. IsDecided ByLong m why) none decided))
-  marked_long rules options name events result (parts.stops parts.no_memory) remembers why first more same decided =
+  marked_long rules options name events result (chain.stops parts.no_memory) remembers why first more same decided =
       let none : more ≡ [] = cc same in absurd (never_decided ByLong [] tt (subst (λ m. IsDecided ByLong m why) none decided))
 
 -- ---- the answer

@@ -26,6 +26,8 @@ use Rattle.key_commands.specs.Parts.{Part, ◌>>=◌, refusal_events}
 use Rattle.agent_ask.specs.Parts.{goes_on, stops, Returns}
 use Rattle.agent_ask.specs.TurnParts.{Closes}
 use Rattle.assuan_server.specs.Written.{refusal_line}
+use Rattle.agent_ask.specs.Parts as chain
+use Rattle.agent_ask.specs.TurnParts as turning
 use Rattle.key_commands.specs.Parts as small
 use Rattle.key_commands.specs.Passphrases as passphrases
 use Rattle.session_client.specs.declared.refusal.Refusal.{Refusal}
@@ -78,16 +80,16 @@ undone answer is done = let never : None ≡ Some _ = sym (ap change_fault done)
 stores_of : (count : ℕ) (key : Key) (grip : Grip) (pass : List ℕ) → IsImport (StoresKey count key grip pass)
 stores_of count key grip pass before events result after (stops small.faulted) = not_drawn (tt, tt)
 stores_of count key grip pass before events result after (goes_on (small.drawn long) (stops parts.no_memory)) = not_drawn (tt, (tt, tt))
-stores_of count key grip pass before events result after (goes_on (small.drawn long) (goes_on parts.made (stops (small.interrupted why)))) = not_put [] [] _ _ tt long why tt
-stores_of count key grip pass before events result after (goes_on (small.drawn long) (goes_on parts.made (goes_on small.done (stops (parts.not_done {answer} is))))) =
+stores_of count key grip pass before events result after (goes_on (small.drawn long) (goes_on parts.made (stops (turning.interrupted why)))) = not_put [] [] _ _ tt long why tt
+stores_of count key grip pass before events result after (goes_on (small.drawn long) (goes_on parts.made (goes_on turning.done (stops (parts.not_done {answer} is))))) =
     not_replaced [] [] _ _ _ _ _ tt long (undone answer is) tt
-stores_of count key grip pass None events result after (goes_on (small.drawn long) (goes_on parts.made (goes_on small.done (goes_on parts.done (stops (small.interrupted why)))))) =
+stores_of count key grip pass None events result after (goes_on (small.drawn long) (goes_on parts.made (goes_on turning.done (goes_on parts.done (stops (turning.interrupted why)))))) =
     replaced [] [] _ _ _ _ tt long put tt
-stores_of count key grip pass None events result after (goes_on (small.drawn long) (goes_on parts.made (goes_on small.done (goes_on parts.done (goes_on small.done small.returns))))) =
+stores_of count key grip pass None events result after (goes_on (small.drawn long) (goes_on parts.made (goes_on turning.done (goes_on parts.done (goes_on turning.done chain.returns))))) =
     replaced [] [] _ _ _ _ tt long put tt
-stores_of count key grip pass (Some number) events result after (goes_on (small.drawn long) (goes_on parts.made (goes_on small.done (goes_on parts.done (goes_on (small.closed turn) small.returns))))) =
+stores_of count key grip pass (Some number) events result after (goes_on (small.drawn long) (goes_on parts.made (goes_on turning.done (goes_on parts.done (goes_on (turning.closed turn) chain.returns))))) =
     replaced [] [] _ _ _ _ tt long given_back tt
-stores_of count key grip pass (Some number) events result after (goes_on (small.drawn long) (goes_on parts.made (goes_on small.done (goes_on parts.done (stops never))))) = elim never [ ]
+stores_of count key grip pass (Some number) events result after (goes_on (small.drawn long) (goes_on parts.made (goes_on turning.done (goes_on parts.done (stops never))))) = elim never [ ]
 
 -- ---- before
 
@@ -102,7 +104,7 @@ found_quiet rules options nonce grip =
     each_bind HandsNothing (looks_over HandsNothing nonce (λ named turn hands. elim hands [ ])) (λ found. each_otherwise HandsNothing found (new_quiet rules options grip options.mode))
 
 made_of : {A B : Type 0} {part : Part A} (make : A → B) → IsImport part → IsImport (part >>= λ value. Returns (make value))
-made_of make is_import before events result after (goes_on {first = some} {value} {mid} does small.returns) = course_before [] tt (is_import before some (Ok value) mid does)
+made_of make is_import before events result after (goes_on {first = some} {value} {mid} does chain.returns) = course_before [] tt (is_import before some (Ok value) mid does)
 made_of make is_import before events result after (stops {refusal = why} does) = is_import before events (Err why) after does
 
 module _ (rules : Rules) (options : OptionValues) (wraps : WrapKeys) where
@@ -113,8 +115,8 @@ module _ (rules : Rules) (options : OptionValues) (wraps : WrapKeys) where
       (λ grip. quiet_then (is_free HandsNothing still_quiet force grip) (λ free. quiet_then (found_quiet rules options nonce grip) (λ pass. made_of _ (stores_of options.s2k_count key grip pass))))))
 
   back_nothing : {held : Option ℕ} {back : List (Event FurtherEvent)} → Closes None held back (Ok tt) None → HandNothing back
-  back_nothing small.unheld = tt
-  back_nothing (small.closed turn) = (kept_none _, tt)
+  back_nothing turning.unheld = tt
+  back_nothing (turning.closed turn) = (kept_none _, tt)
 
   refusal_nothing : (line : Option (List ℕ)) → HandNothing (said_last {T = session_lines.Took} {O = session_lines.Outcome} {F = FurtherEvent} line)
   refusal_nothing None = tt

@@ -33,6 +33,7 @@ use Rattle.key_commands.specs.KeyParts as parts
 use Rattle.key_commands.specs.Lines.{limit_line}
 use Rattle.key_commands.specs.Parts.{Part, read_fault}
 use Rattle.agent_ask.specs.Parts.{Returns, needed, or_else, wanted, unless}
+use Rattle.agent_ask.specs.Parts as chain
 use Rattle.key_commands.specs.Parts as small
 use Rattle.key_commands.specs.Passphrases.{OpensBy, ClientOld, UncachedOld, OpensLocked, OldPassphrase, VerifiesPassphrase, ClientNew, NewPassphrase, ask_key, way_of}
 use Rattle.key_commands.specs.Wrapping.{WrappedSays}
@@ -169,19 +170,19 @@ module _ (rules : Rules) (kept : Kept) (request : Request) (whole : List (Event 
 
   has_one_of : (earlier grips : List Grip) → (AreUnread whole (earlier ++ grips) → CausedHere code.NoSecKey) → (before : Option ℕ) (events : List (Event FurtherEvent)) (result : Result (Unit {0}) Refusal)
       (after : Option ℕ) → HasOneKey grips before events result after → StandIn (map unread earlier ++ events) whole → ComesHere Anything events result
-  has_one_of earlier [] lacks before events result after small.refuses stands = record {
+  has_one_of earlier [] lacks before events result after chain.refuses stands = record {
     silent = tt;
     explained = lacks (subst (λ l. AreUnread whole l) (sym (append-nil earlier)) (subst (λ e. StandIn e whole) (append-nil (map unread earlier)) stands));
   }
-  has_one_of earlier (grip ∷ more) lacks before events result after (small.goes_on small.found small.returns) stands = record { silent = (tt, tt); explained = tt }
-  has_one_of earlier (grip ∷ more) lacks before events result after (small.goes_on {events = rest} {mid} small.absent does) stands =
+  has_one_of earlier (grip ∷ more) lacks before events result after (chain.goes_on small.found chain.returns) stands = record { silent = (tt, tt); explained = tt }
+  has_one_of earlier (grip ∷ more) lacks before events result after (chain.goes_on {events = rest} {mid} small.absent does) stands =
       let joined : map unread (earlier ++ grip ∷ []) ++ rest ≡ map unread earlier ++ (unread grip ∷ rest) =
       ap (λ e. e ++ rest) (map-append unread earlier (grip ∷ [])) ∙ append_assoc (map unread earlier) (unread grip ∷ []) rest in
       let comes = has_one_of (earlier ++ grip ∷ []) more (λ each. lacks (subst (λ l. AreUnread whole l) (append_assoc earlier (grip ∷ []) more) each)) mid rest result after does
       (subst (λ e. StandIn e whole) (sym joined) stands) in
       record { silent = (tt, comes.silent); explained = comes.explained }
-  has_one_of earlier (grip ∷ more) lacks before events result after (small.stops small.faulted) stands = record { silent = (tt, tt); explained = one _ tt (has_in stands (has_right (map unread earlier) here)) }
-  has_one_of earlier (grip ∷ more) lacks before events result after (small.stops small.no_memory) stands = record { silent = (tt, tt); explained = one _ tt (has_in stands (has_right (map unread earlier) here)) }
+  has_one_of earlier (grip ∷ more) lacks before events result after (chain.stops small.faulted) stands = record { silent = (tt, tt); explained = one _ tt (has_in stands (has_right (map unread earlier) here)) }
+  has_one_of earlier (grip ∷ more) lacks before events result after (chain.stops small.no_memory) stands = record { silent = (tt, tt); explained = one _ tt (has_in stands (has_right (map unread earlier) here)) }
 
   has_one : (grips : List Grip) → (AreUnread whole grips → CausedHere code.NoSecKey) → ExplainsHere (HasOneKey grips) Anything
   has_one grips lacks = record { of = has_one_of [] grips lacks }

@@ -13,6 +13,8 @@ use Rattle.key_commands.specs.KeyParts.{Tells, tells, ReadsFile, Replaces, Prote
 use Rattle.key_commands.specs.KeyParts as parts
 use Rattle.key_commands.specs.Parts.{Writes, Inquires, Finds, Draws}
 use Rattle.agent_ask.specs.TurnParts.{Asks}
+use Rattle.agent_ask.specs.Parts as chain
+use Rattle.agent_ask.specs.TurnParts as turning
 use Rattle.key_commands.specs.Parts as small
 use Rattle.key_commands.specs.Passphrases.{LooksForNonce, Locks, Tries, ask_nonce}
 use Rattle.key_commands.specs.Passphrases as passphrases
@@ -58,10 +60,10 @@ module _ (request : Request) where
 module _ (id : List ℕ) where
   nonce_of : (before : Option ℕ) (events : List (Event FurtherEvent)) (result : Result (Option (List ℕ)) Refusal) (after : Option ℕ) → Asks (ask_nonce id) before events result after → Fit events
       → AllByRecursion IsQuiet events × (after ≡ before)
-  nonce_of before events result after small.given fits = (((λ hands. elim hands [ ]), tt), refl)
-  nonce_of before events result after small.empty fits = (((λ hands. elim hands [ ]), tt), refl)
-  nonce_of before events result after small.opened fits = absurd fits.0
-  nonce_of before events result after (small.interrupted why) fits = (((λ hands. elim hands [ ]), tt), refl)
+  nonce_of before events result after turning.given fits = (((λ hands. elim hands [ ]), tt), refl)
+  nonce_of before events result after turning.empty fits = (((λ hands. elim hands [ ]), tt), refl)
+  nonce_of before events result after turning.opened fits = absurd fits.0
+  nonce_of before events result after (turning.interrupted why) fits = (((λ hands. elim hands [ ]), tt), refl)
 
 pub writes_quiet : (text : List ℕ) → Quiet (Writes text)
 writes_quiet text = record { of = writes_of }
@@ -206,14 +208,14 @@ module _ (request : Request) where
 
   new_nonce_of : (id : List ℕ) → NamesNew request id → (prior : List (Event FurtherEvent)) (before : Option ℕ) (events : List (Event FurtherEvent)) (result : Result (Option (List ℕ)) Refusal) (after : Option ℕ)
       → Asks (ask_nonce id) before events result after → Fit events → AllByRecursion IsQuiet events × (after ≡ before) × HoldsOf (λ found. FoundNew found (prior ++ events)) result
-  new_nonce_of id names prior before events result after small.given fits = (((λ hands. elim hands [ ]), tt), refl, given names (has_right prior here))
-  new_nonce_of id names prior before events result after small.empty fits = (((λ hands. elim hands [ ]), tt), refl, tt)
-  new_nonce_of id names prior before events result after small.opened fits = absurd fits.0
-  new_nonce_of id names prior before events result after (small.interrupted why) fits = (((λ hands. elim hands [ ]), tt), refl, tt)
+  new_nonce_of id names prior before events result after turning.given fits = (((λ hands. elim hands [ ]), tt), refl, given names (has_right prior here))
+  new_nonce_of id names prior before events result after turning.empty fits = (((λ hands. elim hands [ ]), tt), refl, tt)
+  new_nonce_of id names prior before events result after turning.opened fits = absurd fits.0
+  new_nonce_of id names prior before events result after (turning.interrupted why) fits = (((λ hands. elim hands [ ]), tt), refl, tt)
 
   no_nonce_of : (prior : List (Event FurtherEvent)) (before : Option ℕ) (events : List (Event FurtherEvent)) (result : Result (Option (List ℕ)) Refusal) (after : Option ℕ)
       → small.Returns None before events result after → Fit events → AllByRecursion IsQuiet events × (after ≡ before) × HoldsOf (λ found. FoundNew found (prior ++ events)) result
-  no_nonce_of prior before events result after small.returns fits = (tt, refl, tt)
+  no_nonce_of prior before events result after chain.returns fits = (tt, refl, tt)
 
   pub new_nonce_quiet : (id : Option (List ℕ)) → ((nonce : List ℕ) → id ≡ Some nonce → NamesNew request nonce) → QuietWith (LooksForNonce id) FoundNew
   new_nonce_quiet None names = record { of = no_nonce_of }
@@ -233,7 +235,7 @@ module _ (request : Request) where
 
 no_look_of : (before : Option ℕ) (events : List (Event FurtherEvent)) (result : Result (Option (List ℕ)) Refusal) (after : Option ℕ)
     → small.Returns None before events result after → Fit events → AllByRecursion IsQuiet events × (after ≡ before)
-no_look_of before events result after small.returns fits = (tt, refl)
+no_look_of before events result after chain.returns fits = (tt, refl)
 
 pub looks_for_nonce_quiet : (id : Option (List ℕ)) → Quiet (LooksForNonce id)
 looks_for_nonce_quiet None = record { of = no_look_of }

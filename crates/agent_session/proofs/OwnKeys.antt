@@ -31,7 +31,8 @@ use Rattle.key_commands.specs.Parts.{Part, AsksClient, refusal_events}
 use Rattle.agent_ask.specs.TurnParts.{Asks, Changes, Closes}
 use Rattle.agent_ask.specs.Parts.{or_else}
 use Rattle.assuan_server.specs.Written.{refusal_line}
-use Rattle.key_commands.specs.Parts as small
+use Rattle.agent_ask.specs.Parts as chain
+use Rattle.agent_ask.specs.TurnParts as turning
 use Rattle.key_commands.specs.Passphrases.{PromptsOld, PromptsNew, ClientOld, UncachedOld, OpensLocked, ClientNew, TakesSeat, TriesFound, Locks, ask_key, put_key, way_of}
 use Rattle.key_commands.specs.Passphrases as passphrases
 use Rattle.session_client.specs.declared.refusal.Refusal.{Refusal}
@@ -153,10 +154,10 @@ module _ (request : Request) where
       -- a prompt's ticket
       takes_of : (prior : List (Event FurtherEvent)) (before : Option ℕ) (events : List (Event FurtherEvent)) (result : Result (Unit {0}) Refusal) (after : Option ℕ) → TakesSeat grip before events result after
           → Fit events → Ready mode.Ask prior before → AreOwn request prior events × HoldsOf (λ done. IsReadLocked (prior ++ events) grip locked × Seated (prior ++ events) after) result
-      takes_of prior None events result after (small.opened {ticket}) fits pre =
+      takes_of prior None events result after (turning.opened {ticket}) fits pre =
           (((λ hands. elim hands [ ]), tt), (locked_more _ pre.0, seated (has_ticket (by_seat (named unlocks)) (has_right prior here))))
-      takes_of prior None events result after (small.interrupted why) fits pre = (((λ hands. elim hands [ ]), tt), tt)
-      takes_of prior (Some number) events result after small.returns fits pre =
+      takes_of prior None events result after (turning.interrupted why) fits pre = (((λ hands. elim hands [ ]), tt), tt)
+      takes_of prior (Some number) events result after chain.returns fits pre =
           (tt, subst (λ p. IsReadLocked p grip locked × Seated p (Some number)) (sym (append-nil prior)) (pre.0, seat_at pre.1))
         where
           seat_at : TicketAt mode.Ask prior (Some number) → Seated prior (Some number)
@@ -175,8 +176,8 @@ module _ (request : Request) where
       put_of : {word : List ℕ} {limit : ℕ} (pass : List ℕ) (prior : List (Event FurtherEvent)) (before : Option ℕ) (events : List (Event FurtherEvent)) (result : Result (Unit {0}) Refusal) (after : Option ℕ)
           → Changes (put_key grip pass) before events result after → Fit events → Unheld prior before × IsSent prior word limit pass
           → AreOwn request prior events × HoldsOf (λ done. Unheld (prior ++ events) after) result
-      put_of pass prior before events result after small.done fits pre = (((λ hands. whose.sent (of_key (named unlocks)) pre.1), tt), pre.0)
-      put_of pass prior before events result after (small.interrupted why) fits pre = (((λ hands. whose.sent (of_key (named unlocks)) pre.1), tt), tt)
+      put_of pass prior before events result after turning.done fits pre = (((λ hands. whose.sent (of_key (named unlocks)) pre.1), tt), pre.0)
+      put_of pass prior before events result after (turning.interrupted why) fits pre = (((λ hands. whose.sent (of_key (named unlocks)) pre.1), tt), tt)
 
       client_old : (way : PinMode) → OwnSo request Unheld (ClientOld rules options grip locked) (λ opened. OpenedAt way opened.by)
       unfolding ClientOld
@@ -215,12 +216,12 @@ module _ (request : Request) where
 
       asks_of : (way : PinMode) (prior : List (Event FurtherEvent)) (before : Option ℕ) (events : List (Event FurtherEvent)) (result : Result (Option (List ℕ)) Refusal) (after : Option ℕ)
           → Asks (ask_key grip (way_of way)) before events result after → Fit events → Free prior before → AreOwn request prior events × HoldsOf (λ cached. AskedAt way cached (prior ++ events) after) result
-      asks_of way prior before events result after small.given fits pre = (((λ hands. elim hands [ ]), tt), free (locked_more _ pre.0, pre.1))
-      asks_of way prior before events result after small.empty fits pre = (((λ hands. elim hands [ ]), tt), free (locked_more _ pre.0, pre.1))
-      asks_of way prior before events result after (small.opened {ticket}) fits pre =
+      asks_of way prior before events result after turning.given fits pre = (((λ hands. elim hands [ ]), tt), free (locked_more _ pre.0, pre.1))
+      asks_of way prior before events result after turning.empty fits pre = (((λ hands. elim hands [ ]), tt), free (locked_more _ pre.0, pre.1))
+      asks_of way prior before events result after (turning.opened {ticket}) fits pre =
           let wants = wants_of way ticket fits in
           (((λ hands. elim hands [ ]), tt), missed refl (locked_more _ pre.0, own_ticket wants.0 (has_ticket wants.1 (has_right prior here))))
-      asks_of way prior before events result after (small.interrupted why) fits pre = (((λ hands. elim hands [ ]), tt), tt)
+      asks_of way prior before events result after (turning.interrupted why) fits pre = (((λ hands. elim hands [ ]), tt), tt)
 
       tries_free : (pass : Option (List ℕ)) → OwnSo request Free (TriesFound locked pass) (λ opened. Free)
       tries_free None = own_returned request None (λ prior held so. so)
@@ -273,8 +274,8 @@ module _ (request : Request) where
 
     closes_of : (way : PinMode) (by : Option (List ℕ)) (prior : List (Event FurtherEvent)) (before : Option ℕ) (events : List (Event FurtherEvent)) (result : Result (Unit {0}) Refusal) (after : Option ℕ)
         → Closes by before events result after → Fit events → OpenedAt way by prior before → AreOwn request prior events × HoldsOf (λ done. Anything (prior ++ events) after) result
-    closes_of way by prior before events result after small.unheld fits pre = (tt, tt)
-    closes_of way by prior before events result after (small.closed {ticket} turn) fits pre = (((λ hands. opened_own way by prior ticket pre hands), tt), tt)
+    closes_of way by prior before events result after turning.unheld fits pre = (tt, tt)
+    closes_of way by prior before events result after (turning.closed {ticket} turn) fits pre = (((λ hands. opened_own way by prior ticket pre hands), tt), tt)
 
     closes_own : (way : PinMode) (by : Option (List ℕ)) → OwnSo request (OpenedAt way by) (Closes by) (λ done. Anything)
     closes_own way by = record { of = closes_of way by }
@@ -309,18 +310,18 @@ module _ (request : Request) where
 
     keeps_of : (pass : List ℕ) (prior : List (Event FurtherEvent)) (before : Option ℕ) (events : List (Event FurtherEvent)) (result : Result (Unit {0}) Refusal) (after : Option ℕ) → KeepsNew grip pass before events result after
         → Fit events → NewAt pass prior before → AreOwn request prior events × HoldsOf (λ done. Anything (prior ++ events) after) result
-    keeps_of pass prior None events result after small.done fits pre = (((λ hands. put_new pass prior pre), tt), tt)
-    keeps_of pass prior None events result after (small.interrupted why) fits pre = (((λ hands. put_new pass prior pre), tt), tt)
-    keeps_of pass prior (Some number) events result after (small.closed turn) fits pre = (((λ hands. close_new pass prior number pre), tt), tt)
+    keeps_of pass prior None events result after turning.done fits pre = (((λ hands. put_new pass prior pre), tt), tt)
+    keeps_of pass prior None events result after (turning.interrupted why) fits pre = (((λ hands. put_new pass prior pre), tt), tt)
+    keeps_of pass prior (Some number) events result after (turning.closed turn) fits pre = (((λ hands. close_new pass prior number pre), tt), tt)
 
     keeps_new : (pass : List ℕ) → OwnSo request (NewAt pass) (KeepsNew grip pass) (λ done. Anything)
     keeps_new pass = record { of = keeps_of pass }
 
     takes_new : (prior : List (Event FurtherEvent)) (before : Option ℕ) (events : List (Event FurtherEvent)) (result : Result (Unit {0}) Refusal) (after : Option ℕ) → TakesSeat grip before events result after
         → Fit events → TicketAt mode.Ask prior before → AreOwn request prior events × HoldsOf (λ done. Seated (prior ++ events) after) result
-    takes_new prior None events result after small.opened fits pre = (((λ hands. elim hands [ ]), tt), seated (has_ticket (by_seat about) (has_right prior here)))
-    takes_new prior None events result after (small.interrupted why) fits pre = (((λ hands. elim hands [ ]), tt), tt)
-    takes_new prior (Some number) events result after small.returns fits pre = (tt, subst (λ p. Seated p (Some number)) (sym (append-nil prior)) (seat_at pre))
+    takes_new prior None events result after turning.opened fits pre = (((λ hands. elim hands [ ]), tt), seated (has_ticket (by_seat about) (has_right prior here)))
+    takes_new prior None events result after (turning.interrupted why) fits pre = (((λ hands. elim hands [ ]), tt), tt)
+    takes_new prior (Some number) events result after chain.returns fits pre = (tt, subst (λ p. Seated p (Some number)) (sym (append-nil prior)) (seat_at pre))
       where
         seat_at : TicketAt mode.Ask prior (Some number) → Seated prior (Some number)
         seat_at (own_ticket is has) = seated has
@@ -392,8 +393,8 @@ module _ (request : Request) where
         nonce_of : (pass drawn : List ℕ) (prior : List (Event FurtherEvent)) (before : Option ℕ) (events : List (Event FurtherEvent)) (result : Result (Unit {0}) Refusal) (after : Option ℕ)
             → Changes (Put (hex_text (drop 20 drawn)) Nonce Default pass) before events result after → Fit events → NewAt pass prior before × IsDrawn prior 32 drawn
             → AreOwn request prior events × HoldsOf (λ done. NewAt pass (prior ++ events) after) result
-        nonce_of pass drawn prior before events result after small.done fits pre = (((λ hands. nonce_own pass drawn prior before pre.0 pre.1), tt), new_stays_of pass prior _ before pre.0)
-        nonce_of pass drawn prior before events result after (small.interrupted why) fits pre = (((λ hands. nonce_own pass drawn prior before pre.0 pre.1), tt), tt)
+        nonce_of pass drawn prior before events result after turning.done fits pre = (((λ hands. nonce_own pass drawn prior before pre.0 pre.1), tt), new_stays_of pass prior _ before pre.0)
+        nonce_of pass drawn prior before events result after (turning.interrupted why) fits pre = (((λ hands. nonce_own pass drawn prior before pre.0 pre.1), tt), tt)
 
         drawn_stays : (pass drawn : List ℕ) → Stays (λ prior held. NewAt pass prior held × IsDrawn prior 32 drawn)
         drawn_stays pass drawn = record { of = λ prior more held so. (new_stays_of pass prior more held so.0, drawn_more more so.1) }
@@ -496,8 +497,8 @@ module _ (request : Request) where
     refusal_quiet (Some line) = (tt, tt)
 
     back_quiet : {held : Option ℕ} {back : List (Event FurtherEvent)} → Closes None held back (Ok tt) None → AllByRecursion IsQuiet back
-    back_quiet small.unheld = tt
-    back_quiet (small.closed turn) = (kept_none _, tt)
+    back_quiet turning.unheld = tt
+    back_quiet (turning.closed turn) = (kept_none _, tt)
 
     ended_own : (events back last : List (Event FurtherEvent)) → AreOwn request [] events → AllByRecursion IsQuiet back → AllByRecursion IsQuiet last → AreOwn request [] (events ++ (back ++ last))
     ended_own events back last own back_so last_so = own_then request [] events (back ++ last) own (quiet_are_own request events (back ++ last) (each_append IsQuiet back last back_so last_so))

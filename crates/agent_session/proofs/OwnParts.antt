@@ -12,7 +12,7 @@ use Rattle.agent_commands.specs.declared.request.Request.{Request}
 use Rattle.session_client.specs.declared.code.Code.{Code}
 use Rattle.key_commands.specs.Parts.{Part, ◌>>=◌}
 use Rattle.agent_ask.specs.Parts.{Follows, goes_on, stops, Returns, returns, Refuses, needed, wanted}
-use Rattle.key_commands.specs.Parts as small
+use Rattle.agent_ask.specs.Parts as chain
 use Rattle.session_client.specs.declared.refusal.Refusal.{Refusal}
 use Rattle.session_client.specs.declared.refusal.Refusal.TheVariants.{Agent}
 use Rattle.key_commands.proofs.EachEvent.{EachSo}
@@ -181,7 +181,7 @@ module _ (request : Request) where
 
     own_refused_of : (why : Refusal) (prior : List (Event FurtherEvent)) (before : Option ℕ) (events : List (Event FurtherEvent)) (result : Result A Refusal) (after : Option ℕ)
         → Refuses {A = A} why before events result after → Fit events → Pre prior before → AreOwn prior events × HoldsOf (λ value. Post value (prior ++ events) after) result
-    own_refused_of why prior before events result after small.refuses fits pre = (tt, tt)
+    own_refused_of why prior before events result after chain.refuses fits pre = (tt, tt)
 
   module _ {Pre : List (Event FurtherEvent) → Option ℕ → Type 0} where
     pub own_returned : {A : Type 0} {Post : A → List (Event FurtherEvent) → Option ℕ → Type 0} (value : A) → ((prior : List (Event FurtherEvent)) (held : Option ℕ) → Pre prior held → Post value prior held)

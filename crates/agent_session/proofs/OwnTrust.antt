@@ -14,12 +14,16 @@ use Rattle.session_options.specs.declared.rules.Rules.{Rules}
 use Rattle.trust_list.specs.Trust.{trust}
 use Rattle.agent_origin.specs.Exchanges.{unless_said, TrustedNow, Stores, StoresUnsaid, Consented, asked_in, Marked, Carried, TrustExchange}
 use Rattle.agent_origin.specs.Exchanges as trusts
-use Rattle.agent_origin.specs.Parts.{◌>>=◌, UnderTicket, Agrees, ReadsFile, AddsEntry, Replaces}
+use Rattle.agent_origin.specs.Parts.{UnderTicket, Agrees, ReadsFile, AddsEntry, Replaces}
 use Rattle.key_commands.specs.Parts.{Part, refusal_events}
-use Rattle.agent_ask.specs.Parts.{Follows, Returns, Refuses}
+use Rattle.agent_ask.specs.Parts.{◌>>=◌, Follows, Returns, Refuses}
 use Rattle.agent_ask.specs.TurnParts.{Seats}
 use Rattle.assuan_server.specs.Written.{refusal_line}
 use Rattle.agent_origin.specs.Parts as parts
+use Rattle.agent_ask.specs.ConsentParts as consent
+use Rattle.agent_ask.specs.Parts as chain
+use Rattle.agent_ask.specs.TurnParts as turning
+use Rattle.cache_policy.specs.declared.mark.MarkStep.TheVariants.{Seat}
 use Rattle.agent_origin.specs.declared.request.TrustPurpose.{TrustPurpose}
 use Rattle.agent_origin.specs.declared.request.TrustRequest.{TrustRequest}
 use Rattle.agent_origin.specs.declared.request.TrustRequest.TheVariants.{IsTrusted, MarkTrusted, Bad}
@@ -42,44 +46,44 @@ abbrev Idle : List Event → Type 0
 Idle events = AllByRecursion IsIdle events
 
 record Idles {A : Type 0} (part : Part A) : Type 0 where
-  of : {events : List Event} {result : _} → part events result → Idle events
+  of : {before after : Option ℕ} {events : List Event} {result : _} → part before events result after → Idle events
 
 module _ {A B : Type 0} {part : Part A} {next : A → Part B} (first : Idles part) (then : (value : A) → Idles (next value)) where
-  follows_of : {events : List Event} {result : _} → Follows part next events result → Idle events
-  follows_of (parts.goes_on {first = some} {events = more} {value} does next_does) = each_append IsIdle some more (first.of does) ((then value).of next_does)
-  follows_of (parts.stops does) = first.of does
+  follows_of : {before after : Option ℕ} {events : List Event} {result : _} → Follows part next before events result after → Idle events
+  follows_of (chain.goes_on {first = some} {events = more} {value} does next_does) = each_append IsIdle some more (first.of does) ((then value).of next_does)
+  follows_of (chain.stops does) = first.of does
 
   bind : Idles (part >>= next)
   bind = record { of = follows_of }
 
-returns_of : {A : Type 0} {value : A} {events : List Event} {result : _} → Returns value events result → Idle events
-returns_of parts.returns = tt
+returns_of : {A : Type 0} {value : A} {before after : Option ℕ} {events : List Event} {result : _} → Returns value before events result after → Idle events
+returns_of chain.returns = tt
 
-refuses_of : {A : Type 0} {why : _} {events : List Event} {result : _} → Refuses {A = A} why events result → Idle events
-refuses_of parts.refuses = tt
+refuses_of : {A : Type 0} {why : _} {before after : Option ℕ} {events : List Event} {result : _} → Refuses {A = A} why before events result after → Idle events
+refuses_of chain.refuses = tt
 
 refused_idles : {A : Type 0} {why : _} → Idles (Refuses {A = A} why)
 refused_idles = record { of = refuses_of }
 
-seats_of : {events : List Event} {result : _} → Seats events result → Idle events
-seats_of parts.opened = (((λ hands. elim hands [ ]), tt), tt)
-seats_of (parts.interrupted why) = (((λ hands. elim hands [ ]), tt), tt)
+seats_of : {before after : Option ℕ} {events : List Event} {result : _} → Seats (Seat None None) before events result after → Idle events
+seats_of turning.opened = (((λ hands. elim hands [ ]), tt), tt)
+seats_of (turning.interrupted why) = (((λ hands. elim hands [ ]), tt), tt)
 
-agrees_of : {rules : Rules} {options : OptionValues} {question : List ℕ} {events : List Event} {result : _} → Agrees rules options question events result → Idle events
-agrees_of (parts.consents spec is (parts.prompts asks shows)) = each_shown IsIdle still_idle (λ event. (tt, tt)) shows
-agrees_of (parts.refused spec is (parts.prompts asks shows) refusal) = each_shown IsIdle still_idle (λ event. (tt, tt)) shows
+agrees_of : {rules : Rules} {options : OptionValues} {question : List ℕ} {before after : Option ℕ} {events : List Event} {result : _} → Agrees rules options question before events result after → Idle events
+agrees_of (consent.consents spec is prompt) = each_shown IsIdle still_idle (λ event. (tt, tt)) prompt.in_session
+agrees_of (consent.refused spec is prompt refusal) = each_shown IsIdle still_idle (λ event. (tt, tt)) prompt.in_session
 
-reads_of : {events : List Event} {result : _} → ReadsFile events result → Idle events
+reads_of : {before after : Option ℕ} {events : List Event} {result : _} → ReadsFile before events result after → Idle events
 reads_of (parts.has_read is) = ((tt, tt), tt)
 reads_of parts.faulted = ((tt, tt), tt)
 reads_of parts.no_memory = ((tt, tt), tt)
 
-replaces_of : {file : List ℕ} {events : List Event} {result : _} → Replaces file events result → Idle events
+replaces_of : {file : List ℕ} {before after : Option ℕ} {events : List Event} {result : _} → Replaces file before events result after → Idle events
 replaces_of parts.replaced = ((tt, tt), tt)
 replaces_of parts.faulted = ((tt, tt), tt)
 replaces_of parts.no_memory = ((tt, tt), tt)
 
-adds_of : {old : List ℕ} {fingerprint : Grip} {flag : ℕ} {events : List Event} {result : _} → AddsEntry old fingerprint flag events result → Idle events
+adds_of : {old : List ℕ} {fingerprint : Grip} {flag : ℕ} {before after : Option ℕ} {events : List Event} {result : _} → AddsEntry old fingerprint flag before events result after → Idle events
 adds_of (parts.added fits) = tt
 adds_of (parts.too_long long) = tt
 adds_of parts.no_memory = ((tt, tt), tt)
@@ -89,7 +93,7 @@ said_idles (Some true) other = record { of = returns_of }
 said_idles (Some false) other = record { of = refuses_of }
 said_idles None other = other
 
-under_of : {ticket : ℕ} {part : Part (Unit {0})} → Idles part → {events : List Event} {result : _} → UnderTicket ticket part events result → Idle events
+under_of : {part : Part (Unit {0})} → Idles part → {before after : Option ℕ} {events : List Event} {result : _} → UnderTicket part before events result after → Idle events
 under_of idles (parts.given_back {events} turn does) = each_append IsIdle events _ (idles.of does) ((kept_none _, tt), tt)
 
 module _ (rules : Rules) (options : OptionValues) where
@@ -113,7 +117,7 @@ module _ (rules : Rules) (options : OptionValues) where
         consented = bind (record { of = agrees_of }) (λ trusted. bind (record { of = agrees_of }) (λ right. stores_unsaid))
 
         asked : (way : PinMode) → Idles (asked_in rules options fingerprint purpose name way)
-        asked mode.Ask = bind (record { of = seats_of }) (λ ticket. record { of = under_of consented })
+        asked mode.Ask = bind (record { of = seats_of }) (λ seated. record { of = under_of consented })
         asked mode.Cancel = refused_idles
         asked mode.Error = refused_idles
         asked mode.Loopback = refused_idles

@@ -23,7 +23,8 @@ use Rattle.key_commands.specs.Events.{Event, read}
 use Rattle.key_commands.specs.Exchanges.{Exchange, KeyInfoReplies}
 use Rattle.key_commands.specs.Exchanges as key_exchanges
 use Rattle.key_commands.specs.KeyParts as key_parts
-use Rattle.key_commands.specs.Parts as small
+use Rattle.agent_ask.specs.Parts as chain
+use Rattle.agent_ask.specs.TurnParts as turning
 use Rattle.key_commands.specs.Requests.{key_request_of}
 use Rattle.session_client.specs.declared.refusal.Refusal.TheVariants as refusals
 use Rattle.key_commands.specs.declared.request.KeyRequest.TheVariants as on
@@ -77,7 +78,7 @@ module _ (one_canon : (file : List ℕ) (a b : Option (List ℕ)) → Canon file
 
     lacks : Exchange rules kept.options kept.wraps (on.KeyInfo grip) lacking kept.wraps key_went.On
     unfolding KeyInfoReplies
-    lacks = key_exchanges.refused (read grip key_read.Absent ∷ []) None (refusals.Agent code.NoSecKey) (small.stops (key_parts.unread refl)) small.unheld
+    lacks = key_exchanges.refused (read grip key_read.Absent ∷ []) None (refusals.Agent code.NoSecKey) (chain.stops (key_parts.unread refl)) turning.unheld
 
     no_secret_key : HasError code.NoSecKey Agent lacking
     no_secret_key =

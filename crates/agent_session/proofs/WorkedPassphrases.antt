@@ -54,6 +54,7 @@ use Rattle.key_commands.specs.Exchanges.{ImportKeyReplies}
 use Rattle.key_commands.specs.KeyParts as parts
 use Rattle.key_commands.specs.KeyParts.{max_key_data}
 use Rattle.key_commands.specs.Lines.{limit_line}
+use Rattle.agent_ask.specs.TurnParts as turning
 use Rattle.key_commands.specs.Parts as small
 use Rattle.agent_ask.specs.Parts.{goes_on, stops, returns}
 use Rattle.key_commands.specs.Passphrases.{ask_nonce}
@@ -182,7 +183,7 @@ module _ (rules : Rules) (options : OptionValues) (wrap wrapped : List ℕ) (key
   unfolding ImportKeyReplies
   import_fails =
       goes_on returns (goes_on (goes_on small.written (goes_on (parts.asked (small.given refl)) (parts.is_key says))) (goes_on (parts.named named) (goes_on returns
-      (goes_on (goes_on parts.given returns) (stops (goes_on (small.drawn long) (goes_on parts.made (goes_on small.done (stops (parts.not_done refl))))))))))
+      (goes_on (goes_on parts.given returns) (stops (goes_on (small.drawn long) (goes_on parts.made (goes_on turning.done (stops (parts.not_done refl))))))))))
 
   -- the passphrase stays under the nonce, and nothing is kept for the key
   import_stores : ImportCourse (imports ++ Sent (failed code.General) ∷ [])
