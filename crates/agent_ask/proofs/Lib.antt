@@ -9,3 +9,5 @@ pub mod Beside
 pub mod Clients
 pub mod Prompting
 pub mod ConsentParts
+pub mod PartsDone
+pub mod PartsAtClient

@@ -21,3 +21,7 @@ pub mod Parts
 pub mod TurnParts
 pub mod ConsentParts
 pub mod Seats
+pub mod ClientParts
+pub mod PinParts
+pub mod PartExchanges
+pub mod PartStates

@@ -1,6 +1,7 @@
 -- How a request comes by the ticket of a prompt. This is the project's own.
-use Rattle.std.specs.Prelude.{ℕ, Result, Ok, Err}
+use Rattle.std.specs.Prelude.{ℕ, List, Option, Some, None, Result, Ok, Err}
 use Rattle.cache_policy.specs.declared.mark.MarkStep.{MarkStep}
+use Rattle.cache_policy.specs.declared.mark.MarkStep.TheVariants.{Close}
 use Rattle.cache_policy.specs.Turns.{Turn, Open}
 use Rattle.session_client.specs.declared.code.Code.{Code}
 use Rattle.session_client.specs.declared.refusal.Refusal.{Refusal}
@@ -17,3 +18,13 @@ pub record WantsSeat {D : Type 0} (turned : D → MarkStep → Turn → D → Ty
   pub turn : Turn
   pub turned_so : turned desk step turn now
   pub gives : Gives turn result
+
+-- a request that held no ticket wanted the seat: it holds this ticket then, or is refused
+pub data TakesTicket {D : Type 0} (turned : D → MarkStep → Turn → D → Type 0) (step : MarkStep) (desk : D) : Result (Unit {0}) Refusal → Option ℕ → D → Type 0 where
+  taken : {number : ℕ} {now : D} → WantsSeat turned step desk (Ok number) now → TakesTicket turned step desk (Ok tt) (Some number) now
+  refused : {why : Refusal} {now : D} → WantsSeat turned step desk (Err why) now → TakesTicket turned step desk (Err why) None now
+
+-- a request that may hold a ticket gave it back, and this is kept
+pub data GivesTicket {D : Type 0} (turned : D → MarkStep → Turn → D → Type 0) (keep : Option (List ℕ)) : Option ℕ → D → D → Type 0 where
+  unheld : {desk : D} → GivesTicket turned keep None desk desk
+  given : {ticket : ℕ} {desk now : D} (turn : Turn) → turned desk (Close ticket keep) turn now → GivesTicket turned keep (Some ticket) desk now

@@ -1,10 +1,11 @@
 //! The seat before the prompt: it is taken at a desk, by a ticket that is given back.
 
-ghost use Rattle.std.specs.Prelude.{◌≡◌, Ok, Err, Some, None, IfOk, IfErr};
-ghost use Rattle.agent_ask.specs.Seats.{WantsSeat};
+ghost use Rattle.std.specs.Prelude.{◌≡◌, Ok, Err, Some, None, IfOk, IfErr, IsOk, IsSome};
+ghost use Rattle.agent_ask.specs.Seats.{GivesTicket, TakesTicket, WantsSeat};
 ghost use Rattle.cache_policy.specs.declared.mark.MarkStep.TheVariants.{Close, Seat};
 ghost use Rattle.cache_policy.specs.Turns.{Turn, asked_step, closes};
 
+use crate::held::Held;
 use cache_policy::{Desk, Refused, Reply, Secret, Step, Under};
 use prompt_seat::Ticket;
 use session_client::{Code, Refusal};
@@ -49,5 +50,35 @@ pub fn give_back<D: Desk>(ticket: Ticket, keep: Option<Secret>, desk: &mut D)
     match desk.turn(Step::Close { ticket, keep }) {
         Ok(Reply::Done | Reply::Stopping) => {}
         Ok(_) | Err(_) => unreachable!(),
+    }
+}
+
+/// Takes the seat for a prompt of a request, which holds its ticket then. The passphrase is cached
+/// so where the prompt is one for a passphrase.
+pub fn hold_seat<D: Desk>(
+    under: Option<Under>,
+    held: &mut Held,
+    desk: &mut D,
+) -> Result<(), Refusal>
+    requires none { held.old ≡ None }
+    requires out { (D.at desk.old).out ≡ held.old }
+    ensures taken { TakesTicket D.turned (Seat under None) desk.old result held.new desk.new }
+    ensures out { (D.at desk.new).out ≡ held.new }
+    ensures seated { IsOk result → IsSome held.new }
+{
+    let ticket = take_seat(under, desk)?;
+    held.put(ticket);
+    Ok(())
+}
+
+/// Gives the ticket of a request back, where it holds one, with the passphrase that is kept.
+pub fn close<D: Desk>(keep: Option<Secret>, held: &mut Held, desk: &mut D)
+    requires out { (D.at desk.old).out ≡ held.old }
+    ensures given { GivesTicket D.turned keep held.old desk.old desk.new }
+    ensures none { held.new ≡ None }
+    ensures out { (D.at desk.new).out ≡ None }
+{
+    if let Some(ticket) = held.take() {
+        give_back(ticket, keep, desk);
     }
 }

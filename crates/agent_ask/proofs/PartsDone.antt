@@ -1,0 +1,155 @@
+-- Parts of a request that were done, one after another, and those that stand beside a desk and further ends that they have nothing to do with.
+use Rattle.std.proofs.Common.{◌≡◌, ◌≤◌, ℕ, List, [], ◌∷◌, ◌++◌, Option, Some, None, Result, Ok, Err, refl, arith}
+use Rattle.cache_policy.specs.declared.mark.MarkStep.{MarkStep}
+use Rattle.cache_policy.specs.declared.mark.MarkStep.TheVariants.{Close}
+use Rattle.cache_policy.specs.Turns.{Turn, Open}
+use Rattle.session_client.specs.Lines.{Lines, Views, IsOpen}
+use Rattle.session_client.specs.declared.refusal.Refusal.{Refusal}
+use Rattle.session_client.specs.declared.unheard.Gone.{Gone}
+use Rattle.agent_ask.specs.Further.{FurtherEvent, EventOf, world_with}
+use Rattle.agent_ask.specs.Parts.{PartOf, ◌>>=◌, goes_on, stops}
+use Rattle.agent_ask.specs.PartStates.{PartState, part_state, ReaderLeft, FaultsCounted, gone_in, DoesPart, NoTurn, NoEnd, DoesWithClient, DoesTurn, DoesTurns, still, one}
+use Rattle.agent_ask.specs.Seats.{Gives, WantsSeat, TakesTicket, GivesTicket, opened as ticket_opened, interrupted as ticket_refused, taken, refused, unheld, given}
+use Rattle.agent_ask.specs.SessionEvents.{AnyEvent, cache_turn}
+use Rattle.agent_ask.specs.TurnParts.{Asks, Seats, Changes, Closes, closed}
+use Rattle.agent_ask.specs.TurnParts as turns
+use Rattle.agent_ask.proofs.Beside.{done_in}
+use Rattle.agent_ask.proofs.Doing.{done_none, done_then, done_turned}
+
+module _ {lines : Lines} {C : Type 0} (views : Views lines C) where
+  -- a reader that holds no more than another did
+  pub reader_from : (how : Option Gone) (start mid now : C) → views.held mid ≤ views.held start → ReaderLeft views how mid now → ReaderLeft views how start now
+  reader_from None start mid now fewer fits = (fits.0, omega (arith, fewer, fits.1))
+  reader_from (Some how) start mid now fewer fits = fits
+
+  -- a part that leaves the connection alone, and after which the session goes on
+  still_open : (how : Option Gone) → how ≡ None → (conn : C) → IsOpen views conn → ReaderLeft views how conn conn
+  still_open how on conn going = rw on (going, omega arith)
+
+  no_fault : (how : Option Gone) → how ≡ None → (start now : C) → FaultsCounted views how start now
+  no_fault how on start now = rw on (record { read = λ e. absurd (cc e); write = λ e. absurd (cc e) })
+
+  module _ {D E : Type 0} (turned : D → MarkStep → Turn → D → Type 0) (further : E → FurtherEvent → E → Type 0) where
+    -- a part came to a value, and then the next was done
+    pub part_then : {A B : Type 0} {part : PartOf (EventOf lines) A} {next : A → PartOf (EventOf lines) B} {before mid after : Option ℕ} {start between now : PartState views turned further}
+        {value : A} {result : Result B Refusal} → DoesPart views turned further part before start (Ok value) mid between
+        → DoesPart views turned further (next value) mid between result after now → DoesPart views turned further (part >>= next) before start result after now
+    part_then {start} {between} {now} {result} first second = record {
+      events = first.events ++ second.events;
+      does = goes_on first.does second.does;
+      done = done_then first.done second.done;
+      fits = reader_from (gone_in result) start.conn between.conn now.conn first.fits.1 second.fits;
+      faults = record {
+        read = λ e. omega (arith, first.done.input_faults, second.faults.read e);
+        write = λ e. omega (arith, first.done.output_faults, second.faults.write e);
+      };
+    }
+
+    -- a part was refused, and nothing is done behind it
+    pub part_stops : {A B : Type 0} {part : PartOf (EventOf lines) A} {next : A → PartOf (EventOf lines) B} {before after : Option ℕ} {start now : PartState views turned further} {why : Refusal}
+        → DoesPart views turned further part before start (Err why) after now → DoesPart views turned further (part >>= next) before start (Err why) after now
+    part_stops first = record { events = first.events; does = stops first.does; done = first.done; fits = first.fits; faults = first.faults }
+
+    module _ (conn : C) (ends : E) where
+      -- one turn at the desk
+      pub part_turned : {A : Type 0} {part : PartOf (EventOf lines) A} {before after : Option ℕ} {result : Result A Refusal} {desk now : D} → IsOpen views conn → gone_in result ≡ None
+          → DoesTurn turned part before desk result after now
+          → DoesPart views turned further part before (part_state views turned further conn desk ends) result after (part_state views turned further conn now ends)
+      part_turned {result} {desk} {now} going on done = record {
+        events = cache_turn done.step done.turn ∷ [];
+        does = done.does;
+        done = done_turned {w = world_with {lines = lines} turned further} done.step done.turn conn desk now ends done.turned_so;
+        fits = still_open (gone_in result) on conn going;
+        faults = no_fault (gone_in result) on conn conn;
+      }
+
+      -- nothing
+      pub part_still : {A : Type 0} {part : PartOf (EventOf lines) A} {before after : Option ℕ} {result : Result A Refusal} (desk : D) → IsOpen views conn → gone_in result ≡ None
+          → part before [] result after
+          → DoesPart views turned further part before (part_state views turned further conn desk ends) result after (part_state views turned further conn desk ends)
+      part_still {result} desk going on does = record {
+        events = [];
+        does = does;
+        done = done_none (part_state views turned further conn desk ends);
+        fits = still_open (gone_in result) on conn going;
+        faults = no_fault (gone_in result) on conn conn;
+      }
+
+      -- one turn at most
+      pub part_turns : {A : Type 0} {part : PartOf (EventOf lines) A} {before after : Option ℕ} {result : Result A Refusal} {desk now : D} → IsOpen views conn → gone_in result ≡ None
+          → DoesTurns turned part before desk result after now
+          → DoesPart views turned further part before (part_state views turned further conn desk ends) result after (part_state views turned further conn now ends)
+      part_turns {desk} going on (still does) = part_still desk going on does
+      part_turns going on (one done) = part_turned going on done
+
+  -- Each turn of a desk is one of another desk that holds it, and each event at some further ends is one at others that hold them.
+  module _ {B D E Whole : Type 0} (part_turned : B → MarkStep → Turn → B → Type 0) (part_further : E → FurtherEvent → E → Type 0)
+      (turned : D → MarkStep → Turn → D → Type 0) (further : Whole → FurtherEvent → Whole → Type 0) (desk_of : B → D) (put : E → Whole)
+      (each_turn : (before after : B) (step : MarkStep) (turn : Turn) → part_turned before step turn after → turned (desk_of before) step turn (desk_of after))
+      (each : (before after : E) (what : FurtherEvent) → part_further before what after → further (put before) what (put after)) where
+    abbrev pub state_of : PartState views part_turned part_further → PartState views turned further
+    state_of at = record { conn = at.conn; desk = desk_of at.desk; ends = put at.ends }
+
+    pub part_in : {A : Type 0} {part : PartOf (EventOf lines) A} {before after : Option ℕ} {result : Result A Refusal} {start now : PartState views part_turned part_further}
+        → DoesPart views part_turned part_further part before start result after now → DoesPart views turned further part before (state_of start) result after (state_of now)
+    part_in done = record {
+      events = done.events;
+      does = done.does;
+      done = done_in part_turned turned part_further further desk_of put each_turn each done.done;
+      fits = done.fits;
+      faults = done.faults;
+    }
+
+  module _ {D E : Type 0} (turned : D → MarkStep → Turn → D → Type 0) (further : E → FurtherEvent → E → Type 0) {A : Type 0} {part : PartOf (EventOf lines) A} {result : Result A Refusal}
+      {conn now : C} where
+    -- a part at the client alone, with a desk and further ends beside
+    pub beside_client : (held : Option ℕ) (desk : D) (ends : E) → DoesWithClient views part conn result now
+        → DoesPart views turned further part held (part_state views turned further conn desk ends) result held (part_state views turned further now desk ends)
+    beside_client held desk ends done =
+        part_in NoTurn NoEnd turned further (λ none. desk) (λ none. ends) (λ before after step turn never. absurd never) (λ before after what never. absurd never) (done held)
+
+  -- a connection is open after a part that came to a value
+  pub open_after : {A : Type 0} {part : PartOf (EventOf lines) A} {value : A} {conn now : C} → DoesWithClient views part conn (Ok value) now → IsOpen views now
+  open_after done = (done None).fits.0
+
+-- ---- tickets
+
+module _ {T O F D : Type 0} {turned : D → MarkStep → Turn → D → Type 0} {desk now : D} where
+  opened_by : {step : MarkStep} {turn : Turn} {number : ℕ} → turned desk step turn now → Gives turn (Ok number)
+      → DoesTurn turned (Seats {T = T} {O = O} {F = F} step) None desk (Ok tt) (Some number) now
+  opened_by {step} {number} turned_so ticket_opened = record { step = step; turn = Open number; turned_so = turned_so; does = turns.Seats.opened }
+
+  refused_by : {step : MarkStep} {turn : Turn} {why : Refusal} → turned desk step turn now → Gives turn (Err why)
+      → DoesTurn turned (Seats {T = T} {O = O} {F = F} step) None desk (Err why) None now
+  refused_by {step} {turn} turned_so (ticket_refused by) = record { step = step; turn = turn; turned_so = turned_so; does = turns.Seats.interrupted by }
+
+  -- a request took the seat, or is refused
+  pub ticket_taken : {step : MarkStep} {result : Result (Unit {0}) Refusal} {after : Option ℕ} → TakesTicket turned step desk result after now
+      → DoesTurn turned (Seats {T = T} {O = O} {F = F} step) None desk result after now
+  ticket_taken (taken wants) = opened_by wants.turned_so wants.gives
+  ticket_taken (refused wants) = refused_by wants.turned_so wants.gives
+
+-- a request gave its ticket back
+pub ticket_given : {T O F D : Type 0} {turned : D → MarkStep → Turn → D → Type 0} {desk now : D} {keep : Option (List ℕ)} {before : Option ℕ} → GivesTicket turned keep before desk now
+    → DoesTurns turned (Closes {T = T} {O = O} {F = F} keep) before desk (Ok tt) None now
+ticket_given unheld = still turns.Closes.unheld
+ticket_given (given {ticket} turn turned_so) = one (record { step = Close ticket _; turn = turn; turned_so = turned_so; does = closed turn })
+
+-- ---- parts that are refused by errors of the agent's own, after which the session goes on
+
+pub asks_on : {T O F : Type 0} {step : MarkStep} {before after : Option ℕ} {events : List (AnyEvent T O F)} {result : Result (Option (List ℕ)) Refusal}
+    → Asks step before events result after → gone_in result ≡ None
+asks_on turns.Asks.given = refl
+asks_on turns.Asks.empty = refl
+asks_on turns.Asks.opened = refl
+asks_on (turns.Asks.interrupted by) = refl
+
+pub seats_on : {T O F : Type 0} {step : MarkStep} {before after : Option ℕ} {events : List (AnyEvent T O F)} {result : Result (Unit {0}) Refusal}
+    → Seats step before events result after → gone_in result ≡ None
+seats_on turns.Seats.opened = refl
+seats_on (turns.Seats.interrupted by) = refl
+
+pub changes_on : {T O F : Type 0} {step : MarkStep} {before after : Option ℕ} {events : List (AnyEvent T O F)} {result : Result (Unit {0}) Refusal}
+    → Changes step before events result after → gone_in result ≡ None
+changes_on turns.Changes.done = refl
+changes_on (turns.Changes.interrupted by) = refl

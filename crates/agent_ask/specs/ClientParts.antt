@@ -1,0 +1,31 @@
+-- The parts of a request that are done with its client. This is the project's own.
+use Rattle.std.specs.Prelude.{◌≡◌, ℕ, ◌++◌, List, [], ◌∷◌, Option, Result, Ok, Err}
+use Rattle.session_client.specs.Asking.{AnyInquired, said_by}
+use Rattle.session_client.specs.Lines.{Lines}
+use Rattle.session_client.specs.declared.refusal.Refusal.{Refusal}
+use Rattle.session_client.specs.declared.refusal.Refusal.TheVariants.{Client}
+use Rattle.session_client.specs.declared.unheard.Gone.TheVariants as gone
+use Rattle.session_client.specs.declared.unheard.Unheard.{Unheard}
+use Rattle.session_client.specs.declared.unheard.Unheard.TheVariants as unheard
+use Rattle.agent_ask.specs.Further.{EventOf}
+use Rattle.agent_ask.specs.Parts.{PartOf, ◌>>=◌}
+use Rattle.agent_ask.specs.SessionEvents.{AnyEvent, Sent, Cut, Inquiry}
+
+-- a text is written, or its write fails and the client is gone
+pub data Writes {T O F : Type 0} (text : List ℕ) (held : Option ℕ) : List (AnyEvent T O F) → Result (Unit {0}) Refusal → Option ℕ → Type 0 where
+  written : Writes text held (Sent text ∷ []) (Ok tt) held
+  cut : {sent : List ℕ} (unsent : List ℕ) → text ≡ sent ++ unsent → Writes text held (Cut sent ∷ []) (Err (Client (unheard.Gone gone.WriteFault))) held
+
+module _ (lines : Lines) where
+  -- the client is asked by a word for so many bytes at most, and gives them or says something else
+  pub data Inquires (word : List ℕ) (limit : ℕ) (held : Option ℕ) : List (EventOf lines) → Result (List ℕ) Refusal → Option ℕ → Type 0 where
+    given : {bytes : List ℕ} {inquired : AnyInquired lines.Outcome} → said_by lines inquired ≡ Ok bytes
+        → Inquires word limit held (Inquiry word [] limit inquired ∷ []) (Ok bytes) held
+    not_given : {why : Unheard} {inquired : AnyInquired lines.Outcome} → said_by lines inquired ≡ Err why
+        → Inquires word limit held (Inquiry word [] limit inquired ∷ []) (Err (Client why)) held
+
+  -- it is told something first
+  abbrev pub AsksClient : (told word : List ℕ) (limit : ℕ) → PartOf (EventOf lines) (List ℕ)
+  AsksClient told word limit = do
+    wrote ← Writes told
+    Inquires word limit
