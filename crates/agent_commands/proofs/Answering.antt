@@ -3,61 +3,19 @@ use Rattle.std.proofs.Common.{◌≡◌, ℕ, List, [], ◌∷◌, ◌++◌, Non
 use Rattle.agent_ports.specs.Sides.{Side}
 use Rattle.assuan_line.specs.Next.{Reader, held}
 use Rattle.assuan_server.specs.Connections.{Connection}
-use Rattle.session_options.specs.OptionValues.{OptionValues}
 use Rattle.agent_commands.specs.Events.{Event}
 use Rattle.agent_ask.specs.SessionEvents.{Sent, Cut}
 use Rattle.agent_commands.specs.Outside.{World}
 use Rattle.agent_ports.specs.Writing.{StopsWriting}
 use Rattle.agent_commands.specs.States.{SessionState, AnswersRequest, ReaderAfter}
 use Rattle.assuan_server.specs.Written.{WritesText}
-use Rattle.agent_commands.specs.Steps.{RespondsTo, silent, written, cut as stopped, CarriesOut}
 use Rattle.agent_commands.specs.Talks.{whole, cut}
-use Rattle.agent_commands.specs.declared.answer.Answer.{Answer}
 use Rattle.agent_ports.specs.declared.link.WriteFault.{WriteFault}
 use Rattle.agent_commands.specs.declared.went.SessionEnd.TheVariants.{WriteFault as CutOff}
 use Rattle.agent_commands.specs.declared.went.Went.{Went}
 use Rattle.agent_commands.specs.declared.went.Went.TheVariants.{On, End}
 use Rattle.agent_ask.proofs.Doing.{done_none, done_then, done_said, done_cut}
 use Rattle.assuan_server.proofs.Clients.{said_so}
-
-module _ {w : World} (exchange : OptionValues → List (Event w.Further) → OptionValues → Went → Type 0) (before after : OptionValues) (desk : w.Desk) (ends : w.Ends) where
-  abbrev at_conn : Connection → SessionState w
-  at_conn conn = record { conn = conn; desk = desk; ends = ends }
-
-  pub answered : (start : SessionState w) (answer : Answer) (mid now : Connection) (went : Went) → CarriesOut (exchange before) start answer after (at_conn mid)
-      → RespondsTo answer mid went now → AnswersRequest exchange before start went after (at_conn now)
-  answered start answer mid now went prepared (silent none) = record {
-    events = prepared.events ++ [];
-    exchanges = whole (prepared.exchanges [] (rw none refl));
-    done = done_then prepared.done (done_none (at_conn mid));
-    fits = prepared.fits;
-    faults = prepared.faults;
-  }
-  answered start answer mid now went prepared (written response text is text_is said) = record {
-    events = prepared.events ++ (Sent text ∷ []);
-    exchanges = whole (prepared.exchanges (Sent text ∷ []) (rw is (text, text_is, refl)));
-    done = done_then prepared.done (done_said desk ends (said_so said));
-    fits = subst (λ (r : Reader). ReaderAfter answer.went start.conn.reader r) (sym said.reader) prepared.fits;
-    faults = record {
-      read = λ e. omega (arith, prepared.faults.read e, ap (λ (s : Side). s.faults) said.input);
-      write = λ e. omega (arith, prepared.faults.write e, said.output.faults);
-    };
-  }
-  answered start answer mid now went prepared (stopped response text fault is text_is said) =
-      let stops : StopsWriting text mid.output now.output = said.output.went in
-      record {
-        events = prepared.events ++ (Cut stops.sent ∷ []);
-        exchanges = cut (prepared.exchanges (Sent text ∷ []) (rw is (text, text_is, refl))) (record {
-          before = prepared.events;
-          sent = stops.sent;
-          unsent = stops.unsent;
-          whole = ap (λ (x : List ℕ). prepared.events ++ (Sent x ∷ [])) stops.split;
-          done_is = refl;
-        });
-        done = done_then prepared.done (done_cut desk ends fault (said_so said));
-        fits = tt;
-        faults = record { read = λ e. absurd (cc e); write = λ e. omega (arith, prepared.done.output_faults, stops.rose) };
-      }
 
 module _ {w : World} {S : Type 0} (exchange : S → List (Event w.Further) → S → Went → Type 0) (before after : S) (start : SessionState w) (now : Connection) (text : List ℕ)
     (on : exchange before (Sent text ∷ []) after On) where

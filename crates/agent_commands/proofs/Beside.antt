@@ -1,16 +1,12 @@
 -- What is done at some further ends, with others beside them.
 use Rattle.std.proofs.Common.{List}
-use Rattle.agent_ask.specs.Events.{Call}
 use Rattle.agent_ask.specs.Further.{FurtherEvent, world_with}
 use Rattle.agent_ask.proofs.Beside.{done_beside}
 use Rattle.cache_policy.specs.declared.mark.MarkStep.{MarkStep}
 use Rattle.cache_policy.specs.Turns.{Turn}
 use Rattle.agent_commands.specs.Events.{Event}
-use Rattle.agent_commands.specs.Outside.{world, prompt_world, DoesPrompts}
-use Rattle.agent_commands.specs.States.{SessionState, prompt_state, AnswersRequest}
-use Rattle.agent_commands.specs.Steps.{Carries}
+use Rattle.agent_commands.specs.States.{SessionState, AnswersRequest}
 use Rattle.agent_commands.specs.Talks.{WholeOrCut, whole, cut}
-use Rattle.agent_commands.specs.declared.answer.Answer.{Answer}
 use Rattle.agent_commands.specs.declared.went.Went.{Went}
 
 -- an exchange that is one of another relation too
@@ -36,15 +32,3 @@ module _ {D E Whole : Type 0} (turned : D → MarkStep → Turn → D → Type 0
     fits = done.fits;
     faults = record { read = done.faults.read; write = done.faults.write };
   }
-
--- a part that was done without the prompter, with it beside
-pub carry_beside : {D P : Type 0} (turned : D → MarkStep → Turn → D → Type 0) (prompted : P → Call → P → Type 0) (prompter : P) {part : List (Event FurtherEvent) → Went → Type 0}
-    {start now : SessionState (world turned)} {answer : Answer} → Carries {w = world turned} part start answer now
-    → Carries {w = prompt_world turned prompted} part (prompt_state turned prompted start.conn start.desk prompter) answer (prompt_state turned prompted now.conn now.desk prompter)
-carry_beside turned prompted prompter done = record {
-  events = done.events;
-  exchanges = done.exchanges;
-  done = done_beside turned (λ before what after. ⊥) (DoesPrompts prompted) (λ none. prompter) (λ before after what never. absurd never) done.done;
-  fits = done.fits;
-  faults = record { read = done.faults.read; write = done.faults.write };
-}

@@ -1,11 +1,8 @@
 pub mod Answering
 pub mod Beside
+mod Asking
 mod Carrying
-mod Ending
 mod Helping
-mod Inquiring
-mod Looking
-mod Preparing
-mod Presetting
+mod Replying
 mod Quieting
 mod WorkedExamples

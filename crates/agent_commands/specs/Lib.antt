@@ -5,8 +5,10 @@ pub mod Exchanges
 pub mod Fields
 pub mod Names
 pub mod Outside
-pub mod Prompting
+pub mod Parts
+pub mod Passphrases
 pub mod Requests
+pub mod Sources
 pub mod States
 pub mod Steps
 pub mod Talks

@@ -1,82 +1,63 @@
--- Private: what a request takes, step by step: what is done for it, and then its response.
-use Rattle.std.specs.Option.{option_map}
-use Rattle.std.specs.Prelude.{◌≡◌, ℕ, Bool, List, [], ◌∷◌, ◌++◌, codes, decimal, Option, Some, None, Result, Ok as Whole, Err as Part, ⊤}
-use Rattle.agent_ask.specs.declared.ask.Asked.{Asked}
-use Rattle.agent_ask.specs.declared.ask.Asked.TheVariants as prompted
-use Rattle.agent_ask.specs.Callers.{unheard_of, IsUnheardBy}
-use Rattle.agent_ask.specs.declared.consent.Agreed.{Agreed}
-use Rattle.agent_ask.specs.declared.consent.Agreed.TheVariants as agreed
-use Rattle.agent_ports.specs.declared.link.Sent.TheVariants.{All, Failed as SentPart}
-use Rattle.assuan_server.specs.Connections.{Connection}
-use Rattle.assuan_server.specs.Written.{HasWritten, failed, failed_at_pinentry, WritesText}
-use Rattle.session_client.specs.declared.code.Code.{Code}
-use Rattle.session_client.specs.declared.code.Code.TheVariants as code
+-- Private: what the steps of a request know, and what is written for it, once all else is done.
+use Rattle.std.specs.Prelude.{◌≡◌, ℕ, Bool, List, decimal, Option, None, Result, Ok as Whole, Err as Part}
+use Rattle.agent_ask.specs.Events.{Call}
+use Rattle.agent_ask.specs.Further.{FurtherEvent}
+use Rattle.agent_ask.specs.Parts.{Refuses}
+use Rattle.agent_ask.specs.TurnParts.{Asks, Changes, Closes, Seats}
+use Rattle.agent_ask.specs.PartStates.{PartState, part_state, DoesPart, NoTurn, NoEnd, DoesTurns}
+use Rattle.agent_ports.specs.declared.link.WriteFault.{WriteFault as Fault}
 use Rattle.assuan_server.specs.Clients.{connection_views}
-use Rattle.session_client.specs.Refusals.{refusal_code}
-use Rattle.cache_policy.specs.declared.secret.TheConstants.{MAX_SECRET_LEN}
-use Rattle.session_client.specs.Asking.{AsksClient, gone_of}
-use Rattle.session_client.specs.declared.unheard.Unheard.{Unheard}
-use Rattle.cache_policy.specs.declared.grant.Grant.{Grant}
-use Rattle.cache_policy.specs.declared.life.Life.TheVariants.{Default}
+use Rattle.assuan_server.specs.Connections.{Connection}
+use Rattle.assuan_server.specs.Written.{WritesText, WritesLine, refusal_line}
 use Rattle.cache_policy.specs.declared.mark.MarkStep.{MarkStep}
 use Rattle.cache_policy.specs.declared.mark.MarkStep.TheVariants.{Put, Clear, Flush, Stop}
-use Rattle.cache_policy.specs.declared.mode.Mode.TheVariants.{User}
-use Rattle.cache_policy.specs.Turns.{Turn, Given as TurnGiven, Empty, Done}
+use Rattle.cache_policy.specs.Turns.{Turn}
+use Rattle.session_client.specs.Refusals.{gone_by}
+use Rattle.session_client.specs.declared.code.Code.TheVariants as code
+use Rattle.session_client.specs.declared.refusal.Refusal.{Refusal}
+use Rattle.session_client.specs.declared.refusal.Refusal.TheVariants.{Agent}
 use Rattle.session_options.specs.OptionValues.{OptionValues}
+use Rattle.session_options.specs.declared.options.OptionAnswer.{OptionAnswer}
+use Rattle.session_options.specs.declared.options.OptionAnswer.TheVariants.{Set, Unknown, Parameter, NotSupported}
+use Rattle.session_options.specs.declared.rules.Rules.{Rules}
 use Rattle.agent_commands.specs.Answers.{ok, closing, help, version_text, IsDataAnswer, IsPassphrase}
 use Rattle.agent_commands.specs.Endings.{went_after}
-use Rattle.agent_commands.specs.Events.{Event}
-use Rattle.agent_ask.specs.SessionEvents.{Sent}
-use Rattle.agent_ask.specs.Interrupts.{Interrupts}
-use Rattle.agent_commands.specs.Exchanges.{ask, limit_line}
-use Rattle.agent_commands.specs.Outside.{World}
-use Rattle.agent_commands.specs.declared.answer.Answer.{Answer}
+use Rattle.agent_commands.specs.Exchanges.{CacheReply}
+use Rattle.agent_commands.specs.Outside.{DoesPrompts}
+use Rattle.agent_commands.specs.Parts.{Part as PartIn}
+use Rattle.agent_commands.specs.Passphrases.{Passphrase as ThePassphrase, ByCache}
+use Rattle.agent_commands.specs.declared.request.Info.{Info}
+use Rattle.agent_commands.specs.declared.request.Info.TheVariants as info
 use Rattle.agent_commands.specs.declared.request.CacheCommand.{CacheCommand}
 use Rattle.agent_commands.specs.declared.request.CacheCommand.TheVariants.{GetPassphrase, PresetPassphrase, GetConfirmation}
 use Rattle.agent_commands.specs.declared.response.Response.{Response}
-use Rattle.agent_commands.specs.declared.response.Response.TheVariants.{Ok, Closing, Help, Version, Number, Given, Passphrase, Failed, FailedAtPinentry}
-use Rattle.agent_ports.specs.declared.link.WriteFault.{WriteFault as Fault}
-use Rattle.agent_commands.specs.declared.went.SessionEnd.TheVariants.{WriteFault}
+use Rattle.agent_commands.specs.declared.response.Response.TheVariants.{Ok, Bye, Killed, Help, Version, Number, Passphrase}
+use Rattle.agent_commands.specs.declared.went.SessionEnd.TheVariants as ends
 use Rattle.agent_commands.specs.declared.went.Went.{Went}
 use Rattle.agent_commands.specs.declared.went.Went.TheVariants.{On, End}
-use Rattle.agent_commands.specs.States.{SessionState, EventsLead, ReaderAfter, FaultsRise}
 
--- the lines of a response
+-- the lines of a response, and how the session goes on after it
 abbrev pub IsText : Response → List ℕ → Type 0
 IsText Ok text = text ≡ ok
-IsText Closing text = text ≡ closing
+IsText Bye text = text ≡ closing
+IsText Killed text = text ≡ closing
 IsText Help text = text ≡ help
 IsText Version text = IsDataAnswer version_text text
 IsText (Number number) text = IsDataAnswer (decimal number) text
-IsText (Given grant plain) text = IsPassphrase plain grant.entry.secret text
 IsText (Passphrase secret plain) text = IsPassphrase plain secret text
-IsText (Failed code) text = text ≡ failed code
-IsText (FailedAtPinentry code) text = text ≡ failed_at_pinentry code
 
--- what the response of a request does
-abbrev pub Responds : {F : Type 0} → Option Response → List (Event F) → Type 0
-Responds None more = more ≡ []
-Responds (Some response) more = (text : List ℕ) × IsText response text × (more ≡ Sent text ∷ [])
+abbrev pub went_of : Response → Went
+went_of Bye = End ends.Bye
+went_of Killed = End ends.Killed
+went_of _ = On
 
--- all was done for a part of a request but its response
-pub record Carries {w : World} (part : List (Event w.Further) → Went → Type 0) (start : SessionState w) (answer : Answer) (now : SessionState w) : Type 0 where
-  pub events : List (Event w.Further)
-  pub exchanges : (more : List (Event w.Further)) → Responds answer.response more → part (events ++ more) answer.went
-  pub done : EventsLead events start now
-  pub fits : ReaderAfter answer.went start.conn.reader now.conn.reader
-  pub faults : FaultsRise answer.went start now
-
--- and for all of it
-abbrev pub CarriesOut : {w : World} → (List (Event w.Further) → OptionValues → Went → Type 0) → SessionState w → Answer → OptionValues → SessionState w → Type 0
-CarriesOut exchange start answer after now = Carries (λ events went. exchange events after went) start answer now
-
--- the response of an answer was written, whole or in part, where there is one
-pub data RespondsTo (answer : Answer) (before : Connection) : Went → Connection → Type 0 where
-  silent : answer.response ≡ None → RespondsTo answer before answer.went before
-  written : {after : Connection} (response : Response) (text : List ℕ) → answer.response ≡ Some response → IsText response text
-      → WritesText text before (Whole tt) after → RespondsTo answer before answer.went after
-  cut : {after : Connection} (response : Response) (text : List ℕ) (fault : Fault) → answer.response ≡ Some response → IsText response text
-      → WritesText text before (Part fault) after → RespondsTo answer before (End WriteFault) after
+-- a step that changes the cache, and gives no ticket back
+abbrev pub IsChange : MarkStep → Type 0
+IsChange (Put id mode life secret) = Unit {0}
+IsChange (Clear id mode) = Unit {0}
+IsChange Flush = Unit {0}
+IsChange Stop = Unit {0}
+IsChange _ = ⊥
 
 -- a GET_PASSPHRASE
 abbrev pub IsGet : CacheCommand → Type 0
@@ -90,84 +71,75 @@ AsksNobody (PresetPassphrase id life secret) = ⊥
 AsksNobody (GetConfirmation description) = ⊥
 AsksNobody _ = Unit {0}
 
--- a step that changes the cache, and gives no ticket back
-abbrev pub IsChange : MarkStep → Type 0
-IsChange (Put id mode life secret) = Unit {0}
-IsChange (Clear id mode) = Unit {0}
-IsChange Flush = Unit {0}
-IsChange Stop = Unit {0}
-IsChange _ = ⊥
+-- turns as parts of a request on the cache
+abbrev pub CacheChange : MarkStep → PartIn (Unit {0})
+CacheChange step = Changes step
 
--- how the turn of such a step is answered, which is so once it is done
-pub data AnswersTurn (done : Answer) : Turn → Answer → Type 0 where
-  is_done : AnswersTurn done Done done
-  is_interrupted : {turn : Turn} {code : Code} → Interrupts turn code → AnswersTurn done turn (record { response = Some (Failed code); went = On })
+abbrev pub CacheSeat : MarkStep → PartIn (Unit {0})
+CacheSeat step = Seats step
 
--- the turn was taken, and this is its answer
-pub record TakesTurn {D : Type 0} (turned : D → MarkStep → Turn → D → Type 0) (step : MarkStep) (done : Answer) (before : D) (answer : Answer) (after : D) : Type 0 where
-  pub turn : Turn
-  pub turned_so : turned before step turn after
-  pub answers : AnswersTurn done turn answer
+abbrev pub CacheCloses : Option (List ℕ) → PartIn (Unit {0})
+CacheCloses keep = Closes keep
 
--- an entry was looked for, where there is an id; this answer ends the request
-pub data LooksUp {D : Type 0} (turned : D → MarkStep → Turn → D → Type 0) (plain : Bool) : Option (List ℕ) → D → Option Answer → D → Type 0 where
-  no_id : {desk : D} → LooksUp turned plain None desk None desk
-  empty : {id : List ℕ} {before after : D} → turned before (ask id) Empty after → LooksUp turned plain (Some id) before None after
-  given : {id : List ℕ} {before after : D} (grant : Grant) → turned before (ask id) (TurnGiven grant) after
-      → LooksUp turned plain (Some id) before (Some (record { response = Some (Given grant plain); went = On })) after
-  interrupted : {id : List ℕ} {before after : D} (turn : Turn) (why : Code) → turned before (ask id) turn after → Interrupts turn why
-      → LooksUp turned plain (Some id) before (Some (record { response = Some (Failed why); went = On })) after
+abbrev pub CacheAsks : MarkStep → PartIn (Option (List ℕ))
+CacheAsks step = Asks step
 
--- what the client gave was kept, where there is an id, and is answered
-abbrev pub KeepsSecret : {D : Type 0} → (D → MarkStep → Turn → D → Type 0) → Bool → List ℕ → Option (List ℕ) → D → Answer → D → Type 0
-KeepsSecret turned plain secret None before answer after = (after ≡ before) × (answer ≡ record { response = Some (Passphrase secret plain); went = On })
-KeepsSecret turned plain secret (Some id) before answer after =
-    TakesTurn turned (Put id User Default secret) (record { response = Some (Passphrase secret plain); went = On }) before answer after
+module _ {A : Type 0} (part : PartIn A) where
+  -- a part in which no prompter is called, of a request that holds no ticket
+  abbrev pub DoesAtDesk : {D : Type 0} → (D → MarkStep → Turn → D → Type 0) → Connection → D → Result A Refusal → Connection → D → Type 0
+  DoesAtDesk turned conn desk result now desk_now = DoesPart connection_views turned NoEnd part None (part_state connection_views turned NoEnd conn desk tt) result None (part_state connection_views turned NoEnd now desk_now tt)
 
--- how a request ends whose client gave nothing
-abbrev pub answer_unheard : Unheard → Answer
-answer_unheard why = record { response = option_map Failed (refusal_code why); went = went_after (gone_of why) }
+  -- one in which no turn is taken
+  abbrev pub DoesAtPrompter : {P : Type 0} → (P → Call → P → Type 0) → Option ℕ → Connection → P → Result A Refusal → Connection → P → Type 0
+  DoesAtPrompter prompted held conn prompter result now prompter_now =
+      DoesPart connection_views NoTurn (DoesPrompts prompted) part held (part_state connection_views NoTurn (DoesPrompts prompted) conn tt prompter) result held
+      (part_state connection_views NoTurn (DoesPrompts prompted) now tt prompter_now)
 
-abbrev pub answer_heard : Option Unheard → Answer
-answer_heard (Some why) = answer_unheard why
-answer_heard None = record { response = None; went = On }
+-- the reply that a response is, with some text of its own
+abbrev pub reply_by : Response → List ℕ → OptionValues → CacheReply
+reply_by response text after = record { text = text; kept = after; went = went_of response }
 
--- the passphrase that a client gave, or how its request ends without one
-abbrev pub answer_said : Result (List ℕ) Unheard → Result (List ℕ) Answer
-answer_said (Whole secret) = Whole secret
-answer_said (Part why) = Part (answer_unheard why)
+-- how a GET_PASSPHRASE comes by its passphrase
+abbrev pub PassphraseOf : Rules → OptionValues → CacheCommand → PartIn (List ℕ)
+PassphraseOf rules options (GetPassphrase plain check no_ask repeat quality id texts) =
+    ThePassphrase rules options (record { plain = plain; check = check; no_ask = no_ask; repeat = repeat; quality = quality; id = id; texts = texts })
+PassphraseOf rules options _ = Refuses (Agent code.NoData)
 
--- how a request ends whose prompt gave no passphrase
-abbrev pub answer_without_pin : Asked → Answer
-answer_without_pin prompted.Cancelled = record { response = Some (FailedAtPinentry code.Cancelled); went = On }
-answer_without_pin prompted.TimedOut = record { response = Some (FailedAtPinentry code.Timeout); went = On }
-answer_without_pin prompted.NoPinentry = record { response = Some (Failed code.NoPinentry); went = On }
-answer_without_pin prompted.Bad = record { response = Some (Failed code.BadPass); went = On }
-answer_without_pin (prompted.Heard heard) = answer_heard (unheard_of heard)
-answer_without_pin _ = record { response = None; went = On }
+-- what OPTION and GETINFO are answered
+abbrev pub option_reply : OptionAnswer → Result Response Refusal
+option_reply Set = Whole Ok
+option_reply Unknown = Part (Agent code.UnknownOption)
+option_reply Parameter = Part (Agent code.Parameter)
+option_reply NotSupported = Part (Agent code.NotSupported)
 
-abbrev pub HasNoPin : Asked → Type 0
-HasNoPin (prompted.Pin pin) = ⊥
-HasNoPin prompted.NoMemory = ⊥
-HasNoPin (prompted.Heard heard) = IsUnheardBy heard
-HasNoPin _ = ⊤
+abbrev pub info_response : Rules → Info → Response
+info_response rules info.Version = Version
+info_response rules info.Pid = Number rules.pid
+info_response rules info.S2kCount = Number rules.s2k_count
+info_response rules info.Listed = Ok
 
--- and one whose prompt was for consent
-abbrev pub answer_to_consent : Agreed → Answer
-answer_to_consent agreed.Yes = record { response = Some Ok; went = On }
-answer_to_consent agreed.No = record { response = Some (FailedAtPinentry code.NotConfirmed); went = On }
-answer_to_consent agreed.Cancelled = record { response = Some (FailedAtPinentry code.Cancelled); went = On }
-answer_to_consent agreed.TimedOut = record { response = Some (FailedAtPinentry code.Timeout); went = On }
-answer_to_consent agreed.NoPinentry = record { response = Some (Failed code.NoPinentry); went = On }
-answer_to_consent (agreed.Heard heard) = answer_heard (unheard_of heard)
+-- a passphrase was found by the cache alone, and is told, or the request is refused
+pub data TellsCached {D : Type 0} (turned : D → MarkStep → Turn → D → Type 0) (plain : Bool) (id : Option (List ℕ)) (before : D) : Result Response Refusal → D → Type 0 where
+  cached : {secret : List ℕ} {after : D} → DoesTurns turned (ByCache id) None before (Whole secret) None after → TellsCached turned plain id before (Whole (Passphrase secret plain)) after
+  refused : {why : Refusal} {after : D} → DoesTurns turned (ByCache id) None before (Part why) None after → TellsCached turned plain id before (Part why) after
 
-abbrev pub IsAgreed : Agreed → Type 0
-IsAgreed (agreed.Heard heard) = IsUnheardBy heard
-IsAgreed _ = ⊤
+-- all was done for a request but its reply, whatever text that is written by
+pub data CarriesOut {D E : Type 0} (turned : D → MarkStep → Turn → D → Type 0) (further : E → FurtherEvent → E → Type 0) (part : PartIn CacheReply) (before : OptionValues)
+    (start : PartState connection_views turned further) : Result Response Refusal → OptionValues → Option ℕ → PartState connection_views turned further → Type 0 where
+  comes_to : {response : Response} {after : OptionValues} {held : Option ℕ} {now : PartState connection_views turned further}
+      → ((text : List ℕ) → IsText response text → DoesPart connection_views turned further part None start (Whole (reply_by response text after)) held now)
+      → CarriesOut turned further part before start (Whole response) after held now
+  stops_at : {why : Refusal} {held : Option ℕ} {now : PartState connection_views turned further} → DoesPart connection_views turned further part None start (Part why) held now
+      → CarriesOut turned further part before start (Part why) before held now
 
--- the client was asked for a passphrase, unless the limit couldn't be told
-pub data AsksSecret (start : Connection) : Result (List ℕ) Answer → Connection → Type 0 where
-  limit_cut : {now : Connection} (count : ℕ) → HasWritten limit_line start (SentPart count) now
-      → AsksSecret start (Part (record { response = None; went = End WriteFault })) now
-  asked : {now : Connection} (mid : Connection) (result : Result (List ℕ) Unheard) → HasWritten limit_line start All mid
-      → AsksClient connection_views (codes "PASSPHRASE") MAX_SECRET_LEN result mid now → AsksSecret start (answer_said result) now
+-- how the session goes on whose last write came to this
+abbrev pub went_unless_cut : Went → Result (Unit {0}) Fault → Went
+went_unless_cut whole (Whole written) = whole
+went_unless_cut whole (Part fault) = End ends.WriteFault
+
+-- the reply of a request was written, or its refusal, and the session goes on so
+pub data RespondsTo (before : Connection) : Result Response Refusal → Went → Connection → Type 0 where
+  replied : {response : Response} {text : List ℕ} {after : Connection} (written : Result (Unit {0}) Fault) → IsText response text → WritesText text before written after
+      → RespondsTo before (Whole response) (went_unless_cut (went_of response) written) after
+  refused : {why : Refusal} {after : Connection} (written : Result (Unit {0}) Fault) → WritesLine (refusal_line why) before written after
+      → RespondsTo before (Part why) (went_unless_cut (went_after (gone_by why)) written) after

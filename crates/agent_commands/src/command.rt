@@ -1,33 +1,35 @@
-ghost use Rattle.std.specs.Prelude.{◌≡◌, ℕ, true, List, None, Some};
+//! A command on the cache or on the session, carried out and answered.
+
+ghost use Rattle.std.specs.Prelude.{◌≡◌, ℕ, List, None, Some};
 ghost use Rattle.agent_ask.specs.Prompters.{IsShut};
+ghost use Rattle.agent_ask.specs.PartStates.{DoesTurn, DoesWithClient, NoEnd, part_state};
+ghost use Rattle.assuan_server.specs.Clients.{connection_views};
 ghost use Rattle.assuan_server.specs.Connections.{Connection, IsOpen};
 ghost use Rattle.cache_policy.specs.declared.mark.MarkStep.TheVariants.{Clear};
-ghost use Rattle.cache_policy.specs.Turns.{asked_step, closes, wait_of};
+ghost use Rattle.cache_policy.specs.Turns.{asked_step, wait_of};
 ghost use Rattle.session_options.specs.OptionValues.{OptionValues};
 ghost use Rattle.session_options.specs.declared.rules.Rules.{Rules as TheRules};
-ghost use Rattle.agent_commands.specs.Answers.{IsInfo};
-ghost use Rattle.agent_commands.specs.Exchanges.{Exchange, LineExchange, quiet_of, option_text};
-ghost use Rattle.agent_commands.specs.Exchanges.{put};
-ghost use Rattle.agent_commands.specs.Outside.{world, prompt_world};
+ghost use Rattle.agent_commands.specs.Exchanges.{Exchange, LineExchange, Replies, quiet_of};
+ghost use Rattle.agent_commands.specs.Exchanges.{GivenOrAsked, Presets};
+ghost use Rattle.agent_commands.specs.Outside.{DoesPrompts, prompt_world, world};
 ghost use Rattle.agent_commands.specs.Requests.{request_of};
 ghost use Rattle.agent_commands.specs.States.{session_state, prompt_state, AnswersRequest};
-ghost use Rattle.agent_commands.specs.Steps.{AsksNobody, CarriesOut, RespondsTo, IsChange};
-ghost use Rattle.agent_commands.specs.Steps.{TakesTurn, AsksSecret, IsText};
-ghost use Rattle.agent_commands.specs.declared.request.CacheCommand.TheVariants as command;
+ghost use Rattle.agent_commands.specs.Steps.{AsksNobody, CacheChange, CarriesOut, DoesAtDesk};
+ghost use Rattle.agent_commands.specs.Steps.{IsChange};
+ghost use Rattle.agent_commands.specs.Steps.{TellsCached, info_response, option_reply};
 ghost use Rattle.agent_commands.specs.declared.request.Request.TheVariants as request;
-ghost use Rattle.agent_commands.specs.declared.went.Went.TheVariants as went;
 
-use crate::answer::Answer;
-use crate::confirmation::get_confirmation;
-use crate::passphrase::{ask_cache, get_passphrase};
+use crate::confirmation::confirm;
+use crate::inquiry::ask_client;
+use crate::passphrase::{by_cache, get_passphrase};
 use crate::read::text_of;
-use crate::response::{Response, write_response};
-use crate::{CacheCommand, Info, QuietRequest, SessionEnd, Went};
-use agent_ask::Prompter;
-use agent_ports::{Link, Sent, WriteFault};
+use crate::response::{Response, respond};
+use crate::{CacheCommand, Info, QuietRequest, Went};
+use agent_ask::{Held, Prompter, close, without_memory};
+use agent_ports::Link;
 use assuan_server::{Code, Conn};
-use cache_policy::{CacheId, Desk, Life, MAX_SECRET_LEN, Mode, Refused, Reply, Secret, Step};
-use itoa::Buffer;
+use cache_policy::{CacheId, Desk, Life, Mode, Refused, Reply, Secret, Step};
+use session_client::Refusal;
 use session_options::{OptionAnswer, Options, Rules};
 
 /// Does what a command asks for, answers it, and says how the session goes on. No ticket is out and
@@ -52,8 +54,11 @@ pub fn run_cache<L: Link, D: Desk, P: Prompter>(
     ensures free { (D.at desk.new).out ≡ None }
     ensures shut { IsShut (P.at prompter.new) }
 {
-    let answer = carry_out(command, rules, options, conn, desk, prompter);
-    respond(&answer, conn)
+    let mut held = Held::new();
+    let reply = carry_out(command, rules, options, &mut held, conn, desk, prompter);
+    close(None, &mut held, desk);
+    held.end();
+    respond(&reply, conn)
 }
 
 /// Answers a request that asks the cache alone, and says how the session goes on.
@@ -70,51 +75,60 @@ pub fn run_quiet<L: Link, D: Desk>(
         (session_state D.turned conn.new desk.new) }
     ensures out { (D.at desk.new).out ≡ (D.at desk.old).out }
 {
-    let answer = ask_cache(request.plain, &request.id, desk);
-    respond(&answer, conn)
+    let reply = cached_reply(request, desk);
+    respond(&reply, conn)
 }
 
-/// Writes the response of an answer, where there is one.
-fn respond<L: Link>(answer: &Answer, conn: &mut Conn<'_, L>) -> Went
-    ensures { RespondsTo answer.now conn.old result conn.new }
+/// The reply of a request that asks the cache alone.
+fn cached_reply<D: Desk>(request: &QuietRequest, desk: &mut D) -> Result<Response, Refusal>
+    ensures tells { TellsCached D.turned request.now.plain request.now.id
+        desk.old result desk.new }
+    ensures out { (D.at desk.new).out ≡ (D.at desk.old).out }
 {
-    let Some(response) = &answer.response else {
-        return answer.went;
-    };
-    match write_response(conn, response) {
-        Ok(()) => answer.went,
-        Err(WriteFault) => Went::End(SessionEnd::WriteFault),
-    }
+    let secret = by_cache(&request.id, desk)?;
+    Ok(Response::Passphrase {
+        secret,
+        plain: request.plain,
+    })
 }
 
-/// Does what a command asks for, and says how it is to be answered.
+/// Does what a command asks for, and gives its reply, or how it is refused. A ticket may be held
+/// when it returns.
 fn carry_out<L: Link, D: Desk, P: Prompter>(
     command: &CacheCommand,
     rules: &Rules,
     options: &mut Options,
+    held: &mut Held,
     conn: &mut Conn<'_, L>,
     desk: &mut D,
     prompter: &mut P,
-) -> Answer
+) -> Result<Response, Refusal>
+    requires none { held.old ≡ None }
     requires open { IsOpen conn.old }
-    requires free { (D.at desk.old).out ≡ None }
+    requires out { (D.at desk.old).out ≡ held.old }
     requires shut { IsShut (P.at prompter.old) }
-    ensures carries { CarriesOut {w = prompt_world D.turned P.prompted}
-        (Exchange rules.now options.old (request.Cache command.now))
-        (prompt_state D.turned P.prompted conn.old desk.old prompter.old) result options.new
+    ensures carries { CarriesOut D.turned (DoesPrompts P.prompted)
+        (Replies rules.now options.old command.now) options.old
+        (prompt_state D.turned P.prompted conn.old desk.old prompter.old) result options.new held.new
         (prompt_state D.turned P.prompted conn.new desk.new prompter.new) }
-    ensures free { (D.at desk.new).out ≡ None }
+    ensures out { (D.at desk.new).out ≡ held.new }
     ensures shut { IsShut (P.at prompter.new) }
 {
     match command {
-        CacheCommand::GetPassphrase { .. } => {
-            get_passphrase(command, rules, options, conn, desk, prompter)
+        CacheCommand::GetPassphrase { plain, .. } => {
+            let secret = get_passphrase(command, rules, options, held, conn, desk, prompter)?;
+            Ok(Response::Passphrase {
+                secret,
+                plain: *plain,
+            })
         }
         CacheCommand::PresetPassphrase { id, life, secret } => {
-            preset_passphrase(id, *life, secret, rules, conn, desk)
+            preset(id, *life, secret, rules, conn, desk)?;
+            Ok(Response::Ok)
         }
         CacheCommand::GetConfirmation { description } => {
-            get_confirmation(description, rules, options, conn, desk, prompter)
+            confirm(description, rules, options, held, conn, desk, prompter)?;
+            Ok(Response::Ok)
         }
         command => carry_alone(command, rules, options, desk),
     }
@@ -126,52 +140,58 @@ fn carry_alone<D: Desk>(
     rules: &Rules,
     options: &mut Options,
     desk: &mut D,
-) -> Answer
+) -> Result<Response, Refusal>
     requires { AsksNobody command.now }
-    ensures carries { (conn : Connection) → IsOpen conn → CarriesOut {w = world D.turned}
-        (Exchange rules.now options.old (request.Cache command.now))
-        (session_state D.turned conn desk.old) result options.new
-        (session_state D.turned conn desk.new) }
+    ensures carries { (conn : Connection) → IsOpen conn → CarriesOut D.turned NoEnd
+        (Replies rules.now options.old command.now) options.old
+        (part_state connection_views D.turned NoEnd conn desk.old tt) result options.new None
+        (part_state connection_views D.turned NoEnd conn desk.new tt) }
     ensures out { (D.at desk.new).out ≡ (D.at desk.old).out }
 {
     match command {
-        CacheCommand::Nop => Answer::on(Response::Ok),
+        CacheCommand::Nop => Ok(Response::Ok),
         CacheCommand::Reset => {
             options.reset();
-            Answer::on(Response::Ok)
+            Ok(Response::Ok)
         }
-        CacheCommand::Bye => Answer::last(Response::Closing, SessionEnd::Bye),
-        CacheCommand::Help => Answer::on(Response::Help),
-        CacheCommand::SetOption { text } => Answer::on(option_response(options.set(text))),
+        CacheCommand::Bye => Ok(Response::Bye),
+        CacheCommand::Help => Ok(Response::Help),
+        CacheCommand::SetOption { text } => set_option(options.set(text)),
         CacheCommand::SetKeyDesc { text } => {
             options.describe(text_of(text));
-            Answer::on(Response::Ok)
+            Ok(Response::Ok)
         }
-        CacheCommand::GetInfo(info) => Answer::on(info_response(*info, rules)),
-        CacheCommand::ClearPassphrase { id, mode } => clear_passphrase(id, *mode, desk),
-        CacheCommand::ReloadAgent => take_turn(Step::Flush, Answer::on(Response::Ok), desk),
-        CacheCommand::KillAgent => take_turn(
-            Step::Stop,
-            Answer::last(Response::Closing, SessionEnd::Killed),
-            desk,
-        ),
+        CacheCommand::GetInfo(info) => Ok(info_response(*info, rules)),
+        CacheCommand::ClearPassphrase { id, mode } => {
+            clear(id, *mode, desk)?;
+            Ok(Response::Ok)
+        }
+        CacheCommand::ReloadAgent => {
+            change(Step::Flush, desk)?;
+            Ok(Response::Ok)
+        }
+        CacheCommand::KillAgent => {
+            change(Step::Stop, desk)?;
+            Ok(Response::Killed)
+        }
         _ => unreachable!(),
     }
 }
 
-fn option_response(answer: OptionAnswer) -> Response
-    ensures { (text : List ℕ) → IsText result text → text ≡ option_text answer }
+/// What OPTION is answered.
+fn set_option(answer: OptionAnswer) -> Result<Response, Refusal>
+    ensures { result ≡ option_reply answer }
 {
     match answer {
-        OptionAnswer::Set => Response::Ok,
-        OptionAnswer::Unknown => Response::Failed(Code::UnknownOption),
-        OptionAnswer::Parameter => Response::Failed(Code::Parameter),
-        OptionAnswer::NotSupported => Response::Failed(Code::NotSupported),
+        OptionAnswer::Set => Ok(Response::Ok),
+        OptionAnswer::Unknown => Err(Refusal::Agent(Code::UnknownOption)),
+        OptionAnswer::Parameter => Err(Refusal::Agent(Code::Parameter)),
+        OptionAnswer::NotSupported => Err(Refusal::Agent(Code::NotSupported)),
     }
 }
 
 fn info_response(info: Info, rules: &Rules) -> Response
-    ensures { (text : List ℕ) → IsText result text → IsInfo rules.now info text }
+    ensures { result ≡ info_response rules.now info }
 {
     match info {
         Info::Version => Response::Version,
@@ -182,118 +202,71 @@ fn info_response(info: Info, rules: &Rules) -> Response
 }
 
 /// PRESET_PASSPHRASE.
-fn preset_passphrase<L: Link, D: Desk>(
+fn preset<L: Link, D: Desk>(
     id: &CacheId,
     life: Life,
     secret: &Option<Secret>,
     rules: &Rules,
     conn: &mut Conn<'_, L>,
     desk: &mut D,
-) -> Answer
+) -> Result<(), Refusal>
     requires { IsOpen conn.old }
-    ensures carries { (before : OptionValues)
-        → CarriesOut {w = world D.turned} (Exchange rules.now before
-        (request.Cache (command.PresetPassphrase id.now life secret.now)))
-        (session_state D.turned conn.old desk.old) result before
-        (session_state D.turned conn.new desk.new) }
+    ensures presets { DoesAtDesk (Presets rules.now id.now life secret.now) D.turned
+        conn.old desk.old result conn.new desk.new }
     ensures out { (D.at desk.new).out ≡ (D.at desk.old).out }
 {
     if !rules.allow_preset {
-        return Answer::failed(Code::NotSupported);
+        return Err(Refusal::Agent(Code::NotSupported));
     }
-    match secret {
-        Some(secret) => store(id, life, secret.copy(), desk),
-        None => preset_inquired(id, life, conn, desk),
-    }
-}
-
-/// Asks the client for the passphrase that it presets.
-fn preset_inquired<L: Link, D: Desk>(
-    id: &CacheId,
-    life: Life,
-    conn: &mut Conn<'_, L>,
-    desk: &mut D,
-) -> Answer
-    requires { IsOpen conn.old }
-    ensures carries { (rules : TheRules) (before : OptionValues) → rules.allow_preset ≡ true
-        → CarriesOut {w = world D.turned}
-        (Exchange rules before (request.Cache (command.PresetPassphrase id.now life None)))
-        (session_state D.turned conn.old desk.old) result before
-        (session_state D.turned conn.new desk.new) }
-    ensures out { (D.at desk.new).out ≡ (D.at desk.old).out }
-{
-    match inquire_passphrase(conn) {
-        Ok(secret) => store(id, life, secret, desk),
-        Err(answer) => answer,
-    }
-}
-
-/// Stores a passphrase for every mode.
-fn store<D: Desk>(id: &CacheId, life: Life, secret: Secret, desk: &mut D) -> Answer
-    ensures takes { TakesTurn D.turned (put id.now life secret)
-        (record { response = Some Response.Ok; went = went.On }) desk.old result desk.new }
-    ensures out { (D.at desk.new).out ≡ (D.at desk.old).out }
-{
+    let secret = given_or_asked(secret, conn)?;
     let step = Step::Put {
         id: id.copy(),
         mode: Mode::Any,
         life,
         secret,
     };
-    take_turn(step, Answer::on(Response::Ok), desk)
+    change(step, desk)
+}
+
+/// The passphrase that the line has, or that the client is asked for.
+fn given_or_asked<L: Link>(
+    secret: &Option<Secret>,
+    conn: &mut Conn<'_, L>,
+) -> Result<Secret, Refusal>
+    requires { IsOpen conn.old }
+    ensures { DoesWithClient connection_views (GivenOrAsked secret.now) conn.old result conn.new }
+{
+    match secret {
+        Some(secret) => Ok(secret.copy()),
+        None => ask_client(conn),
+    }
 }
 
 /// CLEAR_PASSPHRASE.
-fn clear_passphrase<D: Desk>(id: &CacheId, mode: Mode, desk: &mut D) -> Answer
-    ensures takes { TakesTurn D.turned (Clear id.now mode)
-        (record { response = Some Response.Ok; went = went.On }) desk.old result desk.new }
+fn clear<D: Desk>(id: &CacheId, mode: Mode, desk: &mut D) -> Result<(), Refusal>
+    ensures turn { DoesTurn D.turned
+        (CacheChange (Clear id.now mode)) None desk.old result None desk.new }
     ensures out { (D.at desk.new).out ≡ (D.at desk.old).out }
 {
     let step = Step::Clear {
         id: id.copy(),
         mode,
     };
-    take_turn(step, Answer::on(Response::Ok), desk)
+    change(step, desk)
 }
 
-/// Takes a turn that changes the cache. It is answered so once it is done.
-pub(crate) fn take_turn<D: Desk>(step: Step, done: Answer, desk: &mut D) -> Answer
+/// Takes a turn that changes the cache.
+pub(crate) fn change<D: Desk>(step: Step, desk: &mut D) -> Result<(), Refusal>
     requires changes { IsChange (asked_step step) }
     requires first { wait_of step ≡ None }
-    ensures takes { TakesTurn D.turned (asked_step step) done desk.old result desk.new }
+    ensures turn { DoesTurn D.turned
+        (CacheChange (asked_step step)) None desk.old result None desk.new }
     ensures out { (D.at desk.new).out ≡ (D.at desk.old).out }
 {
     match desk.turn(step) {
-        Ok(Reply::Done) => done,
-        Ok(Reply::Stopping) => Answer::failed(Code::Cancelled),
+        Ok(Reply::Done) => Ok(()),
+        Ok(Reply::Stopping) => Err(Refusal::Agent(Code::Cancelled)),
         Ok(_) => unreachable!(),
-        Err(Refused { step }) => without_memory(step),
-    }
-}
-
-/// Asks the client for a passphrase. Where none comes, it gives how the request is answered without
-/// one.
-pub(crate) fn inquire_passphrase<L: Link>(conn: &mut Conn<'_, L>) -> Result<Secret, Answer>
-    requires { IsOpen conn.old }
-    ensures { AsksSecret conn.old result conn.new }
-{
-    let mut digits = Buffer::new();
-    match conn.status(b"INQUIRE_MAXLEN", digits.format(MAX_SECRET_LEN).as_bytes()) {
-        Sent::All => match conn.inquire_secret(b"PASSPHRASE", b"").said() {
-            Ok(secret) => Ok(secret),
-            Err(why) => Err(Answer::unheard(why)),
-        },
-        Sent::Failed { .. } => Err(Answer::silent(SessionEnd::WriteFault)),
-    }
-}
-
-/// How a command is answered whose step found no memory. The step has no ticket.
-pub(crate) fn without_memory(step: Step) -> Answer
-    requires { closes (asked_step step) ≡ None }
-    ensures { result ≡ record { response = Some (Response.Failed Code.NoMemory); went = went.On } }
-{
-    match step.into_ticket() {
-        None => Answer::failed(Code::NoMemory),
-        Some(_) => unreachable!(),
+        Err(Refused { step }) => Err(without_memory(step)),
     }
 }

@@ -1,123 +1,74 @@
 //! GET_CONFIRMATION.
 
-ghost use Rattle.std.specs.Prelude.{◌≡◌, [], false, None, Some};
-ghost use Rattle.agent_ask.specs.Consents.{AsksConsent};
+ghost use Rattle.std.specs.Prelude.{◌≡◌, None, Some};
+ghost use Rattle.agent_ask.specs.ConsentParts.{AgreesTo};
 ghost use Rattle.agent_ask.specs.Prompters.{IsShut};
+ghost use Rattle.agent_ask.specs.PartStates.{DoesPart};
+ghost use Rattle.assuan_server.specs.Clients.{connection_views, session_lines};
 ghost use Rattle.assuan_server.specs.Connections.{IsOpen};
-ghost use Rattle.cache_policy.specs.declared.mark.MarkStep.TheVariants.{Seat};
-ghost use Rattle.agent_commands.specs.Exchanges.{Exchange, WantsPrompt, EndsConsent};
-ghost use Rattle.agent_commands.specs.Outside.{prompt_world};
-ghost use Rattle.agent_commands.specs.Prompting.{UnderTicket};
+ghost use Rattle.agent_commands.specs.Exchanges.{confirms_by};
+ghost use Rattle.agent_commands.specs.Outside.{DoesPrompts};
 ghost use Rattle.agent_commands.specs.States.{prompt_state};
-ghost use Rattle.agent_commands.specs.Steps.{Carries, CarriesOut, IsAgreed, answer_to_consent};
-ghost use Rattle.agent_commands.specs.declared.request.CacheCommand.TheVariants as command;
-ghost use Rattle.agent_commands.specs.declared.request.Request.TheVariants as request;
+ghost use Rattle.agent_commands.specs.Steps.{DoesAtPrompter};
 
-use crate::answer::Answer;
-use crate::command::without_memory;
-use crate::response::Response;
-use agent_ask::{Agreed, PromptSpec, Prompter, ask_leave, give_back, prompt_spec};
+use agent_ask::{Held, Prompter, agree, hold_seat};
 use agent_ports::Link;
 use assuan_server::{Code, Conn};
 use assuan_text::Text;
-use cache_policy::{Desk, Refused, Reply, Step};
+use cache_policy::Desk;
 use prompt_seat::Ticket;
+use session_client::Refusal;
 use session_options::{Options, PinMode, Rules};
 
-/// GET_CONFIRMATION.
-pub(crate) fn get_confirmation<L: Link, D: Desk, P: Prompter>(
+/// The user's consent, where the client wants a prompt.
+pub(crate) fn confirm<L: Link, D: Desk, P: Prompter>(
     description: &Text,
     rules: &Rules,
     options: &Options,
+    held: &mut Held,
     conn: &mut Conn<'_, L>,
     desk: &mut D,
     prompter: &mut P,
-) -> Answer
+) -> Result<(), Refusal>
+    requires none { held.old ≡ None }
     requires open { IsOpen conn.old }
-    requires free { (D.at desk.old).out ≡ None }
+    requires out { (D.at desk.old).out ≡ held.old }
     requires shut { IsShut (P.at prompter.old) }
-    ensures carries { CarriesOut {w = prompt_world D.turned P.prompted}
-        (Exchange rules.now options.now (request.Cache (command.GetConfirmation description.now)))
-        (prompt_state D.turned P.prompted conn.old desk.old prompter.old) result options.now
+    ensures confirms { DoesPart connection_views D.turned (DoesPrompts P.prompted)
+        (confirms_by rules.now options.now options.now.mode description.now) held.old
+        (prompt_state D.turned P.prompted conn.old desk.old prompter.old) result held.new
         (prompt_state D.turned P.prompted conn.new desk.new prompter.new) }
-    ensures free { (D.at desk.new).out ≡ None }
+    ensures out { (D.at desk.new).out ≡ held.new }
     ensures shut { IsShut (P.at prompter.new) }
 {
     match options.mode() {
         PinMode::Ask => {
-            let spec = prompt_spec(description, &Text::new(), false, rules, options);
-            confirm(&spec, options.notify(), conn, desk, prompter)
+            hold_seat(None, held, desk)?;
+            match held.ticket() {
+                Some(ticket) => ask_consent(description, rules, options, ticket, conn, prompter),
+                None => unreachable!(),
+            }
         }
-        PinMode::Cancel => Answer::failed(Code::Cancelled),
-        PinMode::Error | PinMode::Loopback => Answer::failed(Code::NoPinentry),
+        PinMode::Cancel => Err(Refusal::Agent(Code::Cancelled)),
+        PinMode::Error | PinMode::Loopback => Err(Refusal::Agent(Code::NoPinentry)),
     }
 }
 
-/// Takes the seat before the prompt, and asks the user for consent.
-fn confirm<L: Link, D: Desk, P: Prompter>(
-    spec: &PromptSpec,
-    notify: bool,
+/// Asks the user by one prompt under the ticket that the request holds.
+fn ask_consent<L: Link, P: Prompter>(
+    description: &Text,
+    rules: &Rules,
+    options: &Options,
+    ticket: &Ticket,
     conn: &mut Conn<'_, L>,
-    desk: &mut D,
     prompter: &mut P,
-) -> Answer
+) -> Result<(), Refusal>
     requires open { IsOpen conn.old }
-    requires free { (D.at desk.old).out ≡ None }
     requires shut { IsShut (P.at prompter.old) }
-    ensures carries { Carries {w = prompt_world D.turned P.prompted}
-        (WantsPrompt (Seat None None) (UnderTicket (AsksConsent spec.now notify) EndsConsent))
-        (prompt_state D.turned P.prompted conn.old desk.old prompter.old) result
-        (prompt_state D.turned P.prompted conn.new desk.new prompter.new) }
-    ensures free { (D.at desk.new).out ≡ None }
+    ensures agrees { DoesAtPrompter
+        (AgreesTo session_lines rules.now options.now description.now.items) P.prompted
+        (Some ticket.now) conn.old prompter.old result conn.new prompter.new }
     ensures shut { IsShut (P.at prompter.new) }
 {
-    match desk.turn(Step::Seat {
-        under: None,
-        wait: None,
-    }) {
-        Ok(Reply::Open(ticket)) => confirm_under(ticket, spec, notify, conn, desk, prompter),
-        Ok(Reply::Stopping) => Answer::failed(Code::Cancelled),
-        Ok(Reply::Late) => Answer::failed(Code::Timeout),
-        Ok(_) => unreachable!(),
-        Err(Refused { step }) => without_memory(step),
-    }
-}
-
-/// Asks the user under a ticket, which is given back before anything is answered.
-fn confirm_under<L: Link, D: Desk, P: Prompter>(
-    ticket: Ticket,
-    spec: &PromptSpec,
-    notify: bool,
-    conn: &mut Conn<'_, L>,
-    desk: &mut D,
-    prompter: &mut P,
-) -> Answer
-    requires open { IsOpen conn.old }
-    requires out { (D.at desk.old).out ≡ Some ticket }
-    requires shut { IsShut (P.at prompter.old) }
-    ensures carries { Carries {w = prompt_world D.turned P.prompted}
-        (UnderTicket (AsksConsent spec.now notify) EndsConsent ticket)
-        (prompt_state D.turned P.prompted conn.old desk.old prompter.old) result
-        (prompt_state D.turned P.prompted conn.new desk.new prompter.new) }
-    ensures free { (D.at desk.new).out ≡ None }
-    ensures shut { IsShut (P.at prompter.new) }
-{
-    let agreed = ask_leave(&ticket, spec, notify, conn, prompter);
-    give_back(ticket, None, desk);
-    ending(agreed)
-}
-
-/// How a request for consent ends.
-fn ending(agreed: Agreed) -> Answer
-    requires { IsAgreed agreed }
-    ensures { result ≡ answer_to_consent agreed }
-{
-    match agreed {
-        Agreed::Yes => Answer::on(Response::Ok),
-        Agreed::No => Answer::failed_at_pinentry(Code::NotConfirmed),
-        Agreed::Cancelled => Answer::failed_at_pinentry(Code::Cancelled),
-        Agreed::TimedOut => Answer::failed_at_pinentry(Code::Timeout),
-        Agreed::NoPinentry => Answer::failed(Code::NoPinentry),
-        Agreed::Heard(heard) => Answer::unheard(heard.unheard()),
-    }
+    agree(description, rules, options, ticket, conn, prompter)
 }

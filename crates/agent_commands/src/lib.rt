@@ -7,11 +7,12 @@
 //! `specs/Requests` and `specs/Exchanges`.
 #![tactic(auto)]
 
-mod answer;
 mod command;
 mod confirmation;
 mod fields;
+mod found;
 mod get_line;
+mod inquiry;
 mod line_request;
 mod names;
 mod passphrase;

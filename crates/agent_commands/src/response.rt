@@ -4,16 +4,20 @@ ghost use Rattle.assuan_text.specs.LineEnds.{line_of};
 ghost use Rattle.assuan_escape.specs.Escapes.{hex_text};
 ghost use Rattle.assuan_server.specs.Written.{comment_text, ok_text};
 ghost use Rattle.agent_commands.specs.Answers.{IsDataAnswer, IsPassphrase, comments, help_with};
+ghost use Rattle.agent_commands.specs.Endings.{went_after};
 ghost use Rattle.agent_commands.specs.Names.{command_names};
 ghost use Rattle.assuan_server.specs.Written.{WritesText};
-ghost use Rattle.agent_commands.specs.Steps.{IsText};
+ghost use Rattle.agent_commands.specs.Steps.{IsText, RespondsTo, went_of, went_unless_cut};
+ghost use Rattle.session_client.specs.Refusals.{gone_by};
 
-use crate::{COMMANDS, KEY_COMMANDS};
+use crate::found::Found;
+use crate::{COMMANDS, KEY_COMMANDS, SessionEnd, Went};
 use agent_ports::{Link, WriteFault};
 use assuan_escape::upper_hex;
-use assuan_server::{Code, Conn, Origin};
-use cache_policy::{Grant, Secret};
+use assuan_server::Conn;
+use cache_policy::Secret;
 use itoa::Buffer;
+use session_client::Refusal;
 use wiping::wipe;
 
 /// The version that GETINFO gives.
@@ -22,47 +26,79 @@ const VERSION: &[u8] = b"2.4.0";
 /// No command beside those on the cache and on keys.
 const NO_COMMANDS: [(&[u8], ()); 0] = [];
 
-/// What a request is answered, once all else is done for it.
+/// What a request is answered where it isn't refused.
 #[derive(Drop)]
 pub(crate) enum Response {
     Ok,
-    Closing,
+    /// The client ends its session.
+    Bye,
+    /// The agent stops.
+    Killed,
     Help,
     Version,
     Number(u64),
-    Given {
-        grant: Grant,
+    Passphrase {
+        secret: Found,
         /// By data lines, and else in hexadecimal digits.
         plain: bool,
     },
-    /// A passphrase that wasn't cached.
-    Passphrase {
-        secret: Secret,
-        plain: bool,
-    },
-    Failed(Code),
-    /// The pinentry's error.
-    FailedAtPinentry(Code),
+}
+
+/// Writes the response of a request, or how it is refused, and says how the session goes on.
+pub(crate) fn respond<L: Link>(reply: &Result<Response, Refusal>, conn: &mut Conn<'_, L>) -> Went
+    ensures { RespondsTo conn.old reply.now result conn.new }
+{
+    match reply {
+        Ok(response) => went_unless_cut(response.went(), write_response(conn, response)),
+        Err(why) => went_unless_cut(went_after(*why), conn.refuse(*why)),
+    }
+}
+
+/// How a session goes on whose last write came to this: where it was whole, as it would go on.
+fn went_unless_cut(whole: Went, written: Result<(), WriteFault>) -> Went
+    ensures { result ≡ went_unless_cut whole written }
+{
+    match written {
+        Ok(()) => whole,
+        Err(WriteFault) => Went::End(SessionEnd::WriteFault),
+    }
+}
+
+/// How a session goes on after a refusal.
+fn went_after(why: Refusal) -> Went
+    ensures { result ≡ went_after (gone_by why) }
+{
+    match why.gone() {
+        Some(how) => Went::End(SessionEnd::from(how)),
+        None => Went::On,
+    }
+}
+
+impl Response {
+    /// How the session goes on after it.
+    fn went(&self) -> Went
+        ensures { result ≡ went_of self.now }
+    {
+        match self {
+            Response::Bye => Went::End(SessionEnd::Bye),
+            Response::Killed => Went::End(SessionEnd::Killed),
+            _ => Went::On,
+        }
+    }
 }
 
 /// Writes a response.
-pub(crate) fn write_response<L: Link>(
-    conn: &mut Conn<'_, L>,
-    response: &Response,
-) -> Result<(), WriteFault>
+fn write_response<L: Link>(conn: &mut Conn<'_, L>, response: &Response) -> Result<(), WriteFault>
     ensures { (text : List ℕ) × IsText response.now text
         × WritesText text conn.old result conn.new }
 {
     match response {
         Response::Ok => conn.ok(b"").whole(),
-        Response::Closing => conn.ok(b"closing connection").whole(),
+        Response::Bye | Response::Killed => conn.ok(b"closing connection").whole(),
         Response::Help => write_help(conn, &NO_COMMANDS),
         Response::Version => write_data(conn, VERSION),
         Response::Number(number) => write_data(conn, Buffer::new().format(*number).as_bytes()),
-        Response::Given { grant, plain } => write_passphrase(conn, grant.secret(), *plain),
-        Response::Passphrase { secret, plain } => write_passphrase(conn, secret, *plain),
-        Response::Failed(code) => conn.err(*code, Origin::Agent).whole(),
-        Response::FailedAtPinentry(code) => conn.err(*code, Origin::Pinentry).whole(),
+        Response::Passphrase { secret, plain } => write_passphrase(conn, secret.secret(), *plain),
     }
 }
 

@@ -1,59 +1,60 @@
-use Rattle.agent_commands.specs.Exchanges.{Exchange, nop, reset, bye, help_given, option_applied, described, info, clear, reload, kill}
-use Rattle.agent_commands.specs.Outside.{world}
-use Rattle.agent_commands.specs.declared.request.Request.TheVariants.{Cache}
-use Rattle.agent_commands.specs.declared.response.Response.TheVariants.{Ok, Closing, Help}
-use Rattle.agent_commands.proofs.Preparing.{prepared_on, prepared_last, turn_taken}
+use Rattle.std.proofs.Common.{refl}
+use Rattle.std.proofs.lemmas.Result.{err_from_is_err_and}
+use Rattle.agent_ask.specs.Parts.{returns}
+use Rattle.agent_ask.specs.PartStates.{NoEnd}
+use Rattle.agent_commands.specs.declared.response.Response.TheVariants.{Ok, Bye, Help, Killed}
+use Rattle.agent_commands.proofs.Carrying.{only_replies, option_carried, info_carried, change_done, change_refused}
 use Rattle.agent_commands.proofs.command.carry_alone.Goals as goal
 
 pub returns-in-Nop-clause-carries : goal.returns-in-Nop-clause-carries
-returns-in-Nop-clause-carries g c = λ conn going.
-    prepared_on {w = world g.D.Desk.turned} (Exchange c.args.rules.now c.args.options.now (Cache c.args.command.now))
-    _ c.on.result Ok _ going c.on.ensures (λ text is. rw (is, c.in-Nop.is) nop)
+returns-in-Nop-clause-carries g c = λ conn going. rw c.in-Nop.is (only_replies g.D.Desk.turned NoEnd conn going tt c.args.desk.now Ok (λ text is. rw is returns))
 
 pub returns-in-Reset-clause-carries : goal.returns-in-Reset-clause-carries
 returns-in-Reset-clause-carries g c = λ conn going.
-    prepared_on {w = world g.D.Desk.turned} (Exchange c.args.rules.now c.args.options.now (Cache c.args.command.now))
-    _ c.on-in-Reset.result Ok _ going c.on-in-Reset.ensures (λ text is. rw (is, c.in-Reset.is, c.reset.ensures) reset)
+    rw (c.in-Reset.is, c.reset.ensures) (only_replies g.D.Desk.turned NoEnd conn going tt c.args.desk.now Ok (λ text is. rw is returns))
 
 pub returns-in-Bye-clause-carries : goal.returns-in-Bye-clause-carries
-returns-in-Bye-clause-carries g c = λ conn going.
-    prepared_last {w = world g.D.Desk.turned} (Exchange c.args.rules.now c.args.options.now (Cache c.args.command.now))
-    _ c.last.result Closing _ going c.last.ensures (λ text is. rw (is, c.in-Bye.is) bye)
+returns-in-Bye-clause-carries g c = λ conn going. rw c.in-Bye.is (only_replies g.D.Desk.turned NoEnd conn going tt c.args.desk.now Bye (λ text is. rw is returns))
 
 pub returns-in-Help-clause-carries : goal.returns-in-Help-clause-carries
-returns-in-Help-clause-carries g c = λ conn going.
-    prepared_on {w = world g.D.Desk.turned} (Exchange c.args.rules.now c.args.options.now (Cache c.args.command.now))
-    _ c.on-in-Help.result Help _ going c.on-in-Help.ensures (λ text is. rw (is, c.in-Help.is) help_given)
+returns-in-Help-clause-carries g c = λ conn going. rw c.in-Help.is (only_replies g.D.Desk.turned NoEnd conn going tt c.args.desk.now Help (λ text is. rw is returns))
 
 pub returns-in-SetOption-clause-carries : goal.returns-in-SetOption-clause-carries
 returns-in-SetOption-clause-carries g c = λ conn going.
-    prepared_on {w = world g.D.Desk.turned} (Exchange c.args.rules.now c.args.options.now (Cache c.args.command.now))
-    _ c.on-in-SetOption.result c.option_response.result _ going c.on-in-SetOption.ensures
-    (λ text is. rw (c.option_response.ensures text is, c.set.ensures.answer, c.set.ensures.after, c.deref.ensures.0, c.in-SetOption.is) option_applied)
+    rw (c.in-SetOption.is, c.set_option.ensures, ← c.deref.ensures.0, ← c.set.ensures.answer, ← c.set.ensures.after)
+    (option_carried g.D.Desk.turned NoEnd conn going tt c.args.desk.now c.set.result c.set.ensures.refused)
 
 pub returns-in-SetKeyDesc-clause-carries : goal.returns-in-SetKeyDesc-clause-carries
 returns-in-SetKeyDesc-clause-carries g c = λ conn going.
-    prepared_on {w = world g.D.Desk.turned} (Exchange c.args.rules.now c.args.options.now (Cache c.args.command.now))
-    _ c.on-in-SetKeyDesc.result Ok _ going c.on-in-SetKeyDesc.ensures
-    (λ text is. rw (is, c.describe.ensures, c.text_of.ensures, c.deref-in-SetKeyDesc.ensures.0, c.in-SetKeyDesc.is) described)
+    rw (c.in-SetKeyDesc.is, c.describe.ensures, c.text_of.ensures, c.deref-in-SetKeyDesc.ensures.0) (only_replies g.D.Desk.turned NoEnd conn going tt c.args.desk.now Ok (λ text is. rw is returns))
 
 pub returns-in-GetInfo-clause-carries : goal.returns-in-GetInfo-clause-carries
 returns-in-GetInfo-clause-carries g c = λ conn going.
-    prepared_on {w = world g.D.Desk.turned} (Exchange c.args.rules.now c.args.options.now (Cache c.args.command.now))
-    _ c.on-in-GetInfo.result c.info_response.result _ going c.on-in-GetInfo.ensures (λ text is. rw c.in-GetInfo.is (info (c.info_response.ensures text is)))
+    rw (c.in-GetInfo.is, c.info_response.ensures) (info_carried g.D.Desk.turned NoEnd conn going tt c.args.rules.now c.args.desk.now _)
 
-pub returns-in-ClearPassphrase-clause-carries : goal.returns-in-ClearPassphrase-clause-carries
-returns-in-ClearPassphrase-clause-carries g c = λ conn going.
-    rw c.in-ClearPassphrase.is
-    (turn_taken g.D.Desk.turned (λ before what after. ⊥) c.args.rules.now _ conn going c.args.desk.now c.clear_passphrase.new.desk tt clear Ok (λ text is. is) c.clear_passphrase.ensures.takes)
+pub returns-in_err-clear-in-ClearPassphrase-clause-carries : goal.returns-in_err-clear-in-ClearPassphrase-clause-carries
+returns-in_err-clear-in-ClearPassphrase-clause-carries g c = λ conn going.
+    let p = err_from_is_err_and c.from_residual.result c.from_residual.ensures.1 in
+    rw (c.in-ClearPassphrase.is, p.1, p.2) (change_refused g.D.Desk.turned NoEnd conn going tt c.in_err-clear-in-ClearPassphrase.ensures.turn)
 
-pub returns-in-ReloadAgent-clause-carries : goal.returns-in-ReloadAgent-clause-carries
-returns-in-ReloadAgent-clause-carries g c = λ conn going.
-    rw c.in-ReloadAgent.is
-    (turn_taken g.D.Desk.turned (λ before what after. ⊥) c.args.rules.now _ conn going c.args.desk.now c.take_turn.new.desk tt reload Ok (λ text is. is) (rw c.on-in-ReloadAgent.ensures at c.take_turn.ensures.takes))
+pub returns-in_ok-clear-in-ClearPassphrase-clause-carries : goal.returns-in_ok-clear-in-ClearPassphrase-clause-carries
+returns-in_ok-clear-in-ClearPassphrase-clause-carries g c = λ conn going.
+    rw c.in-ClearPassphrase.is (change_done g.D.Desk.turned NoEnd conn going tt Ok (λ text is. rw is refl) c.in_ok-clear-in-ClearPassphrase.ensures.turn)
 
-pub returns-in-KillAgent-clause-carries : goal.returns-in-KillAgent-clause-carries
-returns-in-KillAgent-clause-carries g c = λ conn going.
-    rw c.in-KillAgent.is
-    (turn_taken g.D.Desk.turned (λ before what after. ⊥) c.args.rules.now _ conn going c.args.desk.now c.take_turn-in-KillAgent.new.desk
-    tt kill Closing (λ text is. is) (rw c.last-in-KillAgent.ensures at c.take_turn-in-KillAgent.ensures.takes))
+pub returns-in_err-change-in-ReloadAgent-clause-carries : goal.returns-in_err-change-in-ReloadAgent-clause-carries
+returns-in_err-change-in-ReloadAgent-clause-carries g c = λ conn going.
+    let p = err_from_is_err_and c.from_residual-in_err-change-in-ReloadAgent.result c.from_residual-in_err-change-in-ReloadAgent.ensures.1 in
+    rw (c.in-ReloadAgent.is, p.1, p.2) (change_refused g.D.Desk.turned NoEnd conn going tt c.in_err-change-in-ReloadAgent.ensures.turn)
+
+pub returns-in_ok-change-in-ReloadAgent-clause-carries : goal.returns-in_ok-change-in-ReloadAgent-clause-carries
+returns-in_ok-change-in-ReloadAgent-clause-carries g c = λ conn going.
+    rw c.in-ReloadAgent.is (change_done g.D.Desk.turned NoEnd conn going tt Ok (λ text is. rw is refl) c.in_ok-change-in-ReloadAgent.ensures.turn)
+
+pub returns-in_err-change-in-KillAgent-clause-carries : goal.returns-in_err-change-in-KillAgent-clause-carries
+returns-in_err-change-in-KillAgent-clause-carries g c = λ conn going.
+    let p = err_from_is_err_and c.from_residual-in_err-change-in-KillAgent.result c.from_residual-in_err-change-in-KillAgent.ensures.1 in
+    rw (c.in-KillAgent.is, p.1, p.2) (change_refused g.D.Desk.turned NoEnd conn going tt c.in_err-change-in-KillAgent.ensures.turn)
+
+pub returns-in_ok-change-in-KillAgent-clause-carries : goal.returns-in_ok-change-in-KillAgent-clause-carries
+returns-in_ok-change-in-KillAgent-clause-carries g c = λ conn going.
+    rw c.in-KillAgent.is (change_done g.D.Desk.turned NoEnd conn going tt Killed (λ text is. rw is refl) c.in_ok-change-in-KillAgent.ensures.turn)

@@ -1,19 +1,24 @@
-use Rattle.agent_commands.specs.Exchanges.{Exchange, LineExchange, quiet}
+use Rattle.std.proofs.Common.{None}
+use Rattle.agent_ask.specs.PartStates.{NoEnd, still}
+use Rattle.agent_ask.specs.TurnParts.{unheld}
+use Rattle.agent_commands.specs.Exchanges.{Exchange, GetReplies}
 use Rattle.agent_commands.specs.Outside.{world}
 use Rattle.agent_commands.specs.Requests.{request_of}
-use Rattle.agent_commands.specs.States.{session_state}
-use Rattle.agent_commands.specs.Steps.{CarriesOut}
+use Rattle.agent_commands.specs.States.{session_state, AnswersRequest}
 use Rattle.agent_commands.specs.declared.request.Request.{Request}
-use Rattle.agent_commands.proofs.Answering.{answered}
-use Rattle.agent_commands.proofs.Carrying.{carry_as}
+use Rattle.agent_commands.proofs.Carrying.{quiet_carried}
 use Rattle.agent_commands.proofs.Quieting.{of_quiet}
+use Rattle.agent_commands.proofs.Replying.{answers}
 use Rattle.agent_commands.proofs.command.run_quiet.Goals as goal
 
 pub returns-clause-answers : goal.returns-clause-answers
 returns-clause-answers g c = λ rules options line is_quiet.
-    let conn = c.args.conn.now in
-    answered {w = world g.D.Desk.turned} (λ before. LineExchange rules before line) options _ _ tt _ c.ask_cache-answer.result _ _ _
-    (of_quiet (λ (asked : Request). CarriesOut {w = world g.D.Desk.turned} (Exchange rules options asked) (session_state g.D.Desk.turned conn c.args.desk.now)
-    c.ask_cache-answer.result options (session_state g.D.Desk.turned conn c.ask_cache-answer.new.desk)) c.args.request.now
-    (λ check no_ask quality repeat texts asks. carry_as {w = world g.D.Desk.turned} (λ events looks. quiet asks looks) (c.ask_cache-answer.ensures.carries conn c.requires)) (request_of line) is_quiet)
-    c.respond.ensures
+    of_quiet (λ (asked : Request). AnswersRequest {w = world g.D.Desk.turned} (λ before. Exchange rules before asked) options
+    (session_state g.D.Desk.turned c.args.conn.now c.args.desk.now) c.respond.result options (session_state g.D.Desk.turned c.respond.new.conn c.cached_reply-reply.new.desk)) c.args.request.now
+    (λ check no_ask quality repeat texts asks.
+    answers g.D.Desk.turned NoEnd (λ values. GetReplies rules values
+    (record { plain = c.args.request.now.plain; check = check; no_ask = no_ask; repeat = repeat; quality = quality; id = c.args.request.now.id; texts = texts }))
+    options _ None c.args.conn.now c.respond.new.conn c.cached_reply-reply.new.desk c.cached_reply-reply.new.desk tt c.cached_reply-reply.result options c.respond.result
+    (quiet_carried g.D.Desk.turned NoEnd c.args.conn.now c.requires tt rules options
+    (record { plain = c.args.request.now.plain; check = check; no_ask = no_ask; repeat = repeat; quality = quality; id = c.args.request.now.id; texts = texts }) asks c.cached_reply-reply.ensures.tells)
+    (still unheld) c.respond.ensures) (request_of line) is_quiet

@@ -1,31 +1,39 @@
-use Rattle.std.proofs.Common.{[], ◌∷◌, None, arith}
-use Rattle.session_client.specs.declared.code.Code.TheVariants.{NoMemory, Cancelled, Timeout}
-use Rattle.cache_policy.specs.declared.mark.MarkStep.TheVariants.{Seat}
-use Rattle.cache_policy.specs.Turns.{Open, Stopping, Late, Refused}
-use Rattle.agent_ask.specs.SessionEvents.{cache_turn}
-use Rattle.agent_commands.specs.Exchanges.{opened, interrupted}
-use Rattle.agent_ask.specs.Interrupts.{stopping, late, refused}
-use Rattle.agent_commands.specs.Outside.{prompt_world}
-use Rattle.agent_commands.proofs.Carrying.{carry_after, carry_turn}
-use Rattle.agent_ask.proofs.Doing.{done_turned}
+use Rattle.std.proofs.Common.{◌≡◌, Some, sym, ap, ◌∙◌, inl, inr, refl}
+use Rattle.std.proofs.lemmas.Result.{err_from_is_err_and}
+use Rattle.std.specs.Option.{option_copied}
+use Rattle.agent_ask.specs.Parts.{refuses}
+use Rattle.agent_ask.proofs.PartsDone.{part_then, part_stops, part_still, part_turned, seats_on, ticket_taken}
+use Rattle.assuan_server.specs.Clients.{connection_views}
+use Rattle.agent_commands.specs.Outside.{DoesPrompts}
+use Rattle.agent_commands.proofs.Carrying.{beside_prompter, seat_turn}
 use Rattle.agent_commands.proofs.confirmation.confirm.Goals as goal
 
-pub returns-in-Ok-Open-clause-carries : goal.returns-in-Ok-Open-clause-carries
-returns-in-Ok-Open-clause-carries g c =
-    carry_after {w = prompt_world g.D.Desk.turned g.P.Prompter.prompted} (cache_turn (Seat None None) (Open c.in-Ok-Open.ticket) ∷ [])
-    (done_turned (Seat None None) (Open c.in-Ok-Open.ticket) c.args.conn.now c.args.desk.now c.turn.new.self c.args.prompter.now (rw c.in-Ok-Open.field-0-is at c.in-Ok-Open.ensures.turned)) (omega arith)
-    (λ events under. opened under) c.confirm_under.ensures.carries
+pub returns-in_err-hold_seat-in-Ask-clause-confirms : goal.returns-in_err-hold_seat-in-Ask-clause-confirms
+returns-in_err-hold_seat-in-Ask-clause-confirms g c =
+    let p = err_from_is_err_and c.from_residual.result c.from_residual.ensures.1 in
+    let turn = seat_turn c.in_err-hold_seat-in-Ask.ensures.taken in
+    rw (sym c.mode.ensures ∙ c.in-Ask.is, c.requires.none, p.1, p.2)
+    (part_stops connection_views g.D.Desk.turned (DoesPrompts g.P.Prompter.prompted)
+    (part_turned connection_views g.D.Desk.turned (DoesPrompts g.P.Prompter.prompted) c.args.conn.now c.args.prompter.now c.requires.open (seats_on turn.does) turn))
 
-pub returns-in-Ok-Stopping-clause-carries : goal.returns-in-Ok-Stopping-clause-carries
-returns-in-Ok-Stopping-clause-carries g c =
-    rw c.failed.ensures
-    (carry_turn g.D.Desk.turned g.P.Prompter.prompted c.requires.open (Seat None None) Stopping (rw c.in-Ok-Stopping.field-0-is at c.in-Ok-Stopping.ensures.turned) Cancelled (interrupted stopping))
+pub returns-in-Some-clause-confirms : goal.returns-in-Some-clause-confirms
+returns-in-Some-clause-confirms g c =
+    let held : c.hold_seat.new.held ≡ Some c.in-Some.ticket.now = sym c.ticket.ensures ∙ ap option_copied c.in-Some.is in
+    rw (sym c.mode.ensures ∙ c.in-Ask.is, c.requires.none)
+    (part_then connection_views g.D.Desk.turned (DoesPrompts g.P.Prompter.prompted)
+    (part_turned connection_views g.D.Desk.turned (DoesPrompts g.P.Prompter.prompted) c.args.conn.now c.args.prompter.now c.requires.open refl (seat_turn c.in_ok-hold_seat-in-Ask.ensures.taken))
+    (rw held (beside_prompter g.D.Desk.turned g.P.Prompter.prompted c.hold_seat.new.desk c.ask_consent.ensures.agrees)))
 
-pub returns-in-Ok-Late-clause-carries : goal.returns-in-Ok-Late-clause-carries
-returns-in-Ok-Late-clause-carries g c =
-    rw c.failed-in-Ok-Late.ensures
-    (carry_turn g.D.Desk.turned g.P.Prompter.prompted c.requires.open (Seat None None) Late (rw c.in-Ok-Late.field-0-is at c.in-Ok-Late.ensures.turned) Timeout (interrupted late))
+pub returns-in-Cancel-clause-confirms : goal.returns-in-Cancel-clause-confirms
+returns-in-Cancel-clause-confirms g c =
+    rw (sym c.mode.ensures ∙ c.in-Cancel.is)
+    (part_still connection_views g.D.Desk.turned (DoesPrompts g.P.Prompter.prompted) c.args.conn.now c.args.prompter.now c.args.desk.now c.requires.open refl refuses)
 
-pub returns-in-Err-clause-carries : goal.returns-in-Err-clause-carries
-returns-in-Err-clause-carries g c =
-    rw c.without_memory.ensures (carry_turn g.D.Desk.turned g.P.Prompter.prompted c.requires.open (Seat None None) Refused c.in-Err.ensures.turned NoMemory (interrupted refused))
+pub returns-in-Error-clause-confirms : goal.returns-in-Error-clause-confirms
+returns-in-Error-clause-confirms g c =
+    elim c.in-Error.is [
+      | inl error ↦ rw (sym c.mode.ensures ∙ error)
+          (part_still connection_views g.D.Desk.turned (DoesPrompts g.P.Prompter.prompted) c.args.conn.now c.args.prompter.now c.args.desk.now c.requires.open refl refuses)
+      | inr loopback ↦ rw (sym c.mode.ensures ∙ loopback)
+          (part_still connection_views g.D.Desk.turned (DoesPrompts g.P.Prompter.prompted) c.args.conn.now c.args.prompter.now c.args.desk.now c.requires.open refl refuses)
+    ]

@@ -1,29 +1,23 @@
-use Rattle.session_client.specs.declared.code.Code.TheVariants.{Cancelled, NoPinentry}
-use Rattle.agent_commands.specs.Exchanges.{WithoutPrompt, cancelled, no_pinentry}
-use Rattle.agent_commands.specs.Outside.{world}
-use Rattle.agent_commands.specs.States.{session_state}
-use Rattle.agent_commands.specs.declared.response.Response.TheVariants.{Failed}
-use Rattle.agent_commands.proofs.Carrying.{carry_answer}
-use Rattle.agent_commands.proofs.Looking.{look_answers, look_then}
+use Rattle.std.proofs.Common.{Some, None, Ok, Err, refl}
+use Rattle.std.proofs.lemmas.Result.{err_from_is_err_and}
+use Rattle.agent_ask.specs.Parts.{returns}
+use Rattle.agent_ask.specs.PartStates.{NoEnd}
+use Rattle.agent_ask.proofs.PartsDone.{part_then, part_stops, part_still}
+use Rattle.assuan_server.specs.Clients.{connection_views}
+use Rattle.agent_commands.proofs.Carrying.{looked}
 use Rattle.agent_commands.proofs.passphrase.without_prompt.Goals as goal
 
-pub returns-in-Some-clause-carries : goal.returns-in-Some-clause-carries
-returns-in-Some-clause-carries g c =
-    look_answers g.D.Desk.turned c.args.conn.now c.requires.open c.args.plain (WithoutPrompt c.args.plain c.args.id.now c.args.mode) c.in-Some.ensures.looks
+pub returns-in_err-found-clause-comes : goal.returns-in_err-found-clause-comes
+returns-in_err-found-clause-comes g c =
+    let p = err_from_is_err_and c.from_residual.result c.from_residual.ensures.1 in
+    rw (p.1, p.2) (part_stops connection_views g.D.Desk.turned NoEnd (looked g.D.Desk.turned c.args.conn.now c.requires.open c.args.id.now (Err _) c.in_err-found.ensures.turn))
 
-pub returns-in-Cancel-clause-carries : goal.returns-in-Cancel-clause-carries
-returns-in-Cancel-clause-carries g c =
-    look_then g.D.Desk.turned c.args.conn.now c.requires.open c.args.plain (WithoutPrompt c.args.plain c.args.id.now c.args.mode) (rw c.in_default.is at c.look.ensures.looks)
-    (rw c.failed.ensures (carry_answer {w = world g.D.Desk.turned} (WithoutPrompt c.args.plain c.args.id.now c.args.mode) (Failed Cancelled)
-    {start = session_state g.D.Desk.turned c.args.conn.now c.look.new.desk} c.requires.open (λ text is. rw (is, c.in-Cancel.is) cancelled)))
+pub returns-in-Some-clause-comes : goal.returns-in-Some-clause-comes
+returns-in-Some-clause-comes g c =
+    part_then connection_views g.D.Desk.turned NoEnd (looked g.D.Desk.turned c.args.conn.now c.requires.open c.args.id.now (Ok (Some c.in-Some.found)) (rw c.in-Some.is at c.in_ok-found.ensures.turn))
+    (part_still connection_views g.D.Desk.turned NoEnd c.args.conn.now tt c.look.new.desk c.requires.open refl returns)
 
-pub returns-in-Error-clause-carries : goal.returns-in-Error-clause-carries
-returns-in-Error-clause-carries g c =
-    look_then g.D.Desk.turned c.args.conn.now c.requires.open c.args.plain (WithoutPrompt c.args.plain c.args.id.now c.args.mode) (rw c.in_default.is at c.look.ensures.looks)
-    (rw c.failed-in-Error.ensures (carry_answer {w = world g.D.Desk.turned} (WithoutPrompt c.args.plain c.args.id.now c.args.mode) (Failed NoPinentry)
-    {start = session_state g.D.Desk.turned c.args.conn.now c.look.new.desk} c.requires.open (λ text is. rw (is, c.in-Error.is) no_pinentry)))
-
-pub returns-in-Loopback-clause-carries : goal.returns-in-Loopback-clause-carries
-returns-in-Loopback-clause-carries g c =
-    look_then g.D.Desk.turned c.args.conn.now c.requires.open c.args.plain (WithoutPrompt c.args.plain c.args.id.now c.args.mode) (rw c.in_default.is at c.look.ensures.looks)
-    (rw c.in-Loopback.is c.ask_client.ensures.carries)
+pub returns-in-None-clause-comes : goal.returns-in-None-clause-comes
+returns-in-None-clause-comes g c =
+    part_then connection_views g.D.Desk.turned NoEnd (looked g.D.Desk.turned c.args.conn.now c.requires.open c.args.id.now (Ok None) (rw c.in-None.is at c.in_ok-found.ensures.turn))
+    c.uncached.ensures.comes

@@ -1,0 +1,12 @@
+use Rattle.agent_ask.proofs.ConsentParts.{agrees}
+use Rattle.agent_ask.proofs.PartsAtClient.{part_prompted}
+use Rattle.assuan_server.specs.Clients.{connection_views}
+use Rattle.agent_commands.specs.Outside.{DoesPrompts}
+use Rattle.agent_commands.proofs.Carrying.{each_prompted}
+use Rattle.agent_commands.proofs.confirmation.ask_consent.Goals as goal
+
+pub returns-clause-agrees : goal.returns-clause-agrees
+returns-clause-agrees g c =
+    let asked = c.agree.ensures.asked in
+    part_prompted connection_views (DoesPrompts g.P.Prompter.prompted) (λ same. same) each_prompted asked.lead
+    (λ events in_session. agrees c.args.ticket.now c.agree.result asked.are in_session) c.agree.ensures.left

@@ -1,0 +1,118 @@
+-- How GET_PASSPHRASE comes by a passphrase (GnuPG manual, "Agent GET_PASSPHRASE"). The codes, the texts and the order of what is done are this project's own.
+use Rattle.std.specs.Prelude.{◌≡◌, ◌≢◌, ℕ, Bool, true, false, List, Option, Some, None, Result, Ok, Err, ⊤}
+use Rattle.agent_ask.specs.Parts.{◌>>=◌, Returns, Refuses, needed, or_else}
+use Rattle.agent_ask.specs.Plans.{IsSpec, plan_of}
+use Rattle.agent_ask.specs.TurnParts.{Asks, Seats, Changes, Closes}
+use Rattle.agent_ask.specs.declared.ask.Asked.{Asked}
+use Rattle.agent_ask.specs.declared.ask.Asked.TheVariants as asked
+use Rattle.agent_ask.specs.declared.spec.PromptSpec.{PromptSpec}
+use Rattle.agent_ask.specs.PinParts.{PromptsPin, pin_refusal}
+use Rattle.assuan_server.specs.Clients.{session_lines}
+use Rattle.agent_commands.specs.Parts.{Part, CacheEvent, AsksPassphrase}
+use Rattle.cache_policy.specs.declared.life.Life.TheVariants.{Default}
+use Rattle.cache_policy.specs.declared.mark.MarkStep.{MarkStep}
+use Rattle.cache_policy.specs.declared.mark.MarkStep.TheVariants.{Ask, Seat, Put}
+use Rattle.cache_policy.specs.declared.mark.Way.TheVariants.{Quiet, Prompt}
+use Rattle.cache_policy.specs.declared.mode.Mode.TheVariants.{User}
+use Rattle.session_client.specs.declared.code.Code.TheVariants as code
+use Rattle.session_client.specs.declared.refusal.Refusal.{Refusal}
+use Rattle.session_client.specs.declared.refusal.Refusal.TheVariants.{Agent}
+use Rattle.session_options.specs.OptionValues.{OptionValues}
+use Rattle.session_options.specs.declared.options.PinMode.{PinMode}
+use Rattle.session_options.specs.declared.options.PinMode.TheVariants as mode
+use Rattle.session_options.specs.declared.rules.Rules.{Rules}
+use Rattle.agent_commands.specs.Requests.{GetFields}
+use Rattle.agent_commands.specs.declared.request.Texts.{Texts}
+
+-- the question of the cache, and one that opens a prompt where nothing is cached
+abbrev pub ask : List ℕ → MarkStep
+ask id = Ask id User Quiet None
+
+abbrev pub ask_or_open : List ℕ → MarkStep
+ask_or_open id = Ask id User Prompt None
+
+-- a turn that asks the cache, and opens no prompt
+pub record Looks (step : MarkStep) (held : Option ℕ) (events : List CacheEvent) (result : Result (Option (List ℕ)) Refusal) (after : Option ℕ) : Type 0 where
+  pub asks : Asks step held events result after
+  pub keeps : after ≡ held
+
+-- what is cached, where there is an id
+abbrev pub LooksFor : Option (List ℕ) → Part (Option (List ℕ))
+LooksFor None = Returns None
+LooksFor (Some id) = Looks (ask id)
+
+-- the same, or the seat for a prompt
+abbrev pub WantsPrompt : Option (List ℕ) → Part (Option (List ℕ))
+WantsPrompt None = do
+  seated ← Seats (Seat None None)
+  Returns None
+WantsPrompt (Some id) = Asks (ask_or_open id)
+
+-- what the client gave is kept, where there is an id
+abbrev pub KeepsUnder : Option (List ℕ) → List ℕ → Part (Unit {0})
+KeepsUnder None secret = Returns tt
+KeepsUnder (Some id) secret = Changes (Put id User Default secret)
+
+-- by the cache alone
+abbrev pub ByCache : Option (List ℕ) → Part (List ℕ)
+ByCache id = do
+  cached ← LooksFor id
+  needed code.NoData cached
+
+-- by the client itself
+abbrev pub ByClient : Option (List ℕ) → Part (List ℕ)
+ByClient id = do
+  secret ← AsksPassphrase
+  kept ← KeepsUnder id secret
+  Returns secret
+
+-- one that isn't cached, where the client wants no prompt
+abbrev pub Uncached : Option (List ℕ) → PinMode → Part (List ℕ)
+Uncached id mode.Ask = Refuses (Agent code.NoPinentry)
+Uncached id mode.Cancel = Refuses (Agent code.Cancelled)
+Uncached id mode.Error = Refuses (Agent code.NoPinentry)
+Uncached id mode.Loopback = ByClient id
+
+-- by the cache, or else without a prompt
+abbrev pub WithoutPrompt : Option (List ℕ) → PinMode → Part (List ℕ)
+WithoutPrompt id mode = do
+  cached ← LooksFor id
+  or_else cached (Uncached id mode)
+
+module _ (rules : Rules) (options : OptionValues) where
+  -- what the user is asked by, where these are the texts, and what is shown and how often by the rest of the line
+  module _ (texts : Texts) (check quality : Bool) (repeat : ℕ) where
+    -- One prompt under the ticket that the request holds, at which every passphrase is right. Its test wants no memory.
+    pub data PromptsAny : Option ℕ → List CacheEvent → Result (List ℕ) Refusal → Option ℕ → Type 0 where
+      given : {ticket : ℕ} {shown : List CacheEvent} {pin : List ℕ} (spec : PromptSpec) → IsSpec rules options texts.description texts.prompt quality spec
+          → PromptsPin session_lines spec (plan_of rules options texts.error check repeat) (λ pin. ⊤) shown (asked.Pin pin) → PromptsAny (Some ticket) shown (Ok pin) (Some ticket)
+      refused : {ticket : ℕ} {shown : List CacheEvent} {answer : Asked} {why : Refusal} (spec : PromptSpec) → IsSpec rules options texts.description texts.prompt quality spec
+          → PromptsPin session_lines spec (plan_of rules options texts.error check repeat) (λ pin. ⊤) shown answer → answer ≢ asked.NoMemory
+          → pin_refusal answer ≡ Some why → PromptsAny (Some ticket) shown (Err why) (Some ticket)
+
+    -- the user is asked, and what is given is kept as the ticket is given back
+    abbrev pub Prompts : Part (List ℕ)
+    Prompts = do
+      pin ← PromptsAny
+      kept ← Closes (Some pin)
+      Returns pin
+
+    -- By the cache, or else by a prompt. Where nothing is cached and no prompt is opened, there is none to ask by.
+    abbrev pub ByUser : Option (List ℕ) → Part (List ℕ)
+    ByUser id = do
+      cached ← WantsPrompt id
+      or_else cached Prompts
+
+  module _ (fields : GetFields) where
+    abbrev pub as_wanted : PinMode → Texts → Part (List ℕ)
+    as_wanted mode.Ask texts = ByUser texts fields.check fields.quality fields.repeat fields.id
+    as_wanted other texts = WithoutPrompt fields.id other
+
+    -- a request that asks the cache alone says so, or has no texts for a prompt
+    abbrev pub passphrase_by : Bool → Option Texts → Part (List ℕ)
+    passphrase_by no_ask None = ByCache fields.id
+    passphrase_by true (Some texts) = ByCache fields.id
+    passphrase_by false (Some texts) = as_wanted options.mode texts
+
+    abbrev pub Passphrase : Part (List ℕ)
+    Passphrase = passphrase_by fields.no_ask fields.texts
