@@ -51,7 +51,8 @@ use Rattle.sexp_keys.specs.Key.{Key}
 use Rattle.sexp_keys.specs.Lists.{grip_of, key_list_of}
 use Rattle.sexp_keys.specs.declared.fault.KeyFault.{KeyFault}
 use Rattle.agent_commands.specs.Events.{Event, Inquired}
-use Rattle.agent_commands.specs.Exchanges.{ask, is_quiet}
+use Rattle.agent_commands.specs.Exchanges.{is_quiet}
+use Rattle.agent_commands.specs.Passphrases.{ask}
 use Rattle.agent_commands.specs.Requests.{GetFields, get_passphrase}
 use Rattle.agent_commands.specs.declared.request.CacheCommand.TheVariants.{SetOption, PresetPassphrase, GetConfirmation}
 use Rattle.agent_commands.specs.declared.request.Request.{Request}

@@ -24,7 +24,8 @@ use Rattle.session_client.specs.declared.unheard.Unheard.TheVariants as unheard
 use Rattle.session_options.specs.declared.rules.Rules.{Rules}
 use Rattle.agent_commands.specs.Answers.{ok, IsPassphrase}
 use Rattle.agent_commands.specs.Events.{Event as SessionEvent}
-use Rattle.agent_commands.specs.Exchanges.{ask, put, is_quiet}
+use Rattle.agent_commands.specs.Exchanges.{put, is_quiet}
+use Rattle.agent_commands.specs.Passphrases.{ask}
 use Rattle.agent_commands.specs.Requests.{request_of}
 use Rattle.agent_commands.specs.declared.request.CacheCommand.TheVariants.{GetPassphrase, PresetPassphrase, ClearPassphrase, ReloadAgent}
 use Rattle.agent_commands.specs.declared.request.Request.{Request}

@@ -11,7 +11,7 @@ use Rattle.cache_policy.specs.Turns.{Given}
 use Rattle.cache_policy.specs.declared.grant.Grant.{Grant}
 use Rattle.agent_commands.specs.Answers.{ok, closing, help, IsInfo, IsPassphrase}
 use Rattle.agent_commands.specs.Events.{Event}
-use Rattle.agent_commands.specs.Exchanges.{ask, want}
+use Rattle.agent_commands.specs.Passphrases.{ask, ask_or_open}
 use Rattle.agent_commands.specs.Requests.{GetFields, get_passphrase}
 use Rattle.agent_commands.specs.declared.request.Info.{Info}
 use Rattle.agent_commands.specs.declared.request.Request.{Request}
@@ -35,7 +35,7 @@ module _ (request : Request) (before : List (Event FurtherEvent)) where
   pub data IsAnswered (fields : GetFields) : List ℕ → Type 0 where
     -- the cache gave it to its question, for itself alone or before a prompt
     cached : {id : List ℕ} {grant : Grant} → fields.id ≡ Some id → Has (cache_turn (ask id) (Given grant)) before → IsAnswered fields grant.entry.secret
-    unprompted : {id : List ℕ} {grant : Grant} → fields.id ≡ Some id → Has (cache_turn (want (Some id)) (Given grant)) before → IsAnswered fields grant.entry.secret
+    unprompted : {id : List ℕ} {grant : Grant} → fields.id ≡ Some id → Has (cache_turn (ask_or_open id) (Given grant)) before → IsAnswered fields grant.entry.secret
     typed : {pin : List ℕ} → IsAccepted request before pin → IsAnswered fields pin
     sent : {word pass : List ℕ} {limit : ℕ} → IsSent before word limit pass → IsAnswered fields pass
 

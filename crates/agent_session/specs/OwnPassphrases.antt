@@ -24,7 +24,7 @@ use Rattle.cache_policy.specs.declared.mode.Mode.{Mode}
 use Rattle.cache_policy.specs.declared.mode.Mode.TheVariants.{Any, Normal, Nonce}
 use Rattle.secret_file.specs.Opens.{LockedKey}
 use Rattle.agent_commands.specs.Events.{Event}
-use Rattle.agent_commands.specs.Exchanges.{want}
+use Rattle.agent_commands.specs.Passphrases.{ask_or_open}
 use Rattle.agent_commands.specs.Requests.{GetFields, get_passphrase, request_of}
 use Rattle.agent_commands.specs.declared.request.CacheCommand.TheVariants.{PresetPassphrase}
 use Rattle.agent_commands.specs.declared.request.Request.{Request}
@@ -54,7 +54,7 @@ pub data NamesNew (request : Request) (nonce : List ℕ) : Type 0 where
 
 -- the step wants a prompt whose passphrase is kept under what the request names, or under nothing
 pub data WantsTicket (request : Request) : MarkStep → Type 0 where
-  by_id : {id : List ℕ} (fields : GetFields) → request ≡ Cache (get_passphrase fields) → fields.id ≡ Some id → WantsTicket request (want (Some id))
+  by_id : {id : List ℕ} (fields : GetFields) → request ≡ Cache (get_passphrase fields) → fields.id ≡ Some id → WantsTicket request (ask_or_open id)
   by_key : {grip : Grip} → IsAbout request grip → WantsTicket request (ask_key grip Prompt)
   by_seat : {grip : Grip} → IsAbout request grip → WantsTicket request (seat_for grip)
   unkept : WantsTicket request (Seat None None)
