@@ -25,8 +25,8 @@ use Rattle.key_commands.specs.Exchanges as exchange
 use Rattle.key_commands.specs.KeyParts.{Agrees, Consents}
 use Rattle.key_commands.specs.KeyParts as parts
 use Rattle.agent_ask.specs.ConsentParts as consent
-use Rattle.key_commands.specs.Parts.{Part, ◌>>=◌}
-use Rattle.agent_ask.specs.Parts.{Follows, goes_on, stops, or_else}
+use Rattle.key_commands.specs.Parts.{Part}
+use Rattle.agent_ask.specs.Parts.{◌>>=◌, Follows, goes_on, stops, or_else}
 use Rattle.agent_ask.specs.TurnParts.{Closes}
 use Rattle.assuan_server.specs.Written.{refusal_line}
 use Rattle.key_commands.specs.Passphrases.{PromptsOld, PromptsNew, UncachedOld, OpensLocked, old_by, verified_by, new_by}
