@@ -1,284 +1,320 @@
 -- Requests on the cache and on the session: their work, and what ends them.
-use Rattle.std.proofs.Common.{◌≡◌, ℕ, Bool, List, [], ◌∷◌, ◌++◌, Option, Some, None, refl, sym, ap, ◌∙◌, subst, append_assoc, append-nil}
-use Rattle.std.specs.Prelude.{⊤}
-use Rattle.agent_ask.specs.Consents.{AsksConsent}
-use Rattle.agent_ask.specs.Events.{PromptEvent}
-use Rattle.agent_ask.specs.Failing.{said_last, fails}
+use Rattle.std.proofs.Common.{◌≡◌, ℕ, Bool, true, false, List, [], ◌∷◌, ◌++◌, codes, Option, Some, None, Result, Ok, Err, refl, sym, ap, ◌∙◌, subst, append_assoc, append-nil}
+use Rattle.arrayvec.specs.ArrayVec.{ArrayVec}
+use Rattle.agent_ask.specs.ConsentParts.{AgreesTo}
+use Rattle.agent_ask.specs.ConsentParts as consent
 use Rattle.agent_ask.specs.Further.{FurtherEvent}
-use Rattle.agent_ask.specs.Prompts.{AsksPin}
+use Rattle.agent_ask.specs.Failing.{said_last}
+use Rattle.agent_ask.specs.PartExchanges.{AnyExchange}
+use Rattle.agent_ask.specs.PartExchanges as exchange
+use Rattle.agent_ask.specs.Parts.{◌>>=◌, Follows, goes_on, stops, Returns, returns, Refuses}
+use Rattle.agent_ask.specs.Parts as chain
 use Rattle.agent_ask.specs.SessionEvents.{Sent, cache_turn}
-use Rattle.agent_ask.specs.UnderTickets.{AnyInSession, Prompts, AsksOnce, EndsOnce, none as no_more, next, asked as asked_under}
-use Rattle.agent_ask.specs.declared.ask.Asked.{Asked as Answer}
-use Rattle.agent_ask.specs.declared.consent.Agreed.{Agreed}
-use Rattle.agent_ask.specs.declared.spec.AskPlan.{AskPlan}
-use Rattle.agent_ask.specs.declared.spec.PromptSpec.{PromptSpec}
+use Rattle.agent_ask.specs.TurnParts.{Closes}
+use Rattle.agent_ask.specs.TurnParts as taken
 use Rattle.assuan_server.specs.Clients.{session_lines}
-use Rattle.session_client.specs.declared.code.Code.{Code}
+use Rattle.assuan_server.specs.Written.{refusal_line}
+use Rattle.cache_policy.specs.Turns.{Turn}
+use Rattle.cache_policy.specs.declared.life.Life.{Life}
+use Rattle.cache_policy.specs.declared.mark.MarkStep.TheVariants.{Close, Seat}
+use Rattle.cache_policy.specs.declared.mode.Mode.TheVariants.{Any, User}
+use Rattle.cache_policy.specs.declared.secret.TheConstants.{MAX_SECRET_LEN}
 use Rattle.session_client.specs.declared.code.Code.TheVariants as code
-use Rattle.assuan_server.specs.declared.errors.Origin.TheVariants.{Agent, Pinentry}
-use Rattle.assuan_server.specs.Written.{failed}
-use Rattle.cache_policy.specs.Turns.{Turn, closes}
-use Rattle.cache_policy.specs.declared.mark.MarkStep.{MarkStep}
-use Rattle.cache_policy.specs.declared.mark.MarkStep.TheVariants.{Close}
-use Rattle.cache_policy.specs.declared.mode.Mode.TheVariants.{User}
-use Rattle.session_client.specs.declared.unheard.Gone.TheVariants as gone
-use Rattle.session_client.specs.declared.unheard.Unheard.{Unheard}
-use Rattle.session_client.specs.declared.unheard.Unheard.TheVariants as unheard
+use Rattle.session_client.specs.declared.refusal.Refusal.{Refusal}
+use Rattle.session_client.specs.declared.refusal.Refusal.TheVariants.{Agent}
 use Rattle.session_options.specs.OptionValues.{OptionValues, applied}
 use Rattle.session_options.specs.declared.options.OptionAnswer.{OptionAnswer}
 use Rattle.session_options.specs.declared.options.OptionAnswer.TheVariants as option_answer
 use Rattle.session_options.specs.declared.options.PinMode.{PinMode}
+use Rattle.session_options.specs.declared.options.PinMode.TheVariants as mode
 use Rattle.session_options.specs.declared.rules.Rules.{Rules}
 use Rattle.agent_commands.specs.Answers.{IsInfo}
+use Rattle.agent_commands.specs.Endings.{went_after}
 use Rattle.agent_commands.specs.Events.{Event}
-use Rattle.agent_commands.specs.Exchanges as exchanges
-use Rattle.agent_commands.specs.Exchanges.{Exchange, Fails, WithoutPassphrase, Looks, LooksFirst, Refuses, IsOneTurn, ComesOut, Keeps, WithoutPrompt, EndsPin, EndsConsent, WantsPrompt, want, ByPrompt, option_text}
-use Rattle.agent_ask.specs.Interrupts.{Interrupts}
-use Rattle.agent_ask.specs.Interrupts as turns
-use Rattle.agent_commands.specs.Prompting.{UnderTicket}
+use Rattle.agent_commands.specs.Exchanges.{Exchange, CacheReply, Replies, TellsPassphrase, TellsInfo, confirms_by, option_replies, reply}
+use Rattle.agent_commands.specs.Exchanges as told
+use Rattle.agent_commands.specs.Parts.{Part, AsksPassphrase, limit_line}
+use Rattle.agent_commands.specs.Passphrases.{LooksFor, WantsPrompt, KeepsUnder, Uncached, WithoutPrompt, PromptsAny, Prompts, passphrase_by, as_wanted, ask, ask_or_open}
+use Rattle.agent_commands.specs.Passphrases as passphrases
+use Rattle.agent_commands.specs.Requests.{GetFields}
 use Rattle.agent_commands.specs.declared.request.CacheCommand.{CacheCommand}
+use Rattle.agent_commands.specs.declared.request.CacheCommand.TheVariants.{Nop, Reset, Bye, Help, SetOption, GetInfo, GetPassphrase, PresetPassphrase, ClearPassphrase, GetConfirmation, ReloadAgent, KillAgent, SetKeyDesc}
 use Rattle.agent_commands.specs.declared.request.Info.{Info}
 use Rattle.agent_commands.specs.declared.request.Info.TheVariants.{Version, Pid, S2kCount, Listed}
 use Rattle.agent_commands.specs.declared.request.Request.{Request}
-use Rattle.agent_commands.specs.declared.request.Request.TheVariants.{Cache}
+use Rattle.agent_commands.specs.declared.request.Request.TheVariants.{Cache, Key, Bad}
+use Rattle.agent_commands.specs.declared.request.Texts.{Texts}
 use Rattle.agent_commands.specs.declared.went.Went.{Went}
-use Rattle.agent_session.specs.Completeness.{IsAnswer, error, done}
-use Rattle.agent_session.specs.Refusals.{refuses, IsAllowed, IsWork, AreWork, IsWorkStep, limit, MayStore, preset, given, shuts, IsLast, said, gone as client_gone, no_ticket, with_ticket, IsEnd, answered, given_back, refused, Course}
-use Rattle.agent_session.proofs.Courses.{by_turn}
-use Rattle.agent_session.proofs.PromptCourses.{ShownEnd, no_more as no_shown, stopped, Shows, pin_shows_work, consent_shows_work, pin_code, consent_code}
+use Rattle.agent_session.specs.Completeness.{done}
+use Rattle.agent_session.specs.Refusals.{IsWork, AreWork, limit, MayStore, preset, given, said, IsEnd, Course}
+use Rattle.agent_session.specs.Refusals as course
+use Rattle.agent_session.proofs.Courses.{WorkEnd, no_more, refused, Works, works, ok_works, err_works, WorksSo, bind, returned, refuses_by, is_needed, or_otherwise, is_wanted}
+use Rattle.agent_session.proofs.PromptCourses.{pin_shows_work, consent_shows_work, shown_ok, refused_pin, refused_consent}
 use Rattle.agent_session.proofs.Replying.{IsReply, begins, reply_ok, reply_closing, reply_help, reply_cache, reply_passphrase}
+use Rattle.agent_session.proofs.TurnCourses.{refusal_last, held_back, last_end, looks, seats, changes, asks_client}
 use Rattle.key_commands.proofs.EachEvent.{each_append}
 
--- texts that answer
-is_reply : {text : List ℕ} → IsReply text → IsAnswer text
-is_reply (begins other ends) = done ends
-
-is_failed : (why : Code) → IsAnswer (failed why)
-is_failed why = error why Agent refl
-
 module _ (request : Request) where
-  abbrev Here : List (Event FurtherEvent) → Type 0
-  Here = Course request
+  abbrev PartHere : {A : Type 0} → Part A → Type 0
+  PartHere = WorksSo request
 
-  work_and_end : {last : List (Event FurtherEvent)} (work : List (Event FurtherEvent)) → AreWork request work → IsEnd request last → Here (work ++ last)
-  work_and_end work each end = record { work = work; last = _; is = refl; each = each; end = end }
+  asks_passphrase : PartHere AsksPassphrase
+  asks_passphrase = asks_client request limit_line (codes "PASSPHRASE") MAX_SECRET_LEN (limit MAX_SECRET_LEN)
 
-  answers : {last : List (Event FurtherEvent)} (work : List (Event FurtherEvent)) → AreWork request work → IsLast last → Here (work ++ last)
-  answers work each last = work_and_end work each (answered last)
+  -- ---- passphrases
 
-  only : {text : List ℕ} → IsAnswer text → Here (Sent text ∷ [])
-  only is = answers [] tt (said is)
+  looks_for : (id : Option (List ℕ)) → PartHere (LooksFor id)
+  looks_for None = returned request None
+  looks_for (Some id) = record { of = λ before events result after does. (looks request (ask id) refl tt).of before events result after does.asks }
 
-  -- behind other work
-  behind : {events : List (Event FurtherEvent)} (first : List (Event FurtherEvent)) → AreWork request first → Here events → Here (first ++ events)
-  behind first each goes = record {
-    work = first ++ goes.work;
-    last = goes.last;
-    is = ap (λ e. first ++ e) goes.is ∙ sym (append_assoc first goes.work goes.last);
-    each = each_append (IsWork request) first goes.work each goes.each;
-    end = goes.end;
+  wants_prompt : (id : Option (List ℕ)) → PartHere (WantsPrompt id)
+  wants_prompt None = bind request (seats request (Seat None None) refl tt) (λ seated. returned request None)
+  wants_prompt (Some id) = looks request (ask_or_open id) refl tt
+
+  module _ (id : Option (List ℕ)) (stores : (named : List ℕ) → id ≡ Some named → MayStore request named User) where
+    keeps_under : (named : Option (List ℕ)) (secret : List ℕ) → id ≡ named → PartHere (KeepsUnder named secret)
+    keeps_under None secret same = returned request tt
+    keeps_under (Some named) secret same = changes request _ refl (stores named same)
+
+    uncached : (way : PinMode) → PartHere (Uncached id way)
+    uncached mode.Ask = refuses_by request (Agent code.NoPinentry)
+    uncached mode.Cancel = refuses_by request (Agent code.Cancelled)
+    uncached mode.Error = refuses_by request (Agent code.NoPinentry)
+    uncached mode.Loopback = bind request asks_passphrase (λ secret. bind request (keeps_under id secret refl) (λ kept. returned request secret))
+
+    without_prompt : (way : PinMode) → PartHere (WithoutPrompt id way)
+    without_prompt way = bind request (looks_for id) (λ cached. or_otherwise request cached (uncached way))
+
+  -- ---- behind the work: a ticket that was given back
+
+  data PartEnd {A : Type 0} : List (Event FurtherEvent) → Result A Refusal → Option ℕ → Type 0 where
+    working : {last : List (Event FurtherEvent)} {result : Result A Refusal} {held : Option ℕ} → WorkEnd request last result → PartEnd last result held
+    closed : {ticket : ℕ} {keep : Option (List ℕ)} {value : A} (turn : Turn) → PartEnd (cache_turn (Close ticket keep) turn ∷ []) (Ok value) None
+
+  record Ends {A : Type 0} (events : List (Event FurtherEvent)) (result : Result A Refusal) (held : Option ℕ) : Type 0 where
+    work : List (Event FurtherEvent)
+    last : List (Event FurtherEvent)
+    is : events ≡ work ++ last
+    each : AreWork request work
+    end : PartEnd last result held
+
+  record EndsSo {A : Type 0} (part : Part A) : Type 0 where
+    of : (before : Option ℕ) (events : List (Event FurtherEvent)) (result : Result A Refusal) (after : Option ℕ) → part before events result after → Ends events result after
+
+  working_ends : {A : Type 0} {events : List (Event FurtherEvent)} {result : Result A Refusal} {held : Option ℕ} → Works request events result → Ends events result held
+  working_ends does = record { work = does.work; last = does.last; is = does.is; each = does.each; end = working does.end }
+
+  ends_working : {A : Type 0} {part : Part A} → PartHere part → EndsSo part
+  ends_working part_works = record { of = λ before events result after does. working_ends (part_works.of before events result after does) }
+
+  behind : {A : Type 0} {events : List (Event FurtherEvent)} {result : Result A Refusal} {held : Option ℕ} (first : List (Event FurtherEvent)) → AreWork request first → Ends events result held
+      → Ends (first ++ events) result held
+  behind first each ends = record {
+    work = first ++ ends.work;
+    last = ends.last;
+    is = ap (λ e. first ++ e) ends.is ∙ sym (append_assoc first ends.work ends.last);
+    each = each_append (IsWork request) first ends.work each ends.each;
+    end = ends.end;
   }
 
-  -- ---- turns
+  -- work, and then what ends the request
+  module _ {A B : Type 0} {part : Part A} {next : A → Part B} (first : PartHere part) (then : (value : A) → EndsSo (next value)) where
+    bind_ends_of : (before : Option ℕ) (events : List (Event FurtherEvent)) (result : Result B Refusal) (after : Option ℕ) → Follows part next before events result after → Ends events result after
+    bind_ends_of before events result after (goes_on {first = some} {events = more} {value} {mid} does next_does) =
+        behind some (ok_works request (first.of before some (Ok value) mid does)) ((then value).of mid more result after next_does)
+    bind_ends_of before events result after (stops {refusal = why} does) = working_ends (err_works request (first.of before events (Err why) after does))
 
-  module _ (step : MarkStep) (no_close : closes step ≡ None) (allowed : IsWorkStep request step) where
-    interrupts : {turn : Turn} {why : Code} → Interrupts turn why → Here (cache_turn step turn ∷ Sent (failed why) ∷ [])
-    interrupts turns.refused = work_and_end [] tt (refused allowed (by_turn _ _ no_close refl) no_ticket)
-    interrupts turns.stopping = answers (_ ∷ []) ((allowed, by_turn _ _ no_close refl), tt) (said (is_failed code.Cancelled))
-    interrupts turns.late = answers (_ ∷ []) ((allowed, by_turn _ _ no_close refl), tt) (said (is_failed code.Timeout))
+    bind_ends : EndsSo (part >>= next)
+    bind_ends = record { of = bind_ends_of }
 
-    comes_out : {text reply : List ℕ} {went after : Went} {turn : Turn} → IsReply text → ComesOut text went turn reply after → Here (cache_turn step turn ∷ Sent reply ∷ [])
-    comes_out is exchanges.done = answers (_ ∷ []) ((allowed, by_turn _ _ no_close refl), tt) (said (is_reply is))
-    comes_out is (exchanges.interrupted why) = interrupts why
+  ok_end : {A B : Type 0} {last : List (Event FurtherEvent)} {value : A} {held : Option ℕ} (other : B) → PartEnd last (Ok value) held → PartEnd last (Ok other) held
+  ok_end other (working no_more) = working no_more
+  ok_end other (closed turn) = closed turn
 
-  -- ---- the client
+  err_end : {A B : Type 0} {last : List (Event FurtherEvent)} {why : Refusal} {held : Option ℕ} → PartEnd {A = A} last (Err why) held → PartEnd {A = B} last (Err why) held
+  err_end (working no_more) = working no_more
+  err_end (working (refused allowed is)) = working (refused allowed is)
 
-  unheard_last : (why : Unheard) → IsLast (said_last (session_lines.refusal why))
-  unheard_last unheard.Cancelled = said (is_failed code.Cancelled)
-  unheard_last unheard.TooMuch = said (is_failed code.TooMuch)
-  unheard_last unheard.Unexpected = said (is_failed code.Unexpected)
-  unheard_last (unheard.Gone gone.TooLong) = said (is_failed code.LineTooLong)
-  unheard_last (unheard.Gone gone.Ended) = client_gone
-  unheard_last (unheard.Gone gone.Spent) = client_gone
-  unheard_last (unheard.Gone gone.ReadFault) = client_gone
-  unheard_last (unheard.Gone gone.WriteFault) = client_gone
-
-  fails_last : {why : Unheard} {events : List (Event FurtherEvent)} {went : Went} → Fails why events went → IsLast events
-  fails_last {why} fails = unheard_last why
-
-  without_passphrase : {events : List (Event FurtherEvent)} {went : Went} → WithoutPassphrase events went → Here events
-  without_passphrase (exchanges.no_data says fails_so) = answers (_ ∷ _ ∷ []) ((limit _, refl), ((tt, refl), tt)) (fails_last fails_so)
-  without_passphrase (exchanges.limit_cut unsent is) = answers (_ ∷ []) ((tt, refl), tt) client_gone
-
-  -- ---- looks in the cache
-
-  looks_answered : {plain : Bool} {id : Option (List ℕ)} {first : List (Event FurtherEvent)} {text : List ℕ} → Looks plain id first (Some text) → Here (first ++ Sent text ∷ [])
-  looks_answered {plain} (exchanges.given is) = answers (_ ∷ []) ((tt, refl), tt) (said (is_reply (reply_passphrase plain _ _ is)))
-  looks_answered (exchanges.interrupted why) = interrupts _ refl tt why
-
-  looks_work : {plain : Bool} {id : Option (List ℕ)} {first : List (Event FurtherEvent)} → Looks plain id first None → AreWork request first
-  looks_work exchanges.no_id = tt
-  looks_work exchanges.empty = ((tt, refl), tt)
-
-  looks_first : {plain : Bool} {id : Option (List ℕ)} {Otherwise : List (Event FurtherEvent) → Went → Type 0} {events : List (Event FurtherEvent)} {went : Went} → LooksFirst plain id Otherwise events went
-      → ((more : List (Event FurtherEvent)) (after : Went) → Otherwise more after → Here more) → Here events
-  looks_first (exchanges.answered looks) other = looks_answered looks
-  looks_first (exchanges.goes_on {first} {events = more} {went} looks otherwise) other = behind first (looks_work looks) (other more went otherwise)
-
-  -- it may store under the id that it names
-  abbrev StoresUnder : Option (List ℕ) → Type 0
-  StoresUnder named = (id : List ℕ) → named ≡ Some id → MayStore request id User
-
-  module _ (plain : Bool) where
-    keeping_here : {secret : List ℕ} (named : Option (List ℕ)) {events : List (Event FurtherEvent)} {went : Went} → StoresUnder named → Keeps plain secret named events went → Here events
-    keeping_here named stores (exchanges.unkept is) = only (is_reply (reply_passphrase plain _ _ is))
-    keeping_here named stores (exchanges.kept {id} is) = answers (_ ∷ []) ((stores id refl, refl), tt) (said (is_reply (reply_passphrase plain _ _ is)))
-    keeping_here named stores (exchanges.interrupted {id} why) = interrupts _ refl (stores id refl) why
-
-    without_prompt : {way : PinMode} (named : Option (List ℕ)) {events : List (Event FurtherEvent)} {went : Went} → StoresUnder named → WithoutPrompt plain named way events went → Here events
-    without_prompt named stores exchanges.cancelled = only (is_failed code.Cancelled)
-    without_prompt named stores exchanges.no_pinentry = only (is_failed code.NoPinentry)
-    without_prompt named stores (exchanges.with_data keeps) = behind (_ ∷ _ ∷ []) ((limit _, refl), ((tt, refl), tt)) (keeping_here named stores keeps)
-    without_prompt named stores (exchanges.without_data without) = without_passphrase without
+  -- a passphrase is told without an event
+  module _ (plain : Bool) (options : OptionValues) {part : Part (List ℕ)} (all_ends : EndsSo part) where
+    tells_of : (before : Option ℕ) (events : List (Event FurtherEvent)) (result : Result CacheReply Refusal) (after : Option ℕ)
+        → Follows part (λ secret. (TellsPassphrase plain secret >>= λ text. Returns (reply options text))) before events result after → Ends events result after
+    tells_of before events result after (goes_on {first = some} {value} {mid} does (goes_on (told.tells {text} is) returns)) =
+        let ends : Ends some (Ok value) mid = all_ends.of before some (Ok value) mid does in
+        record { work = ends.work; last = ends.last; is = append-nil some ∙ ends.is; each = ends.each; end = ok_end (reply options text) ends.end }
+    tells_of before events result after (goes_on does (stops never)) = elim never [ ]
+    tells_of before events result after (stops {refusal = why} does) =
+        let ends : Ends events (Err why) after = all_ends.of before events (Err why) after does in
+        record { work = ends.work; last = ends.last; is = ends.is; each = ends.each; end = err_end ends.end }
 
   -- ---- prompts
 
-  -- what stands behind a prompt, by the code by which an event of it refuses the request
-  data Behind (code : Option Code) (keep : Option (List ℕ)) (events : List (Event FurtherEvent)) : Type 0 where
-    goes : code ≡ None → IsLast events → Behind code keep events
-    stops : (why : Code) → code ≡ Some why → keep ≡ None → events ≡ Sent (failed why) ∷ [] → Behind code keep events
+  module _ (rules : Rules) (options : OptionValues) where
+    module _ (texts : Texts) (check quality : Bool) (repeat : ℕ) where
+      any_of : (before : Option ℕ) (events : List (Event FurtherEvent)) (result : Result (List ℕ) Refusal) (after : Option ℕ) → PromptsAny rules options texts check quality repeat before events result after
+          → Works request events result
+      any_of before events result after (passphrases.given spec is prompt) = shown_ok request (pin_shows_work request prompt.asks prompt.in_session)
+      any_of before events result after (passphrases.refused spec is prompt other refusal) = refused_pin request prompt refusal
 
-  ends_pin : {plain : Bool} {end : Answer} {keep : Option (List ℕ)} {events : List (Event FurtherEvent)} {went : Went} → EndsPin plain end keep events went → Behind (pin_code end) keep events
-  ends_pin {plain} (exchanges.pin is) = goes refl (said (is_reply (reply_passphrase plain _ _ is)))
-  ends_pin exchanges.cancelled = goes refl (said (error code.Cancelled Pinentry refl))
-  ends_pin exchanges.timed_out = goes refl (said (error code.Timeout Pinentry refl))
-  ends_pin exchanges.no_pinentry = stops code.NoPinentry refl refl refl
-  ends_pin exchanges.bad = goes refl (said (is_failed code.BadPass))
-  ends_pin (exchanges.unheard is fails_so) = goes refl (fails_last fails_so)
+      gives_back_of : (pin : List ℕ) (before : Option ℕ) (events : List (Event FurtherEvent)) (result : Result (List ℕ) Refusal) (after : Option ℕ)
+          → (Closes (Some pin) >>= λ kept. Returns pin) before events result after → Ends events result after
+      gives_back_of pin before events result after (goes_on taken.unheld returns) = working_ends (works request tt)
+      gives_back_of pin before events result after (goes_on (taken.closed turn) returns) = record { work = []; last = _; is = refl; each = tt; end = closed turn }
+      gives_back_of pin before events result after (stops never) = elim never [ ]
 
-  ends_consent : {end : Agreed} {keep : Option (List ℕ)} {events : List (Event FurtherEvent)} {went : Went} → EndsConsent end keep events went → Behind (consent_code end) keep events
-  ends_consent exchanges.yes = goes refl (said (is_reply reply_ok))
-  ends_consent exchanges.no = goes refl (said (error code.NotConfirmed Pinentry refl))
-  ends_consent exchanges.cancelled = goes refl (said (error code.Cancelled Pinentry refl))
-  ends_consent exchanges.timed_out = goes refl (said (error code.Timeout Pinentry refl))
-  ends_consent exchanges.no_pinentry = stops code.NoPinentry refl refl refl
-  ends_consent (exchanges.unheard is fails_so) = goes refl (fails_last fails_so)
+      prompted : (cached : Option (List ℕ)) → EndsSo (chain.or_else cached (Prompts rules options texts check quality repeat))
+      prompted None = bind_ends (record { of = any_of }) (λ pin. record { of = gives_back_of pin })
+      prompted (Some secret) = ends_working (returned request secret)
 
-  -- where an event refused the request, nothing is kept; where none did, the answer may still say so
-  last_behind : {code : Option Code} {keep : Option (List ℕ)} {events : List (Event FurtherEvent)} → Behind code keep events → IsLast events
-  last_behind (goes none last) = last
-  last_behind (stops why is keeps_none events_are) = subst IsLast (sym events_are) (said (is_failed why))
+    agrees_of : (question : List ℕ) (before : Option ℕ) (events : List (Event FurtherEvent)) (result : Result (Unit {0}) Refusal) (after : Option ℕ)
+        → AgreesTo session_lines rules options question before events result after → Works request events result
+    agrees_of question before events result after (consent.consents spec is prompt) = shown_ok request (consent_shows_work request prompt.asks prompt.in_session)
+    agrees_of question before events result after (consent.refused spec is prompt refusal) = refused_consent request prompt refusal
 
-  module _ (number : ℕ) (turn : Turn) where
-    -- an event of the prompt refused the request
-    stopped_end : {keep : Option (List ℕ)} {events : List (Event FurtherEvent)} {event : Event FurtherEvent} {why : Code} → IsAllowed request event → refuses event ≡ Some why
-        → keep ≡ None → events ≡ Sent (failed why) ∷ [] → IsEnd request (event ∷ (shuts event ++ cache_turn (Close number keep) turn ∷ events))
-    stopped_end {events} {event} {why} allowed is keeps_none events_are =
-        subst (λ k. IsEnd request (event ∷ (shuts event ++ cache_turn (Close number k) turn ∷ events))) (sym keeps_none)
-        (subst (λ e. IsEnd request (event ∷ (shuts event ++ cache_turn (Close number None) turn ∷ e))) (sym events_are) (refused allowed is (with_ticket turn)))
+    confirmed : (way : PinMode) (description : ArrayVec ℕ) → PartHere (confirms_by rules options way description)
+    confirmed mode.Ask description = bind request (seats request (Seat None None) refl tt) (λ seated. record { of = agrees_of description.items })
+    confirmed mode.Cancel description = refuses_by request (Agent code.Cancelled)
+    confirmed mode.Error description = refuses_by request (Agent code.NoPinentry)
+    confirmed mode.Loopback description = refuses_by request (Agent code.NoPinentry)
 
-    prompt_end : {code : Option Code} {keep : Option (List ℕ)} {last events : List (Event FurtherEvent)} → ShownEnd request code last → Behind code keep events
-        → IsEnd request (last ++ cache_turn (Close number keep) turn ∷ events)
-    prompt_end no_shown behind_so = given_back turn (last_behind behind_so)
-    prompt_end (stopped allowed is so) (goes none last) = absurd (cc (so, none))
-    prompt_end {events} (stopped {why} allowed is so) (stops other other_so keeps_none events_are) =
-        let same : other ≡ why = cc (so, other_so) in stopped_end allowed is keeps_none (subst (λ c. events ≡ Sent (failed c) ∷ []) same events_are)
+    -- ---- requests
 
-    shown_here : {code : Option Code} {keep : Option (List ℕ)} {shown events : List (Event FurtherEvent)} → Shows request code shown → Behind code keep events
-        → Here (shown ++ cache_turn (Close number keep) turn ∷ events)
-    shown_here {keep} {events} shows behind_so = record {
-      work = shows.work;
-      last = shows.last ++ cache_turn (Close number keep) turn ∷ events;
-      is = ap (λ e. e ++ cache_turn (Close number keep) turn ∷ events) shows.is ∙ append_assoc shows.work shows.last _;
-      each = shows.each;
-      end = prompt_end shows.end behind_so;
-    }
+    module _ (fields : GetFields) (stores : (named : List ℕ) → fields.id ≡ Some named → MayStore request named User) where
+      by_cache : PartHere (passphrases.ByCache fields.id)
+      by_cache = bind request (looks_for fields.id) (λ cached. is_needed request code.NoData cached)
 
-  -- one prompt, and how it ends the request
-  module _ {A : Type 0} (Asks : List PromptEvent → A → Type 0) (Ends : A → Option (List ℕ) → List (Event FurtherEvent) → Went → Type 0) (code_of : A → Option Code)
-      (shows : (prompt : List PromptEvent) (shown : List (Event FurtherEvent)) (end : A) → Asks prompt end → AnyInSession session_lines prompt shown → Shows request (code_of end) shown)
-      (behinds : (end : A) (keep : Option (List ℕ)) (events : List (Event FurtherEvent)) (went : Went) → Ends end keep events went → Behind (code_of end) keep events) where
-    record AsksNoMore (earlier : A) (more : List (Event FurtherEvent)) (answers : List A) : Type 0 where
-      shows_none : more ≡ []
-      one_answer : answers ≡ earlier ∷ []
+      wanted_so : (way : PinMode) (texts : Texts) → EndsSo (as_wanted rules options fields way texts)
+      wanted_so mode.Ask texts = bind_ends (wants_prompt fields.id) (λ cached. prompted texts fields.check fields.quality fields.repeat cached)
+      wanted_so mode.Cancel texts = ends_working (without_prompt fields.id stores mode.Cancel)
+      wanted_so mode.Error texts = ends_working (without_prompt fields.id stores mode.Error)
+      wanted_so mode.Loopback texts = ends_working (without_prompt fields.id stores mode.Loopback)
 
-    asks_no_more : (earlier : A) {more : List (Event FurtherEvent)} {answers : List A} → Prompts session_lines (AsksOnce session_lines Asks) (earlier ∷ []) more answers → AsksNoMore earlier more answers
-    asks_no_more earlier no_more = record { shows_none = refl; one_answer = refl }
-    asks_no_more earlier (next never in_session later) = absurd never
+      passphrase_so : (no_ask : Bool) (texts : Option Texts) → EndsSo (passphrase_by rules options fields no_ask texts)
+      passphrase_so no_ask None = ends_working by_cache
+      passphrase_so true (Some texts) = ends_working by_cache
+      passphrase_so false (Some texts) = wanted_so options.mode texts
 
-    prompted_once : (shown events : List (Event FurtherEvent)) (answers : List A) (keep : Option (List ℕ)) (went : Went) (turn : Turn) (number : ℕ)
-        → Prompts session_lines (AsksOnce session_lines Asks) [] shown answers → EndsOnce session_lines Ends answers keep events went → Here (shown ++ cache_turn (Close number keep) turn ∷ events)
-    prompted_once shown events answers keep went turn number no_more ends = absurd ends
-    prompted_once shown events answers keep went turn number (next {answer = end} {shown = first} {more} asks in_session later) ends =
-        let once : AsksNoMore end more _ = asks_no_more end later in
-        let ended : Ends end keep events went = subst (λ a. EndsOnce session_lines Ends a keep events went) once.one_answer ends in
-        let all_shown : Shows request (code_of end) (first ++ more) = subst (λ m. Shows request (code_of end) (first ++ m)) (sym once.shows_none)
-        (subst (Shows request (code_of end)) (sym (append-nil first)) (shows _ first end asks in_session)) in
-        shown_here number turn all_shown (behinds end keep events went ended)
+    given_or_asked : (secret : Option (List ℕ)) → PartHere (told.GivenOrAsked secret)
+    given_or_asked secret = or_otherwise request secret asks_passphrase
 
-    under_ticket : {number : ℕ} {events : List (Event FurtherEvent)} {went : Went} → UnderTicket Asks Ends number events went → Here events
-    under_ticket {number} (asked_under turn prompts ends) = prompted_once _ _ _ _ _ turn number prompts ends
+    presets : (id : List ℕ) (life : Life) (secret : Option (List ℕ)) → MayStore request id Any → PartHere (told.Presets rules id life secret)
+    presets id life secret stores = bind request (is_wanted request code.NotSupported rules.allow_preset) (λ allowed. bind request (given_or_asked secret) (λ given_so. changes request _ refl stores))
 
-    wants_prompt : (step : MarkStep) → closes step ≡ None → IsWorkStep request step → {events : List (Event FurtherEvent)} {went : Went} → WantsPrompt step (UnderTicket Asks Ends) events went → Here events
-    wants_prompt asked no_close allowed (exchanges.opened {events = more} under) = behind (_ ∷ []) ((allowed, by_turn _ _ no_close refl), tt) (under_ticket under)
-    wants_prompt asked no_close allowed (exchanges.interrupted why) = interrupts asked no_close allowed why
+    info_of : (what : Info) (before : Option ℕ) (events : List (Event FurtherEvent)) (result : Result (List ℕ) Refusal) (after : Option ℕ) → TellsInfo rules what before events result after
+        → Works request events result
+    info_of what before events result after (told.tells is) = works request tt
 
-  wants_keeps : (id : Option (List ℕ)) → closes (want id) ≡ None
-  wants_keeps None = refl
-  wants_keeps (Some id) = refl
+    option_so : (answer : OptionAnswer) (after : OptionValues) → PartHere (option_replies answer after)
+    option_so option_answer.Set after = returned request _
+    option_so option_answer.Unknown after = refuses_by request (Agent code.UnknownOption)
+    option_so option_answer.Parameter after = refuses_by request (Agent code.Parameter)
+    option_so option_answer.NotSupported after = refuses_by request (Agent code.NotSupported)
 
-  wants_allowed : (id : Option (List ℕ)) → IsWorkStep request (want id)
-  wants_allowed None = tt
-  wants_allowed (Some id) = tt
+    replies : (command : CacheCommand) → request ≡ Cache command → EndsSo (Replies rules options command)
+    replies Nop is = ends_working (returned request _)
+    replies Reset is = ends_working (returned request _)
+    replies Bye is = ends_working (returned request _)
+    replies Help is = ends_working (returned request _)
+    replies (SetOption text) is = ends_working (option_so (applied options text.items).answer (applied options text.items).after)
+    replies (SetKeyDesc text) is = ends_working (returned request _)
+    replies (GetInfo what) is = ends_working (bind request (record { of = info_of what }) (λ text. returned request _))
+    replies (GetPassphrase plain check no_ask repeat quality id texts) is =
+        let fields : GetFields = record { plain = plain; check = check; no_ask = no_ask; repeat = repeat; quality = quality; id = id; texts = texts } in
+        record { of = tells_of plain options (passphrase_so fields (λ named same. given fields is same) no_ask texts) }
+    replies (PresetPassphrase id life secret) is = ends_working (bind request (presets id life secret (preset is)) (λ stored. returned request _))
+    replies (ClearPassphrase id way) is = ends_working (bind request (changes request _ refl is) (λ changed. returned request _))
+    replies (GetConfirmation description) is = ends_working (bind request (confirmed options.mode description) (λ agreed. returned request _))
+    replies ReloadAgent is = ends_working (bind request (changes request _ refl is) (λ changed. returned request _))
+    replies KillAgent is = ends_working (bind request (changes request _ refl is) (λ changed. returned request _))
 
-  by_prompt : (spec : PromptSpec) (plan : AskPlan) (plain : Bool) {id : Option (List ℕ)} {events : List (Event FurtherEvent)} {went : Went} → ByPrompt spec plan plain id events went → Here events
-  by_prompt spec plan plain (exchanges.cached is) = answers (_ ∷ []) ((tt, refl), tt) (said (is_reply (reply_passphrase plain _ _ is)))
-  by_prompt spec plan plain (exchanges.prompted {id} wants) =
-      wants_prompt (AsksPin spec plan (λ pin. ⊤)) (EndsPin plain) pin_code (λ prompt shown end asks in_session. pin_shows_work request asks in_session)
-      (λ end keep events went ends. ends_pin ends) (want id) (wants_keeps id) (wants_allowed id) wants
+  -- ---- answers
 
-  -- ---- single lines
+  ok_end_closes : {last back : List (Event FurtherEvent)} {held : Option ℕ} {given_reply : CacheReply} → IsReply given_reply.text → PartEnd last (Ok given_reply) held → Closes None held back (Ok tt) None
+      → IsEnd request (last ++ (back ++ Sent given_reply.text ∷ []))
+  ok_end_closes (begins other ends) (working no_more) closes_so = last_end request (said (done ends)) closes_so
+  ok_end_closes (begins other ends) (closed turn) taken.unheld = course.given_back turn (said (done ends))
 
-  option_said : (end : OptionAnswer) → IsAnswer (option_text end)
-  option_said option_answer.Set = is_reply reply_ok
-  option_said option_answer.Unknown = is_failed code.UnknownOption
-  option_said option_answer.Parameter = is_failed code.Parameter
-  option_said option_answer.NotSupported = is_failed code.NotSupported
+  err_end_closes : {last back : List (Event FurtherEvent)} {held : Option ℕ} {why : Refusal} → PartEnd {A = CacheReply} last (Err why) held → Closes None held back (Ok tt) None
+      → IsEnd request (last ++ (back ++ said_last (refusal_line why)))
+  err_end_closes {why} (working no_more) closes_so = last_end request (refusal_last why) closes_so
+  err_end_closes (working (refused allowed is)) closes_so = course.refused allowed is (held_back _ closes_so)
 
-  info_reply : (rules : Rules) (what : Info) {text : List ℕ} → IsInfo rules what text → IsReply text
-  info_reply rules Version is = reply_cache is
-  info_reply rules Pid is = reply_cache is
-  info_reply rules S2kCount is = reply_cache is
-  info_reply rules Listed is = subst IsReply (sym is) reply_ok
+  ends_course : {A : Type 0} {events : List (Event FurtherEvent)} {result : Result A Refusal} {held : Option ℕ} (ends : Ends events result held) (more : List (Event FurtherEvent)) → IsEnd request (ends.last ++ more)
+      → Course request (events ++ more)
+  ends_course ends more end = record { work = ends.work; last = ends.last ++ more; is = ap (λ e. e ++ more) ends.is ∙ append_assoc ends.work ends.last more; each = ends.each; end = end }
 
-one_turn : {rules : Rules} {command : CacheCommand} {step : MarkStep} {text reply : List ℕ} {turn : Turn} {went after : Went} → IsOneTurn rules command step text went → ComesOut text went turn reply after
-    → Course (Cache command) (cache_turn step turn ∷ Sent reply ∷ [])
-one_turn (exchanges.preset allowed) comes = comes_out (Cache _) _ refl (preset refl) reply_ok comes
-one_turn exchanges.clear comes = comes_out (Cache _) _ refl refl reply_ok comes
-one_turn exchanges.reload comes = comes_out (Cache _) _ refl refl reply_ok comes
-one_turn exchanges.kill comes = comes_out (Cache _) _ refl refl reply_closing comes
+-- ---- each reply is one
 
-pub cache_course : {rules : Rules} {before after : OptionValues} (request : Request) {events : List (Event FurtherEvent)} {went : Went} → Exchange rules before request events after went → Course request events
-cache_course request (exchanges.refused {code = why}) = only request (is_failed why)
-cache_course request exchanges.nop = only request (is_reply reply_ok)
-cache_course request exchanges.reset = only request (is_reply reply_ok)
-cache_course request exchanges.bye = only request (is_reply reply_closing)
-cache_course request exchanges.help_given = only request (is_reply reply_help)
-cache_course {before} request (exchanges.option_applied {text}) = only request (option_said request (applied before text.items).answer)
-cache_course request exchanges.described = only request (is_reply reply_ok)
-cache_course {rules} request (exchanges.info {what} is) = only request (is_reply (info_reply request rules what is))
-cache_course request (exchanges.quiet quiet looks) = looks_first request looks (λ more after refuses_so. quiet_refused refuses_so)
-  where
-    quiet_refused : {more : List (Event FurtherEvent)} {after : Went} → Refuses code.NoData more after → Course request more
-    quiet_refused exchanges.refused = only request (is_failed code.NoData)
-cache_course request (exchanges.by_prompt {fields} spec asks texts_are mode_is is_spec by) = by_prompt request spec _ fields.plain by
-cache_course request (exchanges.without_prompt {fields} asks texts_are mode_is looks) =
-    looks_first request looks (λ more after without. without_prompt request fields.plain fields.id (λ id is. given fields refl is) without)
-cache_course request (exchanges.not_allowed is) = only request (is_failed code.NotSupported)
-cache_course request (exchanges.with_data allowed comes) = behind request (_ ∷ _ ∷ []) ((limit _, refl), ((tt, refl), tt)) (comes_out request _ refl (preset refl) reply_ok comes)
-cache_course request (exchanges.without_data allowed without) = without_passphrase request without
-cache_course {before} request (exchanges.confirmation spec mode_is is_spec wants) =
-    wants_prompt request (AsksConsent spec before.notify) EndsConsent consent_code (λ prompt shown end asks in_session. consent_shows_work request asks in_session)
-    (λ end keep events went ends. ends_consent request ends) _ refl tt wants
-cache_course request (exchanges.unconfirmed {code = why} refusal) = only request (is_failed why)
-cache_course request (exchanges.one_turn is comes) = one_turn is comes
+record Replied (part : Part CacheReply) : Type 0 where
+  of : {before after : Option ℕ} {events : List (Event FurtherEvent)} {result : CacheReply} → part before events (Ok result) after → IsReply result.text
+
+replied_of : (value : CacheReply) → IsReply value.text → {before after : Option ℕ} {events : List (Event FurtherEvent)} {result : CacheReply} → Returns value before events (Ok result) after → IsReply result.text
+replied_of value is returns = is
+
+replied : (value : CacheReply) → IsReply value.text → Replied (Returns value)
+replied value is = record { of = replied_of value is }
+
+module _ {A : Type 0} {part : Part A} {next : A → Part CacheReply} (then : (value : A) → Replied (next value)) where
+  replied_then_of : {before after : Option ℕ} {events : List (Event FurtherEvent)} {result : CacheReply} → Follows part next before events (Ok result) after → IsReply result.text
+  replied_then_of (goes_on {value} does next_does) = (then value).of next_does
+
+  replied_then : Replied (part >>= next)
+  replied_then = record { of = replied_then_of }
+
+unanswered_of : {why : Refusal} {before after : Option ℕ} {events : List (Event FurtherEvent)} {result : CacheReply} → Refuses why before events (Ok result) after → IsReply result.text
+unanswered_of never = elim never [ ]
+
+unanswered : (why : Refusal) → Replied (Refuses why)
+unanswered why = record { of = unanswered_of }
+
+option_replied : (answer : OptionAnswer) (after : OptionValues) → Replied (option_replies answer after)
+option_replied option_answer.Set after = replied _ reply_ok
+option_replied option_answer.Unknown after = unanswered _
+option_replied option_answer.Parameter after = unanswered _
+option_replied option_answer.NotSupported after = unanswered _
+
+info_reply : (rules : Rules) (what : Info) {text : List ℕ} → IsInfo rules what text → IsReply text
+info_reply rules Version is = reply_cache is
+info_reply rules Pid is = reply_cache is
+info_reply rules S2kCount is = reply_cache is
+info_reply rules Listed is = subst IsReply (sym is) reply_ok
+
+module _ (rules : Rules) (options : OptionValues) where
+  info_replied : (what : Info) {before after : Option ℕ} {events : List (Event FurtherEvent)} {result : CacheReply} → (TellsInfo rules what >>= λ text. Returns (reply options text)) before events (Ok result) after
+      → IsReply result.text
+  info_replied what (goes_on (told.tells is) returns) = info_reply rules what is
+
+  passphrase_replied : (plain : Bool) (secret : List ℕ) {before after : Option ℕ} {events : List (Event FurtherEvent)} {result : CacheReply}
+      → (TellsPassphrase plain secret >>= λ text. Returns (reply options text)) before events (Ok result) after → IsReply result.text
+  passphrase_replied plain secret (goes_on (told.tells is) returns) = reply_passphrase plain _ _ is
+
+  all_replied : (command : CacheCommand) → Replied (Replies rules options command)
+  all_replied Nop = replied _ reply_ok
+  all_replied Reset = replied _ reply_ok
+  all_replied Bye = replied _ reply_closing
+  all_replied Help = replied _ reply_help
+  all_replied (SetOption text) = option_replied _ _
+  all_replied (SetKeyDesc text) = replied _ reply_ok
+  all_replied (GetInfo what) = record { of = info_replied what }
+  all_replied (GetPassphrase plain check no_ask repeat quality id texts) = replied_then (λ secret. record { of = passphrase_replied plain secret })
+  all_replied (PresetPassphrase id life secret) = replied_then (λ stored. replied _ reply_ok)
+  all_replied (ClearPassphrase id way) = replied_then (λ changed. replied _ reply_ok)
+  all_replied (GetConfirmation description) = replied_then (λ agreed. replied _ reply_ok)
+  all_replied ReloadAgent = replied_then (λ changed. replied _ reply_ok)
+  all_replied KillAgent = replied_then (λ changed. replied _ reply_closing)
+
+-- ---- exchanges
+
+module _ (request : Request) {part : Part CacheReply} (all_ends : EndsSo request part) (all_said : Replied part) where
+  part_course : {before after : OptionValues} {events : List (Event FurtherEvent)} {went : Went} → AnyExchange refusal_line went_after part before events after went → Course request events
+  part_course (exchange.answered events held given_reply does closes_so) =
+      let ends : Ends request events (Ok given_reply) held = all_ends.of None events (Ok given_reply) held does in
+      ends_course request ends _ (ok_end_closes request (all_said.of does) ends.end closes_so)
+  part_course (exchange.refused events held why does closes_so) =
+      let ends : Ends request events (Err why) held = all_ends.of None events (Err why) held does in
+      ends_course request ends _ (err_end_closes request ends.end closes_so)
+
+pub cache_course : (rules : Rules) (before after : OptionValues) (request : Request) (events : List (Event FurtherEvent)) (went : Went) → Exchange rules before request events after went → Course request events
+cache_course rules before after (Cache command) events went exchanged = part_course (Cache command) (replies (Cache command) rules before command refl) (all_replied rules before command) exchanged
+cache_course rules before after (Bad why) events went exchanged = part_course (Bad why) (ends_working (Bad why) (refuses_by (Bad why) (Agent why))) (unanswered (Agent why)) exchanged
+cache_course rules before after (Key line) events went never = absurd never
