@@ -1,5 +1,5 @@
 -- Requests on the cache and on the session: their work, and what ends them.
-use Rattle.std.proofs.Common.{◌≡◌, ℕ, Bool, true, false, List, [], ◌∷◌, ◌++◌, codes, Option, Some, None, Result, Ok, Err, refl, sym, ap, ◌∙◌, subst, append_assoc, append-nil}
+use Rattle.std.proofs.Common.{◌≡◌, ℕ, Bool, true, false, List, [], ◌∷◌, ◌++◌, codes, Option, Some, None, Result, Ok, Err, refl, sym, ap, ◌∙◌, subst, append_assoc}
 use Rattle.arrayvec.specs.ArrayVec.{ArrayVec}
 use Rattle.agent_ask.specs.ConsentParts.{AgreesTo}
 use Rattle.agent_ask.specs.ConsentParts as consent
@@ -7,16 +7,15 @@ use Rattle.agent_ask.specs.Further.{FurtherEvent}
 use Rattle.agent_ask.specs.Failing.{said_last}
 use Rattle.agent_ask.specs.PartExchanges.{AnyExchange}
 use Rattle.agent_ask.specs.PartExchanges as exchange
-use Rattle.agent_ask.specs.Parts.{◌>>=◌, Follows, goes_on, stops, Returns, returns, Refuses}
+use Rattle.agent_ask.specs.Parts.{◌>>=◌, Follows, goes_on, stops, Returns, returns, Refuses, or_else}
 use Rattle.agent_ask.specs.Parts as chain
-use Rattle.agent_ask.specs.SessionEvents.{Sent, cache_turn}
+use Rattle.agent_ask.specs.SessionEvents.{Sent}
 use Rattle.agent_ask.specs.TurnParts.{Closes}
 use Rattle.agent_ask.specs.TurnParts as taken
 use Rattle.assuan_server.specs.Clients.{session_lines}
 use Rattle.assuan_server.specs.Written.{refusal_line}
-use Rattle.cache_policy.specs.Turns.{Turn}
 use Rattle.cache_policy.specs.declared.life.Life.{Life}
-use Rattle.cache_policy.specs.declared.mark.MarkStep.TheVariants.{Close, Seat}
+use Rattle.cache_policy.specs.declared.mark.MarkStep.TheVariants.{Seat}
 use Rattle.cache_policy.specs.declared.mode.Mode.TheVariants.{Any, User}
 use Rattle.cache_policy.specs.declared.secret.TheConstants.{MAX_SECRET_LEN}
 use Rattle.session_client.specs.declared.code.Code.TheVariants as code
@@ -45,14 +44,24 @@ use Rattle.agent_commands.specs.declared.request.Request.{Request}
 use Rattle.agent_commands.specs.declared.request.Request.TheVariants.{Cache, Key, Bad}
 use Rattle.agent_commands.specs.declared.request.Texts.{Texts}
 use Rattle.agent_commands.specs.declared.went.Went.{Went}
-use Rattle.agent_session.specs.Completeness.{done}
+use Rattle.agent_session.specs.Completeness.{IsAnswer, done}
 use Rattle.agent_session.specs.Refusals.{IsWork, AreWork, limit, MayStore, preset, given, said, IsEnd, Course}
 use Rattle.agent_session.specs.Refusals as course
-use Rattle.agent_session.proofs.Courses.{WorkEnd, no_more, refused, Works, works, ok_works, err_works, WorksSo, bind, returned, refuses_by, is_needed, or_otherwise, is_wanted}
+use Rattle.agent_session.proofs.Courses.{WorkEnd, no_more, refused, Works, works, ok_works, WorksSo, bind, returned, refuses_by, is_needed, or_otherwise, is_wanted}
 use Rattle.agent_session.proofs.PromptCourses.{pin_shows_work, consent_shows_work, shown_ok, refused_pin, refused_consent}
 use Rattle.agent_session.proofs.Replying.{IsReply, begins, reply_ok, reply_closing, reply_help, reply_cache, reply_passphrase}
 use Rattle.agent_session.proofs.TurnCourses.{refusal_last, held_back, last_end, looks, seats, changes, asks_client}
 use Rattle.key_commands.proofs.EachEvent.{each_append}
+
+-- texts that answer
+is_reply : {text : List ℕ} → IsReply text → IsAnswer text
+is_reply (begins other ends) = done ends
+
+info_reply : (rules : Rules) (what : Info) {text : List ℕ} → IsInfo rules what text → IsReply text
+info_reply rules Version is = reply_cache is
+info_reply rules Pid is = reply_cache is
+info_reply rules S2kCount is = reply_cache is
+info_reply rules Listed is = subst IsReply (sym is) reply_ok
 
 module _ (request : Request) where
   abbrev PartHere : {A : Type 0} → Part A → Type 0
@@ -85,91 +94,88 @@ module _ (request : Request) where
     without_prompt : (way : PinMode) → PartHere (WithoutPrompt id way)
     without_prompt way = bind request (looks_for id) (λ cached. or_otherwise request cached (uncached way))
 
-  -- ---- behind the work: a ticket that was given back
+  -- ---- behind the work
 
-  data PartEnd {A : Type 0} : List (Event FurtherEvent) → Result A Refusal → Option ℕ → Type 0 where
-    working : {last : List (Event FurtherEvent)} {result : Result A Refusal} {held : Option ℕ} → WorkEnd request last result → PartEnd last result held
-    closed : {ticket : ℕ} {keep : Option (List ℕ)} {value : A} (turn : Turn) → PartEnd (cache_turn (Close ticket keep) turn ∷ []) (Ok value) None
-
-  record Ends {A : Type 0} (events : List (Event FurtherEvent)) (result : Result A Refusal) (held : Option ℕ) : Type 0 where
-    work : List (Event FurtherEvent)
-    last : List (Event FurtherEvent)
-    is : events ≡ work ++ last
-    each : AreWork request work
-    end : PartEnd last result held
-
-  record EndsSo {A : Type 0} (part : Part A) : Type 0 where
-    of : (before : Option ℕ) (events : List (Event FurtherEvent)) (result : Result A Refusal) (after : Option ℕ) → part before events result after → Ends events result after
-
-  working_ends : {A : Type 0} {events : List (Event FurtherEvent)} {result : Result A Refusal} {held : Option ℕ} → Works request events result → Ends events result held
-  working_ends does = record { work = does.work; last = does.last; is = does.is; each = does.each; end = working does.end }
-
-  ends_working : {A : Type 0} {part : Part A} → PartHere part → EndsSo part
-  ends_working part_works = record { of = λ before events result after does. working_ends (part_works.of before events result after does) }
-
-  behind : {A : Type 0} {events : List (Event FurtherEvent)} {result : Result A Refusal} {held : Option ℕ} (first : List (Event FurtherEvent)) → AreWork request first → Ends events result held
-      → Ends (first ++ events) result held
-  behind first each ends = record {
-    work = first ++ ends.work;
-    last = ends.last;
-    is = ap (λ e. first ++ e) ends.is ∙ sym (append_assoc first ends.work ends.last);
-    each = each_append (IsWork request) first ends.work each ends.each;
-    end = ends.end;
+  behind : {events : List (Event FurtherEvent)} (first : List (Event FurtherEvent)) → AreWork request first → Course request events → Course request (first ++ events)
+  behind first each goes = record {
+    work = first ++ goes.work;
+    last = goes.last;
+    is = ap (λ e. first ++ e) goes.is ∙ sym (append_assoc first goes.work goes.last);
+    each = each_append (IsWork request) first goes.work each goes.each;
+    end = goes.end;
   }
 
-  -- work, and then what ends the request
-  module _ {A B : Type 0} {part : Part A} {next : A → Part B} (first : PartHere part) (then : (value : A) → EndsSo (next value)) where
-    bind_ends_of : (before : Option ℕ) (events : List (Event FurtherEvent)) (result : Result B Refusal) (after : Option ℕ) → Follows part next before events result after → Ends events result after
-    bind_ends_of before events result after (goes_on {first = some} {events = more} {value} {mid} does next_does) =
-        behind some (ok_works request (first.of before some (Ok value) mid does)) ((then value).of mid more result after next_does)
-    bind_ends_of before events result after (stops {refusal = why} does) = working_ends (err_works request (first.of before events (Err why) after does))
+  answered : {text : List ℕ} {held : Option ℕ} {back : List (Event FurtherEvent)} → IsReply text → Closes None held back (Ok tt) None → Course request (back ++ Sent text ∷ [])
+  answered is closes_so = record { work = []; last = _; is = refl; each = tt; end = last_end request (said (is_reply is)) closes_so }
 
-    bind_ends : EndsSo (part >>= next)
-    bind_ends = record { of = bind_ends_of }
+  refused_end : {A : Type 0} {last back : List (Event FurtherEvent)} {held : Option ℕ} {why : Refusal} → WorkEnd request {A = A} last (Err why) → Closes None held back (Ok tt) None
+      → IsEnd request (last ++ (back ++ said_last (refusal_line why)))
+  refused_end {why} no_more closes_so = last_end request (refusal_last why) closes_so
+  refused_end (refused allowed is) closes_so = course.refused allowed is (held_back _ closes_so)
 
-  ok_end : {A B : Type 0} {last : List (Event FurtherEvent)} {value : A} {held : Option ℕ} (other : B) → PartEnd last (Ok value) held → PartEnd last (Ok other) held
-  ok_end other (working no_more) = working no_more
-  ok_end other (closed turn) = closed turn
+  refusal : {A : Type 0} {events back : List (Event FurtherEvent)} {held : Option ℕ} {why : Refusal} → Works request {A = A} events (Err why) → Closes None held back (Ok tt) None
+      → Course request (events ++ (back ++ said_last (refusal_line why)))
+  refusal {back} {why} does closes_so =
+      record { work = does.work; last = does.last ++ _; is = ap (λ e. e ++ (back ++ said_last (refusal_line why))) does.is ∙ append_assoc does.work does.last _; each = does.each; end = refused_end does.end closes_so }
 
-  err_end : {A B : Type 0} {last : List (Event FurtherEvent)} {why : Refusal} {held : Option ℕ} → PartEnd {A = A} last (Err why) held → PartEnd {A = B} last (Err why) held
-  err_end (working no_more) = working no_more
-  err_end (working (refused allowed is)) = working (refused allowed is)
+  -- what is written for what a request comes to
+  abbrev written_for : Result CacheReply Refusal → List (Event FurtherEvent)
+  written_for (Ok given_reply) = Sent given_reply.text ∷ []
+  written_for (Err why) = said_last (refusal_line why)
 
-  -- a passphrase is told without an event
-  module _ (plain : Bool) (options : OptionValues) {part : Part (List ℕ)} (all_ends : EndsSo part) where
-    tells_of : (before : Option ℕ) (events : List (Event FurtherEvent)) (result : Result CacheReply Refusal) (after : Option ℕ)
-        → Follows part (λ secret. (TellsPassphrase plain secret >>= λ text. Returns (reply options text))) before events result after → Ends events result after
-    tells_of before events result after (goes_on {first = some} {value} {mid} does (goes_on (told.tells {text} is) returns)) =
-        let ends : Ends some (Ok value) mid = all_ends.of before some (Ok value) mid does in
-        record { work = ends.work; last = ends.last; is = append-nil some ∙ ends.is; each = ends.each; end = ok_end (reply options text) ends.end }
-    tells_of before events result after (goes_on does (stops never)) = elim never [ ]
-    tells_of before events result after (stops {refusal = why} does) =
-        let ends : Ends events (Err why) after = all_ends.of before events (Err why) after does in
-        record { work = ends.work; last = ends.last; is = ends.is; each = ends.each; end = err_end ends.end }
+  -- it is a course, with the return of a ticket that is held then, and the answer
+  abbrev Answered : List (Event FurtherEvent) → Result CacheReply Refusal → Option ℕ → Type 0
+  Answered events result held = (back : List (Event FurtherEvent)) → Closes None held back (Ok tt) None → Course request (events ++ (back ++ written_for result))
 
-  -- ---- prompts
+  record RepliesSo (part : Part CacheReply) : Type 0 where
+    of : (before : Option ℕ) (events : List (Event FurtherEvent)) (result : Result CacheReply Refusal) (after : Option ℕ) → part before events result after → Answered events result after
+
+  replied_of : (value : CacheReply) → IsReply value.text → (before : Option ℕ) (events : List (Event FurtherEvent)) (result : Result CacheReply Refusal) (after : Option ℕ) → Returns value before events result after
+      → Answered events result after
+  replied_of value is before events result after returns back closes_so = answered is closes_so
+
+  replied : (value : CacheReply) → IsReply value.text → RepliesSo (Returns value)
+  replied value is = record { of = replied_of value is }
+
+  refused_of : (why : Refusal) (before : Option ℕ) (events : List (Event FurtherEvent)) (result : Result CacheReply Refusal) (after : Option ℕ) → Refuses {A = CacheReply} why before events result after → Answered events result after
+  refused_of why before events result after chain.refuses back closes_so = refusal {A = CacheReply} {events = []} {why = why} (works request tt) closes_so
+
+  refused_by : (why : Refusal) → RepliesSo (Refuses why)
+  refused_by why = record { of = refused_of why }
+
+  -- work, and then what comes to the reply
+  module _ {A : Type 0} {part : Part A} {next : A → Part CacheReply} (first : PartHere part) (then : (value : A) → RepliesSo (next value)) where
+    then_of : (before : Option ℕ) (events : List (Event FurtherEvent)) (result : Result CacheReply Refusal) (after : Option ℕ) → Follows part next before events result after → Answered events result after
+    then_of before events result after (goes_on {first = some} {events = more} {value} {mid} does next_does) back closes_so =
+        subst (Course request) (sym (append_assoc some more _)) (behind some (ok_works request (first.of before some (Ok value) mid does)) ((then value).of mid more result after next_does back closes_so))
+    then_of before events result after (stops {refusal = why} does) back closes_so = refusal (first.of before events (Err why) after does) closes_so
+
+    then_replies : RepliesSo (part >>= next)
+    then_replies = record { of = then_of }
+
+  -- parts one after another, however they are grouped
+  module _ {A B : Type 0} {part : Part A} {middle : A → Part B} {next : B → Part CacheReply} (so : RepliesSo (part >>= λ value. (middle value >>= next))) where
+    grouped_of : (before : Option ℕ) (events : List (Event FurtherEvent)) (result : Result CacheReply Refusal) (after : Option ℕ) → Follows (part >>= middle) next before events result after → Answered events result after
+    grouped_of before events result after (goes_on {events = last} (goes_on {first} {events = more} does then_does) next_does) back closes_so =
+        subst (λ e. Course request (e ++ (back ++ written_for result))) (sym (append_assoc first more last)) (so.of before _ result after (goes_on does (goes_on then_does next_does)) back closes_so)
+    grouped_of before events result after (stops (goes_on does then_does)) back closes_so = so.of before events result after (goes_on does (stops then_does)) back closes_so
+    grouped_of before events result after (stops (stops does)) back closes_so = so.of before events result after (stops does) back closes_so
+
+    grouped : RepliesSo ((part >>= middle) >>= next)
+    grouped = record { of = grouped_of }
 
   module _ (rules : Rules) (options : OptionValues) where
-    module _ (texts : Texts) (check quality : Bool) (repeat : ℕ) where
-      any_of : (before : Option ℕ) (events : List (Event FurtherEvent)) (result : Result (List ℕ) Refusal) (after : Option ℕ) → PromptsAny rules options texts check quality repeat before events result after
-          → Works request events result
-      any_of before events result after (passphrases.given spec is prompt) = shown_ok request (pin_shows_work request prompt.asks prompt.in_session)
-      any_of before events result after (passphrases.refused spec is prompt other refusal) = refused_pin request prompt refusal
+    -- ---- prompts
 
-      gives_back_of : (pin : List ℕ) (before : Option ℕ) (events : List (Event FurtherEvent)) (result : Result (List ℕ) Refusal) (after : Option ℕ)
-          → (Closes (Some pin) >>= λ kept. Returns pin) before events result after → Ends events result after
-      gives_back_of pin before events result after (goes_on taken.unheld returns) = working_ends (works request tt)
-      gives_back_of pin before events result after (goes_on (taken.closed turn) returns) = record { work = []; last = _; is = refl; each = tt; end = closed turn }
-      gives_back_of pin before events result after (stops never) = elim never [ ]
-
-      prompted : (cached : Option (List ℕ)) → EndsSo (chain.or_else cached (Prompts rules options texts check quality repeat))
-      prompted None = bind_ends (record { of = any_of }) (λ pin. record { of = gives_back_of pin })
-      prompted (Some secret) = ends_working (returned request secret)
+    any_of : (texts : Texts) (check quality : Bool) (repeat : ℕ) (before : Option ℕ) (events : List (Event FurtherEvent)) (result : Result (List ℕ) Refusal) (after : Option ℕ)
+        → PromptsAny rules options texts check quality repeat before events result after → Works request events result
+    any_of texts check quality repeat before events result after (passphrases.given spec is prompt) = shown_ok request (pin_shows_work request prompt.asks prompt.in_session)
+    any_of texts check quality repeat before events result after (passphrases.refused spec is prompt other refusal_is) = refused_pin request prompt refusal_is
 
     agrees_of : (question : List ℕ) (before : Option ℕ) (events : List (Event FurtherEvent)) (result : Result (Unit {0}) Refusal) (after : Option ℕ)
         → AgreesTo session_lines rules options question before events result after → Works request events result
     agrees_of question before events result after (consent.consents spec is prompt) = shown_ok request (consent_shows_work request prompt.asks prompt.in_session)
-    agrees_of question before events result after (consent.refused spec is prompt refusal) = refused_consent request prompt refusal
+    agrees_of question before events result after (consent.refused spec is prompt refusal_is) = refused_consent request prompt refusal_is
 
     confirmed : (way : PinMode) (description : ArrayVec ℕ) → PartHere (confirms_by rules options way description)
     confirmed mode.Ask description = bind request (seats request (Seat None None) refl tt) (λ seated. record { of = agrees_of description.items })
@@ -177,144 +183,87 @@ module _ (request : Request) where
     confirmed mode.Error description = refuses_by request (Agent code.NoPinentry)
     confirmed mode.Loopback description = refuses_by request (Agent code.NoPinentry)
 
-    -- ---- requests
+    -- ---- GET_PASSPHRASE
 
     module _ (fields : GetFields) (stores : (named : List ℕ) → fields.id ≡ Some named → MayStore request named User) where
+      abbrev Tells : List ℕ → Part CacheReply
+      Tells secret = TellsPassphrase fields.plain secret >>= λ text. Returns (reply options text)
+
+      tells_of : (secret : List ℕ) (before : Option ℕ) (events : List (Event FurtherEvent)) (result : Result CacheReply Refusal) (after : Option ℕ) → Tells secret before events result after → Answered events result after
+      tells_of secret before events result after (goes_on (told.tells is) returns) back closes_so = answered (reply_passphrase fields.plain _ _ is) closes_so
+      tells_of secret before events result after (stops never) back closes_so = elim never [ ]
+
+      then_tells : {part : Part (List ℕ)} → PartHere part → RepliesSo (part >>= Tells)
+      then_tells first = then_replies first (λ secret. record { of = tells_of secret })
+
+      -- the ticket is given back before
+      kept_of : (pin : List ℕ) (before : Option ℕ) (events : List (Event FurtherEvent)) (result : Result CacheReply Refusal) (after : Option ℕ)
+          → ((Closes (Some pin) >>= λ kept. Returns pin) >>= Tells) before events result after → Answered events result after
+      kept_of pin before events result after (goes_on (goes_on taken.unheld returns) (goes_on (told.tells is) returns)) back closes_so = answered (reply_passphrase fields.plain _ _ is) closes_so
+      kept_of pin before events result after (goes_on (goes_on (taken.closed turn) returns) (goes_on (told.tells is) returns)) back taken.unheld =
+          record { work = []; last = _; is = refl; each = tt; end = course.given_back turn (said (is_reply (reply_passphrase fields.plain _ _ is))) }
+      kept_of pin before events result after (goes_on does (stops never)) back closes_so = elim never [ ]
+      kept_of pin before events result after (stops (goes_on does never)) back closes_so = elim never [ ]
+      kept_of pin before events result after (stops (stops never)) back closes_so = elim never [ ]
+
+      prompted : (texts : Texts) (cached : Option (List ℕ)) → RepliesSo (or_else cached (Prompts rules options texts fields.check fields.quality fields.repeat) >>= Tells)
+      prompted texts None = grouped (then_replies (record { of = any_of texts fields.check fields.quality fields.repeat }) (λ pin. record { of = kept_of pin }))
+      prompted texts (Some secret) = then_tells (returned request secret)
+
       by_cache : PartHere (passphrases.ByCache fields.id)
       by_cache = bind request (looks_for fields.id) (λ cached. is_needed request code.NoData cached)
 
-      wanted_so : (way : PinMode) (texts : Texts) → EndsSo (as_wanted rules options fields way texts)
-      wanted_so mode.Ask texts = bind_ends (wants_prompt fields.id) (λ cached. prompted texts fields.check fields.quality fields.repeat cached)
-      wanted_so mode.Cancel texts = ends_working (without_prompt fields.id stores mode.Cancel)
-      wanted_so mode.Error texts = ends_working (without_prompt fields.id stores mode.Error)
-      wanted_so mode.Loopback texts = ends_working (without_prompt fields.id stores mode.Loopback)
+      wanted_so : (way : PinMode) (texts : Texts) → RepliesSo (as_wanted rules options fields way texts >>= Tells)
+      wanted_so mode.Ask texts = grouped (then_replies (wants_prompt fields.id) (λ cached. prompted texts cached))
+      wanted_so mode.Cancel texts = then_tells (without_prompt fields.id stores mode.Cancel)
+      wanted_so mode.Error texts = then_tells (without_prompt fields.id stores mode.Error)
+      wanted_so mode.Loopback texts = then_tells (without_prompt fields.id stores mode.Loopback)
 
-      passphrase_so : (no_ask : Bool) (texts : Option Texts) → EndsSo (passphrase_by rules options fields no_ask texts)
-      passphrase_so no_ask None = ends_working by_cache
-      passphrase_so true (Some texts) = ends_working by_cache
+      passphrase_so : (no_ask : Bool) (texts : Option Texts) → RepliesSo (passphrase_by rules options fields no_ask texts >>= Tells)
+      passphrase_so no_ask None = then_tells by_cache
+      passphrase_so true (Some texts) = then_tells by_cache
       passphrase_so false (Some texts) = wanted_so options.mode texts
 
-    given_or_asked : (secret : Option (List ℕ)) → PartHere (told.GivenOrAsked secret)
-    given_or_asked secret = or_otherwise request secret asks_passphrase
+    -- ---- requests
 
     presets : (id : List ℕ) (life : Life) (secret : Option (List ℕ)) → MayStore request id Any → PartHere (told.Presets rules id life secret)
-    presets id life secret stores = bind request (is_wanted request code.NotSupported rules.allow_preset) (λ allowed. bind request (given_or_asked secret) (λ given_so. changes request _ refl stores))
+    presets id life secret stores =
+        bind request (is_wanted request code.NotSupported rules.allow_preset) (λ allowed. bind request (or_otherwise request secret asks_passphrase) (λ given_so. changes request _ refl stores))
 
-    info_of : (what : Info) (before : Option ℕ) (events : List (Event FurtherEvent)) (result : Result (List ℕ) Refusal) (after : Option ℕ) → TellsInfo rules what before events result after
-        → Works request events result
-    info_of what before events result after (told.tells is) = works request tt
+    info_of : (what : Info) (before : Option ℕ) (events : List (Event FurtherEvent)) (result : Result CacheReply Refusal) (after : Option ℕ)
+        → (TellsInfo rules what >>= λ text. Returns (reply options text)) before events result after → Answered events result after
+    info_of what before events result after (goes_on (told.tells is) returns) back closes_so = answered (info_reply rules what is) closes_so
+    info_of what before events result after (stops never) back closes_so = elim never [ ]
 
-    option_so : (answer : OptionAnswer) (after : OptionValues) → PartHere (option_replies answer after)
-    option_so option_answer.Set after = returned request _
-    option_so option_answer.Unknown after = refuses_by request (Agent code.UnknownOption)
-    option_so option_answer.Parameter after = refuses_by request (Agent code.Parameter)
-    option_so option_answer.NotSupported after = refuses_by request (Agent code.NotSupported)
+    option_so : (answer : OptionAnswer) (after : OptionValues) → RepliesSo (option_replies answer after)
+    option_so option_answer.Set after = replied _ reply_ok
+    option_so option_answer.Unknown after = refused_by (Agent code.UnknownOption)
+    option_so option_answer.Parameter after = refused_by (Agent code.Parameter)
+    option_so option_answer.NotSupported after = refused_by (Agent code.NotSupported)
 
-    replies : (command : CacheCommand) → request ≡ Cache command → EndsSo (Replies rules options command)
-    replies Nop is = ends_working (returned request _)
-    replies Reset is = ends_working (returned request _)
-    replies Bye is = ends_working (returned request _)
-    replies Help is = ends_working (returned request _)
-    replies (SetOption text) is = ends_working (option_so (applied options text.items).answer (applied options text.items).after)
-    replies (SetKeyDesc text) is = ends_working (returned request _)
-    replies (GetInfo what) is = ends_working (bind request (record { of = info_of what }) (λ text. returned request _))
+    replies : (command : CacheCommand) → request ≡ Cache command → RepliesSo (Replies rules options command)
+    replies Nop is = replied _ reply_ok
+    replies Reset is = replied _ reply_ok
+    replies Bye is = replied _ reply_closing
+    replies Help is = replied _ reply_help
+    replies (SetOption text) is = option_so (applied options text.items).answer (applied options text.items).after
+    replies (SetKeyDesc text) is = replied _ reply_ok
+    replies (GetInfo what) is = record { of = info_of what }
     replies (GetPassphrase plain check no_ask repeat quality id texts) is =
         let fields : GetFields = record { plain = plain; check = check; no_ask = no_ask; repeat = repeat; quality = quality; id = id; texts = texts } in
-        record { of = tells_of plain options (passphrase_so fields (λ named same. given fields is same) no_ask texts) }
-    replies (PresetPassphrase id life secret) is = ends_working (bind request (presets id life secret (preset is)) (λ stored. returned request _))
-    replies (ClearPassphrase id way) is = ends_working (bind request (changes request _ refl is) (λ changed. returned request _))
-    replies (GetConfirmation description) is = ends_working (bind request (confirmed options.mode description) (λ agreed. returned request _))
-    replies ReloadAgent is = ends_working (bind request (changes request _ refl is) (λ changed. returned request _))
-    replies KillAgent is = ends_working (bind request (changes request _ refl is) (λ changed. returned request _))
+        passphrase_so fields (λ named same. given fields is same) no_ask texts
+    replies (PresetPassphrase id life secret) is = then_replies (presets id life secret (preset is)) (λ stored. replied _ reply_ok)
+    replies (ClearPassphrase id way) is = then_replies (changes request _ refl is) (λ changed. replied _ reply_ok)
+    replies (GetConfirmation description) is = then_replies (confirmed options.mode description) (λ agreed. replied _ reply_ok)
+    replies ReloadAgent is = then_replies (changes request _ refl is) (λ changed. replied _ reply_ok)
+    replies KillAgent is = then_replies (changes request _ refl is) (λ changed. replied _ reply_closing)
 
-  -- ---- answers
-
-  ok_end_closes : {last back : List (Event FurtherEvent)} {held : Option ℕ} {given_reply : CacheReply} → IsReply given_reply.text → PartEnd last (Ok given_reply) held → Closes None held back (Ok tt) None
-      → IsEnd request (last ++ (back ++ Sent given_reply.text ∷ []))
-  ok_end_closes (begins other ends) (working no_more) closes_so = last_end request (said (done ends)) closes_so
-  ok_end_closes (begins other ends) (closed turn) taken.unheld = course.given_back turn (said (done ends))
-
-  err_end_closes : {last back : List (Event FurtherEvent)} {held : Option ℕ} {why : Refusal} → PartEnd {A = CacheReply} last (Err why) held → Closes None held back (Ok tt) None
-      → IsEnd request (last ++ (back ++ said_last (refusal_line why)))
-  err_end_closes {why} (working no_more) closes_so = last_end request (refusal_last why) closes_so
-  err_end_closes (working (refused allowed is)) closes_so = course.refused allowed is (held_back _ closes_so)
-
-  ends_course : {A : Type 0} {events : List (Event FurtherEvent)} {result : Result A Refusal} {held : Option ℕ} (ends : Ends events result held) (more : List (Event FurtherEvent)) → IsEnd request (ends.last ++ more)
-      → Course request (events ++ more)
-  ends_course ends more end = record { work = ends.work; last = ends.last ++ more; is = ap (λ e. e ++ more) ends.is ∙ append_assoc ends.work ends.last more; each = ends.each; end = end }
-
--- ---- each reply is one
-
-record Replied (part : Part CacheReply) : Type 0 where
-  of : {before after : Option ℕ} {events : List (Event FurtherEvent)} {result : CacheReply} → part before events (Ok result) after → IsReply result.text
-
-replied_of : (value : CacheReply) → IsReply value.text → {before after : Option ℕ} {events : List (Event FurtherEvent)} {result : CacheReply} → Returns value before events (Ok result) after → IsReply result.text
-replied_of value is returns = is
-
-replied : (value : CacheReply) → IsReply value.text → Replied (Returns value)
-replied value is = record { of = replied_of value is }
-
-module _ {A : Type 0} {part : Part A} {next : A → Part CacheReply} (then : (value : A) → Replied (next value)) where
-  replied_then_of : {before after : Option ℕ} {events : List (Event FurtherEvent)} {result : CacheReply} → Follows part next before events (Ok result) after → IsReply result.text
-  replied_then_of (goes_on {value} does next_does) = (then value).of next_does
-
-  replied_then : Replied (part >>= next)
-  replied_then = record { of = replied_then_of }
-
-unanswered_of : {why : Refusal} {before after : Option ℕ} {events : List (Event FurtherEvent)} {result : CacheReply} → Refuses why before events (Ok result) after → IsReply result.text
-unanswered_of never = elim never [ ]
-
-unanswered : (why : Refusal) → Replied (Refuses why)
-unanswered why = record { of = unanswered_of }
-
-option_replied : (answer : OptionAnswer) (after : OptionValues) → Replied (option_replies answer after)
-option_replied option_answer.Set after = replied _ reply_ok
-option_replied option_answer.Unknown after = unanswered _
-option_replied option_answer.Parameter after = unanswered _
-option_replied option_answer.NotSupported after = unanswered _
-
-info_reply : (rules : Rules) (what : Info) {text : List ℕ} → IsInfo rules what text → IsReply text
-info_reply rules Version is = reply_cache is
-info_reply rules Pid is = reply_cache is
-info_reply rules S2kCount is = reply_cache is
-info_reply rules Listed is = subst IsReply (sym is) reply_ok
-
-module _ (rules : Rules) (options : OptionValues) where
-  info_replied : (what : Info) {before after : Option ℕ} {events : List (Event FurtherEvent)} {result : CacheReply} → (TellsInfo rules what >>= λ text. Returns (reply options text)) before events (Ok result) after
-      → IsReply result.text
-  info_replied what (goes_on (told.tells is) returns) = info_reply rules what is
-
-  passphrase_replied : (plain : Bool) (secret : List ℕ) {before after : Option ℕ} {events : List (Event FurtherEvent)} {result : CacheReply}
-      → (TellsPassphrase plain secret >>= λ text. Returns (reply options text)) before events (Ok result) after → IsReply result.text
-  passphrase_replied plain secret (goes_on (told.tells is) returns) = reply_passphrase plain _ _ is
-
-  all_replied : (command : CacheCommand) → Replied (Replies rules options command)
-  all_replied Nop = replied _ reply_ok
-  all_replied Reset = replied _ reply_ok
-  all_replied Bye = replied _ reply_closing
-  all_replied Help = replied _ reply_help
-  all_replied (SetOption text) = option_replied _ _
-  all_replied (SetKeyDesc text) = replied _ reply_ok
-  all_replied (GetInfo what) = record { of = info_replied what }
-  all_replied (GetPassphrase plain check no_ask repeat quality id texts) = replied_then (λ secret. record { of = passphrase_replied plain secret })
-  all_replied (PresetPassphrase id life secret) = replied_then (λ stored. replied _ reply_ok)
-  all_replied (ClearPassphrase id way) = replied_then (λ changed. replied _ reply_ok)
-  all_replied (GetConfirmation description) = replied_then (λ agreed. replied _ reply_ok)
-  all_replied ReloadAgent = replied_then (λ changed. replied _ reply_ok)
-  all_replied KillAgent = replied_then (λ changed. replied _ reply_closing)
-
--- ---- exchanges
-
-module _ (request : Request) {part : Part CacheReply} (all_ends : EndsSo request part) (all_said : Replied part) where
-  part_course : {before after : OptionValues} {events : List (Event FurtherEvent)} {went : Went} → AnyExchange refusal_line went_after part before events after went → Course request events
-  part_course (exchange.answered events held given_reply does closes_so) =
-      let ends : Ends request events (Ok given_reply) held = all_ends.of None events (Ok given_reply) held does in
-      ends_course request ends _ (ok_end_closes request (all_said.of does) ends.end closes_so)
-  part_course (exchange.refused events held why does closes_so) =
-      let ends : Ends request events (Err why) held = all_ends.of None events (Err why) held does in
-      ends_course request ends _ (err_end_closes request ends.end closes_so)
+  part_course : {part : Part CacheReply} → RepliesSo part → {before after : OptionValues} {events : List (Event FurtherEvent)} {went : Went} → AnyExchange refusal_line went_after part before events after went
+      → Course request events
+  part_course so (exchange.answered events held given_reply does closes_so) = so.of None events (Ok given_reply) held does _ closes_so
+  part_course so (exchange.refused events held why does closes_so) = so.of None events (Err why) held does _ closes_so
 
 pub cache_course : (rules : Rules) (before after : OptionValues) (request : Request) (events : List (Event FurtherEvent)) (went : Went) → Exchange rules before request events after went → Course request events
-cache_course rules before after (Cache command) events went exchanged = part_course (Cache command) (replies (Cache command) rules before command refl) (all_replied rules before command) exchanged
-cache_course rules before after (Bad why) events went exchanged = part_course (Bad why) (ends_working (Bad why) (refuses_by (Bad why) (Agent why))) (unanswered (Agent why)) exchanged
+cache_course rules before after (Cache command) events went exchanged = part_course (Cache command) (replies (Cache command) rules before command refl) exchanged
+cache_course rules before after (Bad why) events went exchanged = part_course (Bad why) (refused_by (Bad why) (Agent why)) exchanged
 cache_course rules before after (Key line) events went never = absurd never
