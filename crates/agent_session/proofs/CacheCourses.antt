@@ -1,76 +1,102 @@
 -- Requests on the cache and on the session: their work, and what ends them.
-use Rattle.std.proofs.Common.{◌≡◌, ℕ, Bool, List, [], ◌∷◌, ◌++◌, Option, Some, None, refl, sym, ap, ◌∙◌, subst, append_assoc, append-nil}
-use Rattle.std.specs.Prelude.{⊤}
-use Rattle.agent_ask.specs.Consents.{AsksConsent}
-use Rattle.agent_ask.specs.Events.{PromptEvent}
-use Rattle.agent_ask.specs.Failing.{said_last, fails}
+use Rattle.std.proofs.Common.{◌≡◌, ℕ, Bool, true, false, List, [], ◌∷◌, ◌++◌, codes, Option, Some, None, Result, Ok, Err, refl, sym, ap, ◌∙◌, subst, append_assoc}
+use Rattle.arrayvec.specs.ArrayVec.{ArrayVec}
+use Rattle.agent_ask.specs.ConsentParts.{AgreesTo}
+use Rattle.agent_ask.specs.ConsentParts as consent
 use Rattle.agent_ask.specs.Further.{FurtherEvent}
-use Rattle.agent_ask.specs.Prompts.{AsksPin}
-use Rattle.agent_ask.specs.SessionEvents.{Sent, cache_turn}
-use Rattle.agent_ask.specs.UnderTickets.{AnyInSession, Prompts, AsksOnce, EndsOnce, none as no_more, next, asked as asked_under}
-use Rattle.agent_ask.specs.declared.ask.Asked.{Asked as Answer}
-use Rattle.agent_ask.specs.declared.consent.Agreed.{Agreed}
-use Rattle.agent_ask.specs.declared.spec.AskPlan.{AskPlan}
-use Rattle.agent_ask.specs.declared.spec.PromptSpec.{PromptSpec}
+use Rattle.agent_ask.specs.Failing.{said_last}
+use Rattle.agent_ask.specs.PartExchanges.{AnyExchange}
+use Rattle.agent_ask.specs.PartExchanges as exchange
+use Rattle.agent_ask.specs.Parts.{◌>>=◌, Follows, goes_on, stops, Returns, returns, Refuses, or_else}
+use Rattle.agent_ask.specs.Parts as chain
+use Rattle.agent_ask.specs.SessionEvents.{Sent}
+use Rattle.agent_ask.specs.TurnParts.{Closes}
+use Rattle.agent_ask.specs.TurnParts as taken
 use Rattle.assuan_server.specs.Clients.{session_lines}
-use Rattle.session_client.specs.declared.code.Code.{Code}
+use Rattle.assuan_server.specs.Written.{refusal_line}
+use Rattle.cache_policy.specs.declared.life.Life.{Life}
+use Rattle.cache_policy.specs.declared.mark.MarkStep.TheVariants.{Seat}
+use Rattle.cache_policy.specs.declared.mode.Mode.TheVariants.{Any, User}
+use Rattle.cache_policy.specs.declared.secret.TheConstants.{MAX_SECRET_LEN}
 use Rattle.session_client.specs.declared.code.Code.TheVariants as code
-use Rattle.assuan_server.specs.declared.errors.Origin.TheVariants.{Agent, Pinentry}
-use Rattle.assuan_server.specs.Written.{failed}
-use Rattle.cache_policy.specs.Turns.{Turn, closes}
-use Rattle.cache_policy.specs.declared.mark.MarkStep.{MarkStep}
-use Rattle.cache_policy.specs.declared.mark.MarkStep.TheVariants.{Close}
-use Rattle.cache_policy.specs.declared.mode.Mode.TheVariants.{User}
-use Rattle.session_client.specs.declared.unheard.Gone.TheVariants as gone
-use Rattle.session_client.specs.declared.unheard.Unheard.{Unheard}
-use Rattle.session_client.specs.declared.unheard.Unheard.TheVariants as unheard
+use Rattle.session_client.specs.declared.refusal.Refusal.{Refusal}
+use Rattle.session_client.specs.declared.refusal.Refusal.TheVariants.{Agent}
 use Rattle.session_options.specs.OptionValues.{OptionValues, applied}
 use Rattle.session_options.specs.declared.options.OptionAnswer.{OptionAnswer}
 use Rattle.session_options.specs.declared.options.OptionAnswer.TheVariants as option_answer
 use Rattle.session_options.specs.declared.options.PinMode.{PinMode}
+use Rattle.session_options.specs.declared.options.PinMode.TheVariants as mode
 use Rattle.session_options.specs.declared.rules.Rules.{Rules}
 use Rattle.agent_commands.specs.Answers.{IsInfo}
+use Rattle.agent_commands.specs.Endings.{went_after}
 use Rattle.agent_commands.specs.Events.{Event}
-use Rattle.agent_commands.specs.Exchanges as exchanges
-use Rattle.agent_commands.specs.Exchanges.{Exchange, Fails, WithoutPassphrase, Looks, LooksFirst, Refuses, IsOneTurn, ComesOut, Keeps, WithoutPrompt, EndsPin, EndsConsent, WantsPrompt, want, ByPrompt, option_text}
-use Rattle.agent_ask.specs.Interrupts.{Interrupts}
-use Rattle.agent_ask.specs.Interrupts as turns
-use Rattle.agent_commands.specs.Prompting.{UnderTicket}
+use Rattle.agent_commands.specs.Exchanges.{Exchange, CacheReply, Replies, TellsPassphrase, TellsInfo, confirms_by, option_replies, reply}
+use Rattle.agent_commands.specs.Exchanges as told
+use Rattle.agent_commands.specs.Parts.{Part, AsksPassphrase, limit_line}
+use Rattle.agent_commands.specs.Passphrases.{LooksFor, WantsPrompt, KeepsUnder, Uncached, WithoutPrompt, PromptsAny, Prompts, passphrase_by, as_wanted, ask, ask_or_open}
+use Rattle.agent_commands.specs.Passphrases as passphrases
+use Rattle.agent_commands.specs.Requests.{GetFields}
 use Rattle.agent_commands.specs.declared.request.CacheCommand.{CacheCommand}
+use Rattle.agent_commands.specs.declared.request.CacheCommand.TheVariants.{Nop, Reset, Bye, Help, SetOption, GetInfo, GetPassphrase, PresetPassphrase, ClearPassphrase, GetConfirmation, ReloadAgent, KillAgent, SetKeyDesc}
 use Rattle.agent_commands.specs.declared.request.Info.{Info}
 use Rattle.agent_commands.specs.declared.request.Info.TheVariants.{Version, Pid, S2kCount, Listed}
 use Rattle.agent_commands.specs.declared.request.Request.{Request}
-use Rattle.agent_commands.specs.declared.request.Request.TheVariants.{Cache}
+use Rattle.agent_commands.specs.declared.request.Request.TheVariants.{Cache, Key, Bad}
+use Rattle.agent_commands.specs.declared.request.Texts.{Texts}
 use Rattle.agent_commands.specs.declared.went.Went.{Went}
-use Rattle.agent_session.specs.Completeness.{IsAnswer, error, done}
-use Rattle.agent_session.specs.Refusals.{refuses, IsAllowed, IsWork, AreWork, IsWorkStep, limit, MayStore, preset, given, shuts, IsLast, said, gone as client_gone, no_ticket, with_ticket, IsEnd, answered, given_back, refused, Course}
-use Rattle.agent_session.proofs.Courses.{by_turn}
-use Rattle.agent_session.proofs.PromptCourses.{ShownEnd, no_more as no_shown, stopped, Shows, pin_shows_work, consent_shows_work, pin_code, consent_code}
+use Rattle.agent_session.specs.Completeness.{IsAnswer, done}
+use Rattle.agent_session.specs.Refusals.{IsWork, AreWork, limit, MayStore, preset, given, said, IsEnd, Course}
+use Rattle.agent_session.specs.Refusals as course
+use Rattle.agent_session.proofs.Courses.{WorkEnd, no_more, refused, Works, works, ok_works, WorksSo, bind, returned, refuses_by, is_needed, or_otherwise, is_wanted}
+use Rattle.agent_session.proofs.PromptCourses.{pin_shows_work, consent_shows_work, shown_ok, refused_pin, refused_consent}
 use Rattle.agent_session.proofs.Replying.{IsReply, begins, reply_ok, reply_closing, reply_help, reply_cache, reply_passphrase}
+use Rattle.agent_session.proofs.TurnCourses.{refusal_last, held_back, last_end, looks, seats, changes, asks_client}
 use Rattle.key_commands.proofs.EachEvent.{each_append}
 
 -- texts that answer
 is_reply : {text : List ℕ} → IsReply text → IsAnswer text
 is_reply (begins other ends) = done ends
 
-is_failed : (why : Code) → IsAnswer (failed why)
-is_failed why = error why Agent refl
+info_reply : (rules : Rules) (what : Info) {text : List ℕ} → IsInfo rules what text → IsReply text
+info_reply rules Version is = reply_cache is
+info_reply rules Pid is = reply_cache is
+info_reply rules S2kCount is = reply_cache is
+info_reply rules Listed is = subst IsReply (sym is) reply_ok
 
 module _ (request : Request) where
-  abbrev Here : List (Event FurtherEvent) → Type 0
-  Here = Course request
+  abbrev PartHere : {A : Type 0} → Part A → Type 0
+  PartHere = WorksSo request
 
-  work_and_end : {last : List (Event FurtherEvent)} (work : List (Event FurtherEvent)) → AreWork request work → IsEnd request last → Here (work ++ last)
-  work_and_end work each end = record { work = work; last = _; is = refl; each = each; end = end }
+  asks_passphrase : PartHere AsksPassphrase
+  asks_passphrase = asks_client request limit_line (codes "PASSPHRASE") MAX_SECRET_LEN (limit MAX_SECRET_LEN)
 
-  answers : {last : List (Event FurtherEvent)} (work : List (Event FurtherEvent)) → AreWork request work → IsLast last → Here (work ++ last)
-  answers work each last = work_and_end work each (answered last)
+  -- ---- passphrases
 
-  only : {text : List ℕ} → IsAnswer text → Here (Sent text ∷ [])
-  only is = answers [] tt (said is)
+  looks_for : (id : Option (List ℕ)) → PartHere (LooksFor id)
+  looks_for None = returned request None
+  looks_for (Some id) = record { of = λ before events result after does. (looks request (ask id) refl tt).of before events result after does.asks }
 
-  -- behind other work
-  behind : {events : List (Event FurtherEvent)} (first : List (Event FurtherEvent)) → AreWork request first → Here events → Here (first ++ events)
+  wants_prompt : (id : Option (List ℕ)) → PartHere (WantsPrompt id)
+  wants_prompt None = bind request (seats request (Seat None None) refl tt) (λ seated. returned request None)
+  wants_prompt (Some id) = looks request (ask_or_open id) refl tt
+
+  module _ (id : Option (List ℕ)) (stores : (named : List ℕ) → id ≡ Some named → MayStore request named User) where
+    keeps_under : (named : Option (List ℕ)) (secret : List ℕ) → id ≡ named → PartHere (KeepsUnder named secret)
+    keeps_under None secret same = returned request tt
+    keeps_under (Some named) secret same = changes request _ refl (stores named same)
+
+    uncached : (way : PinMode) → PartHere (Uncached id way)
+    uncached mode.Ask = refuses_by request (Agent code.NoPinentry)
+    uncached mode.Cancel = refuses_by request (Agent code.Cancelled)
+    uncached mode.Error = refuses_by request (Agent code.NoPinentry)
+    uncached mode.Loopback = bind request asks_passphrase (λ secret. bind request (keeps_under id secret refl) (λ kept. returned request secret))
+
+    without_prompt : (way : PinMode) → PartHere (WithoutPrompt id way)
+    without_prompt way = bind request (looks_for id) (λ cached. or_otherwise request cached (uncached way))
+
+  -- ---- behind the work
+
+  behind : {events : List (Event FurtherEvent)} (first : List (Event FurtherEvent)) → AreWork request first → Course request events → Course request (first ++ events)
   behind first each goes = record {
     work = first ++ goes.work;
     last = goes.last;
@@ -79,206 +105,165 @@ module _ (request : Request) where
     end = goes.end;
   }
 
-  -- ---- turns
+  answered : {text : List ℕ} {held : Option ℕ} {back : List (Event FurtherEvent)} → IsReply text → Closes None held back (Ok tt) None → Course request (back ++ Sent text ∷ [])
+  answered is closes_so = record { work = []; last = _; is = refl; each = tt; end = last_end request (said (is_reply is)) closes_so }
 
-  module _ (step : MarkStep) (no_close : closes step ≡ None) (allowed : IsWorkStep request step) where
-    interrupts : {turn : Turn} {why : Code} → Interrupts turn why → Here (cache_turn step turn ∷ Sent (failed why) ∷ [])
-    interrupts turns.refused = work_and_end [] tt (refused allowed (by_turn _ _ no_close refl) no_ticket)
-    interrupts turns.stopping = answers (_ ∷ []) ((allowed, by_turn _ _ no_close refl), tt) (said (is_failed code.Cancelled))
-    interrupts turns.late = answers (_ ∷ []) ((allowed, by_turn _ _ no_close refl), tt) (said (is_failed code.Timeout))
+  refused_end : {A : Type 0} {last back : List (Event FurtherEvent)} {held : Option ℕ} {why : Refusal} → WorkEnd request {A = A} last (Err why) → Closes None held back (Ok tt) None
+      → IsEnd request (last ++ (back ++ said_last (refusal_line why)))
+  refused_end {why} no_more closes_so = last_end request (refusal_last why) closes_so
+  refused_end (refused allowed is) closes_so = course.refused allowed is (held_back _ closes_so)
 
-    comes_out : {text reply : List ℕ} {went after : Went} {turn : Turn} → IsReply text → ComesOut text went turn reply after → Here (cache_turn step turn ∷ Sent reply ∷ [])
-    comes_out is exchanges.done = answers (_ ∷ []) ((allowed, by_turn _ _ no_close refl), tt) (said (is_reply is))
-    comes_out is (exchanges.interrupted why) = interrupts why
+  refusal : {A : Type 0} {events back : List (Event FurtherEvent)} {held : Option ℕ} {why : Refusal} → Works request {A = A} events (Err why) → Closes None held back (Ok tt) None
+      → Course request (events ++ (back ++ said_last (refusal_line why)))
+  refusal {back} {why} does closes_so =
+      record { work = does.work; last = does.last ++ _; is = ap (λ e. e ++ (back ++ said_last (refusal_line why))) does.is ∙ append_assoc does.work does.last _; each = does.each; end = refused_end does.end closes_so }
 
-  -- ---- the client
+  -- what is written for what a request comes to
+  abbrev written_for : Result CacheReply Refusal → List (Event FurtherEvent)
+  written_for (Ok given_reply) = Sent given_reply.text ∷ []
+  written_for (Err why) = said_last (refusal_line why)
 
-  unheard_last : (why : Unheard) → IsLast (said_last (session_lines.refusal why))
-  unheard_last unheard.Cancelled = said (is_failed code.Cancelled)
-  unheard_last unheard.TooMuch = said (is_failed code.TooMuch)
-  unheard_last unheard.Unexpected = said (is_failed code.Unexpected)
-  unheard_last (unheard.Gone gone.TooLong) = said (is_failed code.LineTooLong)
-  unheard_last (unheard.Gone gone.Ended) = client_gone
-  unheard_last (unheard.Gone gone.Spent) = client_gone
-  unheard_last (unheard.Gone gone.ReadFault) = client_gone
-  unheard_last (unheard.Gone gone.WriteFault) = client_gone
+  -- it is a course, with the return of a ticket that is held then, and the answer
+  abbrev Answered : List (Event FurtherEvent) → Result CacheReply Refusal → Option ℕ → Type 0
+  Answered events result held = (back : List (Event FurtherEvent)) → Closes None held back (Ok tt) None → Course request (events ++ (back ++ written_for result))
 
-  fails_last : {why : Unheard} {events : List (Event FurtherEvent)} {went : Went} → Fails why events went → IsLast events
-  fails_last {why} fails = unheard_last why
+  record RepliesSo (part : Part CacheReply) : Type 0 where
+    of : (before : Option ℕ) (events : List (Event FurtherEvent)) (result : Result CacheReply Refusal) (after : Option ℕ) → part before events result after → Answered events result after
 
-  without_passphrase : {events : List (Event FurtherEvent)} {went : Went} → WithoutPassphrase events went → Here events
-  without_passphrase (exchanges.no_data says fails_so) = answers (_ ∷ _ ∷ []) ((limit _, refl), ((tt, refl), tt)) (fails_last fails_so)
-  without_passphrase (exchanges.limit_cut unsent is) = answers (_ ∷ []) ((tt, refl), tt) client_gone
+  replied_of : (value : CacheReply) → IsReply value.text → (before : Option ℕ) (events : List (Event FurtherEvent)) (result : Result CacheReply Refusal) (after : Option ℕ) → Returns value before events result after
+      → Answered events result after
+  replied_of value is before events result after returns back closes_so = answered is closes_so
 
-  -- ---- looks in the cache
+  replied : (value : CacheReply) → IsReply value.text → RepliesSo (Returns value)
+  replied value is = record { of = replied_of value is }
 
-  looks_answered : {plain : Bool} {id : Option (List ℕ)} {first : List (Event FurtherEvent)} {text : List ℕ} → Looks plain id first (Some text) → Here (first ++ Sent text ∷ [])
-  looks_answered {plain} (exchanges.given is) = answers (_ ∷ []) ((tt, refl), tt) (said (is_reply (reply_passphrase plain _ _ is)))
-  looks_answered (exchanges.interrupted why) = interrupts _ refl tt why
+  refused_of : (why : Refusal) (before : Option ℕ) (events : List (Event FurtherEvent)) (result : Result CacheReply Refusal) (after : Option ℕ) → Refuses {A = CacheReply} why before events result after → Answered events result after
+  refused_of why before events result after chain.refuses back closes_so = refusal {A = CacheReply} {events = []} {why = why} (works request tt) closes_so
 
-  looks_work : {plain : Bool} {id : Option (List ℕ)} {first : List (Event FurtherEvent)} → Looks plain id first None → AreWork request first
-  looks_work exchanges.no_id = tt
-  looks_work exchanges.empty = ((tt, refl), tt)
+  refused_by : (why : Refusal) → RepliesSo (Refuses why)
+  refused_by why = record { of = refused_of why }
 
-  looks_first : {plain : Bool} {id : Option (List ℕ)} {Otherwise : List (Event FurtherEvent) → Went → Type 0} {events : List (Event FurtherEvent)} {went : Went} → LooksFirst plain id Otherwise events went
-      → ((more : List (Event FurtherEvent)) (after : Went) → Otherwise more after → Here more) → Here events
-  looks_first (exchanges.answered looks) other = looks_answered looks
-  looks_first (exchanges.goes_on {first} {events = more} {went} looks otherwise) other = behind first (looks_work looks) (other more went otherwise)
+  -- work, and then what comes to the reply
+  module _ {A : Type 0} {part : Part A} {next : A → Part CacheReply} (first : PartHere part) (then : (value : A) → RepliesSo (next value)) where
+    then_of : (before : Option ℕ) (events : List (Event FurtherEvent)) (result : Result CacheReply Refusal) (after : Option ℕ) → Follows part next before events result after → Answered events result after
+    then_of before events result after (goes_on {first = some} {events = more} {value} {mid} does next_does) back closes_so =
+        subst (Course request) (sym (append_assoc some more _)) (behind some (ok_works request (first.of before some (Ok value) mid does)) ((then value).of mid more result after next_does back closes_so))
+    then_of before events result after (stops {refusal = why} does) back closes_so = refusal (first.of before events (Err why) after does) closes_so
 
-  -- it may store under the id that it names
-  abbrev StoresUnder : Option (List ℕ) → Type 0
-  StoresUnder named = (id : List ℕ) → named ≡ Some id → MayStore request id User
+    then_replies : RepliesSo (part >>= next)
+    then_replies = record { of = then_of }
 
-  module _ (plain : Bool) where
-    keeping_here : {secret : List ℕ} (named : Option (List ℕ)) {events : List (Event FurtherEvent)} {went : Went} → StoresUnder named → Keeps plain secret named events went → Here events
-    keeping_here named stores (exchanges.unkept is) = only (is_reply (reply_passphrase plain _ _ is))
-    keeping_here named stores (exchanges.kept {id} is) = answers (_ ∷ []) ((stores id refl, refl), tt) (said (is_reply (reply_passphrase plain _ _ is)))
-    keeping_here named stores (exchanges.interrupted {id} why) = interrupts _ refl (stores id refl) why
+  -- parts one after another, however they are grouped
+  module _ {A B : Type 0} {part : Part A} {middle : A → Part B} {next : B → Part CacheReply} (so : RepliesSo (part >>= λ value. (middle value >>= next))) where
+    grouped_of : (before : Option ℕ) (events : List (Event FurtherEvent)) (result : Result CacheReply Refusal) (after : Option ℕ) → Follows (part >>= middle) next before events result after → Answered events result after
+    grouped_of before events result after (goes_on {events = last} (goes_on {first} {events = more} does then_does) next_does) back closes_so =
+        subst (λ e. Course request (e ++ (back ++ written_for result))) (sym (append_assoc first more last)) (so.of before _ result after (goes_on does (goes_on then_does next_does)) back closes_so)
+    grouped_of before events result after (stops (goes_on does then_does)) back closes_so = so.of before events result after (goes_on does (stops then_does)) back closes_so
+    grouped_of before events result after (stops (stops does)) back closes_so = so.of before events result after (stops does) back closes_so
 
-    without_prompt : {way : PinMode} (named : Option (List ℕ)) {events : List (Event FurtherEvent)} {went : Went} → StoresUnder named → WithoutPrompt plain named way events went → Here events
-    without_prompt named stores exchanges.cancelled = only (is_failed code.Cancelled)
-    without_prompt named stores exchanges.no_pinentry = only (is_failed code.NoPinentry)
-    without_prompt named stores (exchanges.with_data keeps) = behind (_ ∷ _ ∷ []) ((limit _, refl), ((tt, refl), tt)) (keeping_here named stores keeps)
-    without_prompt named stores (exchanges.without_data without) = without_passphrase without
+    grouped : RepliesSo ((part >>= middle) >>= next)
+    grouped = record { of = grouped_of }
 
-  -- ---- prompts
+  module _ (rules : Rules) (options : OptionValues) where
+    -- ---- prompts
 
-  -- what stands behind a prompt, by the code by which an event of it refuses the request
-  data Behind (code : Option Code) (keep : Option (List ℕ)) (events : List (Event FurtherEvent)) : Type 0 where
-    goes : code ≡ None → IsLast events → Behind code keep events
-    stops : (why : Code) → code ≡ Some why → keep ≡ None → events ≡ Sent (failed why) ∷ [] → Behind code keep events
+    any_of : (texts : Texts) (check quality : Bool) (repeat : ℕ) (before : Option ℕ) (events : List (Event FurtherEvent)) (result : Result (List ℕ) Refusal) (after : Option ℕ)
+        → PromptsAny rules options texts check quality repeat before events result after → Works request events result
+    any_of texts check quality repeat before events result after (passphrases.given spec is prompt) = shown_ok request (pin_shows_work request prompt.asks prompt.in_session)
+    any_of texts check quality repeat before events result after (passphrases.refused spec is prompt other refusal_is) = refused_pin request prompt refusal_is
 
-  ends_pin : {plain : Bool} {end : Answer} {keep : Option (List ℕ)} {events : List (Event FurtherEvent)} {went : Went} → EndsPin plain end keep events went → Behind (pin_code end) keep events
-  ends_pin {plain} (exchanges.pin is) = goes refl (said (is_reply (reply_passphrase plain _ _ is)))
-  ends_pin exchanges.cancelled = goes refl (said (error code.Cancelled Pinentry refl))
-  ends_pin exchanges.timed_out = goes refl (said (error code.Timeout Pinentry refl))
-  ends_pin exchanges.no_pinentry = stops code.NoPinentry refl refl refl
-  ends_pin exchanges.bad = goes refl (said (is_failed code.BadPass))
-  ends_pin (exchanges.unheard is fails_so) = goes refl (fails_last fails_so)
+    agrees_of : (question : List ℕ) (before : Option ℕ) (events : List (Event FurtherEvent)) (result : Result (Unit {0}) Refusal) (after : Option ℕ)
+        → AgreesTo session_lines rules options question before events result after → Works request events result
+    agrees_of question before events result after (consent.consents spec is prompt) = shown_ok request (consent_shows_work request prompt.asks prompt.in_session)
+    agrees_of question before events result after (consent.refused spec is prompt refusal_is) = refused_consent request prompt refusal_is
 
-  ends_consent : {end : Agreed} {keep : Option (List ℕ)} {events : List (Event FurtherEvent)} {went : Went} → EndsConsent end keep events went → Behind (consent_code end) keep events
-  ends_consent exchanges.yes = goes refl (said (is_reply reply_ok))
-  ends_consent exchanges.no = goes refl (said (error code.NotConfirmed Pinentry refl))
-  ends_consent exchanges.cancelled = goes refl (said (error code.Cancelled Pinentry refl))
-  ends_consent exchanges.timed_out = goes refl (said (error code.Timeout Pinentry refl))
-  ends_consent exchanges.no_pinentry = stops code.NoPinentry refl refl refl
-  ends_consent (exchanges.unheard is fails_so) = goes refl (fails_last fails_so)
+    confirmed : (way : PinMode) (description : ArrayVec ℕ) → PartHere (confirms_by rules options way description)
+    confirmed mode.Ask description = bind request (seats request (Seat None None) refl tt) (λ seated. record { of = agrees_of description.items })
+    confirmed mode.Cancel description = refuses_by request (Agent code.Cancelled)
+    confirmed mode.Error description = refuses_by request (Agent code.NoPinentry)
+    confirmed mode.Loopback description = refuses_by request (Agent code.NoPinentry)
 
-  -- where an event refused the request, nothing is kept; where none did, the answer may still say so
-  last_behind : {code : Option Code} {keep : Option (List ℕ)} {events : List (Event FurtherEvent)} → Behind code keep events → IsLast events
-  last_behind (goes none last) = last
-  last_behind (stops why is keeps_none events_are) = subst IsLast (sym events_are) (said (is_failed why))
+    -- ---- GET_PASSPHRASE
 
-  module _ (number : ℕ) (turn : Turn) where
-    -- an event of the prompt refused the request
-    stopped_end : {keep : Option (List ℕ)} {events : List (Event FurtherEvent)} {event : Event FurtherEvent} {why : Code} → IsAllowed request event → refuses event ≡ Some why
-        → keep ≡ None → events ≡ Sent (failed why) ∷ [] → IsEnd request (event ∷ (shuts event ++ cache_turn (Close number keep) turn ∷ events))
-    stopped_end {events} {event} {why} allowed is keeps_none events_are =
-        subst (λ k. IsEnd request (event ∷ (shuts event ++ cache_turn (Close number k) turn ∷ events))) (sym keeps_none)
-        (subst (λ e. IsEnd request (event ∷ (shuts event ++ cache_turn (Close number None) turn ∷ e))) (sym events_are) (refused allowed is (with_ticket turn)))
+    module _ (fields : GetFields) (stores : (named : List ℕ) → fields.id ≡ Some named → MayStore request named User) where
+      abbrev Tells : List ℕ → Part CacheReply
+      Tells secret = TellsPassphrase fields.plain secret >>= λ text. Returns (reply options text)
 
-    prompt_end : {code : Option Code} {keep : Option (List ℕ)} {last events : List (Event FurtherEvent)} → ShownEnd request code last → Behind code keep events
-        → IsEnd request (last ++ cache_turn (Close number keep) turn ∷ events)
-    prompt_end no_shown behind_so = given_back turn (last_behind behind_so)
-    prompt_end (stopped allowed is so) (goes none last) = absurd (cc (so, none))
-    prompt_end {events} (stopped {why} allowed is so) (stops other other_so keeps_none events_are) =
-        let same : other ≡ why = cc (so, other_so) in stopped_end allowed is keeps_none (subst (λ c. events ≡ Sent (failed c) ∷ []) same events_are)
+      tells_of : (secret : List ℕ) (before : Option ℕ) (events : List (Event FurtherEvent)) (result : Result CacheReply Refusal) (after : Option ℕ) → Tells secret before events result after → Answered events result after
+      tells_of secret before events result after (goes_on (told.tells is) returns) back closes_so = answered (reply_passphrase fields.plain _ _ is) closes_so
+      tells_of secret before events result after (stops never) back closes_so = elim never [ ]
 
-    shown_here : {code : Option Code} {keep : Option (List ℕ)} {shown events : List (Event FurtherEvent)} → Shows request code shown → Behind code keep events
-        → Here (shown ++ cache_turn (Close number keep) turn ∷ events)
-    shown_here {keep} {events} shows behind_so = record {
-      work = shows.work;
-      last = shows.last ++ cache_turn (Close number keep) turn ∷ events;
-      is = ap (λ e. e ++ cache_turn (Close number keep) turn ∷ events) shows.is ∙ append_assoc shows.work shows.last _;
-      each = shows.each;
-      end = prompt_end shows.end behind_so;
-    }
+      then_tells : {part : Part (List ℕ)} → PartHere part → RepliesSo (part >>= Tells)
+      then_tells first = then_replies first (λ secret. record { of = tells_of secret })
 
-  -- one prompt, and how it ends the request
-  module _ {A : Type 0} (Asks : List PromptEvent → A → Type 0) (Ends : A → Option (List ℕ) → List (Event FurtherEvent) → Went → Type 0) (code_of : A → Option Code)
-      (shows : (prompt : List PromptEvent) (shown : List (Event FurtherEvent)) (end : A) → Asks prompt end → AnyInSession session_lines prompt shown → Shows request (code_of end) shown)
-      (behinds : (end : A) (keep : Option (List ℕ)) (events : List (Event FurtherEvent)) (went : Went) → Ends end keep events went → Behind (code_of end) keep events) where
-    record AsksNoMore (earlier : A) (more : List (Event FurtherEvent)) (answers : List A) : Type 0 where
-      shows_none : more ≡ []
-      one_answer : answers ≡ earlier ∷ []
+      -- the ticket is given back before
+      kept_of : (pin : List ℕ) (before : Option ℕ) (events : List (Event FurtherEvent)) (result : Result CacheReply Refusal) (after : Option ℕ)
+          → ((Closes (Some pin) >>= λ kept. Returns pin) >>= Tells) before events result after → Answered events result after
+      kept_of pin before events result after (goes_on (goes_on taken.unheld returns) (goes_on (told.tells is) returns)) back closes_so = answered (reply_passphrase fields.plain _ _ is) closes_so
+      kept_of pin before events result after (goes_on (goes_on (taken.closed turn) returns) (goes_on (told.tells is) returns)) back taken.unheld =
+          record { work = []; last = _; is = refl; each = tt; end = course.given_back turn (said (is_reply (reply_passphrase fields.plain _ _ is))) }
+      kept_of pin before events result after (goes_on does (stops never)) back closes_so = elim never [ ]
+      kept_of pin before events result after (stops (goes_on does never)) back closes_so = elim never [ ]
+      kept_of pin before events result after (stops (stops never)) back closes_so = elim never [ ]
 
-    asks_no_more : (earlier : A) {more : List (Event FurtherEvent)} {answers : List A} → Prompts session_lines (AsksOnce session_lines Asks) (earlier ∷ []) more answers → AsksNoMore earlier more answers
-    asks_no_more earlier no_more = record { shows_none = refl; one_answer = refl }
-    asks_no_more earlier (next never in_session later) = absurd never
+      prompted : (texts : Texts) (cached : Option (List ℕ)) → RepliesSo (or_else cached (Prompts rules options texts fields.check fields.quality fields.repeat) >>= Tells)
+      prompted texts None = grouped (then_replies (record { of = any_of texts fields.check fields.quality fields.repeat }) (λ pin. record { of = kept_of pin }))
+      prompted texts (Some secret) = then_tells (returned request secret)
 
-    prompted_once : (shown events : List (Event FurtherEvent)) (answers : List A) (keep : Option (List ℕ)) (went : Went) (turn : Turn) (number : ℕ)
-        → Prompts session_lines (AsksOnce session_lines Asks) [] shown answers → EndsOnce session_lines Ends answers keep events went → Here (shown ++ cache_turn (Close number keep) turn ∷ events)
-    prompted_once shown events answers keep went turn number no_more ends = absurd ends
-    prompted_once shown events answers keep went turn number (next {answer = end} {shown = first} {more} asks in_session later) ends =
-        let once : AsksNoMore end more _ = asks_no_more end later in
-        let ended : Ends end keep events went = subst (λ a. EndsOnce session_lines Ends a keep events went) once.one_answer ends in
-        let all_shown : Shows request (code_of end) (first ++ more) = subst (λ m. Shows request (code_of end) (first ++ m)) (sym once.shows_none)
-        (subst (Shows request (code_of end)) (sym (append-nil first)) (shows _ first end asks in_session)) in
-        shown_here number turn all_shown (behinds end keep events went ended)
+      by_cache : PartHere (passphrases.ByCache fields.id)
+      by_cache = bind request (looks_for fields.id) (λ cached. is_needed request code.NoData cached)
 
-    under_ticket : {number : ℕ} {events : List (Event FurtherEvent)} {went : Went} → UnderTicket Asks Ends number events went → Here events
-    under_ticket {number} (asked_under turn prompts ends) = prompted_once _ _ _ _ _ turn number prompts ends
+      wanted_so : (way : PinMode) (texts : Texts) → RepliesSo (as_wanted rules options fields way texts >>= Tells)
+      wanted_so mode.Ask texts = grouped (then_replies (wants_prompt fields.id) (λ cached. prompted texts cached))
+      wanted_so mode.Cancel texts = then_tells (without_prompt fields.id stores mode.Cancel)
+      wanted_so mode.Error texts = then_tells (without_prompt fields.id stores mode.Error)
+      wanted_so mode.Loopback texts = then_tells (without_prompt fields.id stores mode.Loopback)
 
-    wants_prompt : (step : MarkStep) → closes step ≡ None → IsWorkStep request step → {events : List (Event FurtherEvent)} {went : Went} → WantsPrompt step (UnderTicket Asks Ends) events went → Here events
-    wants_prompt asked no_close allowed (exchanges.opened {events = more} under) = behind (_ ∷ []) ((allowed, by_turn _ _ no_close refl), tt) (under_ticket under)
-    wants_prompt asked no_close allowed (exchanges.interrupted why) = interrupts asked no_close allowed why
+      passphrase_so : (no_ask : Bool) (texts : Option Texts) → RepliesSo (passphrase_by rules options fields no_ask texts >>= Tells)
+      passphrase_so no_ask None = then_tells by_cache
+      passphrase_so true (Some texts) = then_tells by_cache
+      passphrase_so false (Some texts) = wanted_so options.mode texts
 
-  wants_keeps : (id : Option (List ℕ)) → closes (want id) ≡ None
-  wants_keeps None = refl
-  wants_keeps (Some id) = refl
+    -- ---- requests
 
-  wants_allowed : (id : Option (List ℕ)) → IsWorkStep request (want id)
-  wants_allowed None = tt
-  wants_allowed (Some id) = tt
+    presets : (id : List ℕ) (life : Life) (secret : Option (List ℕ)) → MayStore request id Any → PartHere (told.Presets rules id life secret)
+    presets id life secret stores =
+        bind request (is_wanted request code.NotSupported rules.allow_preset) (λ allowed. bind request (or_otherwise request secret asks_passphrase) (λ given_so. changes request _ refl stores))
 
-  by_prompt : (spec : PromptSpec) (plan : AskPlan) (plain : Bool) {id : Option (List ℕ)} {events : List (Event FurtherEvent)} {went : Went} → ByPrompt spec plan plain id events went → Here events
-  by_prompt spec plan plain (exchanges.cached is) = answers (_ ∷ []) ((tt, refl), tt) (said (is_reply (reply_passphrase plain _ _ is)))
-  by_prompt spec plan plain (exchanges.prompted {id} wants) =
-      wants_prompt (AsksPin spec plan (λ pin. ⊤)) (EndsPin plain) pin_code (λ prompt shown end asks in_session. pin_shows_work request asks in_session)
-      (λ end keep events went ends. ends_pin ends) (want id) (wants_keeps id) (wants_allowed id) wants
+    info_of : (what : Info) (before : Option ℕ) (events : List (Event FurtherEvent)) (result : Result CacheReply Refusal) (after : Option ℕ)
+        → (TellsInfo rules what >>= λ text. Returns (reply options text)) before events result after → Answered events result after
+    info_of what before events result after (goes_on (told.tells is) returns) back closes_so = answered (info_reply rules what is) closes_so
+    info_of what before events result after (stops never) back closes_so = elim never [ ]
 
-  -- ---- single lines
+    option_so : (answer : OptionAnswer) (after : OptionValues) → RepliesSo (option_replies answer after)
+    option_so option_answer.Set after = replied _ reply_ok
+    option_so option_answer.Unknown after = refused_by (Agent code.UnknownOption)
+    option_so option_answer.Parameter after = refused_by (Agent code.Parameter)
+    option_so option_answer.NotSupported after = refused_by (Agent code.NotSupported)
 
-  option_said : (end : OptionAnswer) → IsAnswer (option_text end)
-  option_said option_answer.Set = is_reply reply_ok
-  option_said option_answer.Unknown = is_failed code.UnknownOption
-  option_said option_answer.Parameter = is_failed code.Parameter
-  option_said option_answer.NotSupported = is_failed code.NotSupported
+    replies : (command : CacheCommand) → request ≡ Cache command → RepliesSo (Replies rules options command)
+    replies Nop is = replied _ reply_ok
+    replies Reset is = replied _ reply_ok
+    replies Bye is = replied _ reply_closing
+    replies Help is = replied _ reply_help
+    replies (SetOption text) is = option_so (applied options text.items).answer (applied options text.items).after
+    replies (SetKeyDesc text) is = replied _ reply_ok
+    replies (GetInfo what) is = record { of = info_of what }
+    replies (GetPassphrase plain check no_ask repeat quality id texts) is =
+        let fields : GetFields = record { plain = plain; check = check; no_ask = no_ask; repeat = repeat; quality = quality; id = id; texts = texts } in
+        passphrase_so fields (λ named same. given fields is same) no_ask texts
+    replies (PresetPassphrase id life secret) is = then_replies (presets id life secret (preset is)) (λ stored. replied _ reply_ok)
+    replies (ClearPassphrase id way) is = then_replies (changes request _ refl is) (λ changed. replied _ reply_ok)
+    replies (GetConfirmation description) is = then_replies (confirmed options.mode description) (λ agreed. replied _ reply_ok)
+    replies ReloadAgent is = then_replies (changes request _ refl is) (λ changed. replied _ reply_ok)
+    replies KillAgent is = then_replies (changes request _ refl is) (λ changed. replied _ reply_closing)
 
-  info_reply : (rules : Rules) (what : Info) {text : List ℕ} → IsInfo rules what text → IsReply text
-  info_reply rules Version is = reply_cache is
-  info_reply rules Pid is = reply_cache is
-  info_reply rules S2kCount is = reply_cache is
-  info_reply rules Listed is = subst IsReply (sym is) reply_ok
+  part_course : {part : Part CacheReply} → RepliesSo part → {before after : OptionValues} {events : List (Event FurtherEvent)} {went : Went} → AnyExchange refusal_line went_after part before events after went
+      → Course request events
+  part_course so (exchange.answered events held given_reply does closes_so) = so.of None events (Ok given_reply) held does _ closes_so
+  part_course so (exchange.refused events held why does closes_so) = so.of None events (Err why) held does _ closes_so
 
-one_turn : {rules : Rules} {command : CacheCommand} {step : MarkStep} {text reply : List ℕ} {turn : Turn} {went after : Went} → IsOneTurn rules command step text went → ComesOut text went turn reply after
-    → Course (Cache command) (cache_turn step turn ∷ Sent reply ∷ [])
-one_turn (exchanges.preset allowed) comes = comes_out (Cache _) _ refl (preset refl) reply_ok comes
-one_turn exchanges.clear comes = comes_out (Cache _) _ refl refl reply_ok comes
-one_turn exchanges.reload comes = comes_out (Cache _) _ refl refl reply_ok comes
-one_turn exchanges.kill comes = comes_out (Cache _) _ refl refl reply_closing comes
-
-pub cache_course : {rules : Rules} {before after : OptionValues} (request : Request) {events : List (Event FurtherEvent)} {went : Went} → Exchange rules before request events after went → Course request events
-cache_course request (exchanges.refused {code = why}) = only request (is_failed why)
-cache_course request exchanges.nop = only request (is_reply reply_ok)
-cache_course request exchanges.reset = only request (is_reply reply_ok)
-cache_course request exchanges.bye = only request (is_reply reply_closing)
-cache_course request exchanges.help_given = only request (is_reply reply_help)
-cache_course {before} request (exchanges.option_applied {text}) = only request (option_said request (applied before text.items).answer)
-cache_course request exchanges.described = only request (is_reply reply_ok)
-cache_course {rules} request (exchanges.info {what} is) = only request (is_reply (info_reply request rules what is))
-cache_course request (exchanges.quiet quiet looks) = looks_first request looks (λ more after refuses_so. quiet_refused refuses_so)
-  where
-    quiet_refused : {more : List (Event FurtherEvent)} {after : Went} → Refuses code.NoData more after → Course request more
-    quiet_refused exchanges.refused = only request (is_failed code.NoData)
-cache_course request (exchanges.by_prompt {fields} spec asks texts_are mode_is is_spec by) = by_prompt request spec _ fields.plain by
-cache_course request (exchanges.without_prompt {fields} asks texts_are mode_is looks) =
-    looks_first request looks (λ more after without. without_prompt request fields.plain fields.id (λ id is. given fields refl is) without)
-cache_course request (exchanges.not_allowed is) = only request (is_failed code.NotSupported)
-cache_course request (exchanges.with_data allowed comes) = behind request (_ ∷ _ ∷ []) ((limit _, refl), ((tt, refl), tt)) (comes_out request _ refl (preset refl) reply_ok comes)
-cache_course request (exchanges.without_data allowed without) = without_passphrase request without
-cache_course {before} request (exchanges.confirmation spec mode_is is_spec wants) =
-    wants_prompt request (AsksConsent spec before.notify) EndsConsent consent_code (λ prompt shown end asks in_session. consent_shows_work request asks in_session)
-    (λ end keep events went ends. ends_consent request ends) _ refl tt wants
-cache_course request (exchanges.unconfirmed {code = why} refusal) = only request (is_failed why)
-cache_course request (exchanges.one_turn is comes) = one_turn is comes
+pub cache_course : (rules : Rules) (before after : OptionValues) (request : Request) (events : List (Event FurtherEvent)) (went : Went) → Exchange rules before request events after went → Course request events
+cache_course rules before after (Cache command) events went exchanged = part_course (Cache command) (replies (Cache command) rules before command refl) exchanged
+cache_course rules before after (Bad why) events went exchanged = part_course (Bad why) (refused_by (Bad why) (Agent why)) exchanged
+cache_course rules before after (Key line) events went never = absurd never

@@ -50,6 +50,7 @@ mod Talking
 mod TrustDenied
 mod TrustEnds
 mod TrustExplained
+mod TurnCourses
 mod Uncaused
 mod WorkedExact
 mod WorkedExamples

@@ -1,6 +1,8 @@
 -- Prompts whose every call is the request's work, but one that refuses it, which is the last before the prompter is shut.
 use Rattle.std.specs.List.{AllByRecursion}
-use Rattle.std.proofs.Common.{◌≡◌, ℕ, zero, suc, List, [], ◌∷◌, ◌++◌, Option, Some, None, refl, sym, subst, append_assoc, append-nil}
+use Rattle.std.proofs.Common.{◌≡◌, ℕ, zero, suc, List, [], ◌∷◌, ◌++◌, Option, Some, None, Ok, Err, refl, sym, subst, append_assoc, append-nil}
+use Rattle.agent_ask.specs.ConsentParts.{PromptsConsent, consent_refusal}
+use Rattle.agent_ask.specs.PinParts.{PromptsPin, pin_refusal}
 use Rattle.agent_ask.specs.Consents.{AsksConsent, ConsentBefore, agreed_of}
 use Rattle.agent_ask.specs.Consents as consents
 use Rattle.agent_ask.specs.Events.{Confirm, Shut, PromptEvent, Called, Notified, OutOfMemory}
@@ -22,10 +24,13 @@ use Rattle.agent_ask.specs.declared.spec.PromptSpec.{PromptSpec}
 use Rattle.assuan_server.specs.Clients.{session_lines}
 use Rattle.session_client.specs.declared.code.Code.{Code}
 use Rattle.session_client.specs.declared.code.Code.TheVariants as code
+use Rattle.session_client.specs.declared.refusal.Refusal.{Refusal}
+use Rattle.session_client.specs.declared.refusal.Refusal.TheVariants.{Agent}
 use Rattle.agent_commands.specs.Events.{Event}
 use Rattle.agent_commands.specs.declared.request.Request.{Request}
 use Rattle.agent_session.specs.Refusals.{call_refuses, refuses, IsAllowed, IsWork, AreWork, shuts}
 use Rattle.key_commands.proofs.EachEvent.{each_append}
+use Rattle.agent_session.proofs.Courses.{WorkEnd, no_more as no_work, refused, Works}
 
 -- the code by which an event of a prompt refuses its request
 abbrev pub prompt_refuses : PromptEvent → Option Code
@@ -165,3 +170,46 @@ module _ (request : Request) where
   pub consent_shows_work : {spec : PromptSpec} {notify : _} {prompt : List PromptEvent} {end : Agreed} {shown : List (Event FurtherEvent)} → AsksConsent spec notify prompt end
       → AnyInSession session_lines prompt shown → Shows (consent_code end) shown
   consent_shows_work {shown} asks in_session = prompt_shows (consent_goes asks.asks) (subst (λ p. AnyInSession session_lines p shown) asks.whole in_session)
+
+  -- ---- as parts of the request
+
+  stopped_pin : (answer : Asked) {code : Code} {why : Refusal} → pin_refusal answer ≡ Some why → pin_code answer ≡ Some code → why ≡ Agent code
+  stopped_pin (asked.Pin pin) refusal is = absurd (cc is)
+  stopped_pin asked.Cancelled refusal is = absurd (cc is)
+  stopped_pin asked.TimedOut refusal is = absurd (cc is)
+  stopped_pin asked.Bad refusal is = absurd (cc is)
+  stopped_pin (asked.Heard heard) refusal is = absurd (cc is)
+  stopped_pin asked.NoPinentry refusal is = cc
+  stopped_pin asked.NoMemory refusal is = cc
+
+  stopped_consent : (answer : Agreed) {code : Code} {why : Refusal} → consent_refusal answer ≡ Some why → consent_code answer ≡ Some code → why ≡ Agent code
+  stopped_consent agreed.Yes refusal is = absurd (cc is)
+  stopped_consent agreed.No refusal is = absurd (cc is)
+  stopped_consent agreed.Cancelled refusal is = absurd (cc is)
+  stopped_consent agreed.TimedOut refusal is = absurd (cc is)
+  stopped_consent (agreed.Heard heard) refusal is = absurd (cc is)
+  stopped_consent agreed.NoPinentry refusal is = cc
+
+  shown_none : {A : Type 0} {value : A} {last : List (Event FurtherEvent)} → ShownEnd None last → WorkEnd request last (Ok value)
+  shown_none no_more = no_work
+  shown_none (stopped allowed is never) = absurd (cc never)
+
+  shown_end : {A : Type 0} {code : Option Code} {why : Refusal} {last : List (Event FurtherEvent)} → ShownEnd code last → ((stop : Code) → code ≡ Some stop → why ≡ Agent stop)
+      → WorkEnd request {A = A} last (Err why)
+  shown_end no_more same = no_work
+  shown_end {A} (stopped {event} {why = stop} allowed is so) same = subst (λ w. WorkEnd request {A = A} (event ∷ shuts event) (Err w)) (sym (same stop so)) (refused allowed is)
+
+  pub shown_ok : {A : Type 0} {value : A} {events : List (Event FurtherEvent)} → Shows None events → Works request events (Ok value)
+  shown_ok shows = record { work = shows.work; last = shows.last; is = shows.is; each = shows.each; end = shown_none shows.end }
+
+  shown_err : {A : Type 0} {code : Option Code} {why : Refusal} {events : List (Event FurtherEvent)} → Shows code events → ((stop : Code) → code ≡ Some stop → why ≡ Agent stop)
+      → Works request {A = A} events (Err why)
+  shown_err shows same = record { work = shows.work; last = shows.last; is = shows.is; each = shows.each; end = shown_end shows.end same }
+
+  module _ {A : Type 0} {shown : List (Event FurtherEvent)} {why : Refusal} where
+    pub refused_pin : {spec : PromptSpec} {plan : AskPlan} {Rule : List ℕ → Type 0} {answer : Asked} → PromptsPin session_lines spec plan Rule shown answer → pin_refusal answer ≡ Some why
+        → Works request {A = A} shown (Err why)
+    refused_pin {answer} prompt refusal = shown_err (pin_shows_work prompt.asks prompt.in_session) (λ stop so. stopped_pin answer refusal so)
+
+    pub refused_consent : {spec : PromptSpec} {notify : _} {answer : Agreed} → PromptsConsent session_lines spec notify shown answer → consent_refusal answer ≡ Some why → Works request {A = A} shown (Err why)
+    refused_consent {answer} prompt refusal = shown_err (consent_shows_work prompt.asks prompt.in_session) (λ stop so. stopped_consent answer refusal so)
