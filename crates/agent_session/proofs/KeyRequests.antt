@@ -233,11 +233,11 @@ module _ (rules : Rules) (kept : Kept) (request : Request) (whole : List (Event 
   -- ---- the old passphrase
 
   module _ {A : Type 0} (Good : A → Type 0) (Else : Type 0) where
-    if_needed : (why : Code) (value : Option A) → Either rules kept request whole Good Else value → (Else → CausedHere why) → ExplainsHere (needed why value) Good
+    pub if_needed : (why : Code) (value : Option A) → Either rules kept request whole Good Else value → (Else → CausedHere why) → ExplainsHere (needed why value) Good
     if_needed why None otherwise caused = refused rules kept request whole Good (Agent why) (caused otherwise)
     if_needed why (Some value) good caused = returned rules kept request whole Good value good
 
-    or_else_explained : (value : Option A) (other : Part A) → Either rules kept request whole Good Else value → (Else → ExplainsHere other Good) → ExplainsHere (or_else value other) Good
+    pub or_else_explained : (value : Option A) (other : Part A) → Either rules kept request whole Good Else value → (Else → ExplainsHere other Good) → ExplainsHere (or_else value other) Good
     or_else_explained None other otherwise explains = explains otherwise
     or_else_explained (Some value) other good explains = returned rules kept request whole Good value good
 
