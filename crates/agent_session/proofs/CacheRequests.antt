@@ -2,7 +2,6 @@
 use Rattle.std.proofs.Common.{◌≡◌, ℕ, Bool, true, false, List, [], ◌++◌, codes, Option, Some, None, Result, Ok, refl, sym, subst, inl}
 use Rattle.arrayvec.specs.ArrayVec.{ArrayVec}
 use Rattle.agent_ask.specs.ClientParts as client
-use Rattle.agent_ask.specs.ConsentParts as consent
 use Rattle.agent_ask.specs.Failing.{said_last}
 use Rattle.agent_ask.specs.Further.{FurtherEvent}
 use Rattle.agent_ask.specs.PartExchanges as exchange
@@ -51,9 +50,8 @@ use Rattle.agent_session.proofs.Asides.{secret_limit}
 use Rattle.agent_session.proofs.Explained.{Explained, replied, failed, silent, after_these, IsLast}
 use Rattle.agent_session.proofs.Explaining.{Caused, CausedRefusal, ClientSays, cut, client_said, Comes, IsExplained, Explains, Anything, bind, whatever, returned, refused, or_otherwise, is_wanted}
 use Rattle.agent_session.proofs.Explaining.{interrupts, looks, seats, changes, closes_of, closes_explained}
-use Rattle.agent_session.proofs.KeyParts.{Either, prompt_silent, pin_caused, consent_caused, bad_any}
+use Rattle.agent_session.proofs.KeyParts.{Either, prompt_silent, refused_any, agrees}
 use Rattle.agent_session.proofs.KeyRequests.{if_needed, or_else_explained}
-use Rattle.agent_session.proofs.Prompted.{pin_shows, consent_shows}
 use Rattle.agent_session.proofs.Replying.{IsReply, reply_ok, reply_closing, reply_help, reply_cache, reply_passphrase}
 use Rattle.agent_session.proofs.Standing.{has_first, stand_left, stand_right}
 
@@ -114,20 +112,12 @@ module _ (rules : Rules) (kept : Kept) (whole : List (Event FurtherEvent)) (requ
   module _ (texts : Texts) (check quality : Bool) (repeat : ℕ) where
     prompts_any_of : EachOf (PromptsAny rules kept.options texts check quality repeat) Anything
     prompts_any_of before events result after (passphrases.given spec is prompt) stands = record { silent = prompt_silent prompt.in_session; explained = tt }
-    prompts_any_of before events result after (passphrases.refused {answer} {why} spec is prompt other refusal) stands = record {
-      silent = prompt_silent prompt.in_session;
-      explained = pin_caused rules kept request whole prompt.in_session stands answer why (pin_shows prompt.asks) (λ bad. bad_any rules kept request whole prompt.asks prompt.in_session stands bad) refusal;
-    }
+    prompts_any_of before events result after (passphrases.refused spec is prompt other refusal) stands = refused_any rules kept request whole Anything prompt.asks prompt.in_session refusal stands
 
     by_user : (id : Option (List ℕ)) → ExplainsHere (ByUser rules kept.options texts check quality repeat id) Anything
     by_user id =
         then Anything (wants_prompt id) (λ cached. or_otherwise rules kept request whole Anything cached _ (λ some is. tt)
         (λ none. then Anything (record { of = prompts_any_of }) (λ pin. then Anything (closes_explained rules kept request whole (Some pin)) (λ closed. done pin))))
-
-  agrees_of : (question : List ℕ) → EachOf (consent.AgreesTo session_lines rules kept.options question) Anything
-  agrees_of question before events result after (consent.consents spec is prompt) stands = record { silent = prompt_silent prompt.in_session; explained = tt }
-  agrees_of question before events result after (consent.refused {answer} {why} spec is prompt refusal) stands =
-      record { silent = prompt_silent prompt.in_session; explained = consent_caused rules kept request whole prompt.in_session stands answer why (consent_shows prompt.asks) refusal }
 
   -- ---- replies
 
@@ -186,7 +176,7 @@ module _ (rules : Rules) (kept : Kept) (whole : List (Event FurtherEvent)) (requ
   option_said text is_option option_answer.NotSupported is after = refused rules kept request whole Answers (Agent code.NotSupported) (IsUnsupported.option (option is_option is))
 
   confirms : (description : ArrayVec ℕ) → request ≡ Cache (command.GetConfirmation description) → (way : PinMode) → kept.options.mode ≡ way → ExplainsHere (confirms_by rules kept.options way description) Anything
-  confirms description is mode.Ask same = then Anything (seats rules kept request whole _ refl) (λ seated. record { of = agrees_of description.items })
+  confirms description is mode.Ask same = then Anything (seats rules kept request whole _ refl) (λ seated. agrees rules kept request whole description.items)
   confirms description is mode.Cancel same = refused rules kept request whole Anything (Agent code.Cancelled) (by_mode same (HasNoEntry.of_consent (confirmation is)))
   confirms description is mode.Error same = refused rules kept request whole Anything (Agent code.NoPinentry) (inl (by_mode same (HasNoEntry.of_consent (confirmation is))))
   confirms description is mode.Loopback same = refused rules kept request whole Anything (Agent code.NoPinentry) (inl (IsUnprompted.of_consent (confirmation is) same))
