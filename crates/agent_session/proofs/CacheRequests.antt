@@ -1,24 +1,14 @@
 -- Requests on the cache and on the session, each of whose refusals has its cause.
-use Rattle.std.proofs.Common.{◌≡◌, ℕ, Bool, true, false, List, [], ◌∷◌, ◌++◌, codes, Option, Some, None, Result, Ok, Err, refl, sym, subst, inl, ◌∙◌}
-use Rattle.std.specs.Prelude.{⊤}
+use Rattle.std.proofs.Common.{◌≡◌, ℕ, Bool, true, false, List, [], ◌++◌, codes, Option, Some, None, Result, Ok, refl, sym, subst, inl}
 use Rattle.arrayvec.specs.ArrayVec.{ArrayVec}
 use Rattle.agent_ask.specs.ClientParts as client
-use Rattle.agent_ask.specs.ConsentParts.{AgreesTo}
-use Rattle.agent_ask.specs.ConsentParts as consent
 use Rattle.agent_ask.specs.Failing.{said_last}
 use Rattle.agent_ask.specs.Further.{FurtherEvent}
-use Rattle.agent_ask.specs.PartExchanges.{AnyExchange}
 use Rattle.agent_ask.specs.PartExchanges as exchange
-use Rattle.agent_ask.specs.Parts.{◌>>=◌}
-use Rattle.agent_ask.specs.PinParts as pins
-use Rattle.agent_ask.specs.SessionEvents.{cache_turn}
-use Rattle.agent_ask.specs.TurnParts.{Asks, Closes}
+use Rattle.agent_ask.specs.Parts.{◌>>=◌, Returns}
 use Rattle.agent_ask.specs.TurnParts as taken
-use Rattle.agent_ask.specs.declared.ask.Asked.{Asked}
-use Rattle.agent_ask.specs.declared.ask.Asked.TheVariants as asked
 use Rattle.assuan_server.specs.Clients.{session_lines}
 use Rattle.assuan_server.specs.Written.{refusal_line}
-use Rattle.assuan_server.specs.declared.errors.Origin.{Origin}
 use Rattle.assuan_server.specs.declared.errors.Origin.TheVariants as origin
 use Rattle.session_client.specs.Asking.{gone_of}
 use Rattle.session_client.specs.Refusals.{gone_by}
@@ -30,7 +20,6 @@ use Rattle.session_client.specs.declared.unheard.Gone.TheVariants as gone
 use Rattle.session_client.specs.declared.unheard.Unheard.{Unheard}
 use Rattle.session_client.specs.declared.unheard.Unheard.TheVariants as unheard
 use Rattle.cache_policy.specs.Turns.{closes, Empty}
-use Rattle.cache_policy.specs.declared.life.Life.{Life}
 use Rattle.cache_policy.specs.declared.mark.MarkStep.{MarkStep}
 use Rattle.cache_policy.specs.declared.secret.TheConstants.{MAX_SECRET_LEN}
 use Rattle.session_options.specs.OptionValues.{OptionValues, applied}
@@ -42,10 +31,9 @@ use Rattle.session_options.specs.declared.rules.Rules.{Rules}
 use Rattle.agent_commands.specs.Answers.{IsInfo}
 use Rattle.agent_commands.specs.Endings.{went_after}
 use Rattle.agent_commands.specs.Events.{Event}
-use Rattle.agent_commands.specs.Exchanges.{Exchange, CacheReply, Replies, TellsPassphrase, TellsInfo, option_replies, ChangeReplies, Presets, put, confirms_by, is_quiet}
-use Rattle.agent_commands.specs.Exchanges as exchanges
+use Rattle.agent_commands.specs.Exchanges.{Exchange, CacheReply, Replies, TellsPassphrase, TellsInfo, option_replies, ChangeReplies, confirms_by, is_quiet, tells}
 use Rattle.agent_commands.specs.Parts.{Part, AsksPassphrase, limit_line}
-use Rattle.agent_commands.specs.Passphrases.{ask, ask_or_open, Looks, LooksFor, WantsPrompt, KeepsUnder, ByCache, ByClient, Uncached, WithoutPrompt, PromptsAny, Prompts, ByUser, as_wanted, passphrase_by}
+use Rattle.agent_commands.specs.Passphrases.{ask, ask_or_open, LooksFor, WantsPrompt, ByCache, ByClient, Uncached, WithoutPrompt, PromptsAny, ByUser, as_wanted, passphrase_by}
 use Rattle.agent_commands.specs.Passphrases as passphrases
 use Rattle.agent_commands.specs.Requests.{GetFields, get_passphrase}
 use Rattle.agent_commands.specs.declared.request.CacheCommand.{CacheCommand}
@@ -56,34 +44,16 @@ use Rattle.agent_commands.specs.declared.request.Request.{Request}
 use Rattle.agent_commands.specs.declared.request.Request.TheVariants.{Cache, Key, Bad}
 use Rattle.agent_commands.specs.declared.request.Texts.{Texts}
 use Rattle.agent_commands.specs.declared.went.Went.{Went}
-use Rattle.key_commands.specs.Passphrases as keys
-use Rattle.agent_session.specs.Causes.{Has, StandIn, IsCaused, IsRefusedBy, IsSaid, said, by_client, by_mode, no_id, empty, option, preset, confirmation, none_given, HasNoEntry, IsUnprompted, without_id, passphrase}
-use Rattle.agent_session.specs.Causes as causes
-use Rattle.agent_session.specs.Completeness.{IsStatus}
+use Rattle.agent_session.specs.Causes.{StandIn, IsCaused, IsRefusedBy, IsSaid, said, by_client, by_mode, no_id, empty, option, preset, confirmation, none_given, HasNoEntry, IsUnprompted, IsMalformed, IsUnsupported, without_id, passphrase}
 use Rattle.agent_origin.specs.declared.kept.Kept.{Kept}
 use Rattle.agent_session.proofs.Asides.{secret_limit}
 use Rattle.agent_session.proofs.Explained.{Explained, replied, failed, silent, after_these, IsLast}
-use Rattle.agent_session.proofs.Explaining.{Caused, CausedRefusal, ClientSays, cut, client_said, Comes, IsExplained, Explains, Anything, bind, whatever, returned, refused, is_needed, or_otherwise, is_wanted}
+use Rattle.agent_session.proofs.Explaining.{Caused, CausedRefusal, ClientSays, cut, client_said, Comes, IsExplained, Explains, Anything, bind, whatever, returned, refused, or_otherwise, is_wanted}
 use Rattle.agent_session.proofs.Explaining.{interrupts, looks, seats, changes, closes_of, closes_explained}
-use Rattle.agent_session.proofs.KeyParts.{Either, prompt_silent, pin_caused, consent_caused, bad_any}
-use Rattle.agent_session.proofs.Prompted.{pin_shows, consent_shows}
+use Rattle.agent_session.proofs.KeyParts.{Either, prompt_silent, refused_any, agrees}
+use Rattle.agent_session.proofs.KeyRequests.{if_needed, or_else_explained}
 use Rattle.agent_session.proofs.Replying.{IsReply, reply_ok, reply_closing, reply_help, reply_cache, reply_passphrase}
 use Rattle.agent_session.proofs.Standing.{has_first, stand_left, stand_right}
-
--- a prompt's answer refuses a request on the cache as one on keys
-same_refusal : (answer : Asked) → keys.pin_refusal answer ≡ pins.pin_refusal answer
-same_refusal (asked.Pin pin) = refl
-same_refusal asked.Cancelled = refl
-same_refusal asked.TimedOut = refl
-same_refusal asked.NoPinentry = refl
-same_refusal asked.Bad = refl
-same_refusal (asked.Heard heard) = refl
-same_refusal asked.NoMemory = refl
-
--- nothing was cached, or there is no id
-abbrev IsEmpty : List (Event FurtherEvent) → Option (List ℕ) → Type 0
-IsEmpty whole None = ⊤
-IsEmpty whole (Some id) = Has (cache_turn (ask id) Empty) whole
 
 -- a reply that answers the request
 abbrev Answers : CacheReply → Type 0
@@ -111,6 +81,9 @@ module _ (rules : Rules) (kept : Kept) (whole : List (Event FurtherEvent)) (requ
   then : {A B : Type 0} {part : Part A} {next : A → Part B} (Good : B → Type 0) → ExplainsHere part Anything → ((value : A) → ExplainsHere (next value) Good) → ExplainsHere (part >>= next) Good
   then Good first next = bind rules kept request whole Anything Good first (λ value any. next value)
 
+  done : {A : Type 0} (value : A) → ExplainsHere (Returns value) Anything
+  done value = returned rules kept request whole Anything value tt
+
   -- ---- the client
 
   writes_of : EachOf (client.Writes limit_line) Anything
@@ -126,74 +99,62 @@ module _ (rules : Rules) (kept : Kept) (whole : List (Event FurtherEvent)) (requ
 
   -- ---- the cache
 
-  looks_of : (id : List ℕ) (before : Option ℕ) (events : List (Event FurtherEvent)) (result : Result (Option (List ℕ)) Refusal) (after : Option ℕ) → Asks (ask id) before events result after → after ≡ before
-      → StandIn events whole → Comes rules kept request whole (Either rules kept request whole Anything (IsEmpty whole (Some id))) events result
-  looks_of id before events result after taken.given keeps stands = record { silent = (tt, tt); explained = tt }
-  looks_of id before events result after taken.empty keeps stands = record { silent = (tt, tt); explained = has_first stands }
-  looks_of id before events result after taken.opened keeps stands = absurd (cc keeps)
-  looks_of id before events result after (taken.interrupted why) keeps stands = record { silent = (tt, tt); explained = interrupts rules kept request whole (ask id) refl why stands }
-
-  -- what is cached, or nothing
-  abbrev Cached : Option (List ℕ) → Option (List ℕ) → Type 0
-  Cached id = Either rules kept request whole Anything (IsEmpty whole id)
-
-  looks_for : (id : Option (List ℕ)) → ExplainsHere (LooksFor id) (Cached id)
-  looks_for None = returned rules kept request whole (Cached None) None tt
-  looks_for (Some id) = record { of = λ before events result after looked stands. looks_of id before events result after looked.asks looked.keeps stands }
-
   wants_prompt : (id : Option (List ℕ)) → ExplainsHere (WantsPrompt id) Anything
-  wants_prompt None = then Anything (seats rules kept request whole _ refl) (λ seated. returned rules kept request whole Anything None tt)
+  wants_prompt None = then Anything (seats rules kept request whole _ refl) (λ seated. done None)
   wants_prompt (Some id) = whatever rules kept request whole _ (looks rules kept request whole (ask_or_open id) refl)
 
-  keeps_under : (id : Option (List ℕ)) (secret : List ℕ) → ExplainsHere (KeepsUnder id secret) Anything
-  keeps_under None secret = returned rules kept request whole Anything tt tt
-  keeps_under (Some id) secret = changes rules kept request whole _ refl
-
   by_client_itself : (id : Option (List ℕ)) → ExplainsHere (ByClient id) Anything
-  by_client_itself id = then Anything asks_passphrase (λ secret. then Anything (keeps_under id secret) (λ done. returned rules kept request whole Anything secret tt))
+  by_client_itself None = then Anything asks_passphrase (λ secret. then Anything (done tt) (λ any. done secret))
+  by_client_itself (Some id) = then Anything asks_passphrase (λ secret. then Anything (changes rules kept request whole _ refl) (λ stored. done secret))
 
   -- ---- prompts
 
   module _ (texts : Texts) (check quality : Bool) (repeat : ℕ) where
     prompts_any_of : EachOf (PromptsAny rules kept.options texts check quality repeat) Anything
     prompts_any_of before events result after (passphrases.given spec is prompt) stands = record { silent = prompt_silent prompt.in_session; explained = tt }
-    prompts_any_of before events result after (passphrases.refused {answer} {why} spec is prompt other refusal) stands = record {
-      silent = prompt_silent prompt.in_session;
-      explained = pin_caused rules kept request whole prompt.in_session stands answer why (pin_shows prompt.asks)
-          (λ bad. bad_any rules kept request whole prompt.asks prompt.in_session stands bad) (same_refusal answer ∙ refusal);
-    }
-
-    prompts : ExplainsHere (Prompts rules kept.options texts check quality repeat) Anything
-    prompts = then Anything (record { of = prompts_any_of }) (λ pin. then Anything (closes_explained rules kept request whole (Some pin)) (λ done. returned rules kept request whole Anything pin tt))
+    prompts_any_of before events result after (passphrases.refused spec is prompt other refusal) stands = refused_any rules kept request whole Anything prompt.asks prompt.in_session refusal stands
 
     by_user : (id : Option (List ℕ)) → ExplainsHere (ByUser rules kept.options texts check quality repeat id) Anything
-    by_user id = then Anything (wants_prompt id) (λ cached. or_otherwise rules kept request whole Anything cached _ (λ some is. tt) (λ none. prompts))
+    by_user id =
+        then Anything (wants_prompt id) (λ cached. or_otherwise rules kept request whole Anything cached _ (λ some is. tt)
+        (λ none. then Anything (record { of = prompts_any_of }) (λ pin. then Anything (closes_explained rules kept request whole (Some pin)) (λ closed. done pin))))
 
-  agrees_of : (question : List ℕ) → EachOf (AgreesTo session_lines rules kept.options question) Anything
-  agrees_of question before events result after (consent.consents spec is prompt) stands = record { silent = prompt_silent prompt.in_session; explained = tt }
-  agrees_of question before events result after (consent.refused {answer} {why} spec is prompt refusal) stands =
-      record { silent = prompt_silent prompt.in_session; explained = consent_caused rules kept request whole prompt.in_session stands answer why (consent_shows prompt.asks) refusal }
+  -- ---- replies
 
-  -- ---- GET_PASSPHRASE
+  answered : {given : CacheReply} → IsReply given.text → IsLast given.went → ExplainsHere (Returns given) Answers
+  answered {given} reply last = returned rules kept request whole Answers given (reply, last)
+
+  tells_of : (plain : Bool) (secret : List ℕ) → EachOf (TellsPassphrase plain secret) IsReply
+  tells_of plain secret before events result after (tells answer) stands = record { silent = tt; explained = reply_passphrase plain secret _ answer }
+
+  tells_info_of : (what : Info) → EachOf (TellsInfo rules what) IsReply
+  tells_info_of what before events result after (tells is) stands = record { silent = tt; explained = info_reply rules what is }
+
+  -- ---- the commands
 
   module _ (fields : GetFields) (is_get : request ≡ Cache (get_passphrase fields)) where
-    no_entry : (id : Option (List ℕ)) → fields.id ≡ id → IsEmpty whole id → HasNoEntry whole request
-    no_entry None same none = without_id fields is_get same
-    no_entry (Some id) same none = passphrase fields id is_get same (none_given Empty tt none)
+    -- the cache has nothing for it
+    abbrev HasNone : Type 0
+    HasNone = HasNoEntry whole request × (is_quiet fields.no_ask fields.texts ≡ true → Caused rules kept request whole code.NoData)
 
-    no_data : is_quiet fields.no_ask fields.texts ≡ true → (id : Option (List ℕ)) → fields.id ≡ id → IsEmpty whole id → Caused rules kept request whole code.NoData
-    no_data quiet None same none = no_id fields is_get quiet same
-    no_data quiet (Some id) same none = empty fields id is_get quiet same none
+    looks_of : (id : List ℕ) → fields.id ≡ Some id → {before after : Option ℕ} {events : List (Event FurtherEvent)} {result : Result (Option (List ℕ)) Refusal} → taken.Asks (ask id) before events result after
+        → after ≡ before → StandIn events whole → Comes rules kept request whole (Either rules kept request whole Anything HasNone) events result
+    looks_of id same taken.given keeps stands = record { silent = (tt, tt); explained = tt }
+    looks_of id same taken.empty keeps stands =
+        record { silent = (tt, tt); explained = (passphrase fields id is_get same (none_given Empty tt (has_first stands)), λ quiet. empty fields id is_get quiet same (has_first stands)) }
+    looks_of id same taken.opened keeps stands = absurd (cc keeps)
+    looks_of id same (taken.interrupted why) keeps stands = record { silent = (tt, tt); explained = interrupts rules kept request whole (ask id) refl why stands }
+
+    looks_for : (id : Option (List ℕ)) → fields.id ≡ id → ExplainsHere (LooksFor id) (Either rules kept request whole Anything HasNone)
+    looks_for None same = returned rules kept request whole _ None (without_id fields is_get same, λ quiet. no_id fields is_get quiet same)
+    looks_for (Some id) same = record { of = λ before events result after looked stands. looks_of id same looked.asks looked.keeps stands }
 
     by_cache : is_quiet fields.no_ask fields.texts ≡ true → ExplainsHere (ByCache fields.id) Anything
-    by_cache quiet =
-        bind rules kept request whole (Cached fields.id) Anything (looks_for fields.id)
-        (λ cached so. is_needed rules kept request whole Anything code.NoData cached (λ none. no_data quiet fields.id refl (subst (Cached fields.id) none so)) (λ some is. tt))
+    by_cache quiet = bind rules kept request whole _ Anything (looks_for fields.id refl) (λ cached so. if_needed rules kept request whole Anything HasNone code.NoData cached so (λ none. none.1 quiet))
 
     without_prompt : (way : PinMode) → (HasNoEntry whole request → ExplainsHere (Uncached fields.id way) Anything) → ExplainsHere (WithoutPrompt fields.id way) Anything
     without_prompt way other =
-        bind rules kept request whole (Cached fields.id) Anything (looks_for fields.id)
-        (λ cached so. or_otherwise rules kept request whole Anything cached _ (λ some is. tt) (λ none. other (no_entry fields.id refl (subst (Cached fields.id) none so))))
+        bind rules kept request whole _ Anything (looks_for fields.id refl) (λ cached so. or_else_explained rules kept request whole Anything HasNone cached _ so (λ none. other none.0))
 
     as_client_wants : (way : PinMode) → kept.options.mode ≡ way → (texts : Texts) → ExplainsHere (as_wanted rules kept.options fields way texts) Anything
     as_client_wants mode.Ask same texts = by_user texts fields.check fields.quality fields.repeat fields.id
@@ -202,62 +163,45 @@ module _ (rules : Rules) (kept : Kept) (whole : List (Event FurtherEvent)) (requ
     as_client_wants mode.Loopback same texts = without_prompt mode.Loopback (λ unmet. by_client_itself fields.id)
 
     -- the fields say whether the cache alone is asked
-    passphrase_found : (no_ask : Bool) (texts : Option Texts) → (is_quiet no_ask texts ≡ true → is_quiet fields.no_ask fields.texts ≡ true)
-        → ExplainsHere (passphrase_by rules kept.options fields no_ask texts) Anything
-    passphrase_found no_ask None quiet = by_cache (quiet refl)
-    passphrase_found true (Some texts) quiet = by_cache (quiet refl)
-    passphrase_found false (Some texts) quiet = as_client_wants kept.options.mode refl texts
-
-    get_replies : ExplainsHere (exchanges.GetReplies rules kept.options fields) Answers
-    get_replies =
-        then Answers (passphrase_found fields.no_ask fields.texts (λ quiet. quiet))
-        (λ secret. bind rules kept request whole IsReply Answers (record { of = tells_of secret }) (λ text reply. returned rules kept request whole Answers _ (reply, tt)))
-      where
-        tells_of : (secret : List ℕ) → EachOf (TellsPassphrase fields.plain secret) IsReply
-        tells_of secret before events result after (exchanges.tells answer) stands = record { silent = tt; explained = reply_passphrase fields.plain secret _ answer }
-
-  -- ---- the other commands
+    found : (no_ask : Bool) (texts : Option Texts) → (is_quiet no_ask texts ≡ true → is_quiet fields.no_ask fields.texts ≡ true) → ExplainsHere (passphrase_by rules kept.options fields no_ask texts) Anything
+    found no_ask None quiet = by_cache (quiet refl)
+    found true (Some texts) quiet = by_cache (quiet refl)
+    found false (Some texts) quiet = as_client_wants kept.options.mode refl texts
 
   option_said : (text : ArrayVec ℕ) → request ≡ Cache (command.SetOption text) → (answer : OptionAnswer) → (applied kept.options text.items).answer ≡ answer → (after : OptionValues)
       → ExplainsHere (option_replies answer after) Answers
-  option_said text is_option option_answer.Set is after = returned rules kept request whole Answers _ (reply_ok, tt)
+  option_said text is_option option_answer.Set is after = answered reply_ok tt
   option_said text is_option option_answer.Unknown is after = refused rules kept request whole Answers (Agent code.UnknownOption) (option is_option is)
-  option_said text is_option option_answer.Parameter is after = refused rules kept request whole Answers (Agent code.Parameter) (causes.IsMalformed.option (option is_option is))
-  option_said text is_option option_answer.NotSupported is after = refused rules kept request whole Answers (Agent code.NotSupported) (causes.IsUnsupported.option (option is_option is))
-
-  tells_info_of : (what : Info) → EachOf (TellsInfo rules what) IsReply
-  tells_info_of what before events result after (exchanges.tells is) stands = record { silent = tt; explained = info_reply rules what is }
-
-  presets : (id : List ℕ) (life : Life) (secret : Option (List ℕ)) → request ≡ Cache (command.PresetPassphrase id life secret) → ExplainsHere (Presets rules id life secret) Anything
-  presets id life secret is =
-      bind rules kept request whole _ Anything (is_wanted rules kept request whole code.NotSupported rules.allow_preset (λ none. preset is none))
-      (λ allowed so. then Anything (or_otherwise rules kept request whole Anything secret AsksPassphrase (λ some is. tt) (λ none. asks_passphrase))
-      (λ given. changes rules kept request whole (put id life given) refl))
+  option_said text is_option option_answer.Parameter is after = refused rules kept request whole Answers (Agent code.Parameter) (IsMalformed.option (option is_option is))
+  option_said text is_option option_answer.NotSupported is after = refused rules kept request whole Answers (Agent code.NotSupported) (IsUnsupported.option (option is_option is))
 
   confirms : (description : ArrayVec ℕ) → request ≡ Cache (command.GetConfirmation description) → (way : PinMode) → kept.options.mode ≡ way → ExplainsHere (confirms_by rules kept.options way description) Anything
-  confirms description is mode.Ask same = then Anything (seats rules kept request whole _ refl) (λ seated. record { of = agrees_of description.items })
+  confirms description is mode.Ask same = then Anything (seats rules kept request whole _ refl) (λ seated. agrees rules kept request whole description.items)
   confirms description is mode.Cancel same = refused rules kept request whole Anything (Agent code.Cancelled) (by_mode same (HasNoEntry.of_consent (confirmation is)))
   confirms description is mode.Error same = refused rules kept request whole Anything (Agent code.NoPinentry) (inl (by_mode same (HasNoEntry.of_consent (confirmation is))))
   confirms description is mode.Loopback same = refused rules kept request whole Anything (Agent code.NoPinentry) (inl (IsUnprompted.of_consent (confirmation is) same))
 
-  changed : (step : MarkStep) → closes step ≡ None → (given : CacheReply) → Answers given → ExplainsHere (ChangeReplies step given) Answers
-  changed step keeps given good = then Answers (changes rules kept request whole step keeps) (λ done. returned rules kept request whole Answers given good)
+  changed : {step : MarkStep} → closes step ≡ None → {given : CacheReply} → IsReply given.text → IsLast given.went → ExplainsHere (ChangeReplies step given) Answers
+  changed keeps reply last = then Answers (changes rules kept request whole _ keeps) (λ made. answered reply last)
 
   replies : (asked : CacheCommand) → request ≡ Cache asked → ExplainsHere (Replies rules kept.options asked) Answers
-  replies command.Nop is = returned rules kept request whole Answers _ (reply_ok, tt)
-  replies command.Reset is = returned rules kept request whole Answers _ (reply_ok, tt)
-  replies command.Bye is = returned rules kept request whole Answers _ (reply_closing, tt)
-  replies command.Help is = returned rules kept request whole Answers _ (reply_help, tt)
+  replies command.Nop is = answered reply_ok tt
+  replies command.Reset is = answered reply_ok tt
+  replies command.Bye is = answered reply_closing tt
+  replies command.Help is = answered reply_help tt
   replies (command.SetOption text) is = option_said text is (applied kept.options text.items).answer refl _
-  replies (command.SetKeyDesc text) is = returned rules kept request whole Answers _ (reply_ok, tt)
-  replies (command.GetInfo what) is = bind rules kept request whole IsReply Answers (record { of = tells_info_of what }) (λ text reply. returned rules kept request whole Answers _ (reply, tt))
+  replies (command.SetKeyDesc text) is = answered reply_ok tt
+  replies (command.GetInfo what) is = bind rules kept request whole IsReply Answers (record { of = tells_info_of what }) (λ text reply. answered reply tt)
   replies (command.GetPassphrase plain check no_ask repeat quality id texts) is =
-      get_replies (record { plain = plain; check = check; no_ask = no_ask; repeat = repeat; quality = quality; id = id; texts = texts }) is
-  replies (command.PresetPassphrase id life secret) is = then Answers (presets id life secret is) (λ stored. returned rules kept request whole Answers _ (reply_ok, tt))
-  replies (command.ClearPassphrase id cleared) is = changed _ refl _ (reply_ok, tt)
-  replies (command.GetConfirmation description) is = then Answers (confirms description is kept.options.mode refl) (λ agreed. returned rules kept request whole Answers _ (reply_ok, tt))
-  replies command.ReloadAgent is = changed _ refl _ (reply_ok, tt)
-  replies command.KillAgent is = changed _ refl _ (reply_closing, tt)
+      let fields : GetFields = record { plain = plain; check = check; no_ask = no_ask; repeat = repeat; quality = quality; id = id; texts = texts } in
+      then Answers (found fields is no_ask texts (λ quiet. quiet)) (λ secret. bind rules kept request whole IsReply Answers (record { of = tells_of plain secret }) (λ text reply. answered reply tt))
+  replies (command.PresetPassphrase id life secret) is =
+      then Answers (bind rules kept request whole _ Anything (is_wanted rules kept request whole code.NotSupported rules.allow_preset (λ none. preset is none)) (λ allowed so. then Anything
+      (or_otherwise rules kept request whole Anything secret AsksPassphrase (λ some is. tt) (λ none. asks_passphrase)) (λ given. changes rules kept request whole _ refl))) (λ stored. answered reply_ok tt)
+  replies (command.ClearPassphrase id cleared) is = changed refl reply_ok tt
+  replies (command.GetConfirmation description) is = then Answers (confirms description is kept.options.mode refl) (λ agreed. answered reply_ok tt)
+  replies command.ReloadAgent is = changed refl reply_ok tt
+  replies command.KillAgent is = changed refl reply_closing tt
 
   -- ---- what is written last
 
@@ -282,7 +226,7 @@ module _ (rules : Rules) (kept : Kept) (whole : List (Event FurtherEvent)) (requ
 
   -- the parts of a request are done, its ticket is given back, and then this is written
   pub in_exchange : {A : Type 0} {part : Part A} {Good : A → Type 0} → ExplainsHere part Good → {events back last : List (Event FurtherEvent)} {result : Result A Refusal} {held : Option ℕ} {went : Went}
-      → part None events result held → Closes None held back (Ok tt) None → (IsExplained rules kept request whole Good result → Here last went) → StandIn (events ++ (back ++ last)) whole
+      → part None events result held → taken.Closes None held back (Ok tt) None → (IsExplained rules kept request whole Good result → Here last went) → StandIn (events ++ (back ++ last)) whole
       → Here (events ++ (back ++ last)) went
   in_exchange {Good} explains {events} {back} {last} {result} {held} does closes ends stands =
       let first : Comes rules kept request whole Good events result = explains.of None events result held does (stand_left events _ stands) in
@@ -290,7 +234,7 @@ module _ (rules : Rules) (kept : Kept) (whole : List (Event FurtherEvent)) (requ
       after_these _ _ events first.silent (after_these _ _ back close.silent (ends first.explained))
 
   exchange_explained : {part : Part CacheReply} → ExplainsHere part Answers → {events : List (Event FurtherEvent)} {after : OptionValues} {went : Went}
-      → AnyExchange refusal_line went_after part kept.options events after went → StandIn events whole → Here events went
+      → exchange.AnyExchange refusal_line went_after part kept.options events after went → StandIn events whole → Here events went
   exchange_explained explains (exchange.answered events held reply does closes) stands = in_exchange explains does closes (λ good. replied [] reply.text tt good.0 good.1) stands
   exchange_explained explains (exchange.refused events held why does closes) stands = in_exchange explains does closes (λ caused. refusal_explained why caused) stands
 

@@ -1,6 +1,6 @@
 -- The parts of requests on keys, each of whose refusals has its cause.
 use Rattle.std.specs.List.{AllByRecursion}
-use Rattle.std.proofs.Common.{false, ◌≡◌, ℕ, List, ◌∷◌, Option, Some, None, Result, Ok, refl, sym, subst, inl, inr}
+use Rattle.std.proofs.Common.{false, ◌≡◌, ℕ, List, ◌∷◌, Option, Some, None, Result, Ok, Err, refl, sym, subst, inl, inr}
 use Rattle.std.specs.Prelude.{⊤}
 use Rattle.std.specs.Option.{option_map}
 use Rattle.agent_ask.specs.Callers.{unheard_of}
@@ -37,8 +37,8 @@ use Rattle.secret_file.specs.Opens.{LockedKey}
 use Rattle.agent_commands.specs.Events.{Event}
 use Rattle.agent_commands.specs.declared.request.Request.{Request}
 use Rattle.key_commands.specs.Faults.{fault_code}
-use Rattle.key_commands.specs.KeyParts.{ReadsFile, change_fault, Replaces, Removes, KeepsNew, Agrees}
-use Rattle.agent_ask.specs.ConsentParts.{consent_refusal}
+use Rattle.key_commands.specs.KeyParts.{ReadsFile, change_fault, Replaces, Removes, KeepsNew}
+use Rattle.agent_ask.specs.ConsentParts.{AgreesTo, consent_refusal}
 use Rattle.agent_ask.specs.ConsentParts as consent
 use Rattle.key_commands.specs.KeyParts as parts
 use Rattle.key_commands.specs.Parts.{read_fault}
@@ -250,32 +250,32 @@ module _ (rules : Rules) (kept : Kept) (request : Request) (whole : List (Event 
     pub prompts_old : ExplainsHere (PromptsOld rules kept.options grip locked) (λ opened. OpensRead whole grip opened.key)
     prompts_old = record { of = prompts_old_of }
 
-  pub bad_any : {spec : PromptSpec} {plan : AskPlan} {prompt : List PromptEvent} {shown : List (Event FurtherEvent)} {answer : Asked} → AsksPin spec plan (λ pin. ⊤) prompt answer
-      → AnyInSession session_lines prompt shown → StandIn shown whole → answer ≡ asked.Bad → CausedHere code.BadPass
-  bad_any {spec} {plan} {prompt} prompted_so in_session stands bad =
-      causes.at_prompt (causes.any (subst (λ a. AsksPin spec plan (λ pin. ⊤) prompt a) bad prompted_so) in_session stands)
+  -- a prompt at which every passphrase is right, and that gave none
+  pub refused_any : {A : Type 0} (Good : A → Type 0) {spec : PromptSpec} {plan : AskPlan} {prompt : List PromptEvent} {shown : List (Event FurtherEvent)} {answer : Asked} {why : Refusal}
+      → AsksPin spec plan (λ pin. ⊤) prompt answer → AnyInSession session_lines prompt shown → pin_refusal answer ≡ Some why → StandIn shown whole → ComesHere Good shown (Err why)
+  refused_any Good {spec} {plan} {prompt} {answer} {why} prompted_so in_session refusal stands = record {
+    silent = prompt_silent in_session;
+    explained = pin_caused in_session stands answer why (pin_shows prompted_so)
+        (λ bad. causes.at_prompt (causes.any (subst (λ a. AsksPin spec plan (λ pin. ⊤) prompt a) bad prompted_so) in_session stands)) refusal;
+  }
 
   module _ (grip : Grip) where
     prompts_new_of : (before : Option ℕ) (events : List (Event FurtherEvent)) (result : Result (List ℕ) Refusal) (after : Option ℕ) → PromptsNew rules kept.options grip before events result after
         → StandIn events whole → ComesHere Anything events result
     prompts_new_of before events result after (passphrases.given spec is prompt) stands = record { silent = prompt_silent prompt.in_session; explained = tt }
-    prompts_new_of before events result after (passphrases.refused {answer} {why} spec is prompt refusal) stands = record {
-      silent = prompt_silent prompt.in_session;
-      explained = pin_caused prompt.in_session stands answer why (pin_shows prompt.asks)
-          (λ bad. bad_any prompt.asks prompt.in_session stands bad) refusal;
-    }
+    prompts_new_of before events result after (passphrases.refused spec is prompt refusal) stands = refused_any Anything prompt.asks prompt.in_session refusal stands
 
     pub prompts_new : ExplainsHere (PromptsNew rules kept.options grip) Anything
     prompts_new = record { of = prompts_new_of }
 
-    agrees_of : (before : Option ℕ) (events : List (Event FurtherEvent)) (result : Result (Unit {0}) Refusal) (after : Option ℕ) → Agrees rules kept.options grip before events result after
-        → StandIn events whole → ComesHere Anything events result
-    agrees_of before events result after (consent.consents spec is prompt) stands = record { silent = prompt_silent prompt.in_session; explained = tt }
-    agrees_of before events result after (consent.refused {answer} {why} spec is prompt refusal) stands =
-        record { silent = prompt_silent prompt.in_session; explained = consent_caused prompt.in_session stands answer why (consent_shows prompt.asks) refusal }
+  agrees_of : (question : List ℕ) (before : Option ℕ) (events : List (Event FurtherEvent)) (result : Result (Unit {0}) Refusal) (after : Option ℕ)
+      → AgreesTo session_lines rules kept.options question before events result after → StandIn events whole → ComesHere Anything events result
+  agrees_of question before events result after (consent.consents spec is prompt) stands = record { silent = prompt_silent prompt.in_session; explained = tt }
+  agrees_of question before events result after (consent.refused {answer} {why} spec is prompt refusal) stands =
+      record { silent = prompt_silent prompt.in_session; explained = consent_caused prompt.in_session stands answer why (consent_shows prompt.asks) refusal }
 
-    pub agrees : ExplainsHere (Agrees rules kept.options grip) Anything
-    agrees = record { of = agrees_of }
+  pub agrees : (question : List ℕ) → ExplainsHere (AgreesTo session_lines rules kept.options question) Anything
+  agrees question = record { of = agrees_of question }
 
   -- ---- key files
 

@@ -32,7 +32,7 @@ use Rattle.key_commands.specs.KeyParts.{Unwraps, ReceivesKey, NamesKey, IsFree, 
 use Rattle.key_commands.specs.KeyParts as parts
 use Rattle.key_commands.specs.Lines.{limit_line}
 use Rattle.key_commands.specs.Parts.{Part, read_fault}
-use Rattle.agent_ask.specs.Parts.{Returns, needed, or_else, wanted, unless}
+use Rattle.agent_ask.specs.Parts.{Returns, needed, or_else, wanted}
 use Rattle.agent_ask.specs.Parts as chain
 use Rattle.key_commands.specs.Parts as small
 use Rattle.key_commands.specs.Passphrases.{OpensBy, ClientOld, UncachedOld, OpensLocked, OldPassphrase, VerifiesPassphrase, ClientNew, NewPassphrase, ask_key, way_of}
@@ -43,7 +43,7 @@ use Rattle.session_client.specs.declared.refusal.Refusal.TheVariants.{Agent}
 use Rattle.key_commands.specs.declared.request.Direction.{Direction}
 use Rattle.key_commands.specs.declared.request.KeyRequest.{KeyRequest}
 use Rattle.key_commands.specs.declared.request.KeyRequest.TheVariants as on
-use Rattle.agent_session.specs.Causes.{Has, here, StandIn, IsCaused, IsSent, AreUnread, IsUnread, LacksKeys, on_keys, IsRefusedBy, one, IsRead, IsReadOf, IsDrawn, IsListOf, protected, IsReadLocked, OpensRead, Unlocks, exports}
+use Rattle.agent_session.specs.Causes.{Has, here, StandIn, IsCaused, IsSent, AreUnread, LacksKeys, on_keys, IsRefusedBy, one, IsRead, IsReadOf, IsDrawn, IsListOf, protected, IsReadLocked, OpensRead, Unlocks, exports}
 use Rattle.agent_session.specs.Causes.{is_clear, key_data, KeyDataSays, data_says, faulty, long, long_file, by_mode, deletion, stays, empty, no_import, no_export, there, GivesNone, none_given}
 use Rattle.agent_session.specs.Causes.{GivesNoneFor, ByNonce, HasNoEntry, exported, changed, verified, imported, renewed, IsUnprompted}
 use Rattle.agent_session.specs.Causes as causes
@@ -233,11 +233,11 @@ module _ (rules : Rules) (kept : Kept) (request : Request) (whole : List (Event 
   -- ---- the old passphrase
 
   module _ {A : Type 0} (Good : A → Type 0) (Else : Type 0) where
-    if_needed : (why : Code) (value : Option A) → Either rules kept request whole Good Else value → (Else → CausedHere why) → ExplainsHere (needed why value) Good
+    pub if_needed : (why : Code) (value : Option A) → Either rules kept request whole Good Else value → (Else → CausedHere why) → ExplainsHere (needed why value) Good
     if_needed why None otherwise caused = refused rules kept request whole Good (Agent why) (caused otherwise)
     if_needed why (Some value) good caused = returned rules kept request whole Good value good
 
-    or_else_explained : (value : Option A) (other : Part A) → Either rules kept request whole Good Else value → (Else → ExplainsHere other Good) → ExplainsHere (or_else value other) Good
+    pub or_else_explained : (value : Option A) (other : Part A) → Either rules kept request whole Good Else value → (Else → ExplainsHere other Good) → ExplainsHere (or_else value other) Good
     or_else_explained None other otherwise explains = explains otherwise
     or_else_explained (Some value) other good explains = returned rules kept request whole Good value good
 
@@ -324,7 +324,7 @@ module _ (rules : Rules) (kept : Kept) (request : Request) (whole : List (Event 
   consents : (way : PinMode) (force : Bool) → on_keys request ≡ Some (on.DeleteKey grip force) → Explains rules (in_mode way) request whole (Consents rules (in_mode way).options force grip) Anything
   consents way true asked = returned rules (in_mode way) request whole Anything tt tt
   consents mode.Ask false asked =
-      bind rules (in_mode mode.Ask) request whole Anything Anything (seats rules (in_mode mode.Ask) request whole _ refl) (λ seated any. agrees rules (in_mode mode.Ask) request whole grip)
+      bind rules (in_mode mode.Ask) request whole Anything Anything (seats rules (in_mode mode.Ask) request whole _ refl) (λ seated any. agrees rules (in_mode mode.Ask) request whole _)
   consents mode.Cancel false asked = refused rules (in_mode mode.Cancel) request whole Anything (Agent code.Cancelled) (by_mode refl (HasNoEntry.of_consent (deletion asked)))
   consents mode.Error false asked = refused rules (in_mode mode.Error) request whole Anything (Agent code.NoPinentry) (inl (by_mode refl (HasNoEntry.of_consent (deletion asked))))
   consents mode.Loopback false asked = refused rules (in_mode mode.Loopback) request whole Anything (Agent code.NoPinentry) (inl (IsUnprompted.of_consent (deletion asked) refl))
