@@ -1,8 +1,8 @@
 -- Each code is answered wherever its cause stands.
 use Rattle.std.specs.List.{AllByRecursion}
-use Rattle.std.proofs.Common.{◌≡◌, ◌⊎◌, ◌∙◌, ℕ, List, [], ◌∷◌, Option, Some, None, Result, Err, refl, sym, ap, subst, inl, inr}
+use Rattle.std.proofs.Common.{◌≡◌, ◌⊎◌, ◌∙◌, ℕ, List, [], Option, Some, None, Result, Err, refl, sym, ap, subst, inl, inr}
 use Rattle.agent_ask.specs.Further.{Keys, Read, Removed}
-use Rattle.agent_ask.specs.SessionEvents.{Sent, Inquiry, Further}
+use Rattle.agent_ask.specs.SessionEvents.{Inquiry, Further}
 use Rattle.agent_ports.specs.declared.grip.Grip.{Grip}
 use Rattle.agent_ports.specs.declared.keys.KeyDone.TheVariants as key_done
 use Rattle.agent_ports.specs.declared.keys.KeyRead.{KeyRead}
@@ -21,7 +21,7 @@ use Rattle.session_options.specs.declared.options.OptionAnswer.TheVariants as op
 use Rattle.session_options.specs.declared.rules.Rules.{Rules}
 use Rattle.sexp_keys.specs.Key.{Key}
 use Rattle.sexp_keys.specs.declared.fault.KeyFault.{KeyFault}
-use Rattle.agent_commands.specs.Exchanges.{Exchange, option_text}
+use Rattle.agent_commands.specs.Exchanges.{Exchange}
 use Rattle.agent_commands.specs.declared.request.Request.{Request}
 use Rattle.agent_commands.specs.declared.request.Request.TheVariants.{Cache, Key as OnKeys, Bad}
 use Rattle.agent_commands.specs.declared.went.Went.{Went}
@@ -36,12 +36,12 @@ use Rattle.key_commands.specs.declared.went.KeyWent.{KeyWent}
 use Rattle.key_commands.specs.declared.wrap_keys.WrapKeys.{WrapKeys}
 use Rattle.agent_origin.specs.SessionExchanges.{RequestExchange, cache, keys}
 use Rattle.agent_origin.specs.declared.kept.Kept.{Kept}
-use Rattle.agent_session.specs.Causes.{Has, here, IsSaid, said, IsSent, sent, IsRead, read, on_keys, IsRefusedBy, Judges, tells, unlocks, Unlocks, exports, changes, LacksKeys}
+use Rattle.agent_session.specs.Causes.{Has, IsSaid, said, IsSent, sent, IsRead, read, on_keys, IsRefusedBy, Judges, tells, unlocks, Unlocks, exports, changes, LacksKeys}
 use Rattle.agent_session.specs.Causes.{IsOption, option, KeyDataSays, data_says, IsFaulty, file, protection, key_data, HasNoData, no_id, empty, IsMalformed, no_import, no_export, IsThere, there}
 use Rattle.agent_session.specs.Causes as causes
 use Rattle.agent_session.specs.Completeness.{Remembers, HasError}
 use Rattle.agent_session.specs.Exactly.{ExactCause}
-use Rattle.agent_session.proofs.ExactCache.{cache_answered, line_refused, option_said, none_without, none_cached}
+use Rattle.agent_session.proofs.ExactCache.{option_due, cache_due, cache_answered, none_without, none_cached}
 use Rattle.agent_session.proofs.ExactHave.{have_answered}
 use Rattle.agent_session.proofs.ExactKeys.{by_said, NoFault, due_of, deciding_of, keys_answered}
 use Rattle.agent_session.proofs.ExactPrompts.{Deciding, SaidDecides, IsDecided}
@@ -66,17 +66,17 @@ module _ (rules : Rules) (kept : Kept) (request : Request) (events : List Event)
 
   -- ---- requests on the cache and on the session
 
-  not_keys : {options : OptionValues} {went : Went} (asked_for : Request) → Exchange rules kept.options asked_for events options went → on_keys asked_for ≡ None
-  not_keys (Cache command) exchange = refl
-  not_keys (Bad why) exchange = refl
-  not_keys (OnKeys line) exchange = elim exchange [ ]
+  not_keys : (asked_for : Request) (options : OptionValues) (went : Went) → Exchange rules kept.options asked_for events options went → on_keys asked_for ≡ None
+  not_keys (Cache command) options went exchange = refl
+  not_keys (Bad why) options went exchange = refl
+  not_keys (OnKeys line) options went exchange = elim exchange [ ]
 
-  module _ {options : OptionValues} {went : Went} (exchange : Exchange rules kept.options request events options went) where
+  module _ (options : OptionValues) (went : Went) (exchange : Exchange rules kept.options request events options went) (remembers : AllByRecursion Remembers events) where
     abbrev BySaid : Deciding
     BySaid = by_said kept.wraps.import
 
     off_keys : {asked : KeyRequest} → on_keys request ≡ Some asked → ⊥
-    off_keys is = let none : on_keys request ≡ None = not_keys request exchange in cc (is, none)
+    off_keys is = let none : on_keys request ≡ None = not_keys request options went exchange in cc (is, none)
 
     off_unlocks : {grip : _} → Unlocks request grip → ⊥
     off_unlocks (exports is) = off_keys is
@@ -86,33 +86,36 @@ module _ (rules : Rules) (kept : Kept) (request : Request) (events : List Event)
     off_judges (tells is) = off_keys is
     off_judges (unlocks is) = off_unlocks is
 
-    refused_so : (why : Code) → IsRefusedBy request why → HasError why Agent events
-    refused_so why (inl is) = line_refused request why is exchange
-    refused_so why (inr is) = absurd (off_keys is)
+    due_first : (why : Code) → cache_due kept.options request why → HasError why Agent events
+    due_first why due = cache_answered BySaid rules kept.options options request events went exchange remembers why (inl due)
 
     decided_so : {why : Code} → IsDecided BySaid events why → HasError why Agent events
-    decided_so {why} decided = cache_answered BySaid exchange why decided
+    decided_so {why} decided = cache_answered BySaid rules kept.options options request events went exchange remembers why (inr decided)
+
+    refused_so : (why : Code) → IsRefusedBy request why → HasError why Agent events
+    refused_so why (inl is) = due_first why (subst (λ r. cache_due kept.options r why) (sym is) refl)
+    refused_so why (inr is) = absurd (off_keys is)
 
     faulty_so : (why : Code) → IsFaulty events rules kept request why → HasError why Agent events
     faulty_so why (file judges is_read is) = absurd (off_judges judges)
     faulty_so why (protection unlocks_it is_read closed is_fault is) = absurd (off_unlocks unlocks_it)
     faulty_so why (key_data says) = decided_so (data_decides BySaid (λ bytes refuses_so. refuses_so) says)
 
-    option_so : (answer : OptionAnswer) → IsOption events rules kept request answer → events ≡ Sent (option_text answer) ∷ []
-    option_so answer (option {text} is says) = subst (λ a. events ≡ Sent (option_text a) ∷ []) says (option_said text is exchange)
+    option_so : (answer : OptionAnswer) (why : Code) → IsOption events rules kept request answer → option_due answer why → HasError why Agent events
+    option_so answer why (option is says) due = due_first why (subst (λ r. cache_due kept.options r why) (sym is) (subst (λ a. option_due a why) (sym says) due))
 
     cache_cause : (why : Code) → ExactCause events rules kept request why → HasError why Agent events
-    cache_cause code.NoData (no_id fields is quiet none) = none_without fields exchange is quiet none
-    cache_cause code.NoData (empty fields id is quiet same has) = none_cached fields id exchange is quiet has
-    cache_cause code.NoSecKey cause = absurd (subst (LacksKeys events) (not_keys request exchange) cause)
+    cache_cause code.NoData (no_id fields is quiet none) = none_without rules kept.options options request events went exchange fields is quiet none
+    cache_cause code.NoData (empty fields id is quiet same has) = none_cached rules kept.options options request events went exchange fields is quiet id has
+    cache_cause code.NoSecKey cause = absurd (subst (LacksKeys events) (not_keys request options went exchange) cause)
     cache_cause code.FileExists (there asked says named has) = absurd (off_keys asked)
     cache_cause code.Checksum cause = decided_so (data_decides BySaid (λ bytes refuses_so. refuses_so) cause)
     cache_cause code.InvSexp cause = faulty_so code.InvSexp cause
     cache_cause code.BadSecKey cause = faulty_so code.BadSecKey cause
     cache_cause code.UnknownCommand cause = refused_so code.UnknownCommand cause
-    cache_cause code.UnknownOption cause = subst (λ e. HasError code.UnknownOption Agent e) (sym (option_so option_answer.Unknown cause)) here
+    cache_cause code.UnknownOption cause = option_so option_answer.Unknown code.UnknownOption cause refl
     cache_cause code.Parameter (causes.IsMalformed.line is) = refused_so code.Parameter is
-    cache_cause code.Parameter (causes.IsMalformed.option is) = subst (λ e. HasError code.Parameter Agent e) (sym (option_so option_answer.Parameter is)) here
+    cache_cause code.Parameter (causes.IsMalformed.option is) = option_so option_answer.Parameter code.Parameter is refl
     cache_cause code.Parameter (no_import asked none) = absurd (off_keys asked)
     cache_cause code.Parameter (no_export asked none) = absurd (off_keys asked)
     cache_cause code.TooMuch cause = decided_so (said_decides BySaid unheard.TooMuch refl cause)
@@ -233,5 +236,5 @@ module _ (rules : Rules) (kept : Kept) (request : Request) (events : List Event)
 module _ (one_canon : (file : List ℕ) (a b : Option (List ℕ)) → Canon file a → Canon file b → a ≡ b) (rules : Rules) (kept : Kept) where
   pub cause_answered : (request : Request) {events : List Event} {after : Kept} {went : Went} → RequestExchange rules kept request events after went → AllByRecursion Remembers events → (why : Code)
       → ExactCause events rules kept request why → HasError why Agent events
-  cause_answered request {events} (cache exchange) remembers why cause = cache_cause rules kept request events exchange why cause
+  cause_answered request {events} (cache exchange) remembers why cause = cache_cause rules kept request events _ _ exchange remembers why cause
   cause_answered request {events} (keys exchange) remembers why cause = keys_cause rules kept request events _ refl one_canon exchange remembers why cause

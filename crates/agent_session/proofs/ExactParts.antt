@@ -8,6 +8,7 @@ use Rattle.agent_ask.specs.declared.ask.Asked.TheVariants as asked
 use Rattle.agent_ask.specs.declared.consent.Agreed.TheVariants as agreed
 use Rattle.agent_ports.specs.declared.grip.Grip.{Grip}
 use Rattle.session_client.specs.Refusals.{refusal_code}
+use Rattle.assuan_server.specs.Clients.{session_lines}
 use Rattle.assuan_server.specs.Written.{failed, refusal_line}
 use Rattle.session_client.specs.declared.code.Code.{Code}
 use Rattle.session_client.specs.declared.code.Code.TheVariants as code
@@ -22,8 +23,8 @@ use Rattle.sexp_keys.specs.Key.{Key}
 use Rattle.key_commands.specs.Events.{Event}
 use Rattle.key_commands.specs.Files.{Rewrites}
 use Rattle.key_commands.specs.Files as files
-use Rattle.key_commands.specs.KeyParts.{Tells, Replaces, Protects, IsShort, KeepsNew, TellsInfo, ListsGrips, max_key_data, NamesKey, LooksOver, WrapsKey, Agrees, Consents, WritesInfo}
-use Rattle.agent_ask.specs.ConsentParts.{consent_refusal}
+use Rattle.key_commands.specs.KeyParts.{Tells, Replaces, Protects, IsShort, KeepsNew, TellsInfo, ListsGrips, max_key_data, NamesKey, LooksOver, WrapsKey, Consents, WritesInfo}
+use Rattle.agent_ask.specs.ConsentParts.{AgreesTo, consent_refusal}
 use Rattle.key_commands.specs.Lines.{grip_text}
 use Rattle.cache_policy.specs.declared.mode.Mode.TheVariants.{Normal}
 use Rattle.key_commands.specs.KeyParts as parts
@@ -61,7 +62,7 @@ SaysTo Owed (Err refusal) why = refusal_line refusal ≡ Some (failed why)
 pub client_line : (why : Code) (unheard : _) (refusal : Refusal) → refusal_code unheard ≡ Some why → Client unheard ≡ refusal → refusal_line refusal ≡ Some (failed why)
 client_line why unheard refusal code_is same = subst (λ r. refusal_line r ≡ Some (failed why)) same (ap (option_map failed) code_is)
 
-heard_line : {prompt : _} (why : Code) (noted : IsNoted prompt why) (refusal : Refusal) → option_map Client (unheard_of noted.heard) ≡ Some refusal → refusal_line refusal ≡ Some (failed why)
+pub heard_line : {prompt : _} (why : Code) (noted : IsNoted prompt why) (refusal : Refusal) → option_map Client (unheard_of noted.heard) ≡ Some refusal → refusal_line refusal ≡ Some (failed why)
 heard_line why noted refusal is =
     let said : Some (Client noted.unheard) ≡ Some refusal = sym (ap (option_map Client) noted.is) ∙ is in
     let same : Client noted.unheard ≡ refusal = cc in
@@ -407,18 +408,6 @@ module _ (deciding : Deciding) where
     pub prompts_new : Heeds NoneDue (PromptsNew rules options grip) NoneOwed
     prompts_new = record { of = prompts_new_of }
 
-    agrees_of : (before : Option ℕ) (events : List Event) (result : Result (Unit {0}) Refusal) (after : Option ℕ) → Agrees rules options grip before events result after
-        → AllByRecursion Remembers events → (why : Code) → NoneDue why ⊎ IsDecided deciding events why → SaysTo NoneOwed result why
-    agrees_of before events result after does remembers why (inl due) = absurd due
-    agrees_of before events result after (consent.consents spec is prompts) remembers why (inr decided) =
-        let other : agreed.Yes ≡ agreed.Heard _ = consent_heard prompts.asks (shown_noted deciding prompts.in_session decided) in absurd (cc other)
-    agrees_of before events result after (consent.refused {why = refusal} spec is prompts by) remembers why (inr decided) =
-        let noted = shown_noted deciding prompts.in_session decided in
-        heard_line why noted refusal (subst (λ a. consent_refusal a ≡ Some refusal) (consent_heard prompts.asks noted) by)
-
-    pub agrees : Heeds NoneDue (Agrees rules options grip) NoneOwed
-    agrees = record { of = agrees_of }
-
     -- ---- passphrases
 
     pub uncached_old : (way : PinMode) (locked : LockedKey) → Heeds NoneDue (UncachedOld rules options grip way locked) NoneOwed
@@ -444,11 +433,25 @@ module _ (deciding : Deciding) where
     pub new_passphrase : Heeds NoneDue (NewPassphrase rules options grip) NoneOwed
     new_passphrase = new_by options.mode
 
+  -- the user's consent, whatever the question is
+  module _ (rules : Rules) (options : OptionValues) (question : List ℕ) where
+    agrees_of : (before : Option ℕ) (events : List Event) (result : Result (Unit {0}) Refusal) (after : Option ℕ) → AgreesTo session_lines rules options question before events result after
+        → AllByRecursion Remembers events → (why : Code) → NoneDue why ⊎ IsDecided deciding events why → SaysTo NoneOwed result why
+    agrees_of before events result after does remembers why (inl due) = absurd due
+    agrees_of before events result after (consent.consents spec is prompts) remembers why (inr decided) =
+        let other : agreed.Yes ≡ agreed.Heard _ = consent_heard prompts.asks (shown_noted deciding prompts.in_session decided) in absurd (cc other)
+    agrees_of before events result after (consent.refused {why = refusal} spec is prompts by) remembers why (inr decided) =
+        let noted = shown_noted deciding prompts.in_session decided in
+        heard_line why noted refusal (subst (λ a. consent_refusal a ≡ Some refusal) (consent_heard prompts.asks noted) by)
+
+    pub agrees_to : Heeds NoneDue (AgreesTo session_lines rules options question) NoneOwed
+    agrees_to = record { of = agrees_of }
+
   -- in each mode in which a client may want to be asked
   module _ (rules : Rules) (options : OptionValues) (grip : Grip) where
     pub consents : (way : PinMode) (force : Bool) → Heeds NoneDue (Consents rules (record options { mode = way }) force grip) NoneOwed
     consents way true = by_never NoneOwed (returns_never tt)
-    consents mode.Ask false = bind NoneOwed (by_never NoneOwed (seats_never _)) (λ seated. agrees rules (record options { mode = mode.Ask }) grip)
+    consents mode.Ask false = bind NoneOwed (by_never NoneOwed (seats_never _)) (λ seated. agrees_to rules (record options { mode = mode.Ask }) _)
     consents mode.Cancel false = by_never NoneOwed (refuses_never (Agent code.Cancelled))
     consents mode.Error false = by_never NoneOwed (refuses_never (Agent code.NoPinentry))
     consents mode.Loopback false = by_never NoneOwed (refuses_never (Agent code.NoPinentry))

@@ -1,15 +1,19 @@
 -- Worked examples: exchanges in which a cause stands, and their answers.
 use Rattle.std.specs.List.{AllByRecursion}
-use Rattle.std.proofs.Common.{◌≡◌, ℕ, true, false, List, [], ◌∷◌, codes, Option, Some, None, refl, sym, subst}
+use Rattle.std.proofs.Common.{◌≡◌, ◌++◌, ℕ, true, false, List, [], ◌∷◌, codes, Option, Some, None, refl, sym, subst}
 use Rattle.arrayvec.specs.ArrayVec.{ArrayVec}
-use Rattle.agent_ask.specs.Failing.{fails}
-use Rattle.agent_ask.specs.SessionEvents.{Sent, cache_turn}
-use Rattle.agent_commands.specs.Exchanges as exchanges
-use Rattle.agent_commands.specs.Exchanges.{ask, inquiry, limit_line}
+use Rattle.agent_ask.specs.SessionEvents.{Sent, Inquiry, cache_turn}
+use Rattle.agent_ask.specs.ClientParts as client
+use Rattle.agent_ask.specs.PartExchanges as exchanges
+use Rattle.agent_commands.specs.Exchanges.{Exchange as CacheExchange}
+use Rattle.agent_commands.specs.Parts.{limit_line}
+use Rattle.agent_commands.specs.Passphrases.{ask}
 use Rattle.agent_commands.specs.Requests.{GetFields, get_passphrase}
 use Rattle.agent_commands.specs.declared.request.CacheCommand.TheVariants.{PresetPassphrase}
 use Rattle.agent_commands.specs.declared.request.Request.TheVariants.{Cache, Key as OnKeys}
+use Rattle.agent_commands.specs.declared.went.SessionEnd.TheVariants as ends
 use Rattle.agent_commands.specs.declared.went.Went.{Went}
+use Rattle.agent_commands.specs.declared.went.Went.TheVariants.{On, End}
 use Rattle.agent_ports.specs.declared.grip.Grip.{Grip}
 use Rattle.agent_ports.specs.declared.keys.KeyRead.TheVariants as key_read
 use Rattle.assuan_server.specs.Inquiries.{TooLong}
@@ -19,6 +23,7 @@ use Rattle.assuan_server.specs.declared.errors.Origin.TheVariants.{Agent}
 use Rattle.assuan_text.specs.Words.{command_of}
 use Rattle.cache_policy.specs.Turns.{Empty}
 use Rattle.cache_policy.specs.declared.life.Life.{Life}
+use Rattle.cache_policy.specs.declared.secret.TheConstants.{MAX_SECRET_LEN}
 use Rattle.key_commands.specs.Events.{Event, read}
 use Rattle.key_commands.specs.Exchanges.{Exchange, KeyInfoReplies}
 use Rattle.key_commands.specs.Exchanges as key_exchanges
@@ -61,15 +66,29 @@ module _ (one_canon : (file : List ℕ) (a b : Option (List ℕ)) → Canon file
   remembers_turn : AllByRecursion Remembers nothing_cached
   remembers_turn = ((λ e. absurd (cc e)), ((λ none. none), tt))
 
+  quiet_exchange : CacheExchange rules kept.options (Cache (get_passphrase quietly)) nothing_cached kept.options On
+  quiet_exchange =
+      exchanges.refused (cache_turn (ask (codes "k")) Empty ∷ []) None (refusals.Agent code.NoData) (chain.stops (chain.goes_on (record { asks = turning.empty; keeps = refl }) chain.refuses)) turning.unheld
+
   no_data : HasError code.NoData Agent nothing_cached
   no_data =
-      cause_answered one_canon rules kept (Cache (get_passphrase quietly)) (cache (exchanges.quiet {fields = quietly} refl (exchanges.goes_on exchanges.empty exchanges.refused))) remembers_turn code.NoData
+      cause_answered one_canon rules kept (Cache (get_passphrase quietly)) (cache quiet_exchange) remembers_turn code.NoData
       (empty quietly (codes "k") refl refl refl here)
 
   -- a preset whose client sends a line that is too long in place of a passphrase
-  module _ (allows : rules.allow_preset ≡ true) (id : List ℕ) (life : Life) where
-    long_line : HasError code.LineTooLong Agent (Sent limit_line ∷ inquiry (Asked TooLong) ∷ Sent (failed code.LineTooLong) ∷ [])
-    long_line = end_told {rules = rules} {kept = kept} {request = Cache (PresetPassphrase id life None)} (cache (exchanges.without_data allows (exchanges.no_data {why = unheard.Gone gone.TooLong} refl fails))) refl
+  module _ (id : List ℕ) (life : Life) where
+    abbrev allowing : Rules
+    allowing = record rules { allow_preset = true }
+
+    abbrev long : List Event
+    long = Sent limit_line ∷ Inquiry (codes "PASSPHRASE") [] MAX_SECRET_LEN (Asked TooLong) ∷ []
+
+    long_exchange : CacheExchange allowing kept.options (Cache (PresetPassphrase id life None)) (long ++ Sent (failed code.LineTooLong) ∷ []) kept.options (End ends.TooLong)
+    long_exchange =
+        exchanges.refused long None (refusals.Client (unheard.Gone gone.TooLong)) (chain.stops (chain.goes_on chain.returns (chain.stops (chain.goes_on client.written (client.not_given refl))))) turning.unheld
+
+    long_line : HasError code.LineTooLong Agent (long ++ Sent (failed code.LineTooLong) ∷ [])
+    long_line = end_told {rules = allowing} {kept = kept} {request = Cache (PresetPassphrase id life None)} (cache long_exchange) refl
 
   -- KEYINFO of a key that isn't there
   module _ (line : ArrayVec ℕ) (grip : Grip) (is : key_request_of line.items ≡ on.KeyInfo grip) where
