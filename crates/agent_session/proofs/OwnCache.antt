@@ -1,209 +1,372 @@
--- What requests on the cache hand to it is their own; and so of each request of a session.
+-- What requests on the cache hand to it is their own, and so is the passphrase that they are answered; and so of what each request of a session hands in.
 use Rattle.std.specs.List.{AllByRecursion}
 use Rattle.std.specs.Prelude.{⊤}
-use Rattle.std.proofs.Common.{◌≡◌, ℕ, Bool, List, [], ◌∷◌, ◌++◌, Option, Some, None, refl, sym, ap, ◌∙◌, subst, append-nil}
-use Rattle.agent_ask.specs.Consents.{AsksConsent}
-use Rattle.agent_ask.specs.Events.{PromptEvent}
-use Rattle.agent_ask.specs.Failing.{said_last, fails}
+use Rattle.std.proofs.Common.{◌≡◌, ℕ, Bool, true, false, List, [], ◌∷◌, ◌++◌, Option, Some, None, Result, Ok, Err, refl, sym, ◌∙◌, subst, append_assoc, append-nil, codes}
+use Rattle.agent_ask.specs.ClientParts.{Writes, Inquires}
+use Rattle.agent_ask.specs.ClientParts as client
+use Rattle.agent_ask.specs.ConsentParts.{AgreesTo}
+use Rattle.agent_ask.specs.ConsentParts as consent
+use Rattle.agent_ask.specs.Failing.{said_last}
 use Rattle.agent_ask.specs.Further.{FurtherEvent}
-use Rattle.agent_ask.specs.Prompts.{AsksPin}
+use Rattle.agent_ask.specs.PartExchanges.{AnyExchange}
+use Rattle.agent_ask.specs.PartExchanges as exchange
+use Rattle.agent_ask.specs.Parts.{◌>>=◌, goes_on, stops, Returns, returns, Refuses, needed, wanted, or_else}
+use Rattle.agent_ask.specs.Parts as chain
 use Rattle.agent_ask.specs.SessionEvents.{Sent, cache_turn}
-use Rattle.agent_ask.specs.UnderTickets.{AnyInSession, Prompts, AsksOnce, EndsOnce, none as no_more, next, asked as asked_under}
-use Rattle.agent_ask.specs.declared.ask.Asked.{Asked as Answer}
-use Rattle.agent_ask.specs.declared.consent.Agreed.{Agreed}
-use Rattle.agent_ask.specs.declared.spec.AskPlan.{AskPlan}
-use Rattle.agent_ask.specs.declared.spec.PromptSpec.{PromptSpec}
+use Rattle.agent_ask.specs.TurnParts.{Asks, Seats, Changes, Closes}
+use Rattle.agent_ask.specs.TurnParts as turning
 use Rattle.assuan_server.specs.Clients.{session_lines}
-use Rattle.session_client.specs.declared.code.Code.TheVariants as code
-use Rattle.cache_policy.specs.Turns.{Turn}
+use Rattle.assuan_server.specs.Written.{refusal_line}
+use Rattle.cache_policy.specs.Turns.{Given}
+use Rattle.cache_policy.specs.declared.grant.Grant.{Grant}
+use Rattle.cache_policy.specs.declared.life.Life.{Life}
+use Rattle.cache_policy.specs.declared.life.Life.TheVariants.{Default}
 use Rattle.cache_policy.specs.declared.mark.MarkStep.{MarkStep}
-use Rattle.cache_policy.specs.declared.mark.MarkStep.TheVariants.{Close, Seat}
+use Rattle.cache_policy.specs.declared.mark.MarkStep.TheVariants.{Put, Seat}
 use Rattle.cache_policy.specs.declared.mode.Mode.TheVariants.{User}
-use Rattle.session_client.specs.declared.unheard.Unheard.{Unheard}
-use Rattle.session_options.specs.OptionValues.{OptionValues}
+use Rattle.cache_policy.specs.declared.secret.TheConstants.{MAX_SECRET_LEN}
+use Rattle.session_client.specs.declared.code.Code.TheVariants as code
+use Rattle.session_client.specs.declared.refusal.Refusal.{Refusal}
+use Rattle.session_client.specs.declared.refusal.Refusal.TheVariants.{Agent}
+use Rattle.session_options.specs.OptionValues.{OptionValues, applied}
+use Rattle.session_options.specs.declared.options.OptionAnswer.{OptionAnswer}
+use Rattle.session_options.specs.declared.options.OptionAnswer.TheVariants.{Set, Unknown, Parameter, NotSupported}
 use Rattle.session_options.specs.declared.options.PinMode.{PinMode}
+use Rattle.session_options.specs.declared.options.PinMode.TheVariants as mode
 use Rattle.session_options.specs.declared.rules.Rules.{Rules}
+use Rattle.agent_commands.specs.Endings.{went_after}
 use Rattle.agent_commands.specs.Events.{Event}
 use Rattle.agent_commands.specs.Exchanges as exchanges
-use Rattle.agent_commands.specs.Exchanges.{Exchange, Fails, WithoutPassphrase, Looks, LooksFirst, Refuses, IsOneTurn, ComesOut, Keeps, WithoutPrompt, EndsPin, EndsConsent, WantsPrompt, want, ByPrompt}
-use Rattle.agent_commands.specs.Prompting.{UnderTicket}
+use Rattle.agent_commands.specs.Exchanges.{Exchange, CacheReply, TellsPassphrase, TellsInfo, GivenOrAsked, Presets, Replies, option_replies, confirms_by, put}
+use Rattle.agent_commands.specs.Parts.{Part, AsksPassphrase, limit_line}
+use Rattle.agent_commands.specs.Passphrases.{ask, ask_or_open, Looks, LooksFor, WantsPrompt, KeepsUnder, ByCache, ByClient, Uncached, WithoutPrompt, PromptsAny, ByUser, as_wanted, passphrase_by}
+use Rattle.agent_commands.specs.Passphrases as passphrases
 use Rattle.agent_commands.specs.Requests.{GetFields, get_passphrase}
 use Rattle.agent_commands.specs.declared.request.CacheCommand.{CacheCommand}
+use Rattle.agent_commands.specs.declared.request.CacheCommand.TheVariants as on
+use Rattle.agent_commands.specs.declared.request.Info.{Info}
 use Rattle.agent_commands.specs.declared.request.Request.{Request}
-use Rattle.agent_commands.specs.declared.request.Request.TheVariants.{Cache}
+use Rattle.agent_commands.specs.declared.request.Request.TheVariants.{Cache, Key as OnKeys, Bad}
+use Rattle.agent_commands.specs.declared.request.Texts.{Texts}
 use Rattle.agent_commands.specs.declared.went.Went.{Went}
-use Rattle.key_commands.proofs.EachEvent.{each_shown}
+use Rattle.key_commands.proofs.EachEvent.{each_append, EachSo, each_bind, each_refused, each_seats, each_changes}
 use Rattle.agent_origin.specs.SessionExchanges.{RequestExchange, cache, keys}
 use Rattle.agent_origin.specs.declared.kept.Kept.{Kept}
-use Rattle.agent_session.specs.Causes.{here, later, IsSent, sent}
-use Rattle.agent_session.specs.OwnPassphrases.{by_command, WantsTicket, by_id, unkept, HasTicket, has_ticket, any, HandsIn}
+use Rattle.agent_session.specs.Causes.{Has, here, IsSent, sent}
+use Rattle.agent_session.specs.OwnAnswers.{IsPublic, done, closes, helps, tells, notice, IsAnswered, cached, unprompted, typed, SaysOwn, public, passphrase, SaysOwnAlone}
+use Rattle.agent_session.specs.OwnAnswers as answers
+use Rattle.agent_session.specs.OwnPassphrases.{by_command, WantsTicket, by_id, unkept, HasTicket, has_ticket, IsAccepted, any, HandsIn, StoresOwn}
 use Rattle.agent_session.specs.OwnPassphrases as whose
-use Rattle.agent_session.specs.Refusals.{MayStore, preset, given}
-use Rattle.agent_session.proofs.OwnFacts.{ticket_more}
-use Rattle.agent_session.proofs.OwnKeys.{still_quiet, stand_last, key_own}
-use Rattle.agent_session.proofs.OwnParts.{IsQuiet, kept_none, Fit, AreOwn, own_then, quiet_are_own}
-use Rattle.agent_session.proofs.Standing.{has_right}
+use Rattle.agent_session.specs.Refusals.{preset, given, limit}
+use Rattle.agent_session.proofs.OwnFacts.{ticket_more, accepted_more, sent_more}
+use Rattle.agent_session.proofs.OwnLines.{IsOpen, IsPlain, Open, Plain, plain_quiet, plain_open, shown_plain, refusal_plain, back_plain, open_are_own, said_last_own}
+use Rattle.agent_session.proofs.OwnKeys.{stand_last, key_own}
+use Rattle.agent_session.proofs.OwnParts.{IsQuiet, Fit, AreOwn, own_then, quiet_are_own, HoldsOf, whatever, Anything}
+use Rattle.agent_session.proofs.Standing.{has_left, has_right}
 
--- ---- what hands nothing in
+module _ (rules : Rules) where
+  agrees_of : {options : OptionValues} {question : List ℕ} (before : Option ℕ) (events : List (Event FurtherEvent)) (result : Result (Unit {0}) Refusal) (after : Option ℕ)
+      → AgreesTo session_lines rules options question before events result after → Plain rules events
+  agrees_of before events result after (consent.consents spec is prompt) = shown_plain rules prompt.in_session
+  agrees_of before events result after (consent.refused spec is prompt refusal) = shown_plain rules prompt.in_session
 
-fails_quiet : {why : Unheard} {events : List (Event FurtherEvent)} {went : Went} → Fails why events went → AllByRecursion IsQuiet events
-fails_quiet {why} fails = last_quiet (session_lines.refusal why)
-  where
-    last_quiet : (line : Option (List ℕ)) → AllByRecursion IsQuiet (said_last {T = session_lines.Took} {O = session_lines.Outcome} {F = FurtherEvent} line)
-    last_quiet None = tt
-    last_quiet (Some line) = (tt, tt)
+  confirms_plain : (options : OptionValues) (way : PinMode) (description : _) → EachSo (IsPlain rules) (confirms_by rules options way description)
+  confirms_plain options mode.Ask description = each_bind (IsPlain rules) (each_seats (IsPlain rules) (λ turn. ((λ hands. elim hands [ ]), tt))) (λ seated. record { of = agrees_of })
+  confirms_plain options mode.Cancel description = each_refused (IsPlain rules) (Agent code.Cancelled)
+  confirms_plain options mode.Error description = each_refused (IsPlain rules) (Agent code.NoPinentry)
+  confirms_plain options mode.Loopback description = each_refused (IsPlain rules) (Agent code.NoPinentry)
 
-looks_quiet : {plain : Bool} {id : Option (List ℕ)} {first : List (Event FurtherEvent)} {said : Option (List ℕ)} → Looks plain id first said → AllByRecursion IsQuiet first
-looks_quiet exchanges.no_id = tt
-looks_quiet exchanges.empty = ((λ hands. elim hands [ ]), tt)
-looks_quiet (exchanges.given is) = ((λ hands. elim hands [ ]), tt)
-looks_quiet (exchanges.interrupted why) = ((λ hands. elim hands [ ]), tt)
+  module _ (request : Request) where
+    -- ---- parts
 
-want_quiet : (id : Option (List ℕ)) → HandsIn (want id) → ⊥
-want_quiet None hands = elim hands [ ]
-want_quiet (Some id) hands = elim hands [ ]
+    -- Where this is so of what was done before and of the ticket that is held, what a part hands in is the request's own, and it writes no passphrase; and
+    -- then that is so of what it comes to.
+    abbrev Owns : {A : Type 0} → (List (Event FurtherEvent) → Option ℕ → Type 0) → Part A → (A → List (Event FurtherEvent) → Option ℕ → Type 0) → Type 0
+    Owns {A} Pre part Post = (prior : List (Event FurtherEvent)) (before : Option ℕ) (events : List (Event FurtherEvent)) (result : Result A Refusal) (after : Option ℕ) → part before events result after → Pre prior before
+        → AreOwn request prior events × Open rules events × HoldsOf (λ value. Post value (prior ++ events) after) result
 
-module _ (request : Request) where
-  abbrev Own : List (Event FurtherEvent) → List (Event FurtherEvent) → Type 0
-  Own = AreOwn request
+    record OwnSo {A : Type 0} (Pre : List (Event FurtherEvent) → Option ℕ → Type 0) (part : Part A) (Post : A → List (Event FurtherEvent) → Option ℕ → Type 0) : Type 0 where
+      of : Owns Pre part Post
 
-  without_passphrase : (prior : List (Event FurtherEvent)) {events : List (Event FurtherEvent)} {went : Went} → WithoutPassphrase events went → Own prior events
-  without_passphrase prior (exchanges.no_data says fails_so) = (tt, (tt, quiet_are_own request _ _ (fails_quiet fails_so)))
-  without_passphrase prior (exchanges.limit_cut unsent is) = (tt, tt)
+    module _ {A B : Type 0} {Pre : List (Event FurtherEvent) → Option ℕ → Type 0} {Mid : A → List (Event FurtherEvent) → Option ℕ → Type 0} {Post : B → List (Event FurtherEvent) → Option ℕ → Type 0}
+        {part : Part A} {next : A → Part B} (first : OwnSo Pre part Mid) (then : (value : A) → OwnSo (Mid value) (next value) Post) where
+      bind_of : Owns Pre (part >>= next) Post
+      bind_of prior before events result after (goes_on {first = some} {events = more} {value} {mid} does next_does) pre =
+          let one = first.of prior before some (Ok value) mid does pre in
+          let two = (then value).of (prior ++ some) mid more result after next_does one.2 in
+          (own_then request prior some more one.0 two.0, each_append (IsOpen rules) some more one.1 two.1, subst (λ p. HoldsOf (λ value. Post value p after) result) (append_assoc prior some more) two.2)
+      bind_of prior before events result after (stops {refusal = why} does) pre = let one = first.of prior before events (Err why) after does pre in (one.0, one.1, tt)
 
-  looks_first : {plain : Bool} {id : Option (List ℕ)} {Otherwise : List (Event FurtherEvent) → Went → Type 0} {events : List (Event FurtherEvent)} {went : Went} → LooksFirst plain id Otherwise events went
-      → ((first more : List (Event FurtherEvent)) (after : Went) → Otherwise more after → Own first more) → Own [] events
-  looks_first (exchanges.answered {first} {text} looks) other = own_then request [] first (Sent text ∷ []) (quiet_are_own request [] first (looks_quiet looks)) (tt, tt)
-  looks_first (exchanges.goes_on {first} {events = more} {went} looks otherwise) other = own_then request [] first more (quiet_are_own request [] first (looks_quiet looks)) (other first more went otherwise)
+      bind : OwnSo Pre (part >>= next) Post
+      bind = record { of = bind_of }
 
-  -- it may store under the id that it names
-  abbrev StoresUnder : Option (List ℕ) → Type 0
-  StoresUnder named = (id : List ℕ) → named ≡ Some id → MayStore request id User
+    module _ {A : Type 0} (Pre : List (Event FurtherEvent) → Option ℕ → Type 0) (Post : A → List (Event FurtherEvent) → Option ℕ → Type 0) where
+      holds_as : (Other : A → List (Event FurtherEvent) → Option ℕ → Type 0) → ((value : A) (prior : List (Event FurtherEvent)) (held : Option ℕ) → Post value prior held → Other value prior held)
+          → (prior : List (Event FurtherEvent)) (after : Option ℕ) (result : Result A Refusal) → HoldsOf (λ value. Post value prior after) result → HoldsOf (λ value. Other value prior after) result
+      holds_as Other then prior after (Ok value) holds = then value prior after holds
+      holds_as Other then prior after (Err why) holds = tt
 
-  module _ (plain : Bool) where
-    keeps_own : (prior : List (Event FurtherEvent)) {word secret : List ℕ} {limit : ℕ} → IsSent prior word limit secret → (named : Option (List ℕ)) {events : List (Event FurtherEvent)} {went : Went} → StoresUnder named
-        → Keeps plain secret named events went → Own prior events
-    keeps_own prior says named stores (exchanges.unkept is) = (tt, tt)
-    keeps_own prior says named stores (exchanges.kept {id} is) = ((λ hands. whose.sent (by_command (stores id refl)) says), (tt, tt))
-    keeps_own prior says named stores (exchanges.interrupted {id} why) = ((λ hands. whose.sent (by_command (stores id refl)) says), (tt, tt))
+      returned_of : (value : A) → ((prior : List (Event FurtherEvent)) (held : Option ℕ) → Pre prior held → Post value prior held) → Owns Pre (Returns value) Post
+      returned_of value so prior before events result after returns pre = (tt, tt, subst (λ p. Post value p before) (sym (append-nil prior)) (so prior before pre))
 
-    without_prompt : (prior : List (Event FurtherEvent)) {way : PinMode} (named : Option (List ℕ)) {events : List (Event FurtherEvent)} {went : Went} → StoresUnder named → WithoutPrompt plain named way events went
-        → Own prior events
-    without_prompt prior named stores exchanges.cancelled = (tt, tt)
-    without_prompt prior named stores exchanges.no_pinentry = (tt, tt)
-    without_prompt prior named stores (exchanges.with_data keeps) = (tt, (tt, keeps_own _ (sent refl (has_right _ here)) named stores keeps))
-    without_prompt prior named stores (exchanges.without_data without) = without_passphrase prior without
+      refused_of : (why : Refusal) → Owns Pre (Refuses {A = A} why) Post
+      refused_of why prior before events result after chain.refuses pre = (tt, tt, tt)
 
-  -- ---- prompts
+    module _ {A : Type 0} {Pre : List (Event FurtherEvent) → Option ℕ → Type 0} {Post : A → List (Event FurtherEvent) → Option ℕ → Type 0} where
+      weaker : {Wider : List (Event FurtherEvent) → Option ℕ → Type 0} {Other : A → List (Event FurtherEvent) → Option ℕ → Type 0} {part : Part A}
+          → ((prior : List (Event FurtherEvent)) (held : Option ℕ) → Pre prior held → Wider prior held) → OwnSo Wider part Post
+          → ((value : A) (prior : List (Event FurtherEvent)) (held : Option ℕ) → Post value prior held → Other value prior held) → OwnSo Pre part Other
+      weaker {Other} where_so own then = record {
+        of = λ prior before events result after does pre. let so = own.of prior before events result after does (where_so prior before pre) in (so.0, so.1, holds_as Pre Post Other then (prior ++ events) after result so.2);
+      }
 
-  -- one prompt, the return of its ticket, and how it ends the request
-  module _ {A : Type 0} (Asks : List PromptEvent → A → Type 0) (Ends : A → Option (List ℕ) → List (Event FurtherEvent) → Went → Type 0)
-      (closes : (prior shown : List (Event FurtherEvent)) (prompt : List PromptEvent) (end : A) (keep : Option (List ℕ)) (events : List (Event FurtherEvent)) (went : Went) (ticket : ℕ) → Asks prompt end
-      → AnyInSession session_lines prompt shown → HasTicket request prior ticket → Ends end keep events went → HandsIn (Close ticket keep) → whose.StoresOwn request (prior ++ shown) (Close ticket keep))
-      (ends_quiet : (end : A) (keep : Option (List ℕ)) (events : List (Event FurtherEvent)) (went : Went) → Ends end keep events went → AllByRecursion IsQuiet events) where
-    record AsksNoMore (earlier : A) (more : List (Event FurtherEvent)) (answers : List A) : Type 0 where
-      shows_none : more ≡ []
-      one_answer : answers ≡ earlier ∷ []
+      returned : (value : A) → ((prior : List (Event FurtherEvent)) (held : Option ℕ) → Pre prior held → Post value prior held) → OwnSo Pre (Returns value) Post
+      returned value so = record { of = returned_of Pre Post value so }
 
-    asks_no_more : (earlier : A) {more : List (Event FurtherEvent)} {answers : List A} → Prompts session_lines (AsksOnce session_lines Asks) (earlier ∷ []) more answers → AsksNoMore earlier more answers
-    asks_no_more earlier no_more = record { shows_none = refl; one_answer = refl }
-    asks_no_more earlier (next never in_session others) = absurd never
+      refused : (why : Refusal) → OwnSo Pre (Refuses {A = A} why) Post
+      refused why = record { of = refused_of Pre Post why }
 
-    prompted_once : (prior shown events : List (Event FurtherEvent)) (answers : List A) (keep : Option (List ℕ)) (went : Went) (turn : Turn) (ticket : ℕ) → HasTicket request prior ticket
-        → Prompts session_lines (AsksOnce session_lines Asks) [] shown answers → EndsOnce session_lines Ends answers keep events went → Own prior (shown ++ cache_turn (Close ticket keep) turn ∷ events)
-    prompted_once prior shown events answers keep went turn ticket has no_more ends = absurd ends
-    prompted_once prior shown events answers keep went turn ticket has (next {prompt} {answer = end} {shown = first} {more} asks in_session others) ends =
-        let once : AsksNoMore end more _ = asks_no_more end others in
-        let ended : Ends end keep events went = subst (λ a. EndsOnce session_lines Ends a keep events went) once.one_answer ends in
-        let all : List (Event FurtherEvent) = first ++ more in
-        let same : all ≡ first = ap (λ m. first ++ m) once.shows_none ∙ append-nil first in
-        subst (λ s. Own prior (s ++ cache_turn (Close ticket keep) turn ∷ events)) (sym same)
-        (own_then request prior first (cache_turn (Close ticket keep) turn ∷ events) (quiet_are_own request prior first (each_shown IsQuiet still_quiet (λ event. tt) in_session))
-        ((λ hands. closes prior first prompt end keep events went ticket asks in_session has ended hands), quiet_are_own request _ events (ends_quiet end keep events went ended)))
+    plain_own : (prior events : List (Event FurtherEvent)) → Plain rules events → AreOwn request prior events × Open rules events
+    plain_own prior events each = (quiet_are_own request prior events (plain_quiet rules events each), plain_open rules events each)
 
-    under_ticket : (prior : List (Event FurtherEvent)) {ticket : ℕ} {events : List (Event FurtherEvent)} {went : Went} → HasTicket request prior ticket → UnderTicket Asks Ends ticket events went → Own prior events
-    under_ticket prior {ticket} has (asked_under turn prompts ends) = prompted_once prior _ _ _ _ _ turn ticket has prompts ends
+    plainly : {A : Type 0} {Pre : List (Event FurtherEvent) → Option ℕ → Type 0} {part : Part A} → EachSo (IsPlain rules) part → OwnSo Pre part (λ value. Anything)
+    plainly each = record { of = λ prior before events result after does pre. let so = plain_own prior events (each.of before events result after does) in (so.0, so.1, whatever result tt) }
 
-    wants_prompt : (asked : MarkStep) → (HandsIn asked → ⊥) → WantsTicket request asked → {events : List (Event FurtherEvent)} {went : Went} → WantsPrompt asked (UnderTicket Asks Ends) events went → Own [] events
-    wants_prompt asked quiet wants (exchanges.opened {events = more} under) = ((λ hands. absurd (quiet hands)), under_ticket _ (has_ticket wants here) under)
-    wants_prompt asked quiet wants (exchanges.interrupted why) = ((λ hands. absurd (quiet hands)), (tt, tt))
+    -- a turn that changes the cache
+    module _ (Is After : List (Event FurtherEvent) → Type 0) (step : MarkStep) (own : (prior : List (Event FurtherEvent)) → Is prior → HandsIn step → StoresOwn request prior step)
+        (then : (prior more : List (Event FurtherEvent)) → Is prior → After (prior ++ more)) where
+      changes_of : Owns (λ prior held. Is prior) (Changes step) (λ changed prior held. After prior)
+      changes_of prior before events result after turning.done pre = ((own prior pre, tt), (tt, tt), then prior _ pre)
+      changes_of prior before events result after (turning.interrupted why) pre = ((own prior pre, tt), (tt, tt), tt)
 
-  module _ (plain : Bool) where
-    pin_closes : (spec : PromptSpec) (plan : AskPlan) (prior shown : List (Event FurtherEvent)) (prompt : List PromptEvent) (end : Answer) (keep : Option (List ℕ)) (events : List (Event FurtherEvent)) (went : Went)
-        (ticket : ℕ) → AsksPin spec plan (λ pin. ⊤) prompt end → AnyInSession session_lines prompt shown → HasTicket request prior ticket → EndsPin plain end keep events went → HandsIn (Close ticket keep)
-        → whose.StoresOwn request (prior ++ shown) (Close ticket keep)
-    pin_closes spec plan prior shown prompt end keep events went ticket asks in_session has (exchanges.pin is) hands = whose.accepted (ticket_more request shown has) (any asks in_session (stand_last prior shown))
-    pin_closes spec plan prior shown prompt end keep events went ticket asks in_session has exchanges.cancelled hands = absurd (kept_none ticket hands)
-    pin_closes spec plan prior shown prompt end keep events went ticket asks in_session has exchanges.timed_out hands = absurd (kept_none ticket hands)
-    pin_closes spec plan prior shown prompt end keep events went ticket asks in_session has exchanges.no_pinentry hands = absurd (kept_none ticket hands)
-    pin_closes spec plan prior shown prompt end keep events went ticket asks in_session has exchanges.bad hands = absurd (kept_none ticket hands)
-    pin_closes spec plan prior shown prompt end keep events went ticket asks in_session has (exchanges.unheard is fails_so) hands = absurd (kept_none ticket hands)
+      changes : OwnSo (λ prior held. Is prior) (Changes step) (λ changed prior held. After prior)
+      changes = record { of = changes_of }
 
-    pin_quiet : (end : Answer) (keep : Option (List ℕ)) (events : List (Event FurtherEvent)) (went : Went) → EndsPin plain end keep events went → AllByRecursion IsQuiet events
-    pin_quiet end keep events went (exchanges.pin is) = (tt, tt)
-    pin_quiet end keep events went exchanges.cancelled = (tt, tt)
-    pin_quiet end keep events went exchanges.timed_out = (tt, tt)
-    pin_quiet end keep events went exchanges.no_pinentry = (tt, tt)
-    pin_quiet end keep events went exchanges.bad = (tt, tt)
-    pin_quiet end keep events went (exchanges.unheard is fails_so) = fails_quiet fails_so
+    -- ---- the client
 
-    by_prompt : (spec : PromptSpec) (plan : AskPlan) {id : Option (List ℕ)} {events : List (Event FurtherEvent)} {went : Went} → WantsTicket request (want id) → ByPrompt spec plan plain id events went → Own [] events
-    by_prompt spec plan wants (exchanges.cached is) = ((λ hands. elim hands [ ]), (tt, tt))
-    by_prompt spec plan wants (exchanges.prompted {id} wanted) = wants_prompt (AsksPin spec plan (λ pin. ⊤)) (EndsPin plain) (pin_closes spec plan) pin_quiet (want id) (want_quiet id) wants wanted
+    abbrev IsSaid : List ℕ → List (Event FurtherEvent) → Option ℕ → Type 0
+    IsSaid pass prior held = IsSent prior (codes "PASSPHRASE") MAX_SECRET_LEN pass
 
-  consent_closes : (spec : PromptSpec) (notify : Bool) (prior shown : List (Event FurtherEvent)) (prompt : List PromptEvent) (end : Agreed) (keep : Option (List ℕ)) (events : List (Event FurtherEvent)) (went : Went)
-      (ticket : ℕ) → AsksConsent spec notify prompt end → AnyInSession session_lines prompt shown → HasTicket request prior ticket → EndsConsent end keep events went → HandsIn (Close ticket keep)
-      → whose.StoresOwn request (prior ++ shown) (Close ticket keep)
-  consent_closes spec notify prior shown prompt end keep events went ticket asks in_session has exchanges.yes hands = absurd (kept_none ticket hands)
-  consent_closes spec notify prior shown prompt end keep events went ticket asks in_session has exchanges.no hands = absurd (kept_none ticket hands)
-  consent_closes spec notify prior shown prompt end keep events went ticket asks in_session has exchanges.cancelled hands = absurd (kept_none ticket hands)
-  consent_closes spec notify prior shown prompt end keep events went ticket asks in_session has exchanges.timed_out hands = absurd (kept_none ticket hands)
-  consent_closes spec notify prior shown prompt end keep events went ticket asks in_session has exchanges.no_pinentry hands = absurd (kept_none ticket hands)
-  consent_closes spec notify prior shown prompt end keep events went ticket asks in_session has (exchanges.unheard is fails_so) hands = absurd (kept_none ticket hands)
+    writes_of : Owns Anything (Writes limit_line) (λ wrote. Anything)
+    writes_of prior before events result after client.written pre = ((tt, tt), (notice (limit MAX_SECRET_LEN), tt), tt)
+    writes_of prior before events result after (client.cut unsent is) pre = ((tt, tt), (tt, tt), tt)
 
-  consent_quiet : (end : Agreed) (keep : Option (List ℕ)) (events : List (Event FurtherEvent)) (went : Went) → EndsConsent end keep events went → AllByRecursion IsQuiet events
-  consent_quiet end keep events went exchanges.yes = (tt, tt)
-  consent_quiet end keep events went exchanges.no = (tt, tt)
-  consent_quiet end keep events went exchanges.cancelled = (tt, tt)
-  consent_quiet end keep events went exchanges.timed_out = (tt, tt)
-  consent_quiet end keep events went exchanges.no_pinentry = (tt, tt)
-  consent_quiet end keep events went (exchanges.unheard is fails_so) = fails_quiet fails_so
+    inquires_of : Owns Anything (Inquires session_lines (codes "PASSPHRASE") MAX_SECRET_LEN) IsSaid
+    inquires_of prior before events result after (client.given is) pre = ((tt, tt), (tt, tt), sent is (has_right prior here))
+    inquires_of prior before events result after (client.not_given is) pre = ((tt, tt), (tt, tt), tt)
 
-wants_id : (fields : GetFields) (id : Option (List ℕ)) → fields.id ≡ id → WantsTicket (Cache (get_passphrase fields)) (want id)
-wants_id fields None is = unkept
-wants_id fields (Some id) is = by_id fields refl is
+    asks_client : OwnSo Anything AsksPassphrase IsSaid
+    asks_client = bind (record { of = writes_of }) (λ wrote. record { of = inquires_of })
 
-one_turn : {rules : Rules} {command : CacheCommand} {asked : MarkStep} {text reply : List ℕ} {turn : Turn} {went after : Went} → IsOneTurn rules command asked text went → ComesOut text went turn reply after
-    → AreOwn (Cache command) [] (cache_turn asked turn ∷ Sent reply ∷ [])
-one_turn (exchanges.preset allowed) comes = ((λ hands. whose.preset refl), (tt, tt))
-one_turn exchanges.clear comes = ((λ hands. elim hands [ ]), (tt, tt))
-one_turn exchanges.reload comes = ((λ hands. elim hands [ ]), (tt, tt))
-one_turn exchanges.kill comes = ((λ hands. elim hands [ ]), (tt, tt))
+    -- ---- the ticket
 
-cache_own : {rules : Rules} {before after : OptionValues} (request : Request) {events : List (Event FurtherEvent)} {went : Went} → Exchange rules before request events after went → AreOwn request [] events
-cache_own request exchanges.refused = (tt, tt)
-cache_own request exchanges.nop = (tt, tt)
-cache_own request exchanges.reset = (tt, tt)
-cache_own request exchanges.bye = (tt, tt)
-cache_own request exchanges.help_given = (tt, tt)
-cache_own request exchanges.option_applied = (tt, tt)
-cache_own request exchanges.described = (tt, tt)
-cache_own request (exchanges.info is) = (tt, tt)
-cache_own request (exchanges.quiet quiet looks) = looks_first request looks (λ first more after refuses. quiet_refused first refuses)
-  where
-    quiet_refused : (first : List (Event FurtherEvent)) {more : List (Event FurtherEvent)} {after : Went} → Refuses code.NoData more after → AreOwn request first more
-    quiet_refused first exchanges.refused = (tt, tt)
-cache_own request (exchanges.by_prompt {fields} spec asks texts_are mode_is is_spec by) = by_prompt request fields.plain spec _ (wants_id fields fields.id refl) by
-cache_own request (exchanges.without_prompt {fields} asks texts_are mode_is looks) =
-    looks_first request looks (λ first more after without. without_prompt request fields.plain first fields.id (λ id is. given fields refl is) without)
-cache_own request (exchanges.not_allowed is) = (tt, tt)
-cache_own request (exchanges.with_data allowed comes) = (tt, (tt, ((λ hands. whose.sent (by_command (preset refl)) (sent refl (later here))), (tt, tt))))
-cache_own request (exchanges.without_data allowed without) = without_passphrase request [] without
-cache_own {before} request (exchanges.confirmation spec mode_is is_spec wants) =
-    wants_prompt request (AsksConsent spec before.notify) EndsConsent (consent_closes request spec before.notify) (consent_quiet request) (Seat None None) (λ hands. elim hands [ ]) unkept wants
-cache_own request (exchanges.unconfirmed refusal) = (tt, tt)
-cache_own request (exchanges.one_turn is comes) = one_turn is comes
+    -- the one that is held is the request's own
+    abbrev Held : List (Event FurtherEvent) → Option ℕ → Type 0
+    Held prior held = (ticket : ℕ) → held ≡ Some ticket → HasTicket request prior ticket
+
+    held_more : {prior : List (Event FurtherEvent)} {held : Option ℕ} (more : List (Event FurtherEvent)) → Held prior held → Held (prior ++ more) held
+    held_more more own ticket is = ticket_more request more (own ticket is)
+
+    opened_own : {prior : List (Event FurtherEvent)} {ticket : ℕ} → HasTicket request prior ticket → Held prior (Some ticket)
+    opened_own {prior} has other is = subst (HasTicket request prior) (cc is) has
+
+    seats_of : Owns Held (Seats (Seat None None)) (λ seated. Held)
+    seats_of prior before events result after turning.opened pre = (((λ hands. elim hands [ ]), tt), (tt, tt), opened_own (has_ticket unkept (has_right prior here)))
+    seats_of prior before events result after (turning.interrupted why) pre = (((λ hands. elim hands [ ]), tt), (tt, tt), tt)
+
+    closes_of : (pin : List ℕ) → Owns (λ prior held. Held prior held × IsAccepted request prior pin) (Closes (Some pin)) (λ closed prior held. IsAccepted request prior pin)
+    closes_of pin prior before events result after turning.unheld pre = (tt, tt, accepted_more request [] pre.1)
+    closes_of pin prior before events result after (turning.closed {ticket} turn) pre = (((λ hands. whose.accepted (pre.0 ticket refl) pre.1), tt), (tt, tt), accepted_more request _ pre.1)
+
+    -- ---- GET_PASSPHRASE
+
+    module _ (fields : GetFields) (is_get : request ≡ Cache (get_passphrase fields)) where
+      abbrev IsFound : List ℕ → List (Event FurtherEvent) → Option ℕ → Type 0
+      IsFound secret prior held = IsAnswered request prior fields secret
+
+      -- what the cache gave
+      abbrev Known : Option (List ℕ) → List (Event FurtherEvent) → Option ℕ → Type 0
+      Known None prior held = ⊤
+      Known (Some secret) prior held = IsAnswered request prior fields secret
+
+      module _ (step : MarkStep) (quiet : HandsIn step → ⊥) (gives : (prior : List (Event FurtherEvent)) (grant : Grant) → Has (cache_turn step (Given grant)) prior → IsAnswered request prior fields grant.entry.secret) where
+        -- and whose the ticket is that is held then
+        abbrev Asked : Option (List ℕ) → List (Event FurtherEvent) → Option ℕ → Type 0
+        Asked found prior held = Known found prior held × (WantsTicket request step → Held prior held)
+
+        asks_of : Owns Held (Asks step) Asked
+        asks_of prior before events result after (turning.given {grant}) pre = (((λ hands. absurd (quiet hands)), tt), (tt, tt), (gives _ grant (has_right prior here), λ wants. held_more _ pre))
+        asks_of prior before events result after turning.empty pre = (((λ hands. absurd (quiet hands)), tt), (tt, tt), (tt, λ wants. held_more _ pre))
+        asks_of prior before events result after turning.opened pre = (((λ hands. absurd (quiet hands)), tt), (tt, tt), (tt, λ wants. opened_own (has_ticket wants (has_right prior here))))
+        asks_of prior before events result after (turning.interrupted why) pre = (((λ hands. absurd (quiet hands)), tt), (tt, tt), tt)
+
+        asks : OwnSo Held (Asks step) Asked
+        asks = record { of = asks_of }
+
+        looks_asks : OwnSo Held (Looks step) Asked
+        looks_asks = record { of = λ prior before events result after does pre. asks_of prior before events result after does.asks pre }
+
+        looks : OwnSo Held (Looks step) Known
+        looks = weaker (λ prior held pre. pre) looks_asks (λ found prior held so. so.0)
+
+      looks_for : (id : Option (List ℕ)) → fields.id ≡ id → OwnSo Held (LooksFor id) Known
+      looks_for None same = returned None (λ prior held pre. tt)
+      looks_for (Some id) same = looks (ask id) (λ hands. elim hands [ ]) (λ prior grant has. cached same has)
+
+      wants_prompt : (id : Option (List ℕ)) → fields.id ≡ id → OwnSo Held (WantsPrompt id) (λ found prior held. Known found prior held × Held prior held)
+      wants_prompt None same = bind (record { of = seats_of }) (λ seated. returned None (λ prior held pre. (tt, pre)))
+      wants_prompt (Some id) same =
+          weaker (λ prior held pre. pre) (asks (ask_or_open id) (λ hands. elim hands [ ]) (λ prior grant has. unprompted same has)) (λ found prior held so. (so.0, so.1 (by_id fields is_get same)))
+
+      found_or : (found : Option (List ℕ)) {other : Part (List ℕ)} {Pre : List (Event FurtherEvent) → Option ℕ → Type 0} → OwnSo Pre other IsFound
+          → OwnSo (λ prior held. Known found prior held × Pre prior held) (or_else found other) IsFound
+      found_or None other = weaker (λ prior held so. so.1) other (λ secret prior held so. so)
+      found_or (Some secret) other = returned secret (λ prior held so. so.0)
+
+      found_needed : (found : Option (List ℕ)) → OwnSo (Known found) (needed code.NoData found) IsFound
+      found_needed None = refused (Agent code.NoData)
+      found_needed (Some secret) = returned secret (λ prior held so. so)
+
+      by_cache : OwnSo Held (ByCache fields.id) IsFound
+      by_cache = bind (looks_for fields.id refl) found_needed
+
+      keeps_under : (id : Option (List ℕ)) → fields.id ≡ id → (secret : List ℕ) → OwnSo (IsSaid secret) (KeepsUnder id secret) (λ kept. IsSaid secret)
+      keeps_under None same secret = returned tt (λ prior held says. says)
+      keeps_under (Some id) same secret =
+          let says_so : List (Event FurtherEvent) → Type 0 = λ prior. IsSaid secret prior None in
+          changes says_so says_so (Put id User Default secret) (λ prior says hands. whose.sent (by_command (given fields is_get same)) says) (λ prior more says. sent_more more says)
+
+      by_client : OwnSo Anything (ByClient fields.id) IsFound
+      by_client = bind asks_client (λ secret. bind (keeps_under fields.id refl secret) (λ kept. returned secret (λ prior held says. answers.sent says)))
+
+      uncached : (way : PinMode) → OwnSo Anything (Uncached fields.id way) IsFound
+      uncached mode.Ask = refused (Agent code.NoPinentry)
+      uncached mode.Cancel = refused (Agent code.Cancelled)
+      uncached mode.Error = refused (Agent code.NoPinentry)
+      uncached mode.Loopback = by_client
+
+      without_prompt : (way : PinMode) → OwnSo Held (WithoutPrompt fields.id way) IsFound
+      without_prompt way = bind (looks_for fields.id refl) (λ found. weaker (λ prior held so. (so, tt)) (found_or found (uncached way)) (λ secret prior held so. so))
+
+      module _ (options : OptionValues) where
+        prompts_of : (texts : Texts) → Owns Held (PromptsAny rules options texts fields.check fields.quality fields.repeat) (λ pin prior held. Held prior held × IsAccepted request prior pin)
+        prompts_of texts prior before events result after (passphrases.given {shown} spec is prompt) pre =
+            let so = plain_own prior shown (shown_plain rules prompt.in_session) in (so.0, so.1, (held_more shown pre, any prompt.asks prompt.in_session (stand_last prior shown)))
+        prompts_of texts prior before events result after (passphrases.refused {shown} spec is prompt needless refusal) pre = let so = plain_own prior shown (shown_plain rules prompt.in_session) in (so.0, so.1, tt)
+
+        by_user : (texts : Texts) → OwnSo Held (ByUser rules options texts fields.check fields.quality fields.repeat fields.id) IsFound
+        by_user texts =
+            bind (wants_prompt fields.id refl)
+            (λ found. found_or found (bind (record { of = prompts_of texts }) (λ pin. bind (record { of = closes_of pin }) (λ kept. returned pin (λ prior held so. typed so)))))
+
+        wanted_by : (way : PinMode) (texts : Texts) → OwnSo Held (as_wanted rules options fields way texts) IsFound
+        wanted_by mode.Ask texts = by_user texts
+        wanted_by mode.Cancel texts = without_prompt mode.Cancel
+        wanted_by mode.Error texts = without_prompt mode.Error
+        wanted_by mode.Loopback texts = without_prompt mode.Loopback
+
+        found_by : (no_ask : Bool) (texts : Option Texts) → OwnSo Held (passphrase_by rules options fields no_ask texts) IsFound
+        found_by no_ask None = by_cache
+        found_by true (Some texts) = by_cache
+        found_by false (Some texts) = wanted_by options.mode texts
+
+      tells_of : (secret : List ℕ) → Owns (IsFound secret) (TellsPassphrase fields.plain secret) (λ text prior held. SaysOwn request prior rules text)
+      tells_of secret prior before events result after (exchanges.tells is) found =
+          (tt, tt, passphrase fields is_get (subst (λ p. IsAnswered request p fields secret) (sym (append-nil prior)) found) is)
+
+    -- ---- requests
+
+    abbrev Says : CacheReply → List (Event FurtherEvent) → Option ℕ → Type 0
+    Says reply prior held = SaysOwn request prior rules reply.text
+
+    says : {Pre : List (Event FurtherEvent) → Option ℕ → Type 0} (reply : CacheReply) → IsPublic rules reply.text → OwnSo Pre (Returns reply) Says
+    says reply is = returned reply (λ prior held pre. public is)
+
+    tells_info_of : (what : Info) → Owns Held (TellsInfo rules what) (λ text prior held. SaysOwn request prior rules text)
+    tells_info_of what prior before events result after (exchanges.tells is) pre = (tt, tt, public (tells what is))
+
+    option_own : (end : OptionAnswer) (values : OptionValues) → OwnSo Held (option_replies end values) Says
+    option_own Set values = says _ done
+    option_own Unknown values = refused (Agent code.UnknownOption)
+    option_own Parameter values = refused (Agent code.Parameter)
+    option_own NotSupported values = refused (Agent code.NotSupported)
+
+    changes_plainly : {step : MarkStep} → (HandsIn step → ⊥) → OwnSo Held (Changes step) (λ changed. Anything)
+    changes_plainly quiet = plainly (each_changes (IsPlain rules) (λ turn. (quiet, tt)))
+
+    allowed_own : (so : Bool) → OwnSo Held (wanted code.NotSupported so) (λ allowed. Anything)
+    allowed_own true = returned tt (λ prior held pre. tt)
+    allowed_own false = refused (Agent code.NotSupported)
+
+    module _ (id : List ℕ) (life : Life) where
+      abbrev IsPreset : List ℕ → List (Event FurtherEvent) → Type 0
+      IsPreset pass prior = StoresOwn request prior (put id life pass)
+
+      given_or_asked : (secret : Option (List ℕ)) → request ≡ Cache (on.PresetPassphrase id life secret) → OwnSo Anything (GivenOrAsked secret) (λ pass prior held. IsPreset pass prior)
+      given_or_asked None is = weaker (λ prior held pre. pre) asks_client (λ pass prior held says. whose.sent (by_command (preset is)) says)
+      given_or_asked (Some pass) is = returned pass (λ prior held pre. whose.preset is)
+
+      presets : (secret : Option (List ℕ)) → request ≡ Cache (on.PresetPassphrase id life secret) → OwnSo Held (Presets rules id life secret) (λ stored. Anything)
+      presets secret is =
+          bind (allowed_own rules.allow_preset)
+          (λ allowed. bind (given_or_asked secret is) (λ pass. changes (IsPreset pass) (λ prior. ⊤) (put id life pass) (λ prior so hands. so) (λ prior more so. tt)))
+
+    replies : (options : OptionValues) (command : CacheCommand) → request ≡ Cache command → OwnSo Held (Replies rules options command) Says
+    replies options on.Nop is = says _ done
+    replies options on.Reset is = says _ done
+    replies options on.Bye is = says _ closes
+    replies options on.Help is = says _ helps
+    replies options (on.SetOption text) is = option_own (applied options text.items).answer (applied options text.items).after
+    replies options (on.SetKeyDesc text) is = says _ done
+    replies options (on.GetInfo what) is = bind (record { of = tells_info_of what }) (λ text. returned _ (λ prior held so. so))
+    replies options (on.GetPassphrase plain check no_ask repeat quality id texts) is =
+        let fields : GetFields = record { plain = plain; check = check; no_ask = no_ask; repeat = repeat; quality = quality; id = id; texts = texts } in
+        bind (found_by fields is options no_ask texts) (λ secret. bind (record { of = tells_of fields is secret }) (λ text. returned _ (λ prior held so. so)))
+    replies options (on.PresetPassphrase id life secret) is = bind (presets id life secret is) (λ stored. says _ done)
+    replies options (on.ClearPassphrase id way) is = bind (changes_plainly (λ hands. elim hands [ ])) (λ changed. says _ done)
+    replies options (on.GetConfirmation description) is = bind (plainly (confirms_plain options options.mode description)) (λ agreed. says _ done)
+    replies options on.ReloadAgent is = bind (changes_plainly (λ hands. elim hands [ ])) (λ changed. says _ done)
+    replies options on.KillAgent is = bind (changes_plainly (λ hands. elim hands [ ])) (λ changed. says _ closes)
+
+    -- ---- exchanges
+
+    says_more : {prior : List (Event FurtherEvent)} {text : List ℕ} (more : List (Event FurtherEvent)) → SaysOwn request prior rules text → SaysOwn request (prior ++ more) rules text
+    says_more more (public is) = public is
+    says_more more (passphrase fields is_get found is) = passphrase fields is_get (found_more found) is
+      where
+        found_more : {prior secret : _} {fields : GetFields} → IsAnswered request prior fields secret → IsAnswered request (prior ++ more) fields secret
+        found_more (cached same has) = cached same (has_left more has)
+        found_more (unprompted same has) = unprompted same (has_left more has)
+        found_more (typed accepted) = typed (accepted_more request more accepted)
+        found_more (answers.sent says) = answers.sent (sent_more more says)
+
+    -- what is done for a request is its own, and what is written for it
+    abbrev AllOwn : List (Event FurtherEvent) → Type 0
+    AllOwn events = AreOwn request [] events × SaysOwnAlone rules request events
+
+    exchange_own : {part : Part CacheReply} {before after : OptionValues} {events : List (Event FurtherEvent)} {went : Went} → OwnSo Held part Says → AnyExchange refusal_line went_after part before events after went → AllOwn events
+    exchange_own own (exchange.answered events held reply {back} does closes_so) =
+        let so = own.of [] None events (Ok reply) held does (λ ticket is. absurd (cc is)) in
+        let plain : Plain rules back = back_plain rules closes_so in
+        let quiet : AllByRecursion IsQuiet (back ++ Sent reply.text ∷ []) = each_append IsQuiet back (Sent reply.text ∷ []) (plain_quiet rules back plain) (tt, tt) in (
+          own_then request [] events (back ++ Sent reply.text ∷ []) so.0 (quiet_are_own request events (back ++ Sent reply.text ∷ []) quiet),
+          λ front later text is.
+              said_last_own rules request (events ++ back) reply.text (each_append (IsOpen rules) events back so.1 (plain_open rules back plain)) (says_more back so.2) front later text
+              (append_assoc events back (Sent reply.text ∷ []) ∙ is),
+        )
+    exchange_own own (exchange.refused events held why {back} does closes_so) =
+        let so = own.of [] None events (Err why) held does (λ ticket is. absurd (cc is)) in
+        let last = back ++ said_last (refusal_line why) in
+        let plain : Plain rules last = each_append (IsPlain rules) back (said_last (refusal_line why)) (back_plain rules closes_so) (refusal_plain rules why) in (
+          own_then request [] events last so.0 (quiet_are_own request events last (plain_quiet rules last plain)),
+          open_are_own rules request (events ++ last) (each_append (IsOpen rules) events last so.1 (plain_open rules last plain)),
+        )
+
+  pub cache_own : (before : OptionValues) (request : Request) (events : List (Event FurtherEvent)) (after : OptionValues) (went : Went) → Exchange rules before request events after went → AllOwn request events
+  cache_own before (Cache command) events after went exchanged = exchange_own (Cache command) (replies (Cache command) before command refl) exchanged
+  cache_own before (Bad why) events after went exchanged = exchange_own (Bad why) (refused (Bad why) {Post = Says (Bad why)} (Agent why)) exchanged
+  cache_own before (OnKeys line) events after went exchanged = absurd exchanged
 
 pub request_own : {rules : Rules} {kept now : Kept} (request : Request) {events : List (Event FurtherEvent)} {went : Went} → RequestExchange rules kept request events now went → Fit events → AreOwn request [] events
-request_own request (cache exchange) fits = cache_own request exchange
-request_own {rules} {kept} request (keys exchange) fits = key_own request rules kept.options kept.wraps _ refl exchange fits
+request_own {rules} {kept} request {events} {went} (cache {options} exchanged) fits = (cache_own rules kept.options request events options went exchanged).0
+request_own {rules} {kept} request (keys exchanged) fits = key_own request rules kept.options kept.wraps _ refl exchanged fits

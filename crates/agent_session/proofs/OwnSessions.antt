@@ -15,6 +15,7 @@ use Rattle.agent_commands.specs.Talks.{WholeOrCut, whole, cut, Talk, Session}
 use Rattle.agent_commands.specs.Talks as talks
 use Rattle.agent_commands.specs.declared.went.SessionEnd.{SessionEnd}
 use Rattle.agent_commands.specs.declared.went.Went.{Went}
+use Rattle.key_commands.proofs.EachEvent.{each_append}
 use Rattle.key_commands.proofs.EachRequest.{IsBesideTrust}
 use Rattle.session_options.specs.declared.rules.Rules.{Rules}
 use Rattle.agent_origin.proofs.EachLine.{each_request}
@@ -26,6 +27,7 @@ use Rattle.agent_origin.specs.declared.door.Door.{Door}
 use Rattle.agent_origin.specs.declared.kept.Kept.{Kept}
 use Rattle.agent_session.specs.OwnPassphrases.{HandsIn, IsUnreceived, StoresOwnIn, StoresOwnThroughout}
 use Rattle.agent_session.proofs.OwnCache.{request_own}
+use Rattle.agent_session.proofs.OwnLines.{in_first, in_second, in_either}
 use Rattle.agent_session.proofs.OwnParts.{IsQuiet, Fit, AreOwn, own_at, own_left, own_then, quiet_are_own}
 use Rattle.agent_session.proofs.OwnTrust.{IsIdle, trust_idle}
 use Rattle.agent_session.proofs.AtOnce.{FitsTurn}
@@ -72,38 +74,14 @@ module _ {rules : Rules} {before : Kept} (line : List ℕ) where
   door_own (doors.forbidden refuses) fits = idle_own line (Sent (failed Forbidden) ∷ []) ((tt, tt), tt)
   door_own (doors.is_allowed allows exchanged) fits = allowed_own exchanged fits
 
--- ---- places
-
--- an element of two lists, one behind the other
-data InEither {A : Type 0} (xs ys front : List A) (x : A) (back : List A) : Type 0 where
-  in_first : (rest : List A) → xs ≡ front ++ x ∷ rest → InEither xs ys front x back
-  in_second : (rest : List A) → front ≡ xs ++ rest → ys ≡ rest ++ x ∷ back → InEither xs ys front x back
-
-in_either : {A : Type 0} (xs ys front : List A) (x : A) (back : List A) → xs ++ ys ≡ front ++ x ∷ back → InEither xs ys front x back
-in_either [] ys front x back is = in_second front refl is
-in_either (first ∷ xs) ys [] x back is = let same : first ≡ x = cc is in in_first xs (ap (λ (f : _). f ∷ xs) same)
-in_either (first ∷ xs) ys (second ∷ front) x back is =
-    let same : first ≡ second = cc is in
-    let rest : xs ++ ys ≡ front ++ x ∷ back = cc is in
-    elim (in_either xs ys front x back rest) [
-      | in_first more here ↦ in_first more (ap (λ (f : _). f ∷ xs) same ∙ ap (λ (l : List _). second ∷ l) here)
-      | in_second more there here ↦ in_second more (ap (λ (l : List _). second ∷ l) there ∙ ap (λ (f : _). f ∷ (xs ++ more)) (sym same)) here
-    ]
-
 -- ---- events without a turn
 
 abbrev IsTurnless : Event FurtherEvent → Type 0
 IsTurnless (CacheTurn taken) = ⊥
 IsTurnless _ = ⊤
 
-turnless : (events : List (Event FurtherEvent)) → AllByRecursion IsTurnless events → (front back : List (Event FurtherEvent)) (asked : MarkStep) (turn : Turn) → events ≡ front ++ cache_turn asked turn ∷ back → ⊥
-turnless [] each [] back asked turn is = cc is
-turnless [] each (first ∷ front) back asked turn is = cc is
-turnless (event ∷ more) each [] back asked turn is = let same : event ≡ cache_turn asked turn = cc is in subst IsTurnless same each.0
-turnless (event ∷ more) each (first ∷ front) back asked turn is = let rest : more ≡ front ++ cache_turn asked turn ∷ back = cc is in turnless more each.1 front back asked turn rest
-
 none_handed : (events : List (Event FurtherEvent)) → AllByRecursion IsTurnless events → StoresOwnThroughout events
-none_handed events each front back asked turn is hands = absurd (turnless events each front back asked turn is)
+none_handed events each front back asked turn is hands = absurd ((each_right IsTurnless front (cache_turn asked turn ∷ back) (subst (AllByRecursion IsTurnless) is each)).0)
 
 cut_one : (before : List (Event FurtherEvent)) (sent unsent : List ℕ) {text : List ℕ} {done : List (Event FurtherEvent)} → Sent text ∷ [] ≡ before ++ Sent (sent ++ unsent) ∷ [] → done ≡ before ++ Cut sent ∷ []
     → AllByRecursion IsTurnless done
@@ -123,19 +101,11 @@ module _ (exchange : Kept → List ℕ → List (Event FurtherEvent) → Kept �
   line_own {before} {after} line {events} {went} (whole exchanged) fits = own before line events after went exchanged fits
   line_own {before} line {events = done} (cut {events} {after} {went} exchanged last) fits =
       let kept : Fit last.before = each_left FitsTurn last.before (Cut last.sent ∷ []) (subst Fit last.done_is fits) in
-      let fit : Fit events = subst Fit (sym last.whole) (both_fit last.before (Sent (last.sent ++ last.unsent)) kept tt) in
+      let fit : Fit events = subst Fit (sym last.whole) (each_append FitsTurn last.before (Sent (last.sent ++ last.unsent) ∷ []) kept (tt, tt)) in
       let so = own before line events after went exchanged fit in
       let front = own_left (request_of line) [] last.before (Sent (last.sent ++ last.unsent) ∷ []) (subst (AreOwn (request_of line) []) last.whole so.0) in
       let unread = each_left IsUnreceived last.before (Sent (last.sent ++ last.unsent) ∷ []) (subst Unreceived last.whole so.1) in
-      subst (LineOwn line) (sym last.done_is) (own_then (request_of line) [] last.before (Cut last.sent ∷ []) front (tt, tt), both_unread last.before last.sent unread)
-    where
-      both_fit : (first : List (Event FurtherEvent)) (last : Event FurtherEvent) → Fit first → FitsTurn last → Fit (first ++ last ∷ [])
-      both_fit [] last each fits = (fits, tt)
-      both_fit (event ∷ first) last each fits = (each.0, both_fit first last each.1 fits)
-
-      both_unread : (first : List (Event FurtherEvent)) (sent : List ℕ) → Unreceived first → Unreceived (first ++ Cut sent ∷ [])
-      both_unread [] sent each = (tt, tt)
-      both_unread (event ∷ first) sent each = (each.0, both_unread first sent each.1)
+      subst (LineOwn line) (sym last.done_is) (own_then (request_of line) [] last.before (Cut last.sent ∷ []) front (tt, tt), each_append IsUnreceived last.before (Cut last.sent ∷ []) unread (tt, tt))
 
   -- at a place among a line's events
   own_there : (line : List ℕ) (events front : List (Event FurtherEvent)) (asked : MarkStep) (turn : Turn) (back : List (Event FurtherEvent)) → LineOwn line events → events ≡ front ++ cache_turn asked turn ∷ back

@@ -7,7 +7,7 @@ use Rattle.agent_ask.specs.Plans.{IsSpec, plan_of}
 use Rattle.agent_ask.specs.Prompts.{AsksPin, tried, quiet, good, accepted, same}
 use Rattle.agent_ask.specs.SessionEvents.{Received, Sent, Inquiry, Further, cache_turn}
 use Rattle.agent_ask.specs.Tests.{test_of}
-use Rattle.agent_ask.specs.UnderTickets.{AnyInSession, next, asked as asked_under}
+use Rattle.agent_ask.specs.UnderTickets.{AnyInSession}
 use Rattle.agent_ask.specs.UnderTickets as under
 use Rattle.agent_ask.specs.declared.ask.Asked.TheVariants as asked
 use Rattle.agent_ask.specs.declared.prompter.Opened.TheVariants as opened
@@ -38,7 +38,9 @@ use Rattle.sexp_keys.specs.Key.{Key}
 use Rattle.sexp_keys.specs.Lists.{grip_of}
 use Rattle.agent_commands.specs.Events.{Event}
 use Rattle.agent_commands.specs.Exchanges as exchanges
-use Rattle.agent_commands.specs.Exchanges.{Exchange, want, put}
+use Rattle.agent_commands.specs.Exchanges.{Exchange, Presets, put, reply}
+use Rattle.agent_commands.specs.Passphrases.{ask_or_open, ByUser, as_wanted}
+use Rattle.agent_commands.specs.Passphrases as passphrases
 use Rattle.agent_commands.specs.Requests.{GetFields, get_passphrase, request_of}
 use Rattle.agent_commands.specs.Talks.{Session, whole, greeted}
 use Rattle.agent_commands.specs.Talks as talks
@@ -57,7 +59,8 @@ use Rattle.key_commands.specs.Lines.{limit_line}
 use Rattle.agent_ask.specs.Interrupts as interrupts
 use Rattle.agent_ask.specs.TurnParts as turning
 use Rattle.key_commands.specs.Parts as small
-use Rattle.agent_ask.specs.Parts.{goes_on, stops, returns}
+use Rattle.agent_ask.specs.PartExchanges as part_exchange
+use Rattle.agent_ask.specs.Parts.{goes_on, stops, returns, wanted}
 use Rattle.key_commands.specs.Passphrases.{ask_nonce}
 use Rattle.key_commands.specs.Wrapping.{WrappedSays}
 use Rattle.session_client.specs.declared.refusal.Refusal.TheVariants.{Agent}
@@ -71,8 +74,7 @@ use Rattle.agent_session.specs.OwnAnswers.{SaysOwn}
 use Rattle.agent_session.specs.OwnPassphrases.{StoresOwn, StoresOwnIn, keeps}
 use Rattle.agent_session.proofs.ImportCourses.{import_exchange}
 use Rattle.agent_session.proofs.KeyExplained.{exchange_goes_on}
-use Rattle.agent_session.proofs.OwnCache.{request_own}
-use Rattle.agent_session.proofs.OwnLines.{lines_own, said_at}
+use Rattle.agent_session.proofs.OwnCache.{cache_own, request_own}
 use Rattle.agent_session.proofs.OwnParts.{Fit, own_at}
 use Rattle.agent_session.proofs.OwnSessions.{exchange_own, session_own}
 
@@ -110,15 +112,19 @@ module _ (rules : Rules) (kept : Kept) (id pin : List ℕ) (texts : Texts) (spec
   in_session = under.called (under.called (under.called under.AnyInSession.none))
 
   abbrev before_close : List (Event FurtherEvent)
-  before_close = cache_turn (want (Some id)) (Open ticket) ∷ shown
+  before_close = cache_turn (ask_or_open id) (Open ticket) ∷ shown
 
   abbrev events : List (Event FurtherEvent)
   events = before_close ++ cache_turn (Close ticket (Some pin)) Done ∷ Sent (line_of (ok_text (hex_text pin))) ∷ []
 
+  asked_by : ByUser rules kept.options texts false false 0 (Some id) None (before_close ++ cache_turn (Close ticket (Some pin)) Done ∷ []) (Ok pin) None
+  asked_by = goes_on turning.opened (goes_on (passphrases.given spec is_spec (record { prompt = prompt; asks = asks; in_session = in_session })) (goes_on (turning.closed Done) returns))
+
   asked_so : Exchange rules kept.options request events kept.options On
   asked_so =
-      exchanges.by_prompt {fields = fields} spec refl refl mode_is is_spec
-      (exchanges.prompted (exchanges.opened (asked_under Done (next {before = []} asks in_session under.Prompts.none) (exchanges.EndsPin.pin refl))))
+      part_exchange.answered (before_close ++ cache_turn (Close ticket (Some pin)) Done ∷ []) None (reply kept.options (line_of (ok_text (hex_text pin))))
+      (goes_on (subst (λ m. as_wanted rules kept.options fields m texts None (before_close ++ cache_turn (Close ticket (Some pin)) Done ∷ []) (Ok pin) None) (sym mode_is) asked_by)
+      (goes_on (exchanges.tells refl) returns)) turning.unheld
 
   exchange : RequestExchange rules kept request events kept On
   exchange = cache asked_so
@@ -132,7 +138,7 @@ module _ (rules : Rules) (kept : Kept) (id pin : List ℕ) (texts : Texts) (spec
 
   -- and is answered to the request that asked for it
   typed_is_answered : SaysOwn request (before_close ++ cache_turn (Close ticket (Some pin)) Done ∷ []) rules (line_of (ok_text (hex_text pin)))
-  typed_is_answered = said_at rules request [] events (before_close ++ cache_turn (Close ticket (Some pin)) Done ∷ []) (line_of (ok_text (hex_text pin))) [] (lines_own rules request asked_so) refl
+  typed_is_answered = (cache_own rules kept.options request events kept.options On asked_so).1 (before_close ++ cache_turn (Close ticket (Some pin)) Done ∷ []) [] (line_of (ok_text (hex_text pin))) refl
 
   -- and in a session by that of the line that was read last
   module _ (line : List ℕ) (says : request_of line ≡ request) where
@@ -156,8 +162,13 @@ module _ (rules : Rules) (kept : Kept) (allowed : rules.allow_preset ≡ true) (
   abbrev refused : List (Event FurtherEvent)
   refused = cache_turn (put id life pass) Refused ∷ Sent (failed code.NoMemory) ∷ []
 
+  refused_so : Presets rules id life (Some pass) None (cache_turn (put id life pass) Refused ∷ []) (Err (Agent code.NoMemory)) None
+  refused_so = goes_on {first = []} (subst (λ so. wanted {E = Event FurtherEvent} code.NotSupported so None [] (Ok tt) None) (sym allowed) returns) (goes_on returns (turning.interrupted interrupts.refused))
+
   refused_exchange : SessionExchange rules kept line refused kept On
-  refused_exchange = subst (λ r. RequestExchange rules kept r refused kept On) (sym says) (cache (exchanges.one_turn (exchanges.IsOneTurn.preset allowed) (exchanges.ComesOut.interrupted interrupts.refused)))
+  refused_exchange =
+      subst (λ r. RequestExchange rules kept r refused kept On) (sym says)
+      (cache (part_exchange.refused (cache_turn (put id life pass) Refused ∷ []) None (Agent code.NoMemory) (stops refused_so) turning.unheld))
 
   refused_goes_on : On ≡ On
   refused_goes_on = exchange_goes_on rules kept line none_absent refused_exchange code.NoMemory OfAgent (later here) (λ is. cc is)
