@@ -6,3 +6,4 @@ mod Helping
 mod Replying
 mod Quieting
 mod WorkedExamples
+mod WorkedExchanges

@@ -109,7 +109,8 @@ fn carry_out<L: Link, D: Desk, P: Prompter>(
     requires shut { IsShut (P.at prompter.old) }
     ensures carries { CarriesOut D.turned (DoesPrompts P.prompted)
         (Replies rules.now options.old command.now) options.old
-        (prompt_state D.turned P.prompted conn.old desk.old prompter.old) result options.new held.new
+        (prompt_state D.turned P.prompted conn.old desk.old prompter.old)
+        result options.new held.new
         (prompt_state D.turned P.prompted conn.new desk.new prompter.new) }
     ensures out { (D.at desk.new).out ≡ held.new }
     ensures shut { IsShut (P.at prompter.new) }

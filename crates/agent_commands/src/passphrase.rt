@@ -172,7 +172,8 @@ fn by_client<L: Link, D: Desk>(
 
 /// Keeps what the client gave, where there is an id.
 fn keep<D: Desk>(id: &Option<CacheId>, secret: &Secret, desk: &mut D) -> Result<(), Refusal>
-    ensures turn { DoesTurns D.turned (KeepsUnder id.now secret.now) None desk.old result None desk.new }
+    ensures turn { DoesTurns D.turned
+        (KeepsUnder id.now secret.now) None desk.old result None desk.new }
     ensures out { (D.at desk.new).out ≡ (D.at desk.old).out }
 {
     let Some(id) = id else {

@@ -1,8 +1,9 @@
 -- Requests that ask nobody.
 use Rattle.std.specs.List.{AllByRecursion}
-use Rattle.std.proofs.Common.{◌≡◌, ℕ, Bool, true, false, List, [], ◌∷◌, Option, Some, None, refl, sym, subst}
+use Rattle.std.proofs.Common.{◌≡◌, ℕ, Bool, true, false, List, [], ◌∷◌, ◌++◌, Option, Some, None, Result, Ok, Err, refl, ap}
 use Rattle.std.specs.Prelude.{⊤}
 use Rattle.agent_ask.specs.Events.{Call}
+use Rattle.agent_ask.specs.Failing.{said_last}
 use Rattle.agent_ask.specs.Further.{FurtherEvent}
 use Rattle.agent_ask.specs.SessionEvents.{Sent, CacheTurn, cache_turn}
 use Rattle.agent_ask.specs.Worlds.{Outside, Does}
@@ -18,20 +19,30 @@ use Rattle.cache_policy.specs.declared.mark.MarkStep.{MarkStep}
 use Rattle.cache_policy.specs.declared.mark.MarkStep.TheVariants.{Clear, Flush}
 use Rattle.session_options.specs.OptionValues.{OptionValues}
 use Rattle.session_options.specs.declared.rules.Rules.{Rules}
-use Rattle.agent_commands.specs.Answers.{ok}
 use Rattle.agent_commands.specs.Events.{Event}
-use Rattle.agent_commands.specs.Exchanges as exchanges
-use Rattle.agent_commands.specs.Exchanges.{Exchange, LooksFirst, Refuses, ComesOut, is_quiet, ask, put}
 use Rattle.agent_ask.specs.Interrupts.{Interrupts}
 use Rattle.agent_ask.specs.Interrupts as turns
-use Rattle.agent_commands.specs.declared.request.CacheCommand.TheVariants.{PresetPassphrase}
+use Rattle.agent_ask.specs.PartExchanges.{AnyExchange, answered, refused}
+use Rattle.agent_ask.specs.Parts.{goes_on, stops, returns, refuses, needed}
+use Rattle.agent_ask.specs.TurnParts as turning
+use Rattle.agent_ask.specs.TurnParts.{Asks, Closes}
+use Rattle.agent_commands.specs.Answers.{ok, IsPassphrase}
+use Rattle.agent_commands.specs.Endings.{went_after}
+use Rattle.agent_commands.specs.Exchanges as exchanges
+use Rattle.agent_commands.specs.Exchanges.{Exchange, CacheReply, ChangeReplies, GetReplies, PresetReplies, is_quiet, put}
+use Rattle.agent_commands.specs.Passphrases.{ByCache, ask, passphrase_by}
+use Rattle.agent_commands.specs.Requests.{GetFields}
+use Rattle.assuan_server.specs.Written.{failed, refusal_line}
+use Rattle.session_client.specs.declared.refusal.Refusal.{Refusal}
+use Rattle.agent_commands.specs.declared.request.CacheCommand.TheVariants.{GetPassphrase, PresetPassphrase, ClearPassphrase, ReloadAgent}
 use Rattle.agent_commands.specs.declared.request.Request.{Request}
 use Rattle.agent_commands.specs.declared.request.Request.TheVariants.{Cache}
 use Rattle.agent_commands.specs.declared.request.Texts.{Texts}
 use Rattle.agent_commands.specs.declared.went.Went.{Went}
 use Rattle.agent_origin.specs.FurtherStates.{FurtherWorld}
 use Rattle.agent_session.specs.Causes.{WantsMemory}
-use Rattle.agent_session.specs.Completeness.{IsStopped, AnswersFromCache, given, empty, no_id, AnswersAtOnce, AnswersDone}
+use Rattle.agent_session.specs.Completeness.{IsStopped, AnswersFromCache, AnswersAtOnce, AnswersDone}
+use Rattle.agent_session.specs.Completeness as completeness
 use Rattle.agent_origin.specs.SessionExchanges.{RequestExchange, cache, keys}
 use Rattle.agent_origin.specs.declared.kept.Kept.{Kept}
 
@@ -59,63 +70,114 @@ module _ {D P : Type 0} (turned : D → MarkStep → Turn → D → Type 0) (pro
 abbrev pub IsCalm : Event FurtherEvent → Type 0
 IsCalm event = (¬ WantsMemory event) × (¬ IsStopped event)
 
+-- what is done by at most one turn of a request, which is answered so, or interrupted
+pub data ByTurn (step : MarkStep) (Answers : List (Event FurtherEvent) → Type 0) : List (Event FurtherEvent) → Type 0 where
+  answers : {events : List (Event FurtherEvent)} → Answers events → ByTurn step Answers events
+  interrupted : {turn : Turn} {why : Code} → Interrupts turn why → ByTurn step Answers (cache_turn step turn ∷ Sent (failed why) ∷ [])
+
+-- the same of a GET_PASSPHRASE of the cache alone
+abbrev pub LooksAlone : Bool → Option (List ℕ) → List (Event FurtherEvent) → Type 0
+LooksAlone plain None events = AnswersFromCache plain None events
+LooksAlone plain (Some id) events = ByTurn (ask id) (AnswersFromCache plain (Some id)) events
+
 module _ (step : MarkStep) (unhurried : FitsStep step Late → ⊥) where
-  not_interrupted : {turn : Turn} {why : Code} → Interrupts turn why → FitsTurn (cache_turn step turn) → IsCalm (cache_turn step turn) → ⊥
+  pub not_interrupted : {turn : Turn} {why : Code} → Interrupts turn why → FitsTurn (cache_turn step turn) → IsCalm (cache_turn step turn) → ⊥
   not_interrupted turns.refused fits calm = calm.0 refl
   not_interrupted turns.stopping fits calm = calm.1 refl
   not_interrupted turns.late fits calm = unhurried fits
 
-  pub done_is_answered : {text answer : List ℕ} {done went : Went} {turn : Turn} → text ≡ ok → ComesOut text done turn answer went → FitsTurn (cache_turn step turn) → IsCalm (cache_turn step turn)
-      → AnswersDone step (cache_turn step turn ∷ Sent answer ∷ [])
-  done_is_answered is exchanges.done fits calm = subst (λ t. AnswersDone step (cache_turn step Done ∷ Sent t ∷ [])) (sym is) refl
-  done_is_answered is (exchanges.interrupted why) fits calm = absurd (not_interrupted why fits calm)
+  answered_by : {Answers : List (Event FurtherEvent) → Type 0} {events : List (Event FurtherEvent)} → ByTurn step Answers events → AllByRecursion FitsTurn events → AllByRecursion IsCalm events → Answers events
+  answered_by (answers is) fits calm = is
+  answered_by (interrupted why) fits calm = absurd (not_interrupted why fits.0 calm.0)
+
+-- ---- a turn that changes the cache
+
+module _ (step : MarkStep) where
+  pub changed : {before after : OptionValues} {reply : CacheReply} {events : List (Event FurtherEvent)} {went : Went} → reply.text ≡ ok
+      → AnyExchange refusal_line went_after (ChangeReplies step reply) before events after went → ByTurn step (AnswersDone step) events
+  changed is (answered _ _ _ (goes_on turning.done returns) turning.unheld) = answers (ap (λ t. cache_turn step Done ∷ Sent t ∷ []) is)
+  changed is (refused _ _ _ (stops (turning.interrupted why)) turning.unheld) = interrupted why
+  changed is (refused _ _ _ (goes_on does next) closes) = elim next [ ]
+
+module _ (rules : Rules) (options : OptionValues) (id : List ℕ) (life : Life) (secret : List ℕ) where
+  preset : (allow : Bool) {after : OptionValues} {events : List (Event FurtherEvent)} {went : Went} → allow ≡ true
+      → AnyExchange refusal_line went_after (PresetReplies (record rules { allow_preset = allow }) options id life (Some secret)) options events after went
+      → ByTurn (put id life secret) (AnswersDone (put id life secret)) events
+  preset false is exchange = absurd (cc is)
+  preset true is (answered _ _ _ (goes_on (goes_on returns (goes_on returns turning.done)) returns) turning.unheld) = answers refl
+  preset true is (refused _ _ _ (stops (goes_on returns (goes_on returns (turning.interrupted why)))) turning.unheld) = interrupted why
+  preset true is (refused _ _ _ (stops (goes_on returns (stops next))) closes) = elim next [ ]
+  preset true is (refused _ _ _ (stops (stops next)) closes) = elim next [ ]
+  preset true is (refused _ _ _ (goes_on does next) closes) = elim next [ ]
+
+-- ---- the cache alone
+
+module _ (plain : Bool) where
+  given : {id first : _} {held after : Option ℕ} {value : Option (List ℕ)} (more back : List (Event FurtherEvent)) (secret text : List ℕ) → Asks (ask id) None first (Ok value) held
+      → needed code.NoData value held more (Ok secret) after → IsPassphrase plain secret text → Closes None after back (Ok tt) None
+      → LooksAlone plain (Some id) (((first ++ more) ++ []) ++ (back ++ Sent text ∷ []))
+  given _ _ _ _ turning.given returns is turning.unheld = answers (completeness.given is)
+  given _ _ _ _ turning.empty next is closes = elim next [ ]
+  given _ _ _ _ turning.opened next is closes = elim next [ ]
+
+  none_given : {id first : _} {held after : Option ℕ} {value : Option (List ℕ)} (more back : List (Event FurtherEvent)) (why : Refusal) → Asks (ask id) None first (Ok value) held → held ≡ None
+      → needed code.NoData value held more (Err why) after → Closes None after back (Ok tt) None → LooksAlone plain (Some id) ((first ++ more) ++ (back ++ said_last (refusal_line why)))
+  none_given _ _ _ turning.given keeps next closes = elim next [ ]
+  none_given _ _ _ turning.empty keeps refuses turning.unheld = answers completeness.empty
+  none_given _ _ _ turning.opened keeps next closes = absurd (cc keeps)
+
+  stopped : {id first : _} {held : Option ℕ} {back : List (Event FurtherEvent)} {why : Refusal} → Asks (ask id) None first (Err why) held → Closes None held back (Ok tt) None
+      → LooksAlone plain (Some id) (first ++ (back ++ said_last (refusal_line why)))
+  stopped (turning.interrupted why) turning.unheld = interrupted why
+
+  tells : (id : Option (List ℕ)) (first back : List (Event FurtherEvent)) (secret text : List ℕ) (held : Option ℕ) → ByCache id None first (Ok secret) held → IsPassphrase plain secret text
+      → Closes None held back (Ok tt) None → LooksAlone plain id ((first ++ []) ++ (back ++ Sent text ∷ []))
+  tells None _ _ _ _ _ (goes_on returns next) is closes = elim next [ ]
+  tells (Some id) _ _ _ _ _ (goes_on looks next) is closes = given _ _ _ _ looks.asks next is closes
+
+  tells_none : (id : Option (List ℕ)) (first back : List (Event FurtherEvent)) (why : Refusal) (held : Option ℕ) → ByCache id None first (Err why) held → Closes None held back (Ok tt) None
+      → LooksAlone plain id (first ++ (back ++ said_last (refusal_line why)))
+  tells_none None _ _ _ _ (goes_on returns refuses) turning.unheld = completeness.no_id
+  tells_none None _ _ _ _ (stops next) closes = elim next [ ]
+  tells_none (Some id) _ _ _ _ (goes_on looks next) closes = none_given _ _ _ looks.asks looks.keeps next closes
+  tells_none (Some id) _ _ _ _ (stops looks) closes = stopped looks.asks closes
+
+module _ (rules : Rules) (options : OptionValues) (fields : GetFields) where
+  by_cache : (no_ask : Bool) (texts : Option Texts) → is_quiet no_ask texts ≡ true → {before after : Option ℕ} {events : List (Event FurtherEvent)} {result : Result (List ℕ) Refusal}
+      → passphrase_by rules options fields no_ask texts before events result after → ByCache fields.id before events result after
+  by_cache no_ask None quiet does = does
+  by_cache true (Some texts) quiet does = does
+  by_cache false (Some texts) quiet does = absurd (cc quiet)
+
+  pub looked : {after : OptionValues} {events : List (Event FurtherEvent)} {went : Went} → is_quiet fields.no_ask fields.texts ≡ true
+      → AnyExchange refusal_line went_after (GetReplies rules options fields) options events after went → LooksAlone fields.plain fields.id events
+  looked quiet (answered _ _ _ (goes_on does (goes_on (exchanges.tells is) returns)) closes) = tells fields.plain fields.id _ _ _ _ _ (by_cache fields.no_ask fields.texts quiet does) is closes
+  looked quiet (refused _ _ _ (stops does) closes) = tells_none fields.plain fields.id _ _ _ _ (by_cache fields.no_ask fields.texts quiet does) closes
+  looked quiet (refused _ _ _ (goes_on does (goes_on told next)) closes) = elim next [ ]
+  looked quiet (refused _ _ _ (goes_on does (stops next)) closes) = elim next [ ]
+
+-- ---- requests
+
+from_cache : (plain : Bool) (id : Option (List ℕ)) {events : List (Event FurtherEvent)} → LooksAlone plain id events → AllByRecursion FitsTurn events → AllByRecursion IsCalm events → AnswersFromCache plain id events
+from_cache plain None looks fits calm = looks
+from_cache plain (Some id) looks fits calm = answered_by (ask id) (λ late. absurd (cc late)) looks fits calm
 
 module _ (rules : Rules) where
-  pub from_cache : (plain : Bool) (id : Option (List ℕ)) {events : List (Event FurtherEvent)} {went : Went} → LooksFirst plain id (Refuses code.NoData) events went → AllByRecursion FitsTurn events → AllByRecursion IsCalm events
-      → AnswersFromCache plain id events
-  from_cache plain id (exchanges.answered (exchanges.given is)) fits calm = given is
-  from_cache plain id (exchanges.answered (exchanges.interrupted {id = named} why)) fits calm = absurd (not_interrupted (ask named) (λ late. absurd (cc late)) why fits.0 calm.0)
-  from_cache plain id (exchanges.goes_on exchanges.no_id exchanges.refused) fits calm = no_id
-  from_cache plain id (exchanges.goes_on exchanges.empty exchanges.refused) fits calm = empty
-
-  pub not_quiet : (no_ask : Bool) (texts : Option Texts) {given_texts : Texts} → no_ask ≡ false → texts ≡ Some given_texts → is_quiet no_ask texts ≡ true → ⊥
-  not_quiet true texts asks some quiet = absurd (cc asks)
-  not_quiet false None asks some quiet = absurd (cc some)
-  not_quiet false (Some other) asks some quiet = absurd (cc quiet)
-
-  not_preset : (id : List ℕ) (life : Life) (secret : Option (List ℕ)) (events : List (Event FurtherEvent)) → rules.allow_preset ≡ false
-      → AnswersAtOnce rules (Cache (PresetPassphrase id life secret)) events
-  not_preset id life None events never = tt
-  not_preset id life (Some secret) events never = λ allowed. absurd (cc (never, allowed))
-
-  cached_at_once : {options after : OptionValues} (request : Request) {events : List (Event FurtherEvent)} {went : Went} → Exchange rules options request events after went → AllByRecursion FitsTurn events
+  cached_at_once : (options after : OptionValues) (request : Request) (events : List (Event FurtherEvent)) (went : Went) → Exchange rules options request events after went → AllByRecursion FitsTurn events
       → AllByRecursion IsCalm events → AnswersAtOnce rules request events
-  cached_at_once request exchanges.refused fits calm = tt
-  cached_at_once request exchanges.nop fits calm = tt
-  cached_at_once request exchanges.reset fits calm = tt
-  cached_at_once request exchanges.bye fits calm = tt
-  cached_at_once request exchanges.help_given fits calm = tt
-  cached_at_once request exchanges.option_applied fits calm = tt
-  cached_at_once request exchanges.described fits calm = tt
-  cached_at_once request (exchanges.info is) fits calm = tt
-  cached_at_once request (exchanges.quiet {fields} quiet looks) fits calm = λ is_quiet. from_cache fields.plain fields.id looks fits calm
-  cached_at_once request (exchanges.by_prompt {fields} spec asks texts_are mode_is is_spec by) fits calm = λ quiet. absurd (not_quiet fields.no_ask fields.texts asks texts_are quiet)
-  cached_at_once request (exchanges.without_prompt {fields} asks texts_are mode_is looks) fits calm = λ quiet. absurd (not_quiet fields.no_ask fields.texts asks texts_are quiet)
-  cached_at_once request (exchanges.not_allowed {id} {life} {secret} is) fits calm = not_preset id life secret _ is
-  cached_at_once request (exchanges.with_data allowed comes) fits calm = tt
-  cached_at_once request (exchanges.without_data allowed without) fits calm = tt
-  cached_at_once request (exchanges.confirmation spec mode_is is_spec wants) fits calm = tt
-  cached_at_once request (exchanges.unconfirmed refusal) fits calm = tt
-  cached_at_once request (exchanges.one_turn (exchanges.preset {id} {secret} {life} allow) comes) fits calm = λ allowed. done_is_answered (put id life secret) (λ late. absurd (cc late)) refl comes fits.0 calm.0
-  cached_at_once request (exchanges.one_turn (exchanges.clear {id} {mode}) comes) fits calm = done_is_answered (Clear id mode) (λ late. absurd (cc late)) refl comes fits.0 calm.0
-  cached_at_once request (exchanges.one_turn exchanges.reload comes) fits calm = done_is_answered Flush (λ late. absurd (cc late)) refl comes fits.0 calm.0
-  cached_at_once request (exchanges.one_turn exchanges.kill comes) fits calm = tt
+  cached_at_once options after (Cache (GetPassphrase plain check no_ask repeat quality id texts)) events went exchange fits calm =
+      λ quiet. from_cache plain id (looked rules options (record { plain = plain; check = check; no_ask = no_ask; repeat = repeat; quality = quality; id = id; texts = texts }) quiet exchange) fits calm
+  cached_at_once options after (Cache (PresetPassphrase id life (Some secret))) events went exchange fits calm =
+      λ allowed. answered_by (put id life secret) (λ late. absurd (cc late)) (preset rules options id life secret rules.allow_preset allowed exchange) fits calm
+  cached_at_once options after (Cache (ClearPassphrase id mode)) events went exchange fits calm = answered_by (Clear id mode) (λ late. absurd (cc late)) (changed (Clear id mode) refl exchange) fits calm
+  cached_at_once options after (Cache ReloadAgent) events went exchange fits calm = answered_by Flush (λ late. absurd (cc late)) (changed Flush refl exchange) fits calm
+  cached_at_once options after request events went exchange fits calm = tt
 
   pub at_once : {before after : Kept} (request : Request) {events : List (Event FurtherEvent)} {went : Went} → RequestExchange rules before request events after went → AllByRecursion FitsTurn events → AllByRecursion IsCalm events
       → AnswersAtOnce rules request events
-  at_once request (cache exchange) fits calm = cached_at_once request exchange fits calm
+  at_once request (cache exchange) fits calm = cached_at_once _ _ request _ _ exchange fits calm
   at_once request (keys exchange) fits calm = tt
 
 pub each_calm : (events : List (Event FurtherEvent)) → AllByRecursion (λ event. ¬ WantsMemory event) events → AllByRecursion (λ event. ¬ IsStopped event) events → AllByRecursion IsCalm events
-each_calm [] remembers goes_on = tt
-each_calm (event ∷ more) remembers goes_on = ((remembers.0, goes_on.0), each_calm more remembers.1 goes_on.1)
+each_calm [] remembers still = tt
+each_calm (event ∷ more) remembers still = ((remembers.0, still.0), each_calm more remembers.1 still.1)

@@ -1,31 +1,38 @@
 -- Requests on the cache and on the session, each of whose refusals has its cause.
-use Rattle.std.specs.List.{AllByRecursion}
-use Rattle.std.proofs.Common.{◌≡◌, ℕ, Bool, true, List, [], ◌∷◌, ◌++◌, Option, Some, None, refl, sym, subst, append-nil, inl}
+use Rattle.std.proofs.Common.{◌≡◌, ℕ, Bool, true, false, List, [], ◌∷◌, ◌++◌, codes, Option, Some, None, Result, Ok, Err, refl, sym, subst, inl, ◌∙◌}
 use Rattle.std.specs.Prelude.{⊤}
 use Rattle.arrayvec.specs.ArrayVec.{ArrayVec}
-use Rattle.agent_ask.specs.Consents.{AsksConsent}
-use Rattle.agent_ask.specs.Events.{PromptEvent}
-use Rattle.agent_ask.specs.Failing.{said_last, fails}
+use Rattle.agent_ask.specs.ClientParts as client
+use Rattle.agent_ask.specs.ConsentParts.{AgreesTo}
+use Rattle.agent_ask.specs.ConsentParts as consent
+use Rattle.agent_ask.specs.Failing.{said_last}
 use Rattle.agent_ask.specs.Further.{FurtherEvent}
-use Rattle.agent_ask.specs.Prompts.{AsksPin}
-use Rattle.agent_ask.specs.SessionEvents.{Sent, cache_turn}
-use Rattle.agent_ask.specs.UnderTickets.{AnyInSession, Prompts, AsksOnce, EndsOnce, none as no_more, next, asked as asked_under}
-use Rattle.agent_ask.specs.declared.ask.Asked.{Asked as Answer}
-use Rattle.agent_ask.specs.declared.consent.Agreed.{Agreed}
-use Rattle.agent_ask.specs.declared.spec.AskPlan.{AskPlan}
-use Rattle.agent_ask.specs.declared.spec.PromptSpec.{PromptSpec}
+use Rattle.agent_ask.specs.PartExchanges.{AnyExchange}
+use Rattle.agent_ask.specs.PartExchanges as exchange
+use Rattle.agent_ask.specs.Parts.{◌>>=◌}
+use Rattle.agent_ask.specs.PinParts as pins
+use Rattle.agent_ask.specs.SessionEvents.{cache_turn}
+use Rattle.agent_ask.specs.TurnParts.{Asks, Closes}
+use Rattle.agent_ask.specs.TurnParts as taken
+use Rattle.agent_ask.specs.declared.ask.Asked.{Asked}
+use Rattle.agent_ask.specs.declared.ask.Asked.TheVariants as asked
 use Rattle.assuan_server.specs.Clients.{session_lines}
+use Rattle.assuan_server.specs.Written.{refusal_line}
+use Rattle.assuan_server.specs.declared.errors.Origin.{Origin}
+use Rattle.assuan_server.specs.declared.errors.Origin.TheVariants as origin
+use Rattle.session_client.specs.Asking.{gone_of}
+use Rattle.session_client.specs.Refusals.{gone_by}
 use Rattle.session_client.specs.declared.code.Code.{Code}
 use Rattle.session_client.specs.declared.code.Code.TheVariants as code
-use Rattle.assuan_server.specs.declared.errors.Origin.{Origin}
-use Rattle.assuan_server.specs.declared.errors.Origin.TheVariants.{Agent, Pinentry}
-use Rattle.cache_policy.specs.Turns.{Turn, Refused, closes, Empty}
-use Rattle.cache_policy.specs.declared.mark.MarkStep.{MarkStep}
-use Rattle.cache_policy.specs.declared.mark.MarkStep.TheVariants.{Close}
-use Rattle.session_client.specs.Asking.{gone_of}
+use Rattle.session_client.specs.declared.refusal.Refusal.{Refusal}
+use Rattle.session_client.specs.declared.refusal.Refusal.TheVariants.{Agent, Pinentry, Client}
 use Rattle.session_client.specs.declared.unheard.Gone.TheVariants as gone
 use Rattle.session_client.specs.declared.unheard.Unheard.{Unheard}
 use Rattle.session_client.specs.declared.unheard.Unheard.TheVariants as unheard
+use Rattle.cache_policy.specs.Turns.{closes, Empty}
+use Rattle.cache_policy.specs.declared.life.Life.{Life}
+use Rattle.cache_policy.specs.declared.mark.MarkStep.{MarkStep}
+use Rattle.cache_policy.specs.declared.secret.TheConstants.{MAX_SECRET_LEN}
 use Rattle.session_options.specs.OptionValues.{OptionValues, applied}
 use Rattle.session_options.specs.declared.options.OptionAnswer.{OptionAnswer}
 use Rattle.session_options.specs.declared.options.OptionAnswer.TheVariants as option_answer
@@ -35,232 +42,262 @@ use Rattle.session_options.specs.declared.rules.Rules.{Rules}
 use Rattle.agent_commands.specs.Answers.{IsInfo}
 use Rattle.agent_commands.specs.Endings.{went_after}
 use Rattle.agent_commands.specs.Events.{Event}
+use Rattle.agent_commands.specs.Exchanges.{Exchange, CacheReply, Replies, TellsPassphrase, TellsInfo, option_replies, ChangeReplies, Presets, put, confirms_by, is_quiet}
 use Rattle.agent_commands.specs.Exchanges as exchanges
-use Rattle.agent_commands.specs.Exchanges.{Exchange, Fails, WithoutPassphrase, Looks, LooksFirst, Refuses, IsOneTurn, ComesOut, Keeps, WithoutPrompt, EndsPin, EndsConsent, WantsPrompt, want, ByPrompt, refusal_of, option_text, is_quiet}
-use Rattle.agent_ask.specs.Interrupts.{Interrupts}
-use Rattle.agent_ask.specs.Interrupts as turns
-use Rattle.agent_commands.specs.Prompting.{UnderTicket}
+use Rattle.agent_commands.specs.Parts.{Part, AsksPassphrase, limit_line}
+use Rattle.agent_commands.specs.Passphrases.{ask, ask_or_open, Looks, LooksFor, WantsPrompt, KeepsUnder, ByCache, ByClient, Uncached, WithoutPrompt, PromptsAny, Prompts, ByUser, as_wanted, passphrase_by}
+use Rattle.agent_commands.specs.Passphrases as passphrases
 use Rattle.agent_commands.specs.Requests.{GetFields, get_passphrase}
 use Rattle.agent_commands.specs.declared.request.CacheCommand.{CacheCommand}
-use Rattle.agent_commands.specs.declared.request.CacheCommand.TheVariants.{SetOption, GetConfirmation}
+use Rattle.agent_commands.specs.declared.request.CacheCommand.TheVariants as command
 use Rattle.agent_commands.specs.declared.request.Info.{Info}
 use Rattle.agent_commands.specs.declared.request.Info.TheVariants.{Version, Pid, S2kCount, Listed}
 use Rattle.agent_commands.specs.declared.request.Request.{Request}
-use Rattle.agent_commands.specs.declared.request.Request.TheVariants.{Cache}
+use Rattle.agent_commands.specs.declared.request.Request.TheVariants.{Cache, Key, Bad}
+use Rattle.agent_commands.specs.declared.request.Texts.{Texts}
 use Rattle.agent_commands.specs.declared.went.Went.{Went}
-use Rattle.agent_commands.specs.declared.went.Went.TheVariants.{On}
-use Rattle.agent_session.specs.Causes.{StandIn, IsCaused, IsRefusedBy, IsSaid, said, one, turned, by_stop, by_client, by_mode, no_id, empty, option, preset, of_consent, confirmation, none_given}
-use Rattle.agent_session.specs.Causes.{HasNoEntry, IsUnprompted, without_id, passphrase}
+use Rattle.key_commands.specs.Passphrases as keys
+use Rattle.agent_session.specs.Causes.{Has, StandIn, IsCaused, IsRefusedBy, IsSaid, said, by_client, by_mode, no_id, empty, option, preset, confirmation, none_given, HasNoEntry, IsUnprompted, without_id, passphrase}
 use Rattle.agent_session.specs.Causes as causes
-use Rattle.agent_session.specs.Completeness.{AnswersNothing}
+use Rattle.agent_session.specs.Completeness.{IsStatus}
 use Rattle.agent_origin.specs.declared.kept.Kept.{Kept}
-use Rattle.agent_session.proofs.Explained.{Explained, replied, failed, silent, after_these, IsLast}
-use Rattle.agent_session.proofs.KeyParts.{prompt_silent, has_call, heard_caused, unopened_caused, bad_any}
-use Rattle.agent_session.proofs.Prompted.{PinShows, ConsentShows, pin_shows, consent_shows}
 use Rattle.agent_session.proofs.Asides.{secret_limit}
+use Rattle.agent_session.proofs.Explained.{Explained, replied, failed, silent, after_these, IsLast}
+use Rattle.agent_session.proofs.Explaining.{Caused, CausedRefusal, ClientSays, cut, client_said, Comes, IsExplained, Explains, Anything, bind, whatever, returned, refused, is_needed, or_otherwise, is_wanted}
+use Rattle.agent_session.proofs.Explaining.{interrupts, looks, seats, changes, closes_of, closes_explained}
+use Rattle.agent_session.proofs.KeyParts.{Either, prompt_silent, pin_caused, consent_caused, bad_any}
+use Rattle.agent_session.proofs.Prompted.{pin_shows, consent_shows}
 use Rattle.agent_session.proofs.Replying.{IsReply, reply_ok, reply_closing, reply_help, reply_cache, reply_passphrase}
-use Rattle.agent_session.proofs.Standing.{has_first, has_second, stand_left, stand_right, stand_tail}
+use Rattle.agent_session.proofs.Standing.{has_first, stand_left, stand_right}
+
+-- a prompt's answer refuses a request on the cache as one on keys
+same_refusal : (answer : Asked) → keys.pin_refusal answer ≡ pins.pin_refusal answer
+same_refusal (asked.Pin pin) = refl
+same_refusal asked.Cancelled = refl
+same_refusal asked.TimedOut = refl
+same_refusal asked.NoPinentry = refl
+same_refusal asked.Bad = refl
+same_refusal (asked.Heard heard) = refl
+same_refusal asked.NoMemory = refl
+
+-- nothing was cached, or there is no id
+abbrev IsEmpty : List (Event FurtherEvent) → Option (List ℕ) → Type 0
+IsEmpty whole None = ⊤
+IsEmpty whole (Some id) = Has (cache_turn (ask id) Empty) whole
+
+-- a reply that answers the request
+abbrev Answers : CacheReply → Type 0
+Answers given = IsReply given.text × IsLast given.went
+
+info_reply : (rules : Rules) (what : Info) {text : List ℕ} → IsInfo rules what text → IsReply text
+info_reply rules Version is = reply_cache is
+info_reply rules Pid is = reply_cache is
+info_reply rules S2kCount is = reply_cache is
+info_reply rules Listed is = subst IsReply (sym is) reply_ok
 
 module _ (rules : Rules) (kept : Kept) (whole : List (Event FurtherEvent)) (request : Request) where
-  abbrev CausedHere : Code → Origin → Type 0
-  CausedHere = IsCaused whole rules kept request
-
   abbrev Here : List (Event FurtherEvent) → Went → Type 0
-  Here = Explained whole CausedHere
+  Here = Explained whole (IsCaused whole rules kept request)
 
-  only_reply : {text : List ℕ} {went : Went} → IsReply text → IsLast went → Here (Sent text ∷ []) went
-  only_reply {text} reply last = replied [] text tt reply last
+  -- what is done so comes to a good value, or to a refusal that has its cause
+  abbrev EachOf : {A : Type 0} → Part A → (A → Type 0) → Type 0
+  EachOf {A} part Good = (before : Option ℕ) (events : List (Event FurtherEvent)) (result : Result A Refusal) (after : Option ℕ) → part before events result after → StandIn events whole
+      → Comes rules kept request whole Good events result
 
-  -- ---- turns
+  abbrev ExplainsHere : {A : Type 0} → Part A → (A → Type 0) → Type 0
+  ExplainsHere part Good = Explains rules kept request whole part Good
 
-  interrupts : (step : MarkStep) → closes step ≡ None → {turn : Turn} {why : Code} {more : List (Event FurtherEvent)} → Interrupts turn why → StandIn (cache_turn step turn ∷ more) whole → CausedHere why Agent
-  interrupts step keeps turns.refused stands = one (cache_turn step Refused) refl (has_first stands)
-  interrupts step keeps turns.stopping stands = by_stop (turned step keeps (has_first stands))
-  interrupts step keeps turns.late stands = turned step keeps (has_first stands)
+  -- a part, and then what follows whatever it came to
+  then : {A B : Type 0} {part : Part A} {next : A → Part B} (Good : B → Type 0) → ExplainsHere part Anything → ((value : A) → ExplainsHere (next value) Good) → ExplainsHere (part >>= next) Good
+  then Good first next = bind rules kept request whole Anything Good first (λ value any. next value)
 
   -- ---- the client
 
-  pub unheard_explained : (why : Unheard) → IsSaid whole why → Here (said_last (session_lines.refusal why)) (went_after (gone_of why))
-  unheard_explained unheard.Cancelled is = failed [] code.Cancelled Agent tt (by_client is) tt
-  unheard_explained unheard.TooMuch is = failed [] code.TooMuch Agent tt is tt
-  unheard_explained unheard.Unexpected is = failed [] code.Unexpected Agent tt is tt
-  unheard_explained (unheard.Gone gone.TooLong) is = failed [] code.LineTooLong Agent tt is refl
+  writes_of : EachOf (client.Writes limit_line) Anything
+  writes_of before events result after client.written stands = record { silent = (secret_limit, tt); explained = tt }
+  writes_of before events result after (client.cut unsent is) stands = record { silent = (tt, tt); explained = cut }
+
+  inquires_of : EachOf (client.Inquires session_lines (codes "PASSPHRASE") MAX_SECRET_LEN) Anything
+  inquires_of before events result after (client.given is) stands = record { silent = (tt, tt); explained = tt }
+  inquires_of before events result after (client.not_given is) stands = record { silent = (tt, tt); explained = client_said (said is (has_first stands)) }
+
+  asks_passphrase : ExplainsHere AsksPassphrase Anything
+  asks_passphrase = then Anything (record { of = writes_of }) (λ told. record { of = inquires_of })
+
+  -- ---- the cache
+
+  looks_of : (id : List ℕ) (before : Option ℕ) (events : List (Event FurtherEvent)) (result : Result (Option (List ℕ)) Refusal) (after : Option ℕ) → Asks (ask id) before events result after → after ≡ before
+      → StandIn events whole → Comes rules kept request whole (Either rules kept request whole Anything (IsEmpty whole (Some id))) events result
+  looks_of id before events result after taken.given keeps stands = record { silent = (tt, tt); explained = tt }
+  looks_of id before events result after taken.empty keeps stands = record { silent = (tt, tt); explained = has_first stands }
+  looks_of id before events result after taken.opened keeps stands = absurd (cc keeps)
+  looks_of id before events result after (taken.interrupted why) keeps stands = record { silent = (tt, tt); explained = interrupts rules kept request whole (ask id) refl why stands }
+
+  -- what is cached, or nothing
+  abbrev Cached : Option (List ℕ) → Option (List ℕ) → Type 0
+  Cached id = Either rules kept request whole Anything (IsEmpty whole id)
+
+  looks_for : (id : Option (List ℕ)) → ExplainsHere (LooksFor id) (Cached id)
+  looks_for None = returned rules kept request whole (Cached None) None tt
+  looks_for (Some id) = record { of = λ before events result after looked stands. looks_of id before events result after looked.asks looked.keeps stands }
+
+  wants_prompt : (id : Option (List ℕ)) → ExplainsHere (WantsPrompt id) Anything
+  wants_prompt None = then Anything (seats rules kept request whole _ refl) (λ seated. returned rules kept request whole Anything None tt)
+  wants_prompt (Some id) = whatever rules kept request whole _ (looks rules kept request whole (ask_or_open id) refl)
+
+  keeps_under : (id : Option (List ℕ)) (secret : List ℕ) → ExplainsHere (KeepsUnder id secret) Anything
+  keeps_under None secret = returned rules kept request whole Anything tt tt
+  keeps_under (Some id) secret = changes rules kept request whole _ refl
+
+  by_client_itself : (id : Option (List ℕ)) → ExplainsHere (ByClient id) Anything
+  by_client_itself id = then Anything asks_passphrase (λ secret. then Anything (keeps_under id secret) (λ done. returned rules kept request whole Anything secret tt))
+
+  -- ---- prompts
+
+  module _ (texts : Texts) (check quality : Bool) (repeat : ℕ) where
+    prompts_any_of : EachOf (PromptsAny rules kept.options texts check quality repeat) Anything
+    prompts_any_of before events result after (passphrases.given spec is prompt) stands = record { silent = prompt_silent prompt.in_session; explained = tt }
+    prompts_any_of before events result after (passphrases.refused {answer} {why} spec is prompt other refusal) stands = record {
+      silent = prompt_silent prompt.in_session;
+      explained = pin_caused rules kept request whole prompt.in_session stands answer why (pin_shows prompt.asks)
+          (λ bad. bad_any rules kept request whole prompt.asks prompt.in_session stands bad) (same_refusal answer ∙ refusal);
+    }
+
+    prompts : ExplainsHere (Prompts rules kept.options texts check quality repeat) Anything
+    prompts = then Anything (record { of = prompts_any_of }) (λ pin. then Anything (closes_explained rules kept request whole (Some pin)) (λ done. returned rules kept request whole Anything pin tt))
+
+    by_user : (id : Option (List ℕ)) → ExplainsHere (ByUser rules kept.options texts check quality repeat id) Anything
+    by_user id = then Anything (wants_prompt id) (λ cached. or_otherwise rules kept request whole Anything cached _ (λ some is. tt) (λ none. prompts))
+
+  agrees_of : (question : List ℕ) → EachOf (AgreesTo session_lines rules kept.options question) Anything
+  agrees_of question before events result after (consent.consents spec is prompt) stands = record { silent = prompt_silent prompt.in_session; explained = tt }
+  agrees_of question before events result after (consent.refused {answer} {why} spec is prompt refusal) stands =
+      record { silent = prompt_silent prompt.in_session; explained = consent_caused rules kept request whole prompt.in_session stands answer why (consent_shows prompt.asks) refusal }
+
+  -- ---- GET_PASSPHRASE
+
+  module _ (fields : GetFields) (is_get : request ≡ Cache (get_passphrase fields)) where
+    no_entry : (id : Option (List ℕ)) → fields.id ≡ id → IsEmpty whole id → HasNoEntry whole request
+    no_entry None same none = without_id fields is_get same
+    no_entry (Some id) same none = passphrase fields id is_get same (none_given Empty tt none)
+
+    no_data : is_quiet fields.no_ask fields.texts ≡ true → (id : Option (List ℕ)) → fields.id ≡ id → IsEmpty whole id → Caused rules kept request whole code.NoData
+    no_data quiet None same none = no_id fields is_get quiet same
+    no_data quiet (Some id) same none = empty fields id is_get quiet same none
+
+    by_cache : is_quiet fields.no_ask fields.texts ≡ true → ExplainsHere (ByCache fields.id) Anything
+    by_cache quiet =
+        bind rules kept request whole (Cached fields.id) Anything (looks_for fields.id)
+        (λ cached so. is_needed rules kept request whole Anything code.NoData cached (λ none. no_data quiet fields.id refl (subst (Cached fields.id) none so)) (λ some is. tt))
+
+    without_prompt : (way : PinMode) → (HasNoEntry whole request → ExplainsHere (Uncached fields.id way) Anything) → ExplainsHere (WithoutPrompt fields.id way) Anything
+    without_prompt way other =
+        bind rules kept request whole (Cached fields.id) Anything (looks_for fields.id)
+        (λ cached so. or_otherwise rules kept request whole Anything cached _ (λ some is. tt) (λ none. other (no_entry fields.id refl (subst (Cached fields.id) none so))))
+
+    as_client_wants : (way : PinMode) → kept.options.mode ≡ way → (texts : Texts) → ExplainsHere (as_wanted rules kept.options fields way texts) Anything
+    as_client_wants mode.Ask same texts = by_user texts fields.check fields.quality fields.repeat fields.id
+    as_client_wants mode.Cancel same texts = without_prompt mode.Cancel (λ unmet. refused rules kept request whole Anything (Agent code.Cancelled) (by_mode same unmet))
+    as_client_wants mode.Error same texts = without_prompt mode.Error (λ unmet. refused rules kept request whole Anything (Agent code.NoPinentry) (inl (by_mode same unmet)))
+    as_client_wants mode.Loopback same texts = without_prompt mode.Loopback (λ unmet. by_client_itself fields.id)
+
+    -- the fields say whether the cache alone is asked
+    passphrase_found : (no_ask : Bool) (texts : Option Texts) → (is_quiet no_ask texts ≡ true → is_quiet fields.no_ask fields.texts ≡ true)
+        → ExplainsHere (passphrase_by rules kept.options fields no_ask texts) Anything
+    passphrase_found no_ask None quiet = by_cache (quiet refl)
+    passphrase_found true (Some texts) quiet = by_cache (quiet refl)
+    passphrase_found false (Some texts) quiet = as_client_wants kept.options.mode refl texts
+
+    get_replies : ExplainsHere (exchanges.GetReplies rules kept.options fields) Answers
+    get_replies =
+        then Answers (passphrase_found fields.no_ask fields.texts (λ quiet. quiet))
+        (λ secret. bind rules kept request whole IsReply Answers (record { of = tells_of secret }) (λ text reply. returned rules kept request whole Answers _ (reply, tt)))
+      where
+        tells_of : (secret : List ℕ) → EachOf (TellsPassphrase fields.plain secret) IsReply
+        tells_of secret before events result after (exchanges.tells answer) stands = record { silent = tt; explained = reply_passphrase fields.plain secret _ answer }
+
+  -- ---- the other commands
+
+  option_said : (text : ArrayVec ℕ) → request ≡ Cache (command.SetOption text) → (answer : OptionAnswer) → (applied kept.options text.items).answer ≡ answer → (after : OptionValues)
+      → ExplainsHere (option_replies answer after) Answers
+  option_said text is_option option_answer.Set is after = returned rules kept request whole Answers _ (reply_ok, tt)
+  option_said text is_option option_answer.Unknown is after = refused rules kept request whole Answers (Agent code.UnknownOption) (option is_option is)
+  option_said text is_option option_answer.Parameter is after = refused rules kept request whole Answers (Agent code.Parameter) (causes.IsMalformed.option (option is_option is))
+  option_said text is_option option_answer.NotSupported is after = refused rules kept request whole Answers (Agent code.NotSupported) (causes.IsUnsupported.option (option is_option is))
+
+  tells_info_of : (what : Info) → EachOf (TellsInfo rules what) IsReply
+  tells_info_of what before events result after (exchanges.tells is) stands = record { silent = tt; explained = info_reply rules what is }
+
+  presets : (id : List ℕ) (life : Life) (secret : Option (List ℕ)) → request ≡ Cache (command.PresetPassphrase id life secret) → ExplainsHere (Presets rules id life secret) Anything
+  presets id life secret is =
+      bind rules kept request whole _ Anything (is_wanted rules kept request whole code.NotSupported rules.allow_preset (λ none. preset is none))
+      (λ allowed so. then Anything (or_otherwise rules kept request whole Anything secret AsksPassphrase (λ some is. tt) (λ none. asks_passphrase))
+      (λ given. changes rules kept request whole (put id life given) refl))
+
+  confirms : (description : ArrayVec ℕ) → request ≡ Cache (command.GetConfirmation description) → (way : PinMode) → kept.options.mode ≡ way → ExplainsHere (confirms_by rules kept.options way description) Anything
+  confirms description is mode.Ask same = then Anything (seats rules kept request whole _ refl) (λ seated. record { of = agrees_of description.items })
+  confirms description is mode.Cancel same = refused rules kept request whole Anything (Agent code.Cancelled) (by_mode same (HasNoEntry.of_consent (confirmation is)))
+  confirms description is mode.Error same = refused rules kept request whole Anything (Agent code.NoPinentry) (inl (by_mode same (HasNoEntry.of_consent (confirmation is))))
+  confirms description is mode.Loopback same = refused rules kept request whole Anything (Agent code.NoPinentry) (inl (IsUnprompted.of_consent (confirmation is) same))
+
+  changed : (step : MarkStep) → closes step ≡ None → (given : CacheReply) → Answers given → ExplainsHere (ChangeReplies step given) Answers
+  changed step keeps given good = then Answers (changes rules kept request whole step keeps) (λ done. returned rules kept request whole Answers given good)
+
+  replies : (asked : CacheCommand) → request ≡ Cache asked → ExplainsHere (Replies rules kept.options asked) Answers
+  replies command.Nop is = returned rules kept request whole Answers _ (reply_ok, tt)
+  replies command.Reset is = returned rules kept request whole Answers _ (reply_ok, tt)
+  replies command.Bye is = returned rules kept request whole Answers _ (reply_closing, tt)
+  replies command.Help is = returned rules kept request whole Answers _ (reply_help, tt)
+  replies (command.SetOption text) is = option_said text is (applied kept.options text.items).answer refl _
+  replies (command.SetKeyDesc text) is = returned rules kept request whole Answers _ (reply_ok, tt)
+  replies (command.GetInfo what) is = bind rules kept request whole IsReply Answers (record { of = tells_info_of what }) (λ text reply. returned rules kept request whole Answers _ (reply, tt))
+  replies (command.GetPassphrase plain check no_ask repeat quality id texts) is =
+      get_replies (record { plain = plain; check = check; no_ask = no_ask; repeat = repeat; quality = quality; id = id; texts = texts }) is
+  replies (command.PresetPassphrase id life secret) is = then Answers (presets id life secret is) (λ stored. returned rules kept request whole Answers _ (reply_ok, tt))
+  replies (command.ClearPassphrase id cleared) is = changed _ refl _ (reply_ok, tt)
+  replies (command.GetConfirmation description) is = then Answers (confirms description is kept.options.mode refl) (λ agreed. returned rules kept request whole Answers _ (reply_ok, tt))
+  replies command.ReloadAgent is = changed _ refl _ (reply_ok, tt)
+  replies command.KillAgent is = changed _ refl _ (reply_closing, tt)
+
+  -- ---- what is written last
+
+  unheard_explained : (why : Unheard) → IsSaid whole why → Here (said_last (session_lines.refusal why)) (went_after (gone_of why))
+  unheard_explained unheard.Cancelled is = failed [] code.Cancelled origin.Agent tt (by_client is) tt
+  unheard_explained unheard.TooMuch is = failed [] code.TooMuch origin.Agent tt is tt
+  unheard_explained unheard.Unexpected is = failed [] code.Unexpected origin.Agent tt is tt
+  unheard_explained (unheard.Gone gone.TooLong) is = failed [] code.LineTooLong origin.Agent tt is refl
   unheard_explained (unheard.Gone gone.Ended) is = silent tt is
   unheard_explained (unheard.Gone gone.Spent) is = silent tt is
   unheard_explained (unheard.Gone gone.ReadFault) is = silent tt is
   unheard_explained (unheard.Gone gone.WriteFault) is = silent tt tt
 
-  failure_explained : {why : Unheard} {events : List (Event FurtherEvent)} {went : Went} → Fails why events went → IsSaid whole why → Here events went
-  failure_explained {why} fails is = unheard_explained why is
+  client_explained : (why : Unheard) → ClientSays rules kept request whole why → Here (said_last (refusal_line (Client why))) (went_after (gone_of why))
+  client_explained why cut = silent tt tt
+  client_explained why (client_said is) = unheard_explained why is
 
-  without_passphrase : {events : List (Event FurtherEvent)} {went : Went} → WithoutPassphrase events went → StandIn events whole → Here events went
-  without_passphrase (exchanges.no_data {events = more} says fails) stands = after_these whole CausedHere (_ ∷ _ ∷ []) (secret_limit, (tt, tt)) (failure_explained fails (said says (has_second stands)))
-  without_passphrase (exchanges.limit_cut unsent is) stands = silent (tt, tt) tt
+  pub refusal_explained : (why : Refusal) → CausedRefusal rules kept request whole why → Here (said_last (refusal_line why)) (went_after (gone_by why))
+  refusal_explained (Agent why) caused = failed [] why origin.Agent tt caused tt
+  refusal_explained (Pinentry why) caused = failed [] why origin.Pinentry tt caused tt
+  refusal_explained (Client why) says = client_explained why says
 
-  -- ---- looks in the cache
+  -- the parts of a request are done, its ticket is given back, and then this is written
+  pub in_exchange : {A : Type 0} {part : Part A} {Good : A → Type 0} → ExplainsHere part Good → {events back last : List (Event FurtherEvent)} {result : Result A Refusal} {held : Option ℕ} {went : Went}
+      → part None events result held → Closes None held back (Ok tt) None → (IsExplained rules kept request whole Good result → Here last went) → StandIn (events ++ (back ++ last)) whole
+      → Here (events ++ (back ++ last)) went
+  in_exchange {Good} explains {events} {back} {last} {result} {held} does closes ends stands =
+      let first : Comes rules kept request whole Good events result = explains.of None events result held does (stand_left events _ stands) in
+      let close : Comes rules kept request whole Anything back (Ok tt) = closes_of rules kept request whole None held back (Ok tt) None closes (stand_left back last (stand_right events _ stands)) in
+      after_these _ _ events first.silent (after_these _ _ back close.silent (ends first.explained))
 
-  looks_answered : {plain : Bool} {id : Option (List ℕ)} {first : List (Event FurtherEvent)} {text : List ℕ} → Looks plain id first (Some text) → StandIn (first ++ Sent text ∷ []) whole
-      → Here (first ++ Sent text ∷ []) On
-  looks_answered {plain} (exchanges.given is) stands = replied (_ ∷ []) _ (tt, tt) (reply_passphrase plain _ _ is) tt
-  looks_answered (exchanges.interrupted {code = why} is) stands = failed (_ ∷ []) why Agent (tt, tt) (interrupts _ refl is stands) tt
-
-  looks_silent : {plain : Bool} {id : Option (List ℕ)} {first : List (Event FurtherEvent)} → Looks plain id first None → AllByRecursion AnswersNothing first
-  looks_silent exchanges.no_id = tt
-  looks_silent exchanges.empty = (tt, tt)
-
-  looks_first : (plain : Bool) (id : Option (List ℕ)) (Otherwise : List (Event FurtherEvent) → Went → Type 0) {events : List (Event FurtherEvent)} {went : Went}
-      → LooksFirst plain id Otherwise events went → StandIn events whole
-      → ((first more : List (Event FurtherEvent)) → Looks plain id first None → Otherwise more went → StandIn (first ++ more) whole → Here more went) → Here events went
-  looks_first plain id Otherwise (exchanges.answered looks) stands other = looks_answered looks stands
-  looks_first plain id Otherwise (exchanges.goes_on {first} {events = more} looks otherwise) stands other = after_these whole CausedHere first (looks_silent looks) (other first more looks otherwise stands)
-
-  no_entry : (fields : GetFields) → request ≡ Cache (get_passphrase fields) → (id : Option (List ℕ)) → fields.id ≡ id → (first more : List (Event FurtherEvent)) → Looks fields.plain id first None
-      → StandIn (first ++ more) whole → HasNoEntry whole request
-  no_entry fields is_get id same first more exchanges.no_id stands = without_id fields is_get same
-  no_entry fields is_get id same first more (exchanges.empty {id = named}) stands = passphrase fields named is_get same (none_given Empty tt (has_first stands))
-
-  module _ (fields : GetFields) (is_get : request ≡ Cache (get_passphrase fields)) (quiet : is_quiet fields.no_ask fields.texts ≡ true) where
-    no_data : (id : Option (List ℕ)) → fields.id ≡ id → (first more : List (Event FurtherEvent)) → Looks fields.plain id first None → StandIn (first ++ more) whole → CausedHere code.NoData Agent
-    no_data id same first more exchanges.no_id stands = no_id fields is_get quiet same
-    no_data id same first more (exchanges.empty {id = named}) stands = empty fields named is_get quiet same (has_first stands)
-
-    refusal_stands : (id : Option (List ℕ)) → fields.id ≡ id → {went : Went} (first more : List (Event FurtherEvent)) → Looks fields.plain id first None → Refuses code.NoData more went → StandIn (first ++ more) whole
-        → Here more went
-    refusal_stands id same first more looks exchanges.refused stands = failed [] code.NoData Agent tt (no_data id same first more looks stands) tt
-
-  keeping_explained : (plain : Bool) {secret : List ℕ} {id : Option (List ℕ)} {events : List (Event FurtherEvent)} {went : Went} → Keeps plain secret id events went → StandIn events whole → Here events went
-  keeping_explained plain (exchanges.unkept is) stands = only_reply (reply_passphrase plain _ _ is) tt
-  keeping_explained plain (exchanges.kept is) stands = replied (_ ∷ []) _ (tt, tt) (reply_passphrase plain _ _ is) tt
-  keeping_explained plain (exchanges.interrupted {code = why} is) stands = failed (_ ∷ []) why Agent (tt, tt) (interrupts _ refl is stands) tt
-
-  without_prompt : (plain : Bool) (id : Option (List ℕ)) (way : PinMode) → kept.options.mode ≡ way → HasNoEntry whole request → {events : List (Event FurtherEvent)} {went : Went} → WithoutPrompt plain id way events went
-      → StandIn events whole → Here events went
-  without_prompt plain id way same unmet exchanges.cancelled stands = failed [] code.Cancelled Agent tt (by_mode same unmet) tt
-  without_prompt plain id way same unmet exchanges.no_pinentry stands = failed [] code.NoPinentry Agent tt (inl (by_mode same unmet)) tt
-  without_prompt plain id way same unmet (exchanges.with_data {events = more} keeps) stands =
-      after_these whole CausedHere (_ ∷ _ ∷ []) (secret_limit, (tt, tt)) (keeping_explained plain keeps (stand_tail _ more (stand_tail _ _ stands)))
-  without_prompt plain id way same unmet (exchanges.without_data without) stands = without_passphrase without stands
-
-  -- ---- prompts
-
-  module _ {prompt : List PromptEvent} {shown : List (Event FurtherEvent)} (in_session : AnyInSession session_lines prompt shown) (stands : StandIn shown whole) where
-    ends_pin : {spec : PromptSpec} {plan : AskPlan} (plain : Bool) {answer : Answer} {keep : Option (List ℕ)} {events : List (Event FurtherEvent)} {went : Went} → AsksPin spec plan (λ pin. ⊤) prompt answer
-        → PinShows answer prompt → EndsPin plain answer keep events went → Here events went
-    ends_pin plain prompted shows (exchanges.pin is) = only_reply (reply_passphrase plain _ _ is) tt
-    ends_pin plain prompted shows exchanges.cancelled = failed [] code.Cancelled Pinentry tt (has_call rules kept request whole in_session stands shows) tt
-    ends_pin plain prompted shows exchanges.timed_out = failed [] code.Timeout Pinentry tt (has_call rules kept request whole in_session stands shows) tt
-    ends_pin plain prompted shows exchanges.no_pinentry = failed [] code.NoPinentry Agent tt (unopened_caused rules kept request whole in_session stands shows) tt
-    ends_pin plain prompted shows exchanges.bad = failed [] code.BadPass Agent tt (bad_any rules kept request whole prompted in_session stands refl) tt
-    ends_pin plain prompted shows (exchanges.unheard {heard} {why} is fails) = failure_explained fails (heard_caused rules kept request whole in_session stands heard why is shows)
-
-    ends_consent : {answer : Agreed} {keep : Option (List ℕ)} {events : List (Event FurtherEvent)} {went : Went} → ConsentShows answer prompt → EndsConsent answer keep events went → Here events went
-    ends_consent shows exchanges.yes = only_reply reply_ok tt
-    ends_consent shows exchanges.no = failed [] code.NotConfirmed Pinentry tt (has_call rules kept request whole in_session stands shows) tt
-    ends_consent shows exchanges.cancelled = failed [] code.Cancelled Pinentry tt (has_call rules kept request whole in_session stands shows) tt
-    ends_consent shows exchanges.timed_out = failed [] code.Timeout Pinentry tt (has_call rules kept request whole in_session stands shows) tt
-    ends_consent shows exchanges.no_pinentry = failed [] code.NoPinentry Agent tt (unopened_caused rules kept request whole in_session stands shows) tt
-    ends_consent shows (exchanges.unheard {heard} {why} is fails) = failure_explained fails (heard_caused rules kept request whole in_session stands heard why is shows)
-
-  -- one prompt, and how it ends the request
-  module _ {A : Type 0} (Asks : List PromptEvent → A → Type 0) (Ends : A → Option (List ℕ) → List (Event FurtherEvent) → Went → Type 0)
-      (each : (prompt : List PromptEvent) (shown : List (Event FurtherEvent)) (answer : A) (keep : Option (List ℕ)) (events : List (Event FurtherEvent)) (went : Went) → Asks prompt answer
-      → AnyInSession session_lines prompt shown → StandIn shown whole → Ends answer keep events went → Here events went) where
-    record AsksNoMore (earlier : A) (more : List (Event FurtherEvent)) (answers : List A) : Type 0 where
-      shows_none : more ≡ []
-      one_answer : answers ≡ earlier ∷ []
-
-    asks_no_more : (earlier : A) {more : List (Event FurtherEvent)} {answers : List A} → Prompts session_lines (AsksOnce session_lines Asks) (earlier ∷ []) more answers → AsksNoMore earlier more answers
-    asks_no_more earlier no_more = record { shows_none = refl; one_answer = refl }
-    asks_no_more earlier (next never in_session later) = absurd never
-
-    prompted_once : (shown events : List (Event FurtherEvent)) (answers : List A) (keep : Option (List ℕ)) (went : Went) (turn : Turn) (ticket : ℕ)
-        → Prompts session_lines (AsksOnce session_lines Asks) [] shown answers → EndsOnce session_lines Ends answers keep events went → StandIn (shown ++ cache_turn (Close ticket keep) turn ∷ events) whole
-        → Here (shown ++ cache_turn (Close ticket keep) turn ∷ events) went
-    prompted_once shown events answers keep went turn ticket no_more ends stands = absurd ends
-    prompted_once shown events answers keep went turn ticket (next {answer} {shown = first} {more} asks in_session later) ends stands =
-        let done : AsksNoMore answer more _ = asks_no_more answer later in
-        let ended : Ends answer keep events went = subst (λ a. EndsOnce session_lines Ends a keep events went) done.one_answer ends in
-        let silence : AllByRecursion AnswersNothing (first ++ more) = subst (λ m. AllByRecursion AnswersNothing (first ++ m)) (sym done.shows_none)
-        (subst (AllByRecursion AnswersNothing) (sym (append-nil first)) (prompt_silent in_session)) in
-        after_these whole CausedHere (first ++ more) silence
-        (after_these whole CausedHere (_ ∷ []) (tt, tt) (each _ _ _ _ _ _ asks in_session (stand_left first more (stand_left (first ++ more) _ stands)) ended))
-
-    under_ticket : {ticket : ℕ} {events : List (Event FurtherEvent)} {went : Went} → UnderTicket Asks Ends ticket events went → StandIn events whole → Here events went
-    under_ticket {ticket} (asked_under turn prompts ends) stands = prompted_once _ _ _ _ _ turn ticket prompts ends stands
-
-    wants_prompt : (step : MarkStep) → closes step ≡ None → {events : List (Event FurtherEvent)} {went : Went} → WantsPrompt step (UnderTicket Asks Ends) events went → StandIn events whole → Here events went
-    wants_prompt asked keeps (exchanges.opened {events = more} under) stands = after_these whole CausedHere (_ ∷ []) (tt, tt) (under_ticket under (stand_tail _ more stands))
-    wants_prompt asked keeps (exchanges.interrupted {code = why} is) stands = failed (_ ∷ []) why Agent (tt, tt) (interrupts asked keeps is stands) tt
-
-  wants_keeps : (id : Option (List ℕ)) → closes (want id) ≡ None
-  wants_keeps None = refl
-  wants_keeps (Some id) = refl
-
-  by_prompt : (spec : PromptSpec) (plan : AskPlan) (plain : Bool) {id : Option (List ℕ)} {events : List (Event FurtherEvent)} {went : Went} → ByPrompt spec plan plain id events went → StandIn events whole
-      → Here events went
-  by_prompt spec plan plain (exchanges.cached is) stands = replied (_ ∷ []) _ (tt, tt) (reply_passphrase plain _ _ is) tt
-  by_prompt spec plan plain (exchanges.prompted {id} wants) stands =
-      wants_prompt (AsksPin spec plan (λ pin. ⊤)) (EndsPin plain)
-      (λ prompt shown answer keep events went asks in_session shown_stands ends. ends_pin in_session shown_stands plain asks (pin_shows asks) ends)
-      (want id) (wants_keeps id) wants stands
-
-  -- ---- single lines
-
-  option_said : (text : ArrayVec ℕ) → request ≡ Cache (SetOption text) → (answer : OptionAnswer) → (applied kept.options text.items).answer ≡ answer → Here (Sent (option_text answer) ∷ []) On
-  option_said text is_option option_answer.Set is = only_reply reply_ok tt
-  option_said text is_option option_answer.Unknown is = failed [] code.UnknownOption Agent tt (option is_option is) tt
-  option_said text is_option option_answer.Parameter is = failed [] code.Parameter Agent tt (causes.IsMalformed.option (option is_option is)) tt
-  option_said text is_option option_answer.NotSupported is = failed [] code.NotSupported Agent tt (causes.IsUnsupported.option (option is_option is)) tt
-
-  info_reply : (what : Info) {text : List ℕ} → IsInfo rules what text → IsReply text
-  info_reply Version is = reply_cache is
-  info_reply Pid is = reply_cache is
-  info_reply S2kCount is = reply_cache is
-  info_reply Listed is = subst IsReply (sym is) reply_ok
-
-  comes_out : {text answer : List ℕ} {done went : Went} {turn : Turn} (step : MarkStep) → closes step ≡ None → IsReply text → IsLast done → ComesOut text done turn answer went
-      → StandIn (cache_turn step turn ∷ Sent answer ∷ []) whole → Here (cache_turn step turn ∷ Sent answer ∷ []) went
-  comes_out asked keeps reply last exchanges.done stands = replied (_ ∷ []) _ (tt, tt) reply last
-  comes_out asked keeps reply last (exchanges.interrupted {code = why} is) stands = failed (_ ∷ []) why Agent (tt, tt) (interrupts asked keeps is stands) tt
-
-  one_turn : {command : CacheCommand} {step : MarkStep} {text answer : List ℕ} {turn : Turn} {done went : Went} → IsOneTurn rules command step text done → ComesOut text done turn answer went
-      → StandIn (cache_turn step turn ∷ Sent answer ∷ []) whole → Here (cache_turn step turn ∷ Sent answer ∷ []) went
-  one_turn (exchanges.preset allowed) comes stands = comes_out _ refl reply_ok tt comes stands
-  one_turn exchanges.clear comes stands = comes_out _ refl reply_ok tt comes stands
-  one_turn exchanges.reload comes stands = comes_out _ refl reply_ok tt comes stands
-  one_turn exchanges.kill comes stands = comes_out _ refl reply_closing tt comes stands
-
-  unconfirmed : (description : ArrayVec ℕ) → request ≡ Cache (GetConfirmation description) → (way : PinMode) → kept.options.mode ≡ way → (why : Code) → refusal_of way ≡ Some why → CausedHere why Agent
-  unconfirmed description is mode.Ask same why refusal = absurd (cc refusal)
-  unconfirmed description is mode.Cancel same why refusal = let code_is : code.Cancelled ≡ why = cc in subst (λ c. CausedHere c Agent) code_is (by_mode same (HasNoEntry.of_consent (confirmation is)))
-  unconfirmed description is mode.Error same why refusal = let code_is : code.NoPinentry ≡ why = cc in subst (λ c. CausedHere c Agent) code_is (inl (by_mode same (HasNoEntry.of_consent (confirmation is))))
-  unconfirmed description is mode.Loopback same why refusal = let code_is : code.NoPinentry ≡ why = cc in subst (λ c. CausedHere c Agent) code_is (inl (IsUnprompted.of_consent (confirmation is) same))
+  exchange_explained : {part : Part CacheReply} → ExplainsHere part Answers → {events : List (Event FurtherEvent)} {after : OptionValues} {went : Went}
+      → AnyExchange refusal_line went_after part kept.options events after went → StandIn events whole → Here events went
+  exchange_explained explains (exchange.answered events held reply does closes) stands = in_exchange explains does closes (λ good. replied [] reply.text tt good.0 good.1) stands
+  exchange_explained explains (exchange.refused events held why does closes) stands = in_exchange explains does closes (λ caused. refusal_explained why caused) stands
 
 module _ (rules : Rules) (kept : Kept) (whole : List (Event FurtherEvent)) where
-  pub cache_explained : (request : Request) {events : List (Event FurtherEvent)} {after : OptionValues} {went : Went} → ((why : Code) → IsRefusedBy request why → IsCaused whole rules kept request why Agent)
+  pub cache_explained : (request : Request) {events : List (Event FurtherEvent)} (after : OptionValues) {went : Went} → ((why : Code) → IsRefusedBy request why → IsCaused whole rules kept request why origin.Agent)
       → Exchange rules kept.options request events after went → StandIn events whole → Explained whole (IsCaused whole rules kept request) events went
-  cache_explained request line_caused (exchanges.refused {code = why}) stands = failed [] why Agent tt (line_caused why (inl refl)) tt
-  cache_explained request line_caused exchanges.nop stands = only_reply rules kept whole request reply_ok tt
-  cache_explained request line_caused exchanges.reset stands = only_reply rules kept whole request reply_ok tt
-  cache_explained request line_caused exchanges.bye stands = only_reply rules kept whole request reply_closing tt
-  cache_explained request line_caused exchanges.help_given stands = only_reply rules kept whole request reply_help tt
-  cache_explained request line_caused (exchanges.option_applied {text}) stands = option_said rules kept whole request text refl (applied kept.options text.items).answer refl
-  cache_explained request line_caused exchanges.described stands = only_reply rules kept whole request reply_ok tt
-  cache_explained request line_caused (exchanges.info {what} is) stands = only_reply rules kept whole request (info_reply rules kept whole request what is) tt
-  cache_explained request line_caused (exchanges.quiet {fields} quiet looks) stands =
-      looks_first rules kept whole request fields.plain fields.id (Refuses code.NoData) looks stands
-      (λ first more none refuses stands_all. refusal_stands rules kept whole request fields refl quiet fields.id refl first more none refuses stands_all)
-  cache_explained request line_caused (exchanges.by_prompt {fields} spec asks texts_are mode_is is_spec by) stands = by_prompt rules kept whole request spec _ fields.plain by stands
-  cache_explained request line_caused (exchanges.without_prompt {fields} asks texts_are mode_is looks) stands =
-      looks_first rules kept whole request fields.plain fields.id (WithoutPrompt fields.plain fields.id kept.options.mode) looks stands
-      (λ first more none without stands_all. without_prompt rules kept whole request fields.plain fields.id kept.options.mode refl
-      (no_entry rules kept whole request fields refl fields.id refl first more none stands_all) without (stand_right first more stands_all))
-  cache_explained request line_caused (exchanges.not_allowed is) stands = failed [] code.NotSupported Agent tt (preset refl is) tt
-  cache_explained request line_caused (exchanges.with_data allowed comes) stands =
-      after_these whole (IsCaused whole rules kept request) (_ ∷ _ ∷ []) (secret_limit, (tt, tt)) (comes_out rules kept whole request _ refl reply_ok tt comes (stand_tail _ _ (stand_tail _ _ stands)))
-  cache_explained request line_caused (exchanges.without_data allowed without) stands = without_passphrase rules kept whole request without stands
-  cache_explained request line_caused (exchanges.confirmation spec mode_is is_spec wants) stands =
-      wants_prompt rules kept whole request (AsksConsent spec kept.options.notify) EndsConsent
-      (λ prompt shown answer keep events went asks in_session shown_stands ends. ends_consent rules kept whole request in_session shown_stands (consent_shows asks) ends) _ refl wants stands
-  cache_explained request line_caused (exchanges.unconfirmed {description} {code = why} refusal) stands = failed [] why Agent tt (unconfirmed rules kept whole request description refl kept.options.mode refl why refusal) tt
-  cache_explained request line_caused (exchanges.one_turn is comes) stands = one_turn rules kept whole request is comes stands
+  cache_explained (Cache asked) after line_caused exchanged stands = exchange_explained rules kept whole (Cache asked) (replies rules kept whole (Cache asked) asked refl) exchanged stands
+  cache_explained (Bad why) after line_caused exchanged stands =
+      exchange_explained rules kept whole (Bad why) (refused rules kept (Bad why) whole Answers (Agent why) (line_caused why (inl refl))) exchanged stands
+  cache_explained (Key line) after line_caused exchanged stands = absurd exchanged

@@ -77,11 +77,11 @@ module _ (rules : Rules) (before : Kept) where
   -- MARKTRUSTED, whose file is too long with its new entry
   module _ (fingerprint : Grip) (purpose : TrustPurpose) (name : ArrayVec ℕ) (file : List ℕ) (none : trust file fingerprint.0 ≡ None)
       (many : MAX_TRUST_FILE_LEN < length (with_entry file fingerprint.0 (flag_of purpose))) where
-    long_said : (events : List Event) (line : Option (List ℕ)) (result : _) → Marked rules before.options fingerprint purpose name.items events result
+    long_said : (events : List Event) (line : Option (List ℕ)) (result : _) → Marked rules before.options fingerprint purpose name.items None events result None
         → AllByRecursion Remembers events → IsReadAgain file (events ++ said_last line) → SaysBy refusal_line NoneOwed result code.TooMuch
     long_said [] line result does remembers again = absurd (none_again line again)
     long_said (first ∷ more) line result does remembers (read_again (read_trust is has)) =
-        marked_long fingerprint purpose rules before.options name.items (first ∷ more) result does remembers code.TooMuch first more refl
+        marked_long fingerprint purpose rules before.options name.items None (first ∷ more) result None does remembers code.TooMuch first more refl
         (decided_before (ByLong fingerprint purpose) more (said_last line) (said_free (ByLong fingerprint purpose) line) (record { event = _; has = has; decides = (file, is, (none, many, refl)) }))
 
     long_answered : {events : List Event} {went : Went} → TrustExchange rules before.options (MarkTrusted fingerprint purpose name) events went → AllByRecursion Remembers events → IsReadAgain file events

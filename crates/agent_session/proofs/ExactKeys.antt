@@ -18,8 +18,8 @@ use Rattle.key_commands.specs.Exchanges.{Exchange, answered, refused, Replies, H
 use Rattle.key_commands.specs.Exchanges.{wrap_key, StoresKey, FoundOrNew, RenewsPassphrase, RewritesFile, ChangesOpened}
 use Rattle.key_commands.specs.KeyParts.{HasOne, ReadsListed, TellsListed, WritesInfos}
 use Rattle.key_commands.specs.KeyParts as parts
-use Rattle.key_commands.specs.Parts.{Part, ◌>>=◌, Finds, refusal_events}
-use Rattle.agent_ask.specs.Parts.{Follows, goes_on, stops, Returns, needed, unless}
+use Rattle.key_commands.specs.Parts.{Part, Finds, refusal_events}
+use Rattle.agent_ask.specs.Parts.{◌>>=◌, Follows, goes_on, stops, Returns, needed, unless}
 use Rattle.agent_ask.specs.Parts as chain
 use Rattle.key_commands.specs.Parts as small
 use Rattle.key_commands.specs.Passphrases.{OldPassphrase, VerifiesPassphrase}

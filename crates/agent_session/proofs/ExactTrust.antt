@@ -275,28 +275,28 @@ module _ (fingerprint : Grip) (purpose : TrustPurpose) where
   stores_long file =
       bind ByLong NoneOwed (record { of = adds_long_of file }) (λ new. by_never ByLong NoneOwed (record { of = replaces_of ByLong (λ file answer why none. none) new }))
 
-  unless_long_of : (file : List ℕ) (said : Option Bool) → trust file fingerprint.0 ≡ said → {before after : Option ℕ} (events : List Event) (result : _) → unless_said said (Stores fingerprint purpose file) before events result after
+  unless_long_of : (file : List ℕ) (said : Option Bool) → trust file fingerprint.0 ≡ said → (before : Option ℕ) (events : List Event) (result : _) (after : Option ℕ) → unless_said said (Stores fingerprint purpose file) before events result after
       → AllByRecursion Remembers events → (why : Code) → IsLong file why ⊎ IsDecided ByLong events why → SaysBy refusal_line NoneOwed result why
-  unless_long_of file None is events result does remembers why due = (stores_long file).of events result does remembers why due
-  unless_long_of file (Some true) is events result chain.returns remembers why (inl long) = cc (is, long.0)
-  unless_long_of file (Some true) is events result chain.returns remembers why (inr decided) = never_decided ByLong [] tt decided
-  unless_long_of file (Some false) is events result chain.refuses remembers why (inl long) = absurd (cc (is, long.0))
-  unless_long_of file (Some false) is events result chain.refuses remembers why (inr decided) = absurd (never_decided ByLong [] tt decided)
+  unless_long_of file None is before events result after does remembers why due = (stores_long file).of events result does remembers why due
+  unless_long_of file (Some true) is before events result after chain.returns remembers why (inl long) = cc (is, long.0)
+  unless_long_of file (Some true) is before events result after chain.returns remembers why (inr decided) = never_decided ByLong [] tt decided
+  unless_long_of file (Some false) is before events result after chain.refuses remembers why (inl long) = absurd (cc (is, long.0))
+  unless_long_of file (Some false) is before events result after chain.refuses remembers why (inr decided) = absurd (never_decided ByLong [] tt decided)
 
   stores_unsaid_long : Heeds ByLong NoneDue (StoresUnsaid fingerprint purpose) NoneOwed
   unfolding StoresUnsaid
-  stores_unsaid_long = bind ByLong IsLong (record { of = long_of }) (λ file. record { of = unless_long_of file (trust file fingerprint.0) refl })
+  stores_unsaid_long = bind ByLong IsLong (record { of = long_of }) (λ file. record { of = λ {before} {after} events result. unless_long_of file (trust file fingerprint.0) refl before events result after })
 
   -- what decides MARKTRUSTED stands behind its first read
-  pub marked_long : (rules : Rules) (options : OptionValues) (name : List ℕ) {before after : Option ℕ} (events : List Event) (result : _) → Marked rules options fingerprint purpose name before events result after → AllByRecursion Remembers events
+  pub marked_long : (rules : Rules) (options : OptionValues) (name : List ℕ) (before : Option ℕ) (events : List Event) (result : _) (after : Option ℕ) → Marked rules options fingerprint purpose name before events result after → AllByRecursion Remembers events
       → (why : Code) (first : Event) (more : List Event) → events ≡ first ∷ more → IsDecided ByLong more why → SaysBy refusal_line NoneOwed result why
   unfolding Marked
-  marked_long rules options name events result (chain.goes_on {events = rest} {value = file} (parts.has_read is) does) remembers why first more same decided =
+  marked_long rules options name before events result after (chain.goes_on {events = rest} {value = file} (parts.has_read is) does) remembers why first more same decided =
       let rest_is : more ≡ rest = cc same in
       (unless_asked ByLong rules options fingerprint purpose name stores_unsaid_long (trust file fingerprint.0)).of rest result does remembers.1 why (inr (subst (λ m. IsDecided ByLong m why) rest_is decided))
-  marked_long rules options name events result (chain.stops parts.faulted) remembers why first more same decided =
+  marked_long rules options name before events result after (chain.stops parts.faulted) remembers why first more same decided =
       let none : more ≡ [] = cc same in absurd (never_decided ByLong [] tt (subst (λ m. IsDecided ByLong m why) none decided))
-  marked_long rules options name events result (chain.stops parts.no_memory) remembers why first more same decided =
+  marked_long rules options name before events result after (chain.stops parts.no_memory) remembers why first more same decided =
       let none : more ≡ [] = cc same in absurd (never_decided ByLong [] tt (subst (λ m. IsDecided ByLong m why) none decided))
 
 -- ---- the answer

@@ -1,6 +1,6 @@
 -- Requests that ask the cache alone, or clear it, at a desk that finds no memory only for steps that may want some.
 use Rattle.std.specs.List.{AllByRecursion}
-use Rattle.std.proofs.Common.{◌≡◌, ℕ, Bool, List, [], ◌∷◌, Option, refl, subst}
+use Rattle.std.proofs.Common.{◌≡◌, ℕ, Bool, List, [], ◌∷◌, Option, Some, None, refl, subst}
 use Rattle.std.specs.Prelude.{⊤}
 use Rattle.agent_ask.specs.Events.{Call}
 use Rattle.agent_ask.specs.Further.{FurtherEvent}
@@ -9,23 +9,24 @@ use Rattle.agent_ask.specs.Worlds.{Outside, Does}
 use Rattle.agent_ask.specs.Worlds as worlds
 use Rattle.agent_ports.specs.Leads.{Leads, none, one}
 use Rattle.assuan_server.specs.Reading.{Supply}
-use Rattle.session_client.specs.declared.code.Code.TheVariants as code
-use Rattle.cache_policy.specs.Turns.{Turn, Given, Empty, Refused, MayWantMemory}
+use Rattle.cache_policy.specs.Turns.{Turn, Late, Refused, FitsStep, MayWantMemory}
 use Rattle.cache_policy.specs.declared.mark.MarkStep.{MarkStep}
 use Rattle.cache_policy.specs.declared.mark.MarkStep.TheVariants.{Clear, Flush}
 use Rattle.agent_origin.specs.FurtherStates.{FurtherWorld}
 use Rattle.session_options.specs.OptionValues.{OptionValues}
 use Rattle.session_options.specs.declared.rules.Rules.{Rules}
 use Rattle.agent_commands.specs.Events.{Event}
-use Rattle.agent_commands.specs.Exchanges as exchanges
-use Rattle.agent_commands.specs.Exchanges.{Exchange, LooksFirst, Refuses, ask}
+use Rattle.agent_commands.specs.Exchanges.{Exchange}
+use Rattle.agent_commands.specs.Passphrases.{ask}
+use Rattle.agent_commands.specs.declared.request.CacheCommand.TheVariants.{GetPassphrase, ClearPassphrase, ReloadAgent}
 use Rattle.agent_commands.specs.declared.request.Request.{Request}
+use Rattle.agent_commands.specs.declared.request.Request.TheVariants.{Cache}
 use Rattle.agent_commands.specs.declared.went.Went.{Went}
-use Rattle.agent_session.specs.Completeness.{IsStopped}
+use Rattle.agent_session.specs.Completeness.{IsStopped, AnswersFromCache}
 use Rattle.agent_origin.specs.SessionExchanges.{RequestExchange, cache, keys}
 use Rattle.agent_session.specs.Refusals.{AnswersAlone}
 use Rattle.agent_origin.specs.declared.kept.Kept.{Kept}
-use Rattle.agent_session.proofs.AtOnce.{FitsTurn, IsCalm, done_is_answered, from_cache, not_quiet}
+use Rattle.agent_session.proofs.AtOnce.{FitsTurn, IsCalm, ByTurn, answers, interrupted, LooksAlone, not_interrupted, changed, looked}
 
 -- a turn finds no memory only where its step may want some
 abbrev pub IsFair : Event FurtherEvent → Type 0
@@ -77,41 +78,30 @@ module _ {D P : Type 0} (turned : D → MarkStep → Turn → D → Type 0) (pro
 turn_calm : (asked : MarkStep) (turn : Turn) → (MayWantMemory asked → ⊥) → IsFair (cache_turn asked turn) → (IsStopped (cache_turn asked turn) → ⊥) → IsCalm (cache_turn asked turn)
 turn_calm asked turn never fair still = ((λ wants. never (fair wants)), still)
 
-looks_calm : {plain : Bool} {id : Option (List ℕ)} {events : List (Event FurtherEvent)} {went : Went} → LooksFirst plain id (Refuses code.NoData) events went → IsFirstFair events
-    → AllByRecursion (λ event. ¬ IsStopped event) events → AllByRecursion IsCalm events
-looks_calm (exchanges.answered (exchanges.given {id} {grant} is)) fair still = (turn_calm (ask id) (Given grant) (λ wants. wants) fair still.0, (((λ wants. wants), (λ stopped. stopped)), tt))
-looks_calm (exchanges.answered (exchanges.interrupted {id} {turn} why)) fair still = (turn_calm (ask id) turn (λ wants. wants) fair still.0, (((λ wants. wants), (λ stopped. stopped)), tt))
-looks_calm (exchanges.goes_on exchanges.no_id exchanges.refused) fair still = (((λ wants. wants), (λ stopped. stopped)), tt)
-looks_calm (exchanges.goes_on (exchanges.empty {id}) exchanges.refused) fair still = (turn_calm (ask id) Empty (λ wants. wants) fair still.0, (((λ wants. wants), (λ stopped. stopped)), tt))
+-- an answer by a turn of a step that is never late, and wants no memory
+module _ (step : MarkStep) (unhurried : FitsStep step Late → ⊥) (never : MayWantMemory step → ⊥) where
+  turn_alone : {Answers : List (Event FurtherEvent) → Type 0} {events : List (Event FurtherEvent)} → ByTurn step Answers events → AllByRecursion FitsTurn events → IsFirstFair events
+      → AllByRecursion (λ event. ¬ IsStopped event) events → Answers events
+  turn_alone (answers is) fits fair still = is
+  turn_alone (interrupted {turn} why) fits fair still = absurd (not_interrupted step unhurried why fits.0 (turn_calm step turn never fair still.0))
+
+from_cache : (plain : Bool) (id : Option (List ℕ)) {events : List (Event FurtherEvent)} → LooksAlone plain id events → AllByRecursion FitsTurn events → IsFirstFair events
+    → AllByRecursion (λ event. ¬ IsStopped event) events → AnswersFromCache plain id events
+from_cache plain None looks fits fair still = looks
+from_cache plain (Some id) looks fits fair still = turn_alone (ask id) (λ late. absurd (cc late)) (λ wants. wants) looks fits fair still
 
 module _ (rules : Rules) where
-  cached_alone : {options after : OptionValues} (request : Request) {events : List (Event FurtherEvent)} {went : Went} → Exchange rules options request events after went → AllByRecursion FitsTurn events
+  cached_alone : (options after : OptionValues) (request : Request) (events : List (Event FurtherEvent)) (went : Went) → Exchange rules options request events after went → AllByRecursion FitsTurn events
       → IsFirstFair events → AllByRecursion (λ event. ¬ IsStopped event) events → AnswersAlone request events
-  cached_alone request exchanges.refused fits fair still = tt
-  cached_alone request exchanges.nop fits fair still = tt
-  cached_alone request exchanges.reset fits fair still = tt
-  cached_alone request exchanges.bye fits fair still = tt
-  cached_alone request exchanges.help_given fits fair still = tt
-  cached_alone request exchanges.option_applied fits fair still = tt
-  cached_alone request exchanges.described fits fair still = tt
-  cached_alone request (exchanges.info is) fits fair still = tt
-  cached_alone request (exchanges.quiet {fields} quiet looks) fits fair still = λ is_quiet. from_cache rules fields.plain fields.id looks fits (looks_calm looks fair still)
-  cached_alone request (exchanges.by_prompt {fields} spec asks texts_are mode_is is_spec by) fits fair still = λ quiet. absurd (not_quiet rules fields.no_ask fields.texts asks texts_are quiet)
-  cached_alone request (exchanges.without_prompt {fields} asks texts_are mode_is looks) fits fair still = λ quiet. absurd (not_quiet rules fields.no_ask fields.texts asks texts_are quiet)
-  cached_alone request (exchanges.not_allowed is) fits fair still = tt
-  cached_alone request (exchanges.with_data allowed comes) fits fair still = tt
-  cached_alone request (exchanges.without_data allowed without) fits fair still = tt
-  cached_alone request (exchanges.confirmation spec mode_is is_spec wants) fits fair still = tt
-  cached_alone request (exchanges.unconfirmed refusal) fits fair still = tt
-  cached_alone request (exchanges.one_turn (exchanges.preset allow) comes) fits fair still = tt
-  cached_alone request (exchanges.one_turn (exchanges.clear {id} {mode}) comes) fits fair still =
-      done_is_answered (Clear id mode) (λ late. absurd (cc late)) refl comes fits.0 (turn_calm (Clear id mode) _ (λ wants. wants) fair still.0)
-  cached_alone request (exchanges.one_turn exchanges.reload comes) fits fair still = done_is_answered Flush (λ late. absurd (cc late)) refl comes fits.0 (turn_calm Flush _ (λ wants. wants) fair still.0)
-  cached_alone request (exchanges.one_turn exchanges.kill comes) fits fair still = tt
+  cached_alone options after (Cache (GetPassphrase plain check no_ask repeat quality id texts)) events went exchange fits fair still =
+      λ quiet. from_cache plain id (looked rules options (record { plain = plain; check = check; no_ask = no_ask; repeat = repeat; quality = quality; id = id; texts = texts }) quiet exchange) fits fair still
+  cached_alone options after (Cache (ClearPassphrase id mode)) events went exchange fits fair still = turn_alone (Clear id mode) (λ late. absurd (cc late)) (λ wants. wants) (changed (Clear id mode) refl exchange) fits fair still
+  cached_alone options after (Cache ReloadAgent) events went exchange fits fair still = turn_alone Flush (λ late. absurd (cc late)) (λ wants. wants) (changed Flush refl exchange) fits fair still
+  cached_alone options after request events went exchange fits fair still = tt
 
   pub alone_first : {before after : Kept} (request : Request) {events : List (Event FurtherEvent)} {went : Went} → RequestExchange rules before request events after went → AllByRecursion FitsTurn events
       → IsFirstFair events → AllByRecursion (λ event. ¬ IsStopped event) events → AnswersAlone request events
-  alone_first request (cache exchange) fits fair still = cached_alone request exchange fits fair still
+  alone_first request (cache exchange) fits fair still = cached_alone _ _ request _ _ exchange fits fair still
   alone_first request (keys exchange) fits fair still = tt
 
   pub alone : {before after : Kept} (request : Request) {events : List (Event FurtherEvent)} {went : Went} → RequestExchange rules before request events after went → AllByRecursion FitsTurn events

@@ -22,8 +22,8 @@ use Rattle.key_commands.specs.Exchanges.{Exchange, ImportKeyReplies, StoresKey, 
 use Rattle.key_commands.specs.Exchanges as exchange
 use Rattle.key_commands.specs.KeyParts.{change_fault}
 use Rattle.key_commands.specs.KeyParts as parts
-use Rattle.key_commands.specs.Parts.{Part, ◌>>=◌, refusal_events}
-use Rattle.agent_ask.specs.Parts.{goes_on, stops, Returns}
+use Rattle.key_commands.specs.Parts.{Part, refusal_events}
+use Rattle.agent_ask.specs.Parts.{◌>>=◌, goes_on, stops, Returns}
 use Rattle.agent_ask.specs.TurnParts.{Closes}
 use Rattle.assuan_server.specs.Written.{refusal_line}
 use Rattle.agent_ask.specs.Parts as chain

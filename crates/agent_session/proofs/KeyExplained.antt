@@ -1,5 +1,5 @@
 -- What a session does for a line has one answer, and each error line in it its cause.
-use Rattle.std.proofs.Common.{◌≡◌, ℕ, List, [], Some, None, Ok, Err, refl, sym, subst}
+use Rattle.std.proofs.Common.{◌≡◌, ℕ, List, [], Option, Some, None, refl, sym, subst}
 use Rattle.agent_ask.specs.Further.{FurtherEvent, Keys, Replaced}
 use Rattle.agent_ask.specs.SessionEvents.{Further}
 use Rattle.agent_ports.specs.declared.grip.Grip.{Grip}
@@ -8,83 +8,60 @@ use Rattle.session_client.specs.declared.code.Code.{Code}
 use Rattle.session_client.specs.declared.code.Code.TheVariants as code
 use Rattle.assuan_server.specs.declared.errors.Origin.{Origin}
 use Rattle.assuan_server.specs.declared.errors.Origin.TheVariants as origin
-use Rattle.session_client.specs.declared.unheard.Gone.TheVariants as gone
-use Rattle.session_client.specs.declared.unheard.Unheard.{Unheard}
-use Rattle.session_client.specs.declared.unheard.Unheard.TheVariants as unheard
+use Rattle.session_client.specs.declared.unheard.Gone.{Gone}
 use Rattle.session_options.specs.declared.rules.Rules.{Rules}
 use Rattle.agent_commands.specs.Endings.{went_after}
 use Rattle.agent_commands.specs.Events.{Event}
-use Rattle.session_client.specs.Asking.{gone_of}
+use Rattle.session_client.specs.Refusals.{gone_by}
 use Rattle.agent_commands.specs.Requests.{request_of}
 use Rattle.agent_commands.specs.declared.request.Request.{Request}
 use Rattle.agent_commands.specs.declared.went.Went.{Went}
 use Rattle.agent_commands.specs.declared.went.Went.TheVariants.{On}
 use Rattle.key_commands.specs.Exchanges.{Exchange, answered, refused}
-use Rattle.key_commands.specs.Parts.{refusal_events, refusal_went}
+use Rattle.key_commands.specs.Parts.{refusal_events, refusal_went, went_after as key_went}
 use Rattle.session_client.specs.declared.refusal.Refusal.{Refusal}
-use Rattle.session_client.specs.declared.refusal.Refusal.TheVariants.{Agent, Pinentry, Client}
 use Rattle.key_commands.specs.declared.request.KeyRequest.{KeyRequest}
 use Rattle.key_commands.specs.declared.went.KeyWent.{KeyWent}
 use Rattle.key_commands.specs.declared.wrap_keys.WrapKeys.{WrapKeys}
-use Rattle.agent_session.specs.Causes.{Has, StandIn, IsCaused, IsRefusedBy, on_keys, IsSaid}
+use Rattle.agent_session.specs.Causes.{Has, StandIn, IsCaused, IsRefusedBy, on_keys}
 use Rattle.agent_session.specs.Completeness.{CausedInSession, HasError}
 use Rattle.agent_origin.specs.SessionExchanges.{RequestExchange, cache, keys, SessionExchange, went_after_key}
 use Rattle.agent_origin.specs.declared.kept.Kept.{Kept}
-use Rattle.agent_session.proofs.CacheRequests.{cache_explained, unheard_explained as cached_unheard_explained}
-use Rattle.agent_session.proofs.Explained.{Explained, replied, failed, silent, after_these, is_answered, is_caused, goes_on, went_on}
-use Rattle.agent_session.proofs.Explaining.{CausedRefusal, ClientSays, cut, client_said, Comes, Anything, closes_of}
-use Rattle.agent_session.proofs.KeyRequests.{Replied, replies}
+use Rattle.agent_session.proofs.CacheRequests.{cache_explained, in_exchange, refusal_explained}
+use Rattle.agent_session.proofs.Explained.{Explained, replied, is_answered, is_caused, goes_on, went_on}
+use Rattle.agent_session.proofs.KeyRequests.{replies}
 use Rattle.agent_session.proofs.LineFaults.{line_caused}
-use Rattle.agent_session.proofs.Standing.{stand_all, stand_left, stand_right}
+use Rattle.agent_session.proofs.Standing.{stand_all}
 
 -- a file that is replaced needn't be there
 abbrev pub NeverAbsent : List (Event FurtherEvent) → Type 0
 NeverAbsent events = (grip : Grip) (file : List ℕ) → Has (Further (Keys (Replaced grip file key_done.Absent))) events → ⊥
 
 -- a session goes on so after a request on keys as after any other
-went_of_unheard : (why : Unheard) → went_after_key (refusal_went (Client why)) ≡ went_after (gone_of why)
-went_of_unheard unheard.Cancelled = refl
-went_of_unheard unheard.TooMuch = refl
-went_of_unheard unheard.Unexpected = refl
-went_of_unheard (unheard.Gone gone.Ended) = refl
-went_of_unheard (unheard.Gone gone.TooLong) = refl
-went_of_unheard (unheard.Gone gone.Spent) = refl
-went_of_unheard (unheard.Gone gone.ReadFault) = refl
-went_of_unheard (unheard.Gone gone.WriteFault) = refl
+went_of_refusal : (why : Refusal) → went_after_key (refusal_went why) ≡ went_after (gone_by why)
+went_of_refusal why = went_of (gone_by why)
+  where
+    went_of : (how : Option Gone) → went_after_key (key_went how) ≡ went_after how
+    went_of None = refl
+    went_of (Some how) = refl
 
 module _ (rules : Rules) (kept : Kept) (request : Request) (whole : List (Event FurtherEvent)) where
   abbrev Here : List (Event FurtherEvent) → Went → Type 0
   Here = Explained whole (IsCaused whole rules kept request)
 
-  unheard_explained : (why : Unheard) → IsSaid whole why → Here (refusal_events (Client why)) (went_after_key (refusal_went (Client why)))
-  unheard_explained why is = subst (Here (refusal_events (Client why))) (sym (went_of_unheard why)) (cached_unheard_explained rules kept whole request why is)
-
-  client_explained : (why : Unheard) → ClientSays rules kept request whole why → Here (refusal_events (Client why)) (went_after_key (refusal_went (Client why)))
-  client_explained why cut = silent tt tt
-  client_explained why (client_said is) = unheard_explained why is
-
-  refusal_explained : (why : Refusal) → CausedRefusal rules kept request whole why → Here (refusal_events why) (went_after_key (refusal_went why))
-  refusal_explained (Agent why) caused = failed [] why origin.Agent tt caused tt
-  refusal_explained (Pinentry why) caused = failed [] why origin.Pinentry tt caused tt
-  refusal_explained (Client why) says = client_explained why says
-
   module _ (line_caused : (why : Code) → IsRefusedBy request why → IsCaused whole rules kept request why origin.Agent) (never_absent : NeverAbsent whole) where
     keys_explained : (asked : KeyRequest) → on_keys request ≡ Some asked → {events : List (Event FurtherEvent)} {after : WrapKeys} {went : KeyWent}
         → Exchange rules kept.options kept.wraps asked events after went → StandIn events whole → Here events (went_after_key went)
-    keys_explained asked is (answered events held reply {back} does closes) stands =
-        let part : Comes rules kept request whole (Replied rules kept request whole) events (Ok reply) =
-        (replies rules kept request whole never_absent line_caused asked is).of None events (Ok reply) held does (stand_left events _ stands) in
-        let close : Comes rules kept request whole Anything back (Ok tt) = closes_of rules kept request whole None held back (Ok tt) None closes (stand_left back _ (stand_right events _ stands)) in
-        after_these _ _ events part.silent (after_these _ _ back close.silent (replied [] reply.text tt part.explained tt))
-    keys_explained asked is (refused events held why {back} does closes) stands =
-        let part : Comes rules kept request whole (Replied rules kept request whole) events (Err why) = (replies rules kept request whole never_absent line_caused asked is).of None events (Err why) held does (stand_left events _ stands) in
-        let close : Comes rules kept request whole Anything back (Ok tt) = closes_of rules kept request whole None held back (Ok tt) None closes (stand_left back _ (stand_right events _ stands)) in
-        after_these _ _ events part.silent (after_these _ _ back close.silent (refusal_explained why part.explained))
+    keys_explained asked is (answered events held reply does closes) stands =
+        in_exchange rules kept whole request (replies rules kept request whole never_absent line_caused asked is) does closes (λ good. replied [] reply.text tt good tt) stands
+    keys_explained asked is (refused events held why does closes) stands =
+        in_exchange rules kept whole request (replies rules kept request whole never_absent line_caused asked is) does closes
+        (λ caused. subst (Here (refusal_events why)) (sym (went_of_refusal why)) (refusal_explained rules kept whole request why caused)) stands
 
 request_explained : (rules : Rules) (kept : Kept) (request : Request) (whole : List (Event FurtherEvent)) {events : List (Event FurtherEvent)} {after : Kept} {went : Went}
     → ((why : Code) → IsRefusedBy request why → IsCaused whole rules kept request why origin.Agent) → NeverAbsent whole → RequestExchange rules kept request events after went → StandIn events whole
     → Explained whole (IsCaused whole rules kept request) events went
-request_explained rules kept request whole caused never_absent (cache exchange) stands = cache_explained rules kept whole request caused exchange stands
+request_explained rules kept request whole caused never_absent (cache exchange) stands = cache_explained rules kept whole request _ caused exchange stands
 request_explained rules kept request whole caused never_absent (keys exchange) stands = keys_explained rules kept request whole caused never_absent _ refl exchange stands
 
 pub exchange_caused : (rules : Rules) (kept : Kept) (line : List ℕ) {events : List (Event FurtherEvent)} {after : Kept} {went : Went} → NeverAbsent events → SessionExchange rules kept line events after went

@@ -214,7 +214,7 @@ module _ (request : Request) where
   new_nonce_of id names prior before events result after (turning.interrupted why) fits = (((λ hands. elim hands [ ]), tt), refl, tt)
 
   no_nonce_of : (prior : List (Event FurtherEvent)) (before : Option ℕ) (events : List (Event FurtherEvent)) (result : Result (Option (List ℕ)) Refusal) (after : Option ℕ)
-      → small.Returns None before events result after → Fit events → AllByRecursion IsQuiet events × (after ≡ before) × HoldsOf (λ found. FoundNew found (prior ++ events)) result
+      → chain.Returns None before events result after → Fit events → AllByRecursion IsQuiet events × (after ≡ before) × HoldsOf (λ found. FoundNew found (prior ++ events)) result
   no_nonce_of prior before events result after chain.returns fits = (tt, refl, tt)
 
   pub new_nonce_quiet : (id : Option (List ℕ)) → ((nonce : List ℕ) → id ≡ Some nonce → NamesNew request nonce) → QuietWith (LooksForNonce id) FoundNew
@@ -234,7 +234,7 @@ module _ (request : Request) where
   looks_over_quiet id names = record { of = looks_over_of id names }
 
 no_look_of : (before : Option ℕ) (events : List (Event FurtherEvent)) (result : Result (Option (List ℕ)) Refusal) (after : Option ℕ)
-    → small.Returns None before events result after → Fit events → AllByRecursion IsQuiet events × (after ≡ before)
+    → chain.Returns None before events result after → Fit events → AllByRecursion IsQuiet events × (after ≡ before)
 no_look_of before events result after chain.returns fits = (tt, refl)
 
 pub looks_for_nonce_quiet : (id : Option (List ℕ)) → Quiet (LooksForNonce id)

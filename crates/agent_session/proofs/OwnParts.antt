@@ -10,8 +10,8 @@ use Rattle.cache_policy.specs.declared.mark.MarkStep.TheVariants.{Close}
 use Rattle.agent_commands.specs.Events.{Event}
 use Rattle.agent_commands.specs.declared.request.Request.{Request}
 use Rattle.session_client.specs.declared.code.Code.{Code}
-use Rattle.key_commands.specs.Parts.{Part, ◌>>=◌}
-use Rattle.agent_ask.specs.Parts.{Follows, goes_on, stops, Returns, returns, Refuses, needed, wanted}
+use Rattle.key_commands.specs.Parts.{Part}
+use Rattle.agent_ask.specs.Parts.{◌>>=◌, Follows, goes_on, stops, Returns, returns, Refuses, needed, wanted}
 use Rattle.agent_ask.specs.Parts as chain
 use Rattle.session_client.specs.declared.refusal.Refusal.{Refusal}
 use Rattle.session_client.specs.declared.refusal.Refusal.TheVariants.{Agent}

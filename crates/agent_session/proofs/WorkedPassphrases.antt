@@ -54,6 +54,7 @@ use Rattle.key_commands.specs.Exchanges.{ImportKeyReplies}
 use Rattle.key_commands.specs.KeyParts as parts
 use Rattle.key_commands.specs.KeyParts.{max_key_data}
 use Rattle.key_commands.specs.Lines.{limit_line}
+use Rattle.agent_ask.specs.Interrupts as interrupts
 use Rattle.agent_ask.specs.TurnParts as turning
 use Rattle.key_commands.specs.Parts as small
 use Rattle.agent_ask.specs.Parts.{goes_on, stops, returns}
@@ -156,7 +157,7 @@ module _ (rules : Rules) (kept : Kept) (allowed : rules.allow_preset ≡ true) (
   refused = cache_turn (put id life pass) Refused ∷ Sent (failed code.NoMemory) ∷ []
 
   refused_exchange : SessionExchange rules kept line refused kept On
-  refused_exchange = subst (λ r. RequestExchange rules kept r refused kept On) (sym says) (cache (exchanges.one_turn (exchanges.IsOneTurn.preset allowed) (exchanges.ComesOut.interrupted exchanges.Interrupts.refused)))
+  refused_exchange = subst (λ r. RequestExchange rules kept r refused kept On) (sym says) (cache (exchanges.one_turn (exchanges.IsOneTurn.preset allowed) (exchanges.ComesOut.interrupted interrupts.refused)))
 
   refused_goes_on : On ≡ On
   refused_goes_on = exchange_goes_on rules kept line none_absent refused_exchange code.NoMemory OfAgent (later here) (λ is. cc is)
@@ -187,4 +188,4 @@ module _ (rules : Rules) (options : OptionValues) (wrap wrapped : List ℕ) (key
 
   -- the passphrase stays under the nonce, and nothing is kept for the key
   import_stores : ImportCourse (imports ++ Sent (failed code.General) ∷ [])
-  import_stores = import_exchange rules options wraps (on.ImportKey true (Some nonce)) refl (key_exchange.Exchange.refused imports None (Agent code.General) import_fails small.Closes.unheld)
+  import_stores = import_exchange rules options wraps (on.ImportKey true (Some nonce)) refl (key_exchange.Exchange.refused imports None (Agent code.General) import_fails turning.unheld)

@@ -1,8 +1,21 @@
-use Rattle.std.proofs.Common.{◌≡◌, true, false, Some, sym, ◌∙◌, refl}
+use Rattle.std.proofs.Common.{◌≡◌, ℕ, Bool, true, false, List, Option, Some, sym, ◌∙◌, refl}
 use Rattle.agent_commands.specs.Exchanges.{is_quiet}
+use Rattle.agent_commands.specs.Requests.{GetFields}
+use Rattle.agent_commands.specs.declared.request.Texts.{Texts}
 use Rattle.agent_commands.proofs.Carrying.{beside_desk, found_by_cache, asked_cache, wanted_else}
 use Rattle.agent_commands.proofs.passphrase.get_passphrase.Goals as goal
 use Rattle.agent_commands.proofs.passphrase.get_passphrase.Goals.{in_default-texts-via-in-Some+else-not-no_ask, in_default-texts-via-in_default-texts}
+
+abbrev fields : Bool → Bool → Bool → ℕ → Bool → Option (List ℕ) → Option Texts → GetFields
+fields plain check no_ask repeat quality id texts = record {
+  plain = plain;
+  check = check;
+  no_ask = no_ask;
+  repeat = repeat;
+  quality = quality;
+  id = id;
+  texts = texts;
+}
 
 pub returns-in-Ask-clause-comes : goal.returns-in-Ask-clause-comes
 returns-in-Ask-clause-comes g c =
@@ -12,7 +25,7 @@ pub returns-in_default-mode-clause-comes : goal.returns-in_default-mode-clause-c
 returns-in_default-mode-clause-comes g c =
     rw (c.in-GetPassphrase.is, c.in-Some.is, c.if-not-no_ask.true, c.requires.none, ← c.mode.ensures)
     (wanted_else c.args.rules.now c.args.options.now
-    (record { plain = c.in-GetPassphrase.plain; check = c.in-GetPassphrase.check; no_ask = false; repeat = c.in-GetPassphrase.repeat; quality = c.in-GetPassphrase.quality; id = c.in-GetPassphrase.id; texts = Some c.in-Some.texts }) _ c.mode.result c.in_default-mode.not-Ask
+    (fields c.in-GetPassphrase.plain c.in-GetPassphrase.check false c.in-GetPassphrase.repeat c.in-GetPassphrase.quality c.in-GetPassphrase.id (Some c.in-Some.texts)) _ c.mode.result c.in_default-mode.not-Ask
     (beside_desk g.D.Desk.turned g.P.Prompter.prompted c.args.prompter.now c.without_prompt.ensures.comes))
 
 pub returns-in_default-texts-clause-comes : goal.returns-in_default-texts-clause-comes
@@ -24,5 +37,5 @@ returns-in_default-texts-clause-comes g c =
     ] in
     rw (c.in-GetPassphrase.is, c.requires.none)
     (asked_cache c.args.rules.now c.args.options.now
-    (record { plain = c.in-GetPassphrase.plain; check = c.in-GetPassphrase.check; no_ask = c.in-GetPassphrase.no_ask; repeat = c.in-GetPassphrase.repeat; quality = c.in-GetPassphrase.quality; id = c.in-GetPassphrase.id; texts = c.in-GetPassphrase.texts }) c.in-GetPassphrase.no_ask c.in-GetPassphrase.texts quiets
+    (fields c.in-GetPassphrase.plain c.in-GetPassphrase.check c.in-GetPassphrase.no_ask c.in-GetPassphrase.repeat c.in-GetPassphrase.quality c.in-GetPassphrase.id (c.in-GetPassphrase.texts)) c.in-GetPassphrase.no_ask c.in-GetPassphrase.texts quiets
     (beside_desk g.D.Desk.turned g.P.Prompter.prompted c.args.prompter.now (found_by_cache g.D.Desk.turned c.args.conn.now c.requires.open c.in-GetPassphrase.id c.by_cache.result c.by_cache.ensures.turn)))
