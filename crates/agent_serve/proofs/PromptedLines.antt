@@ -1,42 +1,51 @@
 -- Lines of a session, at either door, in whose exchanges the prompter's calls are those of prompts, one after another.
 use Rattle.std.specs.List.{AllByRecursion}
-use Rattle.std.proofs.Common.{ℕ, Bool, true, false, List, [], ◌∷◌, ◌++◌, Option, Some, None}
-use Rattle.std.specs.Prelude.{⊤}
-use Rattle.agent_ask.specs.Consents.{AsksConsent}
-use Rattle.agent_ask.specs.Events.{PromptEvent}
-use Rattle.agent_ask.specs.Failing.{fails}
-use Rattle.agent_ask.specs.Prompts.{AsksPin}
-use Rattle.agent_ask.specs.SessionEvents.{Sent, cache_turn}
-use Rattle.agent_ask.specs.UnderTickets.{Prompts, AsksOnce, EndsOnce, none as no_more, next, asked as asked_under}
-use Rattle.agent_ask.specs.declared.ask.Asked.{Asked as Answer}
-use Rattle.agent_ask.specs.declared.consent.Agreed.{Agreed}
+use Rattle.std.proofs.Common.{ℕ, Bool, true, false, List, [], ◌∷◌, codes, Option, Some, None, Result, Ok, Err}
+use Rattle.arrayvec.specs.ArrayVec.{ArrayVec}
+use Rattle.agent_ask.specs.ClientParts.{Writes, Inquires}
+use Rattle.agent_ask.specs.ClientParts as client
+use Rattle.agent_ask.specs.PartExchanges.{AnyExchange}
+use Rattle.agent_ask.specs.PartExchanges as whole
+use Rattle.agent_ask.specs.SessionEvents.{cache_turn}
+use Rattle.agent_ask.specs.TurnParts.{Changes}
 use Rattle.assuan_server.specs.Clients.{session_lines}
+use Rattle.assuan_server.specs.Written.{refusal_line}
 use Rattle.session_client.specs.declared.code.Code.TheVariants as code
+use Rattle.session_client.specs.declared.refusal.Refusal.{Refusal}
+use Rattle.session_client.specs.declared.refusal.Refusal.TheVariants.{Agent}
+use Rattle.cache_policy.specs.declared.life.Life.{Life}
 use Rattle.cache_policy.specs.declared.mark.MarkStep.{MarkStep}
-use Rattle.cache_policy.specs.declared.mark.MarkStep.TheVariants.{Close, Seat}
-use Rattle.session_client.specs.declared.unheard.Unheard.{Unheard}
-use Rattle.session_options.specs.OptionValues.{OptionValues}
+use Rattle.cache_policy.specs.declared.mark.MarkStep.TheVariants.{Close}
+use Rattle.cache_policy.specs.declared.secret.TheConstants.{MAX_SECRET_LEN}
+use Rattle.session_options.specs.OptionValues.{OptionValues, applied}
+use Rattle.session_options.specs.declared.options.OptionAnswer.{OptionAnswer}
+use Rattle.session_options.specs.declared.options.OptionAnswer.TheVariants.{Set, Unknown, Parameter, NotSupported}
 use Rattle.session_options.specs.declared.options.PinMode.{PinMode}
 use Rattle.session_options.specs.declared.options.PinMode.TheVariants as mode
 use Rattle.session_options.specs.declared.rules.Rules.{Rules}
+use Rattle.agent_commands.specs.Endings.{went_after}
+use Rattle.agent_commands.specs.Exchanges.{Exchange, CacheReply, TellsPassphrase, TellsInfo, option_replies, confirms_by, GetReplies, PresetReplies, Replies}
 use Rattle.agent_commands.specs.Exchanges as exchanges
-use Rattle.agent_commands.specs.Exchanges.{Exchange, Fails, WithoutPassphrase, Looks, LooksFirst, Refuses, Keeps, WithoutPrompt, EndsPin, EndsConsent, WantsPrompt, ByPrompt}
-use Rattle.agent_commands.specs.Prompting.{UnderTicket}
+use Rattle.agent_commands.specs.Parts.{Part as CacheParts, limit_line, AsksPassphrase}
+use Rattle.agent_commands.specs.Passphrases.{Looks, LooksFor, WantsPrompt, KeepsUnder, ByCache, ByClient, Uncached, WithoutPrompt, PromptsAny, ByUser, as_wanted, passphrase_by}
+use Rattle.agent_commands.specs.Passphrases as passphrases
+use Rattle.agent_commands.specs.Requests.{GetFields}
+use Rattle.agent_commands.specs.declared.request.CacheCommand.{CacheCommand}
+use Rattle.agent_commands.specs.declared.request.CacheCommand.TheVariants.{Nop, Reset, Bye, Help, SetOption, GetInfo, GetPassphrase, PresetPassphrase, ClearPassphrase, GetConfirmation, ReloadAgent, KillAgent, SetKeyDesc}
+use Rattle.agent_commands.specs.declared.request.Info.{Info}
 use Rattle.agent_commands.specs.declared.request.Request.{Request}
+use Rattle.agent_commands.specs.declared.request.Request.TheVariants.{Cache, Key as KeyLine, Bad as BadLine}
+use Rattle.agent_commands.specs.declared.request.Texts.{Texts}
 use Rattle.agent_commands.specs.declared.went.Went.{Went}
 use Rattle.agent_ports.specs.declared.grip.Grip.{Grip}
 use Rattle.key_commands.specs.Events.{Event}
-use Rattle.key_commands.proofs.EachEvent.{each_append}
+use Rattle.key_commands.specs.Parts.{Part}
+use Rattle.key_commands.proofs.EachEvent.{EachSo, each_bind, each_returned, each_refused, each_needed, each_otherwise, each_wanted, each_looks, each_seats, each_changes, each_closes}
 use Rattle.agent_origin.specs.DoorSessions.{AllowedExchange, DoorExchange}
 use Rattle.agent_origin.specs.DoorSessions as door
 use Rattle.agent_origin.specs.Exchanges.{TrustedNow, Stores, StoresUnsaid, Consented, Marked, Carried, TrustExchange, unless_said, asked_in, flag_of, trust_question, fingerprint_question}
 use Rattle.agent_origin.specs.Exchanges as trusting
 use Rattle.agent_origin.specs.Parts as trusts
-use Rattle.agent_ask.specs.ConsentParts as consent
-use Rattle.agent_ask.specs.Parts as chain
-use Rattle.agent_ask.specs.TurnParts as turning
-use Rattle.assuan_server.specs.Written.{refusal_line}
-use Rattle.key_commands.specs.Parts.{Part}
 use Rattle.agent_origin.specs.SessionExchanges.{RequestExchange, cache, keys}
 use Rattle.agent_origin.specs.declared.door.Door.{Door}
 use Rattle.agent_origin.specs.declared.kept.Kept.{Kept}
@@ -44,197 +53,205 @@ use Rattle.agent_origin.specs.declared.request.TrustPurpose.{TrustPurpose}
 use Rattle.agent_origin.specs.declared.request.TrustRequest.{TrustRequest}
 use Rattle.agent_origin.specs.declared.request.TrustRequest.TheVariants.{IsTrusted, MarkTrusted, Bad}
 use Rattle.trust_list.specs.Trust.{trust}
-use Rattle.agent_serve.proofs.OnePrompt.{calls_of, pin_is_one, consent_is_one}
-use Rattle.agent_serve.proofs.PromptedParts.{Prompted, prompted_append, IsUncalled, uncalled, said_uncalled, shown_prompted, key_prompted}
-use Rattle.pinentry_client.specs.Whole.{IsOnePrompt}
+use Rattle.agent_serve.proofs.OnePrompt.{pin_is_one}
+use Rattle.agent_serve.proofs.PromptedParts.{Prompted, PromptedSo, prompted_append, IsUncalled, uncalled, uncalled_so, said_uncalled, shown_prompted, key_prompted, bind, behind, before_it, otherwise, ends_so, agrees_to, seated_agrees}
 
 abbrev Uncalled : List Event → Type 0
 Uncalled events = AllByRecursion IsUncalled events
 
 -- ---- requests on the cache
 
-fails_so : {why : Unheard} {events : List Event} {went : Went} → Fails why events went → Uncalled events
-fails_so {why} fails = said_uncalled (session_lines.refusal why)
+tells_of : {plain : Bool} {secret : List ℕ} (before : Option ℕ) (events : List Event) (result : Result (List ℕ) Refusal) (after : Option ℕ) → TellsPassphrase plain secret before events result after → Uncalled events
+tells_of before events result after (exchanges.tells is) = tt
 
-without_passphrase : {events : List Event} {went : Went} → WithoutPassphrase events went → Uncalled events
-without_passphrase (exchanges.no_data says fails) = (tt, (tt, fails_so fails))
-without_passphrase (exchanges.limit_cut unsent is) = (tt, tt)
+info_of : {rules : Rules} {what : Info} (before : Option ℕ) (events : List Event) (result : Result (List ℕ) Refusal) (after : Option ℕ) → TellsInfo rules what before events result after → Uncalled events
+info_of before events result after (exchanges.tells is) = tt
 
-looks_so : {plain : Bool} {id : Option (List ℕ)} {first : List Event} {said : Option (List ℕ)} → Looks plain id first said → Uncalled first
-looks_so exchanges.no_id = tt
-looks_so exchanges.empty = (tt, tt)
-looks_so (exchanges.given is) = (tt, tt)
-looks_so (exchanges.interrupted why) = (tt, tt)
+writes_of : (text : List ℕ) (before : Option ℕ) (events : List Event) (result : Result (Unit {0}) Refusal) (after : Option ℕ) → Writes text before events result after → Uncalled events
+writes_of text before events result after client.written = (tt, tt)
+writes_of text before events result after (client.cut unsent is) = (tt, tt)
 
-looks_first : {plain : Bool} {id : Option (List ℕ)} {Otherwise : List Event → Went → Type 0} {events : List Event} {went : Went} → LooksFirst plain id Otherwise events went
-    → ((more : List Event) (after : Went) → Otherwise more after → Uncalled more) → Uncalled events
-looks_first (exchanges.answered {first} {text} looks) other = each_append IsUncalled first (Sent text ∷ []) (looks_so looks) (tt, tt)
-looks_first (exchanges.goes_on {first} {events = more} {went} looks otherwise) other = each_append IsUncalled first more (looks_so looks) (other more went otherwise)
+inquires_of : (word : List ℕ) (limit : ℕ) (before : Option ℕ) (events : List Event) (result : Result (List ℕ) Refusal) (after : Option ℕ) → Inquires session_lines word limit before events result after → Uncalled events
+inquires_of word limit before events result after (client.given is) = (tt, tt)
+inquires_of word limit before events result after (client.not_given is) = (tt, tt)
 
-refuses_so : {more : List Event} {after : Went} → Refuses code.NoData more after → Uncalled more
-refuses_so exchanges.refused = (tt, tt)
+asks_passphrase : EachSo IsUncalled AsksPassphrase
+asks_passphrase = each_bind IsUncalled (record { of = writes_of limit_line }) (λ wrote. record { of = inquires_of (codes "PASSPHRASE") MAX_SECRET_LEN })
 
-keeps_so : {plain : Bool} {secret : List ℕ} {id : Option (List ℕ)} {events : List Event} {went : Went} → Keeps plain secret id events went → Uncalled events
-keeps_so (exchanges.unkept is) = (tt, tt)
-keeps_so (exchanges.kept is) = (tt, (tt, tt))
-keeps_so (exchanges.interrupted why) = (tt, (tt, tt))
+changes : {step : MarkStep} → EachSo IsUncalled (Changes step)
+changes = each_changes IsUncalled (λ turn. tt)
 
-without_prompt : {plain : Bool} {id : Option (List ℕ)} {way : PinMode} {events : List Event} {went : Went} → WithoutPrompt plain id way events went → Uncalled events
-without_prompt exchanges.cancelled = (tt, tt)
-without_prompt exchanges.no_pinentry = (tt, tt)
-without_prompt (exchanges.with_data keeps) = (tt, (tt, keeps_so keeps))
-without_prompt (exchanges.without_data without) = without_passphrase without
+looks_of : {step : MarkStep} (before : Option ℕ) (events : List Event) (result : Result (Option (List ℕ)) Refusal) (after : Option ℕ) → Looks step before events result after → Uncalled events
+looks_of before events result after looked = (each_looks IsUncalled (λ turn. tt)).of before events result after looked.asks
 
-ends_pin : {plain : Bool} {end : Answer} {keep : Option (List ℕ)} {events : List Event} {went : Went} → EndsPin plain end keep events went → Uncalled events
-ends_pin (exchanges.pin is) = (tt, tt)
-ends_pin exchanges.cancelled = (tt, tt)
-ends_pin exchanges.timed_out = (tt, tt)
-ends_pin exchanges.no_pinentry = (tt, tt)
-ends_pin exchanges.bad = (tt, tt)
-ends_pin (exchanges.unheard is fails) = fails_so fails
+looks_for : (id : Option (List ℕ)) → EachSo IsUncalled (LooksFor id)
+looks_for None = each_returned IsUncalled None
+looks_for (Some id) = record { of = looks_of }
 
-ends_consent : {end : Agreed} {keep : Option (List ℕ)} {events : List Event} {went : Went} → EndsConsent end keep events went → Uncalled events
-ends_consent exchanges.yes = (tt, tt)
-ends_consent exchanges.no = (tt, tt)
-ends_consent exchanges.cancelled = (tt, tt)
-ends_consent exchanges.timed_out = (tt, tt)
-ends_consent exchanges.no_pinentry = (tt, tt)
-ends_consent (exchanges.unheard is fails) = fails_so fails
+wants_prompt : (id : Option (List ℕ)) → EachSo IsUncalled (WantsPrompt id)
+wants_prompt None = each_bind IsUncalled (each_seats IsUncalled (λ turn. tt)) (λ seated. each_returned IsUncalled None)
+wants_prompt (Some id) = each_looks IsUncalled (λ turn. tt)
 
-module _ {A : Type 0} (Asks : List PromptEvent → A → Type 0) (Ends : A → Option (List ℕ) → List Event → Went → Type 0)
-    (is_one : (prompt : List PromptEvent) (end : A) → Asks prompt end → IsOnePrompt (calls_of prompt))
-    (ends_so : (end : A) (keep : Option (List ℕ)) (events : List Event) (went : Went) → Ends end keep events went → Uncalled events) where
-  -- what is asked once, or nothing is
-  once_is_one : (before : List A) (prompt : List PromptEvent) (end : A) → AsksOnce session_lines Asks before prompt end → IsOnePrompt (calls_of prompt)
-  once_is_one [] prompt end asks = is_one prompt end asks
-  once_is_one (earlier ∷ more) prompt end asks = absurd asks
+keeps_under : (id : Option (List ℕ)) (secret : List ℕ) → EachSo IsUncalled (KeepsUnder id secret)
+keeps_under None secret = each_returned IsUncalled tt
+keeps_under (Some id) secret = changes
 
-  prompts_so : (before : List A) {shown : List Event} {answers : List A} → Prompts session_lines (AsksOnce session_lines Asks) before shown answers → Prompted shown
-  prompts_so before no_more = uncalled [] tt
-  prompts_so before (next {prompt} {answer} {shown} {more} asks in_session later) =
-      prompted_append shown more (shown_prompted (once_is_one before prompt answer asks) in_session) (prompts_so (before ++ answer ∷ []) later)
+by_cache : (id : Option (List ℕ)) → EachSo IsUncalled (ByCache id)
+by_cache id = each_bind IsUncalled (looks_for id) (λ cached. each_needed IsUncalled code.NoData cached)
 
-  ends_once : (answers : List A) (keep : Option (List ℕ)) (events : List Event) (went : Went) → EndsOnce session_lines Ends answers keep events went → Uncalled events
-  ends_once [] keep events went ends = absurd ends
-  ends_once (end ∷ []) keep events went ends = ends_so end keep events went ends
-  ends_once (end ∷ other ∷ more) keep events went ends = absurd ends
+by_client : (id : Option (List ℕ)) → EachSo IsUncalled (ByClient id)
+by_client id = each_bind IsUncalled asks_passphrase (λ secret. each_bind IsUncalled (keeps_under id secret) (λ kept. each_returned IsUncalled secret))
 
-  under_ticket : {number : ℕ} {events : List Event} {went : Went} → UnderTicket Asks Ends number events went → Prompted events
-  under_ticket (asked_under {shown} {events} {answers} turn prompts ends) =
-      prompted_append shown (cache_turn (Close _ _) turn ∷ events) (prompts_so [] prompts) (uncalled (cache_turn (Close _ _) turn ∷ events) (tt, ends_once answers _ events _ ends))
+uncached : (id : Option (List ℕ)) (way : PinMode) → EachSo IsUncalled (Uncached id way)
+uncached id mode.Ask = each_refused IsUncalled (Agent code.NoPinentry)
+uncached id mode.Cancel = each_refused IsUncalled (Agent code.Cancelled)
+uncached id mode.Error = each_refused IsUncalled (Agent code.NoPinentry)
+uncached id mode.Loopback = by_client id
 
-  wants_prompt : {asked : MarkStep} {events : List Event} {went : Went} → WantsPrompt asked (UnderTicket Asks Ends) events went → Prompted events
-  wants_prompt (exchanges.opened {events = more} under) = prompted_append (cache_turn _ _ ∷ []) more (uncalled (cache_turn _ _ ∷ []) (tt, tt)) (under_ticket under)
-  wants_prompt (exchanges.interrupted why) = uncalled _ (tt, (tt, tt))
+without_prompt : (id : Option (List ℕ)) (way : PinMode) → EachSo IsUncalled (WithoutPrompt id way)
+without_prompt id way = each_bind IsUncalled (looks_for id) (λ cached. each_otherwise IsUncalled cached (uncached id way))
 
-by_prompt : {spec : _} {plan : _} {plain : Bool} {id : Option (List ℕ)} {events : List Event} {went : Went} → ByPrompt spec plan plain id events went → Prompted events
-by_prompt (exchanges.cached is) = uncalled _ (tt, (tt, tt))
-by_prompt {spec} {plan} {plain} (exchanges.prompted wants) =
-    wants_prompt (AsksPin spec plan (λ pin. ⊤)) (EndsPin plain) (λ prompt end asks. pin_is_one asks) (λ end keep events went ends. ends_pin ends) wants
+option_so : (answer : OptionAnswer) (after : OptionValues) → EachSo IsUncalled (option_replies answer after)
+option_so Set after = each_returned IsUncalled _
+option_so Unknown after = each_refused IsUncalled _
+option_so Parameter after = each_refused IsUncalled _
+option_so NotSupported after = each_refused IsUncalled _
 
-cache_prompted : {rules : Rules} {before after : OptionValues} (request : Request) {events : List Event} {went : Went} → Exchange rules before request events after went → Prompted events
-cache_prompted request exchanges.refused = uncalled _ (tt, tt)
-cache_prompted request exchanges.nop = uncalled _ (tt, tt)
-cache_prompted request exchanges.reset = uncalled _ (tt, tt)
-cache_prompted request exchanges.bye = uncalled _ (tt, tt)
-cache_prompted request exchanges.help_given = uncalled _ (tt, tt)
-cache_prompted request exchanges.option_applied = uncalled _ (tt, tt)
-cache_prompted request exchanges.described = uncalled _ (tt, tt)
-cache_prompted request (exchanges.info is) = uncalled _ (tt, tt)
-cache_prompted request (exchanges.quiet quiet looks) = uncalled _ (looks_first looks (λ more after refuses. refuses_so refuses))
-cache_prompted request (exchanges.by_prompt spec asks texts_are mode_is is_spec by) = by_prompt by
-cache_prompted request (exchanges.without_prompt asks texts_are mode_is looks) = uncalled _ (looks_first looks (λ more after without. without_prompt without))
-cache_prompted request (exchanges.not_allowed is) = uncalled _ (tt, tt)
-cache_prompted request (exchanges.with_data allowed comes) = uncalled _ (tt, (tt, (tt, (tt, tt))))
-cache_prompted request (exchanges.without_data allowed without) = uncalled _ (without_passphrase without)
-cache_prompted {before} request (exchanges.confirmation spec mode_is is_spec wants) =
-    wants_prompt (AsksConsent spec before.notify) EndsConsent (λ prompt end asks. consent_is_one asks) (λ end keep events went ends. ends_consent ends) wants
-cache_prompted request (exchanges.unconfirmed refusal) = uncalled _ (tt, tt)
-cache_prompted request (exchanges.one_turn is comes) = uncalled _ (tt, (tt, tt))
+module _ (rules : Rules) (options : OptionValues) where
+  module _ (texts : Texts) (check quality : Bool) (repeat : ℕ) where
+    prompts_of : (before : Option ℕ) (events : List Event) (result : Result (List ℕ) Refusal) (after : Option ℕ) → PromptsAny rules options texts check quality repeat before events result after → Prompted events
+    prompts_of before events result after (passphrases.given spec is prompt) = shown_prompted (pin_is_one prompt.asks) prompt.in_session
+    prompts_of before events result after (passphrases.refused spec is prompt other refusal) = shown_prompted (pin_is_one prompt.asks) prompt.in_session
+
+    by_user : (id : Option (List ℕ)) → PromptedSo (ByUser rules options texts check quality repeat id)
+    by_user id =
+        behind (wants_prompt id) (λ cached. otherwise cached (before_it (record { of = prompts_of })
+        (λ pin. each_bind IsUncalled (each_closes IsUncalled (Some pin) (λ number turn. tt)) (λ kept. each_returned IsUncalled pin))))
+
+  module _ (fields : GetFields) where
+    wanted_so : (way : PinMode) (texts : Texts) → PromptedSo (as_wanted rules options fields way texts)
+    wanted_so mode.Ask texts = by_user texts fields.check fields.quality fields.repeat fields.id
+    wanted_so mode.Cancel texts = uncalled_so (without_prompt fields.id mode.Cancel)
+    wanted_so mode.Error texts = uncalled_so (without_prompt fields.id mode.Error)
+    wanted_so mode.Loopback texts = uncalled_so (without_prompt fields.id mode.Loopback)
+
+    passphrase_so : (no_ask : Bool) (texts : Option Texts) → PromptedSo (passphrase_by rules options fields no_ask texts)
+    passphrase_so no_ask None = uncalled_so (by_cache fields.id)
+    passphrase_so true (Some texts) = uncalled_so (by_cache fields.id)
+    passphrase_so false (Some texts) = wanted_so options.mode texts
+
+    gets : PromptedSo (GetReplies rules options fields)
+    gets = before_it (passphrase_so fields.no_ask fields.texts) (λ secret. each_bind IsUncalled (record { of = tells_of }) (λ text. each_returned IsUncalled _))
+
+  presets : (id : List ℕ) (life : Life) (secret : Option (List ℕ)) → EachSo IsUncalled (PresetReplies rules options id life secret)
+  presets id life secret =
+      each_bind IsUncalled (each_bind IsUncalled (each_wanted IsUncalled code.NotSupported rules.allow_preset) (λ allowed.
+      each_bind IsUncalled (each_otherwise IsUncalled secret asks_passphrase) (λ given. changes))) (λ stored. each_returned IsUncalled _)
+
+  confirms : (way : PinMode) (description : ArrayVec ℕ) → PromptedSo (confirms_by rules options way description)
+  confirms mode.Ask description = seated_agrees rules options description.items
+  confirms mode.Cancel description = uncalled_so (each_refused IsUncalled (Agent code.Cancelled))
+  confirms mode.Error description = uncalled_so (each_refused IsUncalled (Agent code.NoPinentry))
+  confirms mode.Loopback description = uncalled_so (each_refused IsUncalled (Agent code.NoPinentry))
+
+  replies : (command : CacheCommand) → PromptedSo (Replies rules options command)
+  replies Nop = uncalled_so (each_returned IsUncalled _)
+  replies Reset = uncalled_so (each_returned IsUncalled _)
+  replies Bye = uncalled_so (each_returned IsUncalled _)
+  replies Help = uncalled_so (each_returned IsUncalled _)
+  replies (SetOption text) = uncalled_so (option_so (applied options text.items).answer (applied options text.items).after)
+  replies (SetKeyDesc text) = uncalled_so (each_returned IsUncalled _)
+  replies (GetInfo what) = uncalled_so (each_bind IsUncalled (record { of = info_of }) (λ text. each_returned IsUncalled _))
+  replies (GetPassphrase plain check no_ask repeat quality id texts) = gets _
+  replies (PresetPassphrase id life secret) = uncalled_so (presets id life secret)
+  replies (ClearPassphrase id mode) = uncalled_so (each_bind IsUncalled changes (λ changed. each_returned IsUncalled _))
+  replies (GetConfirmation description) = before_it (confirms options.mode description) (λ agreed. each_returned IsUncalled _)
+  replies ReloadAgent = uncalled_so (each_bind IsUncalled changes (λ changed. each_returned IsUncalled _))
+  replies KillAgent = uncalled_so (each_bind IsUncalled changes (λ changed. each_returned IsUncalled _))
+
+exchanged : {parts : CacheParts CacheReply} {before after : OptionValues} {events : List Event} {went : Went} → PromptedSo parts → AnyExchange refusal_line went_after parts before events after went → Prompted events
+exchanged so (whole.answered events held reply {back} does closes) = ends_so events back _ (so.of None events (Ok reply) held does) closes (tt, tt)
+exchanged so (whole.refused events held why {back} does closes) = ends_so events back _ (so.of None events (Err why) held does) closes (said_uncalled (refusal_line why))
+
+cache_prompted : (rules : Rules) (before after : OptionValues) (request : Request) (events : List Event) (went : Went) → Exchange rules before request events after went → Prompted events
+cache_prompted rules before after (Cache command) events went exchange = exchanged (replies rules before command) exchange
+cache_prompted rules before after (BadLine why) events went exchange = exchanged (uncalled_so (each_refused IsUncalled (Agent why))) exchange
+cache_prompted rules before after (KeyLine line) events went never = absurd never
 
 pub request_prompted : {rules : Rules} {kept now : Kept} (request : Request) {events : List Event} {went : Went} → RequestExchange rules kept request events now went → Prompted events
-request_prompted request (cache exchange) = cache_prompted request exchange
+request_prompted request (cache exchange) = cache_prompted _ _ _ request _ _ exchange
 request_prompted {rules} {kept} request (keys exchange) = key_prompted rules kept.options kept.wraps _ exchange
 
 -- ---- requests on the trust list
 
-abbrev PromptedTrust : {A : Type 0} → Part A → Type 0
-PromptedTrust {A} part = (before : Option ℕ) (events : List Event) (result : _) (after : Option ℕ) → part before events result after → Prompted events
+said : (answer : Option Bool) {other : Part (Unit {0})} → PromptedSo other → PromptedSo (unless_said answer other)
+said (Some true) other = uncalled_so (each_returned IsUncalled tt)
+said (Some false) other = uncalled_so (each_refused IsUncalled _)
+said None other = other
 
-follows : {A B : Type 0} {part : Part A} {after_it : A → Part B} → PromptedTrust part → ((value : A) → PromptedTrust (after_it value)) → PromptedTrust (chain.Follows part after_it)
-follows first then before events result after (chain.goes_on {first = some} {events = more} {value} {mid} does next_does) = prompted_append some more (first before some _ mid does) (then value mid more result after next_does)
-follows first then before events result after (chain.stops does) = first before events _ after does
+reads_of : (before : Option ℕ) (events : List Event) (result : Result (List ℕ) Refusal) (after : Option ℕ) → trusts.ReadsFile before events result after → Uncalled events
+reads_of before events result after (trusts.has_read is) = (tt, tt)
+reads_of before events result after trusts.faulted = (tt, tt)
+reads_of before events result after trusts.no_memory = (tt, tt)
 
-refused : {A : Type 0} (why : _) → PromptedTrust (chain.Refuses {A = A} why)
-refused why before events result after chain.refuses = uncalled [] tt
+reads : EachSo IsUncalled trusts.ReadsFile
+reads = record { of = reads_of }
 
-said : (answer : Option Bool) {other : Part (Unit {0})} → PromptedTrust other → PromptedTrust (unless_said answer other)
-said (Some true) other before events result after chain.returns = uncalled [] tt
-said (Some false) other before events result after does = refused _ before events result after does
-said None other before events result after does = other before events result after does
+adds_of : (file : List ℕ) (fingerprint : Grip) (flag : ℕ) (before : Option ℕ) (events : List Event) (result : Result (List ℕ) Refusal) (after : Option ℕ)
+    → trusts.AddsEntry file fingerprint flag before events result after → Uncalled events
+adds_of file fingerprint flag before events result after (trusts.added few) = tt
+adds_of file fingerprint flag before events result after (trusts.too_long many) = tt
+adds_of file fingerprint flag before events result after trusts.no_memory = (tt, tt)
 
-reads : PromptedTrust trusts.ReadsFile
-reads before events result after (trusts.has_read is) = uncalled _ (tt, tt)
-reads before events result after trusts.faulted = uncalled _ (tt, tt)
-reads before events result after trusts.no_memory = uncalled _ (tt, tt)
+replaces_of : (file : List ℕ) (before : Option ℕ) (events : List Event) (result : Result (Unit {0}) Refusal) (after : Option ℕ) → trusts.Replaces file before events result after → Uncalled events
+replaces_of file before events result after trusts.replaced = (tt, tt)
+replaces_of file before events result after trusts.faulted = (tt, tt)
+replaces_of file before events result after trusts.no_memory = (tt, tt)
 
-adds : (file : List ℕ) (fingerprint : Grip) (flag : ℕ) → PromptedTrust (trusts.AddsEntry file fingerprint flag)
-adds file fingerprint flag before events result after (trusts.added few) = uncalled [] tt
-adds file fingerprint flag before events result after (trusts.too_long many) = uncalled [] tt
-adds file fingerprint flag before events result after trusts.no_memory = uncalled _ (tt, tt)
+module _ {A : Type 0} {part : Part A} (so : PromptedSo part) where
+  gives_back_of : (before : Option ℕ) (events : List Event) (result : Result A Refusal) (after : Option ℕ) → trusts.UnderTicket part before events result after → Prompted events
+  gives_back_of before events result after (trusts.given_back {events = more} turn does) =
+      prompted_append more _ (so.of _ more result _ does) (uncalled (cache_turn (Close _ None) turn ∷ []) (tt, tt))
 
-replaces : (file : List ℕ) → PromptedTrust (trusts.Replaces file)
-replaces file before events result after trusts.replaced = uncalled _ (tt, tt)
-replaces file before events result after trusts.faulted = uncalled _ (tt, tt)
-replaces file before events result after trusts.no_memory = uncalled _ (tt, tt)
-
-seats : PromptedTrust (turning.Seats (Seat None None))
-seats before events result after turning.opened = uncalled _ (tt, tt)
-seats before events result after (turning.interrupted why) = uncalled _ (tt, tt)
-
-gives_back : {A : Type 0} {part : Part A} → PromptedTrust part → PromptedTrust (trusts.UnderTicket part)
-gives_back part before events result after (trusts.given_back {events = more} turn does) = prompted_append more _ (part _ more result _ does) (uncalled (cache_turn (Close _ None) turn ∷ []) (tt, tt))
+  gives_back : PromptedSo (trusts.UnderTicket part)
+  gives_back = record { of = gives_back_of }
 
 module _ (rules : Rules) (options : OptionValues) where
-  agrees : (question : List ℕ) → PromptedTrust (trusts.Agrees rules options question)
-  agrees question before events result after (consent.consents spec is prompt) = shown_prompted (consent_is_one prompt.asks) prompt.in_session
-  agrees question before events result after (consent.refused spec is prompt refusal) = shown_prompted (consent_is_one prompt.asks) prompt.in_session
-
-  trusted_now : (fingerprint : Grip) → PromptedTrust (TrustedNow fingerprint)
+  trusted_now : (fingerprint : Grip) → PromptedSo (TrustedNow fingerprint)
   unfolding TrustedNow
-  trusted_now fingerprint = follows reads (λ file. said (trust file fingerprint.0) (refused _))
+  trusted_now fingerprint = behind reads (λ file. said (trust file fingerprint.0) (uncalled_so (each_refused IsUncalled _)))
 
-  stores : (fingerprint : Grip) (purpose : TrustPurpose) (file : List ℕ) → PromptedTrust (Stores fingerprint purpose file)
+  stores : (fingerprint : Grip) (purpose : TrustPurpose) (file : List ℕ) → PromptedSo (Stores fingerprint purpose file)
   unfolding Stores
-  stores fingerprint purpose file = follows (adds file fingerprint (flag_of purpose)) (λ new. replaces new)
+  stores fingerprint purpose file = uncalled_so (each_bind IsUncalled (record { of = adds_of file fingerprint (flag_of purpose) }) (λ new. record { of = replaces_of new }))
 
-  stores_unsaid : (fingerprint : Grip) (purpose : TrustPurpose) → PromptedTrust (StoresUnsaid fingerprint purpose)
+  stores_unsaid : (fingerprint : Grip) (purpose : TrustPurpose) → PromptedSo (StoresUnsaid fingerprint purpose)
   unfolding StoresUnsaid
-  stores_unsaid fingerprint purpose = follows reads (λ file. said (trust file fingerprint.0) (stores fingerprint purpose file))
+  stores_unsaid fingerprint purpose = behind reads (λ file. said (trust file fingerprint.0) (stores fingerprint purpose file))
 
   module _ (fingerprint : Grip) (purpose : TrustPurpose) (name : List ℕ) where
-    consented : PromptedTrust (Consented rules options fingerprint purpose name)
+    consented : PromptedSo (Consented rules options fingerprint purpose name)
     unfolding Consented
-    consented = follows (agrees (trust_question name)) (λ trusted. follows (agrees (fingerprint_question fingerprint name)) (λ right. stores_unsaid fingerprint purpose))
+    consented = bind (agrees_to rules options (trust_question name)) (λ trusted. bind (agrees_to rules options (fingerprint_question fingerprint name)) (λ right. stores_unsaid fingerprint purpose))
 
-    asks_in : (way : PinMode) → PromptedTrust (asked_in rules options fingerprint purpose name way)
-    asks_in mode.Ask = follows seats (λ seated. gives_back consented)
-    asks_in mode.Cancel = refused _
-    asks_in mode.Error = refused _
-    asks_in mode.Loopback = refused _
+    asks_in : (way : PinMode) → PromptedSo (asked_in rules options fingerprint purpose name way)
+    asks_in mode.Ask = behind (each_seats IsUncalled (λ turn. tt)) (λ seated. gives_back consented)
+    asks_in mode.Cancel = uncalled_so (each_refused IsUncalled _)
+    asks_in mode.Error = uncalled_so (each_refused IsUncalled _)
+    asks_in mode.Loopback = uncalled_so (each_refused IsUncalled _)
 
-    marked : PromptedTrust (Marked rules options fingerprint purpose name)
+    marked : PromptedSo (Marked rules options fingerprint purpose name)
     unfolding Marked
-    marked = follows reads (λ file. said (trust file fingerprint.0) (asks_in options.mode))
+    marked = behind reads (λ file. said (trust file fingerprint.0) (asks_in options.mode))
 
-  carried : (request : TrustRequest) → PromptedTrust (Carried rules options request)
+  carried : (request : TrustRequest) → PromptedSo (Carried rules options request)
   carried (IsTrusted fingerprint) = trusted_now fingerprint
   carried (MarkTrusted fingerprint purpose name) = marked fingerprint purpose name.items
-  carried (Bad why) = refused _
+  carried (Bad why) = uncalled_so (each_refused IsUncalled _)
 
   trust_prompted : (request : TrustRequest) {events : List Event} {went : Went} → TrustExchange rules options request events went → Prompted events
-  trust_prompted request (trusting.answered events does) = prompted_append events _ (carried request None events _ None does) (uncalled _ (tt, tt))
-  trust_prompted request (trusting.refused events why does) = prompted_append events _ (carried request None events _ None does) (uncalled _ (said_uncalled (refusal_line why)))
+  trust_prompted request (trusting.answered events does) = prompted_append events _ ((carried request).of None events _ None does) (uncalled _ (tt, tt))
+  trust_prompted request (trusting.refused events why does) = prompted_append events _ ((carried request).of None events _ None does) (uncalled _ (said_uncalled (refusal_line why)))
 
 -- ---- at a door
 

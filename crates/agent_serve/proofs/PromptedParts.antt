@@ -22,12 +22,13 @@ use Rattle.key_commands.specs.Events.{Event}
 use Rattle.key_commands.specs.Exchanges.{Exchange, HaveKeyReplies, KeyInfoReplies, ListKeysReplies, KeyWrapReplies, ImportKeyReplies, ExportKeyReplies, PasswdReplies, VerifyReplies}
 use Rattle.key_commands.specs.Exchanges.{DeleteKeyReplies, Replies, wrap_key, FoundOrNew, RenewsPassphrase, ChangesOpened}
 use Rattle.key_commands.specs.Exchanges as exchange
-use Rattle.key_commands.specs.KeyParts.{Agrees, Consents}
-use Rattle.key_commands.specs.KeyParts as parts
+use Rattle.key_commands.specs.KeyParts.{Consents}
+use Rattle.agent_ask.specs.ConsentParts.{AgreesTo}
 use Rattle.agent_ask.specs.ConsentParts as consent
 use Rattle.key_commands.specs.Parts.{Part}
 use Rattle.agent_ask.specs.Parts.{◌>>=◌, Follows, goes_on, stops, or_else}
-use Rattle.agent_ask.specs.TurnParts.{Closes}
+use Rattle.agent_ask.specs.TurnParts.{Closes, Seats}
+use Rattle.cache_policy.specs.declared.mark.MarkStep.{MarkStep}
 use Rattle.assuan_server.specs.Written.{refusal_line}
 use Rattle.key_commands.specs.Passphrases.{PromptsOld, PromptsNew, UncachedOld, OpensLocked, old_by, verified_by, new_by}
 use Rattle.key_commands.specs.Passphrases as passphrases
@@ -127,7 +128,7 @@ still_uncalled (Received took) still = tt
 pub record PromptedSo {A : Type 0} (part : Part A) : Type 0 where
   pub of : (before : Option ℕ) (events : List Event) (result : Result A Refusal) (after : Option ℕ) → part before events result after → Prompted events
 
-uncalled_so : {A : Type 0} {part : Part A} → EachSo IsUncalled part → PromptedSo part
+pub uncalled_so : {A : Type 0} {part : Part A} → EachSo IsUncalled part → PromptedSo part
 uncalled_so each = record { of = λ before events result after does. uncalled events (each.of before events result after does) }
 
 module _ {A B : Type 0} {part : Part A} {after_it : A → Part B} (first : PromptedSo part) (then : (value : A) → PromptedSo (after_it value)) where
@@ -136,22 +137,40 @@ module _ {A B : Type 0} {part : Part A} {after_it : A → Part B} (first : Promp
       prompted_append some more (first.of before some (Ok value) mid does) ((then value).of mid more result after next_does)
   bind_of before events result after (stops {refusal = why} does) = first.of before events (Err why) after does
 
-  bind : PromptedSo (part >>= after_it)
+  pub bind : PromptedSo (part >>= after_it)
   bind = record { of = bind_of }
 
 -- behind what calls no prompter, and before it
 module _ {A B : Type 0} {part : Part A} {after_it : A → Part B} where
-  behind : EachSo IsUncalled part → ((value : A) → PromptedSo (after_it value)) → PromptedSo (part >>= after_it)
+  pub behind : EachSo IsUncalled part → ((value : A) → PromptedSo (after_it value)) → PromptedSo (part >>= after_it)
   behind first then = bind (uncalled_so first) then
 
-  before_it : PromptedSo part → ((value : A) → EachSo IsUncalled (after_it value)) → PromptedSo (part >>= after_it)
+  pub before_it : PromptedSo part → ((value : A) → EachSo IsUncalled (after_it value)) → PromptedSo (part >>= after_it)
   before_it first then = bind first (λ value. uncalled_so (then value))
 
-otherwise : {A : Type 0} (value : Option A) {other : Part A} → PromptedSo other → PromptedSo (or_else value other)
+pub otherwise : {A : Type 0} (value : Option A) {other : Part A} → PromptedSo other → PromptedSo (or_else value other)
 otherwise None other = other
 otherwise (Some value) other = uncalled_so (each_returned IsUncalled value)
 
+-- a ticket that is held then is given back, and the request is answered
+pub ends_so : (events back last : List Event) {held : Option ℕ} → Prompted events → Closes None held back (Ok tt) None → AllByRecursion IsUncalled last → Prompted (events ++ (back ++ last))
+ends_so events back last are closes each =
+    prompted_append events (back ++ last) are
+    (uncalled (back ++ last) (each_append IsUncalled back last ((each_closes IsUncalled None (λ number turn. tt)).of _ back (Ok tt) None closes) each))
+
 -- ---- prompts
+
+module _ (rules : Rules) (options : OptionValues) (question : List ℕ) where
+  agrees_of : (before : Option ℕ) (events : List Event) (result : Result (Unit {0}) Refusal) (after : Option ℕ) → AgreesTo session_lines rules options question before events result after → Prompted events
+  agrees_of before events result after (consent.consents spec is prompt) = shown_prompted (consent_is_one prompt.asks) prompt.in_session
+  agrees_of before events result after (consent.refused spec is prompt refusal) = shown_prompted (consent_is_one prompt.asks) prompt.in_session
+
+  pub agrees_to : PromptedSo (AgreesTo session_lines rules options question)
+  agrees_to = record { of = agrees_of }
+
+  -- behind the seat, where the client wants prompts
+  pub seated_agrees : {step : MarkStep} → PromptedSo (Seats step >>= (λ seated. AgreesTo session_lines rules options question))
+  seated_agrees = behind (each_seats IsUncalled (λ turn. tt)) (λ seated. agrees_to)
 
 module _ (rules : Rules) (options : OptionValues) (grip : Grip) where
   old_of : (locked : LockedKey) (before : Option ℕ) (events : List Event) (result : Result _ Refusal) (after : Option ℕ) → PromptsOld rules options grip locked before events result after → Prompted events
@@ -161,10 +180,6 @@ module _ (rules : Rules) (options : OptionValues) (grip : Grip) where
   new_of : (before : Option ℕ) (events : List Event) (result : Result (List ℕ) Refusal) (after : Option ℕ) → PromptsNew rules options grip before events result after → Prompted events
   new_of before events result after (passphrases.given spec is prompt) = shown_prompted (pin_is_one prompt.asks) prompt.in_session
   new_of before events result after (passphrases.refused spec is prompt refusal) = shown_prompted (pin_is_one prompt.asks) prompt.in_session
-
-  agrees_of : (before : Option ℕ) (events : List Event) (result : Result (Unit {0}) Refusal) (after : Option ℕ) → Agrees rules options grip before events result after → Prompted events
-  agrees_of before events result after (consent.consents spec is prompt) = shown_prompted (consent_is_one prompt.asks) prompt.in_session
-  agrees_of before events result after (consent.refused spec is prompt refusal) = shown_prompted (consent_is_one prompt.asks) prompt.in_session
 
   -- ---- passphrases
 
@@ -207,7 +222,7 @@ module _ (rules : Rules) (options : OptionValues) (grip : Grip) where
 
 agreed : (rules : Rules) (options : OptionValues) (grip : Grip) (way : PinMode) (force : Bool) → PromptedSo (Consents rules (record options { mode = way }) force grip)
 agreed rules options grip way true = uncalled_so (each_returned IsUncalled tt)
-agreed rules options grip mode.Ask false = behind (each_seats IsUncalled (λ turn. tt)) (λ seated. record { of = agrees_of rules (record options { mode = mode.Ask }) grip })
+agreed rules options grip mode.Ask false = seated_agrees rules (record options { mode = mode.Ask }) _
 agreed rules options grip mode.Cancel false = uncalled_so (each_refused IsUncalled (Agent code.Cancelled))
 agreed rules options grip mode.Error false = uncalled_so (each_refused IsUncalled (Agent code.NoPinentry))
 agreed rules options grip mode.Loopback false = uncalled_so (each_refused IsUncalled (Agent code.NoPinentry))
@@ -278,11 +293,6 @@ module _ (rules : Rules) (options : OptionValues) (wraps : WrapKeys) where
   replies (on.Passwd grip old_id new_id false) = passwd grip old_id new_id
   replies (on.DeleteKey grip force) = delete_key force grip
   replies (on.Bad why) = uncalled_so (each_refused IsUncalled (Agent why))
-
-  ends_so : (events back last : List Event) {held : Option ℕ} → Prompted events → Closes None held back (Ok tt) None → AllByRecursion IsUncalled last → Prompted (events ++ (back ++ last))
-  ends_so events back last are closes each =
-      prompted_append events (back ++ last) are
-      (uncalled (back ++ last) (each_append IsUncalled back last ((each_closes IsUncalled None (λ number turn. tt)).of _ back (Ok tt) None closes) each))
 
   -- all that is done for a request
   pub key_prompted : (asked : KeyRequest) {events : List Event} {after : WrapKeys} {went : KeyWent} → Exchange rules options wraps asked events after went → Prompted events

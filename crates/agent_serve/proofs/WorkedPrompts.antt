@@ -1,21 +1,26 @@
 -- Worked examples: a request for consent whose pinentry couldn't be started. Its prompt has no child.
-use Rattle.std.proofs.Common.{◌≡◌, ℕ, false, List, [], ◌∷◌, Some, None, refl, arith}
+use Rattle.std.proofs.Common.{◌≡◌, ℕ, false, List, [], ◌∷◌, Some, None, Err, refl, sym, subst, arith}
 use Rattle.std.specs.Prelude.{⊤}
+use Rattle.agent_ask.specs.ConsentParts.{AgreesTo}
+use Rattle.agent_ask.specs.ConsentParts as consent
 use Rattle.agent_ask.specs.Consents as consents
 use Rattle.agent_ask.specs.Doing.{called}
 use Rattle.agent_ask.specs.Events.{Start, Shut, Called}
 use Rattle.agent_ask.specs.Further.{Prompt}
 use Rattle.agent_ask.specs.Further as further
+use Rattle.agent_ask.specs.PartExchanges as whole
+use Rattle.agent_ask.specs.Parts.{goes_on, stops}
 use Rattle.agent_ask.specs.Plans.{IsSpec}
 use Rattle.agent_ask.specs.Prompters.{IsCall}
 use Rattle.agent_ask.specs.Prompts as prompts
 use Rattle.agent_ask.specs.SessionEvents.{Sent, Further, cache_turn}
+use Rattle.agent_ask.specs.TurnParts as taken
 use Rattle.agent_ask.specs.UnderTickets as tickets
 use Rattle.agent_ask.specs.Worlds.{Outside, Does}
 use Rattle.agent_ask.specs.Worlds as worlds
 use Rattle.agent_ask.specs.declared.prompter.Opened.TheVariants as opened
 use Rattle.agent_ask.specs.declared.spec.PromptSpec.{PromptSpec}
-use Rattle.agent_commands.specs.Exchanges as exchanges
+use Rattle.agent_commands.specs.Exchanges.{confirms_by}
 use Rattle.agent_commands.specs.declared.request.CacheCommand.TheVariants.{GetConfirmation}
 use Rattle.agent_commands.specs.declared.request.Request.TheVariants.{Cache}
 use Rattle.agent_commands.specs.declared.went.Went.TheVariants.{On}
@@ -30,9 +35,11 @@ use Rattle.agent_ports.specs.TrustFiles.{TrustState}
 use Rattle.agent_serve.specs.Prompts.{HavePrompts}
 use Rattle.agent_serve.proofs.PromptedLines.{request_prompted}
 use Rattle.agent_serve.proofs.PromptedSessions.{have_prompts}
+use Rattle.assuan_server.specs.Clients.{session_lines}
 use Rattle.assuan_server.specs.Reading.{Supply}
 use Rattle.assuan_server.specs.Written.{failed}
 use Rattle.session_client.specs.declared.code.Code.TheVariants as code
+use Rattle.session_client.specs.declared.refusal.Refusal.TheVariants.{Agent}
 use Rattle.cache_policy.specs.Turns.{Turn, Open, Done}
 use Rattle.cache_policy.specs.declared.mark.MarkStep.{MarkStep}
 use Rattle.cache_policy.specs.declared.mark.MarkStep.TheVariants.{Seat, Close}
@@ -51,11 +58,19 @@ module _ (rules : Rules) (kept : Kept) (description : _) (spec : PromptSpec) (as
   unstarted =
       cache_turn (Seat None None) (Open 0) ∷ Further (Prompt (Called (Start spec opened.Failed))) ∷ Further (Prompt (Called Shut)) ∷ cache_turn (Close 0 None) Done ∷ Sent (failed code.NoPinentry) ∷ []
 
+  abbrev shown : List Event
+  shown = Further (Prompt (Called (Start spec opened.Failed))) ∷ Further (Prompt (Called Shut)) ∷ []
+
+  refused : AgreesTo session_lines rules kept.options description.items (Some 0) shown (Err (Agent code.NoPinentry)) (Some 0)
+  refused =
+      consent.refused spec is_spec
+      (record { in_session = tickets.called (tickets.called tickets.none); asks = record { before = Called (Start spec opened.Failed) ∷ []; whole = refl; asks = consents.unopened prompts.failed } }) refl
+
+  confirms : confirms_by rules kept.options kept.options.mode description None (cache_turn (Seat None None) (Open 0) ∷ shown) (Err (Agent code.NoPinentry)) (Some 0)
+  confirms = subst (λ way. confirms_by rules kept.options way description None (cache_turn (Seat None None) (Open 0) ∷ shown) (Err (Agent code.NoPinentry)) (Some 0)) (sym asks) (goes_on taken.opened refused)
+
   exchange : RequestExchange rules kept (Cache (GetConfirmation description)) unstarted kept On
-  exchange =
-      cache (exchanges.confirmation spec asks is_spec (exchanges.opened (tickets.asked Done
-      (tickets.next (record { before = Called (Start spec opened.Failed) ∷ []; whole = refl; asks = consents.unopened prompts.failed }) (tickets.called (tickets.called tickets.none)) tickets.none)
-      exchanges.no_pinentry)))
+  exchange = cache (whole.refused (cache_turn (Seat None None) (Open 0) ∷ shown) (Some 0) (Agent code.NoPinentry) (stops confirms) (taken.closed Done))
 
   module _ (program : List ℕ) (keys : KeyFiles) (dice : Side) (trust : TrustState) (supply : Supply)
       (promise : (before : AtPinentry) (call : _) (after : AtPinentry) → PinentryDoes before call after → IsCall (at_prompter before) call (at_prompter after)) where

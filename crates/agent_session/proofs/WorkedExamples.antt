@@ -21,7 +21,7 @@ use Rattle.cache_policy.specs.declared.mark.MarkStep.TheVariants.{Close}
 use Rattle.session_options.specs.declared.options.PinMode.TheVariants as mode
 use Rattle.session_options.specs.declared.rules.Rules.{Rules}
 use Rattle.agent_commands.specs.Events.{Event}
-use Rattle.agent_commands.specs.Exchanges.{ask, want}
+use Rattle.agent_commands.specs.Passphrases.{ask, ask_or_open}
 use Rattle.agent_commands.specs.Requests.{GetFields, get_passphrase}
 use Rattle.agent_commands.specs.declared.request.Request.{Request}
 use Rattle.agent_commands.specs.declared.request.Request.TheVariants.{Cache}
@@ -41,7 +41,7 @@ module _ (rules : Rules) (kept : Kept) where
   module _ (spec : PromptSpec) (id : List ℕ) (pid ticket : ℕ) where
     abbrev cancelled : List (Event FurtherEvent)
     cancelled =
-        cache_turn (want (Some id)) (Open ticket) ∷ Further (Prompt (Called (Start spec (opened.Pid pid)))) ∷ Further (Prompt (Called (GetPin [] outcome.Cancelled)))
+        cache_turn (ask_or_open id) (Open ticket) ∷ Further (Prompt (Called (Start spec (opened.Pid pid)))) ∷ Further (Prompt (Called (GetPin [] outcome.Cancelled)))
         ∷ Further (Prompt (Called Shut)) ∷ cache_turn (Close ticket None) Done ∷ Sent (failed code.NoPinentry) ∷ []
 
     abbrev IsFine : Event FurtherEvent → Type 0

@@ -2,12 +2,14 @@
 use Rattle.std.proofs.Common.{◌≡◌, List, [], ◌∷◌, None, refl, sym, subst}
 use Rattle.std.specs.Prelude.{⊤, codes}
 use Rattle.agent_ask.specs.Events.{Call}
+use Rattle.agent_ask.specs.PartExchanges as whole
+use Rattle.agent_ask.specs.Parts.{returns}
 use Rattle.agent_ask.specs.Prompters.{AtPrompter}
 use Rattle.agent_ask.specs.SessionEvents.{Received, Sent}
+use Rattle.agent_ask.specs.TurnParts.{unheld}
 use Rattle.agent_ask.specs.Worlds.{Outside, Does}
 use Rattle.agent_ask.specs.Worlds as worlds
 use Rattle.agent_commands.specs.Answers.{ok}
-use Rattle.agent_commands.specs.Exchanges as exchanges
 use Rattle.agent_commands.specs.Names.{command_named}
 use Rattle.agent_commands.specs.Requests.{request_of}
 use Rattle.agent_commands.specs.Talks.{Session}
@@ -57,7 +59,7 @@ module _ (rules : Rules) (kept : Kept) (supply : Supply) (desk : AtDesk) (prompt
   events = Sent (line_of greeting) ∷ Received (took.Line (codes "NOP")) ∷ Sent ok ∷ Received took.End ∷ []
 
   nop : SessionExchange rules kept (codes "NOP") (Sent ok ∷ []) kept On
-  nop = subst (λ (r : Request). RequestExchange rules kept r (Sent ok ∷ []) kept On) (sym nop_line) (cache exchanges.nop)
+  nop = subst (λ (r : Request). RequestExchange rules kept r (Sent ok ∷ []) kept On) (sym nop_line) (cache (whole.answered [] None _ returns unheld))
 
   session : Session (SessionExchange rules) kept events Ended
   session = talks.greeted (talks.goes_on (codes "NOP") (talks.whole nop) talks.ended)
