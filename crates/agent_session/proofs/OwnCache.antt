@@ -10,7 +10,7 @@ use Rattle.agent_ask.specs.Failing.{said_last}
 use Rattle.agent_ask.specs.Further.{FurtherEvent}
 use Rattle.agent_ask.specs.PartExchanges.{AnyExchange}
 use Rattle.agent_ask.specs.PartExchanges as exchange
-use Rattle.agent_ask.specs.Parts.{◌>>=◌, goes_on, stops, Returns, returns, Refuses, needed, wanted, or_else}
+use Rattle.agent_ask.specs.Parts.{◌>>=◌, goes_on, stops, Returns, returns, Refuses, needed, or_else}
 use Rattle.agent_ask.specs.Parts as chain
 use Rattle.agent_ask.specs.SessionEvents.{Sent, cache_turn}
 use Rattle.agent_ask.specs.TurnParts.{Asks, Seats, Changes, Closes}
@@ -39,7 +39,7 @@ use Rattle.agent_commands.specs.Events.{Event}
 use Rattle.agent_commands.specs.Exchanges as exchanges
 use Rattle.agent_commands.specs.Exchanges.{Exchange, CacheReply, TellsPassphrase, TellsInfo, GivenOrAsked, Presets, Replies, option_replies, confirms_by, put}
 use Rattle.agent_commands.specs.Parts.{Part, AsksPassphrase, limit_line}
-use Rattle.agent_commands.specs.Passphrases.{ask, ask_or_open, Looks, LooksFor, WantsPrompt, KeepsUnder, ByCache, ByClient, Uncached, WithoutPrompt, PromptsAny, ByUser, as_wanted, passphrase_by}
+use Rattle.agent_commands.specs.Passphrases.{ask, ask_or_open, LooksFor, WantsPrompt, KeepsUnder, ByCache, ByClient, Uncached, WithoutPrompt, PromptsAny, ByUser, as_wanted, passphrase_by}
 use Rattle.agent_commands.specs.Passphrases as passphrases
 use Rattle.agent_commands.specs.Requests.{GetFields, get_passphrase}
 use Rattle.agent_commands.specs.declared.request.CacheCommand.{CacheCommand}
@@ -49,7 +49,7 @@ use Rattle.agent_commands.specs.declared.request.Request.{Request}
 use Rattle.agent_commands.specs.declared.request.Request.TheVariants.{Cache, Key as OnKeys, Bad}
 use Rattle.agent_commands.specs.declared.request.Texts.{Texts}
 use Rattle.agent_commands.specs.declared.went.Went.{Went}
-use Rattle.key_commands.proofs.EachEvent.{each_append, EachSo, each_bind, each_refused, each_seats, each_changes}
+use Rattle.key_commands.proofs.EachEvent.{each_append, EachSo, each_bind, each_refused, each_seats, each_changes, each_wanted}
 use Rattle.agent_origin.specs.SessionExchanges.{RequestExchange, cache, keys}
 use Rattle.agent_origin.specs.declared.kept.Kept.{Kept}
 use Rattle.agent_session.specs.Causes.{Has, here, IsSent, sent}
@@ -59,7 +59,7 @@ use Rattle.agent_session.specs.OwnPassphrases.{by_command, WantsTicket, by_id, u
 use Rattle.agent_session.specs.OwnPassphrases as whose
 use Rattle.agent_session.specs.Refusals.{preset, given, limit}
 use Rattle.agent_session.proofs.OwnFacts.{ticket_more, accepted_more, sent_more}
-use Rattle.agent_session.proofs.OwnLines.{IsOpen, IsPlain, Open, Plain, plain_quiet, plain_open, shown_plain, refusal_plain, back_plain, open_are_own, said_last_own}
+use Rattle.agent_session.proofs.OwnLines.{IsOpen, IsPlain, Open, Plain, each_first, each_second, shown_plain, refusal_plain, back_plain, open_are_own, said_last_own}
 use Rattle.agent_session.proofs.OwnKeys.{stand_last, key_own}
 use Rattle.agent_session.proofs.OwnParts.{IsQuiet, Fit, AreOwn, own_then, quiet_are_own, HoldsOf, whatever, Anything}
 use Rattle.agent_session.proofs.Standing.{has_left, has_right}
@@ -101,11 +101,6 @@ module _ (rules : Rules) where
       bind = record { of = bind_of }
 
     module _ {A : Type 0} (Pre : List (Event FurtherEvent) → Option ℕ → Type 0) (Post : A → List (Event FurtherEvent) → Option ℕ → Type 0) where
-      holds_as : (Other : A → List (Event FurtherEvent) → Option ℕ → Type 0) → ((value : A) (prior : List (Event FurtherEvent)) (held : Option ℕ) → Post value prior held → Other value prior held)
-          → (prior : List (Event FurtherEvent)) (after : Option ℕ) (result : Result A Refusal) → HoldsOf (λ value. Post value prior after) result → HoldsOf (λ value. Other value prior after) result
-      holds_as Other then prior after (Ok value) holds = then value prior after holds
-      holds_as Other then prior after (Err why) holds = tt
-
       returned_of : (value : A) → ((prior : List (Event FurtherEvent)) (held : Option ℕ) → Pre prior held → Post value prior held) → Owns Pre (Returns value) Post
       returned_of value so prior before events result after returns pre = (tt, tt, subst (λ p. Post value p before) (sym (append-nil prior)) (so prior before pre))
 
@@ -113,13 +108,6 @@ module _ (rules : Rules) where
       refused_of why prior before events result after chain.refuses pre = (tt, tt, tt)
 
     module _ {A : Type 0} {Pre : List (Event FurtherEvent) → Option ℕ → Type 0} {Post : A → List (Event FurtherEvent) → Option ℕ → Type 0} where
-      weaker : {Wider : List (Event FurtherEvent) → Option ℕ → Type 0} {Other : A → List (Event FurtherEvent) → Option ℕ → Type 0} {part : Part A}
-          → ((prior : List (Event FurtherEvent)) (held : Option ℕ) → Pre prior held → Wider prior held) → OwnSo Wider part Post
-          → ((value : A) (prior : List (Event FurtherEvent)) (held : Option ℕ) → Post value prior held → Other value prior held) → OwnSo Pre part Other
-      weaker {Other} where_so own then = record {
-        of = λ prior before events result after does pre. let so = own.of prior before events result after does (where_so prior before pre) in (so.0, so.1, holds_as Pre Post Other then (prior ++ events) after result so.2);
-      }
-
       returned : (value : A) → ((prior : List (Event FurtherEvent)) (held : Option ℕ) → Pre prior held → Post value prior held) → OwnSo Pre (Returns value) Post
       returned value so = record { of = returned_of Pre Post value so }
 
@@ -127,7 +115,7 @@ module _ (rules : Rules) where
       refused why = record { of = refused_of Pre Post why }
 
     plain_own : (prior events : List (Event FurtherEvent)) → Plain rules events → AreOwn request prior events × Open rules events
-    plain_own prior events each = (quiet_are_own request prior events (plain_quiet rules events each), plain_open rules events each)
+    plain_own prior events each = (quiet_are_own request prior events (each_first IsQuiet (IsOpen rules) events each), each_second IsQuiet (IsOpen rules) events each)
 
     plainly : {A : Type 0} {Pre : List (Event FurtherEvent) → Option ℕ → Type 0} {part : Part A} → EachSo (IsPlain rules) part → OwnSo Pre part (λ value. Anything)
     plainly each = record { of = λ prior before events result after does pre. let so = plain_own prior events (each.of before events result after does) in (so.0, so.1, whatever result tt) }
@@ -147,16 +135,18 @@ module _ (rules : Rules) where
     abbrev IsSaid : List ℕ → List (Event FurtherEvent) → Option ℕ → Type 0
     IsSaid pass prior held = IsSent prior (codes "PASSPHRASE") MAX_SECRET_LEN pass
 
-    writes_of : Owns Anything (Writes limit_line) (λ wrote. Anything)
-    writes_of prior before events result after client.written pre = ((tt, tt), (notice (limit MAX_SECRET_LEN), tt), tt)
-    writes_of prior before events result after (client.cut unsent is) pre = ((tt, tt), (tt, tt), tt)
+    module _ (Pre : List (Event FurtherEvent) → Option ℕ → Type 0) (Post : List ℕ → List (Event FurtherEvent) → Option ℕ → Type 0)
+        (gives : (pass : List ℕ) (prior : List (Event FurtherEvent)) (held : Option ℕ) → IsSaid pass prior held → Post pass prior held) where
+      writes_of : Owns Pre (Writes limit_line) (λ wrote. Anything)
+      writes_of prior before events result after client.written pre = ((tt, tt), (notice (limit MAX_SECRET_LEN), tt), tt)
+      writes_of prior before events result after (client.cut unsent is) pre = ((tt, tt), (tt, tt), tt)
 
-    inquires_of : Owns Anything (Inquires session_lines (codes "PASSPHRASE") MAX_SECRET_LEN) IsSaid
-    inquires_of prior before events result after (client.given is) pre = ((tt, tt), (tt, tt), sent is (has_right prior here))
-    inquires_of prior before events result after (client.not_given is) pre = ((tt, tt), (tt, tt), tt)
+      inquires_of : Owns Anything (Inquires session_lines (codes "PASSPHRASE") MAX_SECRET_LEN) Post
+      inquires_of prior before events result after (client.given is) pre = ((tt, tt), (tt, tt), gives _ _ before (sent is (has_right prior here)))
+      inquires_of prior before events result after (client.not_given is) pre = ((tt, tt), (tt, tt), tt)
 
-    asks_client : OwnSo Anything AsksPassphrase IsSaid
-    asks_client = bind (record { of = writes_of }) (λ wrote. record { of = inquires_of })
+      asks_client : OwnSo Pre AsksPassphrase Post
+      asks_client = bind (record { of = writes_of }) (λ wrote. record { of = inquires_of })
 
     -- ---- the ticket
 
@@ -189,43 +179,40 @@ module _ (rules : Rules) where
       Known None prior held = ⊤
       Known (Some secret) prior held = IsAnswered request prior fields secret
 
+      abbrev KnownHeld : Option (List ℕ) → List (Event FurtherEvent) → Option ℕ → Type 0
+      KnownHeld found prior held = Known found prior held × Held prior held
+
       module _ (step : MarkStep) (quiet : HandsIn step → ⊥) (gives : (prior : List (Event FurtherEvent)) (grant : Grant) → Has (cache_turn step (Given grant)) prior → IsAnswered request prior fields grant.entry.secret) where
-        -- and whose the ticket is that is held then
-        abbrev Asked : Option (List ℕ) → List (Event FurtherEvent) → Option ℕ → Type 0
-        Asked found prior held = Known found prior held × (WantsTicket request step → Held prior held)
+        asks_of : (prior : List (Event FurtherEvent)) (before : Option ℕ) (events : List (Event FurtherEvent)) (result : Result (Option (List ℕ)) Refusal) (after : Option ℕ)
+            → ((ticket : ℕ) → before ≡ None → after ≡ Some ticket → WantsTicket request step) → Asks step before events result after → Held prior before
+            → AreOwn request prior events × Open rules events × HoldsOf (λ found. KnownHeld found (prior ++ events) after) result
+        asks_of prior before events result after wants (turning.given {grant}) pre = (((λ hands. absurd (quiet hands)), tt), (tt, tt), (gives _ grant (has_right prior here), held_more _ pre))
+        asks_of prior before events result after wants turning.empty pre = (((λ hands. absurd (quiet hands)), tt), (tt, tt), (tt, held_more _ pre))
+        asks_of prior before events result after wants turning.opened pre = (((λ hands. absurd (quiet hands)), tt), (tt, tt), (tt, opened_own (has_ticket (wants _ refl refl) (has_right prior here))))
+        asks_of prior before events result after wants (turning.interrupted why) pre = (((λ hands. absurd (quiet hands)), tt), (tt, tt), tt)
 
-        asks_of : Owns Held (Asks step) Asked
-        asks_of prior before events result after (turning.given {grant}) pre = (((λ hands. absurd (quiet hands)), tt), (tt, tt), (gives _ grant (has_right prior here), λ wants. held_more _ pre))
-        asks_of prior before events result after turning.empty pre = (((λ hands. absurd (quiet hands)), tt), (tt, tt), (tt, λ wants. held_more _ pre))
-        asks_of prior before events result after turning.opened pre = (((λ hands. absurd (quiet hands)), tt), (tt, tt), (tt, λ wants. opened_own (has_ticket wants (has_right prior here))))
-        asks_of prior before events result after (turning.interrupted why) pre = (((λ hands. absurd (quiet hands)), tt), (tt, tt), tt)
+      looks_for : (id : Option (List ℕ)) → fields.id ≡ id → OwnSo Held (LooksFor id) KnownHeld
+      looks_for None same = returned None (λ prior held pre. (tt, pre))
+      looks_for (Some id) same = record {
+        of = λ prior before events result after does pre.
+            let unopened : (ticket : ℕ) → before ≡ None → after ≡ Some ticket → WantsTicket request (ask id) = λ ticket none some. absurd (cc (none, some, does.keeps)) in
+            asks_of (ask id) (λ hands. elim hands [ ]) (λ prior grant has. cached same has) prior before events result after unopened does.asks pre;
+      }
 
-        asks : OwnSo Held (Asks step) Asked
-        asks = record { of = asks_of }
-
-        looks_asks : OwnSo Held (Looks step) Asked
-        looks_asks = record { of = λ prior before events result after does pre. asks_of prior before events result after does.asks pre }
-
-        looks : OwnSo Held (Looks step) Known
-        looks = weaker (λ prior held pre. pre) looks_asks (λ found prior held so. so.0)
-
-      looks_for : (id : Option (List ℕ)) → fields.id ≡ id → OwnSo Held (LooksFor id) Known
-      looks_for None same = returned None (λ prior held pre. tt)
-      looks_for (Some id) same = looks (ask id) (λ hands. elim hands [ ]) (λ prior grant has. cached same has)
-
-      wants_prompt : (id : Option (List ℕ)) → fields.id ≡ id → OwnSo Held (WantsPrompt id) (λ found prior held. Known found prior held × Held prior held)
+      wants_prompt : (id : Option (List ℕ)) → fields.id ≡ id → OwnSo Held (WantsPrompt id) KnownHeld
       wants_prompt None same = bind (record { of = seats_of }) (λ seated. returned None (λ prior held pre. (tt, pre)))
-      wants_prompt (Some id) same =
-          weaker (λ prior held pre. pre) (asks (ask_or_open id) (λ hands. elim hands [ ]) (λ prior grant has. unprompted same has)) (λ found prior held so. (so.0, so.1 (by_id fields is_get same)))
+      wants_prompt (Some id) same = record {
+        of = λ prior before events result after does pre.
+            asks_of (ask_or_open id) (λ hands. elim hands [ ]) (λ prior grant has. unprompted same has) prior before events result after (λ ticket none some. by_id fields is_get same) does pre;
+      }
 
-      found_or : (found : Option (List ℕ)) {other : Part (List ℕ)} {Pre : List (Event FurtherEvent) → Option ℕ → Type 0} → OwnSo Pre other IsFound
-          → OwnSo (λ prior held. Known found prior held × Pre prior held) (or_else found other) IsFound
-      found_or None other = weaker (λ prior held so. so.1) other (λ secret prior held so. so)
+      found_or : (found : Option (List ℕ)) {other : Part (List ℕ)} → OwnSo Held other IsFound → OwnSo (KnownHeld found) (or_else found other) IsFound
+      found_or None other = record { of = λ prior before events result after does pre. other.of prior before events result after does pre.1 }
       found_or (Some secret) other = returned secret (λ prior held so. so.0)
 
-      found_needed : (found : Option (List ℕ)) → OwnSo (Known found) (needed code.NoData found) IsFound
+      found_needed : (found : Option (List ℕ)) → OwnSo (KnownHeld found) (needed code.NoData found) IsFound
       found_needed None = refused (Agent code.NoData)
-      found_needed (Some secret) = returned secret (λ prior held so. so)
+      found_needed (Some secret) = returned secret (λ prior held so. so.0)
 
       by_cache : OwnSo Held (ByCache fields.id) IsFound
       by_cache = bind (looks_for fields.id refl) found_needed
@@ -236,17 +223,17 @@ module _ (rules : Rules) where
           let says_so : List (Event FurtherEvent) → Type 0 = λ prior. IsSaid secret prior None in
           changes says_so says_so (Put id User Default secret) (λ prior says hands. whose.sent (by_command (given fields is_get same)) says) (λ prior more says. sent_more more says)
 
-      by_client : OwnSo Anything (ByClient fields.id) IsFound
-      by_client = bind asks_client (λ secret. bind (keeps_under fields.id refl secret) (λ kept. returned secret (λ prior held says. answers.sent says)))
+      by_client : OwnSo Held (ByClient fields.id) IsFound
+      by_client = bind (asks_client Held IsSaid (λ pass prior held says. says)) (λ secret. bind (keeps_under fields.id refl secret) (λ kept. returned secret (λ prior held says. answers.sent says)))
 
-      uncached : (way : PinMode) → OwnSo Anything (Uncached fields.id way) IsFound
+      uncached : (way : PinMode) → OwnSo Held (Uncached fields.id way) IsFound
       uncached mode.Ask = refused (Agent code.NoPinentry)
       uncached mode.Cancel = refused (Agent code.Cancelled)
       uncached mode.Error = refused (Agent code.NoPinentry)
       uncached mode.Loopback = by_client
 
       without_prompt : (way : PinMode) → OwnSo Held (WithoutPrompt fields.id way) IsFound
-      without_prompt way = bind (looks_for fields.id refl) (λ found. weaker (λ prior held so. (so, tt)) (found_or found (uncached way)) (λ secret prior held so. so))
+      without_prompt way = bind (looks_for fields.id refl) (λ found. found_or found (uncached way))
 
       module _ (options : OptionValues) where
         prompts_of : (texts : Texts) → Owns Held (PromptsAny rules options texts fields.check fields.quality fields.repeat) (λ pin prior held. Held prior held × IsAccepted request prior pin)
@@ -294,21 +281,17 @@ module _ (rules : Rules) where
     changes_plainly : {step : MarkStep} → (HandsIn step → ⊥) → OwnSo Held (Changes step) (λ changed. Anything)
     changes_plainly quiet = plainly (each_changes (IsPlain rules) (λ turn. (quiet, tt)))
 
-    allowed_own : (so : Bool) → OwnSo Held (wanted code.NotSupported so) (λ allowed. Anything)
-    allowed_own true = returned tt (λ prior held pre. tt)
-    allowed_own false = refused (Agent code.NotSupported)
-
     module _ (id : List ℕ) (life : Life) where
       abbrev IsPreset : List ℕ → List (Event FurtherEvent) → Type 0
       IsPreset pass prior = StoresOwn request prior (put id life pass)
 
       given_or_asked : (secret : Option (List ℕ)) → request ≡ Cache (on.PresetPassphrase id life secret) → OwnSo Anything (GivenOrAsked secret) (λ pass prior held. IsPreset pass prior)
-      given_or_asked None is = weaker (λ prior held pre. pre) asks_client (λ pass prior held says. whose.sent (by_command (preset is)) says)
+      given_or_asked None is = asks_client Anything (λ pass prior held. IsPreset pass prior) (λ pass prior held says. whose.sent (by_command (preset is)) says)
       given_or_asked (Some pass) is = returned pass (λ prior held pre. whose.preset is)
 
       presets : (secret : Option (List ℕ)) → request ≡ Cache (on.PresetPassphrase id life secret) → OwnSo Held (Presets rules id life secret) (λ stored. Anything)
       presets secret is =
-          bind (allowed_own rules.allow_preset)
+          bind (plainly (each_wanted (IsPlain rules) code.NotSupported rules.allow_preset))
           (λ allowed. bind (given_or_asked secret is) (λ pass. changes (IsPreset pass) (λ prior. ⊤) (put id life pass) (λ prior so hands. so) (λ prior more so. tt)))
 
     replies : (options : OptionValues) (command : CacheCommand) → request ≡ Cache command → OwnSo Held (Replies rules options command) Says
@@ -348,18 +331,18 @@ module _ (rules : Rules) where
     exchange_own own (exchange.answered events held reply {back} does closes_so) =
         let so = own.of [] None events (Ok reply) held does (λ ticket is. absurd (cc is)) in
         let plain : Plain rules back = back_plain rules closes_so in
-        let quiet : AllByRecursion IsQuiet (back ++ Sent reply.text ∷ []) = each_append IsQuiet back (Sent reply.text ∷ []) (plain_quiet rules back plain) (tt, tt) in (
+        let quiet : AllByRecursion IsQuiet (back ++ Sent reply.text ∷ []) = each_append IsQuiet back (Sent reply.text ∷ []) (each_first IsQuiet (IsOpen rules) back plain) (tt, tt) in (
           own_then request [] events (back ++ Sent reply.text ∷ []) so.0 (quiet_are_own request events (back ++ Sent reply.text ∷ []) quiet),
           λ front later text is.
-              said_last_own rules request (events ++ back) reply.text (each_append (IsOpen rules) events back so.1 (plain_open rules back plain)) (says_more back so.2) front later text
+              said_last_own rules request (events ++ back) reply.text (each_append (IsOpen rules) events back so.1 (each_second IsQuiet (IsOpen rules) back plain)) (says_more back so.2) front later text
               (append_assoc events back (Sent reply.text ∷ []) ∙ is),
         )
     exchange_own own (exchange.refused events held why {back} does closes_so) =
         let so = own.of [] None events (Err why) held does (λ ticket is. absurd (cc is)) in
         let last = back ++ said_last (refusal_line why) in
         let plain : Plain rules last = each_append (IsPlain rules) back (said_last (refusal_line why)) (back_plain rules closes_so) (refusal_plain rules why) in (
-          own_then request [] events last so.0 (quiet_are_own request events last (plain_quiet rules last plain)),
-          open_are_own rules request (events ++ last) (each_append (IsOpen rules) events last so.1 (plain_open rules last plain)),
+          own_then request [] events last so.0 (quiet_are_own request events last (each_first IsQuiet (IsOpen rules) last plain)),
+          open_are_own rules request (events ++ last) (each_append (IsOpen rules) events last so.1 (each_second IsQuiet (IsOpen rules) last plain)),
         )
 
   pub cache_own : (before : OptionValues) (request : Request) (events : List (Event FurtherEvent)) (after : OptionValues) (went : Went) → Exchange rules before request events after went → AllOwn request events
