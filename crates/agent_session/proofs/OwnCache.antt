@@ -10,7 +10,7 @@ use Rattle.agent_ask.specs.Failing.{said_last}
 use Rattle.agent_ask.specs.Further.{FurtherEvent}
 use Rattle.agent_ask.specs.PartExchanges.{AnyExchange}
 use Rattle.agent_ask.specs.PartExchanges as exchange
-use Rattle.agent_ask.specs.Parts.{◌>>=◌, goes_on, stops, Returns, returns, Refuses, needed, wanted, or_else}
+use Rattle.agent_ask.specs.Parts.{◌>>=◌, goes_on, stops, Returns, returns, Refuses, needed, or_else}
 use Rattle.agent_ask.specs.Parts as chain
 use Rattle.agent_ask.specs.SessionEvents.{Sent, cache_turn}
 use Rattle.agent_ask.specs.TurnParts.{Asks, Seats, Changes, Closes}
@@ -39,7 +39,7 @@ use Rattle.agent_commands.specs.Events.{Event}
 use Rattle.agent_commands.specs.Exchanges as exchanges
 use Rattle.agent_commands.specs.Exchanges.{Exchange, CacheReply, TellsPassphrase, TellsInfo, GivenOrAsked, Presets, Replies, option_replies, confirms_by, put}
 use Rattle.agent_commands.specs.Parts.{Part, AsksPassphrase, limit_line}
-use Rattle.agent_commands.specs.Passphrases.{ask, ask_or_open, Looks, LooksFor, WantsPrompt, KeepsUnder, ByCache, ByClient, Uncached, WithoutPrompt, PromptsAny, ByUser, as_wanted, passphrase_by}
+use Rattle.agent_commands.specs.Passphrases.{ask, ask_or_open, LooksFor, WantsPrompt, KeepsUnder, ByCache, ByClient, Uncached, WithoutPrompt, PromptsAny, ByUser, as_wanted, passphrase_by}
 use Rattle.agent_commands.specs.Passphrases as passphrases
 use Rattle.agent_commands.specs.Requests.{GetFields, get_passphrase}
 use Rattle.agent_commands.specs.declared.request.CacheCommand.{CacheCommand}
@@ -49,7 +49,7 @@ use Rattle.agent_commands.specs.declared.request.Request.{Request}
 use Rattle.agent_commands.specs.declared.request.Request.TheVariants.{Cache, Key as OnKeys, Bad}
 use Rattle.agent_commands.specs.declared.request.Texts.{Texts}
 use Rattle.agent_commands.specs.declared.went.Went.{Went}
-use Rattle.key_commands.proofs.EachEvent.{each_append, EachSo, each_bind, each_refused, each_seats, each_changes}
+use Rattle.key_commands.proofs.EachEvent.{each_append, EachSo, each_bind, each_refused, each_seats, each_changes, each_wanted}
 use Rattle.agent_origin.specs.SessionExchanges.{RequestExchange, cache, keys}
 use Rattle.agent_origin.specs.declared.kept.Kept.{Kept}
 use Rattle.agent_session.specs.Causes.{Has, here, IsSent, sent}
@@ -59,10 +59,14 @@ use Rattle.agent_session.specs.OwnPassphrases.{by_command, WantsTicket, by_id, u
 use Rattle.agent_session.specs.OwnPassphrases as whose
 use Rattle.agent_session.specs.Refusals.{preset, given, limit}
 use Rattle.agent_session.proofs.OwnFacts.{ticket_more, accepted_more, sent_more}
-use Rattle.agent_session.proofs.OwnLines.{IsOpen, IsPlain, Open, Plain, plain_quiet, plain_open, shown_plain, refusal_plain, back_plain, open_are_own, said_last_own}
+use Rattle.agent_session.proofs.OwnLines.{IsOpen, IsPlain, Open, Plain, each_first, each_second, shown_plain, refusal_plain, back_plain, open_are_own, said_last_own}
 use Rattle.agent_session.proofs.OwnKeys.{stand_last, key_own}
 use Rattle.agent_session.proofs.OwnParts.{IsQuiet, Fit, AreOwn, own_then, quiet_are_own, HoldsOf, whatever, Anything}
 use Rattle.agent_session.proofs.Standing.{has_left, has_right}
+
+-- what is so of what was done before and of the ticket that is held
+abbrev Fact : Type 1
+Fact = List (Event FurtherEvent) → Option ℕ → Type 0
 
 module _ (rules : Rules) where
   agrees_of : {options : OptionValues} {question : List ℕ} (before : Option ℕ) (events : List (Event FurtherEvent)) (result : Result (Unit {0}) Refusal) (after : Option ℕ)
@@ -79,17 +83,15 @@ module _ (rules : Rules) where
   module _ (request : Request) where
     -- ---- parts
 
-    -- Where this is so of what was done before and of the ticket that is held, what a part hands in is the request's own, and it writes no passphrase; and
-    -- then that is so of what it comes to.
-    abbrev Owns : {A : Type 0} → (List (Event FurtherEvent) → Option ℕ → Type 0) → Part A → (A → List (Event FurtherEvent) → Option ℕ → Type 0) → Type 0
+    -- where this is so, what a part hands in is the request's own, and it writes no passphrase; and then that is so of what it comes to
+    abbrev Owns : {A : Type 0} → Fact → Part A → (A → Fact) → Type 0
     Owns {A} Pre part Post = (prior : List (Event FurtherEvent)) (before : Option ℕ) (events : List (Event FurtherEvent)) (result : Result A Refusal) (after : Option ℕ) → part before events result after → Pre prior before
         → AreOwn request prior events × Open rules events × HoldsOf (λ value. Post value (prior ++ events) after) result
 
-    record OwnSo {A : Type 0} (Pre : List (Event FurtherEvent) → Option ℕ → Type 0) (part : Part A) (Post : A → List (Event FurtherEvent) → Option ℕ → Type 0) : Type 0 where
+    record OwnUntold {A : Type 0} (Pre : Fact) (part : Part A) (Post : A → Fact) : Type 0 where
       of : Owns Pre part Post
 
-    module _ {A B : Type 0} {Pre : List (Event FurtherEvent) → Option ℕ → Type 0} {Mid : A → List (Event FurtherEvent) → Option ℕ → Type 0} {Post : B → List (Event FurtherEvent) → Option ℕ → Type 0}
-        {part : Part A} {next : A → Part B} (first : OwnSo Pre part Mid) (then : (value : A) → OwnSo (Mid value) (next value) Post) where
+    module _ {A B : Type 0} {Pre : Fact} {Mid : A → Fact} {Post : B → Fact} {part : Part A} {next : A → Part B} (first : OwnUntold Pre part Mid) (then : (value : A) → OwnUntold (Mid value) (next value) Post) where
       bind_of : Owns Pre (part >>= next) Post
       bind_of prior before events result after (goes_on {first = some} {events = more} {value} {mid} does next_does) pre =
           let one = first.of prior before some (Ok value) mid does pre in
@@ -97,39 +99,27 @@ module _ (rules : Rules) where
           (own_then request prior some more one.0 two.0, each_append (IsOpen rules) some more one.1 two.1, subst (λ p. HoldsOf (λ value. Post value p after) result) (append_assoc prior some more) two.2)
       bind_of prior before events result after (stops {refusal = why} does) pre = let one = first.of prior before events (Err why) after does pre in (one.0, one.1, tt)
 
-      bind : OwnSo Pre (part >>= next) Post
+      bind : OwnUntold Pre (part >>= next) Post
       bind = record { of = bind_of }
 
-    module _ {A : Type 0} (Pre : List (Event FurtherEvent) → Option ℕ → Type 0) (Post : A → List (Event FurtherEvent) → Option ℕ → Type 0) where
-      holds_as : (Other : A → List (Event FurtherEvent) → Option ℕ → Type 0) → ((value : A) (prior : List (Event FurtherEvent)) (held : Option ℕ) → Post value prior held → Other value prior held)
-          → (prior : List (Event FurtherEvent)) (after : Option ℕ) (result : Result A Refusal) → HoldsOf (λ value. Post value prior after) result → HoldsOf (λ value. Other value prior after) result
-      holds_as Other then prior after (Ok value) holds = then value prior after holds
-      holds_as Other then prior after (Err why) holds = tt
-
+    module _ {A : Type 0} (Pre : Fact) (Post : A → Fact) where
       returned_of : (value : A) → ((prior : List (Event FurtherEvent)) (held : Option ℕ) → Pre prior held → Post value prior held) → Owns Pre (Returns value) Post
       returned_of value so prior before events result after returns pre = (tt, tt, subst (λ p. Post value p before) (sym (append-nil prior)) (so prior before pre))
 
       refused_of : (why : Refusal) → Owns Pre (Refuses {A = A} why) Post
       refused_of why prior before events result after chain.refuses pre = (tt, tt, tt)
 
-    module _ {A : Type 0} {Pre : List (Event FurtherEvent) → Option ℕ → Type 0} {Post : A → List (Event FurtherEvent) → Option ℕ → Type 0} where
-      weaker : {Wider : List (Event FurtherEvent) → Option ℕ → Type 0} {Other : A → List (Event FurtherEvent) → Option ℕ → Type 0} {part : Part A}
-          → ((prior : List (Event FurtherEvent)) (held : Option ℕ) → Pre prior held → Wider prior held) → OwnSo Wider part Post
-          → ((value : A) (prior : List (Event FurtherEvent)) (held : Option ℕ) → Post value prior held → Other value prior held) → OwnSo Pre part Other
-      weaker {Other} where_so own then = record {
-        of = λ prior before events result after does pre. let so = own.of prior before events result after does (where_so prior before pre) in (so.0, so.1, holds_as Pre Post Other then (prior ++ events) after result so.2);
-      }
-
-      returned : (value : A) → ((prior : List (Event FurtherEvent)) (held : Option ℕ) → Pre prior held → Post value prior held) → OwnSo Pre (Returns value) Post
+    module _ {A : Type 0} {Pre : Fact} {Post : A → Fact} where
+      returned : (value : A) → ((prior : List (Event FurtherEvent)) (held : Option ℕ) → Pre prior held → Post value prior held) → OwnUntold Pre (Returns value) Post
       returned value so = record { of = returned_of Pre Post value so }
 
-      refused : (why : Refusal) → OwnSo Pre (Refuses {A = A} why) Post
+      refused : (why : Refusal) → OwnUntold Pre (Refuses {A = A} why) Post
       refused why = record { of = refused_of Pre Post why }
 
     plain_own : (prior events : List (Event FurtherEvent)) → Plain rules events → AreOwn request prior events × Open rules events
-    plain_own prior events each = (quiet_are_own request prior events (plain_quiet rules events each), plain_open rules events each)
+    plain_own prior events each = (quiet_are_own request prior events (each_first IsQuiet (IsOpen rules) events each), each_second IsQuiet (IsOpen rules) events each)
 
-    plainly : {A : Type 0} {Pre : List (Event FurtherEvent) → Option ℕ → Type 0} {part : Part A} → EachSo (IsPlain rules) part → OwnSo Pre part (λ value. Anything)
+    plainly : {A : Type 0} {Pre : Fact} {part : Part A} → EachSo (IsPlain rules) part → OwnUntold Pre part (λ value. Anything)
     plainly each = record { of = λ prior before events result after does pre. let so = plain_own prior events (each.of before events result after does) in (so.0, so.1, whatever result tt) }
 
     -- a turn that changes the cache
@@ -139,29 +129,30 @@ module _ (rules : Rules) where
       changes_of prior before events result after turning.done pre = ((own prior pre, tt), (tt, tt), then prior _ pre)
       changes_of prior before events result after (turning.interrupted why) pre = ((own prior pre, tt), (tt, tt), tt)
 
-      changes : OwnSo (λ prior held. Is prior) (Changes step) (λ changed prior held. After prior)
+      changes : OwnUntold (λ prior held. Is prior) (Changes step) (λ changed prior held. After prior)
       changes = record { of = changes_of }
 
     -- ---- the client
 
-    abbrev IsSaid : List ℕ → List (Event FurtherEvent) → Option ℕ → Type 0
+    abbrev IsSaid : List ℕ → Fact
     IsSaid pass prior held = IsSent prior (codes "PASSPHRASE") MAX_SECRET_LEN pass
 
-    writes_of : Owns Anything (Writes limit_line) (λ wrote. Anything)
-    writes_of prior before events result after client.written pre = ((tt, tt), (notice (limit MAX_SECRET_LEN), tt), tt)
-    writes_of prior before events result after (client.cut unsent is) pre = ((tt, tt), (tt, tt), tt)
+    module _ (Pre : Fact) (Post : List ℕ → Fact) (gives : (pass : List ℕ) (prior : List (Event FurtherEvent)) (held : Option ℕ) → IsSaid pass prior held → Post pass prior held) where
+      writes_of : Owns Pre (Writes limit_line) (λ wrote. Anything)
+      writes_of prior before events result after client.written pre = ((tt, tt), (notice (limit MAX_SECRET_LEN), tt), tt)
+      writes_of prior before events result after (client.cut unsent is) pre = ((tt, tt), (tt, tt), tt)
 
-    inquires_of : Owns Anything (Inquires session_lines (codes "PASSPHRASE") MAX_SECRET_LEN) IsSaid
-    inquires_of prior before events result after (client.given is) pre = ((tt, tt), (tt, tt), sent is (has_right prior here))
-    inquires_of prior before events result after (client.not_given is) pre = ((tt, tt), (tt, tt), tt)
+      inquires_of : Owns Anything (Inquires session_lines (codes "PASSPHRASE") MAX_SECRET_LEN) Post
+      inquires_of prior before events result after (client.given is) pre = ((tt, tt), (tt, tt), gives _ _ before (sent is (has_right prior here)))
+      inquires_of prior before events result after (client.not_given is) pre = ((tt, tt), (tt, tt), tt)
 
-    asks_client : OwnSo Anything AsksPassphrase IsSaid
-    asks_client = bind (record { of = writes_of }) (λ wrote. record { of = inquires_of })
+      asks_client : OwnUntold Pre AsksPassphrase Post
+      asks_client = bind (record { of = writes_of }) (λ wrote. record { of = inquires_of })
 
     -- ---- the ticket
 
     -- the one that is held is the request's own
-    abbrev Held : List (Event FurtherEvent) → Option ℕ → Type 0
+    abbrev Held : Fact
     Held prior held = (ticket : ℕ) → held ≡ Some ticket → HasTicket request prior ticket
 
     held_more : {prior : List (Event FurtherEvent)} {held : Option ℕ} (more : List (Event FurtherEvent)) → Held prior held → Held (prior ++ more) held
@@ -181,72 +172,66 @@ module _ (rules : Rules) where
     -- ---- GET_PASSPHRASE
 
     module _ (fields : GetFields) (is_get : request ≡ Cache (get_passphrase fields)) where
-      abbrev IsFound : List ℕ → List (Event FurtherEvent) → Option ℕ → Type 0
+      abbrev IsFound : List ℕ → Fact
       IsFound secret prior held = IsAnswered request prior fields secret
 
-      -- what the cache gave
-      abbrev Known : Option (List ℕ) → List (Event FurtherEvent) → Option ℕ → Type 0
-      Known None prior held = ⊤
-      Known (Some secret) prior held = IsAnswered request prior fields secret
+      -- what the cache gave, or whose the ticket is that is held
+      abbrev Known : Option (List ℕ) → Fact
+      Known None = Held
+      Known (Some secret) = IsFound secret
 
       module _ (step : MarkStep) (quiet : HandsIn step → ⊥) (gives : (prior : List (Event FurtherEvent)) (grant : Grant) → Has (cache_turn step (Given grant)) prior → IsAnswered request prior fields grant.entry.secret) where
-        -- and whose the ticket is that is held then
-        abbrev Asked : Option (List ℕ) → List (Event FurtherEvent) → Option ℕ → Type 0
-        Asked found prior held = Known found prior held × (WantsTicket request step → Held prior held)
+        asks_of : (prior : List (Event FurtherEvent)) (before : Option ℕ) (events : List (Event FurtherEvent)) (result : Result (Option (List ℕ)) Refusal) (after : Option ℕ)
+            → ((ticket : ℕ) → before ≡ None → after ≡ Some ticket → WantsTicket request step) → Asks step before events result after → Held prior before
+            → AreOwn request prior events × Open rules events × HoldsOf (λ found. Known found (prior ++ events) after) result
+        asks_of prior before events result after wants (turning.given {grant}) pre = (((λ hands. absurd (quiet hands)), tt), (tt, tt), gives _ grant (has_right prior here))
+        asks_of prior before events result after wants turning.empty pre = (((λ hands. absurd (quiet hands)), tt), (tt, tt), held_more _ pre)
+        asks_of prior before events result after wants turning.opened pre = (((λ hands. absurd (quiet hands)), tt), (tt, tt), opened_own (has_ticket (wants _ refl refl) (has_right prior here)))
+        asks_of prior before events result after wants (turning.interrupted why) pre = (((λ hands. absurd (quiet hands)), tt), (tt, tt), tt)
 
-        asks_of : Owns Held (Asks step) Asked
-        asks_of prior before events result after (turning.given {grant}) pre = (((λ hands. absurd (quiet hands)), tt), (tt, tt), (gives _ grant (has_right prior here), λ wants. held_more _ pre))
-        asks_of prior before events result after turning.empty pre = (((λ hands. absurd (quiet hands)), tt), (tt, tt), (tt, λ wants. held_more _ pre))
-        asks_of prior before events result after turning.opened pre = (((λ hands. absurd (quiet hands)), tt), (tt, tt), (tt, λ wants. opened_own (has_ticket wants (has_right prior here))))
-        asks_of prior before events result after (turning.interrupted why) pre = (((λ hands. absurd (quiet hands)), tt), (tt, tt), tt)
+      looks_for : (id : Option (List ℕ)) → fields.id ≡ id → OwnUntold Held (LooksFor id) Known
+      looks_for None same = returned None (λ prior held pre. pre)
+      looks_for (Some id) same = record {
+        of = λ prior before events result after does pre.
+            let unopened : (ticket : ℕ) → before ≡ None → after ≡ Some ticket → WantsTicket request (ask id) = λ ticket none some. absurd (cc (none, some, does.keeps)) in
+            asks_of (ask id) (λ hands. elim hands [ ]) (λ prior grant has. cached same has) prior before events result after unopened does.asks pre;
+      }
 
-        asks : OwnSo Held (Asks step) Asked
-        asks = record { of = asks_of }
+      wants_prompt : (id : Option (List ℕ)) → fields.id ≡ id → OwnUntold Held (WantsPrompt id) Known
+      wants_prompt None same = bind (record { of = seats_of }) (λ seated. returned None (λ prior held pre. pre))
+      wants_prompt (Some id) same = record {
+        of = λ prior before events result after does pre.
+            asks_of (ask_or_open id) (λ hands. elim hands [ ]) (λ prior grant has. unprompted same has) prior before events result after (λ ticket none some. by_id fields is_get same) does pre;
+      }
 
-        looks_asks : OwnSo Held (Looks step) Asked
-        looks_asks = record { of = λ prior before events result after does pre. asks_of prior before events result after does.asks pre }
+      found_or : (found : Option (List ℕ)) {other : Part (List ℕ)} → OwnUntold Held other IsFound → OwnUntold (Known found) (or_else found other) IsFound
+      found_or None other = other
+      found_or (Some secret) other = returned secret (λ prior held found. found)
 
-        looks : OwnSo Held (Looks step) Known
-        looks = weaker (λ prior held pre. pre) looks_asks (λ found prior held so. so.0)
-
-      looks_for : (id : Option (List ℕ)) → fields.id ≡ id → OwnSo Held (LooksFor id) Known
-      looks_for None same = returned None (λ prior held pre. tt)
-      looks_for (Some id) same = looks (ask id) (λ hands. elim hands [ ]) (λ prior grant has. cached same has)
-
-      wants_prompt : (id : Option (List ℕ)) → fields.id ≡ id → OwnSo Held (WantsPrompt id) (λ found prior held. Known found prior held × Held prior held)
-      wants_prompt None same = bind (record { of = seats_of }) (λ seated. returned None (λ prior held pre. (tt, pre)))
-      wants_prompt (Some id) same =
-          weaker (λ prior held pre. pre) (asks (ask_or_open id) (λ hands. elim hands [ ]) (λ prior grant has. unprompted same has)) (λ found prior held so. (so.0, so.1 (by_id fields is_get same)))
-
-      found_or : (found : Option (List ℕ)) {other : Part (List ℕ)} {Pre : List (Event FurtherEvent) → Option ℕ → Type 0} → OwnSo Pre other IsFound
-          → OwnSo (λ prior held. Known found prior held × Pre prior held) (or_else found other) IsFound
-      found_or None other = weaker (λ prior held so. so.1) other (λ secret prior held so. so)
-      found_or (Some secret) other = returned secret (λ prior held so. so.0)
-
-      found_needed : (found : Option (List ℕ)) → OwnSo (Known found) (needed code.NoData found) IsFound
+      found_needed : (found : Option (List ℕ)) → OwnUntold (Known found) (needed code.NoData found) IsFound
       found_needed None = refused (Agent code.NoData)
-      found_needed (Some secret) = returned secret (λ prior held so. so)
+      found_needed (Some secret) = returned secret (λ prior held found. found)
 
-      by_cache : OwnSo Held (ByCache fields.id) IsFound
+      by_cache : OwnUntold Held (ByCache fields.id) IsFound
       by_cache = bind (looks_for fields.id refl) found_needed
 
-      keeps_under : (id : Option (List ℕ)) → fields.id ≡ id → (secret : List ℕ) → OwnSo (IsSaid secret) (KeepsUnder id secret) (λ kept. IsSaid secret)
+      keeps_under : (id : Option (List ℕ)) → fields.id ≡ id → (secret : List ℕ) → OwnUntold (IsSaid secret) (KeepsUnder id secret) (λ kept. IsSaid secret)
       keeps_under None same secret = returned tt (λ prior held says. says)
       keeps_under (Some id) same secret =
           let says_so : List (Event FurtherEvent) → Type 0 = λ prior. IsSaid secret prior None in
           changes says_so says_so (Put id User Default secret) (λ prior says hands. whose.sent (by_command (given fields is_get same)) says) (λ prior more says. sent_more more says)
 
-      by_client : OwnSo Anything (ByClient fields.id) IsFound
-      by_client = bind asks_client (λ secret. bind (keeps_under fields.id refl secret) (λ kept. returned secret (λ prior held says. answers.sent says)))
+      by_client : OwnUntold Held (ByClient fields.id) IsFound
+      by_client = bind (asks_client Held IsSaid (λ pass prior held says. says)) (λ secret. bind (keeps_under fields.id refl secret) (λ kept. returned secret (λ prior held says. answers.sent says)))
 
-      uncached : (way : PinMode) → OwnSo Anything (Uncached fields.id way) IsFound
+      uncached : (way : PinMode) → OwnUntold Held (Uncached fields.id way) IsFound
       uncached mode.Ask = refused (Agent code.NoPinentry)
       uncached mode.Cancel = refused (Agent code.Cancelled)
       uncached mode.Error = refused (Agent code.NoPinentry)
       uncached mode.Loopback = by_client
 
-      without_prompt : (way : PinMode) → OwnSo Held (WithoutPrompt fields.id way) IsFound
-      without_prompt way = bind (looks_for fields.id refl) (λ found. weaker (λ prior held so. (so, tt)) (found_or found (uncached way)) (λ secret prior held so. so))
+      without_prompt : (way : PinMode) → OwnUntold Held (WithoutPrompt fields.id way) IsFound
+      without_prompt way = bind (looks_for fields.id refl) (λ found. found_or found (uncached way))
 
       module _ (options : OptionValues) where
         prompts_of : (texts : Texts) → Owns Held (PromptsAny rules options texts fields.check fields.quality fields.repeat) (λ pin prior held. Held prior held × IsAccepted request prior pin)
@@ -254,18 +239,18 @@ module _ (rules : Rules) where
             let so = plain_own prior shown (shown_plain rules prompt.in_session) in (so.0, so.1, (held_more shown pre, any prompt.asks prompt.in_session (stand_last prior shown)))
         prompts_of texts prior before events result after (passphrases.refused {shown} spec is prompt needless refusal) pre = let so = plain_own prior shown (shown_plain rules prompt.in_session) in (so.0, so.1, tt)
 
-        by_user : (texts : Texts) → OwnSo Held (ByUser rules options texts fields.check fields.quality fields.repeat fields.id) IsFound
+        by_user : (texts : Texts) → OwnUntold Held (ByUser rules options texts fields.check fields.quality fields.repeat fields.id) IsFound
         by_user texts =
             bind (wants_prompt fields.id refl)
             (λ found. found_or found (bind (record { of = prompts_of texts }) (λ pin. bind (record { of = closes_of pin }) (λ kept. returned pin (λ prior held so. typed so)))))
 
-        wanted_by : (way : PinMode) (texts : Texts) → OwnSo Held (as_wanted rules options fields way texts) IsFound
+        wanted_by : (way : PinMode) (texts : Texts) → OwnUntold Held (as_wanted rules options fields way texts) IsFound
         wanted_by mode.Ask texts = by_user texts
         wanted_by mode.Cancel texts = without_prompt mode.Cancel
         wanted_by mode.Error texts = without_prompt mode.Error
         wanted_by mode.Loopback texts = without_prompt mode.Loopback
 
-        found_by : (no_ask : Bool) (texts : Option Texts) → OwnSo Held (passphrase_by rules options fields no_ask texts) IsFound
+        found_by : (no_ask : Bool) (texts : Option Texts) → OwnUntold Held (passphrase_by rules options fields no_ask texts) IsFound
         found_by no_ask None = by_cache
         found_by true (Some texts) = by_cache
         found_by false (Some texts) = wanted_by options.mode texts
@@ -276,42 +261,38 @@ module _ (rules : Rules) where
 
     -- ---- requests
 
-    abbrev Says : CacheReply → List (Event FurtherEvent) → Option ℕ → Type 0
+    abbrev Says : CacheReply → Fact
     Says reply prior held = SaysOwn request prior rules reply.text
 
-    says : {Pre : List (Event FurtherEvent) → Option ℕ → Type 0} (reply : CacheReply) → IsPublic rules reply.text → OwnSo Pre (Returns reply) Says
+    says : {Pre : Fact} (reply : CacheReply) → IsPublic rules reply.text → OwnUntold Pre (Returns reply) Says
     says reply is = returned reply (λ prior held pre. public is)
 
     tells_info_of : (what : Info) → Owns Held (TellsInfo rules what) (λ text prior held. SaysOwn request prior rules text)
     tells_info_of what prior before events result after (exchanges.tells is) pre = (tt, tt, public (tells what is))
 
-    option_own : (end : OptionAnswer) (values : OptionValues) → OwnSo Held (option_replies end values) Says
+    option_own : (end : OptionAnswer) (values : OptionValues) → OwnUntold Held (option_replies end values) Says
     option_own Set values = says _ done
     option_own Unknown values = refused (Agent code.UnknownOption)
     option_own Parameter values = refused (Agent code.Parameter)
     option_own NotSupported values = refused (Agent code.NotSupported)
 
-    changes_plainly : {step : MarkStep} → (HandsIn step → ⊥) → OwnSo Held (Changes step) (λ changed. Anything)
+    changes_plainly : {step : MarkStep} → (HandsIn step → ⊥) → OwnUntold Held (Changes step) (λ changed. Anything)
     changes_plainly quiet = plainly (each_changes (IsPlain rules) (λ turn. (quiet, tt)))
-
-    allowed_own : (so : Bool) → OwnSo Held (wanted code.NotSupported so) (λ allowed. Anything)
-    allowed_own true = returned tt (λ prior held pre. tt)
-    allowed_own false = refused (Agent code.NotSupported)
 
     module _ (id : List ℕ) (life : Life) where
       abbrev IsPreset : List ℕ → List (Event FurtherEvent) → Type 0
       IsPreset pass prior = StoresOwn request prior (put id life pass)
 
-      given_or_asked : (secret : Option (List ℕ)) → request ≡ Cache (on.PresetPassphrase id life secret) → OwnSo Anything (GivenOrAsked secret) (λ pass prior held. IsPreset pass prior)
-      given_or_asked None is = weaker (λ prior held pre. pre) asks_client (λ pass prior held says. whose.sent (by_command (preset is)) says)
+      given_or_asked : (secret : Option (List ℕ)) → request ≡ Cache (on.PresetPassphrase id life secret) → OwnUntold Anything (GivenOrAsked secret) (λ pass prior held. IsPreset pass prior)
+      given_or_asked None is = asks_client Anything (λ pass prior held. IsPreset pass prior) (λ pass prior held says. whose.sent (by_command (preset is)) says)
       given_or_asked (Some pass) is = returned pass (λ prior held pre. whose.preset is)
 
-      presets : (secret : Option (List ℕ)) → request ≡ Cache (on.PresetPassphrase id life secret) → OwnSo Held (Presets rules id life secret) (λ stored. Anything)
+      presets : (secret : Option (List ℕ)) → request ≡ Cache (on.PresetPassphrase id life secret) → OwnUntold Held (Presets rules id life secret) (λ stored. Anything)
       presets secret is =
-          bind (allowed_own rules.allow_preset)
+          bind (plainly (each_wanted (IsPlain rules) code.NotSupported rules.allow_preset))
           (λ allowed. bind (given_or_asked secret is) (λ pass. changes (IsPreset pass) (λ prior. ⊤) (put id life pass) (λ prior so hands. so) (λ prior more so. tt)))
 
-    replies : (options : OptionValues) (command : CacheCommand) → request ≡ Cache command → OwnSo Held (Replies rules options command) Says
+    replies : (options : OptionValues) (command : CacheCommand) → request ≡ Cache command → OwnUntold Held (Replies rules options command) Says
     replies options on.Nop is = says _ done
     replies options on.Reset is = says _ done
     replies options on.Bye is = says _ closes
@@ -344,22 +325,22 @@ module _ (rules : Rules) where
     abbrev AllOwn : List (Event FurtherEvent) → Type 0
     AllOwn events = AreOwn request [] events × SaysOwnAlone rules request events
 
-    exchange_own : {part : Part CacheReply} {before after : OptionValues} {events : List (Event FurtherEvent)} {went : Went} → OwnSo Held part Says → AnyExchange refusal_line went_after part before events after went → AllOwn events
+    exchange_own : {part : Part CacheReply} {before after : OptionValues} {events : List (Event FurtherEvent)} {went : Went} → OwnUntold Held part Says → AnyExchange refusal_line went_after part before events after went → AllOwn events
     exchange_own own (exchange.answered events held reply {back} does closes_so) =
         let so = own.of [] None events (Ok reply) held does (λ ticket is. absurd (cc is)) in
         let plain : Plain rules back = back_plain rules closes_so in
-        let quiet : AllByRecursion IsQuiet (back ++ Sent reply.text ∷ []) = each_append IsQuiet back (Sent reply.text ∷ []) (plain_quiet rules back plain) (tt, tt) in (
+        let quiet : AllByRecursion IsQuiet (back ++ Sent reply.text ∷ []) = each_append IsQuiet back (Sent reply.text ∷ []) (each_first IsQuiet (IsOpen rules) back plain) (tt, tt) in (
           own_then request [] events (back ++ Sent reply.text ∷ []) so.0 (quiet_are_own request events (back ++ Sent reply.text ∷ []) quiet),
           λ front later text is.
-              said_last_own rules request (events ++ back) reply.text (each_append (IsOpen rules) events back so.1 (plain_open rules back plain)) (says_more back so.2) front later text
+              said_last_own rules request (events ++ back) reply.text (each_append (IsOpen rules) events back so.1 (each_second IsQuiet (IsOpen rules) back plain)) (says_more back so.2) front later text
               (append_assoc events back (Sent reply.text ∷ []) ∙ is),
         )
     exchange_own own (exchange.refused events held why {back} does closes_so) =
         let so = own.of [] None events (Err why) held does (λ ticket is. absurd (cc is)) in
         let last = back ++ said_last (refusal_line why) in
         let plain : Plain rules last = each_append (IsPlain rules) back (said_last (refusal_line why)) (back_plain rules closes_so) (refusal_plain rules why) in (
-          own_then request [] events last so.0 (quiet_are_own request events last (plain_quiet rules last plain)),
-          open_are_own rules request (events ++ last) (each_append (IsOpen rules) events last so.1 (plain_open rules last plain)),
+          own_then request [] events last so.0 (quiet_are_own request events last (each_first IsQuiet (IsOpen rules) last plain)),
+          open_are_own rules request (events ++ last) (each_append (IsOpen rules) events last so.1 (each_second IsQuiet (IsOpen rules) last plain)),
         )
 
   pub cache_own : (before : OptionValues) (request : Request) (events : List (Event FurtherEvent)) (after : OptionValues) (went : Went) → Exchange rules before request events after went → AllOwn request events

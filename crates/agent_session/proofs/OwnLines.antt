@@ -25,6 +25,15 @@ use Rattle.agent_session.specs.OwnAnswers.{IsPublic, error, SaysOwn, public, Say
 use Rattle.agent_session.proofs.OwnParts.{IsQuiet, kept_none}
 use Rattle.agent_session.proofs.Standing.{each_right}
 
+-- each is so, and so
+pub each_first : {E : Type 0} (Is Other : E → Type 0) (events : List E) → AllByRecursion (λ event. Is event × Other event) events → AllByRecursion Is events
+each_first Is Other [] each = tt
+each_first Is Other (event ∷ more) each = (each.0.0, each_first Is Other more each.1)
+
+pub each_second : {E : Type 0} (Is Other : E → Type 0) (events : List E) → AllByRecursion (λ event. Is event × Other event) events → AllByRecursion Other events
+each_second Is Other [] each = tt
+each_second Is Other (event ∷ more) each = (each.0.1, each_second Is Other more each.1)
+
 -- ---- places
 
 -- an element of two lists, one behind the other
@@ -58,14 +67,6 @@ module _ (rules : Rules) where
 
   abbrev pub Plain : List (Event FurtherEvent) → Type 0
   Plain events = AllByRecursion IsPlain events
-
-  pub plain_quiet : (events : List (Event FurtherEvent)) → Plain events → AllByRecursion IsQuiet events
-  plain_quiet [] each = tt
-  plain_quiet (event ∷ more) each = (each.0.0, plain_quiet more each.1)
-
-  pub plain_open : (events : List (Event FurtherEvent)) → Plain events → Open events
-  plain_open [] each = tt
-  plain_open (event ∷ more) each = (each.0.1, plain_open more each.1)
 
   pub shown_plain : {prompt : List PromptEvent} {shown : List (Event FurtherEvent)} → AnyInSession session_lines prompt shown → Plain shown
   shown_plain session.none = tt

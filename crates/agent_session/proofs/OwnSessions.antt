@@ -27,7 +27,7 @@ use Rattle.agent_origin.specs.declared.door.Door.{Door}
 use Rattle.agent_origin.specs.declared.kept.Kept.{Kept}
 use Rattle.agent_session.specs.OwnPassphrases.{HandsIn, IsUnreceived, StoresOwnIn, StoresOwnThroughout}
 use Rattle.agent_session.proofs.OwnCache.{request_own}
-use Rattle.agent_session.proofs.OwnLines.{in_first, in_second, in_either}
+use Rattle.agent_session.proofs.OwnLines.{each_first, each_second, in_first, in_second, in_either}
 use Rattle.agent_session.proofs.OwnParts.{IsQuiet, Fit, AreOwn, own_at, own_left, own_then, quiet_are_own}
 use Rattle.agent_session.proofs.OwnTrust.{IsIdle, trust_idle}
 use Rattle.agent_session.proofs.AtOnce.{FitsTurn}
@@ -54,15 +54,8 @@ pub exchange_own : {rules : Rules} {kept now : Kept} (line : List ℕ) {events :
 exchange_own line exchange fits = (request_own (request_of line) exchange fits, each_request IsUnreceived beside_unreceived (request_of line) exchange)
 
 idle_own : (line : List ℕ) (events : List (Event FurtherEvent)) → AllByRecursion IsIdle events → LineOwn line events
-idle_own line events each = (quiet_are_own (request_of line) [] events (quiet_of events each), unreceived_of events each)
-  where
-    quiet_of : (events : List (Event FurtherEvent)) → AllByRecursion IsIdle events → AllByRecursion IsQuiet events
-    quiet_of [] each = tt
-    quiet_of (event ∷ more) each = (each.0.0, quiet_of more each.1)
-
-    unreceived_of : (events : List (Event FurtherEvent)) → AllByRecursion IsIdle events → Unreceived events
-    unreceived_of [] each = tt
-    unreceived_of (event ∷ more) each = (each.0.1, unreceived_of more each.1)
+idle_own line events each =
+    (quiet_are_own (request_of line) [] events (each_first IsQuiet IsUnreceived events each), each_second IsQuiet IsUnreceived events each)
 
 module _ {rules : Rules} {before : Kept} (line : List ℕ) where
   allowed_own : {command : _} {events : List (Event FurtherEvent)} {after : Kept} {went : Went} → AllowedExchange rules before line command events after went → Fit events → LineOwn line events
