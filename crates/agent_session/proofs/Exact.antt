@@ -1,8 +1,9 @@
 -- Each code is answered wherever its cause stands.
 use Rattle.std.specs.List.{AllByRecursion}
-use Rattle.std.proofs.Common.{◌≡◌, ◌⊎◌, ◌∙◌, ℕ, List, [], Option, Some, None, Result, Err, refl, sym, ap, subst, inl, inr}
+use Rattle.std.proofs.Common.{◌≡◌, ◌⊎◌, ℕ, List, [], Option, Some, None, Result, Err, refl, sym, subst, inl, inr}
 use Rattle.agent_ask.specs.Further.{Keys, Read, Removed}
 use Rattle.agent_ask.specs.SessionEvents.{Inquiry, Further}
+use Rattle.arrayvec.specs.ArrayVec.{ArrayVec}
 use Rattle.agent_ports.specs.declared.grip.Grip.{Grip}
 use Rattle.agent_ports.specs.declared.keys.KeyDone.TheVariants as key_done
 use Rattle.agent_ports.specs.declared.keys.KeyRead.{KeyRead}
@@ -30,13 +31,14 @@ use Rattle.key_commands.specs.Exchanges.{Exchange as KeyExchange}
 use Rattle.key_commands.specs.Faults.{fault_code}
 use Rattle.key_commands.specs.Files.{FileSays}
 use Rattle.key_commands.specs.KeyParts.{file_in, max_key_data}
+use Rattle.key_commands.specs.Requests.{key_request_of}
 use Rattle.key_commands.specs.declared.request.KeyRequest.{KeyRequest}
 use Rattle.key_commands.specs.declared.request.KeyRequest.TheVariants as on
 use Rattle.key_commands.specs.declared.went.KeyWent.{KeyWent}
 use Rattle.key_commands.specs.declared.wrap_keys.WrapKeys.{WrapKeys}
 use Rattle.agent_origin.specs.SessionExchanges.{RequestExchange, cache, keys}
 use Rattle.agent_origin.specs.declared.kept.Kept.{Kept}
-use Rattle.agent_session.specs.Causes.{Has, IsSaid, said, IsSent, sent, IsRead, read, on_keys, IsRefusedBy, Judges, tells, unlocks, Unlocks, exports, changes, LacksKeys}
+use Rattle.agent_session.specs.Causes.{Has, IsSaid, said, IsSent, sent, IsRead, read, on_keys, IsRefusedBy, Judges, tells, unlocks, Unlocks, exports, changes, LacksKeys, AreUnread}
 use Rattle.agent_session.specs.Causes.{IsOption, option, KeyDataSays, data_says, IsFaulty, file, protection, key_data, HasNoData, no_id, empty, IsMalformed, no_import, no_export, IsThere, there}
 use Rattle.agent_session.specs.Causes as causes
 use Rattle.agent_session.specs.Completeness.{Remembers, HasError}
@@ -52,95 +54,69 @@ pub said_decides : (deciding : Deciding) {events : List Event} {why : Code} (unh
 said_decides deciding {why} unheard is (said {word} {params} {limit} {inquired} says has) =
     record { event = Inquiry word params limit inquired; has = has; decides = subst (λ r. SaidDecides deciding limit r why) (sym says) is }
 
+-- what is due before a request on keys, where this is one, and what decides it
+abbrev key_due : WrapKeys → Option KeyRequest → Code → Type 0
+key_due wraps None why = ⊥
+key_due wraps (Some asked) why = due_of wraps asked why
+
+abbrev deciding_by : WrapKeys → Option KeyRequest → Deciding
+deciding_by wraps None = by_said wraps.import
+deciding_by wraps (Some asked) = deciding_of wraps asked
+
+same_sent : (wraps : WrapKeys) (asked : Option KeyRequest) (why : Code) (bytes : List ℕ) → SentRefuses wraps.import bytes why → (deciding_by wraps asked).sent bytes why
+same_sent wraps None why bytes refuses_so = refuses_so
+same_sent wraps (Some (on.HaveKey grips)) why bytes refuses_so = refuses_so
+same_sent wraps (Some (on.KeyInfo grip)) why bytes refuses_so = refuses_so
+same_sent wraps (Some on.ListKeys) why bytes refuses_so = refuses_so
+same_sent wraps (Some (on.KeyWrap way)) why bytes refuses_so = refuses_so
+same_sent wraps (Some (on.ImportKey force nonce)) why bytes refuses_so = refuses_so
+same_sent wraps (Some (on.ExportKey grip nonce)) why bytes refuses_so = refuses_so
+same_sent wraps (Some (on.Passwd grip old new verify)) why bytes refuses_so = refuses_so
+same_sent wraps (Some (on.DeleteKey grip force)) why bytes refuses_so = refuses_so
+same_sent wraps (Some (on.Bad given)) why bytes refuses_so = refuses_so
+
+read_refuses : (Owes : Key → Code → Type 0) (answer : KeyRead) (bytes : List ℕ) {why : Code} → file_in answer ≡ Some bytes → FileRefuses Owes bytes why → ReadRefuses Owes answer why
+read_refuses Owes (key_read.Found found) bytes {why} is refuses_so = let same : found.items ≡ bytes = cc is in subst (λ b. FileRefuses Owes b why) (sym same) refuses_so
+read_refuses Owes key_read.Absent bytes is refuses_so = absurd (cc is)
+read_refuses Owes key_read.Failed bytes is refuses_so = absurd (cc is)
+read_refuses Owes key_read.NoMemory bytes is refuses_so = absurd (cc is)
+
 module _ (rules : Rules) (kept : Kept) (request : Request) (events : List Event) where
-  -- ---- what the client said
+  -- what is due before the request, or decides it among its events
+  abbrev Due : Code → Type 0
+  Due why = cache_due kept.options request why ⊎ key_due kept.wraps (on_keys request) why
 
-  module _ (deciding : Deciding) where
-    data_decides : {why : Code} → ((bytes : List ℕ) → SentRefuses kept.wraps.import bytes why → deciding.sent bytes why) → KeyDataSays events rules kept request (Err why) → IsDecided deciding events why
-    data_decides {why} refuses_so (data_says {wrap} {wrapped} drawn (sent {inquired} says has) wrapped_says) =
-        record {
-          event = Inquiry _ [] max_key_data inquired;
-          has = has;
-          decides = subst (λ r. SaidDecides deciding max_key_data r why) (sym says) (refl, refuses_so wrapped (subst (λ w. SentRefuses w wrapped why) (sym drawn) wrapped_says));
-        }
+  abbrev ByRequest : Deciding
+  ByRequest = deciding_by kept.wraps (on_keys request)
 
-  -- ---- requests on the cache and on the session
+  abbrev Decided : Code → Type 0
+  Decided why = Due why ⊎ IsDecided ByRequest events why
 
-  not_keys : (asked_for : Request) (options : OptionValues) (went : Went) → Exchange rules kept.options asked_for events options went → on_keys asked_for ≡ None
-  not_keys (Cache command) options went exchange = refl
-  not_keys (Bad why) options went exchange = refl
-  not_keys (OnKeys line) options went exchange = elim exchange [ ]
+  data_decides : (why : Code) → KeyDataSays events rules kept request (Err why) → Decided why
+  data_decides why (data_says {wrap} {wrapped} drawn (sent {inquired} says has) wrapped_says) =
+      let refuses_so = same_sent kept.wraps (on_keys request) why wrapped (subst (λ w. SentRefuses w wrapped why) (sym drawn) wrapped_says) in
+      inr (record { event = Inquiry _ [] max_key_data inquired; has = has; decides = subst (λ r. SaidDecides ByRequest max_key_data r why) (sym says) (refl, refuses_so) })
 
-  module _ (options : OptionValues) (went : Went) (exchange : Exchange rules kept.options request events options went) (remembers : AllByRecursion Remembers events) where
-    abbrev BySaid : Deciding
-    BySaid = by_said kept.wraps.import
+  said_so : (why : Code) (unheard : Unheard) → refusal_code unheard ≡ Some why → IsSaid events unheard → Decided why
+  said_so why unheard is says = inr (said_decides ByRequest unheard is says)
 
-    off_keys : {asked : KeyRequest} → on_keys request ≡ Some asked → ⊥
-    off_keys is = let none : on_keys request ≡ None = not_keys request options went exchange in cc (is, none)
+  -- a request on keys, by which key request it is
+  decides_so : {asked : KeyRequest} {why : Code} → on_keys request ≡ Some asked → IsDecided (deciding_of kept.wraps asked) events why → Decided why
+  decides_so {why} is decided = inr (subst (λ a. IsDecided (deciding_by kept.wraps a) events why) (sym is) decided)
 
-    off_unlocks : {grip : _} → Unlocks request grip → ⊥
-    off_unlocks (exports is) = off_keys is
-    off_unlocks (changes is) = off_keys is
+  due_so : {asked : KeyRequest} (why : Code) → on_keys request ≡ Some asked → due_of kept.wraps asked why → Decided why
+  due_so why is due = inl (inr (subst (λ a. key_due kept.wraps a why) (sym is) due))
 
-    off_judges : {grip : _} → Judges request grip → ⊥
-    off_judges (tells is) = off_keys is
-    off_judges (unlocks is) = off_unlocks is
+  refused_so : (why : Code) → IsRefusedBy request why → Decided why
+  refused_so why (inl is) = inl (inl (subst (λ r. cache_due kept.options r why) (sym is) refl))
+  refused_so why (inr is) = due_so why is refl
 
-    due_first : (why : Code) → cache_due kept.options request why → HasError why Agent events
-    due_first why due = cache_answered BySaid rules kept.options options request events went exchange remembers why (inl due)
+  option_so : (answer : OptionAnswer) (why : Code) → IsOption events rules kept request answer → option_due answer why → Decided why
+  option_so answer why (option is says) due = inl (inl (subst (λ r. cache_due kept.options r why) (sym is) (subst (λ a. option_due a why) (sym says) due)))
 
-    decided_so : {why : Code} → IsDecided BySaid events why → HasError why Agent events
-    decided_so {why} decided = cache_answered BySaid rules kept.options options request events went exchange remembers why (inr decided)
-
-    refused_so : (why : Code) → IsRefusedBy request why → HasError why Agent events
-    refused_so why (inl is) = due_first why (subst (λ r. cache_due kept.options r why) (sym is) refl)
-    refused_so why (inr is) = absurd (off_keys is)
-
-    faulty_so : (why : Code) → IsFaulty events rules kept request why → HasError why Agent events
-    faulty_so why (file judges is_read is) = absurd (off_judges judges)
-    faulty_so why (protection unlocks_it is_read closed is_fault is) = absurd (off_unlocks unlocks_it)
-    faulty_so why (key_data says) = decided_so (data_decides BySaid (λ bytes refuses_so. refuses_so) says)
-
-    option_so : (answer : OptionAnswer) (why : Code) → IsOption events rules kept request answer → option_due answer why → HasError why Agent events
-    option_so answer why (option is says) due = due_first why (subst (λ r. cache_due kept.options r why) (sym is) (subst (λ a. option_due a why) (sym says) due))
-
-    cache_cause : (why : Code) → ExactCause events rules kept request why → HasError why Agent events
-    cache_cause code.NoData (no_id fields is quiet none) = none_without rules kept.options options request events went exchange fields is quiet none
-    cache_cause code.NoData (empty fields id is quiet same has) = none_cached rules kept.options options request events went exchange fields is quiet id has
-    cache_cause code.NoSecKey cause = absurd (subst (LacksKeys events) (not_keys request options went exchange) cause)
-    cache_cause code.FileExists (there asked says named has) = absurd (off_keys asked)
-    cache_cause code.Checksum cause = decided_so (data_decides BySaid (λ bytes refuses_so. refuses_so) cause)
-    cache_cause code.InvSexp cause = faulty_so code.InvSexp cause
-    cache_cause code.BadSecKey cause = faulty_so code.BadSecKey cause
-    cache_cause code.UnknownCommand cause = refused_so code.UnknownCommand cause
-    cache_cause code.UnknownOption cause = option_so option_answer.Unknown code.UnknownOption cause refl
-    cache_cause code.Parameter (causes.IsMalformed.line is) = refused_so code.Parameter is
-    cache_cause code.Parameter (causes.IsMalformed.option is) = option_so option_answer.Parameter code.Parameter is refl
-    cache_cause code.Parameter (no_import asked none) = absurd (off_keys asked)
-    cache_cause code.Parameter (no_export asked none) = absurd (off_keys asked)
-    cache_cause code.TooMuch cause = decided_so (said_decides BySaid unheard.TooMuch refl cause)
-    cache_cause code.Unexpected cause = decided_so (said_decides BySaid unheard.Unexpected refl cause)
-    cache_cause code.LineTooLong cause = decided_so (said_decides BySaid (unheard.Gone gone.TooLong) refl cause)
-    cache_cause _ cause = absurd cause
-
-  -- ---- requests on keys
-
-  same_sent : (asked : KeyRequest) (why : Code) (bytes : List ℕ) → SentRefuses kept.wraps.import bytes why → (deciding_of kept.wraps asked).sent bytes why
-  same_sent (on.HaveKey grips) why bytes refuses_so = refuses_so
-  same_sent (on.KeyInfo grip) why bytes refuses_so = refuses_so
-  same_sent on.ListKeys why bytes refuses_so = refuses_so
-  same_sent (on.KeyWrap way) why bytes refuses_so = refuses_so
-  same_sent (on.ImportKey force nonce) why bytes refuses_so = refuses_so
-  same_sent (on.ExportKey grip nonce) why bytes refuses_so = refuses_so
-  same_sent (on.Passwd grip old new verify) why bytes refuses_so = refuses_so
-  same_sent (on.DeleteKey grip force) why bytes refuses_so = refuses_so
-  same_sent (on.Bad given) why bytes refuses_so = refuses_so
-
-  read_refuses : (Owes : Key → Code → Type 0) (answer : KeyRead) (bytes : List ℕ) {why : Code} → file_in answer ≡ Some bytes → FileRefuses Owes bytes why → ReadRefuses Owes answer why
-  read_refuses Owes (key_read.Found found) bytes {why} is refuses_so = let same : found.items ≡ bytes = cc is in subst (λ b. FileRefuses Owes b why) (sym same) refuses_so
-  read_refuses Owes key_read.Absent bytes is refuses_so = absurd (cc is)
-  read_refuses Owes key_read.Failed bytes is refuses_so = absurd (cc is)
-  read_refuses Owes key_read.NoMemory bytes is refuses_so = absurd (cc is)
+  unlocks_so : {grip : Grip} {why : Code} → Unlocks request grip → IsDecided (by_file kept.wraps.import IsUnlockable) events why → Decided why
+  unlocks_so (exports is) decided = decides_so is decided
+  unlocks_so (changes is) decided = decides_so is decided
 
   -- a read of a file that is refused, where the request judges it
   read_decides : (Owes : Key → Code → Type 0) {grip : Grip} {says : Result Key KeyFault} {why : Code} → ((bytes : List ℕ) → FileSays bytes says → FileRefuses Owes bytes why) → IsRead events grip says
@@ -148,93 +124,97 @@ module _ (rules : Rules) (kept : Kept) (request : Request) (events : List Event)
   read_decides Owes {grip} refuses_so (read {answer} {file = bytes} is says has) =
       record { event = Further (Keys (Read grip answer)); has = has; decides = read_refuses Owes answer bytes is (refuses_so bytes says) }
 
-  module _ (asked : KeyRequest) (asked_is : on_keys request ≡ Some asked) where
-    abbrev ByAsked : Deciding
-    ByAsked = deciding_of kept.wraps asked
+  judges_so : {grip : Grip} {why : Code} {fault : KeyFault} → Judges request grip → IsRead events grip (Err fault) → fault_code fault ≡ why → Decided why
+  judges_so (tells is) is_read code_is = decides_so is (read_decides NoFault (λ bytes says. faulty says code_is) is_read)
+  judges_so (unlocks unlocks_it) is_read code_is = unlocks_so unlocks_it (read_decides IsUnlockable (λ bytes says. faulty says code_is) is_read)
 
-    -- it asks for this
-    is_so : {other : KeyRequest} → on_keys request ≡ Some other → other ≡ asked
-    is_so {other} is = let both : Some other ≡ Some asked = sym is ∙ asked_is in cc
+  faulty_so : (why : Code) → IsFaulty events rules kept request why → Decided why
+  faulty_so why (file judges is_read is) = judges_so judges is_read is
+  faulty_so why (protection {fault} unlocks_it is_read closed is_fault is) =
+      unlocks_so unlocks_it (read_decides IsUnlockable (λ bytes says. owes says (record { fault = fault; closed = closed; is = is_fault; code_is = is })) is_read)
+  faulty_so why (key_data says) = data_decides why says
 
-    no_cache : {command : _} → request ≡ Cache command → ⊥
-    no_cache is = let none : on_keys request ≡ None = ap (λ r. on_keys r) is in cc (none, asked_is)
+  absent_so : {grip : Grip} → Has (Further (Keys (Read grip key_read.Absent))) events → (Owes : Key → Code → Type 0) → IsDecided (by_file kept.wraps.import Owes) events code.NoSecKey
+  absent_so {grip} has Owes = record { event = Further (Keys (Read grip key_read.Absent)); has = has; decides = refl }
 
-    decides_so : {other : KeyRequest} {why : Code} → on_keys request ≡ Some other → IsDecided (deciding_of kept.wraps other) events why → IsDecided ByAsked events why
-    decides_so {why} is decided = subst (λ a. IsDecided (deciding_of kept.wraps a) events why) (is_so is) decided
+  lacks_so : (asked : Option KeyRequest) → on_keys request ≡ asked → LacksKeys events asked → Decided code.NoSecKey ⊎ ((grips : List Grip) × (on_keys request ≡ Some (on.HaveKey grips)) × AreUnread events grips)
+  lacks_so None is none = absurd none
+  lacks_so (Some (on.HaveKey grips)) is each = inr (grips, is, each)
+  lacks_so (Some (on.KeyInfo grip)) is has = inl (decides_so is (absent_so has NoFault))
+  lacks_so (Some (on.ExportKey grip nonce)) is has = inl (decides_so is (absent_so has IsUnlockable))
+  lacks_so (Some (on.Passwd grip old new verify)) is has = inl (decides_so is (absent_so has IsUnlockable))
+  lacks_so (Some (on.DeleteKey grip force)) is (inl has) = inl (decides_so is (record { event = Further (Keys (Read grip key_read.Absent)); has = has; decides = refl }))
+  lacks_so (Some (on.DeleteKey grip force)) is (inr has) = inl (decides_so is (record { event = Further (Keys (Removed grip key_done.Absent)); has = has; decides = refl }))
+  lacks_so (Some on.ListKeys) is none = absurd none
+  lacks_so (Some (on.KeyWrap way)) is none = absurd none
+  lacks_so (Some (on.ImportKey force nonce)) is none = absurd none
+  lacks_so (Some (on.Bad given)) is none = absurd none
 
-    due_so : {other : KeyRequest} (why : Code) → on_keys request ≡ Some other → due_of kept.wraps other why → due_of kept.wraps asked why
-    due_so why is due = subst (λ a. due_of kept.wraps a why) (is_so is) due
+  -- what decides a request is its answer, and so is what the cache or the files lack, where nothing else is looked for
+  module _ (decides : (why : Code) → Decided why → HasError why Agent events) (no_data : HasNoData events rules kept request → HasError code.NoData Agent events)
+      (none_there : (grips : List Grip) → on_keys request ≡ Some (on.HaveKey grips) → AreUnread events grips → HasError code.NoSecKey Agent events) where
+    by_cause : (why : Code) → ExactCause events rules kept request why → HasError why Agent events
+    by_cause code.NoData cause = no_data cause
+    by_cause code.NoSecKey cause = elim (lacks_so (on_keys request) refl cause) [ inl decided ↦ decides code.NoSecKey decided | inr have ↦ none_there have.0 have.1 have.2 ]
+    by_cause code.FileExists (there {grip} {file = found} is says named has) =
+        decides code.FileExists (decides_so is (record { event = Further (Keys (Read grip (key_read.Found found))); has = has; decides = refl }))
+    by_cause code.Checksum cause = decides code.Checksum (data_decides code.Checksum cause)
+    by_cause code.InvSexp cause = decides code.InvSexp (faulty_so code.InvSexp cause)
+    by_cause code.BadSecKey cause = decides code.BadSecKey (faulty_so code.BadSecKey cause)
+    by_cause code.UnknownCommand cause = decides code.UnknownCommand (refused_so code.UnknownCommand cause)
+    by_cause code.UnknownOption cause = decides code.UnknownOption (option_so option_answer.Unknown code.UnknownOption cause refl)
+    by_cause code.Parameter (causes.IsMalformed.line is) = decides code.Parameter (refused_so code.Parameter is)
+    by_cause code.Parameter (causes.IsMalformed.option is) = decides code.Parameter (option_so option_answer.Parameter code.Parameter is refl)
+    by_cause code.Parameter (no_import is none) = decides code.Parameter (due_so code.Parameter is (none, refl))
+    by_cause code.Parameter (no_export is none) = decides code.Parameter (due_so code.Parameter is (none, refl))
+    by_cause code.TooMuch cause = decides code.TooMuch (said_so code.TooMuch unheard.TooMuch refl cause)
+    by_cause code.Unexpected cause = decides code.Unexpected (said_so code.Unexpected unheard.Unexpected refl cause)
+    by_cause code.LineTooLong cause = decides code.LineTooLong (said_so code.LineTooLong (unheard.Gone gone.TooLong) refl cause)
+    by_cause _ cause = absurd cause
 
-    refused_by : (why : Code) → IsRefusedBy request why → due_of kept.wraps asked why
-    refused_by why (inl is) = let none : on_keys request ≡ None = ap (λ r. on_keys r) is in absurd (cc (none, asked_is))
-    refused_by why (inr is) = due_so why is refl
+  -- ---- requests on the cache and on the session
 
-    unlocks_by : {grip : Grip} {why : Code} → Unlocks request grip → IsDecided (by_file kept.wraps.import IsUnlockable) events why → IsDecided ByAsked events why
-    unlocks_by (exports is) decided = decides_so is decided
-    unlocks_by (changes is) decided = decides_so is decided
+  module _ (options : OptionValues) (went : Went) (exchange : Exchange rules kept.options request events options went) (remembers : AllByRecursion Remembers events) where
+    not_keys : (asked_for : Request) → Exchange rules kept.options asked_for events options went → on_keys asked_for ≡ None
+    not_keys (Cache command) is = refl
+    not_keys (Bad why) is = refl
+    not_keys (OnKeys line) is = elim is [ ]
 
-    judges_by : {grip : Grip} {why : Code} {fault : KeyFault} → Judges request grip → IsRead events grip (Err fault) → fault_code fault ≡ why → IsDecided ByAsked events why
-    judges_by (tells is) is_read code_is = decides_so is (read_decides NoFault (λ bytes says. faulty says code_is) is_read)
-    judges_by (unlocks unlocks_it) is_read code_is = unlocks_by unlocks_it (read_decides IsUnlockable (λ bytes says. faulty says code_is) is_read)
+    cache_decides : (why : Code) → Decided why → HasError why Agent events
+    cache_decides why (inl (inl due)) = cache_answered ByRequest rules kept.options options request events went exchange remembers why (inl due)
+    cache_decides why (inl (inr due)) = absurd (subst (λ a. key_due kept.wraps a why) (not_keys request exchange) due)
+    cache_decides why (inr decided) = cache_answered ByRequest rules kept.options options request events went exchange remembers why (inr decided)
 
-    faulty_by : {why : Code} → IsFaulty events rules kept request why → IsDecided ByAsked events why
-    faulty_by (file judges is_read is) = judges_by judges is_read is
-    faulty_by (protection {fault} unlocks_it is_read closed is_fault is) =
-        unlocks_by unlocks_it (read_decides IsUnlockable (λ bytes says. owes says (record { fault = fault; closed = closed; is = is_fault; code_is = is })) is_read)
-    faulty_by (key_data says) = data_decides ByAsked (same_sent asked _) says
+    cache_without : HasNoData events rules kept request → HasError code.NoData Agent events
+    cache_without (no_id fields is quiet none) = none_without rules kept.options options request events went exchange fields is quiet none
+    cache_without (empty fields id is quiet same has) = none_cached rules kept.options options request events went exchange fields is quiet id has
 
-    absent_by : {grip : Grip} → Has (Further (Keys (Read grip key_read.Absent))) events → (Owes : Key → Code → Type 0) → IsDecided (by_file kept.wraps.import Owes) events code.NoSecKey
-    absent_by {grip} has Owes = record { event = Further (Keys (Read grip key_read.Absent)); has = has; decides = refl }
+    cache_cause : (why : Code) → ExactCause events rules kept request why → HasError why Agent events
+    cache_cause = by_cause cache_decides cache_without (λ grips is each. let none = not_keys request exchange in absurd (cc (is, none)))
 
-    lacks_by : (other : KeyRequest) → LacksKeys events (Some other) → IsDecided (deciding_of kept.wraps other) events code.NoSecKey ⊎ ((grips : List Grip) × (other ≡ on.HaveKey grips))
-    lacks_by (on.HaveKey grips) each = inr (grips, refl)
-    lacks_by (on.KeyInfo grip) has = inl (absent_by has NoFault)
-    lacks_by (on.ExportKey grip nonce) has = inl (absent_by has IsUnlockable)
-    lacks_by (on.Passwd grip old new verify) has = inl (absent_by has IsUnlockable)
-    lacks_by (on.DeleteKey grip force) (inl has) = inl (record { event = Further (Keys (Read grip key_read.Absent)); has = has; decides = refl })
-    lacks_by (on.DeleteKey grip force) (inr has) = inl (record { event = Further (Keys (Removed grip key_done.Absent)); has = has; decides = refl })
-    lacks_by on.ListKeys none = absurd none
-    lacks_by (on.KeyWrap way) none = absurd none
-    lacks_by (on.ImportKey force nonce) none = absurd none
-    lacks_by (on.Bad given) none = absurd none
-
-    module _ (one_canon : (file : List ℕ) (a b : Option (List ℕ)) → Canon file a → Canon file b → a ≡ b) {after : WrapKeys} {went : KeyWent}
-        (exchange : KeyExchange rules kept.options kept.wraps asked events after went) (remembers : AllByRecursion Remembers events) where
-      decided : {why : Code} → IsDecided ByAsked events why → HasError why Agent events
-      decided {why} by = keys_answered one_canon rules kept.options kept.wraps asked exchange remembers why (inr by)
-
-      due : (why : Code) → due_of kept.wraps asked why → HasError why Agent events
-      due why is = keys_answered one_canon rules kept.options kept.wraps asked exchange remembers why (inl is)
-
-      keys_cause : (why : Code) → ExactCause events rules kept request why → HasError why Agent events
-      keys_cause code.NoData (no_id fields is quiet none) = absurd (no_cache is)
-      keys_cause code.NoData (empty fields id is quiet same has) = absurd (no_cache is)
-      keys_cause code.NoSecKey cause =
-          let lacks : LacksKeys events (Some asked) = subst (LacksKeys events) asked_is cause in
-          elim (lacks_by asked lacks) [
-            | inl by ↦ decided by
-            | inr have ↦ have_answered rules kept.options kept.wraps have.0 (subst (λ a. KeyExchange rules kept.options kept.wraps a events after went) have.1 exchange)
-                (subst (λ a. LacksKeys events (Some a)) have.1 lacks)
-          ]
-      keys_cause code.FileExists (there {grip} {file = found} is says named has) = decided (decides_so is (record { event = Further (Keys (Read grip (key_read.Found found))); has = has; decides = refl }))
-      keys_cause code.Checksum cause = decided (data_decides ByAsked (same_sent asked code.Checksum) cause)
-      keys_cause code.InvSexp cause = decided (faulty_by cause)
-      keys_cause code.BadSecKey cause = decided (faulty_by cause)
-      keys_cause code.UnknownCommand cause = due code.UnknownCommand (refused_by code.UnknownCommand cause)
-      keys_cause code.UnknownOption (option is says) = absurd (no_cache is)
-      keys_cause code.Parameter (causes.IsMalformed.line is) = due code.Parameter (refused_by code.Parameter is)
-      keys_cause code.Parameter (causes.IsMalformed.option (option is says)) = absurd (no_cache is)
-      keys_cause code.Parameter (no_import is none) = due code.Parameter (due_so code.Parameter is (none, refl))
-      keys_cause code.Parameter (no_export is none) = due code.Parameter (due_so code.Parameter is (none, refl))
-      keys_cause code.TooMuch cause = decided (said_decides ByAsked unheard.TooMuch refl cause)
-      keys_cause code.Unexpected cause = decided (said_decides ByAsked unheard.Unexpected refl cause)
-      keys_cause code.LineTooLong cause = decided (said_decides ByAsked (unheard.Gone gone.TooLong) refl cause)
-      keys_cause _ cause = absurd cause
-
--- ---- sessions
+-- ---- requests on keys
 
 module _ (one_canon : (file : List ℕ) (a b : Option (List ℕ)) → Canon file a → Canon file b → a ≡ b) (rules : Rules) (kept : Kept) where
+  module _ (line : ArrayVec ℕ) (events : List Event) {after : WrapKeys} {went : KeyWent} (exchange : KeyExchange rules kept.options kept.wraps (key_request_of line.items) events after went)
+      (remembers : AllByRecursion Remembers events) where
+    keys_decide : (why : Code) → Decided rules kept (OnKeys line) events why → HasError why Agent events
+    keys_decide why (inl (inl due)) = absurd due
+    keys_decide why (inl (inr due)) = keys_answered one_canon rules kept.options kept.wraps (key_request_of line.items) exchange remembers why (inl due)
+    keys_decide why (inr decided) = keys_answered one_canon rules kept.options kept.wraps (key_request_of line.items) exchange remembers why (inr decided)
+
+    keys_without : HasNoData events rules kept (OnKeys line) → HasError code.NoData Agent events
+    keys_without (no_id fields is quiet none) = absurd (cc is)
+    keys_without (empty fields id is quiet same has) = absurd (cc is)
+
+    keys_lack : (grips : List Grip) → Some (key_request_of line.items) ≡ Some (on.HaveKey grips) → AreUnread events grips → HasError code.NoSecKey Agent events
+    keys_lack grips is each =
+        let same : key_request_of line.items ≡ on.HaveKey grips = cc is in
+        have_answered rules kept.options kept.wraps grips (subst (λ a. KeyExchange rules kept.options kept.wraps a events after went) same exchange) each
+
+  -- ---- sessions
+
   pub cause_answered : (request : Request) {events : List Event} {after : Kept} {went : Went} → RequestExchange rules kept request events after went → AllByRecursion Remembers events → (why : Code)
       → ExactCause events rules kept request why → HasError why Agent events
   cause_answered request {events} (cache exchange) remembers why cause = cache_cause rules kept request events _ _ exchange remembers why cause
-  cause_answered request {events} (keys exchange) remembers why cause = keys_cause rules kept request events _ refl one_canon exchange remembers why cause
+  cause_answered (OnKeys line) {events} (keys exchange) remembers why cause =
+      by_cause rules kept (OnKeys line) events (keys_decide line events exchange remembers) (keys_without line events exchange remembers) (keys_lack line events exchange remembers) why cause
