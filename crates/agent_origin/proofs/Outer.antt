@@ -1,25 +1,26 @@
 -- Lines that are allowed at the outer door, and what is done for them to the cache.
-use Rattle.std.proofs.Common.{◌≡◌, ℕ, Bool, true, false, cond, List, [], ◌∷◌, ◌++◌, map, drop, Option, None, Some, Result, Ok, Err, is_none, refl, ap, sym, ◌∙◌, subst}
+use Rattle.std.proofs.Common.{◌≡◌, ℕ, Bool, true, false, cond, List, [], ◌∷◌, ◌++◌, map, drop, Option, None, Some, Result, Ok, Err, is_none, refl, ap, sym, ◌∙◌, subst, append_assoc}
 use Rattle.std.specs.Prelude.{⊤}
 use Rattle.std.specs.Option.{option_map, option_or}
 use Rattle.std.specs.Str.{str_eq_ignore_ascii_case}
+use Rattle.agent_ask.specs.ClientParts.{Writes, written, cut, Inquires, given, not_given}
+use Rattle.agent_ask.specs.ConsentParts.{AgreesTo}
+use Rattle.agent_ask.specs.ConsentParts as consent
 use Rattle.agent_ask.specs.Events.{PromptEvent}
-use Rattle.agent_ask.specs.Failing.{fails, said_last}
-use Rattle.agent_ask.specs.Further.{FurtherEvent}
-use Rattle.agent_ask.specs.SessionEvents.{AnyEvent, Received, Sent, Cut, Inquiry, CacheTurn, Further, cache_turn, turns_in}
-use Rattle.agent_ask.specs.declared.ask.Asked.{Asked as Answer}
-use Rattle.agent_ask.specs.declared.consent.Agreed.{Agreed}
-use Rattle.agent_ask.specs.declared.spec.AskPlan.{AskPlan}
-use Rattle.agent_ask.specs.declared.spec.PromptSpec.{PromptSpec}
-use Rattle.agent_ask.specs.UnderTickets.{EndsOnce, AnyInSession, none, called, noted, out_of_memory, Prompts, none as no_more, next, asked as asked_under}
-use Rattle.agent_commands.specs.Events.{Event}
-use Rattle.agent_commands.specs.Exchanges.{described, Exchange, LineExchange, Fails, no_id, LooksFirst, answered, goes_on, Refuses, EndsPin, EndsConsent, WantsPrompt, ByPrompt, WithoutPrompt, WithoutPassphrase}
-use Rattle.agent_commands.specs.Exchanges.{Keeps, unkept, IsOneTurn, preset, clear, reload, kill, no_data, limit_cut, with_data, without_data, pin, cancelled, timed_out, no_pinentry, bad, unheard, yes, no, opened, interrupted, prompted}
-use Rattle.agent_commands.specs.Exchanges.{refused, nop, reset, bye, help_given, option_applied, info, quiet, by_prompt, without_prompt, not_allowed, confirmation, unconfirmed, one_turn}
+use Rattle.agent_ask.specs.Failing.{said_last}
+use Rattle.agent_ask.specs.PartExchanges.{AnyReply, AnyExchange, answered, refused}
+use Rattle.agent_ask.specs.Parts.{Follows, goes_on, stops, Returns, returns, Refuses, refuses, needed, or_else}
+use Rattle.agent_ask.specs.SessionEvents.{AnyEvent, Received, Sent, Cut, Inquiry, CacheTurn, Further, turns_in}
+use Rattle.agent_ask.specs.TurnParts.{Seats, opened, interrupted, Closes, unheld, closed}
+use Rattle.agent_ask.specs.UnderTickets.{AnyInSession, none, called, noted, out_of_memory}
+use Rattle.agent_commands.specs.Exchanges.{Exchange, LineExchange, option_replies, confirms_by, Replies, TellsPassphrase, TellsInfo}
+use Rattle.agent_commands.specs.Exchanges as exchange
 use Rattle.agent_commands.specs.Fields.{text}
 use Rattle.agent_commands.specs.Names.{commands, prompt_commands, command_named, is_key_command}
-use Rattle.agent_commands.specs.Prompting.{UnderTicket}
-use Rattle.agent_commands.specs.Requests.{◌>>=◌, get_fields, request_of, request_by, either, info_of, confirmation_of}
+use Rattle.agent_commands.specs.Parts.{CacheEvent, Part, limit_line, AsksPassphrase}
+use Rattle.agent_commands.specs.Passphrases.{LooksFor, WantsPrompt, KeepsUnder, ByCache, Uncached as NotCached, WithoutPrompt, PromptsAny, Prompts, as_wanted, passphrase_by}
+use Rattle.agent_commands.specs.Passphrases as passphrase
+use Rattle.agent_commands.specs.Requests.{◌>>=◌, GetFields, get_fields, request_of, request_by, either, info_of, confirmation_of}
 use Rattle.agent_commands.specs.declared.names.CommandName.{CommandName}
 use Rattle.agent_commands.specs.declared.names.CommandName.TheVariants as name
 use Rattle.agent_commands.specs.declared.request.CacheCommand.{CacheCommand}
@@ -27,6 +28,7 @@ use Rattle.agent_commands.specs.declared.request.CacheCommand.TheVariants.{Nop, 
 use Rattle.agent_commands.specs.declared.request.Info.{Info}
 use Rattle.agent_commands.specs.declared.request.Request.{Request}
 use Rattle.agent_commands.specs.declared.request.Request.TheVariants.{Cache, Key, Bad}
+use Rattle.agent_commands.specs.declared.request.Texts.{Texts}
 use Rattle.agent_commands.specs.declared.went.Went.{Went}
 use Rattle.assuan_server.specs.Clients.{session_lines}
 use Rattle.session_client.specs.declared.code.Code.{Code}
@@ -35,12 +37,17 @@ use Rattle.assuan_text.specs.Rows.{found_in_any_case}
 use Rattle.assuan_text.specs.Words.{command_of, rest_of, words}
 use Rattle.arrayvec.specs.ArrayVec.{ArrayVec}
 use Rattle.session_client.specs.declared.code.Code.TheVariants.{UnknownCommand}
-use Rattle.cache_policy.specs.declared.mark.MarkStep.{MarkStep}
-use Rattle.cache_policy.specs.declared.mark.MarkStep.TheVariants.{Seat, Close}
+use Rattle.session_client.specs.declared.code.Code.TheVariants as code
+use Rattle.session_client.specs.declared.refusal.Refusal.{Refusal}
+use Rattle.session_client.specs.declared.refusal.Refusal.TheVariants.{Agent}
+use Rattle.session_client.specs.declared.unheard.Gone.{Gone}
+use Rattle.cache_policy.specs.declared.mark.MarkStep.TheVariants.{Seat}
+use Rattle.session_options.specs.declared.options.OptionAnswer.{OptionAnswer}
+use Rattle.session_options.specs.declared.options.OptionAnswer.TheVariants as option
 use Rattle.session_options.specs.declared.options.PinMode.{PinMode}
+use Rattle.session_options.specs.declared.options.PinMode.TheVariants as mode
 use Rattle.cache_policy.specs.Extending.{Taken}
 use Rattle.cache_policy.specs.Turns.{Open}
-use Rattle.session_client.specs.declared.unheard.Unheard.{Unheard}
 use Rattle.session_options.specs.OptionValues.{OptionValues}
 use Rattle.session_options.specs.declared.rules.Rules.{Rules}
 use Rattle.agent_origin.specs.Doors.{rules, rule_named, leaves_cache, passes, passes_by, allowed}
@@ -70,92 +77,142 @@ pub leaves_then : {T O F : Type 0} (first second : List (AnyEvent T O F)) → Le
 leaves_then first second before after = subst AreOuterTurns (sym (turns_then first second)) (are_outer_then before after)
 
 -- a prompt takes no turn
-pub prompt_still : {prompt : List PromptEvent} {events : List (Event FurtherEvent)} → AnyInSession session_lines prompt events → turns_in events ≡ []
+pub prompt_still : {prompt : List PromptEvent} {events : List CacheEvent} → AnyInSession session_lines prompt events → turns_in events ≡ []
 prompt_still none = refl
 prompt_still (called more) = prompt_still more
 prompt_still (noted says more) = prompt_still more
 prompt_still (out_of_memory more) = prompt_still more
 
-prompts_still : {A : Type 0} {Asks : List A → List PromptEvent → A → Type 0} {before after : List A} {events : List (Event FurtherEvent)} → Prompts session_lines Asks before events after → turns_in events ≡ []
-prompts_still no_more = refl
-prompts_still (next {shown} {more} asks in_session later) =
-    turns_then shown more ∙ ap (λ (t : List Taken). t ++ turns_in more) (prompt_still in_session) ∙ prompts_still later
+-- ---- parts
 
--- ---- exchanges
+-- What turns are to come to that a request takes with this ticket in hand: with the turn by which it was had, they leave the cache.
+abbrev Owes : Option ℕ → List Taken → Type 0
+Owes None turns = AreOuterTurns turns
+Owes (Some ticket) turns = AreOuterTurns (record { asked = Seat None None; turn = Open ticket } ∷ turns)
 
-pub said_leaves : (T O F : Type 0) (line : Option (List ℕ)) → LeavesCache (said_last {T = T} {O = O} {F = F} line)
-said_leaves T O F None = no_turns
-said_leaves T O F (Some line) = no_turns
+-- a part that is begun with this ticket leaves the cache, where all that follows does
+record Leaves {A : Type 0} (held : Option ℕ) (part : Part A) : Type 0 where
+  pub of : (events : List CacheEvent) (result : Result A Refusal) (after : Option ℕ) → part held events result after → (later : List Taken) → Owes after later → Owes held (turns_in events ++ later)
 
-fails_leave : {F : Type 0} {why : Unheard} {events : List (Event F)} {went : Went} → Fails why events went → LeavesCache events
-fails_leave {why} fails = said_leaves _ _ _ (session_lines.refusal why)
+module _ {A B : Type 0} {part : Part A} {next : A → Part B} {held : Option ℕ} (first : Leaves held part) (then : (value : A) (mid : Option ℕ) → Leaves mid (next value)) where
+  bind_of : (events : List CacheEvent) (result : Result B Refusal) (after : Option ℕ) → Follows part next held events result after → (later : List Taken) → Owes after later
+      → Owes held (turns_in events ++ later)
+  bind_of events result after (goes_on {first = some} {events = more} {value} {mid} does next_does) later owes =
+      subst (Owes held) (sym (ap (λ (t : List Taken). t ++ later) (turns_then some more) ∙ append_assoc (turns_in some) (turns_in more) later))
+      (first.of some (Ok value) mid does (turns_in more ++ later) ((then value mid).of more result after next_does later owes))
+  bind_of events result after (stops {refusal = why} does) later owes = first.of events (Err why) after does later owes
 
-unsaid_leaves : {F : Type 0} {events : List (Event F)} {went : Went} → WithoutPassphrase events went → LeavesCache events
-unsaid_leaves (no_data is client_fails) = fails_leave client_fails
-unsaid_leaves (limit_cut unsent split) = no_turns
+  bind : Leaves held (Follows part next)
+  bind = record { of = bind_of }
 
-pin_leaves : {F : Type 0} {plain : Bool} {answer : Answer} {keep : Option (List ℕ)} {events : List (Event F)} {went : Went} → EndsPin plain answer keep events went → LeavesCache events
-pin_leaves (pin is) = no_turns
-pin_leaves cancelled = no_turns
-pin_leaves timed_out = no_turns
-pin_leaves no_pinentry = no_turns
-pin_leaves bad = no_turns
-pin_leaves (unheard is client_fails) = fails_leave client_fails
+module _ {A : Type 0} {held : Option ℕ} where
+  returns_of : (value : A) (events : List CacheEvent) (result : Result A Refusal) (after : Option ℕ) → Returns value held events result after → (later : List Taken) → Owes after later
+      → Owes held (turns_in events ++ later)
+  returns_of value events result after returns later owes = owes
 
-consent_leaves : {F : Type 0} {answer : Agreed} {keep : Option (List ℕ)} {events : List (Event F)} {went : Went} → EndsConsent answer keep events went → LeavesCache events
-consent_leaves yes = no_turns
-consent_leaves no = no_turns
-consent_leaves cancelled = no_turns
-consent_leaves timed_out = no_turns
-consent_leaves no_pinentry = no_turns
-consent_leaves (unheard is client_fails) = fails_leave client_fails
+  returned : (value : A) → Leaves held (Returns value)
+  returned value = record { of = returns_of value }
 
--- behind the turn by which the seat was had
-abbrev GivesBack : {F : Type 0} → ℕ → List (Event F) → Type 0
-GivesBack ticket events = AreOuterTurns (record { asked = Seat None None; turn = Open ticket } ∷ turns_in events)
+  refuses_of : (why : Refusal) (events : List CacheEvent) (result : Result A Refusal) (after : Option ℕ) → Refuses {A = A} why held events result after → (later : List Taken) → Owes after later
+      → Owes held (turns_in events ++ later)
+  refuses_of why events result after refuses later owes = owes
 
-module _ {A : Type 0} {Ends : A → Option (List ℕ) → List (Event FurtherEvent) → Went → Type 0}
-    (each : (answer : A) (keep : Option (List ℕ)) (events : List (Event FurtherEvent)) (went : Went) → Ends answer keep events went → LeavesCache events) where
-  ends_leave : (answers : List A) (keep : Option (List ℕ)) (events : List (Event FurtherEvent)) (went : Went) → EndsOnce session_lines Ends answers keep events went → LeavesCache events
-  ends_leave [] keep events went ends = absurd ends
-  ends_leave (answer ∷ []) keep events went ends = each answer keep events went ends
-  ends_leave (answer ∷ second ∷ more) keep events went ends = absurd ends
+  refused_by : (why : Refusal) → Leaves held (Refuses {A = A} why)
+  refused_by why = record { of = refuses_of why }
 
-  under_leaves : {Asks : List PromptEvent → A → Type 0} (ticket : ℕ) (events : List (Event FurtherEvent)) (went : Went) → UnderTicket Asks Ends ticket events went → GivesBack ticket events
-  under_leaves ticket all went (asked_under {shown} {events} {answers} {keep} turn prompts ends) =
-      let close : Taken = record { asked = Close ticket keep; turn = turn } in
-      subst (λ (t : List Taken). AreOuterTurns (record { asked = Seat None None; turn = Open ticket } ∷ t))
-      (sym (turns_then shown (cache_turn (Close ticket keep) turn ∷ events) ∙ ap (λ (t : List Taken). t ++ close ∷ turns_in events) (prompts_still prompts)))
-      (seated (ends_leave answers keep events went ends))
+  needed_leaves : (why : Code) (value : Option A) → Leaves held (needed why value)
+  needed_leaves why None = refused_by (Agent why)
+  needed_leaves why (Some value) = returned value
 
-wants_leave : {F : Type 0} {Under : ℕ → List (Event F) → Went → Type 0} → ((ticket : ℕ) (events : List (Event F)) (went : Went) → Under ticket events went → GivesBack ticket events)
-    → {events : List (Event F)} {went : Went} → WantsPrompt (Seat None None) Under events went → LeavesCache events
-wants_leave each (opened under) = each _ _ _ under
-wants_leave each (interrupted by) = unseated by no_turns
+  otherwise : (value : Option A) {other : Part A} → Leaves held other → Leaves held (or_else value other)
+  otherwise None other = other
+  otherwise (Some value) other = returned value
 
-looks_leave : {F : Type 0} {plain : Bool} {Otherwise : List (Event F) → Went → Type 0} → ((events : List (Event F)) (went : Went) → Otherwise events went → LeavesCache events)
-    → (id : Option (List ℕ)) → id ≡ None → {events : List (Event F)} {went : Went} → LooksFirst plain id Otherwise events went → LeavesCache events
-looks_leave each (Some id) is looks = cc is
-looks_leave each None is (answered looks) = elim looks [ ]
-looks_leave each None is (goes_on no_id otherwise) = each _ _ otherwise
+module _ (held : Option ℕ) where
+  writes_of : (text : List ℕ) (events : List CacheEvent) (result : Result (Unit {0}) Refusal) (after : Option ℕ) → Writes text held events result after → (later : List Taken) → Owes after later
+      → Owes held (turns_in events ++ later)
+  writes_of text events result after written later owes = owes
+  writes_of text events result after (cut unsent is) later owes = owes
 
-refuses_leave : {F : Type 0} {code : Code} (events : List (Event F)) (went : Went) → Refuses code events went → LeavesCache events
-refuses_leave events went refused = no_turns
+  inquires_of : (word : List ℕ) (most : ℕ) (events : List CacheEvent) (result : Result (List ℕ) Refusal) (after : Option ℕ) → Inquires session_lines word most held events result after
+      → (later : List Taken) → Owes after later → Owes held (turns_in events ++ later)
+  inquires_of word most events result after (given is) later owes = owes
+  inquires_of word most events result after (not_given is) later owes = owes
 
-keeps_leave : {F : Type 0} {plain : Bool} {secret : List ℕ} (id : Option (List ℕ)) → id ≡ None → {events : List (Event F)} {went : Went} → Keeps plain secret id events went → LeavesCache events
-keeps_leave (Some id) is keeps = cc is
-keeps_leave None is (unkept text) = no_turns
+-- a ticket that is held is given back
+closes_of : (held : Option ℕ) (keep : Option (List ℕ)) (events : List CacheEvent) (result : Result (Unit {0}) Refusal) (after : Option ℕ) → Closes keep held events result after → (later : List Taken)
+    → Owes after later → Owes held (turns_in events ++ later)
+closes_of None keep events result after unheld later owes = owes
+closes_of (Some ticket) keep events result after (closed turn) later owes = seated owes
 
-unprompted_leaves : {F : Type 0} {plain : Bool} (id : Option (List ℕ)) {mode : PinMode} → id ≡ None → {events : List (Event F)} {went : Went} → WithoutPrompt plain id mode events went → LeavesCache events
-unprompted_leaves id is cancelled = no_turns
-unprompted_leaves id is no_pinentry = no_turns
-unprompted_leaves id is (with_data keeps) = keeps_leave id is keeps
-unprompted_leaves id is (without_data unsaid) = unsaid_leaves unsaid
+-- a prompt takes no turn
+shown_of : {prompt : List PromptEvent} {events : List CacheEvent} (held : Option ℕ) → AnyInSession session_lines prompt events → (later : List Taken) → Owes held later
+    → Owes held (turns_in events ++ later)
+shown_of held in_session later owes = subst (Owes held) (sym (ap (λ (t : List Taken). t ++ later) (prompt_still in_session))) owes
 
-prompted_leaves : {spec : PromptSpec} {plan : AskPlan} {plain : Bool} (id : Option (List ℕ)) → id ≡ None → {events : List (Event FurtherEvent)} {went : Went} → ByPrompt spec plan plain id events went
-    → LeavesCache events
-prompted_leaves (Some id) is by = cc is
-prompted_leaves None is (prompted wants) = wants_leave (under_leaves (λ answer keep events went ends. pin_leaves ends)) wants
+-- the seat is taken where no ticket is held
+seats_of : (events : List CacheEvent) (result : Result (Unit {0}) Refusal) (after : Option ℕ) → Seats (Seat None None) None events result after → (later : List Taken) → Owes after later
+    → Owes None (turns_in events ++ later)
+seats_of events result after opened later owes = owes
+seats_of events result after (interrupted by) later owes = unseated by owes
+
+asks_client : (held : Option ℕ) → Leaves held AsksPassphrase
+asks_client held = bind (record { of = writes_of held limit_line }) (λ told mid. record { of = inquires_of mid _ _ })
+
+-- ---- passphrases that aren't cached
+
+looks_for : (held : Option ℕ) (id : Option (List ℕ)) → id ≡ None → Leaves held (LooksFor id)
+looks_for held None is = returned None
+looks_for held (Some id) is = cc is
+
+wants_prompt : (id : Option (List ℕ)) → id ≡ None → Leaves None (WantsPrompt id)
+wants_prompt None is = bind (record { of = seats_of }) (λ seat mid. returned None)
+wants_prompt (Some id) is = cc is
+
+keeps_under : (held : Option ℕ) (id : Option (List ℕ)) → id ≡ None → (secret : List ℕ) → Leaves held (KeepsUnder id secret)
+keeps_under held None is secret = returned tt
+keeps_under held (Some id) is secret = cc is
+
+module _ (id : Option (List ℕ)) (is : id ≡ None) where
+  uncached : (held : Option ℕ) (way : PinMode) → Leaves held (NotCached id way)
+  uncached held mode.Ask = refused_by (Agent code.NoPinentry)
+  uncached held mode.Cancel = refused_by (Agent code.Cancelled)
+  uncached held mode.Error = refused_by (Agent code.NoPinentry)
+  uncached held mode.Loopback = bind (asks_client held) (λ secret mid. bind (keeps_under mid id is secret) (λ kept then. returned secret))
+
+  without_prompt : (way : PinMode) → Leaves None (WithoutPrompt id way)
+  without_prompt way = bind (looks_for None id is) (λ cached mid. otherwise cached (uncached mid way))
+
+  by_cache : Leaves None (ByCache id)
+  by_cache = bind (looks_for None id is) (λ cached mid. needed_leaves code.NoData cached)
+
+module _ (agent : Rules) (options : OptionValues) where
+  prompts_of : (held : Option ℕ) (texts : Texts) (check quality : Bool) (repeat : ℕ) (events : List CacheEvent) (result : Result (List ℕ) Refusal) (after : Option ℕ)
+      → PromptsAny agent options texts check quality repeat held events result after → (later : List Taken) → Owes after later → Owes held (turns_in events ++ later)
+  prompts_of held texts check quality repeat events result after (passphrase.given spec is prompt) later owes = shown_of held prompt.in_session later owes
+  prompts_of held texts check quality repeat events result after (passphrase.refused spec is prompt enough refusal) later owes = shown_of held prompt.in_session later owes
+
+  agrees_of : (held : Option ℕ) (question : List ℕ) (events : List CacheEvent) (result : Result (Unit {0}) Refusal) (after : Option ℕ) → AgreesTo session_lines agent options question held events result after
+      → (later : List Taken) → Owes after later → Owes held (turns_in events ++ later)
+  agrees_of held question events result after (consent.consents spec is prompt) later owes = shown_of held prompt.in_session later owes
+  agrees_of held question events result after (consent.refused spec is prompt refusal) later owes = shown_of held prompt.in_session later owes
+
+  module _ (fields : GetFields) (is : fields.id ≡ None) where
+    prompts : (held : Option ℕ) (texts : Texts) → Leaves held (Prompts agent options texts fields.check fields.quality fields.repeat)
+    prompts held texts =
+        bind (record { of = prompts_of held texts fields.check fields.quality fields.repeat }) (λ pin mid. bind (record { of = closes_of mid (Some pin) }) (λ kept then. returned pin))
+
+    as_wanted_leaves : (way : PinMode) (texts : Texts) → Leaves None (as_wanted agent options fields way texts)
+    as_wanted_leaves mode.Ask texts = bind (wants_prompt fields.id is) (λ cached mid. otherwise cached (prompts mid texts))
+    as_wanted_leaves mode.Cancel texts = without_prompt fields.id is mode.Cancel
+    as_wanted_leaves mode.Error texts = without_prompt fields.id is mode.Error
+    as_wanted_leaves mode.Loopback texts = without_prompt fields.id is mode.Loopback
+
+    passphrase_leaves : (no_ask : Bool) (texts : Option Texts) → Leaves None (passphrase_by agent options fields no_ask texts)
+    passphrase_leaves true None = by_cache fields.id is
+    passphrase_leaves false None = by_cache fields.id is
+    passphrase_leaves true (Some texts) = by_cache fields.id is
+    passphrase_leaves false (Some texts) = as_wanted_leaves options.mode texts
 
 -- ---- requests
 
@@ -169,32 +226,66 @@ IsOuterRequest (Cache KillAgent) = ⊥
 IsOuterRequest (Cache (SetKeyDesc text)) = ⊥
 IsOuterRequest _ = ⊤
 
-no_turn : {agent : Rules} {command : CacheCommand} {step : MarkStep} {text : List ℕ} {done : Went} → IsOneTurn agent command step text done → IsOuterRequest (Cache command) → ⊥
-no_turn (preset allows) outer = outer
-no_turn clear outer = outer
-no_turn reload outer = outer
-no_turn kill outer = outer
+tells_passphrase_of : (held : Option ℕ) (plain : Bool) (secret : List ℕ) (events : List CacheEvent) (result : Result (List ℕ) Refusal) (after : Option ℕ)
+    → TellsPassphrase plain secret held events result after → (later : List Taken) → Owes after later → Owes held (turns_in events ++ later)
+tells_passphrase_of held plain secret events result after (exchange.TellsPassphrase.tells is) later owes = owes
 
-exchange_leaves : {agent : Rules} {before after : OptionValues} {request : Request} {events : List (Event FurtherEvent)} {went : Went} → IsOuterRequest request → Exchange agent before request events after went
+tells_info_of : (agent : Rules) (what : Info) (held : Option ℕ) (events : List CacheEvent) (result : Result (List ℕ) Refusal) (after : Option ℕ) → TellsInfo agent what held events result after
+    → (later : List Taken) → Owes after later → Owes held (turns_in events ++ later)
+tells_info_of agent what held events result after (exchange.TellsInfo.tells is) later owes = owes
+
+option_leaves : (answer : OptionAnswer) (after : OptionValues) → Leaves None (option_replies answer after)
+option_leaves option.Set after = returned _
+option_leaves option.Unknown after = refused_by (Agent code.UnknownOption)
+option_leaves option.Parameter after = refused_by (Agent code.Parameter)
+option_leaves option.NotSupported after = refused_by (Agent code.NotSupported)
+
+module _ (agent : Rules) (options : OptionValues) where
+  confirms_leave : (way : PinMode) (description : ArrayVec ℕ) → Leaves None (confirms_by agent options way description)
+  confirms_leave mode.Ask description = bind (record { of = seats_of }) (λ seat mid. record { of = agrees_of agent options mid description.items })
+  confirms_leave mode.Cancel description = refused_by (Agent code.Cancelled)
+  confirms_leave mode.Error description = refused_by (Agent code.NoPinentry)
+  confirms_leave mode.Loopback description = refused_by (Agent code.NoPinentry)
+
+  replies_leave : (command : CacheCommand) → IsOuterRequest (Cache command) → Leaves None (Replies agent options command)
+  replies_leave Nop outer = returned _
+  replies_leave Reset outer = returned _
+  replies_leave Bye outer = returned _
+  replies_leave Help outer = returned _
+  replies_leave (SetOption text) outer = option_leaves _ _
+  replies_leave (GetInfo what) outer = bind (record { of = tells_info_of agent what None }) (λ text mid. returned _)
+  replies_leave (GetPassphrase plain check no_ask repeat quality id texts) outer =
+      bind (passphrase_leaves agent options (record { plain = plain; check = check; no_ask = no_ask; repeat = repeat; quality = quality; id = id; texts = texts }) outer no_ask texts)
+      (λ secret mid. bind (record { of = tells_passphrase_of mid plain secret }) (λ text then. returned _))
+  replies_leave (GetConfirmation description) outer = bind (confirms_leave options.mode description) (λ agreed mid. returned _)
+  replies_leave (PresetPassphrase id life secret) outer = absurd outer
+  replies_leave (ClearPassphrase id mode) outer = absurd outer
+  replies_leave ReloadAgent outer = absurd outer
+  replies_leave KillAgent outer = absurd outer
+  replies_leave (SetKeyDesc text) outer = absurd outer
+
+pub said_leaves : (T O F : Type 0) (line : Option (List ℕ)) → LeavesCache (said_last {T = T} {O = O} {F = F} line)
+said_leaves T O F None = no_turns
+said_leaves T O F (Some line) = no_turns
+
+-- behind its parts a ticket is given back
+ends_leave : {A : Type 0} {part : Part A} (leaves : Leaves None part) (events back last : List CacheEvent) (result : Result A Refusal) (held : Option ℕ) → part None events result held
+    → Closes None held back (Ok tt) None → LeavesCache last → LeavesCache (events ++ (back ++ last))
+ends_leave leaves events back last result held does closes last_leaves =
+    subst AreOuterTurns (sym (turns_then events (back ++ last)))
+    (leaves.of events result held does (turns_in (back ++ last))
+    (subst (Owes held) (sym (turns_then back last)) (closes_of held None back (Ok tt) None closes (turns_in last) last_leaves)))
+
+parts_leave : {S W : Type 0} {refusal_text : Refusal → Option (List ℕ)} {went_after : Option Gone → W} {parts : Part (AnyReply S W)} {before after : S} {events : List CacheEvent} {went : W} → Leaves None parts
+    → AnyExchange refusal_text went_after parts before events after went → LeavesCache events
+parts_leave leaves (answered events held reply {back} does closes) = ends_leave leaves events back _ (Ok reply) held does closes no_turns
+parts_leave {refusal_text} leaves (refused events held why {back} does closes) = ends_leave leaves events back _ (Err why) held does closes (said_leaves _ _ _ (refusal_text why))
+
+exchange_leaves : (agent : Rules) (before after : OptionValues) (request : Request) (events : List CacheEvent) (went : Went) → IsOuterRequest request → Exchange agent before request events after went
     → LeavesCache events
-exchange_leaves outer refused = no_turns
-exchange_leaves outer nop = no_turns
-exchange_leaves outer reset = no_turns
-exchange_leaves outer bye = no_turns
-exchange_leaves outer help_given = no_turns
-exchange_leaves outer option_applied = no_turns
-exchange_leaves outer described = absurd outer
-exchange_leaves outer (info is) = no_turns
-exchange_leaves outer (quiet {fields} is looks) = looks_leave refuses_leave fields.id outer looks
-exchange_leaves outer (by_prompt {fields} spec asks has wants shows by) = prompted_leaves fields.id outer by
-exchange_leaves outer (without_prompt {fields} asks has wants looks) =
-    looks_leave (λ events went without. unprompted_leaves fields.id outer without) fields.id outer looks
-exchange_leaves outer (not_allowed is) = absurd outer
-exchange_leaves outer (with_data is comes) = absurd outer
-exchange_leaves outer (without_data is unsaid) = absurd outer
-exchange_leaves outer (confirmation spec wants shows asks) = wants_leave (under_leaves (λ answer keep events went ends. consent_leaves ends)) asks
-exchange_leaves outer (unconfirmed is) = no_turns
-exchange_leaves outer (one_turn is comes) = absurd (no_turn is outer)
+exchange_leaves agent before after (Cache command) events went outer does = parts_leave (replies_leave agent before command outer) does
+exchange_leaves agent before after (Bad why) events went outer does = parts_leave (refused_by (Agent why)) does
+exchange_leaves agent before after (Key line) events went outer does = absurd does
 
 -- ---- the tables
 
@@ -300,6 +391,6 @@ pub line_outer : (line : List ℕ) → allowed Outer line ≡ true → IsOuterRe
 line_outer line allows =
     subst IsOuterRequest (sym (request_is line (command_named (command_of line)) refl)) (named_outer line (command_named (command_of line)) refl allows)
 
-pub line_leaves : {agent : Rules} {before after : OptionValues} (line : List ℕ) {events : List (Event FurtherEvent)} {went : Went} → allowed Outer line ≡ true
+pub line_leaves : (agent : Rules) (before after : OptionValues) (line : List ℕ) (events : List CacheEvent) (went : Went) → allowed Outer line ≡ true
     → LineExchange agent before line events after went → LeavesCache events
-line_leaves line allows exchanged = exchange_leaves (line_outer line allows) exchanged
+line_leaves agent before after line events went allows exchanged = exchange_leaves agent before after (request_of line) events went (line_outer line allows) exchanged

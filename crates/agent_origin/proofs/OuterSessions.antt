@@ -30,7 +30,7 @@ module _ (rules : Rules) where
   request_leaves : (line : List ℕ) {before after : Kept} (request : Request) → request_of line ≡ request → allowed Outer line ≡ true
       → {events : List Event} {went : Went} → RequestExchange rules before request events after went → LeavesCache events
   request_leaves line {before} request is allows {events} {went} (cache {options} exchanged) =
-      line_leaves line allows (subst (λ (r : Request). Exchange rules before.options r events options went) (sym is) exchanged)
+      line_leaves rules before.options options line events went allows (subst (λ (r : Request). Exchange rules before.options r events options went) (sym is) exchanged)
   request_leaves line {before} request is allows {events} (keys {line = handed} {wraps} {went} exchanged) =
       key_leaves rules before.options before.wraps line allows handed is
       (subst (λ (l : List ℕ). KeyExchange rules before.options before.wraps (key_request_of l) events wraps went) (handed_line line handed is) exchanged)

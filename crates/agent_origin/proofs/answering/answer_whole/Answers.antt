@@ -1,7 +1,10 @@
-use Rattle.std.proofs.Common.{◌∙◌, sym, subst}
-use Rattle.agent_commands.specs.Exchanges.{refused}
+use Rattle.std.proofs.Common.{◌∙◌, sym, subst, [], None}
+use Rattle.agent_ask.specs.PartExchanges.{refused}
+use Rattle.agent_ask.specs.Parts.{refuses}
+use Rattle.agent_ask.specs.TurnParts.{unheld}
 use Rattle.agent_commands.specs.States.{AnswersRequest}
 use Rattle.key_commands.specs.States.{KeyWorld, key_state}
+use Rattle.session_client.specs.declared.refusal.Refusal.TheVariants.{Agent}
 use Rattle.agent_origin.specs.SessionExchanges.{RequestExchange, cache}
 use Rattle.agent_origin.proofs.Beside.{cached_beside, keyed_beside}
 use Rattle.agent_origin.proofs.Serving.{text_answers}
@@ -24,4 +27,4 @@ returns-in-Key-clause-answers g c =
 pub returns-in-Bad-clause-answers : goal.returns-in-Bad-clause-answers
 returns-in-Bad-clause-answers g c =
     text_answers {w = KeyWorld g.D.Desk.turned g.P.Prompter.prompted} (λ kept. RequestExchange c.args.rules.now kept c.args.request.now) c.args.kept.now _ _
-    (rw (sym c.whole.ensures ∙ c.in-Bad.is) (cache refused)) c.requires.open c.refuse.ensures
+    (rw (sym c.whole.ensures ∙ c.in-Bad.is) (cache (refused [] None (Agent _) refuses unheld))) c.requires.open c.refuse.ensures

@@ -4,7 +4,7 @@ use Rattle.agent_origin.proofs.OuterTrust.{trust_leaves}
 use Rattle.agent_origin.proofs.laws.the_outer_door_leaves_the_cache.Goals as goal
 
 pub returns-clause-cache : goal.returns-clause-cache
-returns-clause-cache c = λ rules before after line events went allows exchanged. line_leaves line allows exchanged
+returns-clause-cache c = λ rules before after line events went allows exchanged. line_leaves rules before after line events went allows exchanged
 
 pub returns-clause-trust : goal.returns-clause-trust
 returns-clause-trust c = λ rules options line events went allows exchanged. trust_leaves line allows exchanged
