@@ -8,7 +8,7 @@ use Rattle.agent_commands.specs.Answers.{comments}
 use Rattle.agent_ports.specs.declared.grip.Grip.{Grip}
 use Rattle.assuan_escape.proofs.EscapeLemmas.{has_lf-escapes, has_lf-hex_text}
 use Rattle.assuan_escape.specs.DataLines.{data_text}
-use Rattle.assuan_escape.specs.Escapes.{escapes, hex_text}
+use Rattle.assuan_escape.specs.Escapes.{hex_text}
 use Rattle.assuan_server.proofs.NoteLines.{decimal_no_lf}
 use Rattle.assuan_text.specs.LineEnds.{is_lf, has_lf, line_of}
 use Rattle.cache_policy.specs.declared.secret.TheConstants.{MAX_SECRET_LEN}

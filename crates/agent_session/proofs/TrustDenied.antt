@@ -2,7 +2,7 @@
 use Rattle.std.specs.List.{AllByRecursion}
 use Rattle.std.proofs.Common.{◌≡◌, ◌⊎◌, ◌∙◌, ℕ, Bool, true, false, List, [], ◌∷◌, ◌++◌, Option, Some, None, Ok, Err, refl, sym, subst, inl, inr}
 use Rattle.agent_ask.specs.Failing.{said_last}
-use Rattle.agent_ask.specs.SessionEvents.{Sent, CacheTurn}
+use Rattle.agent_ask.specs.SessionEvents.{CacheTurn}
 use Rattle.agent_ask.specs.TrustCalls.{TrustCall}
 use Rattle.agent_commands.specs.Answers.{ok}
 use Rattle.agent_commands.specs.declared.went.Went.{Went}

@@ -6,7 +6,7 @@ use Rattle.std.specs.Prelude.{⊤, IfSome}
 use Rattle.agent_ask.specs.Failing.{said_last}
 use Rattle.agent_ask.specs.Events.{PromptEvent}
 use Rattle.agent_ask.specs.Further.{NoMemory}
-use Rattle.agent_ask.specs.SessionEvents.{Sent, Further, cache_turn}
+use Rattle.agent_ask.specs.SessionEvents.{Further, cache_turn}
 use Rattle.agent_ask.specs.TrustCalls.{Read, Replaced}
 use Rattle.agent_ask.specs.UnderTickets.{AnyInSession}
 use Rattle.agent_ask.specs.declared.caller.Heard.{Heard}
@@ -19,7 +19,6 @@ use Rattle.agent_ask.specs.Interrupts.{Interrupts}
 use Rattle.agent_ask.specs.Interrupts as turns
 use Rattle.agent_commands.specs.declared.request.Request.{Request}
 use Rattle.agent_commands.specs.declared.went.Went.{Went}
-use Rattle.agent_commands.specs.declared.went.Went.TheVariants.{On}
 use Rattle.agent_ports.specs.declared.grip.Grip.{Grip}
 use Rattle.agent_ports.specs.declared.trust.TrustDone.TheVariants as done
 use Rattle.agent_ports.specs.declared.trust.TrustRead.TheVariants as read
