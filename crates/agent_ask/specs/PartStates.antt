@@ -1,4 +1,4 @@
--- How a session stands at some state of its code before and after a part of a request, and how events lead from one to the other. Its connection is of any
+-- Private: how a session stands at some state of its code before and after a part of a request, and how events lead from one to the other. Its connection is of any
 -- type of which this is seen. This is the project's own.
 use Rattle.std.specs.Prelude.{◌≡◌, ◌≤◌, ℕ, List, [], ◌∷◌, Option, Some, None, Result, Ok, Err}
 use Rattle.agent_ports.specs.Counts.{Rose}
