@@ -64,7 +64,11 @@ module _ (rules : Rules) (kept : Kept) (description : _) (spec : PromptSpec) (as
   refused : AgreesTo session_lines rules kept.options description.items (Some 0) shown (Err (Agent code.NoPinentry)) (Some 0)
   refused =
       consent.refused spec is_spec
-      (record { in_session = tickets.called (tickets.called tickets.none); asks = record { before = Called (Start spec opened.Failed) ∷ []; whole = refl; asks = consents.unopened prompts.failed } }) refl
+      (record {
+        prompt = Called (Start spec opened.Failed) ∷ Called Shut ∷ [];
+        in_session = tickets.called (tickets.called tickets.none);
+        asks = record { before = Called (Start spec opened.Failed) ∷ []; whole = refl; asks = consents.unopened prompts.failed };
+      }) refl
 
   confirms : confirms_by rules kept.options kept.options.mode description None (cache_turn (Seat None None) (Open 0) ∷ shown) (Err (Agent code.NoPinentry)) (Some 0)
   confirms = subst (λ way. confirms_by rules kept.options way description None (cache_turn (Seat None None) (Open 0) ∷ shown) (Err (Agent code.NoPinentry)) (Some 0)) (sym asks) (goes_on taken.opened refused)
