@@ -1,8 +1,8 @@
 -- Consent as a part of a request: its prompt, and how it leaves the client.
-use Rattle.std.proofs.Common.{◌≡◌, ℕ, List, Option, Some, Result, Ok, Err, refl, subst}
+use Rattle.std.proofs.Common.{◌≡◌, ℕ, List, Some, Result, Ok, Err, refl, subst}
 use Rattle.std.specs.Option.{option_map}
 use Rattle.session_client.specs.Asking.{LeftBy}
-use Rattle.session_client.specs.Lines.{Lines, Views, IsOpen}
+use Rattle.session_client.specs.Lines.{Lines, Views}
 use Rattle.session_client.specs.declared.code.Code.TheVariants as code
 use Rattle.session_client.specs.declared.refusal.Refusal.{Refusal}
 use Rattle.session_client.specs.declared.refusal.Refusal.TheVariants.{Agent, Pinentry, Client}

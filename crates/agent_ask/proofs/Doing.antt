@@ -1,5 +1,5 @@
 -- Events one after another: each does to the outside what its kind does.
-use Rattle.std.proofs.Common.{◌≡◌, ℕ, List, [], ◌∷◌, ◌++◌, Ok, Err, refl, ap, ◌∙◌, arith}
+use Rattle.std.proofs.Common.{ℕ, List, [], ◌∷◌, ◌++◌, Ok, Err, refl, ap, ◌∙◌, arith}
 use Rattle.agent_ports.specs.Leads.{none, one}
 use Rattle.agent_ports.proofs.Leading.{leads_then}
 use Rattle.cache_policy.specs.declared.mark.MarkStep.{MarkStep}

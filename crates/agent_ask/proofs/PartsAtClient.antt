@@ -1,5 +1,5 @@
 -- Parts at the client: a text that is written, an inquiry, a prompt that it is told of.
-use Rattle.std.proofs.Common.{◌≡◌, ◌≢◌, ◌≤◌, ℕ, List, [], ◌∷◌, Option, Some, Result, Ok, Err, IsSome, refl, ap, arith, sym, ◌∙◌}
+use Rattle.std.proofs.Common.{◌≡◌, ◌≢◌, ◌≤◌, ℕ, List, [], ◌∷◌, Option, Some, Result, Ok, Err, IsSome, refl, arith, sym, ◌∙◌}
 use Rattle.agent_ports.specs.Leads.{Leads}
 use Rattle.agent_ports.specs.Writing.{StopsWriting}
 use Rattle.agent_ports.specs.declared.link.WriteFault.{WriteFault}

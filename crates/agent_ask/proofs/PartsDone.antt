@@ -9,7 +9,7 @@ use Rattle.session_client.specs.declared.unheard.Gone.{Gone}
 use Rattle.agent_ask.specs.Further.{FurtherEvent, EventOf, world_with}
 use Rattle.agent_ask.specs.Parts.{PartOf, ◌>>=◌, goes_on, stops}
 use Rattle.agent_ask.specs.PartStates.{PartState, part_state, ReaderLeft, FaultsCounted, gone_in, DoesPart, NoTurn, NoEnd, DoesWithClient, DoesTurn, DoesTurns, still, one}
-use Rattle.agent_ask.specs.Seats.{Gives, WantsSeat, TakesTicket, GivesTicket, opened as ticket_opened, interrupted as ticket_refused, taken, refused, unheld, given}
+use Rattle.agent_ask.specs.Seats.{Gives, TakesTicket, GivesTicket, opened as ticket_opened, interrupted as ticket_refused, taken, refused, unheld, given}
 use Rattle.agent_ask.specs.SessionEvents.{AnyEvent, cache_turn}
 use Rattle.agent_ask.specs.TurnParts.{Asks, Seats, Changes, Closes, closed}
 use Rattle.agent_ask.specs.TurnParts as turns

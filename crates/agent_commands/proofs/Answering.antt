@@ -1,20 +1,19 @@
 -- Responses that are written, whole or in part, after all else was done for their requests.
-use Rattle.std.proofs.Common.{◌≡◌, ℕ, List, [], ◌∷◌, ◌++◌, None, Ok, Err, refl, ap, sym, ◌∙◌, subst, arith}
-use Rattle.agent_ports.specs.Sides.{Side}
+use Rattle.std.proofs.Common.{◌≡◌, ℕ, List, [], ◌∷◌, None, Ok, Err, refl, ap, ◌∙◌, arith}
 use Rattle.assuan_line.specs.Next.{Reader, held}
 use Rattle.assuan_server.specs.Connections.{Connection}
 use Rattle.agent_commands.specs.Events.{Event}
 use Rattle.agent_ask.specs.SessionEvents.{Sent, Cut}
 use Rattle.agent_commands.specs.Outside.{World}
 use Rattle.agent_ports.specs.Writing.{StopsWriting}
-use Rattle.agent_commands.specs.States.{SessionState, AnswersRequest, ReaderAfter}
+use Rattle.agent_commands.specs.States.{SessionState, AnswersRequest}
 use Rattle.assuan_server.specs.Written.{WritesText}
 use Rattle.agent_commands.specs.Talks.{whole, cut}
 use Rattle.agent_ports.specs.declared.link.WriteFault.{WriteFault}
 use Rattle.agent_commands.specs.declared.went.SessionEnd.TheVariants.{WriteFault as CutOff}
 use Rattle.agent_commands.specs.declared.went.Went.{Went}
 use Rattle.agent_commands.specs.declared.went.Went.TheVariants.{On, End}
-use Rattle.agent_ask.proofs.Doing.{done_none, done_then, done_said, done_cut}
+use Rattle.agent_ask.proofs.Doing.{done_said, done_cut}
 use Rattle.assuan_server.proofs.Clients.{said_so}
 
 module _ {w : World} {S : Type 0} (exchange : S → List (Event w.Further) → S → Went → Type 0) (before after : S) (start : SessionState w) (now : Connection) (text : List ℕ)

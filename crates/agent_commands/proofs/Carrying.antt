@@ -1,13 +1,12 @@
 -- Parts of a request on the cache, one after another, and requests whose parts are done.
-use Rattle.std.proofs.Common.{◌≡◌, ◌≢◌, ℕ, Bool, true, false, List, [], ◌∷◌, ◌++◌, Option, Some, None, Result, Ok, Err, refl, ap, sym, ◌∙◌, subst}
-use Rattle.agent_ask.specs.Doing.{DoesCall, called, out_of_memory}
+use Rattle.std.proofs.Common.{◌≡◌, ◌≢◌, ℕ, Bool, true, false, List, [], Option, Some, None, Result, Ok, Err, refl, subst}
+use Rattle.agent_ask.specs.Doing.{DoesCall}
 use Rattle.agent_ask.specs.Events.{Call, PromptEvent}
 use Rattle.agent_ask.specs.Further.{FurtherEvent, Prompt}
 use Rattle.agent_ask.specs.Parts.{◌>>=◌, needed, Returns, returns, refuses, goes_on, stops}
 use Rattle.agent_ask.specs.PartStates.{PartState, part_state, gone_in, DoesPart, NoTurn, NoEnd, DoesTurn, DoesTurns, still, one}
 use Rattle.agent_ask.specs.PinParts.{PromptsPin}
 use Rattle.agent_ask.specs.Seats.{TakesTicket}
-use Rattle.agent_ask.specs.TurnParts.{Changes}
 use Rattle.agent_ask.specs.declared.ask.Asked.{Asked}
 use Rattle.agent_ask.specs.declared.spec.AskPlan.{AskPlan}
 use Rattle.agent_ask.specs.declared.spec.PromptSpec.{PromptSpec}
@@ -18,14 +17,13 @@ use Rattle.cache_policy.specs.declared.mark.MarkStep.{MarkStep}
 use Rattle.cache_policy.specs.Turns.{Turn}
 use Rattle.session_client.specs.declared.code.Code.TheVariants as code
 use Rattle.session_client.specs.declared.refusal.Refusal.{Refusal}
-use Rattle.session_client.specs.declared.refusal.Refusal.TheVariants.{Agent}
 use Rattle.session_options.specs.OptionValues.{OptionValues}
 use Rattle.session_options.specs.declared.options.OptionAnswer.{OptionAnswer}
 use Rattle.session_options.specs.declared.options.OptionAnswer.TheVariants.{Set, Unknown, Parameter, NotSupported}
 use Rattle.session_options.specs.declared.options.PinMode.{PinMode}
 use Rattle.session_options.specs.declared.options.PinMode.TheVariants.{Ask, Cancel, Error, Loopback}
 use Rattle.session_options.specs.declared.rules.Rules.{Rules}
-use Rattle.agent_commands.specs.Exchanges.{CacheReply, reply, TellsPassphrase, TellsInfo, tells, option_replies, InfoReplies, ChangeReplies, GetReplies, is_quiet}
+use Rattle.agent_commands.specs.Exchanges.{CacheReply, reply, tells, option_replies, InfoReplies, ChangeReplies, GetReplies, is_quiet}
 use Rattle.agent_commands.specs.Answers.{ok}
 use Rattle.agent_commands.specs.Outside.{DoesPrompts, prompts}
 use Rattle.agent_commands.specs.Parts.{Part, CacheEvent}

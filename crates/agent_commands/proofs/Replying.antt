@@ -1,9 +1,9 @@
 -- Replies that are written, whole or in part, after all else was done for their requests.
-use Rattle.std.proofs.Common.{◌≡◌, ℕ, List, [], ◌∷◌, ◌++◌, Option, Some, None, Result, Ok, Err, refl, ap, sym, ◌∙◌, subst, arith, append_assoc}
+use Rattle.std.proofs.Common.{ℕ, List, [], ◌∷◌, ◌++◌, Option, Some, None, Result, Ok, Err, refl, ap, sym, subst, arith, append_assoc}
 use Rattle.agent_ask.specs.Failing.{said_last}
 use Rattle.agent_ask.specs.Further.{FurtherEvent, world_with}
 use Rattle.agent_ask.specs.PartExchanges.{AnyExchange, answered, refused as is_refused}
-use Rattle.agent_ask.specs.PartStates.{PartState, part_state, ReaderLeft, FaultsCounted, DoesPart, DoesTurns, still, one}
+use Rattle.agent_ask.specs.PartStates.{part_state, ReaderLeft, FaultsCounted, DoesPart, DoesTurns, still, one}
 use Rattle.agent_ask.specs.SessionEvents.{Sent, Cut, cache_turn}
 use Rattle.agent_ask.specs.States.{AnyLead}
 use Rattle.agent_ask.specs.TurnParts.{Closes}
@@ -31,9 +31,7 @@ use Rattle.agent_commands.specs.Steps.{CacheCloses, went_of, reply_by, CarriesOu
 use Rattle.agent_commands.specs.Talks.{whole, cut}
 use Rattle.agent_commands.specs.declared.response.Response.{Response}
 use Rattle.agent_commands.specs.declared.response.Response.TheVariants as response
-use Rattle.agent_commands.specs.declared.went.SessionEnd.TheVariants as ends
 use Rattle.agent_commands.specs.declared.went.Went.{Went}
-use Rattle.agent_commands.specs.declared.went.Went.TheVariants.{On, End}
 
 -- how the session goes on after a refusal, by how its client is gone
 reader_after : (how : Option Gone) (start now : Connection) → ReaderLeft connection_views how start now → ReaderAfter (went_after how) start.reader now.reader

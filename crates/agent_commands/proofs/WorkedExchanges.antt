@@ -1,5 +1,5 @@
 -- The exchanges of some requests: what is done and written for each, and how the session goes on.
-use Rattle.std.specs.Prelude.{◌≡◌, ℕ, List, [], ◌∷◌, codes, true, false, Some, None, Ok, Err, refl}
+use Rattle.std.specs.Prelude.{[], ◌∷◌, codes, true, false, Some, None, refl}
 use Rattle.agent_ask.specs.ClientParts.{written, given, not_given}
 use Rattle.agent_ask.specs.Interrupts.{stopping}
 use Rattle.agent_ask.specs.PartExchanges.{answered, refused}

@@ -1,6 +1,6 @@
 -- Requests and what is done for them, as the GnuPG manual has them ("Agent's Assuan protocol"). The codes, the texts and the order of
 -- what is done are this project's own.
-use Rattle.std.specs.Prelude.{ℕ, Bool, true, false, List, [], Option, Some, None, Result, Ok, if◌then◌else◌}
+use Rattle.std.specs.Prelude.{ℕ, Bool, true, List, [], Option, Some, None, Result, Ok, if◌then◌else◌}
 use Rattle.std.specs.Option.{option_and_then}
 use Rattle.arrayvec.specs.ArrayVec.{ArrayVec}
 use Rattle.agent_ask.specs.ConsentParts.{AgreesTo}

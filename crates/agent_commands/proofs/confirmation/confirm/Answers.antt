@@ -2,7 +2,7 @@ use Rattle.std.proofs.Common.{◌≡◌, Some, sym, ap, ◌∙◌, inl, inr, ref
 use Rattle.std.proofs.lemmas.Result.{err_from_is_err_and}
 use Rattle.std.specs.Option.{option_copied}
 use Rattle.agent_ask.specs.Parts.{refuses}
-use Rattle.agent_ask.proofs.PartsDone.{part_then, part_stops, part_still, part_turned, seats_on, ticket_taken}
+use Rattle.agent_ask.proofs.PartsDone.{part_then, part_stops, part_still, part_turned, seats_on}
 use Rattle.assuan_server.specs.Clients.{connection_views}
 use Rattle.agent_commands.specs.Outside.{DoesPrompts}
 use Rattle.agent_commands.proofs.Carrying.{beside_prompter, seat_turn}

@@ -1,4 +1,4 @@
-use Rattle.std.proofs.Common.{Some, None, Ok, Err, refl}
+use Rattle.std.proofs.Common.{Err, refl}
 use Rattle.std.proofs.lemmas.Result.{err_from_is_err_and}
 use Rattle.agent_ask.specs.Parts.{returns}
 use Rattle.agent_ask.proofs.PartsDone.{part_then, part_stops, part_still, part_turned, part_turns, ticket_given}

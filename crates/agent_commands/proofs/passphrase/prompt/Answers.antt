@@ -1,4 +1,3 @@
-use Rattle.std.proofs.Common.{sym, ◌∙◌}
 use Rattle.agent_ask.proofs.PartsAtClient.{prompt_gave, prompt_refused, pin_refuses}
 use Rattle.assuan_server.specs.Clients.{connection_views}
 use Rattle.agent_commands.specs.Outside.{DoesPrompts}

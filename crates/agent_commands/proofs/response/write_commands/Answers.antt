@@ -1,5 +1,5 @@
 use Rattle.std.proofs.lemmas.Result.{err_from_is_err_and}
-use Rattle.std.proofs.Common.{ℕ, List, ◌++◌, map}
+use Rattle.std.proofs.Common.{ℕ, List, map}
 use Rattle.agent_commands.specs.Answers.{comments}
 use Rattle.agent_commands.specs.declared.names.TheConstants.{COMMANDS, KEY_COMMANDS}
 use Rattle.assuan_server.proofs.Saying.{said_then, said_first}
