@@ -1,7 +1,6 @@
 -- Lines of a session, at either door, in whose exchanges the prompter's calls are those of prompts, one after another.
 use Rattle.std.specs.List.{AllByRecursion}
 use Rattle.std.proofs.Common.{ℕ, Bool, true, false, List, [], ◌∷◌, codes, Option, Some, None, Result, Ok, Err}
-use Rattle.arrayvec.specs.ArrayVec.{ArrayVec}
 use Rattle.agent_ask.specs.ClientParts.{Writes, Inquires}
 use Rattle.agent_ask.specs.ClientParts as client
 use Rattle.agent_ask.specs.PartExchanges.{AnyExchange}
@@ -148,7 +147,7 @@ module _ (rules : Rules) (options : OptionValues) where
       each_bind IsUncalled (each_bind IsUncalled (each_wanted IsUncalled code.NotSupported rules.allow_preset) (λ allowed.
       each_bind IsUncalled (each_otherwise IsUncalled secret asks_passphrase) (λ given. changes))) (λ stored. each_returned IsUncalled _)
 
-  confirms : (way : PinMode) (description : ArrayVec ℕ) → PromptedSo (confirms_by rules options way description)
+  confirms : (way : PinMode) (description : _) → PromptedSo (confirms_by rules options way description)
   confirms mode.Ask description = seated_agrees rules options description.items
   confirms mode.Cancel description = uncalled_so (each_refused IsUncalled (Agent code.Cancelled))
   confirms mode.Error description = uncalled_so (each_refused IsUncalled (Agent code.NoPinentry))
