@@ -23,7 +23,7 @@ use Rattle.agent_ask.specs.PartStates.{part_state, ReaderLeft, FaultsCounted, go
 use Rattle.agent_ask.specs.PinParts.{PromptsPin, pin_refusal}
 use Rattle.agent_ask.specs.Prompts.{AsksPinBy}
 use Rattle.agent_ask.specs.SessionEvents.{Sent, Cut, Inquiry}
-use Rattle.agent_ask.specs.UnderTickets.{AnyInSession}
+use Rattle.agent_ask.specs.SessionPrompts.{AnyInSession}
 use Rattle.agent_ask.specs.declared.ask.Asked.{Asked}
 use Rattle.agent_ask.specs.declared.ask.Asked.TheVariants as asked
 use Rattle.agent_ask.specs.declared.caller.Heard.{Heard}

@@ -12,7 +12,7 @@ use Rattle.agent_ask.specs.Events.{Call, PromptEvent, Called, OutOfMemory}
 use Rattle.agent_ask.specs.Further.{FurtherEvent, Prompt, EventOf, world_with}
 use Rattle.agent_ask.specs.SessionEvents.{Further}
 use Rattle.agent_ask.specs.States.{AnyState, AnyLead}
-use Rattle.agent_ask.specs.UnderTickets.{AnyInSession, none as no_events, called as shows_call, noted as shows_note, out_of_memory as shows_memory, note}
+use Rattle.agent_ask.specs.SessionPrompts.{AnyInSession, none as no_events, called as shows_call, noted as shows_note, out_of_memory as shows_memory, note}
 use Rattle.agent_ask.proofs.Doing.{done_none, done_then, done_further, done_inquired}
 
 -- The further ends hold the prompter: with each state of it they are these, and what a prompt does to it is done to them.

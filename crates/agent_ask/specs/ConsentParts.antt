@@ -12,7 +12,7 @@ use Rattle.agent_ask.specs.Consents.{AsksConsent}
 use Rattle.agent_ask.specs.Events.{PromptEvent}
 use Rattle.agent_ask.specs.Further.{EventOf}
 use Rattle.agent_ask.specs.Plans.{IsSpec, text}
-use Rattle.agent_ask.specs.UnderTickets.{AnyInSession}
+use Rattle.agent_ask.specs.SessionPrompts.{AnyInSession}
 use Rattle.agent_ask.specs.declared.consent.Agreed.{Agreed}
 use Rattle.agent_ask.specs.declared.consent.Agreed.TheVariants as agreed
 use Rattle.agent_ask.specs.declared.spec.PromptSpec.{PromptSpec}

@@ -12,9 +12,8 @@ pub mod TrustCalls
 pub mod Further
 pub mod SessionEvents
 pub mod Worlds
-pub mod UnderTickets
+pub mod SessionPrompts
 pub mod States
-pub mod Failing
 pub mod Plans
 pub mod Interrupts
 pub mod Parts

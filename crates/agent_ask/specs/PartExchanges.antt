@@ -4,9 +4,8 @@ use Rattle.std.specs.Prelude.{◌++◌, ℕ, List, [], ◌∷◌, Option, None, 
 use Rattle.session_client.specs.Refusals.{gone_by}
 use Rattle.session_client.specs.declared.refusal.Refusal.{Refusal}
 use Rattle.session_client.specs.declared.unheard.Gone.{Gone}
-use Rattle.agent_ask.specs.Failing.{said_last}
 use Rattle.agent_ask.specs.Parts.{PartOf}
-use Rattle.agent_ask.specs.SessionEvents.{AnyEvent, Sent}
+use Rattle.agent_ask.specs.SessionEvents.{AnyEvent, Sent, said_last}
 use Rattle.agent_ask.specs.TurnParts.{Closes}
 
 -- what a request is answered where it isn't refused, what is kept after it, and how the session goes on

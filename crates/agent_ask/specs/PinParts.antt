@@ -9,7 +9,7 @@ use Rattle.agent_ask.specs.Callers.{unheard_of}
 use Rattle.agent_ask.specs.Events.{PromptEvent}
 use Rattle.agent_ask.specs.Further.{EventOf}
 use Rattle.agent_ask.specs.Prompts.{AsksPin}
-use Rattle.agent_ask.specs.UnderTickets.{AnyInSession}
+use Rattle.agent_ask.specs.SessionPrompts.{AnyInSession}
 use Rattle.agent_ask.specs.declared.ask.Asked.{Asked}
 use Rattle.agent_ask.specs.declared.ask.Asked.TheVariants as asked
 use Rattle.agent_ask.specs.declared.spec.AskPlan.{AskPlan}

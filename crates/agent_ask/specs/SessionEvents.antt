@@ -1,7 +1,7 @@
 -- What a session does, one thing after another: what every session has to do with its client and its desk, and events of a further kind.
 -- What a read gives and what an inquiry may come to are parameters, since they are said of the lines that a server reads. This is the
 -- project's own.
-use Rattle.std.specs.Prelude.{◌≡◌, ℕ, List, [], ◌∷◌, ◌++◌}
+use Rattle.std.specs.Prelude.{◌≡◌, ℕ, List, [], ◌∷◌, ◌++◌, Option, Some, None}
 use Rattle.cache_policy.specs.declared.mark.MarkStep.{MarkStep}
 use Rattle.cache_policy.specs.Extending.{Taken}
 use Rattle.cache_policy.specs.Turns.{Turn}
@@ -24,6 +24,11 @@ pub data AnyEvent (T O F : Type 0) : Type 0 where
 -- a turn as an event
 abbrev pub cache_turn : {T O F : Type 0} → MarkStep → Turn → AnyEvent T O F
 cache_turn asked turn = CacheTurn (record { asked = asked; turn = turn })
+
+-- a line is written, where there is one
+abbrev pub said_last : {T O F : Type 0} → Option (List ℕ) → List (AnyEvent T O F)
+said_last (Some line) = Sent line ∷ []
+said_last None = []
 
 -- the turns among the events
 abbrev pub turns_in : {T O F : Type 0} → List (AnyEvent T O F) → List Taken

@@ -1,10 +1,9 @@
 -- Replies that are written, whole or in part, after all else was done for their requests.
 use Rattle.std.proofs.Common.{ℕ, List, [], ◌∷◌, ◌++◌, Option, Some, None, Result, Ok, Err, refl, ap, sym, subst, arith, append_assoc}
-use Rattle.agent_ask.specs.Failing.{said_last}
 use Rattle.agent_ask.specs.Further.{FurtherEvent, world_with}
 use Rattle.agent_ask.specs.PartExchanges.{AnyExchange, answered, refused as is_refused}
 use Rattle.agent_ask.specs.PartStates.{part_state, ReaderLeft, FaultsCounted, DoesPart, DoesTurns, still, one}
-use Rattle.agent_ask.specs.SessionEvents.{Sent, Cut, cache_turn}
+use Rattle.agent_ask.specs.SessionEvents.{Sent, Cut, cache_turn, said_last}
 use Rattle.agent_ask.specs.States.{AnyLead}
 use Rattle.agent_ask.specs.TurnParts.{Closes}
 use Rattle.agent_ask.proofs.Doing.{done_none, done_then, done_turned, done_said, done_cut}

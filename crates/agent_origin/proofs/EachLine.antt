@@ -7,8 +7,8 @@ use Rattle.agent_ask.specs.ConsentParts as consent
 use Rattle.agent_ask.specs.Events.{PromptEvent}
 use Rattle.agent_ask.specs.PartExchanges.{AnyReply, AnyExchange, answered, refused}
 use Rattle.agent_ask.specs.TurnParts.{Closes}
-use Rattle.agent_ask.specs.UnderTickets.{AnyInSession}
-use Rattle.agent_ask.specs.UnderTickets as shown
+use Rattle.agent_ask.specs.SessionPrompts.{AnyInSession}
+use Rattle.agent_ask.specs.SessionPrompts as shown
 use Rattle.agent_commands.specs.Exchanges.{Exchange, option_replies, GivenOrAsked, Presets, confirms_by, InfoReplies, GetReplies, PresetReplies, ChangeReplies, ConfirmationReplies, Replies, TellsPassphrase, TellsInfo}
 use Rattle.agent_commands.specs.Exchanges as exchange
 use Rattle.agent_commands.specs.Parts.{limit_line, AsksPassphrase}

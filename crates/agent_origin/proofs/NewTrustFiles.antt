@@ -5,8 +5,7 @@ use Rattle.std.specs.Prelude.{◌⊎◌}
 use Rattle.std.proofs.lemmas.List.{append_assoc}
 use Rattle.arrayvec.specs.ArrayVec.{ArrayVec}
 use Rattle.agent_ask.specs.Further.{Keys, Dice, NoMemory, Prompt, Trust}
-use Rattle.agent_ask.specs.Failing.{said_last}
-use Rattle.agent_ask.specs.SessionEvents.{Received, Sent, Cut, Inquiry, CacheTurn, Further, cache_turn, CutAtLast}
+use Rattle.agent_ask.specs.SessionEvents.{Received, Sent, Cut, Inquiry, CacheTurn, Further, cache_turn, CutAtLast, said_last}
 use Rattle.agent_ask.specs.TrustCalls.{Read, Replaced}
 use Rattle.agent_commands.specs.Answers.{ok}
 use Rattle.agent_commands.specs.Requests.{request_of}

@@ -7,12 +7,11 @@ use Rattle.agent_ask.specs.ClientParts.{Writes, written, cut, Inquires, given, n
 use Rattle.agent_ask.specs.ConsentParts.{AgreesTo}
 use Rattle.agent_ask.specs.ConsentParts as consent
 use Rattle.agent_ask.specs.Events.{PromptEvent}
-use Rattle.agent_ask.specs.Failing.{said_last}
 use Rattle.agent_ask.specs.PartExchanges.{AnyReply, AnyExchange, answered, refused}
 use Rattle.agent_ask.specs.Parts.{Follows, goes_on, stops, Returns, returns, Refuses, refuses, needed, or_else}
-use Rattle.agent_ask.specs.SessionEvents.{AnyEvent, Received, Sent, Cut, Inquiry, CacheTurn, Further, turns_in}
+use Rattle.agent_ask.specs.SessionEvents.{AnyEvent, Received, Sent, Cut, Inquiry, CacheTurn, Further, turns_in, said_last}
 use Rattle.agent_ask.specs.TurnParts.{Seats, opened, interrupted, Closes, unheld, closed}
-use Rattle.agent_ask.specs.UnderTickets.{AnyInSession, none, called, noted, out_of_memory}
+use Rattle.agent_ask.specs.SessionPrompts.{AnyInSession, none, called, noted, out_of_memory}
 use Rattle.agent_commands.specs.Exchanges.{Exchange, LineExchange, option_replies, confirms_by, Replies, TellsPassphrase, TellsInfo}
 use Rattle.agent_commands.specs.Exchanges as exchange
 use Rattle.agent_commands.specs.Fields.{text}

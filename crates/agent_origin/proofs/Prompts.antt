@@ -5,7 +5,7 @@ use Rattle.agent_ask.specs.Clients.{Hears, LeftByPart}
 use Rattle.agent_ask.specs.Doing.{PromptEnds, DoesPrompt}
 use Rattle.agent_ask.specs.Events.{Call, PromptEvent}
 use Rattle.agent_ask.specs.Further.{DoesFurther, prompt as does_prompt}
-use Rattle.agent_ask.specs.UnderTickets.{AnyInSession}
+use Rattle.agent_ask.specs.SessionPrompts.{AnyInSession}
 use Rattle.agent_ask.proofs.Prompting.{shown}
 use Rattle.agent_commands.specs.States.{ReaderAfter, FaultsRise}
 use Rattle.assuan_line.specs.Next.{held}

@@ -1,9 +1,8 @@
 -- Requests that were carried out: the reply is written, or the refusal.
 use Rattle.std.proofs.Common.{ℕ, List, [], ◌∷◌, ◌++◌, Option, Some, None, Result, Ok, Err, refl, ap, sym, subst, arith}
 use Rattle.agent_ask.specs.Events.{Call}
-use Rattle.agent_ask.specs.Failing.{said_last}
 use Rattle.agent_ask.specs.Further.{FurtherEnds}
-use Rattle.agent_ask.specs.SessionEvents.{Sent, Cut}
+use Rattle.agent_ask.specs.SessionEvents.{Sent, Cut, said_last}
 use Rattle.agent_ask.proofs.Doing.{done_none, done_then, done_said, done_cut}
 use Rattle.agent_commands.specs.Answers.{ok}
 use Rattle.agent_commands.specs.States.{EventsLead, ReaderAfter, FaultsRise, AnswersRequest}

@@ -10,7 +10,7 @@ use Rattle.agent_ask.specs.Plans.{IsSpec, text}
 use Rattle.agent_ask.specs.Prompts.{quiet}
 use Rattle.agent_ask.specs.SessionEvents.{Sent, Further, cache_turn}
 use Rattle.agent_ask.specs.TrustCalls.{Read, Replaced}
-use Rattle.agent_ask.specs.UnderTickets.{none, called as shown}
+use Rattle.agent_ask.specs.SessionPrompts.{none, called as shown}
 use Rattle.agent_ask.specs.declared.prompter.Consent.{Consent}
 use Rattle.agent_ask.specs.declared.prompter.Consent.TheVariants.{Yes, No}
 use Rattle.agent_ask.specs.declared.prompter.Opened.TheVariants.{Pid}

@@ -8,8 +8,8 @@ use Rattle.agent_ask.specs.Events.{Call, Start, GetPin, Confirm, Shut, PromptEve
 use Rattle.agent_ask.specs.Prompts.{AsksPin, AsksBefore, IsTry, Opens, Repeats, Tries, repeated}
 use Rattle.agent_ask.specs.Prompts as prompts
 use Rattle.agent_ask.specs.Tests.{PinTest}
-use Rattle.agent_ask.specs.UnderTickets.{AnyInSession}
-use Rattle.agent_ask.specs.UnderTickets as session
+use Rattle.agent_ask.specs.SessionPrompts.{AnyInSession}
+use Rattle.agent_ask.specs.SessionPrompts as session
 use Rattle.agent_ask.specs.declared.ask.Asked.{Asked}
 use Rattle.agent_ask.specs.declared.consent.Agreed.{Agreed}
 use Rattle.agent_ask.specs.declared.spec.AskPlan.{AskPlan}

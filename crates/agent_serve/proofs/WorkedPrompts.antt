@@ -15,7 +15,7 @@ use Rattle.agent_ask.specs.Prompters.{IsCall}
 use Rattle.agent_ask.specs.Prompts as prompts
 use Rattle.agent_ask.specs.SessionEvents.{Sent, Further, cache_turn}
 use Rattle.agent_ask.specs.TurnParts as taken
-use Rattle.agent_ask.specs.UnderTickets as tickets
+use Rattle.agent_ask.specs.SessionPrompts as tickets
 use Rattle.agent_ask.specs.Worlds.{Outside, Does}
 use Rattle.agent_ask.specs.Worlds as worlds
 use Rattle.agent_ask.specs.declared.prompter.Opened.TheVariants as opened

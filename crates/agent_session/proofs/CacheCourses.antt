@@ -4,12 +4,11 @@ use Rattle.arrayvec.specs.ArrayVec.{ArrayVec}
 use Rattle.agent_ask.specs.ConsentParts.{AgreesTo}
 use Rattle.agent_ask.specs.ConsentParts as consent
 use Rattle.agent_ask.specs.Further.{FurtherEvent}
-use Rattle.agent_ask.specs.Failing.{said_last}
 use Rattle.agent_ask.specs.PartExchanges.{AnyExchange}
 use Rattle.agent_ask.specs.PartExchanges as exchange
 use Rattle.agent_ask.specs.Parts.{◌>>=◌, Follows, goes_on, stops, Returns, returns, Refuses, or_else}
 use Rattle.agent_ask.specs.Parts as chain
-use Rattle.agent_ask.specs.SessionEvents.{Sent}
+use Rattle.agent_ask.specs.SessionEvents.{Sent, said_last}
 use Rattle.agent_ask.specs.TurnParts.{Closes}
 use Rattle.agent_ask.specs.TurnParts as taken
 use Rattle.assuan_server.specs.Clients.{session_lines}

@@ -5,7 +5,7 @@ use Rattle.agent_ask.specs.ClientParts.{Writes, Inquires}
 use Rattle.agent_ask.specs.ClientParts as client
 use Rattle.agent_ask.specs.ConsentParts.{AgreesTo}
 use Rattle.agent_ask.specs.ConsentParts as consent
-use Rattle.agent_ask.specs.Failing.{said_last}
+use Rattle.agent_ask.specs.SessionEvents.{said_last}
 use Rattle.agent_ask.specs.Further.{FurtherEvent}
 use Rattle.agent_ask.specs.PartExchanges.{AnyExchange}
 use Rattle.agent_ask.specs.PartExchanges as exchange

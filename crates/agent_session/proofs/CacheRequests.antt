@@ -2,7 +2,7 @@
 use Rattle.std.proofs.Common.{◌≡◌, ℕ, Bool, true, false, List, [], ◌++◌, codes, Option, Some, None, Result, Ok, refl, sym, subst, inl}
 use Rattle.arrayvec.specs.ArrayVec.{ArrayVec}
 use Rattle.agent_ask.specs.ClientParts as client
-use Rattle.agent_ask.specs.Failing.{said_last}
+use Rattle.agent_ask.specs.SessionEvents.{said_last}
 use Rattle.agent_ask.specs.Further.{FurtherEvent}
 use Rattle.agent_ask.specs.PartExchanges as exchange
 use Rattle.agent_ask.specs.Parts.{◌>>=◌, Returns}

@@ -1,6 +1,6 @@
 -- A session that ends since a line was too long has told its client so.
 use Rattle.std.proofs.Common.{◌≡◌, ◌∙◌, ◌++◌, ℕ, List, Option, Some, None, Ok, refl, sym}
-use Rattle.agent_ask.specs.Failing.{said_last}
+use Rattle.agent_ask.specs.SessionEvents.{said_last}
 use Rattle.agent_ask.specs.PartExchanges.{answered, refused}
 use Rattle.agent_ask.specs.Parts as chain
 use Rattle.agent_ask.specs.Parts.{goes_on}

@@ -1,9 +1,8 @@
 -- HAVEKEY: where the reads of all its keys said that none is there, that is the answer.
 use Rattle.std.proofs.Common.{◌≡◌, ◌⊎◌, ◌+◌, ◌<◌, ℕ, List, [], ◌∷◌, ◌++◌, length, Option, Some, None, Ok, Err, arith, refl, sym, ap, inl, inr}
 use Rattle.std.specs.Prelude.{map}
-use Rattle.agent_ask.specs.Failing.{said_last}
 use Rattle.agent_ask.specs.Further.{Keys, Read}
-use Rattle.agent_ask.specs.SessionEvents.{Sent, Further}
+use Rattle.agent_ask.specs.SessionEvents.{Sent, Further, said_last}
 use Rattle.agent_ports.specs.declared.grip.Grip.{Grip}
 use Rattle.agent_ports.specs.declared.keys.KeyRead.TheVariants as key_read
 use Rattle.session_client.specs.declared.code.Code.TheVariants as code

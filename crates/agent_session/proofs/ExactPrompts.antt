@@ -11,8 +11,8 @@ use Rattle.agent_ask.specs.TrustCalls.{TrustCall}
 use Rattle.agent_ask.specs.Prompts.{AsksPin, AsksBefore, Tries, IsTry, Repeats, repeated}
 use Rattle.agent_ask.specs.Prompts as prompts
 use Rattle.agent_ask.specs.SessionEvents.{Inquiry, Further}
-use Rattle.agent_ask.specs.UnderTickets.{AnyInSession}
-use Rattle.agent_ask.specs.UnderTickets as session
+use Rattle.agent_ask.specs.SessionPrompts.{AnyInSession}
+use Rattle.agent_ask.specs.SessionPrompts as session
 use Rattle.agent_ask.specs.declared.ask.Asked.{Asked}
 use Rattle.agent_ask.specs.declared.ask.Asked.TheVariants as asked
 use Rattle.agent_ask.specs.declared.caller.Heard.{Heard}

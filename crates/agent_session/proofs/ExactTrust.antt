@@ -3,8 +3,7 @@ use Rattle.std.specs.List.{AllByRecursion}
 use Rattle.std.proofs.Common.{◌≡◌, ◌⊎◌, ◌∙◌, ◌<◌, ℕ, Bool, true, false, List, [], ◌∷◌, ◌++◌, length, Option, Some, None, Result, Ok, Err, arith, refl, sym, ap, subst, inl, inr}
 use Rattle.std.specs.Option.{option_map}
 use Rattle.agent_ask.specs.Callers.{unheard_of}
-use Rattle.agent_ask.specs.Failing.{said_last}
-use Rattle.agent_ask.specs.SessionEvents.{CacheTurn}
+use Rattle.agent_ask.specs.SessionEvents.{CacheTurn, said_last}
 use Rattle.agent_ask.specs.TrustCalls.{TrustCall, Read, Replaced}
 use Rattle.agent_ask.specs.declared.caller.Heard.{Heard}
 use Rattle.agent_ask.specs.declared.caller.Heard.TheVariants as heard_as

@@ -8,8 +8,8 @@ use Rattle.agent_ask.specs.Events.{OutOfMemory, PromptEvent, Called, Notified}
 use Rattle.agent_ask.specs.Further.{FurtherEvent, Keys, Read, Replaced, Removed, Prompt}
 use Rattle.agent_ask.specs.Prompts.{AsksPin}
 use Rattle.agent_ask.specs.SessionEvents.{Further}
-use Rattle.agent_ask.specs.UnderTickets.{AnyInSession}
-use Rattle.agent_ask.specs.UnderTickets as session
+use Rattle.agent_ask.specs.SessionPrompts.{AnyInSession}
+use Rattle.agent_ask.specs.SessionPrompts as session
 use Rattle.agent_ask.specs.declared.ask.Asked.{Asked}
 use Rattle.agent_ask.specs.declared.ask.Asked.TheVariants as asked
 use Rattle.agent_ask.specs.declared.caller.Heard.{Heard}

@@ -6,13 +6,12 @@ use Rattle.agent_ask.specs.ClientParts.{Writes, Inquires}
 use Rattle.agent_ask.specs.ClientParts as client
 use Rattle.agent_ask.specs.ConsentParts.{AgreesTo}
 use Rattle.agent_ask.specs.ConsentParts as consent
-use Rattle.agent_ask.specs.Failing.{said_last}
 use Rattle.agent_ask.specs.Further.{FurtherEvent}
 use Rattle.agent_ask.specs.PartExchanges.{AnyExchange}
 use Rattle.agent_ask.specs.PartExchanges as exchange
 use Rattle.agent_ask.specs.Parts.{◌>>=◌, goes_on, stops, Returns, returns, Refuses, needed, or_else}
 use Rattle.agent_ask.specs.Parts as chain
-use Rattle.agent_ask.specs.SessionEvents.{Sent, cache_turn}
+use Rattle.agent_ask.specs.SessionEvents.{Sent, cache_turn, said_last}
 use Rattle.agent_ask.specs.TurnParts.{Asks, Seats, Changes, Closes}
 use Rattle.agent_ask.specs.TurnParts as turning
 use Rattle.assuan_server.specs.Clients.{session_lines}

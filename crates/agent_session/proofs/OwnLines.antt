@@ -4,13 +4,12 @@ use Rattle.std.specs.Option.{option_map}
 use Rattle.std.specs.Prelude.{⊤}
 use Rattle.std.proofs.Common.{◌≡◌, ℕ, List, [], ◌∷◌, ◌++◌, Option, Some, None, Ok, refl, sym, ap, ◌∙◌, subst, append-nil}
 use Rattle.agent_ask.specs.Events.{PromptEvent}
-use Rattle.agent_ask.specs.Failing.{said_last}
 use Rattle.agent_ask.specs.Further.{FurtherEvent}
-use Rattle.agent_ask.specs.SessionEvents.{Sent}
+use Rattle.agent_ask.specs.SessionEvents.{Sent, said_last}
 use Rattle.agent_ask.specs.TurnParts.{Closes}
 use Rattle.agent_ask.specs.TurnParts as turning
-use Rattle.agent_ask.specs.UnderTickets.{AnyInSession}
-use Rattle.agent_ask.specs.UnderTickets as session
+use Rattle.agent_ask.specs.SessionPrompts.{AnyInSession}
+use Rattle.agent_ask.specs.SessionPrompts as session
 use Rattle.assuan_server.specs.Clients.{session_lines}
 use Rattle.assuan_server.specs.Written.{failed, refusal_line}
 use Rattle.assuan_server.specs.declared.errors.Origin.TheVariants as origin

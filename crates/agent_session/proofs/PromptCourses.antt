@@ -10,8 +10,8 @@ use Rattle.agent_ask.specs.Further.{FurtherEvent, Prompt}
 use Rattle.agent_ask.specs.Prompts.{AsksPin, AsksBefore, Tries, repeated}
 use Rattle.agent_ask.specs.Prompts as prompts
 use Rattle.agent_ask.specs.SessionEvents.{Further}
-use Rattle.agent_ask.specs.UnderTickets.{AnyInSession}
-use Rattle.agent_ask.specs.UnderTickets as session
+use Rattle.agent_ask.specs.SessionPrompts.{AnyInSession}
+use Rattle.agent_ask.specs.SessionPrompts as session
 use Rattle.agent_ask.specs.declared.ask.Asked.{Asked}
 use Rattle.agent_ask.specs.declared.ask.Asked.TheVariants as asked
 use Rattle.agent_ask.specs.declared.consent.Agreed.{Agreed}

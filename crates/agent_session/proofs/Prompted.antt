@@ -11,8 +11,8 @@ use Rattle.agent_ask.specs.Prompts.{AsksPin, AsksBefore, Tries, repeated, repeat
 use Rattle.agent_ask.specs.Prompts as prompts
 use Rattle.agent_ask.specs.SessionEvents.{Further}
 use Rattle.agent_ask.specs.Tests.{PinTest}
-use Rattle.agent_ask.specs.UnderTickets.{AnyInSession, note}
-use Rattle.agent_ask.specs.UnderTickets as session
+use Rattle.agent_ask.specs.SessionPrompts.{AnyInSession, note}
+use Rattle.agent_ask.specs.SessionPrompts as session
 use Rattle.agent_ask.specs.declared.ask.Asked.{Asked}
 use Rattle.agent_ask.specs.declared.ask.Asked.TheVariants as asked
 use Rattle.agent_ask.specs.declared.caller.Heard.{Heard}

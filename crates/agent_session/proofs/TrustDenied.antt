@@ -1,8 +1,7 @@
 -- A request on the trust list is answered Not trusted wherever a read of the file says so.
 use Rattle.std.specs.List.{AllByRecursion}
 use Rattle.std.proofs.Common.{◌≡◌, ◌⊎◌, ◌∙◌, ℕ, Bool, true, false, List, [], ◌∷◌, ◌++◌, Option, Some, None, Ok, Err, refl, sym, subst, inl, inr}
-use Rattle.agent_ask.specs.Failing.{said_last}
-use Rattle.agent_ask.specs.SessionEvents.{CacheTurn}
+use Rattle.agent_ask.specs.SessionEvents.{CacheTurn, said_last}
 use Rattle.agent_ask.specs.TrustCalls.{TrustCall}
 use Rattle.agent_commands.specs.Answers.{ok}
 use Rattle.agent_commands.specs.declared.went.Went.{Went}

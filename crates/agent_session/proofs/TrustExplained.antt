@@ -3,12 +3,11 @@ use Rattle.std.specs.List.{AllByRecursion}
 use Rattle.std.proofs.Common.{◌≡◌, ◌<◌, ℕ, Bool, true, false, List, [], ◌∷◌, ◌++◌, length, Option, Some, None, Result, Ok, Err, refl, sym, subst, inl, inr}
 use Rattle.std.specs.Option.{option_map}
 use Rattle.std.specs.Prelude.{⊤, IfSome}
-use Rattle.agent_ask.specs.Failing.{said_last}
 use Rattle.agent_ask.specs.Events.{PromptEvent}
 use Rattle.agent_ask.specs.Further.{NoMemory}
-use Rattle.agent_ask.specs.SessionEvents.{Further, cache_turn}
+use Rattle.agent_ask.specs.SessionEvents.{Further, cache_turn, said_last}
 use Rattle.agent_ask.specs.TrustCalls.{Read, Replaced}
-use Rattle.agent_ask.specs.UnderTickets.{AnyInSession}
+use Rattle.agent_ask.specs.SessionPrompts.{AnyInSession}
 use Rattle.agent_ask.specs.declared.caller.Heard.{Heard}
 use Rattle.agent_ask.specs.declared.caller.Heard.TheVariants as heard_as
 use Rattle.agent_ask.specs.declared.consent.Agreed.{Agreed}

@@ -7,8 +7,8 @@ use Rattle.agent_ask.specs.Plans.{IsSpec, plan_of}
 use Rattle.agent_ask.specs.Prompts.{AsksPin, tried, quiet, good, accepted, same}
 use Rattle.agent_ask.specs.SessionEvents.{Received, Sent, Inquiry, Further, cache_turn}
 use Rattle.agent_ask.specs.Tests.{test_of}
-use Rattle.agent_ask.specs.UnderTickets.{AnyInSession}
-use Rattle.agent_ask.specs.UnderTickets as under
+use Rattle.agent_ask.specs.SessionPrompts.{AnyInSession}
+use Rattle.agent_ask.specs.SessionPrompts as under
 use Rattle.agent_ask.specs.declared.ask.Asked.TheVariants as asked
 use Rattle.agent_ask.specs.declared.prompter.Opened.TheVariants as opened
 use Rattle.agent_ask.specs.declared.prompter.Outcome.TheVariants as outcome

@@ -9,7 +9,7 @@ use Rattle.agent_ask.specs.Prompts.{AsksPin}
 use Rattle.agent_ask.specs.SessionEvents.{Inquiry, CacheTurn, Further, cache_turn}
 use Rattle.agent_ask.specs.TrustCalls.{TrustCall}
 use Rattle.agent_ask.specs.TrustCalls as trust_call
-use Rattle.agent_ask.specs.UnderTickets.{AnyInSession}
+use Rattle.agent_ask.specs.SessionPrompts.{AnyInSession}
 use Rattle.agent_ask.specs.declared.ask.Asked.TheVariants as asked
 use Rattle.agent_ask.specs.declared.prompter.Consent.TheVariants as consent
 use Rattle.agent_ask.specs.declared.prompter.Opened.TheVariants as opened

@@ -6,7 +6,7 @@ use Rattle.agent_ask.specs.Events.{PromptEvent}
 use Rattle.agent_ask.specs.Further.{FurtherEvent}
 use Rattle.agent_ask.specs.Prompts.{AsksPin}
 use Rattle.agent_ask.specs.SessionEvents.{Received, cache_turn}
-use Rattle.agent_ask.specs.UnderTickets.{AnyInSession}
+use Rattle.agent_ask.specs.SessionPrompts.{AnyInSession}
 use Rattle.agent_ask.specs.declared.ask.Asked.TheVariants as asked
 use Rattle.agent_ask.specs.declared.spec.AskPlan.{AskPlan}
 use Rattle.agent_ask.specs.declared.spec.PromptSpec.{PromptSpec}

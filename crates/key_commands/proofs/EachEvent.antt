@@ -5,8 +5,8 @@ use Rattle.std.specs.Prelude.{⊤, not, take, drop}
 use Rattle.agent_ask.specs.Events.{PromptEvent}
 use Rattle.agent_ask.specs.Further.{Keys, Dice, NoMemory, Prompt}
 use Rattle.agent_ask.specs.SessionEvents.{Sent, Cut, Inquiry, Further, cache_turn}
-use Rattle.agent_ask.specs.UnderTickets.{AnyInSession}
-use Rattle.agent_ask.specs.UnderTickets as session
+use Rattle.agent_ask.specs.SessionPrompts.{AnyInSession}
+use Rattle.agent_ask.specs.SessionPrompts as session
 use Rattle.agent_ports.specs.declared.grip.Grip.{Grip}
 use Rattle.assuan_server.specs.Clients.{session_lines}
 use Rattle.session_client.specs.declared.code.Code.{Code}

@@ -2,9 +2,8 @@
 use Rattle.std.specs.List.{AllByRecursion}
 use Rattle.std.proofs.Common.{ℕ, Bool, true, false, List, [], ◌∷◌, ◌++◌, Option, Some, None, Result, Ok, Err}
 use Rattle.std.specs.Prelude.{⊤}
-use Rattle.agent_ask.specs.Failing.{said_last}
 use Rattle.agent_ask.specs.Further.{Keys, Dice, NoMemory, Prompt, Trust}
-use Rattle.agent_ask.specs.SessionEvents.{Received, Sent, Cut, Inquiry, CacheTurn, Further, CutAtLast}
+use Rattle.agent_ask.specs.SessionEvents.{Received, Sent, Cut, Inquiry, CacheTurn, Further, CutAtLast, said_last}
 use Rattle.agent_ports.specs.declared.grip.Grip.{Grip}
 use Rattle.session_client.specs.declared.code.Code.TheVariants as code
 use Rattle.secret_file.specs.Opens.{LockedKey}

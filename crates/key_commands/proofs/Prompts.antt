@@ -4,7 +4,7 @@ use Rattle.agent_ports.specs.Leads.{Leads}
 use Rattle.agent_ask.specs.Clients.{Hears, LeftByPart}
 use Rattle.agent_ask.specs.Doing.{PromptEnds, DoesPrompt}
 use Rattle.agent_ask.specs.Events.{Call, PromptEvent}
-use Rattle.agent_ask.specs.UnderTickets.{AnyInSession}
+use Rattle.agent_ask.specs.SessionPrompts.{AnyInSession}
 use Rattle.agent_ask.proofs.Prompting.{shown}
 use Rattle.assuan_line.specs.Next.{held}
 use Rattle.assuan_server.specs.Clients.{session_lines, connection_views, Wishes}

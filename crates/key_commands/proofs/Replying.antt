@@ -1,8 +1,7 @@
 -- Requests that were carried out: the ticket is given back, and then the reply is written, or the refusal.
 use Rattle.std.proofs.Common.{ℕ, List, [], ◌∷◌, ◌++◌, Option, Some, None, Result, Ok, Err, refl, ap, sym, subst, arith, append_assoc}
 use Rattle.agent_ask.specs.Events.{Call}
-use Rattle.agent_ask.specs.Failing.{said_last}
-use Rattle.agent_ask.specs.SessionEvents.{Sent, Cut, cache_turn}
+use Rattle.agent_ask.specs.SessionEvents.{Sent, Cut, cache_turn, said_last}
 use Rattle.agent_ask.proofs.Doing.{done_none, done_then, done_turned, done_said, done_cut}
 use Rattle.agent_ports.specs.Sides.{Side}
 use Rattle.agent_ports.specs.Writing.{StopsWriting}

@@ -1,9 +1,8 @@
 -- The parts of a request on keys that are no turn at the desk: what is done with its client, with the keys and with the dice. This is the
 -- project's own.
 use Rattle.std.specs.Prelude.{◌≡◌, ℕ, ◌++◌, List, [], ◌∷◌, Option, Some, None, Result, Ok, Err, Bool, true, false, length}
-use Rattle.agent_ask.specs.Failing.{said_last}
 use Rattle.agent_ask.specs.Parts.{PartOf, ◌>>=◌}
-use Rattle.agent_ask.specs.SessionEvents.{Sent, Cut, Inquiry}
+use Rattle.agent_ask.specs.SessionEvents.{Sent, Cut, Inquiry, said_last}
 use Rattle.agent_ports.specs.declared.grip.Grip.{Grip}
 use Rattle.agent_ports.specs.declared.keys.KeyRead.{KeyRead}
 use Rattle.agent_ports.specs.declared.keys.KeyRead.TheVariants as key_read
