@@ -37,6 +37,8 @@ module _ {lines : Lines} {C D E Whole : Type 0} (part_turned : C → MarkStep �
         → AnyLead {w = world_with {lines = lines} turned whole_does} views events (state_in start) (state_in now)
     done_in done = record {
       leads = λ supply is. let leads = done.leads supply is in (leads_in leads.0, leads.1);
+      reads = done.reads;
+      writes = done.writes;
       input_faults = done.input_faults;
       output_faults = done.output_faults;
       link = done.link;

@@ -13,6 +13,7 @@ pub mod Further
 pub mod SessionEvents
 pub mod Worlds
 pub mod SessionPrompts
+pub mod LinkFaults
 pub mod States
 pub mod Plans
 pub mod Interrupts

@@ -2,6 +2,7 @@
 -- this is seen. This is the project's own.
 use Rattle.std.specs.Prelude.{◌≡◌, ◌≤◌, List}
 use Rattle.agent_ports.specs.Leads.{Leads}
+use Rattle.agent_ask.specs.LinkFaults.{fails_at_input, fails_at_output, CountsFailed}
 use Rattle.agent_ask.specs.SessionEvents.{AnyEvent}
 use Rattle.agent_ask.specs.Worlds.{AnyWorld, Outside, Does}
 use Rattle.session_client.specs.Lines.{Lines, Views, unread_at}
@@ -27,6 +28,9 @@ module _ {lines : Lines} {w : AnyWorld lines} {C : Type 0} (views : Views lines 
   pub record AnyLead (events : List (AnyEvent lines.Took lines.Outcome w.Further)) (start now : AnyState w C) : Type 0 where
     pub leads : (supply : lines.Supply) → views.has_supply supply start.conn
         → Leads (Does w supply) (outside_at start) events (outside_at now) × views.has_supply supply now.conn
+    -- each failure at the link is counted, and the counts never fall
+    pub reads : CountsFailed (fails_at_input lines) events (views.input start.conn).faults (views.input now.conn).faults
+    pub writes : CountsFailed (fails_at_output lines) events (views.output start.conn).faults (views.output now.conn).faults
     pub input_faults : (views.input start.conn).faults ≤ (views.input now.conn).faults
     pub output_faults : (views.output start.conn).faults ≤ (views.output now.conn).faults
     pub link : views.link now.conn ≡ views.link start.conn

@@ -1,5 +1,5 @@
 -- A connection as that of a session's client: what is done with it, and what its client has said.
-use Rattle.std.proofs.Common.{◌≡◌, ◌≤◌, ℕ, List, [], ◌++◌, ◌⊎◌, inl, inr, Option, None, Some, Result, Ok, Err, refl, ap, sym, ◌∙◌, subst, arith}
+use Rattle.std.proofs.Common.{◌≡◌, ◌≤◌, ℕ, Bool, true, List, [], ◌++◌, ◌⊎◌, inl, inr, Option, None, Some, Result, Ok, Err, refl, ap, sym, ◌∙◌, subst, arith}
 use Rattle.std.specs.Prelude.{codes, decimal}
 use Rattle.std.specs.Option.{option_map}
 use Rattle.agent_ports.specs.Counts.{Rose}
@@ -8,17 +8,18 @@ use Rattle.agent_ports.specs.declared.link.WriteFault.{WriteFault}
 use Rattle.assuan_line.specs.Lines.{IsLine}
 use Rattle.assuan_line.specs.Next.{Reader, WereNeeded, held}
 use Rattle.assuan_line.specs.declared.reader.Took.{Took}
+use Rattle.assuan_line.specs.declared.reader.Took.TheVariants as took
 use Rattle.assuan_line.proofs.ReadingOn.{fewer_are_held, fault_count_rose}
 use Rattle.assuan_text.specs.Forms.{is_ignored}
 use Rattle.cache_policy.specs.declared.secret.TheConstants.{MAX_SECRET_LEN}
-use Rattle.session_client.specs.Asking.{Asked, NotAsked, LeavesInput, HasSaid, HasReceived, HasInquired, LeftBy, Inquires, TellsClient, AsksClient, without_data}
+use Rattle.session_client.specs.Asking.{Asked, NotAsked, LeavesInput, HasSaid, HasReceived, HasInquired, LeftBy, Inquires, TellsClient, AsksClient, without_data, is_unread}
 use Rattle.session_client.specs.Lines.{TakesNeeded}
 use Rattle.session_client.specs.declared.client.TheConstants.{MAX_NOTE_LEN}
 use Rattle.session_client.specs.declared.unheard.Gone.TheVariants as gone
 use Rattle.session_client.specs.declared.unheard.Unheard.{Unheard}
 use Rattle.session_client.specs.declared.unheard.Unheard.TheVariants as unheard
 use Rattle.assuan_server.specs.Asking.{Gather, Inquire, IsNotAsked}
-use Rattle.assuan_server.specs.Clients.{HasSupply, connection_views, outcome_says, secret_said, drop_said, note_text, HearsNote, HearsWish, asked, unsaid, Wishes}
+use Rattle.assuan_server.specs.Clients.{HasSupply, connection_views, is_read_fault, outcome_says, secret_said, drop_said, note_text, HearsNote, HearsWish, asked, unsaid, Wishes}
 use Rattle.assuan_server.specs.Connections.{Connection, IsOpen}
 use Rattle.assuan_server.specs.Inquiries as outcome
 use Rattle.assuan_server.specs.Inquiries.{Outcome, Inquiry as Comes, IsData, AnswersDropped, ended_of, inquire_text, is_skipped}
@@ -64,6 +65,13 @@ needed_known Undecided reader (Some rest) (Some left) going (inl same) = inl sam
 needed_known Undecided reader (Some rest) (Some left) going (inr needs) = inr (reader.ahead, ap (λ (x : List ℕ). Some x) (here_going reader rest going), needs)
 
 -- the next request was read
+is_fault : (answer : Took) → is_read_fault answer ≡ true → answer ≡ took.ReadFault
+is_fault took.ReadFault is = refl
+is_fault (took.Line line) is = cc is
+is_fault took.TooLong is = cc is
+is_fault took.End is = cc is
+is_fault took.Spent is = cc is
+
 pub received_so : {start now : Connection} {answer : Took} → IsOpen start → NextRequest start answer now → HasReceived connection_views answer start now
 received_so {start} {now} {answer} going next = record {
   reads = λ supply is.
@@ -74,6 +82,7 @@ received_so {start} {now} {answer} going next = record {
       (known.0, reads_past (λ before line. is_ignored line) supply (start.reader.ahead ++ rest) known.0 answer now.reader left next.read.ended is_now known.1));
   needed = needed_known _ start.reader start.input.bytes now.input.bytes going next.read.needed;
   output_is = ap (λ (s : Side). s.bytes) next.output;
+  rose = λ is. next.read.fault (is_fault answer is);
   input_faults = next.read.faults;
   output_faults = omega (arith, ap (λ (s : Side). s.faults) next.output);
   link = next.link;
@@ -101,6 +110,16 @@ some_data (Some rest) (Some left) P (outcome.Ended, is, named) = absurd named
 some_data (Some rest) (Some left) P (outcome.TooLong, is, named) = absurd named
 some_data (Some rest) (Some left) P (outcome.Spent, is, named) = absurd named
 some_data (Some rest) (Some left) P (outcome.ReadFault, is, named) = absurd named
+
+is_unread_by : (what : Outcome) → is_unread (outcome_says what) ≡ true → what ≡ outcome.ReadFault
+is_unread_by (outcome.Data bytes) is = cc is
+is_unread_by outcome.Cancelled is = cc is
+is_unread_by outcome.TooMuch is = cc is
+is_unread_by outcome.Unexpected is = cc is
+is_unread_by outcome.Ended is = cc is
+is_unread_by outcome.TooLong is = cc is
+is_unread_by outcome.Spent is = cc is
+is_unread_by outcome.ReadFault is = refl
 
 -- how a connection is left by what its client has said
 left_by : (start now : Connection) (what : Outcome) → now.reader.ended ≡ ended_of what → (what ≡ outcome.ReadFault → Rose start.input.faults now.input.faults)
@@ -134,7 +153,7 @@ module _ (word params : List ℕ) (limit : ℕ) (start now : Connection) where
 
   -- the client answered
   module _ (going : IsOpen start) {Reads : List ℕ → Took → Reader → List ℕ → Type 0} (what : Outcome) (answer : Took)
-      (gathered : Gather Reads (inquire_text word params) start answer now)
+      (gathered : Gather Reads (inquire_text word params) start answer now) (rose : what ≡ outcome.ReadFault → Rose start.input.faults now.input.faults)
       (known : WhereKnown start.input.bytes now.input.bytes (λ rest left. Comes limit (start.reader.ahead ++ rest) answer what now.reader left)) where
     answer_read : (supply : Supply) (rest left : List ℕ) → IsSupply supply now.reader left → Comes limit (start.reader.ahead ++ rest) answer what now.reader left
         → ReadsInquiry supply limit (start.reader.ahead ++ rest) what (unread now.reader left)
@@ -154,6 +173,7 @@ module _ (word params : List ℕ) (limit : ℕ) (start now : Connection) where
           subst (λ (b : List ℕ). ReadsInquiry supply limit b what (unread now.reader left)) (sym (here_going start.reader rest going)) (answer_read supply rest left is_now inquiry));
       needed = needed_known _ start.reader start.input.bytes now.input.bytes going gathered.read.needed;
       output_is = gathered.written;
+      rose = λ is. rose (is_unread_by what is);
       input_faults = gathered.read.faults;
       output_faults = gathered.output_faults;
       link = gathered.link;
@@ -164,13 +184,14 @@ module _ (word params : List ℕ) (limit : ℕ) (start now : Connection) where
       → Inquires connection_views word params limit (Asked what) (outcome_says what) start now
   inquiry_is_done going what inquire =
       let ended : now.reader.ended ≡ ended_of what = inquire.gathered.read.ended ∙ inquire.ended what refl in
+      let rose : what ≡ outcome.ReadFault → Rose start.input.faults now.input.faults = λ is. fault_count_rose inquire.gathered.read (ended ∙ ap ended_of is) in
       record {
         done =
-            has_inquired going what inquire.took inquire.gathered
+            has_inquired going what inquire.took inquire.gathered rose
             (known_as start.input.bytes now.input.bytes _ (λ rest left. Comes limit (start.reader.ahead ++ rest) inquire.took what now.reader left)
             (λ rest left read. subst (λ o. Comes limit (start.reader.ahead ++ rest) inquire.took o now.reader left) (sym read.2) read.1) inquire.gathered.read.known);
         fewer = λ is. omega (arith, fewer_are_held inquire.gathered.read is);
-        left = left_by start now what ended (λ is. fault_count_rose inquire.gathered.read (ended ∙ ap ended_of is));
+        left = left_by start now what ended rose;
       }
 
   -- bytes that the answer doesn't name
@@ -180,7 +201,7 @@ module _ (word params : List ℕ) (limit : ℕ) (start now : Connection) where
       let known = some_data start.input.bytes now.input.bytes (λ rest left o. Comes limit (start.reader.ahead ++ rest) inquire.took o now.reader left) inquire.gathered.read.known in (
         known.0,
         record {
-          done = has_inquired going (outcome.Data known.0) inquire.took inquire.gathered known.1;
+          done = has_inquired going (outcome.Data known.0) inquire.took inquire.gathered (λ e. absurd (cc e)) known.1;
           fewer = λ is. omega (arith, fewer_are_held inquire.gathered.read is);
           left = inquire.gathered.read.ended ∙ inquire.ended (outcome.Data []) tt;
         },

@@ -1,6 +1,6 @@
 -- A connection as that of a session's client: the lines that its server reads, what is seen of it, and what the client has said by an
 -- inquiry (Assuan manual, "server responses").
-use Rattle.std.specs.Prelude.{◌≡◌, ◌≢◌, ℕ, List, [], codes, decimal, Option, Some, None, Result, Ok, Err, IfSome}
+use Rattle.std.specs.Prelude.{◌≡◌, ◌≢◌, ℕ, Bool, true, false, List, [], codes, decimal, Option, Some, None, Result, Ok, Err, IfSome}
 use Rattle.std.specs.Option.{option_map}
 use Rattle.assuan_line.specs.Lines.{IsLine}
 use Rattle.assuan_line.specs.Next.{WereNeeded, held}
@@ -59,11 +59,17 @@ answer_of gone.Spent = Some took.Spent
 answer_of gone.ReadFault = Some took.ReadFault
 answer_of gone.WriteFault = None
 
+-- a read failed
+abbrev pub is_read_fault : Took → Bool
+is_read_fault took.ReadFault = true
+is_read_fault _ = false
+
 -- the lines that a session's server reads
 abbrev pub session_lines : Lines
 session_lines = record {
   Supply = Supply;
   Took = Took;
+  is_failed = is_read_fault;
   reads_request = ReadsRequest;
   needs_request = WereNeeded (IsUndecided (λ lines line. is_ignored line) []);
   inquiry_line = λ word params. line_of (inquire_text word params);

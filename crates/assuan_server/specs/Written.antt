@@ -1,5 +1,5 @@
 -- The lines that a server writes, as the Assuan manual has them ("server responses"), and what a write of them leaves.
-use Rattle.std.specs.Prelude.{◌≡◌, ◌≤◌, ◌==◌, ◌^◌, ◌-◌, min, List, ℕ, ◌++◌, length, codes, if◌then◌else◌, Option, Some, None, Result, Ok, Err, ⊤}
+use Rattle.std.specs.Prelude.{◌≡◌, ◌≤◌, ◌==◌, ◌^◌, ◌-◌, min, List, [], ℕ, ◌++◌, length, codes, decimal, if◌then◌else◌, Option, Some, None, Result, Ok, Err, ⊤}
 use Rattle.std.specs.Option.{option_map}
 use Rattle.agent_ports.specs.declared.link.Sent.{Sent}
 use Rattle.agent_ports.specs.declared.link.Sent.TheVariants.{All, Failed}
@@ -22,8 +22,22 @@ greeting = codes "OK Pleased to meet you"
 abbrev pub ok_text : List ℕ → List ℕ
 ok_text text = if length text == 0 then codes "OK" else codes "OK " ++ text
 
+-- the line that answers a request by nothing but that it was done
+abbrev pub ok : List ℕ
+ok = line_of (ok_text [])
+
+-- these bytes as data lines, and then that line
+pub record IsDataAnswer (bytes text : List ℕ) : Type 0 where
+  pub pieces : List (List ℕ)
+  pub are_data : AreData bytes pieces
+  pub text_is : text ≡ data_text pieces ++ ok
+
 abbrev pub status_text : List ℕ → List ℕ → List ℕ
 status_text word text = codes "S " ++ word ++ codes " " ++ text
+
+-- How many bytes a client may send is told before it is asked for them. The form of the line is GnuPG's.
+abbrev pub limit_line : ℕ → List ℕ
+limit_line limit = line_of (status_text (codes "INQUIRE_MAXLEN") (decimal limit))
 
 abbrev pub comment_text : List ℕ → List ℕ
 comment_text text = codes "# " ++ text

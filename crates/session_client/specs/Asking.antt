@@ -1,5 +1,5 @@
 -- What is done with a connection: a read, a write, an inquiry; and how it is left. This is the project's own.
-use Rattle.std.specs.Prelude.{◌≡◌, ◌≤◌, ℕ, List, [], codes, decimal, Option, Some, None, Result, Ok, Err, ⊤}
+use Rattle.std.specs.Prelude.{◌≡◌, ◌≤◌, ℕ, Bool, true, false, List, [], codes, decimal, Option, Some, None, Result, Ok, Err, ⊤}
 use Rattle.agent_ports.specs.Counts.{Rose}
 use Rattle.agent_ports.specs.Sides.{with_bytes, WhereKnown}
 use Rattle.agent_ports.specs.Writing.{Writes, StopsWriting}
@@ -20,6 +20,11 @@ pub data AnyInquired (O : Type 0) : Type 0 where
 abbrev pub said_by : (lines : Lines) → AnyInquired lines.Outcome → Result (List ℕ) Unheard
 said_by lines (Asked outcome) = lines.says outcome
 said_by lines (NotAsked text) = Err (unheard.Gone gone.WriteFault)
+
+-- it said nothing, since a read of its link failed
+abbrev pub is_unread : {A : Type 0} → Result A Unheard → Bool
+is_unread (Err (unheard.Gone gone.ReadFault)) = true
+is_unread _ = false
 
 -- the same, where its bytes are dropped
 abbrev pub without_data : Result (List ℕ) Unheard → Result (Unit {0}) Unheard
@@ -51,19 +56,20 @@ module _ {lines : Lines} {C : Type 0} (views : Views lines C) where
     pub output : Writes text (views.output start) result (views.output now)
     pub leaves : LeavesInput start now
 
-  -- bytes were read, and are this by the link's lines; of the output this is left
-  pub record HasRead (Reads : lines.Supply → List ℕ → List ℕ → Type 0) (Needs : List ℕ → List ℕ → List ℕ → Type 0) (output : Option (List ℕ)) (start now : C) : Type 0 where
+  -- bytes were read, and are this by the link's lines, or the link failed; of the output this is left
+  pub record HasRead (Reads : lines.Supply → List ℕ → List ℕ → Type 0) (Needs : List ℕ → List ℕ → List ℕ → Type 0) (failed : Bool) (output : Option (List ℕ)) (start now : C) : Type 0 where
     pub reads : (supply : lines.Supply) → views.has_supply supply start
         → WhereKnown (unread_at views start) (unread_at views now) (Reads supply) × views.has_supply supply now
     pub needed : TakesNeeded Needs (unread_at views start) (views.input start).bytes (views.input now).bytes
     pub output_is : (views.output now).bytes ≡ output
+    pub rose : failed ≡ true → Rose (views.input start).faults (views.input now).faults
     pub input_faults : (views.input start).faults ≤ (views.input now).faults
     pub output_faults : (views.output start).faults ≤ (views.output now).faults
     pub link : views.link now ≡ views.link start
 
   -- the next request was read, or this came in its place
   abbrev pub HasReceived : lines.Took → C → C → Type 0
-  HasReceived took start now = HasRead (λ supply bytes rest. lines.reads_request supply bytes took rest) lines.needs_request (views.output start).bytes start now
+  HasReceived took start now = HasRead (λ supply bytes rest. lines.reads_request supply bytes took rest) lines.needs_request (lines.is_failed took) (views.output start).bytes start now
 
   -- the write of a text stopped after these bytes of it, and nothing else was done
   pub record HasStopped (text sent : List ℕ) (start now : C) : Type 0 where
@@ -75,7 +81,7 @@ module _ {lines : Lines} {C : Type 0} (views : Views lines C) where
   -- the client was asked by this word and these parameters for so many bytes at most
   abbrev pub HasInquired : List ℕ → List ℕ → ℕ → AnyInquired lines.Outcome → C → C → Type 0
   HasInquired word params limit (Asked outcome) start now =
-      HasRead (λ supply bytes rest. lines.reads_answer supply limit bytes outcome rest) lines.needs_answer
+      HasRead (λ supply bytes rest. lines.reads_answer supply limit bytes outcome rest) lines.needs_answer (is_unread (lines.says outcome))
       (with_bytes (views.output start).bytes (lines.inquiry_line word params)) start now
   HasInquired word params limit (NotAsked text) start now = HasStopped (lines.inquiry_line word params) text start now
 

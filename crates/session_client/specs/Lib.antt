@@ -1,4 +1,5 @@
 pub mod Lines
 pub mod Asking
 pub mod Codes
+pub mod Fields
 pub mod Refusals

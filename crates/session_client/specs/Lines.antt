@@ -1,5 +1,5 @@
 -- How requests and inquiries stand in the bytes of a link, and what is seen of a connection over it. This is the project's own.
-use Rattle.std.specs.Prelude.{◌≡◌, ◌⊎◌, ℕ, List, ◌++◌, Option, Some, None, Result}
+use Rattle.std.specs.Prelude.{◌≡◌, ◌⊎◌, ℕ, Bool, List, ◌++◌, Option, Some, None, Result}
 use Rattle.std.specs.Borrow.{GName}
 use Rattle.std.specs.Option.{option_map}
 use Rattle.agent_ports.specs.Sides.{Side, WhereKnown}
@@ -11,8 +11,9 @@ use Rattle.session_client.specs.declared.unheard.Unheard.{Unheard}
 pub record Lines : Type 1 where
   -- with what a session began: how many bytes there were, and how many of them may be taken
   pub Supply : Type 0
-  -- what a read gives: a line, or what comes in its place
+  -- what a read gives: a line, or what comes in its place; and whether the link failed
   pub Took : Type 0
+  pub is_failed : Took → Bool
   -- the next request of these bytes, or what comes in its place, and the bytes from there on
   pub reads_request : Supply → List ℕ → Took → List ℕ → Type 0
   pub needs_request : List ℕ → List ℕ → List ℕ → Type 0
