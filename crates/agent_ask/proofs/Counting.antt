@@ -25,8 +25,8 @@ module _ {E : Type 0} (failed : E → Bool) where
       → RoseBy (count_by failed (first ++ second)) before after
   both_are_counted first second {before} {mid} {after} rose rose_more =
       let split : count_by failed (first ++ second) ≡ count_by failed first + count_by failed second =
-          rw (sym (length-filter failed (first ++ second)), sym (length-filter failed first), sym (length-filter failed second), filter-append failed first second)
-              (length-append (filter failed first) (filter failed second)) in
+      rw (sym (length-filter failed (first ++ second)), sym (length-filter failed first), sym (length-filter failed second), filter-append failed first second)
+      (length-append (filter failed first) (filter failed second)) in
       omega (arith, rose, rose_more, split)
 
 -- Events, each of which leaves a count or raises it, and raises it where it failed.

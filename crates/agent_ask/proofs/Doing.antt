@@ -91,13 +91,13 @@ module _ {lines : Lines} {w : AnyWorld lines} {C : Type 0} {views : Views lines 
     done_cut {text} {start} {now} why said =
         let stops : StopsWriting text (views.output start) (views.output now) = said.output.went in
         record {
-      leads = λ supply is. (rw (said.leaves.unread, ap (λ (s : Side). s.bytes) said.leaves.input, said.output.went.written) (one cut none), said.leaves.supply supply is);
-      reads = omega (arith, ap (λ (s : Side). s.faults) said.leaves.input);
-      writes = one_is_counted (fails_at_output lines) (Cut stops.sent) (λ e. stops.rose) said.output.faults;
-      input_faults = omega (arith, ap (λ (s : Side). s.faults) said.leaves.input);
-      output_faults = said.output.faults;
-      link = said.leaves.link;
-    }
+          leads = λ supply is. (rw (said.leaves.unread, ap (λ (s : Side). s.bytes) said.leaves.input, said.output.went.written) (one cut none), said.leaves.supply supply is);
+          reads = omega (arith, ap (λ (s : Side). s.faults) said.leaves.input);
+          writes = one_is_counted (fails_at_output lines) (Cut stops.sent) (λ e. stops.rose) said.output.faults;
+          input_faults = omega (arith, ap (λ (s : Side). s.faults) said.leaves.input);
+          output_faults = said.output.faults;
+          link = said.leaves.link;
+        }
 
     -- the next request was read, or this came in its place
     pub done_received : {took : lines.Took} {start now : C} → HasReceived views took start now → AnyLead {w = w} views (Received took ∷ []) (at_conn {w = w} desk ends start) (at_conn {w = w} desk ends now)

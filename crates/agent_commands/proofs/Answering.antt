@@ -2,7 +2,7 @@
 use Rattle.std.proofs.Common.{◌≡◌, ℕ, List, [], ◌∷◌, None, Ok, Err, refl, ap, ◌∙◌, arith}
 use Rattle.assuan_line.specs.Next.{Reader, held}
 use Rattle.assuan_server.specs.Connections.{Connection}
-use Rattle.agent_commands.specs.Events.{Event}
+use Rattle.agent_commands.specs.Events.{EventWith}
 use Rattle.agent_ask.specs.SessionEvents.{Sent, Cut}
 use Rattle.agent_commands.specs.Outside.{World}
 use Rattle.agent_ports.specs.Writing.{StopsWriting}
@@ -16,7 +16,7 @@ use Rattle.agent_commands.specs.declared.went.Went.TheVariants.{On, End}
 use Rattle.agent_ask.proofs.Doing.{done_said, done_cut}
 use Rattle.assuan_server.proofs.Clients.{said_so}
 
-module _ {w : World} {S : Type 0} (exchange : S → List (Event w.Further) → S → Went → Type 0) (before after : S) (start : SessionState w) (now : Connection) (text : List ℕ)
+module _ {w : World} {S : Type 0} (exchange : S → List (EventWith w.Further) → S → Went → Type 0) (before after : S) (start : SessionState w) (now : Connection) (text : List ℕ)
     (on : exchange before (Sent text ∷ []) after On) where
   -- nothing is done but to write one text, and the session goes on
   pub answered_text : start.conn.reader.ended ≡ None → WritesText text start.conn (Ok tt) now → AnswersRequest exchange before start On after (record start { conn = now })

@@ -24,9 +24,9 @@ use Rattle.session_options.specs.declared.options.PinMode.{PinMode}
 use Rattle.session_options.specs.declared.options.PinMode.TheVariants.{Ask, Cancel, Error, Loopback}
 use Rattle.session_options.specs.declared.rules.Rules.{Rules}
 use Rattle.agent_commands.specs.Exchanges.{CacheReply, reply, tells, option_replies, InfoReplies, ChangeReplies, GetReplies, is_quiet}
-use Rattle.agent_commands.specs.Answers.{ok}
+use Rattle.assuan_server.specs.Written.{ok}
 use Rattle.agent_commands.specs.Outside.{DoesPrompts, prompts}
-use Rattle.agent_commands.specs.Parts.{Part, CacheEvent}
+use Rattle.agent_commands.specs.Parts.{CacheEvent, CachePart}
 use Rattle.agent_commands.specs.Passphrases.{ByCache, LooksFor, KeepsUnder, WantsPrompt, WithoutPrompt, as_wanted, passphrase_by}
 use Rattle.agent_commands.specs.Requests.{GetFields}
 use Rattle.agent_commands.specs.Steps.{CacheChange, CacheSeat, IsText, reply_by, CarriesOut, comes_to, stops_at, DoesAtDesk, DoesAtPrompter, option_reply, info_response, TellsCached, cached, refused}
@@ -38,7 +38,7 @@ use Rattle.agent_commands.specs.declared.response.Response.TheVariants as respon
 
 -- ---- turns, one after another
 
-module _ {D : Type 0} (turned : D → MarkStep → Turn → D → Type 0) {A B : Type 0} {part : Part A} {next : A → Part B} {before : Option ℕ} {desk : D} where
+module _ {D : Type 0} (turned : D → MarkStep → Turn → D → Type 0) {A B : Type 0} {part : CachePart A} {next : A → CachePart B} {before : Option ℕ} {desk : D} where
   -- a turn at most, and nothing behind it
   pub turns_then : {value : A} {result : Result B Refusal} {mid after : Option ℕ} {now : D} → DoesTurns turned part before desk (Ok value) mid now → next value mid [] result after
       → DoesTurns turned (part >>= next) before desk result after now
@@ -83,20 +83,20 @@ module _ {D P : Type 0} (turned : D → MarkStep → Turn → D → Type 0) (pro
   at_prompter = part_state connection_views turned (DoesPrompts prompted)
 
   -- a part at the desk
-  pub beside_desk : {A : Type 0} {part : Part A} {result : Result A Refusal} {conn now : Connection} {desk desk_now : D} (prompter : P) → DoesAtDesk part turned conn desk result now desk_now
+  pub beside_desk : {A : Type 0} {part : CachePart A} {result : Result A Refusal} {conn now : Connection} {desk desk_now : D} (prompter : P) → DoesAtDesk part turned conn desk result now desk_now
       → DoesPart connection_views turned (DoesPrompts prompted) part None (at_prompter conn desk prompter) result None (at_prompter now desk_now prompter)
   beside_desk prompter done =
       part_in connection_views turned NoEnd turned (DoesPrompts prompted) (λ same. same) (λ none. prompter) (λ before after step turn does. does) (λ before after what never. absurd never) done
 
   -- a part at the prompter
-  pub beside_prompter : {A : Type 0} {part : Part A} {result : Result A Refusal} {held : Option ℕ} {conn now : Connection} {prompter prompter_now : P} (desk : D)
+  pub beside_prompter : {A : Type 0} {part : CachePart A} {result : Result A Refusal} {held : Option ℕ} {conn now : Connection} {prompter prompter_now : P} (desk : D)
       → DoesAtPrompter part prompted held conn prompter result now prompter_now
       → DoesPart connection_views turned (DoesPrompts prompted) part held (at_prompter conn desk prompter) result held (at_prompter now desk prompter_now)
   beside_prompter desk done =
       part_in connection_views NoTurn (DoesPrompts prompted) turned (DoesPrompts prompted) (λ none. desk) (λ same. same) (λ before after step turn never. absurd never) (λ before after what does. does) done
 
   -- all of a request but its reply
-  pub carries_beside : {part : Part CacheReply} {before after : OptionValues} {held : Option ℕ} {answer : Result Response Refusal} {conn now : Connection} {desk desk_now : D} (prompter : P)
+  pub carries_beside : {part : CachePart CacheReply} {before after : OptionValues} {held : Option ℕ} {answer : Result Response Refusal} {conn now : Connection} {desk desk_now : D} (prompter : P)
       → CarriesOut turned NoEnd part before (part_state connection_views turned NoEnd conn desk tt) answer after held (part_state connection_views turned NoEnd now desk_now tt)
       → CarriesOut turned (DoesPrompts prompted) part before (at_prompter conn desk prompter) answer after held (at_prompter now desk_now prompter)
   carries_beside prompter (comes_to each) = comes_to (λ text is.
@@ -105,7 +105,7 @@ module _ {D P : Type 0} (turned : D → MarkStep → Turn → D → Type 0) (pro
       (part_in connection_views turned NoEnd turned (DoesPrompts prompted) (λ same. same) (λ none. prompter) (λ before after step turn does. does) (λ before after what never. absurd never) part)
 
   -- a request that is answered by OK alone once its work is done
-  pub replies_ok : {work : Part (Unit {0})} {options : OptionValues} {start : PartState connection_views turned (DoesPrompts prompted)} {held : Option ℕ} (conn : Connection) (desk : D) (prompter : P)
+  pub replies_ok : {work : CachePart (Unit {0})} {options : OptionValues} {start : PartState connection_views turned (DoesPrompts prompted)} {held : Option ℕ} (conn : Connection) (desk : D) (prompter : P)
       → DoesPart connection_views turned (DoesPrompts prompted) work None start (Ok tt) held (at_prompter conn desk prompter)
       → CarriesOut turned (DoesPrompts prompted) (work >>= (λ done. Returns (reply options ok))) options start (Ok response.Ok) options held (at_prompter conn desk prompter)
   replies_ok {options} {held} conn desk prompter done =
@@ -123,11 +123,11 @@ module _ {D E : Type 0} (turned : D → MarkStep → Turn → D → Type 0) (fur
   at_desk desk = part_state connection_views turned further conn desk ends
 
   -- nothing was done but to find the reply
-  pub only_replies : {parts : Part CacheReply} {before after : OptionValues} (desk : D) (answer : Response)
+  pub only_replies : {parts : CachePart CacheReply} {before after : OptionValues} (desk : D) (answer : Response)
       → ((text : List ℕ) → IsText answer text → parts None [] (Ok (reply_by answer text after)) None) → CarriesOut turned further parts before (at_desk desk) (Ok answer) after None (at_desk desk)
   only_replies desk answer each = comes_to (λ text is. part_still connection_views turned further conn ends desk going refl (each text is))
 
-  pub only_refuses : {parts : Part CacheReply} {before : OptionValues} (desk : D) {why : Refusal} → gone_in {A = CacheReply} (Err why) ≡ None → parts None [] (Err why) None
+  pub only_refuses : {parts : CachePart CacheReply} {before : OptionValues} (desk : D) {why : Refusal} → gone_in {A = CacheReply} (Err why) ≡ None → parts None [] (Err why) None
       → CarriesOut turned further parts before (at_desk desk) (Err why) before None (at_desk desk)
   only_refuses desk on does = stops_at (part_still connection_views turned further conn ends desk going on does)
 

@@ -7,9 +7,11 @@ use Rattle.session_client.specs.declared.code.Code.TheVariants.{UnknownCommand}
 use Rattle.assuan_text.specs.Options.{options_of, arguments_of, last_value}
 use Rattle.assuan_text.specs.Words.{command_of, rest_of, words}
 use Rattle.agent_commands.specs.Exchanges.{quiet_of, quiet_fields, is_quiet}
-use Rattle.agent_commands.specs.Fields.{cache_id, text, life, cleared_mode, given_passphrase}
+use Rattle.agent_commands.specs.Fields.{cache_id, life, cleared_mode, given_passphrase}
+use Rattle.agent_ask.specs.Plans.{text}
 use Rattle.agent_commands.specs.Names.{command_named, is_key_command}
-use Rattle.agent_commands.specs.Requests.{◌>>=◌, needed, GetFields, get_passphrase, ReadsGet, BeginsRequest, preset_of, clear_of, confirmation_of, description_of, info_of, either, request_by, request_of}
+use Rattle.agent_commands.specs.Requests.{GetFields, get_passphrase, ReadsGet, BeginsRequest, preset_of, clear_of, confirmation_of, description_of, info_of, either, request_by, request_of}
+use Rattle.session_client.specs.Fields.{◌>>=◌, in_form}
 use Rattle.agent_commands.specs.declared.names.CommandName.{CommandName}
 use Rattle.agent_commands.specs.declared.names.CommandName.TheVariants as name
 use Rattle.agent_commands.specs.declared.request.CacheCommand.{CacheCommand}
@@ -27,13 +29,13 @@ never (Err code) next each = refl
 never_preset : (options arguments : List (List ℕ)) → quiet_of (either (preset_of options arguments)) ≡ None
 never_preset options [] = refl
 never_preset options (word ∷ []) = refl
-never_preset options (word ∷ timeout ∷ more) = never (needed (cache_id word)) _ (λ id. never (needed (life timeout)) _ (λ life. never (needed (given_passphrase _ more)) _ (λ secret. refl)))
+never_preset options (word ∷ timeout ∷ more) = never (in_form (cache_id word)) _ (λ id. never (in_form (life timeout)) _ (λ life. never (in_form (given_passphrase _ more)) _ (λ secret. refl)))
 
 never_clear : (options arguments : List (List ℕ)) → quiet_of (either (clear_of options arguments)) ≡ None
 never_clear options [] = refl
 never_clear options (word ∷ more) =
-    never (needed (cleared_mode (last_value (codes "--mode") options))) (λ mode. needed (cache_id word) >>= (λ id. Ok (ClearPassphrase id mode)))
-    (λ mode. never (needed (cache_id word)) (λ id. Ok (ClearPassphrase id mode)) (λ id. refl))
+    never (in_form (cleared_mode (last_value (codes "--mode") options))) (λ mode. in_form (cache_id word) >>= (λ id. Ok (ClearPassphrase id mode)))
+    (λ mode. never (in_form (cache_id word)) (λ id. Ok (ClearPassphrase id mode)) (λ id. refl))
 
 never_confirmation : (arguments : List (List ℕ)) → quiet_of (either (confirmation_of arguments)) ≡ None
 never_confirmation [] = refl
@@ -48,7 +50,7 @@ unnamed_is_not_quiet true line = refl
 unnamed_is_not_quiet false line = refl
 
 -- but a GET_PASSPHRASE is, by its fields
-quiet_got : (get : Option GetFields) → quiet_of (either (needed (option_map get_passphrase get))) ≡ option_and_then quiet_fields get
+quiet_got : (get : Option GetFields) → quiet_of (either (in_form (option_map get_passphrase get))) ≡ option_and_then quiet_fields get
 quiet_got None = refl
 quiet_got (Some fields) = refl
 

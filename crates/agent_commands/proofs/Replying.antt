@@ -24,7 +24,7 @@ use Rattle.session_client.specs.declared.unheard.Gone.TheVariants as gone
 use Rattle.session_options.specs.OptionValues.{OptionValues}
 use Rattle.agent_commands.specs.Endings.{went_after}
 use Rattle.agent_commands.specs.Exchanges.{CacheReply}
-use Rattle.agent_commands.specs.Parts.{Part, CacheEvent}
+use Rattle.agent_commands.specs.Parts.{CacheEvent, CachePart}
 use Rattle.agent_commands.specs.States.{SessionState, AnswersRequest, ReaderAfter, FaultsRise}
 use Rattle.agent_commands.specs.Steps.{CacheCloses, went_of, reply_by, CarriesOut, comes_to, stops_at, RespondsTo, replied, refused, went_unless_cut}
 use Rattle.agent_commands.specs.Talks.{whole, cut}
@@ -120,7 +120,7 @@ module _ {D E : Type 0} (turned : D → MarkStep → Turn → D → Type 0) (fur
     done = done_turned {w = world_with turned further} close.step close.turn conn desk desk_now ends_now close.turned_so;
   }
 
-  module _ (parts : OptionValues → Part CacheReply) (before : OptionValues) (start : SessionState (world_with turned further)) (held : Option ℕ) (mid now : Connection) (desk desk_now : D) (ends_now : E) where
+  module _ (parts : OptionValues → CachePart CacheReply) (before : OptionValues) (start : SessionState (world_with turned further)) (held : Option ℕ) (mid now : Connection) (desk desk_now : D) (ends_now : E) where
     abbrev exchange : OptionValues → List CacheEvent → OptionValues → Went → Type 0
     exchange values = AnyExchange refusal_line went_after (parts values) values
 

@@ -5,7 +5,8 @@ use Rattle.hex.proofs.OnLiterals.{hex_on_literals}
 use Rattle.cache_policy.specs.declared.life.Life.TheVariants.{Default, Endless, Seconds}
 use Rattle.cache_policy.specs.declared.mode.Mode.TheVariants.{User, Normal, Ssh}
 use Rattle.agent_commands.specs.Names.{command_named, is_key_command, info_named, is_listed}
-use Rattle.agent_commands.specs.Fields.{text, passphrase}
+use Rattle.agent_commands.specs.Fields.{passphrase}
+use Rattle.agent_ask.specs.Plans.{text}
 use Rattle.agent_commands.specs.Requests.{GetFields, request_of, get_passphrase}
 use Rattle.session_client.specs.declared.code.Code.TheVariants.{NotSupported, UnknownCommand, Parameter}
 use Rattle.agent_commands.specs.declared.request.Info.TheVariants.{Version, Listed}

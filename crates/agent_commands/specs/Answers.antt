@@ -2,16 +2,12 @@
 use Rattle.std.specs.Prelude.{◌≡◌, ℕ, Bool, true, false, List, [], ◌++◌, codes, decimal}
 use Rattle.std.specs.List.{flat_map}
 use Rattle.assuan_escape.specs.Escapes.{hex_text}
-use Rattle.assuan_escape.specs.DataLines.{AreData, data_text}
-use Rattle.assuan_server.specs.Written.{ok_text, comment_text}
+use Rattle.assuan_server.specs.Written.{ok, ok_text, comment_text, IsDataAnswer}
 use Rattle.assuan_text.specs.LineEnds.{line_of}
 use Rattle.session_options.specs.declared.rules.Rules.{Rules}
 use Rattle.agent_commands.specs.Names.{command_names}
 use Rattle.agent_commands.specs.declared.request.Info.{Info}
 use Rattle.agent_commands.specs.declared.request.Info.TheVariants.{Version, Pid, S2kCount, Listed}
-
-abbrev pub ok : List ℕ
-ok = line_of (ok_text [])
 
 abbrev pub closing : List ℕ
 closing = line_of (ok_text (codes "closing connection"))
@@ -26,12 +22,6 @@ help_with further = comments command_names ++ (comments further ++ ok)
 
 abbrev pub help : List ℕ
 help = help_with []
-
--- these bytes as data lines
-pub record IsDataAnswer (bytes text : List ℕ) : Type 0 where
-  pub pieces : List (List ℕ)
-  pub are_data : AreData bytes pieces
-  pub text_is : text ≡ data_text pieces ++ ok
 
 -- a passphrase: with `--data` as data lines, and otherwise by its uppercase hexadecimal digits
 abbrev pub IsPassphrase : Bool → List ℕ → List ℕ → Type 0

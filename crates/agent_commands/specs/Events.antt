@@ -8,5 +8,5 @@ abbrev pub Inquired : Type 0
 Inquired = AnyInquired Outcome
 
 -- with further kinds of events beside those that every session has
-abbrev pub Event : Type 0 → Type 0
-Event F = AnyEvent Took Outcome F
+abbrev pub EventWith : Type 0 → Type 0
+EventWith F = AnyEvent Took Outcome F

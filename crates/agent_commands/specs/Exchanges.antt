@@ -22,9 +22,10 @@ use Rattle.session_options.specs.declared.options.OptionAnswer.TheVariants.{Set,
 use Rattle.session_options.specs.declared.options.PinMode.{PinMode}
 use Rattle.session_options.specs.declared.options.PinMode.TheVariants as mode
 use Rattle.session_options.specs.declared.rules.Rules.{Rules}
-use Rattle.agent_commands.specs.Answers.{ok, closing, help, IsInfo, IsPassphrase}
+use Rattle.agent_commands.specs.Answers.{closing, help, IsInfo, IsPassphrase}
+use Rattle.assuan_server.specs.Written.{ok}
 use Rattle.agent_commands.specs.Endings.{went_after}
-use Rattle.agent_commands.specs.Parts.{Part, CacheEvent, AsksPassphrase}
+use Rattle.agent_commands.specs.Parts.{CacheEvent, AsksPassphrase, CachePart}
 use Rattle.agent_commands.specs.Passphrases.{Passphrase}
 use Rattle.agent_commands.specs.Requests.{GetFields, get_fields, request_of}
 use Rattle.agent_commands.specs.declared.request.CacheCommand.{CacheCommand}
@@ -62,25 +63,25 @@ abbrev pub put : List ℕ → Life → List ℕ → MarkStep
 put id life secret = Put id Any life secret
 
 -- what OPTION is answered. A refusal leaves the values as they were.
-abbrev pub option_replies : OptionAnswer → OptionValues → Part CacheReply
+abbrev pub option_replies : OptionAnswer → OptionValues → CachePart CacheReply
 option_replies Set after = Returns (reply after ok)
 option_replies Unknown after = Refuses (Agent code.UnknownOption)
 option_replies Parameter after = Refuses (Agent code.Parameter)
 option_replies NotSupported after = Refuses (Agent code.NotSupported)
 
 -- a command that is one change of the cache
-abbrev pub ChangeReplies : MarkStep → CacheReply → Part CacheReply
+abbrev pub ChangeReplies : MarkStep → CacheReply → CachePart CacheReply
 ChangeReplies step reply = do
   changed ← Changes step
   Returns reply
 
 -- the passphrase that the line has, or that the client is asked for
-abbrev pub GivenOrAsked : Option (List ℕ) → Part (List ℕ)
+abbrev pub GivenOrAsked : Option (List ℕ) → CachePart (List ℕ)
 GivenOrAsked secret = or_else secret AsksPassphrase
 
 module _ (rules : Rules) where
   -- a passphrase is stored that the line has, or that the client is asked for
-  abbrev pub Presets : List ℕ → Life → Option (List ℕ) → Part (Unit {0})
+  abbrev pub Presets : List ℕ → Life → Option (List ℕ) → CachePart (Unit {0})
   Presets id life secret = do
     allowed ← wanted code.NotSupported rules.allow_preset
     given ← GivenOrAsked secret
@@ -88,7 +89,7 @@ module _ (rules : Rules) where
 
   module _ (options : OptionValues) where
     -- the user's consent, where the client wants a prompt
-    abbrev pub confirms_by : PinMode → ArrayVec ℕ → Part (Unit {0})
+    abbrev pub confirms_by : PinMode → ArrayVec ℕ → CachePart (Unit {0})
     confirms_by mode.Ask description = do
       seated ← Seats (Seat None None)
       AgreesTo session_lines rules options description.items
@@ -96,51 +97,51 @@ module _ (rules : Rules) where
     confirms_by mode.Error description = Refuses (Agent code.NoPinentry)
     confirms_by mode.Loopback description = Refuses (Agent code.NoPinentry)
 
-    abbrev pub InfoReplies : Info → Part CacheReply
+    abbrev pub InfoReplies : Info → CachePart CacheReply
     InfoReplies what = do
       text ← TellsInfo rules what
       Returns (reply options text)
 
-    abbrev pub GetReplies : GetFields → Part CacheReply
+    abbrev pub GetReplies : GetFields → CachePart CacheReply
     GetReplies fields = do
       secret ← Passphrase rules options fields
       text ← TellsPassphrase fields.plain secret
       Returns (reply options text)
 
-    abbrev pub PresetReplies : List ℕ → Life → Option (List ℕ) → Part CacheReply
+    abbrev pub PresetReplies : List ℕ → Life → Option (List ℕ) → CachePart CacheReply
     PresetReplies id life secret = do
       stored ← Presets id life secret
       Returns (reply options ok)
 
-    abbrev pub ConfirmationReplies : ArrayVec ℕ → Part CacheReply
+    abbrev pub ConfirmationReplies : ArrayVec ℕ → CachePart CacheReply
     ConfirmationReplies description = do
       agreed ← confirms_by options.mode description
       Returns (reply options ok)
 
     -- what is done for a command, up to its reply
-    abbrev pub Replies : CacheCommand → Part CacheReply
-    Replies Nop = Returns (reply options ok)
+    abbrev pub CacheReplies : CacheCommand → CachePart CacheReply
+    CacheReplies Nop = Returns (reply options ok)
     -- what the rules said stays
-    Replies Reset = Returns (reply (at_start options.rules_count options.allow_loopback) ok)
-    Replies Bye = Returns (last_reply options ends.Bye)
-    Replies Help = Returns (reply options help)
-    Replies (SetOption text) = option_replies (applied options text.items).answer (applied options text.items).after
-    Replies (SetKeyDesc text) = Returns (reply (with_description options text.items) ok)
-    Replies (GetInfo what) = InfoReplies what
-    Replies (GetPassphrase plain check no_ask repeat quality id texts) =
+    CacheReplies Reset = Returns (reply (at_start options.rules_count options.allow_loopback) ok)
+    CacheReplies Bye = Returns (last_reply options ends.Bye)
+    CacheReplies Help = Returns (reply options help)
+    CacheReplies (SetOption text) = option_replies (applied options text.items).answer (applied options text.items).after
+    CacheReplies (SetKeyDesc text) = Returns (reply (with_description options text.items) ok)
+    CacheReplies (GetInfo what) = InfoReplies what
+    CacheReplies (GetPassphrase plain check no_ask repeat quality id texts) =
         GetReplies (record { plain = plain; check = check; no_ask = no_ask; repeat = repeat; quality = quality; id = id; texts = texts })
-    Replies (PresetPassphrase id life secret) = PresetReplies id life secret
-    Replies (ClearPassphrase id mode) = ChangeReplies (Clear id mode) (reply options ok)
-    Replies (GetConfirmation description) = ConfirmationReplies description
-    Replies ReloadAgent = ChangeReplies Flush (reply options ok)
-    Replies KillAgent = ChangeReplies Stop (last_reply options ends.Killed)
+    CacheReplies (PresetPassphrase id life secret) = PresetReplies id life secret
+    CacheReplies (ClearPassphrase id mode) = ChangeReplies (Clear id mode) (reply options ok)
+    CacheReplies (GetConfirmation description) = ConfirmationReplies description
+    CacheReplies ReloadAgent = ChangeReplies Flush (reply options ok)
+    CacheReplies KillAgent = ChangeReplies Stop (last_reply options ends.Killed)
 
 -- A request on the cache or on the session, or a line that is refused: the option values before it, what the session does for it, the values after
 -- it, and how the session goes on. What is done for a command on keys is said elsewhere.
-abbrev pub Exchange : Rules → OptionValues → Request → List CacheEvent → OptionValues → Went → Type 0
-Exchange rules before (Cache command) = AnyExchange refusal_line went_after (Replies rules before command) before
-Exchange rules before (Bad code) = AnyExchange refusal_line went_after (Refuses (Agent code)) before
-Exchange rules before (Key line) = λ events after went. ⊥
+abbrev pub CacheExchange : Rules → OptionValues → Request → List CacheEvent → OptionValues → Went → Type 0
+CacheExchange rules before (Cache command) = AnyExchange refusal_line went_after (CacheReplies rules before command) before
+CacheExchange rules before (Bad code) = AnyExchange refusal_line went_after (Refuses (Agent code)) before
+CacheExchange rules before (Key line) = λ events after went. ⊥
 
 -- what is needed of a request that asks the cache alone, to answer it: it says so, or it has no texts for a prompt
 abbrev pub is_quiet : Bool → Option Texts → Bool
@@ -156,4 +157,4 @@ quiet_of request = option_and_then quiet_fields (get_fields request)
 
 -- the exchange of a line
 abbrev pub LineExchange : Rules → OptionValues → List ℕ → List CacheEvent → OptionValues → Went → Type 0
-LineExchange rules before line events after went = Exchange rules before (request_of line) events after went
+LineExchange rules before line events after went = CacheExchange rules before (request_of line) events after went

@@ -14,6 +14,7 @@ use Rattle.cache_policy.specs.declared.life.Life.{Life}
 use Rattle.cache_policy.specs.declared.life.Life.TheVariants.{Default, Endless, Seconds}
 use Rattle.cache_policy.specs.declared.mode.Mode.{Mode}
 use Rattle.cache_policy.specs.declared.mode.Mode.TheVariants.{Normal, User, Ssh}
+use Rattle.agent_ask.specs.Plans.{text}
 use Rattle.assuan_text.specs.Numbers.{number_of}
 use Rattle.agent_commands.specs.declared.fields.TheConstants.{MAX_REPEAT}
 use Rattle.agent_commands.specs.declared.request.Texts.{Texts}
@@ -32,10 +33,6 @@ cache_id word = if is_cache_id word then Some word else None
 -- the id, where it isn't the one that stands for none
 abbrev pub unless_placeholder : List ℕ → Option (List ℕ)
 unless_placeholder id = if is_placeholder id then None else Some id
-
--- the bytes as a text
-abbrev pub text : List ℕ → ArrayVec ℕ
-text bytes = record { items = bytes }
 
 -- the text that a word means, where a `+` is a blank, or the one that stands for none
 abbrev pub text_or : List ℕ → List ℕ → ArrayVec ℕ

@@ -1,6 +1,6 @@
 -- What a line asks for, or the fault for which it is refused (GnuPG manual, "Agent's Assuan protocol"). Which fault a refusal has is
 -- this project's own.
-use Rattle.std.specs.Prelude.{◌≡◌, ◌≤◌, ℕ, Bool, true, List, [], ◌∷◌, length, codes, ok_or, Option, Some, None, Result, Ok, Err, if◌then◌else◌}
+use Rattle.std.specs.Prelude.{◌≡◌, ◌≤◌, ℕ, Bool, true, List, [], ◌∷◌, length, codes, Option, Some, None, Result, Ok, Err, if◌then◌else◌}
 use Rattle.std.specs.Option.{option_map}
 use Rattle.std.specs.Str.{bytes_eq}
 use Rattle.assuan_text.specs.declared.TheConstants.{MAX_LINE_LEN}
@@ -8,7 +8,9 @@ use Rattle.assuan_text.specs.Options.{options_of, arguments_of, has_option, last
 use Rattle.assuan_text.specs.Words.{command_of, rest_of, words}
 use Rattle.assuan_escape.specs.Escapes.{unescaped}
 use Rattle.agent_commands.specs.Names.{command_named, is_key_command, info_named, is_listed}
-use Rattle.agent_commands.specs.Fields.{cache_id, unless_placeholder, text, text_or, texts, repeats, life, cleared_mode, given_passphrase}
+use Rattle.agent_commands.specs.Fields.{cache_id, unless_placeholder, text_or, texts, repeats, life, cleared_mode, given_passphrase}
+use Rattle.agent_ask.specs.Plans.{text}
+use Rattle.session_client.specs.Fields.{◌>>=◌, in_form}
 use Rattle.session_client.specs.declared.code.Code.{Code}
 use Rattle.session_client.specs.declared.code.Code.TheVariants.{NotSupported, UnknownCommand, Parameter}
 use Rattle.agent_commands.specs.declared.names.CommandName.{CommandName}
@@ -21,16 +23,6 @@ use Rattle.agent_commands.specs.declared.request.CacheCommand.TheVariants.{Nop, 
 use Rattle.agent_commands.specs.declared.request.Request.{Request}
 use Rattle.agent_commands.specs.declared.request.Request.TheVariants.{Cache, Key, Bad}
 
-infixl 10 ◌>>=◌
--- what is read, and then what follows it; or else the first fault
-abbrev pub ◌>>=◌ : {A B : Type 0} → Result A Code → (A → Result B Code) → Result B Code
-(Ok value) >>= next = next value
-(Err code) >>= next = Err code
-
--- a field that has to be there, and to be in form
-abbrev pub needed : {A : Type 0} → Option A → Result A Code
-needed field = ok_or field Parameter
-
 -- cmd_has_option COMMAND OPTION; further words are passed over
 abbrev pub listed_info : List (List ℕ) → Result Info Code
 listed_info (command ∷ option ∷ more) = if is_listed command option then Ok Listed else Err NotSupported
@@ -40,7 +32,7 @@ listed_info _ = Err Parameter
 abbrev pub info_of : List (List ℕ) → Result Info Code
 info_of [] = Err Parameter
 info_of (what ∷ more) =
-    if bytes_eq what (codes "cmd_has_option") then listed_info more else needed (info_named what)
+    if bytes_eq what (codes "cmd_has_option") then listed_info more else in_form (info_named what)
 
 -- the fields of GET_PASSPHRASE, by their names
 pub record GetFields : Type 0 where
@@ -73,9 +65,9 @@ get_fields _ = None
 abbrev pub get_of : List (List ℕ) → List (List ℕ) → Result CacheCommand Code
 get_of options [] = Err Parameter
 get_of options (word ∷ more) = do
-  repeat ← needed (repeats (last_option (codes "--repeat") options))
-  id ← needed (cache_id word)
-  texts ← needed (texts more)
+  repeat ← in_form (repeats (last_option (codes "--repeat") options))
+  id ← in_form (cache_id word)
+  texts ← in_form (texts more)
   Ok (get_passphrase (record {
     plain = has_option (codes "--data") options;
     check = has_option (codes "--check") options;
@@ -89,9 +81,9 @@ get_of options (word ∷ more) = do
 -- PRESET_PASSPHRASE [--inquire] ID TIMEOUT [DIGITS]
 abbrev pub preset_of : List (List ℕ) → List (List ℕ) → Result CacheCommand Code
 preset_of options (word ∷ timeout ∷ more) = do
-  id ← needed (cache_id word)
-  life ← needed (life timeout)
-  secret ← needed (given_passphrase (has_option (codes "--inquire") options) more)
+  id ← in_form (cache_id word)
+  life ← in_form (life timeout)
+  secret ← in_form (given_passphrase (has_option (codes "--inquire") options) more)
   Ok (PresetPassphrase id life secret)
 preset_of options _ = Err Parameter
 
@@ -99,8 +91,8 @@ preset_of options _ = Err Parameter
 abbrev pub clear_of : List (List ℕ) → List (List ℕ) → Result CacheCommand Code
 clear_of options [] = Err Parameter
 clear_of options (word ∷ more) = do
-  mode ← needed (cleared_mode (last_value (codes "--mode") options))
-  id ← needed (cache_id word)
+  mode ← in_form (cleared_mode (last_value (codes "--mode") options))
+  id ← in_form (cache_id word)
   Ok (ClearPassphrase id mode)
 
 -- GET_CONFIRMATION DESCRIPTION
@@ -143,7 +135,7 @@ request_by None line = if is_key_command (command_of line) then Key (text line) 
 -- what is read of a GET_PASSPHRASE before its texts are made: its fields, where they are in form. Of another command nothing is.
 abbrev pub ReadsGet : Option CommandName → List ℕ → Option GetFields → Type 0
 ReadsGet (Some name.GetPassphrase) rest get =
-    get_of (options_of (words rest)) (arguments_of (words rest)) ≡ needed (option_map get_passphrase get)
+    get_of (options_of (words rest)) (arguments_of (words rest)) ≡ in_form (option_map get_passphrase get)
 ReadsGet _ rest get = get ≡ None
 
 -- a line, as far as it is read: its first word, what comes after it, the command of this name, and what it says where it is a GET_PASSPHRASE

@@ -12,7 +12,7 @@ use Rattle.cache_policy.specs.Turns.{Turn}
 use Rattle.session_client.specs.Asking.{HasEnded}
 use Rattle.session_client.specs.declared.unheard.Gone.{Gone}
 use Rattle.agent_commands.specs.Endings.{gone_of}
-use Rattle.agent_commands.specs.Events.{Event}
+use Rattle.agent_commands.specs.Events.{EventWith}
 use Rattle.agent_commands.specs.Outside.{World, world, prompt_world}
 use Rattle.agent_commands.specs.Talks.{WholeOrCut}
 use Rattle.agent_commands.specs.declared.went.SessionEnd.TheVariants.{ReadFault, WriteFault}
@@ -32,7 +32,7 @@ abbrev pub prompt_state : {D P : Type 0} (turned : D → MarkStep → Turn → D
 prompt_state turned prompted conn desk prompter = record { conn = conn; desk = desk; ends = prompter }
 
 -- these events lead from one state to another
-abbrev pub EventsLead : {w : World} → List (Event w.Further) → SessionState w → SessionState w → Type 0
+abbrev pub EventsLead : {w : World} → List (EventWith w.Further) → SessionState w → SessionState w → Type 0
 EventsLead = AnyLead connection_views
 
 -- a reader is ended by how its client is gone, and is open while the client is there
@@ -51,9 +51,9 @@ pub record FaultsRise {w : World} (went : Went) (start now : SessionState w) : T
   pub write : went ≡ End WriteFault → Rose start.conn.output.faults now.conn.output.faults
 
 -- a request was answered, whole or in part, whatever is kept between requests
-pub record AnswersRequest {w : World} {S : Type 0} (exchange : S → List (Event w.Further) → S → Went → Type 0)
+pub record AnswersRequest {w : World} {S : Type 0} (exchange : S → List (EventWith w.Further) → S → Went → Type 0)
     (before : S) (start : SessionState w) (went : Went) (after : S) (now : SessionState w) : Type 0 where
-  pub events : List (Event w.Further)
+  pub events : List (EventWith w.Further)
   pub exchanges : WholeOrCut exchange before events after went
   pub done : EventsLead events start now
   pub fits : ReaderAfter went start.conn.reader now.conn.reader

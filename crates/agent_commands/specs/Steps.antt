@@ -20,11 +20,12 @@ use Rattle.session_options.specs.OptionValues.{OptionValues}
 use Rattle.session_options.specs.declared.options.OptionAnswer.{OptionAnswer}
 use Rattle.session_options.specs.declared.options.OptionAnswer.TheVariants.{Set, Unknown, Parameter, NotSupported}
 use Rattle.session_options.specs.declared.rules.Rules.{Rules}
-use Rattle.agent_commands.specs.Answers.{ok, closing, help, version_text, IsDataAnswer, IsPassphrase}
+use Rattle.agent_commands.specs.Answers.{closing, help, version_text, IsPassphrase}
+use Rattle.assuan_server.specs.Written.{ok, IsDataAnswer}
 use Rattle.agent_commands.specs.Endings.{went_after}
 use Rattle.agent_commands.specs.Exchanges.{CacheReply}
 use Rattle.agent_commands.specs.Outside.{DoesPrompts}
-use Rattle.agent_commands.specs.Parts.{Part as PartIn}
+use Rattle.agent_commands.specs.Parts.{CachePart}
 use Rattle.agent_commands.specs.Passphrases.{Passphrase as ThePassphrase, ByCache}
 use Rattle.agent_commands.specs.declared.request.Info.{Info}
 use Rattle.agent_commands.specs.declared.request.Info.TheVariants as info
@@ -72,19 +73,19 @@ AsksNobody (GetConfirmation description) = ⊥
 AsksNobody _ = Unit {0}
 
 -- turns as parts of a request on the cache
-abbrev pub CacheChange : MarkStep → PartIn (Unit {0})
+abbrev pub CacheChange : MarkStep → CachePart (Unit {0})
 CacheChange step = Changes step
 
-abbrev pub CacheSeat : MarkStep → PartIn (Unit {0})
+abbrev pub CacheSeat : MarkStep → CachePart (Unit {0})
 CacheSeat step = Seats step
 
-abbrev pub CacheCloses : Option (List ℕ) → PartIn (Unit {0})
+abbrev pub CacheCloses : Option (List ℕ) → CachePart (Unit {0})
 CacheCloses keep = Closes keep
 
-abbrev pub CacheAsks : MarkStep → PartIn (Option (List ℕ))
+abbrev pub CacheAsks : MarkStep → CachePart (Option (List ℕ))
 CacheAsks step = Asks step
 
-module _ {A : Type 0} (part : PartIn A) where
+module _ {A : Type 0} (part : CachePart A) where
   -- a part in which no prompter is called, of a request that holds no ticket
   abbrev pub DoesAtDesk : {D : Type 0} → (D → MarkStep → Turn → D → Type 0) → Connection → D → Result A Refusal → Connection → D → Type 0
   DoesAtDesk turned conn desk result now desk_now = DoesPart connection_views turned NoEnd part None (part_state connection_views turned NoEnd conn desk tt) result None (part_state connection_views turned NoEnd now desk_now tt)
@@ -100,7 +101,7 @@ abbrev pub reply_by : Response → List ℕ → OptionValues → CacheReply
 reply_by response text after = record { text = text; kept = after; went = went_of response }
 
 -- how a GET_PASSPHRASE comes by its passphrase
-abbrev pub PassphraseOf : Rules → OptionValues → CacheCommand → PartIn (List ℕ)
+abbrev pub PassphraseOf : Rules → OptionValues → CacheCommand → CachePart (List ℕ)
 PassphraseOf rules options (GetPassphrase plain check no_ask repeat quality id texts) =
     ThePassphrase rules options (record { plain = plain; check = check; no_ask = no_ask; repeat = repeat; quality = quality; id = id; texts = texts })
 PassphraseOf rules options _ = Refuses (Agent code.NoData)
@@ -124,7 +125,7 @@ pub data TellsCached {D : Type 0} (turned : D → MarkStep → Turn → D → Ty
   refused : {why : Refusal} {after : D} → DoesTurns turned (ByCache id) None before (Part why) None after → TellsCached turned plain id before (Part why) after
 
 -- all was done for a request but its reply, whatever text that is written by
-pub data CarriesOut {D E : Type 0} (turned : D → MarkStep → Turn → D → Type 0) (further : E → FurtherEvent → E → Type 0) (part : PartIn CacheReply) (before : OptionValues)
+pub data CarriesOut {D E : Type 0} (turned : D → MarkStep → Turn → D → Type 0) (further : E → FurtherEvent → E → Type 0) (part : CachePart CacheReply) (before : OptionValues)
     (start : PartState connection_views turned further) : Result Response Refusal → OptionValues → Option ℕ → PartState connection_views turned further → Type 0 where
   comes_to : {response : Response} {after : OptionValues} {held : Option ℕ} {now : PartState connection_views turned further}
       → ((text : List ℕ) → IsText response text → DoesPart connection_views turned further part None start (Whole (reply_by response text after)) held now)

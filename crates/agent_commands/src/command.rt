@@ -9,7 +9,8 @@ ghost use Rattle.cache_policy.specs.declared.mark.MarkStep.TheVariants.{Clear};
 ghost use Rattle.cache_policy.specs.Turns.{asked_step, wait_of};
 ghost use Rattle.session_options.specs.OptionValues.{OptionValues};
 ghost use Rattle.session_options.specs.declared.rules.Rules.{Rules as TheRules};
-ghost use Rattle.agent_commands.specs.Exchanges.{Exchange, LineExchange, Replies, quiet_of};
+ghost use Rattle.agent_commands.specs.Exchanges.{LineExchange, quiet_of};
+ghost use Rattle.agent_commands.specs.Exchanges.{CacheExchange, CacheReplies};
 ghost use Rattle.agent_commands.specs.Exchanges.{GivenOrAsked, Presets};
 ghost use Rattle.agent_commands.specs.Outside.{DoesPrompts, prompt_world, world};
 ghost use Rattle.agent_commands.specs.Requests.{request_of};
@@ -48,7 +49,7 @@ pub fn run_cache<L: Link, D: Desk, P: Prompter>(
     requires free { (D.at desk.old).out ≡ None }
     requires shut { IsShut (P.at prompter.old) }
     ensures answers { AnswersRequest {w = prompt_world D.turned P.prompted}
-        (λ before. Exchange rules.now before (request.Cache command.now)) options.old
+        (λ before. CacheExchange rules.now before (request.Cache command.now)) options.old
         (prompt_state D.turned P.prompted conn.old desk.old prompter.old) result options.new
         (prompt_state D.turned P.prompted conn.new desk.new prompter.new) }
     ensures free { (D.at desk.new).out ≡ None }
@@ -108,7 +109,7 @@ fn carry_out<L: Link, D: Desk, P: Prompter>(
     requires out { (D.at desk.old).out ≡ held.old }
     requires shut { IsShut (P.at prompter.old) }
     ensures carries { CarriesOut D.turned (DoesPrompts P.prompted)
-        (Replies rules.now options.old command.now) options.old
+        (CacheReplies rules.now options.old command.now) options.old
         (prompt_state D.turned P.prompted conn.old desk.old prompter.old)
         result options.new held.new
         (prompt_state D.turned P.prompted conn.new desk.new prompter.new) }
@@ -144,7 +145,7 @@ fn carry_alone<D: Desk>(
 ) -> Result<Response, Refusal>
     requires { AsksNobody command.now }
     ensures carries { (conn : Connection) → IsOpen conn → CarriesOut D.turned NoEnd
-        (Replies rules.now options.old command.now) options.old
+        (CacheReplies rules.now options.old command.now) options.old
         (part_state connection_views D.turned NoEnd conn desk.old tt) result options.new None
         (part_state connection_views D.turned NoEnd conn desk.new tt) }
     ensures out { (D.at desk.new).out ≡ (D.at desk.old).out }

@@ -4,7 +4,8 @@ ghost use Rattle.assuan_text.specs.declared.TheConstants.{MAX_LINE_LEN};
 ghost use Rattle.assuan_text.specs.Options.{options_of, arguments_of};
 ghost use Rattle.assuan_text.specs.Words.{words};
 ghost use Rattle.agent_commands.specs.Exchanges.{quiet_fields};
-ghost use Rattle.agent_commands.specs.Requests.{needed, get_of, get_passphrase};
+ghost use Rattle.agent_commands.specs.Requests.{get_of, get_passphrase};
+ghost use Rattle.session_client.specs.Fields.{in_form};
 
 use crate::fields::{TextWords, is_cache_id, repeats, unless_placeholder};
 use crate::{CacheCommand, QuietRequest};
@@ -49,7 +50,7 @@ impl<'a> GetLine<'a> {
     pub(crate) fn of(text: &'a [u8]) -> Option<GetLine<'a>>
         requires { length text.now ≤ MAX_LINE_LEN }
         ensures { get_of (options_of (words text.now)) (arguments_of (words text.now))
-            ≡ needed (option_map get_passphrase result) }
+            ≡ in_form (option_map get_passphrase result) }
     {
         let (id, rest) = next_word(arguments(text))?;
         let repeat = repeats(text)?;

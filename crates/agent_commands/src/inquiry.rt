@@ -4,7 +4,8 @@ ghost use Rattle.assuan_server.specs.Clients.{connection_views};
 ghost use Rattle.assuan_server.specs.Connections.{IsOpen};
 ghost use Rattle.assuan_server.specs.Written.{WritesText};
 ghost use Rattle.agent_ask.specs.PartStates.{DoesWithClient};
-ghost use Rattle.agent_commands.specs.Parts.{AsksPassphrase, TellsLimit, limit_line};
+ghost use Rattle.agent_commands.specs.Parts.{AsksPassphrase, TellsLimit};
+ghost use Rattle.assuan_server.specs.Written.{limit_line};
 
 use agent_ports::{Link, WriteFault};
 use assuan_server::Conn;
@@ -37,7 +38,7 @@ fn tell_limit<L: Link>(conn: &mut Conn<'_, L>) -> Result<(), Refusal>
 
 #[tactic(auto, using(assuan_server::proofs::Saying::said))]
 fn write_limit<L: Link>(conn: &mut Conn<'_, L>) -> Result<(), WriteFault>
-    ensures { WritesText limit_line conn.old result conn.new }
+    ensures { WritesText (limit_line MAX_SECRET_LEN) conn.old result conn.new }
 {
     let mut digits = Buffer::new();
     conn.status(b"INQUIRE_MAXLEN", digits.format(MAX_SECRET_LEN).as_bytes())

@@ -3,7 +3,7 @@ ghost use Rattle.assuan_text.specs.declared.TheConstants.{MAX_LINE_LEN};
 ghost use Rattle.assuan_text.specs.Options.{options_of, arguments_of};
 ghost use Rattle.assuan_text.specs.Words.{words};
 ghost use Rattle.agent_commands.specs.Exchanges.{quiet_of};
-ghost use Rattle.agent_commands.specs.Fields.{text};
+ghost use Rattle.agent_ask.specs.Plans.{text};
 ghost use Rattle.agent_commands.specs.Names.{is_key_command};
 ghost use Rattle.agent_commands.specs.Requests.{request_of, asked_by, ReadsGet, info_of};
 ghost use Rattle.agent_commands.specs.Requests.{listed_info, preset_of, clear_of, confirmation_of};

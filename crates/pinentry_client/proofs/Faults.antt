@@ -15,7 +15,8 @@ use Rattle.assuan_client.specs.Writing.{Command, IsUnanswered}
 use Rattle.assuan_client.specs.declared.answer.Answer.{Answer}
 use Rattle.assuan_client.specs.declared.answer.Answer.TheVariants as answer
 use Rattle.pinentry_client.specs.Answers.{greeted, accepted, pid_after, data_of, process_of, pin_outcome, pin_error, consent_of, consent_error}
-use Rattle.pinentry_client.specs.Talking.{TellsSetting, unsent, sent, Sets, done, next, StartTalk, greets, Replies, Settles, answered, inquired, ErrorTalk, none, shown, PinTalk, ConsentTalk, outcome_by}
+use Rattle.pinentry_client.specs.Talking.{TellsSetting, unsent, sent, Sets, done, next, StartTalk, greets, Settles, answered, inquired, ErrorTalk, none, shown, PinTalk, ConsentTalk, outcome_by}
+use Rattle.pinentry_client.specs.Talking.{ChildReplies}
 use Rattle.pinentry_client.specs.declared.answers.Trouble.{Trouble}
 use Rattle.pinentry_client.specs.declared.answers.Trouble.TheVariants.{Failed, Broken}
 use Rattle.pinentry_client.specs.declared.settings.Setting.{Setting}
@@ -162,7 +163,7 @@ start_grew {before} {after} (StartTalk.stopped {trouble} said has is) =
     weaker (is_fault said) (is_failure trouble) (faults before) (faults after)
     (λ failed. greeted_fails said (rw is failed)) (answered_grew said has)
 
-replied_grew : (rated : Bool) (text : List ℕ) (said : Answer) (before after : Connection) → Replies rated text said before after → Grew (is_fault said) before after
+replied_grew : (rated : Bool) (text : List ℕ) (said : Answer) (before after : Connection) → ChildReplies rated text said before after → Grew (is_fault said) before after
 replied_grew true text said before after (pieces, are, does) = exchanged_grew said does
 replied_grew false text said before after does = exchanged_grew said does
 

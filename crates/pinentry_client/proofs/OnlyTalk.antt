@@ -12,7 +12,8 @@ use Rattle.assuan_client.specs.declared.answer.Answer.TheVariants as answer
 use Rattle.pinentry_client.specs.Answers.{greeted, accepted, pid_after, pin_outcome, consent_of}
 use Rattle.pinentry_client.specs.Dialogues.{stays_ready, stays_open}
 use Rattle.pinentry_client.specs.Settings.{IsSettingLine, IsWhereGiven}
-use Rattle.pinentry_client.specs.Talking.{TellsSetting, unsent, sent, Sets, done, next, StartTalk, greets, Replies, Settles, answered, inquired, ErrorTalk, none, shown, PinTalk, ConsentTalk, outcome_by}
+use Rattle.pinentry_client.specs.Talking.{TellsSetting, unsent, sent, Sets, done, next, StartTalk, greets, Settles, answered, inquired, ErrorTalk, none, shown, PinTalk, ConsentTalk, outcome_by}
+use Rattle.pinentry_client.specs.Talking.{ChildReplies}
 use Rattle.pinentry_client.specs.declared.answers.Trouble.{Trouble}
 use Rattle.pinentry_client.specs.declared.answers.Trouble.TheVariants.{Failed, Broken}
 use Rattle.pinentry_client.specs.declared.settings.Setting.{Setting}
@@ -148,7 +149,7 @@ start_alike alike fine fine' (StartTalk.stopped {trouble} said has is) (StartTal
     record { is = ap (λ (t : Trouble). Err t) troubles; alike = λ well. absurd (cc well) }
 
 replied_alike : (rated : Bool) (text : List ℕ) (said again : Answer) {before after start stop : Connection} → is_fault said ≡ false → is_fault again ≡ false → Alike before start
-    → Replies rated text said before after → Replies rated text again start stop → SaidAlike said again after stop
+    → ChildReplies rated text said before after → ChildReplies rated text again start stop → SaidAlike said again after stop
 replied_alike true text said again {before} {start} {stop} fine fine' alike (pieces, are, does) (pieces', are', does') =
     exchanged_alike said again fine fine' alike does (subst (λ (t : Tally). Command (reply_text pieces') t again start stop) (sym alike.tally) does')
 replied_alike false text said again {before} {start} {stop} fine fine' alike does does' =

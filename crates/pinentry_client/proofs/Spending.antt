@@ -21,7 +21,8 @@ use Rattle.assuan_line.specs.declared.reader.Took.{Took as Took'}
 use Rattle.assuan_line.specs.declared.reader.Took.TheVariants as took
 use Rattle.assuan_text.specs.Numbers.{number_of}
 use Rattle.pinentry_client.specs.Answers.{greeted, accepted, pid_after, data_of, process_of, pin_outcome, consent_of}
-use Rattle.pinentry_client.specs.Talking.{TellsSetting, unsent, sent, Sets, done, next, StartTalk, greets, Replies, Settles, answered, inquired, ErrorTalk, none, shown, PinTalk, ConsentTalk, outcome_by}
+use Rattle.pinentry_client.specs.Talking.{TellsSetting, unsent, sent, Sets, done, next, StartTalk, greets, Settles, answered, inquired, ErrorTalk, none, shown, PinTalk, ConsentTalk, outcome_by}
+use Rattle.pinentry_client.specs.Talking.{ChildReplies}
 use Rattle.pinentry_client.specs.Dialogues.{opened_of, stays_ready, stays_open}
 use Rattle.pinentry_client.specs.Whole.{Questions, Dialogue, IsSpent, HasSpent, here, later}
 use Rattle.assuan_line.specs.declared.reader.TheConstants.{BUDGET}
@@ -160,7 +161,7 @@ start_takes_all is (greets said has well sets) = let first = answered_takes_all 
 start_takes_all is (StartTalk.stopped said has stops) = all_as (λ same. greeted_spent said (stops ∙ retyped same)) (answered_takes_all is has)
 
 replied_takes_all : (rated : Bool) (text : List ℕ) (said : Answer) {rest : List ℕ} (before after : Connection) → before.input.bytes ≡ Some rest
-    → Replies rated text said before after → TookAll (said ≡ spent_answer) rest before after
+    → ChildReplies rated text said before after → TookAll (said ≡ spent_answer) rest before after
 replied_takes_all true text said before after is (pieces, are, does) = exchanged_takes_all said is does
 replied_takes_all false text said before after is does = exchanged_takes_all said is does
 

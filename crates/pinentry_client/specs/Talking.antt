@@ -50,12 +50,12 @@ abbrev pub quality_text : List ℕ → List ℕ
 quality_text text = decimal (min 100 (10 * length (unescaped false text)))
 
 -- The child's inquiry is answered: how good its text is, where that is asked and told, and else by CAN.
-abbrev pub Replies : Bool → List ℕ → Answer → Connection → Connection → Type 0
-Replies true text said before after = Reply (quality_text text) said before after
-Replies false text said before after = Command cancel_text before.tally said before after
+abbrev pub ChildReplies : Bool → List ℕ → Answer → Connection → Connection → Type 0
+ChildReplies true text said before after = Reply (quality_text text) said before after
+ChildReplies false text said before after = Command cancel_text before.tally said before after
 
-abbrev pub Inquires : Bool → List ℕ → List ℕ → Answer → Connection → Connection → Type 0
-Inquires rates word text said before after = Replies (rates && bytes_eq word (codes "QUALITY")) text said before after
+abbrev pub ChildInquires : Bool → List ℕ → List ℕ → Answer → Connection → Connection → Type 0
+ChildInquires rates word text said before after = ChildReplies (rates && bytes_eq word (codes "QUALITY")) text said before after
 
 abbrev pub is_asked : Answer → Bool
 is_asked (answer.Asked word text) = true
@@ -64,7 +64,7 @@ is_asked _ = false
 -- all inquiries after an answer are answered, up to one that is none
 pub data Settles (rates : Bool) : Answer → Connection → Answer → Connection → Type 0 where
   answered : {said : Answer} {now : Connection} → is_asked said ≡ false → Settles rates said now said now
-  inquired : {word text : List ℕ} {said last : Answer} {before mid after : Connection} → Inquires rates word text said before mid
+  inquired : {word text : List ℕ} {said last : Answer} {before mid after : Connection} → ChildInquires rates word text said before mid
       → Settles rates said mid last after → Settles rates (answer.Asked word text) before last after
 
 -- a text is shown as an error, where it isn't empty

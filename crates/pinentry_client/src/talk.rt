@@ -5,7 +5,8 @@ ghost use Rattle.assuan_line.specs.Next.{held};
 ghost use Rattle.assuan_escape.specs.Escapes.{unescaped};
 ghost use Rattle.assuan_text.specs.declared.TheConstants.{MAX_LINE_LEN};
 ghost use Rattle.pinentry_client.specs.Dialogues.{stays_ready, stays_open};
-ghost use Rattle.pinentry_client.specs.Talking.{TellsSetting, Sets, StartTalk, Inquires, Settles};
+ghost use Rattle.pinentry_client.specs.Talking.{TellsSetting, Sets, StartTalk, Settles};
+ghost use Rattle.pinentry_client.specs.Talking.{ChildInquires};
 ghost use Rattle.pinentry_client.specs.Talking.{is_asked, ErrorTalk, PinTalk, ConsentTalk};
 ghost use Rattle.pinentry_client.specs.Settings.{all_settings};
 
@@ -124,7 +125,7 @@ fn inquired<L: Link>(
     rates: bool,
 ) -> Answer
     requires { peer.old.state ≡ state.Asked }
-    ensures inquires { Inquires rates word.now text.now result peer.old peer.new }
+    ensures inquires { ChildInquires rates word.now text.now result peer.old peer.new }
     ensures state { peer.new.state ≡ state_after result }
     ensures progress { is_asked result ≡ true → held peer.new.reader < held peer.old.reader }
 {

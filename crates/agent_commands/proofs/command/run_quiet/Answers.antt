@@ -1,7 +1,7 @@
 use Rattle.std.proofs.Common.{None}
 use Rattle.agent_ask.specs.PartStates.{NoEnd, still}
 use Rattle.agent_ask.specs.TurnParts.{unheld}
-use Rattle.agent_commands.specs.Exchanges.{Exchange, GetReplies}
+use Rattle.agent_commands.specs.Exchanges.{GetReplies, CacheExchange}
 use Rattle.agent_commands.specs.Outside.{world}
 use Rattle.agent_commands.specs.Requests.{request_of}
 use Rattle.agent_commands.specs.States.{session_state, AnswersRequest}
@@ -13,7 +13,7 @@ use Rattle.agent_commands.proofs.command.run_quiet.Goals as goal
 
 pub returns-clause-answers : goal.returns-clause-answers
 returns-clause-answers g c = λ rules options line is_quiet.
-    of_quiet (λ (asked : Request). AnswersRequest {w = world g.D.Desk.turned} (λ before. Exchange rules before asked) options
+    of_quiet (λ (asked : Request). AnswersRequest {w = world g.D.Desk.turned} (λ before. CacheExchange rules before asked) options
     (session_state g.D.Desk.turned c.args.conn.now c.args.desk.now) c.respond.result options (session_state g.D.Desk.turned c.respond.new.conn c.cached_reply-reply.new.desk)) c.args.request.now
     (λ check no_ask quality repeat texts asks.
     answers g.D.Desk.turned NoEnd (λ values. GetReplies rules values
