@@ -17,13 +17,13 @@ counted false event more before mid after rose moves later = omega (arith, moves
 
 module _ {E : Type 0} (failed : E → Bool) where
   -- an event alone
-  pub one_is_counted : (event : E) {before after : ℕ} → (failed event ≡ true → Rose before after) → before ≤ after → RoseBy (count_by failed (event ∷ [])) before after
-  one_is_counted event {before} {after} rose moves = rw (sym (length-filter failed (event ∷ []))) (counted (failed event) event [] before after after rose moves (omega arith))
+  pub one_is_counted : (event : E) (before after : ℕ) → (failed event ≡ true → Rose before after) → before ≤ after → RoseBy (count_by failed (event ∷ [])) before after
+  one_is_counted event before after rose moves = rw (sym (length-filter failed (event ∷ []))) (counted (failed event) event [] before after after rose moves (omega arith))
 
   -- some events, and then others
-  pub both_are_counted : (first second : List E) {before mid after : ℕ} → RoseBy (count_by failed first) before mid → RoseBy (count_by failed second) mid after
+  pub both_are_counted : (first second : List E) (before mid after : ℕ) → RoseBy (count_by failed first) before mid → RoseBy (count_by failed second) mid after
       → RoseBy (count_by failed (first ++ second)) before after
-  both_are_counted first second {before} {mid} {after} rose rose_more =
+  both_are_counted first second before mid after rose rose_more =
       let split : count_by failed (first ++ second) ≡ count_by failed first + count_by failed second =
       rw (sym (length-filter failed (first ++ second)), sym (length-filter failed first), sym (length-filter failed second), filter-append failed first second)
       (length-append (filter failed first) (filter failed second)) in

@@ -41,8 +41,8 @@ module _ {lines : Lines} {w : AnyWorld lines} {C : Type 0} {views : Views lines 
         let first = before.leads supply is in
         let second = after.leads supply first.1 in
         (leads_then first.0 second.0, second.1);
-    reads = both_are_counted (fails_at_input lines) first second before.reads after.reads;
-    writes = both_are_counted (fails_at_output lines) first second before.writes after.writes;
+    reads = both_are_counted (fails_at_input lines) first second _ _ _ before.reads after.reads;
+    writes = both_are_counted (fails_at_output lines) first second _ _ _ before.writes after.writes;
     input_faults = omega (arith, before.input_faults, after.input_faults);
     output_faults = omega (arith, before.output_faults, after.output_faults);
     link = after.link ∙ before.link;
@@ -93,7 +93,7 @@ module _ {lines : Lines} {w : AnyWorld lines} {C : Type 0} {views : Views lines 
         record {
           leads = λ supply is. (rw (said.leaves.unread, ap (λ (s : Side). s.bytes) said.leaves.input, said.output.went.written) (one cut none), said.leaves.supply supply is);
           reads = omega (arith, ap (λ (s : Side). s.faults) said.leaves.input);
-          writes = one_is_counted (fails_at_output lines) (Cut stops.sent) (λ e. stops.rose) said.output.faults;
+          writes = one_is_counted (fails_at_output lines {F = w.Further}) (Cut stops.sent) _ _ (λ e. stops.rose) said.output.faults;
           input_faults = omega (arith, ap (λ (s : Side). s.faults) said.leaves.input);
           output_faults = said.output.faults;
           link = said.leaves.link;
@@ -103,7 +103,7 @@ module _ {lines : Lines} {w : AnyWorld lines} {C : Type 0} {views : Views lines 
     pub done_received : {took : lines.Took} {start now : C} → HasReceived views took start now → AnyLead {w = w} views (Received took ∷ []) (at_conn {w = w} desk ends start) (at_conn {w = w} desk ends now)
     done_received {took} read = record {
       leads = λ supply is. let reads = read.reads supply is in (rw read.output_is (one (received reads.0 read.needed) none), reads.1);
-      reads = one_is_counted (fails_at_input lines) (Received took) read.rose read.input_faults;
+      reads = one_is_counted (fails_at_input lines {F = w.Further}) (Received took) _ _ read.rose read.input_faults;
       writes = omega (arith, read.output_faults);
       input_faults = read.input_faults;
       output_faults = read.output_faults;
@@ -115,7 +115,7 @@ module _ {lines : Lines} {w : AnyWorld lines} {C : Type 0} {views : Views lines 
         → AnyLead {w = w} views (Inquiry word params limit inquired ∷ []) (at_conn {w = w} desk ends start) (at_conn {w = w} desk ends now)
     done_inquired {word} {params} {limit} (Asked outcome) read = record {
       leads = λ supply is. let reads = read.reads supply is in (rw read.output_is (one (asked_so reads.0 read.needed) none), reads.1);
-      reads = one_is_counted (fails_at_input lines) (Inquiry word params limit (Asked outcome)) read.rose read.input_faults;
+      reads = one_is_counted (fails_at_input lines {F = w.Further}) (Inquiry word params limit (Asked outcome)) _ _ read.rose read.input_faults;
       writes = omega (arith, read.output_faults);
       input_faults = read.input_faults;
       output_faults = read.output_faults;
@@ -128,7 +128,7 @@ module _ {lines : Lines} {w : AnyWorld lines} {C : Type 0} {views : Views lines 
         stop.leaves.supply supply is,
       );
       reads = omega (arith, ap (λ (s : Side). s.faults) stop.leaves.input);
-      writes = one_is_counted (fails_at_output lines) (Inquiry word params limit (NotAsked text)) (λ e. stop.stopped.rose) stop.faults;
+      writes = one_is_counted (fails_at_output lines {F = w.Further}) (Inquiry word params limit (NotAsked text)) _ _ (λ e. stop.stopped.rose) stop.faults;
       input_faults = omega (arith, ap (λ (s : Side). s.faults) stop.leaves.input);
       output_faults = stop.faults;
       link = stop.leaves.link;

@@ -1,4 +1,4 @@
--- The parts of a request on the cache, over the lines that this project's server reads. 
+-- The parts of a request on the cache, over the lines that this project's server reads.
 use Rattle.std.specs.Prelude.{ℕ, List, codes}
 use Rattle.agent_ask.specs.ClientParts.{AsksClient, Writes}
 use Rattle.agent_ask.specs.Further.{EventOf}
