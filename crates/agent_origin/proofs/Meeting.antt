@@ -113,6 +113,8 @@ module _ {w : World} {S : Type 0} (exchange : LineRelation w S) (before : S) (st
           greeted = λ other is. said.input;
           read_fault = λ e. absurd (cc e);
           write_fault = λ e. stopped.rose;
+          reads = done.reads;
+          writes = done.writes;
           input_faults = omega (arith, ap (λ (s : Side). s.faults) said.input);
           output_faults = said.output.faults;
         };
@@ -135,6 +137,8 @@ module _ {w : World} {S : Type 0} (exchange : LineRelation w S) (before : S) (st
           greeted = λ other is. absurd (cc is);
           read_fault = λ e. omega (arith, talked.faults.read (ap (λ (x : SessionEnd). End x) e), ap (λ (s : Side). s.faults) said.input);
           write_fault = λ e. omega (arith, talked.faults.write (ap (λ (x : SessionEnd). End x) e), said.output.faults);
+          reads = done.reads;
+          writes = done.writes;
           input_faults = done.input_faults;
           output_faults = done.output_faults;
         };

@@ -5,9 +5,11 @@ use Rattle.agent_ports.specs.Counts.{Rose}
 use Rattle.agent_ports.specs.Leads.{Leads}
 use Rattle.agent_ports.specs.Sides.{Side, WhereKnown}
 use Rattle.agent_commands.specs.Events.{Event}
+use Rattle.agent_ask.specs.LinkFaults.{fails_at_input, fails_at_output, CountsFailed}
 use Rattle.agent_ask.specs.SessionEvents.{Cut}
 use Rattle.agent_commands.specs.Outside.{World}
 use Rattle.agent_ask.specs.Worlds.{Outside, Does}
+use Rattle.assuan_server.specs.Clients.{session_lines}
 use Rattle.assuan_server.specs.Reading.{budget, Supply}
 use Rattle.agent_commands.specs.Talks.{Session}
 use Rattle.agent_commands.specs.declared.went.Went.{Went}
@@ -60,6 +62,8 @@ pub record ServesSession {w : World} {S : Type 0} (exchange : LineRelation w S) 
   -- a fault is given only where its count has risen
   pub read_fault : end ≡ ReadFault → Rose before.input.faults after.input.faults
   pub write_fault : end ≡ WriteFault → Rose before.output.faults after.output.faults
-  -- the counts never fall
+  -- of the events at the link at most as many failed as its counts rose by, and these never fall
+  pub reads : CountsFailed (fails_at_input session_lines) events before.input.faults after.input.faults
+  pub writes : CountsFailed (fails_at_output session_lines) events before.output.faults after.output.faults
   pub input_faults : before.input.faults ≤ after.input.faults
   pub output_faults : before.output.faults ≤ after.output.faults

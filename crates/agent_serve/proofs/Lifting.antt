@@ -203,6 +203,8 @@ module _ {C La R K T : Type 0} (views : Views La C R K) (trusts : T → TrustSta
           greeted = served.greeted;
           read_fault = served.read_fault;
           write_fault = served.write_fault;
+          reads = served.reads;
+          writes = served.writes;
           input_faults = served.input_faults;
           output_faults = served.output_faults;
         };

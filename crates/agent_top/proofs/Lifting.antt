@@ -148,6 +148,8 @@ module _ {C La : Type 0} (readings : C → Readings) (launches : La → Launches
           greeted = served.greeted;
           read_fault = served.read_fault;
           write_fault = served.write_fault;
+          reads = served.reads;
+          writes = served.writes;
           input_faults = served.input_faults;
           output_faults = served.output_faults;
         };
