@@ -64,14 +64,14 @@ reduced_lt n m e = omega arith
 
 -- ---- what the inverses undo
 
-pub inv_sub_byte-sub_byte : (b : ℕ) → b < 256 → inv_sub_byte (sub_byte b) ≡ b
-inv_sub_byte-sub_byte b h =
+pub inv_sub_byte_sub_byte : (b : ℕ) → b < 256 → inv_sub_byte (sub_byte b) ≡ b
+inv_sub_byte_sub_byte b h =
     inv_sub_byte_is (sub_byte b)
     ∙ ap (place_in SUBSTITUTES) (sym (substitute_is b h))
     ∙ on_bytes (λ b. place_in SUBSTITUTES (slice_index SUBSTITUTES b)) (λ b. b) refl b h
 
-pub sub_byte-inv_sub_byte : (b : ℕ) → b < 256 → sub_byte (inv_sub_byte b) ≡ b
-sub_byte-inv_sub_byte b h =
+pub sub_byte_inv_sub_byte : (b : ℕ) → b < 256 → sub_byte (inv_sub_byte b) ≡ b
+sub_byte_inv_sub_byte b h =
     ap sub_byte (sym (original_is b h))
     ∙ sym (substitute_is (slice_index ORIGINALS b) (reduced_lt _ _ (on_bytes (λ b. slice_index ORIGINALS b % 256) (slice_index ORIGINALS) refl b h)))
     ∙ on_bytes (λ b. slice_index SUBSTITUTES (slice_index ORIGINALS b)) (λ b. b) refl b h
@@ -112,33 +112,33 @@ mixed_fourth = on_bytes (λ x. mix_column (product 9 x) (product 13 x) (product 
 
 -- ---- bounds
 
-pub sub_byte-lt : (b : ℕ) → b < 256 → sub_byte b < 256
-sub_byte-lt b h = reduced_lt (sub_byte b) (slice_index SUBSTITUTES b)
+pub sub_byte_lt : (b : ℕ) → b < 256 → sub_byte b < 256
+sub_byte_lt b h = reduced_lt (sub_byte b) (slice_index SUBSTITUTES b)
     (on_bytes (λ b. slice_index SUBSTITUTES b % 256) (slice_index SUBSTITUTES) refl b h ∙ substitute_is b h)
 
-pub inv_sub_byte-lt : (b : ℕ) → b < 256 → inv_sub_byte b < 256
-inv_sub_byte-lt b h = reduced_lt (inv_sub_byte b) (slice_index ORIGINALS b)
+pub inv_sub_byte_lt : (b : ℕ) → b < 256 → inv_sub_byte b < 256
+inv_sub_byte_lt b h = reduced_lt (inv_sub_byte b) (slice_index ORIGINALS b)
     (on_bytes (λ b. slice_index ORIGINALS b % 256) (slice_index ORIGINALS) refl b h ∙ original_is b h)
 
 product_lt : (a : ℕ) → map (λ b. product a b % 256) (range_with_len 0 256) ≡ map (product a) (range_with_len 0 256) → (b : ℕ) → b < 256 → product a b < 256
 product_lt a e b h = reduced_lt (product a b) (product a b) (on_bytes (λ b. product a b % 256) (product a) e b h)
 
-pub product_2-lt : (b : ℕ) → b < 256 → product 2 b < 256
+pub product_2_lt : (b : ℕ) → b < 256 → product 2 b < 256
 unfolding product product_below remainder
-product_2-lt = product_lt 2 refl
+product_2_lt = product_lt 2 refl
 
-pub product_9-lt : (b : ℕ) → b < 256 → product 9 b < 256
+pub product_9_lt : (b : ℕ) → b < 256 → product 9 b < 256
 unfolding product product_below remainder
-product_9-lt = product_lt 9 refl
+product_9_lt = product_lt 9 refl
 
-pub product_11-lt : (b : ℕ) → b < 256 → product 11 b < 256
+pub product_11_lt : (b : ℕ) → b < 256 → product 11 b < 256
 unfolding product product_below remainder
-product_11-lt = product_lt 11 refl
+product_11_lt = product_lt 11 refl
 
-pub product_13-lt : (b : ℕ) → b < 256 → product 13 b < 256
+pub product_13_lt : (b : ℕ) → b < 256 → product 13 b < 256
 unfolding product product_below remainder
-product_13-lt = product_lt 13 refl
+product_13_lt = product_lt 13 refl
 
-pub product_14-lt : (b : ℕ) → b < 256 → product 14 b < 256
+pub product_14_lt : (b : ℕ) → b < 256 → product 14 b < 256
 unfolding product product_below remainder
-product_14-lt = product_lt 14 refl
+product_14_lt = product_lt 14 refl

@@ -4,8 +4,8 @@ use Rattle.std.proofs.lemmas.List.{length-map}
 use Rattle.aes_block.specs.Field.{inv_sub_byte}
 use Rattle.aes_block.specs.Columns.{bytes_of}
 use Rattle.aes_block.specs.Aes.{xor_of, sub_bytes, inv_sub_bytes, shift_rows, inv_shift_rows, mix_columns, inv_mix_columns, round_key, rounds, inv_rounds, decrypted}
-use Rattle.aes_block.proofs.Columns.{inv_mix_columns-xor}
-use Rattle.aes_block.proofs.Undone.{length-round_key}
+use Rattle.aes_block.proofs.Columns.{inv_mix_columns_xor}
+use Rattle.aes_block.proofs.Undone.{length_round_key}
 
 pub key_at : (keys : List (List ℕ)) (key : List ℕ) (r : ℕ)
     → ((r : ℕ) → r < 11 → bytes_of (get_or keys r []) ≡ round_key (bytes_of (get_or keys 0 [])) r)
@@ -27,15 +27,15 @@ rounds_more key block n h =
 
 -- ---- the equivalent inverse cipher: MixColumns is undone before the key is added, and so the key is unmixed too
 
-length-inv_shift_rows : (s : List ℕ) → length (inv_shift_rows s) ≡ 16
+length_inv_shift_rows : (s : List ℕ) → length (inv_shift_rows s) ≡ 16
 unfolding inv_shift_rows
-length-inv_shift_rows s = refl
+length_inv_shift_rows s = refl
 
 abbrev pub restored_of : List ℕ → List ℕ
 restored_of s = inv_sub_bytes (inv_shift_rows s)
 
-length-restored_of : (s : List ℕ) → length (restored_of s) ≡ 16
-length-restored_of s = length-map (inv_shift_rows s) inv_sub_byte ∙ length-inv_shift_rows s
+length_restored_of : (s : List ℕ) → length (restored_of s) ≡ 16
+length_restored_of s = length-map (inv_shift_rows s) inv_sub_byte ∙ length_inv_shift_rows s
 
 pub inv_rounds_less : (key s : List ℕ) (n : ℕ) → 1 ≤ n → length key ≡ 16
     → inv_rounds key (restored_of s) n
@@ -44,7 +44,7 @@ unfolding inv_rounds
 inv_rounds_less key s zero h l = absurd (omega arith)
 inv_rounds_less key s (suc n) h l =
     let f : suc n - 1 ≡ n = omega arith in
-    ap (λ t. inv_rounds key (restored_of t) n) (inv_mix_columns-xor (restored_of s) (round_key key (suc n)) (length-restored_of s) (length-round_key key l (suc n)))
+    ap (λ t. inv_rounds key (restored_of t) n) (inv_mix_columns_xor (restored_of s) (round_key key (suc n)) (length_restored_of s) (length_round_key key l (suc n)))
     ∙ ap (inv_rounds key (restored_of (xor_of (inv_mix_columns (restored_of s)) (inv_mix_columns (round_key key (suc n)))))) (sym f)
 
 pub decrypted_first : (key block first : List ℕ) → first ≡ xor_of block (round_key key 10) → decrypted key block ≡ inv_rounds key (restored_of first) 9

@@ -6,11 +6,11 @@ use Rattle.std.proofs.lemmas.Nat.{xor_of_8}
 use Rattle.std.specs.List.{range_with_len}
 use Rattle.aes_block.specs.Field.{product, power, sub_byte}
 use Rattle.aes_block.specs.Aes.{IsBytes, xor_of, sub_bytes, inv_sub_bytes, shift_rows, inv_shift_rows, mix_column, mix_columns, inv_mix_columns, turned_word, added_word, word, round_key, rounds, encrypted, inv_rounds, decrypted}
-use Rattle.aes_block.proofs.Lists.{inv_shift_rows-shift_rows}
-use Rattle.aes_block.proofs.XorLemmas.{length-xor_of, xor_of_twice}
-use Rattle.aes_block.proofs.Computed.{product_1, product_3, product_2-lt, sub_byte-lt, inv_sub_byte-sub_byte}
-use Rattle.aes_block.proofs.Words.{length-word}
-use Rattle.aes_block.proofs.Columns.{inv_mix_columns-mix_columns}
+use Rattle.aes_block.proofs.Lists.{inv_shift_rows_shift_rows}
+use Rattle.aes_block.proofs.XorLemmas.{length_xor_of, xor_of_twice}
+use Rattle.aes_block.proofs.Computed.{product_1, product_3, product_2_lt, sub_byte_lt, inv_sub_byte_sub_byte}
+use Rattle.aes_block.proofs.Words.{length_word}
+use Rattle.aes_block.proofs.Columns.{inv_mix_columns_mix_columns}
 
 -- each element is a byte
 abbrev pub Small : List ℕ → Type 0
@@ -26,114 +26,114 @@ small_at [] h k = omega arith
 small_at (x ∷ xs) h zero = h.0
 small_at (x ∷ xs) h (suc k) = small_at xs h.1 k
 
-pub small-map : (f : ℕ → ℕ) → ((x : ℕ) → f x < 256) → (xs : List ℕ) → Small (map f xs)
-small-map f h [] = tt
-small-map f h (x ∷ xs) = (h x, small-map f h xs)
+pub small_map : (f : ℕ → ℕ) → ((x : ℕ) → f x < 256) → (xs : List ℕ) → Small (map f xs)
+small_map f h [] = tt
+small_map f h (x ∷ xs) = (h x, small_map f h xs)
 
-pub small-append : (a b : List ℕ) → Small a → Small b → Small (a ++ b)
-small-append [] b h k = k
-small-append (x ∷ xs) b h k = (h.0, small-append xs b h.1 k)
+pub small_append : (a b : List ℕ) → Small a → Small b → Small (a ++ b)
+small_append [] b h k = k
+small_append (x ∷ xs) b h k = (h.0, small_append xs b h.1 k)
 
-small-xor_of : (a b : List ℕ) → Small a → Small b → Small (xor_of a b)
-small-xor_of [] b h k = tt
-small-xor_of (x ∷ xs) [] h k = tt
-small-xor_of (x ∷ xs) (y ∷ ys) h k = (xor_of_8 x y h.0 k.0, small-xor_of xs ys h.1 k.1)
+small_xor_of : (a b : List ℕ) → Small a → Small b → Small (xor_of a b)
+small_xor_of [] b h k = tt
+small_xor_of (x ∷ xs) [] h k = tt
+small_xor_of (x ∷ xs) (y ∷ ys) h k = (xor_of_8 x y h.0 k.0, small_xor_of xs ys h.1 k.1)
 
-small-sub_bytes : (s : List ℕ) → Small s → Small (sub_bytes s)
-small-sub_bytes [] h = tt
-small-sub_bytes (x ∷ xs) h = (sub_byte-lt x h.0, small-sub_bytes xs h.1)
+small_sub_bytes : (s : List ℕ) → Small s → Small (sub_bytes s)
+small_sub_bytes [] h = tt
+small_sub_bytes (x ∷ xs) h = (sub_byte_lt x h.0, small_sub_bytes xs h.1)
 
-small-shift_rows : (s : List ℕ) → Small s → Small (shift_rows s)
+small_shift_rows : (s : List ℕ) → Small s → Small (shift_rows s)
 unfolding shift_rows
-small-shift_rows s h = small-map (λ i. slice_index s ((i + 4 * (i % 4)) % 16)) (λ i. small_at s h ((i + 4 * (i % 4)) % 16)) (range_with_len 0 16)
+small_shift_rows s h = small_map (λ i. slice_index s ((i + 4 * (i % 4)) % 16)) (λ i. small_at s h ((i + 4 * (i % 4)) % 16)) (range_with_len 0 16)
 
-one-lt : (x : ℕ) → x < 256 → product 1 x < 256
-one-lt x h = rw (product_1 x h) h
+one_lt : (x : ℕ) → x < 256 → product 1 x < 256
+one_lt x h = rw (product_1 x h) h
 
-three-lt : (x : ℕ) → x < 256 → product 3 x < 256
-three-lt x h = rw (product_3 x h) (xor_of_8 (product 2 x) x (product_2-lt x h) h)
+three_lt : (x : ℕ) → x < 256 → product 3 x < 256
+three_lt x h = rw (product_3 x h) (xor_of_8 (product 2 x) x (product_2_lt x h) h)
 
 pub xor_of_four : (a b c d : ℕ) → a < 256 → b < 256 → c < 256 → d < 256 → bit_xor (bit_xor (bit_xor a b) c) d < 256
 xor_of_four a b c d ha hb hc hd = xor_of_8 _ d (xor_of_8 _ c (xor_of_8 a b ha hb) hc) hd
 
-small-mix_column : (a b c d : ℕ) → a < 256 → b < 256 → c < 256 → d < 256 → Small (mix_column a b c d)
+small_mix_column : (a b c d : ℕ) → a < 256 → b < 256 → c < 256 → d < 256 → Small (mix_column a b c d)
 unfolding mix_column
-small-mix_column a b c d ha hb hc hd = (
-  xor_of_four _ _ _ _ (product_2-lt a ha) (three-lt b hb) (one-lt c hc) (one-lt d hd),
+small_mix_column a b c d ha hb hc hd = (
+  xor_of_four _ _ _ _ (product_2_lt a ha) (three_lt b hb) (one_lt c hc) (one_lt d hd),
   (
-    xor_of_four _ _ _ _ (one-lt a ha) (product_2-lt b hb) (three-lt c hc) (one-lt d hd),
+    xor_of_four _ _ _ _ (one_lt a ha) (product_2_lt b hb) (three_lt c hc) (one_lt d hd),
     (
-      xor_of_four _ _ _ _ (one-lt a ha) (one-lt b hb) (product_2-lt c hc) (three-lt d hd),
-      (xor_of_four _ _ _ _ (three-lt a ha) (one-lt b hb) (one-lt c hc) (product_2-lt d hd), tt),
+      xor_of_four _ _ _ _ (one_lt a ha) (one_lt b hb) (product_2_lt c hc) (three_lt d hd),
+      (xor_of_four _ _ _ _ (three_lt a ha) (one_lt b hb) (one_lt c hc) (product_2_lt d hd), tt),
     ),
   ),
 )
 
-small-mix_columns : (s : List ℕ) → Small s → Small (mix_columns s)
+small_mix_columns : (s : List ℕ) → Small s → Small (mix_columns s)
 unfolding mix_columns
-small-mix_columns s h =
+small_mix_columns s h =
     let b = small_at s h in
-    small-append _ _
-    (small-append _ _
-    (small-append _ _ (small-mix_column _ _ _ _ (b 0) (b 1) (b 2) (b 3)) (small-mix_column _ _ _ _ (b 4) (b 5) (b 6) (b 7)))
-    (small-mix_column _ _ _ _ (b 8) (b 9) (b 10) (b 11)))
-    (small-mix_column _ _ _ _ (b 12) (b 13) (b 14) (b 15))
+    small_append _ _
+    (small_append _ _
+    (small_append _ _ (small_mix_column _ _ _ _ (b 0) (b 1) (b 2) (b 3)) (small_mix_column _ _ _ _ (b 4) (b 5) (b 6) (b 7)))
+    (small_mix_column _ _ _ _ (b 8) (b 9) (b 10) (b 11)))
+    (small_mix_column _ _ _ _ (b 12) (b 13) (b 14) (b 15))
 
-length-mix_columns : (s : List ℕ) → length (mix_columns s) ≡ 16
+length_mix_columns : (s : List ℕ) → length (mix_columns s) ≡ 16
 unfolding mix_columns mix_column
-length-mix_columns s = refl
+length_mix_columns s = refl
 
-length-shift_rows : (s : List ℕ) → length (shift_rows s) ≡ 16
+length_shift_rows : (s : List ℕ) → length (shift_rows s) ≡ 16
 unfolding shift_rows
-length-shift_rows s = refl
+length_shift_rows s = refl
 
 -- ---- the keys
 
-small-power : (n : ℕ) → power 2 n < 256
+small_power : (n : ℕ) → power 2 n < 256
 unfolding power
-small-power zero = omega arith
-small-power (suc n) = product_2-lt (power 2 n) (small-power n)
+small_power zero = omega arith
+small_power (suc n) = product_2_lt (power 2 n) (small_power n)
 
-small-added_word : (w : List ℕ) (i : ℕ) → Small w → Small (added_word w i)
-small-added_word w i h = by_test (i % 4 == 0) where
+small_added_word : (w : List ℕ) (i : ℕ) → Small w → Small (added_word w i)
+small_added_word w i h = by_test (i % 4 == 0) where
   b : (k : ℕ) → sub_byte (slice_index w k) < 256
-  b k = sub_byte-lt (slice_index w k) (small_at w h k)
+  b k = sub_byte_lt (slice_index w k) (small_at w h k)
 
   by_test : (t : Bool) → Small (if t then turned_word w (i / 4) else w)
-  by_test true = (xor_of_8 _ _ (b 1) (small-power (i / 4 - 1)), (b 2, (b 3, (b 0, tt))))
+  by_test true = (xor_of_8 _ _ (b 1) (small_power (i / 4 - 1)), (b 2, (b 3, (b 0, tt))))
   by_test false = h
 
-small-take : (n : ℕ) (s : List ℕ) → Small s → Small (take n s)
-small-take zero s h = tt
-small-take (suc n) [] h = tt
-small-take (suc n) (x ∷ xs) h = (h.0, small-take n xs h.1)
+small_take : (n : ℕ) (s : List ℕ) → Small s → Small (take n s)
+small_take zero s h = tt
+small_take (suc n) [] h = tt
+small_take (suc n) (x ∷ xs) h = (h.0, small_take n xs h.1)
 
-small-drop : (n : ℕ) (s : List ℕ) → Small s → Small (drop n s)
-small-drop zero s h = h
-small-drop (suc n) [] h = tt
-small-drop (suc n) (x ∷ xs) h = small-drop n xs h.1
+small_drop : (n : ℕ) (s : List ℕ) → Small s → Small (drop n s)
+small_drop zero s h = h
+small_drop (suc n) [] h = tt
+small_drop (suc n) (x ∷ xs) h = small_drop n xs h.1
 
-small-word : (key : List ℕ) → Small key → (n : ℕ) → Small (word key n)
+small_word : (key : List ℕ) → Small key → (n : ℕ) → Small (word key n)
 unfolding word
-small-word key h zero = small-take 4 key h
-small-word key h (suc zero) = small-take 4 (drop 4 key) (small-drop 4 key h)
-small-word key h (suc (suc zero)) = small-take 4 (drop 8 key) (small-drop 8 key h)
-small-word key h (suc (suc (suc zero))) = small-take 4 (drop 12 key) (small-drop 12 key h)
-small-word key h (suc (suc (suc (suc n)))) =
-    small-xor_of _ _ (small-word key h n)
-    (small-added_word (word key (suc (suc (suc n)))) (n + 4) (small-word key h (suc (suc (suc n)))))
+small_word key h zero = small_take 4 key h
+small_word key h (suc zero) = small_take 4 (drop 4 key) (small_drop 4 key h)
+small_word key h (suc (suc zero)) = small_take 4 (drop 8 key) (small_drop 8 key h)
+small_word key h (suc (suc (suc zero))) = small_take 4 (drop 12 key) (small_drop 12 key h)
+small_word key h (suc (suc (suc (suc n)))) =
+    small_xor_of _ _ (small_word key h n)
+    (small_added_word (word key (suc (suc (suc n)))) (n + 4) (small_word key h (suc (suc (suc n)))))
 
-small-round_key : (key : List ℕ) → Small key → (r : ℕ) → Small (round_key key r)
+small_round_key : (key : List ℕ) → Small key → (r : ℕ) → Small (round_key key r)
 unfolding round_key
-small-round_key key h r =
-    let w = small-word key h in
-    small-append _ _ (small-append _ _ (small-append _ _ (w (4 * r)) (w (4 * r + 1))) (w (4 * r + 2))) (w (4 * r + 3))
+small_round_key key h r =
+    let w = small_word key h in
+    small_append _ _ (small_append _ _ (small_append _ _ (w (4 * r)) (w (4 * r + 1))) (w (4 * r + 2))) (w (4 * r + 3))
 
-pub length-round_key : (key : List ℕ) → length key ≡ 16 → (r : ℕ) → length (round_key key r) ≡ 16
+pub length_round_key : (key : List ℕ) → length key ≡ 16 → (r : ℕ) → length (round_key key r) ≡ 16
 unfolding round_key
-length-round_key key h r =
+length_round_key key h r =
     simp length-append
-    (omega (arith, length-word key h (4 * r), length-word key h (4 * r + 1), length-word key h (4 * r + 2), length-word key h (4 * r + 3)))
+    (omega (arith, length_word key h (4 * r), length_word key h (4 * r + 1), length_word key h (4 * r + 2), length_word key h (4 * r + 3)))
 
 -- ---- the rounds
 
@@ -147,74 +147,74 @@ is_bytes s h = record { len = h.len; small = small_at s h.small }
 pub is_state : (s : List ℕ) → IsBytes 16 s → IsState s
 is_state s h = record { len = h.len; small = small_from s h.small }
 
-pub xor_of-state : (a b : List ℕ) → IsState a → IsState b → IsState (xor_of a b)
-xor_of-state a b h k = record { len = length-xor_of a b (h.len ∙ sym k.len) ∙ k.len; small = small-xor_of a b h.small k.small }
+pub xor_of_state : (a b : List ℕ) → IsState a → IsState b → IsState (xor_of a b)
+xor_of_state a b h k = record { len = length_xor_of a b (h.len ∙ sym k.len) ∙ k.len; small = small_xor_of a b h.small k.small }
 
-pub round_key-state : (key : List ℕ) → IsState key → (r : ℕ) → IsState (round_key key r)
-round_key-state key h r = record { len = length-round_key key h.len r; small = small-round_key key h.small r }
+pub round_key_state : (key : List ℕ) → IsState key → (r : ℕ) → IsState (round_key key r)
+round_key_state key h r = record { len = length_round_key key h.len r; small = small_round_key key h.small r }
 
-pub rounds-state : (key block : List ℕ) → IsState key → IsState block → (n : ℕ) → IsState (rounds key block n)
+pub rounds_state : (key block : List ℕ) → IsState key → IsState block → (n : ℕ) → IsState (rounds key block n)
 unfolding rounds
-rounds-state key block h k zero = xor_of-state _ _ k (round_key-state key h 0)
-rounds-state key block h k (suc n) =
-    let s = rounds-state key block h k n in
-    xor_of-state _ _
+rounds_state key block h k zero = xor_of_state _ _ k (round_key_state key h 0)
+rounds_state key block h k (suc n) =
+    let s = rounds_state key block h k n in
+    xor_of_state _ _
     (record {
-      len = length-mix_columns (shift_rows (sub_bytes (rounds key block n)));
-      small = small-mix_columns _ (small-shift_rows _ (small-sub_bytes _ s.small));
+      len = length_mix_columns (shift_rows (sub_bytes (rounds key block n)));
+      small = small_mix_columns _ (small_shift_rows _ (small_sub_bytes _ s.small));
     })
-    (round_key-state key h (suc n))
+    (round_key_state key h (suc n))
 
-inv_sub_bytes-sub_bytes : (s : List ℕ) → Small s → inv_sub_bytes (sub_bytes s) ≡ s
-inv_sub_bytes-sub_bytes [] h = refl
-inv_sub_bytes-sub_bytes (x ∷ xs) h = ap₂ ◌∷◌ (inv_sub_byte-sub_byte x h.0) (inv_sub_bytes-sub_bytes xs h.1)
+inv_sub_bytes_sub_bytes : (s : List ℕ) → Small s → inv_sub_bytes (sub_bytes s) ≡ s
+inv_sub_bytes_sub_bytes [] h = refl
+inv_sub_bytes_sub_bytes (x ∷ xs) h = ap₂ ◌∷◌ (inv_sub_byte_sub_byte x h.0) (inv_sub_bytes_sub_bytes xs h.1)
 
 -- SubBytes and ShiftRows, undone
 restored : (s : List ℕ) → IsState s → inv_sub_bytes (inv_shift_rows (shift_rows (sub_bytes s))) ≡ s
 restored s h =
-    ap inv_sub_bytes (inv_shift_rows-shift_rows (sub_bytes s) (length-map s sub_byte ∙ h.len)) ∙ inv_sub_bytes-sub_bytes s h.small
+    ap inv_sub_bytes (inv_shift_rows_shift_rows (sub_bytes s) (length-map s sub_byte ∙ h.len)) ∙ inv_sub_bytes_sub_bytes s h.small
 
-inv_rounds-rounds : (key block : List ℕ) → IsState key → IsState block → (n : ℕ) → inv_rounds key (rounds key block n) n ≡ block
+inv_rounds_rounds : (key block : List ℕ) → IsState key → IsState block → (n : ℕ) → inv_rounds key (rounds key block n) n ≡ block
 unfolding rounds inv_rounds
-inv_rounds-rounds key block h k zero = xor_of_twice block (round_key key 0) (k.len ∙ sym (length-round_key key h.len 0))
-inv_rounds-rounds key block h k (suc n) =
-    let s = rounds-state key block h k n in
-    let shifted = small-shift_rows _ (small-sub_bytes _ s.small) in
+inv_rounds_rounds key block h k zero = xor_of_twice block (round_key key 0) (k.len ∙ sym (length_round_key key h.len 0))
+inv_rounds_rounds key block h k (suc n) =
+    let s = rounds_state key block h k n in
+    let shifted = small_shift_rows _ (small_sub_bytes _ s.small) in
     ap (λ x. inv_rounds key x n)
     (ap (λ x. inv_sub_bytes (inv_shift_rows (inv_mix_columns x)))
     (xor_of_twice (mix_columns (shift_rows (sub_bytes (rounds key block n)))) (round_key key (suc n))
-    (length-mix_columns _ ∙ sym (length-round_key key h.len (suc n))))
+    (length_mix_columns _ ∙ sym (length_round_key key h.len (suc n))))
     ∙ ap (λ x. inv_sub_bytes (inv_shift_rows x))
-    (inv_mix_columns-mix_columns (shift_rows (sub_bytes (rounds key block n))) (length-shift_rows _) (small_at _ shifted))
+    (inv_mix_columns_mix_columns (shift_rows (sub_bytes (rounds key block n))) (length_shift_rows _) (small_at _ shifted))
     ∙ restored (rounds key block n) s)
-    ∙ inv_rounds-rounds key block h k n
+    ∙ inv_rounds_rounds key block h k n
 
-pub decrypted-encrypted : (key block : List ℕ) → IsBytes 16 key → IsBytes 16 block → decrypted key (encrypted key block) ≡ block
+pub decrypted_encrypted : (key block : List ℕ) → IsBytes 16 key → IsBytes 16 block → decrypted key (encrypted key block) ≡ block
 unfolding decrypted encrypted
-decrypted-encrypted key block h k =
+decrypted_encrypted key block h k =
     let hs = is_state key h in
     let ks = is_state block k in
     ap (λ x. inv_rounds key (inv_sub_bytes (inv_shift_rows x)) 9)
     (xor_of_twice (shift_rows (sub_bytes (rounds key block 9))) (round_key key 10)
-    (length-shift_rows _ ∙ sym (length-round_key key h.len 10)))
-    ∙ ap (λ x. inv_rounds key x 9) (restored (rounds key block 9) (rounds-state key block hs ks 9))
-    ∙ inv_rounds-rounds key block hs ks 9
+    (length_shift_rows _ ∙ sym (length_round_key key h.len 10)))
+    ∙ ap (λ x. inv_rounds key x 9) (restored (rounds key block 9) (rounds_state key block hs ks 9))
+    ∙ inv_rounds_rounds key block hs ks 9
 
 -- ---- what the layers above use
 
-pub encrypted-bytes : (key block : List ℕ) → IsBytes 16 key → IsBytes 16 block → IsBytes 16 (encrypted key block)
+pub encrypted_bytes : (key block : List ℕ) → IsBytes 16 key → IsBytes 16 block → IsBytes 16 (encrypted key block)
 unfolding encrypted
-encrypted-bytes key block h k =
-    let s = rounds-state key block (is_state key h) (is_state block k) 9 in
-    is_bytes _ (xor_of-state _ _
+encrypted_bytes key block h k =
+    let s = rounds_state key block (is_state key h) (is_state block k) 9 in
+    is_bytes _ (xor_of_state _ _
     (record {
-      len = length-shift_rows (sub_bytes (rounds key block 9));
-      small = small-shift_rows _ (small-sub_bytes _ s.small);
+      len = length_shift_rows (sub_bytes (rounds key block 9));
+      small = small_shift_rows _ (small_sub_bytes _ s.small);
     })
-    (round_key-state key (is_state key h) 10))
+    (round_key_state key (is_state key h) 10))
 
-pub xor_of-bytes : (n : ℕ) (a b : List ℕ) → IsBytes n a → IsBytes n b → IsBytes n (xor_of a b)
-xor_of-bytes n a b h k = record {
-  len = length-xor_of a b (h.len ∙ sym k.len) ∙ k.len;
-  small = small_at _ (small-xor_of a b (small_from a h.small) (small_from b k.small));
+pub xor_of_bytes : (n : ℕ) (a b : List ℕ) → IsBytes n a → IsBytes n b → IsBytes n (xor_of a b)
+xor_of_bytes n a b h k = record {
+  len = length_xor_of a b (h.len ∙ sym k.len) ∙ k.len;
+  small = small_at _ (small_xor_of a b (small_from a h.small) (small_from b k.small));
 }

@@ -8,11 +8,11 @@ use Rattle.aes_block.specs.Columns.{bytes_of}
 use Rattle.aes_block.specs.Aes.{xor_of}
 use Rattle.aes_block.specs.Field.{sub_byte, inv_sub_byte}
 use Rattle.aes_block.proofs.Lists.{literal}
-use Rattle.aes_block.proofs.Computed.{inv_sub_byte-sub_byte}
+use Rattle.aes_block.proofs.Computed.{inv_sub_byte_sub_byte}
 
 -- the bytes of a sum are the sums of the bytes
-pub to_le_bytes-xor : (a b : ℕ) → to_le_bytes w32 (bit_xor a b) ≡ xor_of (to_le_bytes w32 a) (to_le_bytes w32 b)
-to_le_bytes-xor a b =
+pub to_le_bytes_xor : (a b : ℕ) → to_le_bytes w32 (bit_xor a b) ≡ xor_of (to_le_bytes w32 a) (to_le_bytes w32 b)
+to_le_bytes_xor a b =
     ap₂ ◌∷◌ (xor_mod a b 8)
     (ap₂ ◌∷◌ (above 8)
     (ap₂ ◌∷◌ (above 16)
@@ -25,15 +25,15 @@ pub column_sum : (p q r s : ℕ) (a b c d : List ℕ)
     → to_le_bytes w32 p ≡ a → to_le_bytes w32 q ≡ b → to_le_bytes w32 r ≡ c → to_le_bytes w32 s ≡ d
     → to_le_bytes w32 (bit_xor (bit_xor (bit_xor p q) r) s) ≡ xor_of (xor_of (xor_of a b) c) d
 column_sum p q r s a b c d hp hq hr hs =
-    to_le_bytes-xor (bit_xor (bit_xor p q) r) s
+    to_le_bytes_xor (bit_xor (bit_xor p q) r) s
     ∙ ap₂ xor_of
-    (to_le_bytes-xor (bit_xor p q) r
-    ∙ ap₂ xor_of (to_le_bytes-xor p q ∙ ap₂ xor_of hp hq) hr)
+    (to_le_bytes_xor (bit_xor p q) r
+    ∙ ap₂ xor_of (to_le_bytes_xor p q ∙ ap₂ xor_of hp hq) hr)
     hs
 
 more_words : (a b : ℕ) (s l r : List ℕ) → bytes_of s ≡ xor_of (bytes_of l) (bytes_of r)
     → bytes_of (bit_xor a b ∷ s) ≡ xor_of (bytes_of (a ∷ l)) (bytes_of (b ∷ r))
-more_words a b s l r h = ap₂ ◌++◌ (to_le_bytes-xor a b) h
+more_words a b s l r h = ap₂ ◌++◌ (to_le_bytes_xor a b) h
 
 -- the sum of two states
 pub state_sum : (s k : List ℕ) → length s ≡ 4 → length k ≡ 4
@@ -72,7 +72,7 @@ state_bytes s h = ap bytes_of (sym (literal 4 s h))
 
 -- a byte, substituted and restored
 pub restored_byte : (n : ℕ) → inv_sub_byte (sub_byte (n % 256)) ≡ n % 256
-restored_byte n = inv_sub_byte-sub_byte (n % 256) (omega arith)
+restored_byte n = inv_sub_byte_sub_byte (n % 256) (omega arith)
 
 -- a byte as a word
 pub byte_word : (n : ℕ) → n < 256 → to_le_bytes w32 n ≡ n ∷ 0 ∷ 0 ∷ 0 ∷ []

@@ -4,23 +4,23 @@ use Rattle.std.proofs.lemmas.Bool.{ne_eqb}
 use Rattle.std.specs.Prelude.{◌==◌, if◌then◌else◌}
 use Rattle.aes_block.specs.Aes.{xor_of, turned_word, added_word, word, round_key}
 use Rattle.aes_block.proofs.Lists.{literal}
-use Rattle.aes_block.proofs.XorLemmas.{length-xor_of}
+use Rattle.aes_block.proofs.XorLemmas.{length_xor_of}
 
-length-added_word : (w : List ℕ) (i : ℕ) → length w ≡ 4 → length (added_word w i) ≡ 4
-length-added_word w i h = by_test (i % 4 == 0) where
+length_added_word : (w : List ℕ) (i : ℕ) → length w ≡ 4 → length (added_word w i) ≡ 4
+length_added_word w i h = by_test (i % 4 == 0) where
   by_test : (b : Bool) → length (if b then turned_word w (i / 4) else w) ≡ 4
   by_test true = refl
   by_test false = h
 
-pub length-word : (key : List ℕ) → length key ≡ 16 → (n : ℕ) → length (word key n) ≡ 4
+pub length_word : (key : List ℕ) → length key ≡ 16 → (n : ℕ) → length (word key n) ≡ 4
 unfolding word
-length-word key h zero = omega (arith, length-take 4 key, length-drop 0 key)
-length-word key h (suc zero) = omega (arith, length-take 4 (drop 4 key), length-drop 4 key)
-length-word key h (suc (suc zero)) = omega (arith, length-take 4 (drop 8 key), length-drop 8 key)
-length-word key h (suc (suc (suc zero))) = omega (arith, length-take 4 (drop 12 key), length-drop 12 key)
-length-word key h (suc (suc (suc (suc n)))) =
-    let last = length-added_word (word key (suc (suc (suc n)))) (n + 4) (length-word key h (suc (suc (suc n)))) in
-    length-xor_of (word key n) (added_word (word key (suc (suc (suc n)))) (n + 4)) (length-word key h n ∙ sym last) ∙ last
+length_word key h zero = omega (arith, length-take 4 key, length-drop 0 key)
+length_word key h (suc zero) = omega (arith, length-take 4 (drop 4 key), length-drop 4 key)
+length_word key h (suc (suc zero)) = omega (arith, length-take 4 (drop 8 key), length-drop 8 key)
+length_word key h (suc (suc (suc zero))) = omega (arith, length-take 4 (drop 12 key), length-drop 12 key)
+length_word key h (suc (suc (suc (suc n)))) =
+    let last = length_added_word (word key (suc (suc (suc n)))) (n + 4) (length_word key h (suc (suc (suc n)))) in
+    length_xor_of (word key n) (added_word (word key (suc (suc (suc n)))) (n + 4)) (length_word key h n ∙ sym last) ∙ last
 
 -- the rule of the schedule
 word_next : (key : List ℕ) (n m k : ℕ) → m ≡ n + 3 → k ≡ n + 4 → word key k ≡ xor_of (word key n) (added_word (word key m) (n + 4))
@@ -31,9 +31,9 @@ word_next key n m k p q =
     rw (e, f) refl
 
 -- the first round's key is the key
-pub round_key-zero : (key : List ℕ) → length key ≡ 16 → round_key key 0 ≡ key
+pub round_key_zero : (key : List ℕ) → length key ≡ 16 → round_key key 0 ≡ key
 unfolding round_key word
-round_key-zero key h = subst (λ (k : List ℕ). round_key k 0 ≡ k) (sym (literal 16 key h)) refl
+round_key_zero key h = subst (λ (k : List ℕ). round_key k 0 ≡ k) (sym (literal 16 key h)) refl
 
 added_word_first : (w : List ℕ) (i r : ℕ) → i ≡ 4 * r → added_word w i ≡ turned_word w r
 added_word_first w i r e =
@@ -62,10 +62,10 @@ next_words w x y z r =
     let c = xor_of y b in
     a ++ b ++ c ++ xor_of z c
 
-round_key-suc : (key : List ℕ) (n : ℕ)
+round_key_suc : (key : List ℕ) (n : ℕ)
     → next_words (word key (4 * n)) (word key (4 * n + 1)) (word key (4 * n + 2)) (word key (4 * n + 3)) (suc n) ≡ round_key key (suc n)
 unfolding round_key next_words
-round_key-suc key n =
+round_key_suc key n =
     let a = word_next key (4 * n) (4 * n + 3) (4 * suc n) refl (omega arith)
     ∙ ap (xor_of (word key (4 * n))) (added_word_first (word key (4 * n + 3)) (4 * n + 4) (suc n) (omega arith)) in
     let b = word_next key (4 * n + 1) (4 * suc n) (4 * suc n + 1) (omega arith) (omega arith)
@@ -86,6 +86,6 @@ unfolding round_key
 round_key_from key p zero h low e = absurd (omega arith)
 round_key_from key p (suc n) h low e =
     let q = parts (word key (4 * n)) (word key (4 * n + 1)) (word key (4 * n + 2)) (word key (4 * n + 3))
-    (length-word key h (4 * n)) (length-word key h (4 * n + 1)) (length-word key h (4 * n + 2)) (length-word key h (4 * n + 3)) in
+    (length_word key h (4 * n)) (length_word key h (4 * n + 1)) (length_word key h (4 * n + 2)) (length_word key h (4 * n + 3)) in
     let m : suc n - 1 ≡ n = omega arith in
-    rw (e ∙ ap (round_key key) m) (rw (q.0, q.1, q.2, q.3) (round_key-suc key n))
+    rw (e ∙ ap (round_key key) m) (rw (q.0, q.1, q.2, q.3) (round_key_suc key n))

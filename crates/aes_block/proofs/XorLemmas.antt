@@ -18,22 +18,22 @@ xor_swap a b c d =
     ∙ ap (bit_xor a) (sym (xor_assoc b c d) ∙ ap (λ x. bit_xor x d) (xor_comm b c) ∙ xor_assoc c b d)
     ∙ sym (xor_assoc a c (bit_xor b d))
 
-pub mul_pow-xor : (a b n : ℕ) → bit_xor a b * 2 ^ n ≡ bit_xor (a * 2 ^ n) (b * 2 ^ n)
-mul_pow-xor a b n = sym (simp add-zero at (xor_block n a b 0 0 (pow_pos n) (pow_pos n)))
+pub mul_pow_xor : (a b n : ℕ) → bit_xor a b * 2 ^ n ≡ bit_xor (a * 2 ^ n) (b * 2 ^ n)
+mul_pow_xor a b n = sym (simp add-zero at (xor_block n a b 0 0 (pow_pos n) (pow_pos n)))
 
 bit_cases : (m : ℕ) → m < 2 → (m ≡ 0) ⊎ (m ≡ 1)
 bit_cases zero h = inl refl
 bit_cases (suc zero) h = inr refl
 bit_cases (suc (suc m)) h = absurd (omega arith)
 
-pub bit_mul-xor : (m a b : ℕ) → m < 2 → m * bit_xor a b ≡ bit_xor (m * a) (m * b)
-bit_mul-xor m a b h = elim (bit_cases m h) [
+pub bit_mul_xor : (m a b : ℕ) → m < 2 → m * bit_xor a b ≡ bit_xor (m * a) (m * b)
+bit_mul_xor m a b h = elim (bit_cases m h) [
   | inl e ↦ rw e (simp zero-mul refl)
   | inr e ↦ rw e (simp one-mul refl)
 ]
 
-pub xor-bit_mul : (m n a : ℕ) → m < 2 → n < 2 → ((m + n) % 2) * a ≡ bit_xor (m * a) (n * a)
-xor-bit_mul m n a h k = elim (bit_cases m h) [
+pub xor_bit_mul : (m n a : ℕ) → m < 2 → n < 2 → ((m + n) % 2) * a ≡ bit_xor (m * a) (n * a)
+xor_bit_mul m n a h k = elim (bit_cases m h) [
   | inl e ↦ rw e (elim (bit_cases n k) [
     | inl f ↦ rw f (simp zero-mul refl)
     | inr f ↦ rw f (simp (zero-mul, one-mul) refl)
@@ -46,11 +46,11 @@ xor-bit_mul m n a h k = elim (bit_cases m h) [
 
 -- ---- lists
 
-pub length-xor_of : (a b : List ℕ) → length a ≡ length b → length (xor_of a b) ≡ length b
-length-xor_of [] [] h = refl
-length-xor_of [] (y ∷ ys) h = h
-length-xor_of (x ∷ xs) [] h = refl
-length-xor_of (x ∷ xs) (y ∷ ys) h = ap suc (length-xor_of xs ys (cc))
+pub length_xor_of : (a b : List ℕ) → length a ≡ length b → length (xor_of a b) ≡ length b
+length_xor_of [] [] h = refl
+length_xor_of [] (y ∷ ys) h = h
+length_xor_of (x ∷ xs) [] h = refl
+length_xor_of (x ∷ xs) (y ∷ ys) h = ap suc (length_xor_of xs ys (cc))
 
 -- the sum, from its bytes
 pub xor_of_from : (s a b : List ℕ) → length s ≡ length a → length a ≡ length b

@@ -6,33 +6,33 @@ use Rattle.std.specs.Simd.{first_chunks}
 use Rattle.aes_block.specs.Aes.{xor_of, encrypted, decrypted}
 use Rattle.aes_modes.specs.Cbc.{blocks_of, encrypted_blocks, decrypted_blocks, cbc_encrypted, cbc_decrypted}
 
-pub blocks_of-next : (s : List ℕ) → 16 ≤ length s → blocks_of s ≡ take 16 s ∷ blocks_of (drop 16 s)
-blocks_of-next s h =
+pub blocks_of_next : (s : List ℕ) → 16 ≤ length s → blocks_of s ≡ take 16 s ∷ blocks_of (drop 16 s)
+blocks_of_next s h =
     let e : length s / 16 ≡ suc (length (drop 16 s) / 16) = omega (arith, length-drop 16 s) in
     ap (λ n. first_chunks 16 n s) e
 
-pub blocks_of-none : (s : List ℕ) → length s < 16 → blocks_of s ≡ []
-blocks_of-none s h =
+pub blocks_of_none : (s : List ℕ) → length s < 16 → blocks_of s ≡ []
+blocks_of_none s h =
     let e : length s / 16 ≡ 0 = omega arith in
     ap (λ n. first_chunks 16 n s) e
 
-pub cbc_encrypted-next : (key before s : List ℕ) → 16 ≤ length s → let c = encrypted key (xor_of (take 16 s) before) in
+pub cbc_encrypted_next : (key before s : List ℕ) → 16 ≤ length s → let c = encrypted key (xor_of (take 16 s) before) in
     cbc_encrypted key before s ≡ c ++ cbc_encrypted key c (drop 16 s)
 unfolding cbc_encrypted encrypted_blocks
-cbc_encrypted-next key before s h = ap (λ bs. concat (encrypted_blocks key before bs)) (blocks_of-next s h)
+cbc_encrypted_next key before s h = ap (λ bs. concat (encrypted_blocks key before bs)) (blocks_of_next s h)
 
-pub cbc_decrypted-next : (key before s : List ℕ) → 16 ≤ length s
+pub cbc_decrypted_next : (key before s : List ℕ) → 16 ≤ length s
     → cbc_decrypted key before s ≡ xor_of (decrypted key (take 16 s)) before ++ cbc_decrypted key (take 16 s) (drop 16 s)
 unfolding cbc_decrypted decrypted_blocks
-cbc_decrypted-next key before s h = ap (λ bs. concat (decrypted_blocks key before bs)) (blocks_of-next s h)
+cbc_decrypted_next key before s h = ap (λ bs. concat (decrypted_blocks key before bs)) (blocks_of_next s h)
 
-cbc_encrypted-none : (key before s : List ℕ) → length s < 16 → cbc_encrypted key before s ≡ []
+cbc_encrypted_none : (key before s : List ℕ) → length s < 16 → cbc_encrypted key before s ≡ []
 unfolding cbc_encrypted encrypted_blocks
-cbc_encrypted-none key before s h = ap (λ bs. concat (encrypted_blocks key before bs)) (blocks_of-none s h)
+cbc_encrypted_none key before s h = ap (λ bs. concat (encrypted_blocks key before bs)) (blocks_of_none s h)
 
-cbc_decrypted-none : (key before s : List ℕ) → length s < 16 → cbc_decrypted key before s ≡ []
+cbc_decrypted_none : (key before s : List ℕ) → length s < 16 → cbc_decrypted key before s ≡ []
 unfolding cbc_decrypted decrypted_blocks
-cbc_decrypted-none key before s h = ap (λ bs. concat (decrypted_blocks key before bs)) (blocks_of-none s h)
+cbc_decrypted_none key before s h = ap (λ bs. concat (decrypted_blocks key before bs)) (blocks_of_none s h)
 
 -- ---- a loop that replaces one block after another
 
@@ -82,7 +82,7 @@ pub encrypt_more : (key before s c now whole : List ℕ) (i : ℕ) → IsPut s c
 encrypt_more key before s c now whole i h e =
     let room : 16 ≤ length (drop (16 * i) s) = omega (arith, length-drop (16 * i) s, h.fits) in
     chain_more (cbc_encrypted key before) (cbc_encrypted key c) s c now whole i h
-    (cbc_encrypted-next key before (drop (16 * i) s) room ∙ ap (λ x. x ++ cbc_encrypted key x (drop 16 (drop (16 * i) s))) (sym e))
+    (cbc_encrypted_next key before (drop (16 * i) s) room ∙ ap (λ x. x ++ cbc_encrypted key x (drop 16 (drop (16 * i) s))) (sym e))
 
 pub decrypt_more : (key before s c now whole : List ℕ) (i : ℕ) → IsPut s c now (16 * i)
     → c ≡ xor_of (decrypted key (take 16 (drop (16 * i) s))) before
@@ -91,14 +91,14 @@ pub decrypt_more : (key before s c now whole : List ℕ) (i : ℕ) → IsPut s c
 decrypt_more key before s c now whole i h e =
     let room : 16 ≤ length (drop (16 * i) s) = omega (arith, length-drop (16 * i) s, h.fits) in
     chain_more (cbc_decrypted key before) (cbc_decrypted key (take 16 (drop (16 * i) s))) s c now whole i h
-    (cbc_decrypted-next key before (drop (16 * i) s) room ∙ ap (λ x. x ++ cbc_decrypted key (take 16 (drop (16 * i) s)) (drop 16 (drop (16 * i) s))) (sym e))
+    (cbc_decrypted_next key before (drop (16 * i) s) room ∙ ap (λ x. x ++ cbc_decrypted key (take 16 (drop (16 * i) s)) (drop 16 (drop (16 * i) s))) (sym e))
 
 pub encrypted_at_end : (key before s whole : List ℕ) (i : ℕ) → length s ≤ 16 * i
     → take (16 * i) s ++ cbc_encrypted key before (drop (16 * i) s) ≡ whole → s ≡ whole
 encrypted_at_end key before s whole i h =
-    chain_at_end s whole _ i h (cbc_encrypted-none key before (drop (16 * i) s) (omega (arith, length-drop (16 * i) s)))
+    chain_at_end s whole _ i h (cbc_encrypted_none key before (drop (16 * i) s) (omega (arith, length-drop (16 * i) s)))
 
 pub decrypted_at_end : (key before s whole : List ℕ) (i : ℕ) → length s ≤ 16 * i
     → take (16 * i) s ++ cbc_decrypted key before (drop (16 * i) s) ≡ whole → s ≡ whole
 decrypted_at_end key before s whole i h =
-    chain_at_end s whole _ i h (cbc_decrypted-none key before (drop (16 * i) s) (omega (arith, length-drop (16 * i) s)))
+    chain_at_end s whole _ i h (cbc_decrypted_none key before (drop (16 * i) s) (omega (arith, length-drop (16 * i) s)))

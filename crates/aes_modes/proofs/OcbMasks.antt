@@ -18,19 +18,19 @@ zeros_at zero k = refl
 zeros_at (suc n) zero = refl
 zeros_at (suc n) (suc k) = zeros_at n k
 
-get_or-zeros : (s : List ℕ) (n k : ℕ) → get_or (s ++ replicate n 0) k 0 ≡ get_or s k 0
-get_or-zeros s n k = elim (cases_lt k (length s)) [
+get_or_zeros : (s : List ℕ) (n k : ℕ) → get_or (s ++ replicate n 0) k 0 ≡ get_or s k 0
+get_or_zeros s n k = elim (cases_lt k (length s)) [
   | inl below ↦ get_or_append_left s (replicate n 0) 0 k below
   | inr past ↦ get_or-append_right s (replicate n 0) (length s) k 0 refl past ∙ zeros_at n (k - length s) ∙ sym (get_or_past s k 0 past)
 ]
 
-block_from-zeros : (s : List ℕ) (n i : ℕ) → block_from (s ++ replicate n 0) i ≡ block_from s i
+block_from_zeros : (s : List ℕ) (n i : ℕ) → block_from (s ++ replicate n 0) i ≡ block_from s i
 unfolding block_from
-block_from-zeros s n i =
+block_from_zeros s n i =
     let f : ℕ → ℕ = λ k. eight_bits (s ++ replicate n 0) (i + 8 * k) in
     fill_by_all (λ k. eight_bits s (i + 8 * k)) (map f (range_with_len 0 16)) 16 0 refl
     (λ k lt. get_or-map-range_with_len f 0 16 k k 0 lt (omega arith)
-    ∙ ap₂ (λ x y. (256 * x + y) / 2 ^ (8 - (i + 8 * k) % 8) % 256) (get_or-zeros s n ((i + 8 * k) / 8)) (get_or-zeros s n ((i + 8 * k) / 8 + 1)))
+    ∙ ap₂ (λ x y. (256 * x + y) / 2 ^ (8 - (i + 8 * k) % 8) % 256) (get_or_zeros s n ((i + 8 * k) / 8)) (get_or_zeros s n ((i + 8 * k) / 8 + 1)))
 
 -- ---- doubling
 
@@ -43,16 +43,16 @@ add_last (suc n) v (x ∷ xs) h = ap₂ ◌∷◌ (sym (xor_zero_r x)) (add_last
 bit_seven : (x : ℕ) → x < 256 → x / 128 ≡ bit_at x 7
 bit_seven x h = omega arith
 
-length-block_from : (s : List ℕ) (i : ℕ) → length (block_from s i) ≡ 16
+length_block_from : (s : List ℕ) (i : ℕ) → length (block_from s i) ≡ 16
 unfolding block_from
-length-block_from s i = refl
+length_block_from s i = refl
 
 pub doubled : (block shifted : List ℕ) → get_or block 0 0 < 256 → shifted ≡ block_from (block ++ replicate 8 0) 1
     → set shifted 15 (bit_xor (get_or shifted 15 0) (get_or block 0 0 / 128 * 0x87)) ≡ double block
 unfolding double
 doubled block shifted h e =
-    let same = e ∙ block_from-zeros block 8 1 in
-    add_last 15 (get_or block 0 0 / 128 * 0x87) shifted (ap length same ∙ length-block_from block 1)
+    let same = e ∙ block_from_zeros block 8 1 in
+    add_last 15 (get_or block 0 0 / 128 * 0x87) shifted (ap length same ∙ length_block_from block 1)
     ∙ ap₂ (λ s b. xor_of s (replicate 15 0 ++ b * 0x87 ∷ [])) same (bit_seven (get_or block 0 0) h)
 
 -- ---- the first offset

@@ -9,7 +9,7 @@ use Rattle.aes_block.specs.Aes.{IsBytes, xor_of, encrypted}
 use Rattle.aes_block.proofs.XorLemmas.{Added}
 use Rattle.aes_modes.specs.Cbc.{blocks_of}
 use Rattle.aes_modes.specs.Ocb.{zeros, l_star, l_mask, offset, offset_after, last_offset, partial_block, masked, masked_blocks, sum_from, hashed_blocks, padded, checksum, hash, l_dollar, first_offset, ocb_tag}
-use Rattle.aes_modes.proofs.Chains.{IsPut, chain_more, blocks_of-next, blocks_of-none}
+use Rattle.aes_modes.proofs.Chains.{IsPut, chain_more, blocks_of_next, blocks_of_none}
 
 pub offset_more : (key first now next mask : List ℕ) (i : ℕ) → now ≡ offset key first i → next ≡ xor_of now mask
     → mask ≡ l_mask key (trailing_zeros w64 (i + 1)) → next ≡ offset key first (i + 1)
@@ -23,25 +23,25 @@ offset_more key first now next mask i e n m =
 abbrev pub masking : (List ℕ → List ℕ) → List ℕ → List ℕ → ℕ → List ℕ → List ℕ
 masking f key first i s = concat (masked_blocks f key first i (blocks_of s)) ++ partial_block s
 
-partial_block-next : (s : List ℕ) → 16 ≤ length s → partial_block s ≡ partial_block (drop 16 s)
-partial_block-next s h =
+partial_block_next : (s : List ℕ) → 16 ≤ length s → partial_block s ≡ partial_block (drop 16 s)
+partial_block_next s h =
     let e : 16 * (length s / 16) ≡ 16 + 16 * (length (drop 16 s) / 16) = omega (arith, length-drop 16 s) in
     ap (λ n. drop n s) e ∙ sym (drop-drop (16 * (length (drop 16 s) / 16)) 16 s)
 
-masking-next : (f : List ℕ → List ℕ) (key first : List ℕ) (i : ℕ) (s : List ℕ) → 16 ≤ length s
+masking_next : (f : List ℕ → List ℕ) (key first : List ℕ) (i : ℕ) (s : List ℕ) → 16 ≤ length s
     → let o = offset key first (i + 1) in
     masking f key first i s ≡ xor_of (f (xor_of (take 16 s) o)) o ++ masking f key first (i + 1) (drop 16 s)
 unfolding masked_blocks
-masking-next f key first i s h =
+masking_next f key first i s h =
     let o = offset key first (i + 1) in
-    ap₂ (λ bs r. concat (masked_blocks f key first i bs) ++ r) (blocks_of-next s h) (partial_block-next s h)
+    ap₂ (λ bs r. concat (masked_blocks f key first i bs) ++ r) (blocks_of_next s h) (partial_block_next s h)
     ∙ append_assoc (xor_of (f (xor_of (take 16 s) o)) o) (concat (masked_blocks f key first (i + 1) (blocks_of (drop 16 s)))) (partial_block (drop 16 s))
 
-masking-none : (f : List ℕ → List ℕ) (key first : List ℕ) (i : ℕ) (s : List ℕ) → length s < 16 → masking f key first i s ≡ s
+masking_none : (f : List ℕ → List ℕ) (key first : List ℕ) (i : ℕ) (s : List ℕ) → length s < 16 → masking f key first i s ≡ s
 unfolding masked_blocks
-masking-none f key first i s h =
+masking_none f key first i s h =
     let e : 16 * (length s / 16) ≡ 0 = omega arith in
-    ap (λ bs. concat (masked_blocks f key first i bs) ++ partial_block s) (blocks_of-none s h) ∙ ap (λ n. drop n s) e
+    ap (λ bs. concat (masked_blocks f key first i bs) ++ partial_block s) (blocks_of_none s h) ∙ ap (λ n. drop n s) e
 
 -- i blocks of before are masked in now, and o is the offset of the last of them
 pub record Masking (f : List ℕ → List ℕ) (key first o now before : List ℕ) (i : ℕ) : Type 0 where
@@ -63,7 +63,7 @@ mask_more f key first o s old mask next c now i h m l n e =
     let same = e ∙ ap (λ o. xor_of (f (xor_of (take 16 (drop (16 * i) s)) o)) o) at in
     record {
       done = chain_more (masking f key first i) (masking f key first (i + 1)) s c now (masking f key first 0 old) i h
-          (masking-next f key first i (drop (16 * i) s) room ∙ ap (λ x. x ++ masking f key first (i + 1) (drop 16 (drop (16 * i) s))) (sym same))
+          (masking_next f key first i (drop (16 * i) s) room ∙ ap (λ x. x ++ masking f key first (i + 1) (drop 16 (drop (16 * i) s))) (sym same))
           m.done;
       offset = at;
       old = m.old;
@@ -73,7 +73,7 @@ pub masked_at_end : (f : List ℕ → List ℕ) (key first o s old : List ℕ) (
     → s ≡ masking f key first 0 old
 masked_at_end f key first o s old i h m =
     sym (take-append-drop (16 * i) s)
-    ∙ ap (λ t. take (16 * i) s ++ t) (sym (masking-none f key first i (drop (16 * i) s) (omega (arith, length-drop (16 * i) s))))
+    ∙ ap (λ t. take (16 * i) s ++ t) (sym (masking_none f key first i (drop (16 * i) s) (omega (arith, length-drop (16 * i) s))))
     ∙ m.done
 
 -- ---- the rest
@@ -135,19 +135,19 @@ rest_some key before s part pad last ne e p l =
       last = end;
     }
 
-offset_after-length : (key before a b : List ℕ) → length a ≡ length b → offset_after key before a ≡ offset_after key before b
+offset_after_length : (key before a b : List ℕ) → length a ≡ length b → offset_after key before a ≡ offset_after key before b
 unfolding offset_after
-offset_after-length key before [] [] h = refl
-offset_after-length key before [] (y ∷ ys) h = absurd (omega arith)
-offset_after-length key before (x ∷ xs) [] h = absurd (omega arith)
-offset_after-length key before (x ∷ xs) (y ∷ ys) h = refl
+offset_after_length key before [] [] h = refl
+offset_after_length key before [] (y ∷ ys) h = absurd (omega arith)
+offset_after_length key before (x ∷ xs) [] h = absurd (omega arith)
+offset_after_length key before (x ∷ xs) (y ∷ ys) h = refl
 
-pub last_offset-length : (key first a b : List ℕ) → length a ≡ length b → last_offset key first a ≡ last_offset key first b
+pub last_offset_length : (key first a b : List ℕ) → length a ≡ length b → last_offset key first a ≡ last_offset key first b
 unfolding last_offset
-last_offset-length key first a b h =
+last_offset_length key first a b h =
     let rests : length (partial_block a) ≡ length (partial_block b) = omega (arith, length-drop (16 * (length a / 16)) a, length-drop (16 * (length b / 16)) b) in
     ap (λ n. offset_after key (offset key first (n / 16)) (partial_block a)) h
-    ∙ offset_after-length key (offset key first (length b / 16)) (partial_block a) (partial_block b) rests
+    ∙ offset_after_length key (offset key first (length b / 16)) (partial_block a) (partial_block b) rests
 
 -- the blocks and then the rest
 pub record Masked (f : List ℕ → List ℕ) (key first s now end : List ℕ) : Type 0 where
@@ -187,10 +187,10 @@ padded_from rest front some fits e =
 
 -- ---- sums
 
-sum_from-append : (s : List ℕ) (a b : List (List ℕ)) → sum_from s (a ++ b) ≡ sum_from (sum_from s a) b
+sum_from_append : (s : List ℕ) (a b : List (List ℕ)) → sum_from s (a ++ b) ≡ sum_from (sum_from s a) b
 unfolding sum_from
-sum_from-append s [] b = refl
-sum_from-append s (x ∷ xs) b = sum_from-append (xor_of s x) xs b
+sum_from_append s [] b = refl
+sum_from_append s (x ∷ xs) b = sum_from_append (xor_of s x) xs b
 
 drop_next : (s : List (List ℕ)) (i : ℕ) → i < length s → drop i s ≡ get_or s i [] ∷ drop (i + 1) s
 drop_next s i lt = drop-cons s i [] lt ∙ ap (λ k. get_or s i [] ∷ drop k s) (sym (add-one i))
@@ -211,7 +211,7 @@ unfolding checksum
 checksum_left plain bs rest sum i front back le h =
     let there : length plain / 16 * 16 ≡ 16 * (length plain / 16) = omega arith in
     ap₂ (λ s r. sum_from s (padded r)) (sum_at_end sum (sum_from zeros bs) bs i le h ∙ ap (sum_from zeros) front) (back ∙ ap (λ n. drop n plain) there)
-    ∙ sym (sum_from-append zeros (blocks_of plain) (padded (partial_block plain)))
+    ∙ sym (sum_from_append zeros (blocks_of plain) (padded (partial_block plain)))
 
 no_rest : (rest : List ℕ) → length rest ≡ 0 → padded rest ≡ []
 unfolding padded
@@ -266,7 +266,7 @@ hash_left key assoc o sum rest bs i front back le h =
     let all : sum ≡ sum_from zeros (hashed_blocks key 0 (blocks_of assoc)) =
     ap (λ ds. sum_from sum (hashed_blocks key i ds)) (sym (drop_all i bs le)) ∙ h.left ∙ ap (λ ds. sum_from zeros (hashed_blocks key 0 ds)) front in
     ap₂ (λ s r. sum_from s (map f (padded r))) all (back ∙ ap (λ n. drop n assoc) there)
-    ∙ sym (sum_from-append zeros (hashed_blocks key 0 (blocks_of assoc)) (map f (padded (partial_block assoc))))
+    ∙ sym (sum_from_append zeros (hashed_blocks key 0 (blocks_of assoc)) (map f (padded (partial_block assoc))))
 
 pub hash_whole : (key assoc o sum rest : List ℕ) (bs : List (List ℕ)) (i : ℕ) → bs ≡ blocks_of assoc → rest ≡ drop (length assoc / 16 * 16) assoc
     → length bs ≤ i → Hashing key o sum bs i → length rest ≡ 0 → sum ≡ hash key assoc

@@ -15,7 +15,7 @@ use Rattle.cache_policy.specs.Histories.{History, moments, with_mark}
 use Rattle.cache_policy.specs.Replay.{moments_at, NoneEmpty, Marked, none as none_marked, made, unmade}
 use Rattle.cache_policy.specs.Runs.{joined, moment_before, next_history, turn_over, run_with_mark}
 use Rattle.cache_policy.specs.Turns.{Turn, Stand, Refused, Stopping, FitsStep, since_of}
-use Rattle.cache_policy.proofs.GrowingRuns.{joined-run_with_mark}
+use Rattle.cache_policy.proofs.GrowingRuns.{joined_run_with_mark}
 use Rattle.agent_core.specs.Cores.{mark_of}
 use Rattle.agent_core.specs.Known.{next_moment, TakesStep, marked, stood, refused, spent}
 use Rattle.agent_core.specs.Stepped.{IsSettled}
@@ -149,7 +149,7 @@ one_then before mid after taken turns step settled first later = by step.takes.t
     by {turn} (marked last answer last_is below rules shows is) same =
         let mark : Mark = mark_of before.session taken.asked answer (next_moment before.run step.takes.reading) in
         made_then before mid after taken turns mark is
-        (ap joined is ∙ joined-run_with_mark before.run mark step.takes.was_legal.turns_over)
+        (ap joined is ∙ joined_run_with_mark before.run mark step.takes.was_legal.turns_over)
         (λ kept. shown before.limits (next_history last) mark turn shows (sym same ∙ kept)) step refl refl first refl later
     by (stood last last_is some rules wait_is is) same = absurd (subst IsSettled same settled)
     by (refused last last_is below why is) same = unmade_then before mid after taken turns step is (inl same) later

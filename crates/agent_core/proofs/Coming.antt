@@ -24,14 +24,14 @@ use Rattle.cache_policy.specs.Runs.{next_history, moment_of}
 use Rattle.cache_policy.specs.Seat.{seat, stopped, is_open, under_of, unless_given_back}
 use Rattle.cache_policy.specs.Turns.{Refused, FitsReply, closes}
 use Rattle.cache_policy.specs.Waits.{is_late}
-use Rattle.cache_policy.proofs.OneMore.{seat-with_mark}
+use Rattle.cache_policy.proofs.OneMore.{seat_with_mark}
 use Rattle.agent_core.specs.declared.state.State.{State}
 use Rattle.agent_core.specs.Cores.{AtCore, StandsFor, mark_of}
 use Rattle.agent_core.specs.Adding.{comes_to_seat, leaves_ticket, needs_room}
 use Rattle.agent_core.specs.States.{seen, held_of}
 use Rattle.agent_core.specs.Taking.{Finds, may_open, ComesToSeat, next_slots}
 use Rattle.agent_core.proofs.Standing.{IsReady, ready}
-use Rattle.agent_core.proofs.Stepping.{live-found, live-none}
+use Rattle.agent_core.proofs.Stepping.{live_found, live_none}
 
 comes_prompt : (stops : Bool) (held : Option Ticket) (late : Bool) → comes_to_seat (prompt_ruling stops held late) ≡ (not stops && not (is_some held && late))
 comes_prompt true held late = refl
@@ -59,23 +59,23 @@ module _ (before : State) (history : History) (moment : ℕ) (is : IsReady befor
       → (if is_some found then false else may_open before since moment) ≡ comes_to_seat (policy before.limits (next_history history) (Ask id mode Prompt since) moment)
   comes_found id mode since (Some grant) from =
       sym (ap (λ (o : Option Entry). comes_to_seat (ask_ruling o Prompt (stopped (next_history history)) (seat (next_history history)) (is_late since moment)))
-      (live-found before history moment id mode grant is from).live_is)
+      (live_found before history moment id mode grant is from).live_is)
   comes_found id mode since None none =
       comes_stops since
       ∙ sym (ap (λ (o : Option Entry). comes_to_seat (ask_ruling o Prompt (stopped (next_history history)) (seat (next_history history)) (is_late since moment)))
-      (live-none before history moment id mode is none))
+      (live_none before history moment id mode is none))
 
-  pub comes-policy : (asked : MarkStep) (comes : Bool) → ComesToSeat before moment asked comes
+  pub comes_policy : (asked : MarkStep) (comes : Bool) → ComesToSeat before moment asked comes
       → comes ≡ comes_to_seat (policy before.limits (next_history history) asked moment)
-  comes-policy (Ask id mode Quiet since) comes does = does ∙ sym (comes_quiet _ (stopped (next_history history)) (seat (next_history history)) (is_late since moment))
-  comes-policy (Ask id mode Prompt since) comes does = does.2 ∙ comes_found id mode since does.0 does.1
-  comes-policy (Seat under since) comes does = does ∙ comes_stops since
-  comes-policy (Close ticket keep) comes does = does
-  comes-policy (Put id mode life secret) comes does = does
-  comes-policy (Clear id mode) comes does = does
-  comes-policy Flush comes does = does
-  comes-policy (Peek id mode) comes does = does
-  comes-policy Stop comes does = does
+  comes_policy (Ask id mode Quiet since) comes does = does ∙ sym (comes_quiet _ (stopped (next_history history)) (seat (next_history history)) (is_late since moment))
+  comes_policy (Ask id mode Prompt since) comes does = does.2 ∙ comes_found id mode since does.0 does.1
+  comes_policy (Seat under since) comes does = does ∙ comes_stops since
+  comes_policy (Close ticket keep) comes does = does
+  comes_policy (Put id mode life secret) comes does = does
+  comes_policy (Clear id mode) comes does = does
+  comes_policy Flush comes does = does
+  comes_policy (Peek id mode) comes does = does
+  comes_policy Stop comes does = does
 
 -- a step that comes to a free seat opens, and only a free seat is opened
 free_prompt : (stops : Bool) (held : Option Ticket) (late : Bool) → held ≡ None → comes_to_seat (prompt_ruling stops held late) ≡ true
@@ -168,9 +168,9 @@ pub record LeavesTicket (limits : Limits) (history : History) (session : Session
   pub rules : policy limits history asked moment ≡ Reply answer
   pub held : IsSome (seat (with_mark history (mark_of session asked answer moment)))
 
-pub leaves-held : (limits : Limits) (history : History) (session : SessionId) (asked : MarkStep) (moment : ℕ) → closes asked ≡ None
+pub leaves_held : (limits : Limits) (history : History) (session : SessionId) (asked : MarkStep) (moment : ℕ) → closes asked ≡ None
     → leaves_ticket (is_some (seat history)) (comes_to_seat (policy limits history asked moment)) ≡ true → LeavesTicket limits history session asked moment
-leaves-held limits history session asked moment none leaves = by (seat history) refl leaves
+leaves_held limits history session asked moment none leaves = by (seat history) refl leaves
   where
     by : (held : Option Ticket) → seat history ≡ held → leaves_ticket (is_some held) (comes_to_seat (policy limits history asked moment)) ≡ true
         → LeavesTicket limits history session asked moment
@@ -179,7 +179,7 @@ leaves-held limits history session asked moment none leaves = by (seat history) 
         record {
           answer = made.answer;
           rules = made.is;
-          held = subst (λ (o : Option Ticket). IsSome o) (sym (seat-with_mark history (mark_of session asked made.answer moment)))
+          held = subst (λ (o : Option Ticket). IsSome o) (sym (seat_with_mark history (mark_of session asked made.answer moment)))
               (some_after (is_open made.answer) asked (record { ticket = next_number history; under = under_of asked }) (seat history) none (ap is_some out));
         }
       where
@@ -189,7 +189,7 @@ leaves-held limits history session asked moment none leaves = by (seat history) 
     by None out leaves = record {
       answer = reply.Open;
       rules = free_opens limits history asked moment out leaves;
-      held = subst (λ (o : Option Ticket). IsSome o) (sym (seat-with_mark history (mark_of session asked reply.Open moment))) refl;
+      held = subst (λ (o : Option Ticket). IsSome o) (sym (seat_with_mark history (mark_of session asked reply.Open moment))) refl;
     }
 
 -- and the other way round
@@ -198,19 +198,19 @@ still_leaves : (asked : MarkStep) (comes : Bool) (held : Option Ticket) → come
 still_leaves asked comes (Some ticket) none some = ap not none
 still_leaves asked comes None none some = absurd (cc some)
 
-pub held-leaves : (limits : Limits) (history : History) (asked : MarkStep) (moment : ℕ) (answer : MarkReply) → policy limits history asked moment ≡ Reply answer
+pub held_leaves : (limits : Limits) (history : History) (asked : MarkStep) (moment : ℕ) (answer : MarkReply) → policy limits history asked moment ≡ Reply answer
     → (is_open answer ≡ true) ⊎ IsSome (option_and_then (unless_given_back asked) (seat history))
     → leaves_ticket (is_some (seat history)) (comes_to_seat (policy limits history asked moment)) ≡ true
-held-leaves limits history asked moment reply.Open rules some =
+held_leaves limits history asked moment reply.Open rules some =
     ap (λ (o : Option Ticket). leaves_ticket (is_some o) (comes_to_seat (policy limits history asked moment))) (opens_free limits history asked moment rules)
     ∙ ap comes_to_seat rules
-held-leaves limits history asked moment (reply.Given number) rules (inr some) = still_leaves asked _ (seat history) (ap comes_to_seat rules) some
-held-leaves limits history asked moment reply.Empty rules (inr some) = still_leaves asked _ (seat history) (ap comes_to_seat rules) some
-held-leaves limits history asked moment reply.Done rules (inr some) = still_leaves asked _ (seat history) (ap comes_to_seat rules) some
-held-leaves limits history asked moment (reply.Held held) rules (inr some) = still_leaves asked _ (seat history) (ap comes_to_seat rules) some
-held-leaves limits history asked moment reply.Stopping rules (inr some) = still_leaves asked _ (seat history) (ap comes_to_seat rules) some
-held-leaves limits history asked moment reply.Late rules (inr some) = still_leaves asked _ (seat history) (ap comes_to_seat rules) some
-held-leaves limits history asked moment _ rules (inl opened) = absurd (cc opened)
+held_leaves limits history asked moment (reply.Given number) rules (inr some) = still_leaves asked _ (seat history) (ap comes_to_seat rules) some
+held_leaves limits history asked moment reply.Empty rules (inr some) = still_leaves asked _ (seat history) (ap comes_to_seat rules) some
+held_leaves limits history asked moment reply.Done rules (inr some) = still_leaves asked _ (seat history) (ap comes_to_seat rules) some
+held_leaves limits history asked moment (reply.Held held) rules (inr some) = still_leaves asked _ (seat history) (ap comes_to_seat rules) some
+held_leaves limits history asked moment reply.Stopping rules (inr some) = still_leaves asked _ (seat history) (ap comes_to_seat rules) some
+held_leaves limits history asked moment reply.Late rules (inr some) = still_leaves asked _ (seat history) (ap comes_to_seat rules) some
+held_leaves limits history asked moment _ rules (inl opened) = absurd (cc opened)
 
 -- what the code finds is what the policy says, for a core that has this state
 pub comes_to_seat_is : (core : AtCore) (state : State) (history : History) (reading moment : ℕ) (asked : MarkStep) (comes : Bool) → seen state ≡ core
@@ -222,7 +222,7 @@ comes_to_seat_is core state history reading moment asked comes seen_is moment_is
     → comes ≡ comes_to_seat (policy c.limits (next_history history) asked (moment_of c.moment reading))) seen_is
     (λ legal stands.
     subst (λ (m : ℕ). comes ≡ comes_to_seat (policy state.limits (next_history history) asked m)) moment_is
-    (comes-policy state history moment (ready state history moment legal stands later within) asked comes does))
+    (comes_policy state history moment (ready state history moment legal stands later within) asked comes does))
 
 -- whether a step needs room, by the branches of the code
 pub needs_close : (core : AtCore) (asked : MarkStep) (comes : Bool) → is_some (closes asked) ≡ true → false ≡ needs_room core asked comes

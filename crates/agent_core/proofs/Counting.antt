@@ -21,8 +21,8 @@ use Rattle.cache_policy.specs.Legal.{IsLegalRun}
 use Rattle.cache_policy.specs.Lifetimes.{ttl_of, is_zero}
 use Rattle.cache_policy.specs.Runs.{last_base, turn_over, next_history, IsRun, joined, last_history, run_with_mark}
 use Rattle.cache_policy.specs.Seat.{seat, stopped, is_open}
-use Rattle.cache_policy.proofs.EntriesLemmas.{entries-with_mark}
-use Rattle.cache_policy.proofs.GrowingRuns.{joined-run_with_mark}
+use Rattle.cache_policy.proofs.EntriesLemmas.{entries_with_mark}
+use Rattle.cache_policy.proofs.GrowingRuns.{joined_run_with_mark}
 use Rattle.cache_policy.specs.declared.tally.Tally.{Tally}
 use Rattle.cache_policy.specs.Tallies.{is_given, is_empty, is_clear, is_flush, how_many, one_if}
 use Rattle.agent_core.specs.Tallies.{tally_of, counted, CanCount, Tallied}
@@ -124,12 +124,12 @@ stored_added limits (history ∷ []) last mark is =
       | true ↦
           let a = length-append (entries limits history) (flat_map (entries limits) (with_mark (turn_over history) mark ∷ [])) in
           let b = length-append (entries limits (with_mark (turn_over history) mark)) [] in
-          let c = ap (λ (l : List Entry). length l) (entries-with_mark limits (turn_over history) mark) in
+          let c = ap (λ (l : List Entry). length l) (entries_with_mark limits (turn_over history) mark) in
           let d = length-append (entries limits history) [] in
           omega (arith, a, b, c, d)
       | false ↦
           let b = length-append (entries limits (with_mark history mark)) [] in
-          let c = ap (λ (l : List Entry). length l) (entries-with_mark limits history mark) in
+          let c = ap (λ (l : List Entry). length l) (entries_with_mark limits history mark) in
           let d = length-append (entries limits history) [] in
           let e = length-append (entries limits history) (stored limits history mark.step mark.moment) in
           omega (arith, b, c, d, e)
@@ -184,13 +184,13 @@ can_count limits run last tally legal last_is below few is =
 added : (test : Mark → Bool) (run : List History) (mark : Mark) (before : ℕ) → IsRun run → before ≡ how_many test (joined run)
     → before + one_if (test mark) ≡ how_many test (joined (run_with_mark run mark))
 added test run mark before is same =
-    ap (λ (n : ℕ). n + one_if (test mark)) same ∙ (sym (count_push test (joined run) mark) ∙ ap (how_many test) (sym (joined-run_with_mark run mark is)))
+    ap (λ (n : ℕ). n + one_if (test mark)) same ∙ (sym (count_push test (joined run) mark) ∙ ap (how_many test) (sym (joined_run_with_mark run mark is)))
 
 pub tally_counted : (limits : Limits) (run : List History) (last : History) (mark : Mark) (tally : Tally) (stored_now : Bool) → IsRun run → last_history run ≡ Some last
     → Tallied limits run tally → length (stored limits (next_history last) mark.step mark.moment) ≡ one_if stored_now → Tallied limits (run_with_mark run mark) (counted tally mark stored_now)
 tally_counted limits run last mark tally stored_now is last_is tallied now = record {
   marks =
-      let a = ap (λ (l : List Mark). length l) (joined-run_with_mark run mark is) in
+      let a = ap (λ (l : List Mark). length l) (joined_run_with_mark run mark is) in
       let b = length-append (joined run) (mark ∷ []) in
       omega (arith, a, b, tallied.marks);
   given = added (λ mark. is_given mark.reply) run mark tally.given is tallied.given;

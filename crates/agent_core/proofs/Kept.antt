@@ -11,39 +11,39 @@ use Rattle.cache_policy.specs.declared.entry.Entry.{Entry}
 use Rattle.cache_policy.specs.declared.history.Held.{Held}
 use Rattle.cache_book.specs.declared.slot.Slot.{Slot}
 use Rattle.cache_book.specs.Shelves.{AtShelf, AreBelow, with_entry}
-use Rattle.cache_book.proofs.Below.{below-more, below-stored}
+use Rattle.cache_book.proofs.Below.{below_more, below_stored}
 use Rattle.agent_core.specs.declared.state.State.{State}
 use Rattle.agent_core.specs.Cores.{HasRoom}
 use Rattle.agent_core.specs.States.{IsState, held_of}
 use Rattle.agent_core.specs.Taking.{held_at}
 
-pub room-more : (held : Option Held) (spare more : ℕ) → spare ≤ more → HasRoom held spare → HasRoom held more
-room-more None spare more h room = tt
-room-more (Some held) spare more h room = λ under. omega (arith, h, room under)
+pub room_more : (held : Option Held) (spare more : ℕ) → spare ≤ more → HasRoom held spare → HasRoom held more
+room_more None spare more h room = tt
+room_more (Some held) spare more h room = λ under. omega (arith, h, room under)
 
-pub room-some : (held : Option Held) (spare : ℕ) → 1 ≤ spare → HasRoom held spare
-room-some None spare h = tt
-room-some (Some held) spare h = λ under. h
+pub room_some : (held : Option Held) (spare : ℕ) → 1 ≤ spare → HasRoom held spare
+room_some None spare h = tt
+room_some (Some held) spare h = λ under. h
 
-pub room-free : (holder : Option ℕ) (under : Option Under) (spare : ℕ) → holder ≡ None → HasRoom (held_of holder under) spare
-room-free holder under spare free = subst (λ (o : Option ℕ). HasRoom (held_of o under) spare) (sym free) tt
+pub room_free : (holder : Option ℕ) (under : Option Under) (spare : ℕ) → holder ≡ None → HasRoom (held_of holder under) spare
+room_free holder under spare free = subst (λ (o : Option ℕ). HasRoom (held_of o under) spare) (sym free) tt
 
 -- the entry that is stored has the number of its mark
-pub entry-number : (limits : Limits) (number moment : ℕ) (id : List ℕ) (mode : Mode) (life : Life) (secret : List ℕ) (entry : Entry)
+pub entry_number : (limits : Limits) (number moment : ℕ) (id : List ℕ) (mode : Mode) (life : Life) (secret : List ℕ) (entry : Entry)
     → entry ∷ [] ≡ entry_of limits number moment id mode life secret → entry.number ≡ number
-entry-number limits number moment id mode life secret entry is =
+entry_number limits number moment id mode life secret entry is =
     elim (is_zero (ttl_of limits mode life)) as (λ b. entry ∷ [] ≡ cond b [] (record { number = number; id = id; mode = mode; secret = secret; entered = moment; ttl = ttl_of limits mode life; max = max_of limits mode } ∷ [])
     → entry.number ≡ number) [ true ↦ λ e. cc | false ↦ λ e. cc ] is
 
 -- another shelf in a state
-pub state-with_shelf : (state : State) (shelf : AtShelf) → IsState state → AreBelow (state.base + state.count) shelf.slots → HasRoom (held_at state) shelf.spare
+pub state_with_shelf : (state : State) (shelf : AtShelf) → IsState state → AreBelow (state.base + state.count) shelf.slots → HasRoom (held_at state) shelf.spare
     → IsState (record state { shelf = shelf })
-state-with_shelf state shelf is numbers room =
+state_with_shelf state shelf is numbers room =
     record { base = is.base; whole = is.whole; few = is.few; moment = is.moment; numbers = numbers; room = room }
 
 -- a new entry on the shelf of a state whose last mark has its number
-pub below-with_entry : (number next : ℕ) (entry : Entry) (before after : List Slot) → next ≡ number + 1 → entry.number ≡ number → AreBelow number before
+pub below_with_entry : (number next : ℕ) (entry : Entry) (before after : List Slot) → next ≡ number + 1 → entry.number ≡ number → AreBelow number before
     → after ≡ with_entry entry before → AreBelow next after
-below-with_entry number next entry before after more same h is =
-    subst (AreBelow next) (sym is) (below-more (entry.number + 1) next (with_entry entry before) (omega (arith, more, same))
-    (below-stored entry before (subst (λ (n : ℕ). AreBelow n before) (sym same) h)))
+below_with_entry number next entry before after more same h is =
+    subst (AreBelow next) (sym is) (below_more (entry.number + 1) next (with_entry entry before) (omega (arith, more, same))
+    (below_stored entry before (subst (λ (n : ℕ). AreBelow n before) (sym same) h)))

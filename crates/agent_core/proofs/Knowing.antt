@@ -25,17 +25,17 @@ use Rattle.cache_policy.specs.Runs.{last_base, is_spent, turn_over, next_history
 use Rattle.cache_policy.specs.Seat.{seat, is_open, under_of, unless_given_back}
 use Rattle.cache_policy.specs.Turns.{Turn, Given, Empty, Open, Stand, Done, Held, Refused, Stopping, Late, FitsReply, opens, closes, turn_of}
 use Rattle.cache_policy.specs.declared.wait.Wait.{Wait}
-use Rattle.cache_policy.proofs.GrowingRuns.{joined-run_with_mark, legal-run_with_mark, last-run_with_mark, last_is_legal, spent-all}
-use Rattle.cache_policy.proofs.OneMore.{seat-with_mark}
-use Rattle.cache_policy.proofs.Growing.{seat-turn_over}
+use Rattle.cache_policy.proofs.GrowingRuns.{joined_run_with_mark, legal_run_with_mark, last_run_with_mark, last_is_legal, spent_all}
+use Rattle.cache_policy.proofs.OneMore.{seat_with_mark}
+use Rattle.cache_policy.proofs.Growing.{seat_turn_over}
 use Rattle.agent_core.specs.declared.known_core.Start.{Start}
 use Rattle.agent_core.specs.Adding.{CanAdd, added, next_start, HasPlace, comes_to_seat, leaves_ticket, needs_room}
 use Rattle.agent_core.specs.Cores.{AtCore, HasRoom, IsStep, marked as step_marked, stood as step_stood, refused as step_refused, spent as step_spent, IsMarked, mark_of, IsAsBefore}
 use Rattle.agent_core.specs.Known.{run_seat, IsOut, held as held_out, given_up, next_moment, MayRefuse, wants, begins, leaves, TakesStep, marked, stood, refused}
 use Rattle.agent_core.specs.Stepped.{IsSettled}
 use Rattle.agent_core.specs.Recording.{KeepsRun, IsRoom, LastHasRoom, Records, reply_of}
-use Rattle.agent_core.proofs.Adding.{add-full}
-use Rattle.agent_core.proofs.Coming.{leaves-held, held-leaves, opens_keeps, needs_full, needs_last}
+use Rattle.agent_core.proofs.Adding.{add_full}
+use Rattle.agent_core.proofs.Coming.{leaves_held, held_leaves, opens_keeps, needs_full, needs_last}
 
 -- the moment of a mark at the end
 pub moment_at_end : (since : ℕ) (marks : List Mark) (mark : Mark) → fold (λ _ (m : Mark). m.moment) since (marks ++ mark ∷ []) ≡ mark.moment
@@ -92,7 +92,7 @@ module _ (core : AtCore) (run : List History) (keeps : KeepsRun core run) where
   pub going : core.base + core.count ≢ last_base → is_spent (next_history keeps.last) ≡ false
   going more =
       elim (is_spent (next_history keeps.last)) as (λ b. is_spent (next_history keeps.last) ≡ b → b ≡ false) [
-        | true ↦ λ e. absurd (more (omega (arith, spent-all core.limits keeps.last legal_last e, keeps.stands.base, keeps.stands.count)))
+        | true ↦ λ e. absurd (more (omega (arith, spent_all core.limits keeps.last legal_last e, keeps.stands.base, keeps.stands.count)))
         | false ↦ λ e. refl
       ] refl
 
@@ -118,7 +118,7 @@ module _ (core : AtCore) (run : List History) (keeps : KeepsRun core run) where
             ap (λ (n : ℕ). record { base = n + MAX_MARKS; held = core.held; stopped = core.stopped; marks = mark ∷ [] }) keeps.stands.base
             ∙ (ap (λ (h : Option Ticket). record { base = keeps.last.base + MAX_MARKS; held = h; stopped = core.stopped; marks = mark ∷ [] }) keeps.stands.seat_is
             ∙ ap (λ (b : Bool). record { base = keeps.last.base + MAX_MARKS; held = seat keeps.last; stopped = b; marks = mark ∷ [] }) keeps.stands.stopped_is) in
-            ap (λ (h : History). run ++ h ∷ []) next ∙ sym (add-full run keeps.last mark keeps.last_is (omega (arith, full, keeps.stands.count)))
+            ap (λ (h : History). run ++ h ∷ []) next ∙ sym (add_full run keeps.last mark keeps.last_is (omega (arith, full, keeps.stands.count)))
         | false ↦ λ e. refl
       ] refl
 
@@ -181,7 +181,7 @@ no_room core run session moment asked keeps more needs =
         let held : leaves_ticket (is_some (seat keeps.last)) (comes_to_seat (policy core.limits keeps.last asked moment)) ≡ true =
         subst (λ (h : Option Ticket). leaves_ticket (is_some h) (comes_to_seat (policy core.limits keeps.last asked moment)) ≡ true) keeps.stands.seat_is
         (subst (λ (h : History). leaves_ticket (is_some core.held) (comes_to_seat (policy core.limits h asked moment)) ≡ true) here needs) in
-        let left = leaves-held core.limits keeps.last session asked moment none held in
+        let left = leaves_held core.limits keeps.last session asked moment none held in
         leaves left.answer none (omega (arith, count, keeps.stands.count)) left.rules left.held
     by None none false full_is false ends_is needs = absurd (cc needs)
 
@@ -257,7 +257,7 @@ pub record Marks (before after : AtCore) (run : List History) (session : Session
   pub seat_is : before.held ≡ seat (next_history last)
 
 pub seat_next : (history : History) → seat (next_history history) ≡ seat history
-seat_next history = elim (length history.marks == MAX_MARKS) as (λ b. seat (if b then turn_over history else history) ≡ seat history) [ true ↦ seat-turn_over history | false ↦ refl ]
+seat_next history = elim (length history.marks == MAX_MARKS) as (λ b. seat (if b then turn_over history else history) ≡ seat history) [ true ↦ seat_turn_over history | false ↦ refl ]
 
 count_next : (history : History) (mark : Mark) → (length history.marks ≡ MAX_MARKS → length (with_mark (next_history history) mark).marks ≡ 1)
     × (length history.marks ≢ MAX_MARKS → length (with_mark (next_history history) mark).marks ≡ length history.marks + 1)
@@ -302,14 +302,14 @@ module _ (before after : AtCore) (run : List History) (keeps : KeepsRun before r
   makes =
       let legal = legal_last before run keeps in
       let below = below_next keeps.last keeps.below legal.base more in
-      let now_last = last-run_with_mark run keeps.last made_mark keeps.last_is in
-      let all = joined-run_with_mark run made_mark keeps.legal.turns_over in
+      let now_last = last_run_with_mark run keeps.last made_mark keeps.last_is in
+      let all = joined_run_with_mark run made_mark keeps.legal.turns_over in
       let counted = count_next keeps.last made_mark in
       record {
         takes = marked keeps.last is.reply_is keeps.last_is below is.rules is.shows refl;
         keeps = record {
           legal = subst (λ (l : Limits). IsLegalRun l (run_with_mark run made_mark)) (sym limits)
-              (legal-run_with_mark before.limits run keeps.last made_mark keeps.legal keeps.last_is is.rules later within below);
+              (legal_run_with_mark before.limits run keeps.last made_mark keeps.legal keeps.last_is is.rules later within below);
           last = with_mark (next_history keeps.last) made_mark;
           last_is = now_last;
           stands = is.stands;
@@ -321,7 +321,7 @@ module _ (before after : AtCore) (run : List History) (keeps : KeepsRun before r
         opened = λ some.
             let seat_now : after.held ≡ (if is_open is.reply_is then Some (record { ticket = next_number (next_history keeps.last); under = under_of asked })
             else option_and_then (unless_given_back asked) before.held) =
-            is.stands.seat_is ∙ (seat-with_mark (next_history keeps.last) made_mark
+            is.stands.seat_is ∙ (seat_with_mark (next_history keeps.last) made_mark
             ∙ ap (λ (h : Option Ticket). if is_open is.reply_is then Some (record { ticket = next_number (next_history keeps.last); under = under_of asked })
             else option_and_then (unless_given_back asked) h) (seat_next keeps.last ∙ sym keeps.stands.seat_is)) in
             subst (λ (r : MarkReply). (is_open r ≡ true) ⊎ IsSome (option_and_then (unless_given_back asked) before.held)) made_reply
@@ -406,7 +406,7 @@ records_marked before after histories later next there ending session moment ask
         has.room (sym (needs_last before asked _ (ap is_some none) ends)
         ∙ subst (λ (h : History). leaves_ticket (is_some before.held) (comes_to_seat (policy before.limits (next_history h) asked moment)) ≡ true) last_is
         (subst (λ (h : Option Ticket). leaves_ticket (is_some h) (comes_to_seat (policy before.limits (next_history marks.last) asked moment)) ≡ true) (sym marks.seat_is)
-        (held-leaves before.limits (next_history marks.last) asked moment (reply_of turn) marks.rules
+        (held_leaves before.limits (next_history marks.last) asked moment (reply_of turn) marks.rules
         (subst (λ (h : Option Ticket). (is_open (reply_of turn) ≡ true) ⊎ IsSome (option_and_then (unless_given_back asked) h)) marks.seat_is held))))
     by ends (Some number) is (inl opened) = absurd (cc (is, opens_keeps before.limits (next_history marks.last) asked moment (reply_of turn) marks.rules opened))
     by ends (Some number) is (inr still) =

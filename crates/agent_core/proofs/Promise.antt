@@ -27,7 +27,7 @@ use Rattle.cache_policy.specs.Seat.{seat, stopped}
 use Rattle.cache_policy.specs.Turns.{Turn, Given, Empty, Open, Stand, Done, Held, Refused, Stopping, Late, FitsReply, FitsStep, asked_step, mark_step, wait_of, opens, closes, out_after, with_since, since_of, since_when}
 use Rattle.cache_policy.specs.Waits.{is_session, is_late}
 use Rattle.cache_policy.proofs.Lists.{all_append}
-use Rattle.cache_policy.proofs.GrowingRuns.{joined-run_with_mark, start-run_with_mark, last-run_with_mark, last_is_legal}
+use Rattle.cache_policy.proofs.GrowingRuns.{joined_run_with_mark, start_run_with_mark, last_run_with_mark, last_is_legal}
 use Rattle.cache_policy.proofs.ReturnLemmas.{given_rightly}
 use Rattle.cache_policy.specs.declared.step.Step.{Step}
 use Rattle.agent_core.specs.declared.stepped.Stepped.{Stepped}
@@ -74,9 +74,9 @@ adds : (limits : Limits) (run : List History) (session : SessionId) (moment : �
 adds limits run session moment asked turn after legal (marked last answer last_is below rules shows is) =
     let mark : Mark = mark_of session asked answer moment in
     record {
-      start = ap start_of_run is ∙ start-run_with_mark run mark;
+      start = ap start_of_run is ∙ start_run_with_mark run mark;
       own = mark ∷ [];
-      marks = ap joined is ∙ joined-run_with_mark run mark legal.turns_over;
+      marks = ap joined is ∙ joined_run_with_mark run mark legal.turns_over;
       by = (refl, tt);
       steps = (refl, tt);
       makes = λ goes called first since asked_is waited. makes_mark mark (record {
@@ -85,7 +85,7 @@ adds limits run session moment asked turn after legal (marked last answer last_i
         waited = subst (λ (a : MarkStep). IfSome (since_of a) (λ moment. (opens first ≡ true) × (called ≤ moment))) (sym asked_is)
             (since_with since first (λ moment. (opens first ≡ true) × (called ≤ moment)) waited);
         before = next_history last;
-        last = ap last_history is ∙ last-run_with_mark run last mark last_is;
+        last = ap last_history is ∙ last_run_with_mark run last mark last_is;
         shows = shows;
       });
     }
@@ -504,7 +504,7 @@ ends_given : (limits : Limits) (run : List History) (session : SessionId) (momen
     → TakesStep limits run session moment asked turn after → IsRightly limits after turn
 ends_given limits run session moment asked (Given grant) after legal (marked last answer last_is below rules shows is) =
     let mark : Mark = mark_of session asked answer moment in
-    let now = ap last_history is ∙ last-run_with_mark run last mark last_is in
+    let now = ap last_history is ∙ last_run_with_mark run last mark last_is in
     record {
       before = next_history last;
       mark = mark;

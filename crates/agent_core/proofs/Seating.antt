@@ -19,8 +19,8 @@ use Rattle.cache_policy.specs.Runs.{last_base, turn_over, next_history, last_his
 use Rattle.cache_policy.specs.Seat.{seat, is_open, under_of, unless_given_back}
 use Rattle.cache_policy.specs.Turns.{Turn, Given, Empty, Open, Stand, Done, Held, Refused, Stopping, Late, FitsReply, opens, closes, out_after}
 use Rattle.cache_policy.specs.declared.wait.Wait.{Wait}
-use Rattle.cache_policy.proofs.GrowingRuns.{last-run_with_mark, last_is_legal}
-use Rattle.cache_policy.proofs.OneMore.{seat-with_mark}
+use Rattle.cache_policy.proofs.GrowingRuns.{last_run_with_mark, last_is_legal}
+use Rattle.cache_policy.proofs.OneMore.{seat_with_mark}
 use Rattle.agent_core.specs.declared.holder.Holder.{Holder}
 use Rattle.agent_core.specs.Cores.{mark_of}
 use Rattle.agent_core.specs.Foreigners.{holder_after}
@@ -63,8 +63,8 @@ seat_marked : (run : List History) (last : History) (mark : Mark) → last_histo
     → run_seat (run_with_mark run mark) ≡ (if is_open mark.reply then Some (record { ticket = next_number (next_history last); under = under_of mark.step })
     else option_and_then (unless_given_back mark.step) (run_seat run))
 seat_marked run last mark last_is =
-    ap (option_and_then seat) (last-run_with_mark run last mark last_is)
-    ∙ (seat-with_mark (next_history last) mark
+    ap (option_and_then seat) (last_run_with_mark run last mark last_is)
+    ∙ (seat_with_mark (next_history last) mark
     ∙ ap (λ (h : Option Ticket). if is_open mark.reply then Some (record { ticket = next_number (next_history last); under = under_of mark.step })
     else option_and_then (unless_given_back mark.step) h) (seat_next last ∙ sym (ap (option_and_then seat) last_is)))
 

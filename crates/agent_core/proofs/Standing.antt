@@ -13,12 +13,12 @@ use Rattle.cache_policy.specs.Histories.{History, next_number, with_mark}
 use Rattle.cache_policy.specs.Seat.{under_of, is_open, is_stop, unless_given_back, seat, stopped}
 use Rattle.cache_policy.specs.Runs.{turn_over, next_history, moment_before}
 use Rattle.cache_policy.specs.Legal.{IsLegal}
-use Rattle.cache_policy.proofs.OneMore.{stopped-with_mark, seat-with_mark}
-use Rattle.cache_policy.proofs.Growing.{legal-turn_over, seat-turn_over, stopped-turn_over}
+use Rattle.cache_policy.proofs.OneMore.{stopped_with_mark, seat_with_mark}
+use Rattle.cache_policy.proofs.Growing.{legal_turn_over, seat_turn_over, stopped_turn_over}
 use Rattle.cache_book.specs.declared.slot.Slot.{Slot}
 use Rattle.cache_book.specs.Slots.{slots}
 use Rattle.cache_book.specs.Shelves.{swept}
-use Rattle.cache_book.proofs.Marking.{slots-later, or_false}
+use Rattle.cache_book.proofs.Marking.{slots_later, or_false}
 use Rattle.agent_core.specs.declared.state.State.{State}
 use Rattle.agent_core.specs.States.{seen, IsState}
 use Rattle.agent_core.specs.Taking.{HasMarked, held_at, next_base, next_count, next_slots, slots_at}
@@ -56,13 +56,13 @@ next_is core history legal stands =
     → IsOf core.limits (if b then core.base + MAX_MARKS else core.base) (if b then 0 else length history.marks)
     (if b then [] else core.slots) core.moment core.held core.stopped (if b then turn_over history else history)) [
       | true ↦ λ e. record {
-        legal = legal-turn_over core.limits history legal (full (length history.marks) e);
+        legal = legal_turn_over core.limits history legal (full (length history.marks) e);
         few = omega arith;
         base_is = ap (λ (n : ℕ). n + MAX_MARKS) stands.base;
         count_is = refl;
         slots_are = refl;
-        seat_is = stands.seat_is ∙ sym (seat-turn_over history);
-        stopped_is = stands.stopped_is ∙ sym (stopped-turn_over history);
+        seat_is = stands.seat_is ∙ sym (seat_turn_over history);
+        stopped_is = stands.stopped_is ∙ sym (stopped_turn_over history);
         since = omega arith;
       }
       | false ↦ λ e. record {
@@ -88,10 +88,10 @@ pub ready : (before : State) (history : History) (moment : ℕ) → IsLegal befo
 ready before history moment legal stands later within = record { next = next_is (seen before) history legal stands; later = later; within = within }
 
 -- the slots that are left at the moment of the step
-pub slots_at-ready : (before : State) (history : History) (moment : ℕ) → IsReady before history moment
+pub slots_at_ready : (before : State) (history : History) (moment : ℕ) → IsReady before history moment
     → slots_at before moment ≡ slots before.limits (next_history history) moment
-slots_at-ready before history moment is =
-    ap (swept moment) is.next.slots_are ∙ sym (slots-later before.limits (next_history history) before.moment moment is.later)
+slots_at_ready before history moment is =
+    ap (swept moment) is.next.slots_are ∙ sym (slots_later before.limits (next_history history) before.moment moment is.later)
 
 -- what a mark makes of the next history is what the state has
 pub record Agrees (before : State) (next : History) (mark : Mark) (list : List Slot) (held : Option Held) (stops : Bool) : Type 0 where
@@ -116,13 +116,13 @@ stands_then before after history mark list held stops is marked state agrees = r
 }
 
 -- a step that opens nothing and gives no ticket back leaves the seat
-pub seat-kept : (before : State) (history : History) (mark : Mark) → IsReady before history mark.moment → is_open mark.reply ≡ false
+pub seat_kept : (before : State) (history : History) (mark : Mark) → IsReady before history mark.moment → is_open mark.reply ≡ false
     → ((held : Held) → unless_given_back mark.step held ≡ Some held) → held_at before ≡ seat (with_mark (next_history history) mark)
-seat-kept before history mark is shut kept =
+seat_kept before history mark is shut kept =
     is.next.seat_is
     ∙ (sym (same (seat (next_history history)))
     ∙ (ap (λ (b : Bool). if b then Some opened else option_and_then (unless_given_back mark.step) (seat (next_history history))) (sym shut)
-    ∙ sym (seat-with_mark (next_history history) mark)))
+    ∙ sym (seat_with_mark (next_history history) mark)))
   where
     opened : Held
     opened = record { ticket = next_number (next_history history); under = under_of mark.step }
@@ -132,7 +132,7 @@ seat-kept before history mark is shut kept =
     same (Some held) = kept held
 
 -- and one that isn't a Stop whether it has stopped
-pub stopped-kept : (before : State) (history : History) (mark : Mark) → IsReady before history mark.moment → is_stop mark.step ≡ false
+pub stopped_kept : (before : State) (history : History) (mark : Mark) → IsReady before history mark.moment → is_stop mark.step ≡ false
     → before.stopped ≡ stopped (with_mark (next_history history) mark)
-stopped-kept before history mark is going =
-    is.next.stopped_is ∙ (sym (or_false (stopped (next_history history)) (is_stop mark.step) going) ∙ sym (stopped-with_mark (next_history history) mark))
+stopped_kept before history mark is going =
+    is.next.stopped_is ∙ (sym (or_false (stopped (next_history history)) (is_stop mark.step) going) ∙ sym (stopped_with_mark (next_history history) mark))

@@ -29,18 +29,18 @@ use Rattle.cache_policy.specs.Legal.{IsLegal}
 use Rattle.cache_policy.specs.Turns.{Turn, Given, Empty, Open, Stand, Done, Held as WhetherHeld, Stopping, Late, Refused, since_when}
 use Rattle.cache_policy.specs.Waits.{is_late}
 use Rattle.cache_policy.specs.declared.wait.Wait.{Wait}
-use Rattle.cache_policy.proofs.OneMore.{stopped-with_mark, seat-with_mark}
+use Rattle.cache_policy.proofs.OneMore.{stopped_with_mark, seat_with_mark}
 use Rattle.cache_book.specs.declared.slot.Slot.{Slot}
 use Rattle.cache_book.specs.Slots.{slots}
 use Rattle.cache_book.specs.Shelves.{touched, cleared, IsGrantFrom, ServesNone}
-use Rattle.cache_book.proofs.Marking.{slots-same, slots-flushed, slots-cleared}
-use Rattle.cache_book.proofs.Storing.{slots-given, slots-stored}
-use Rattle.cache_book.proofs.Live.{IsLiveGrant, grant_is_live, none_live, live_is_live, grant-swept, none-swept}
+use Rattle.cache_book.proofs.Marking.{slots_same, slots_flushed, slots_cleared}
+use Rattle.cache_book.proofs.Storing.{slots_given, slots_stored}
+use Rattle.cache_book.proofs.Live.{IsLiveGrant, grant_is_live, none_live, live_is_live, grant_swept, none_swept}
 use Rattle.agent_core.specs.declared.state.State.{State}
 use Rattle.agent_core.specs.States.{seen, held_of, IsState}
 use Rattle.agent_core.specs.Taking.{held_at, since_at, HasMarked, HasMarkedAlone, HasMoreRoom, Finds, Prompts, Puts, Closes, with_stored, next_slots, number_of, slots_at}
 use Rattle.agent_core.specs.Cores.{StandsFor, mark_of, WantsMemory, IsAsBefore, IsStep, marked, stood, refused}
-use Rattle.agent_core.proofs.Standing.{IsReady, slots_at-ready, stands_then, seat-kept, stopped-kept}
+use Rattle.agent_core.proofs.Standing.{IsReady, slots_at_ready, stands_then, seat_kept, stopped_kept}
 
 -- a step that is taken: the state before and after, whose it is, on which history, and at which moment
 pub record IsTaken (before after : State) (history : History) (moment : ℕ) : Type 0 where
@@ -49,17 +49,17 @@ pub record IsTaken (before after : State) (history : History) (moment : ℕ) : T
   pub going : is_spent (next_history history) ≡ false
 
 -- what is live for a request
-pub live-found : (before : State) (history : History) (moment : ℕ) (id : List ℕ) (mode : Mode) (grant : Grant) → IsReady before history moment
+pub live_found : (before : State) (history : History) (moment : ℕ) (id : List ℕ) (mode : Mode) (grant : Grant) → IsReady before history moment
     → IsGrantFrom (next_slots before) id mode moment grant → IsLiveGrant before.limits (next_history history) id mode moment grant
-live-found before history moment id mode grant is from =
+live_found before history moment id mode grant is from =
     grant_is_live before.limits (next_history history) id mode moment grant
-    (subst (λ (list : List Slot). IsGrantFrom list id mode moment grant) (slots_at-ready before history moment is) (grant-swept (next_slots before) id mode moment grant from))
+    (subst (λ (list : List Slot). IsGrantFrom list id mode moment grant) (slots_at_ready before history moment is) (grant_swept (next_slots before) id mode moment grant from))
 
-pub live-none : (before : State) (history : History) (moment : ℕ) (id : List ℕ) (mode : Mode) → IsReady before history moment
+pub live_none : (before : State) (history : History) (moment : ℕ) (id : List ℕ) (mode : Mode) → IsReady before history moment
     → ServesNone (next_slots before) id mode moment → live before.limits (next_history history) id mode moment ≡ None
-live-none before history moment id mode is none =
+live_none before history moment id mode is none =
     none_live before.limits (next_history history) id mode moment
-    (subst (λ (list : List Slot). ServesNone list id mode moment) (slots_at-ready before history moment is) (none-swept (next_slots before) id mode moment none))
+    (subst (λ (list : List Slot). ServesNone list id mode moment) (slots_at_ready before history moment is) (none_swept (next_slots before) id mode moment none))
 
 -- a mark that leaves all slots, seat and 'stopped'
 record IsAlone (limits : Limits) (next : History) (mark : Mark) : Type 0 where
@@ -74,10 +74,10 @@ alone : (before after : State) (history : History) (mark : Mark) → IsTaken bef
     → IsAlone before.limits (next_history history) mark → StandsFor (seen after) (with_mark (next_history history) mark)
 alone before after history mark is marks lone =
     stands_then before after history mark (slots_at before mark.moment) (held_at before) before.stopped is.ready marks is.state (record {
-      slots_are = slots_at-ready before history mark.moment is.ready
-          ∙ sym (slots-same before.limits (next_history history) mark mark.moment lone.none lone.keeps lone.unused);
-      seat_is = seat-kept before history mark is.ready lone.shut lone.held;
-      stopped_is = stopped-kept before history mark is.ready lone.no_stop;
+      slots_are = slots_at_ready before history mark.moment is.ready
+          ∙ sym (slots_same before.limits (next_history history) mark mark.moment lone.none lone.keeps lone.unused);
+      seat_is = seat_kept before history mark is.ready lone.shut lone.held;
+      stopped_is = stopped_kept before history mark is.ready lone.no_stop;
     })
 
 -- a step that wants a ticket for a passphrase that is kept under this, and was first tried then
@@ -119,10 +119,10 @@ held_late : (holder : Option ℕ) (under : Option Under) → IsSome holder → p
 held_late None under some = cc
 held_late (Some ticket) under some = refl
 
-pub prompts-step : (before after : State) (history : History) (session : SessionId) (moment : ℕ) (step_of : MarkStep) (since : Option ℕ) (under : Option Under) (turn : Turn)
+pub prompts_step : (before after : State) (history : History) (session : SessionId) (moment : ℕ) (step_of : MarkStep) (since : Option ℕ) (under : Option Under) (turn : Turn)
     → IsTaken before after history moment → IsWish before.limits (next_history history) step_of moment since under → Prompts before moment session since under turn after
     → IsStep (seen before) history session moment step_of turn (seen after)
-prompts-step before after history session moment step_of since under Stopping is wish does =
+prompts_step before after history session moment step_of since under Stopping is wish does =
     marked is.going (record {
       reply_is = reply.Stopping;
       rules = wish_rules before after history moment step_of since under is wish true before.seat (is_late since moment) does.0 refl refl;
@@ -130,7 +130,7 @@ prompts-step before after history session moment step_of since under Stopping is
       stands = alone before after history (mark_of session step_of reply.Stopping moment) is does.1
           (record { none = wish.none; keeps = wish.keeps; unused = λ n. refl; shut = refl; held = wish.held; no_stop = wish.no_stop });
     })
-prompts-step before after history session moment step_of since under Late is wish does =
+prompts_step before after history session moment step_of since under Late is wish does =
     marked is.going (record {
       reply_is = reply.Late;
       rules = wish_rules before after history moment step_of since under is wish false before.seat true does.0 refl does.2.0
@@ -139,45 +139,45 @@ prompts-step before after history session moment step_of since under Late is wis
       stands = alone before after history (mark_of session step_of reply.Late moment) is does.2.1
           (record { none = wish.none; keeps = wish.keeps; unused = λ n. refl; shut = refl; held = wish.held; no_stop = wish.no_stop });
     })
-prompts-step before after history session moment step_of since under (Stand wait) is wish does =
+prompts_step before after history session moment step_of since under (Stand wait) is wish does =
     stood is.going
     (wish_rules before after history moment step_of since under is wish false before.seat false does.0 refl does.2.0
     ∙ held_stands before.seat before.under does.1)
     (does.2.1 ∙ ap (λ (n : ℕ). let w : Wait = record { session = session; since = n } in w) (sym wish.since_is))
     (ap seen does.2.2)
-prompts-step before after history session moment step_of since under (Open number) is wish does =
+prompts_step before after history session moment step_of since under (Open number) is wish does =
     marked is.going (record {
       reply_is = reply.Open;
       rules = wish_rules before after history moment step_of since under is wish false None (is_late since moment) does.0 does.1 refl;
       shows = (refl, does.2 ∙ number_is before history moment is.ready);
       stands = stands_then before after history mark (slots_at before moment) (Some (record { ticket = number; under = under })) before.stopped is.ready does.3 is.state (record {
-        slots_are = slots_at-ready before history moment is.ready
-            ∙ sym (slots-same before.limits (next_history history) mark moment wish.none wish.keeps (λ n. refl));
+        slots_are = slots_at_ready before history moment is.ready
+            ∙ sym (slots_same before.limits (next_history history) mark moment wish.none wish.keeps (λ n. refl));
         seat_is = ap (λ (n : ℕ). Some (record { ticket = n; under = under })) (does.2 ∙ number_is before history moment is.ready)
             ∙ (ap (λ (u : Option Under). Some (record { ticket = next_number (next_history history); under = u })) (sym wish.under_is)
-            ∙ sym (seat-with_mark (next_history history) mark));
-        stopped_is = stopped-kept before history mark is.ready wish.no_stop;
+            ∙ sym (seat_with_mark (next_history history) mark));
+        stopped_is = stopped_kept before history mark is.ready wish.no_stop;
       });
     })
   where
     mark : Mark
     mark = mark_of session step_of reply.Open moment
-prompts-step before after history session moment step_of since under Refused is wish does =
+prompts_step before after history session moment step_of since under Refused is wish does =
     refused is.going
     (wish.wants does.2 (wish_rules before after history moment step_of since under is wish false None (is_late since moment) does.0 does.1 refl))
     (as_before before after does.3)
-prompts-step before after history session moment step_of since under (Given grant) is wish does = absurd does.2
-prompts-step before after history session moment step_of since under Empty is wish does = absurd does.2
-prompts-step before after history session moment step_of since under Done is wish does = absurd does.2
-prompts-step before after history session moment step_of since under (WhetherHeld held) is wish does = absurd does.2
+prompts_step before after history session moment step_of since under (Given grant) is wish does = absurd does.2
+prompts_step before after history session moment step_of since under Empty is wish does = absurd does.2
+prompts_step before after history session moment step_of since under Done is wish does = absurd does.2
+prompts_step before after history session moment step_of since under (WhetherHeld held) is wish does = absurd does.2
 
 -- an Ask that is given what is live
-pub given-step : (before after : State) (history : History) (session : SessionId) (moment : ℕ) (id : List ℕ) (mode : Mode) (way : Way) (since : Option ℕ) (grant : Grant)
+pub given_step : (before after : State) (history : History) (session : SessionId) (moment : ℕ) (id : List ℕ) (mode : Mode) (way : Way) (since : Option ℕ) (grant : Grant)
     → IsTaken before after history moment → IsGrantFrom (next_slots before) id mode moment grant
     → HasMarked before moment (touched grant.entry.number moment (slots_at before moment)) (held_at before) before.stopped after
     → IsStep (seen before) history session moment (asked.Ask id mode way since) (Given grant) (seen after)
-given-step before after history session moment id mode way since grant is from marks =
-    let found = live-found before history moment id mode grant is.ready from in
+given_step before after history session moment id mode way since grant is from marks =
+    let found = live_found before history moment id mode grant is.ready from in
     marked is.going (record {
       reply_is = reply.Given grant.entry.number;
       rules = ap (λ (o : Option Entry). ask_ruling o way (stopped (next_history history)) (seat (next_history history)) (is_late since moment)) found.live_is;
@@ -189,11 +189,11 @@ given-step before after history session moment id mode way since grant is from m
         found.moment_is,
       );
       stands = stands_then before after history mark (touched grant.entry.number moment (slots_at before moment)) (held_at before) before.stopped is.ready marks is.state (record {
-        slots_are = ap (touched grant.entry.number moment) (slots_at-ready before history moment is.ready)
-            ∙ sym (slots-given before.limits (next_history history) mark grant.entry.number refl (λ entry. refl) (λ other. refl)
+        slots_are = ap (touched grant.entry.number moment) (slots_at_ready before history moment is.ready)
+            ∙ sym (slots_given before.limits (next_history history) mark grant.entry.number refl (λ entry. refl) (λ other. refl)
             (λ entry known same. live_is_live before.limits (next_history history) id mode moment grant.entry entry found.live_is known same));
-        seat_is = seat-kept before history mark is.ready refl (λ held. refl);
-        stopped_is = stopped-kept before history mark is.ready refl;
+        seat_is = seat_kept before history mark is.ready refl (λ held. refl);
+        stopped_is = stopped_kept before history mark is.ready refl;
       });
     })
   where
@@ -226,48 +226,48 @@ kept_storable limits next moment (Some under) None = tt
 kept_storable limits next moment None keep = tt
 
 -- the slots with what a mark stores
-slots-with_stored : (limits : Limits) (next : History) (mark : Mark) (list : List Entry) → IsLegal limits next
+slots_with_stored : (limits : Limits) (next : History) (mark : Mark) (list : List Entry) → IsLegal limits next
     → stored limits next mark.step mark.moment ≡ list → IsStorable next mark.moment list
     → ((entry : Entry) → takes_away entry mark.step ≡ false) → ((number : ℕ) → gives number mark.reply ≡ false)
     → slots limits (with_mark next mark) mark.moment ≡ with_stored list (slots limits next mark.moment)
-slots-with_stored limits next mark [] legal stored_is storable keeps unused = slots-same limits next mark mark.moment stored_is keeps unused
-slots-with_stored limits next mark (entry ∷ []) legal stored_is storable keeps unused =
-    slots-stored limits next mark entry (record { legal = legal; stored_is = stored_is; number = storable.0; entered = storable.1; keeps = keeps; unused = unused })
-slots-with_stored limits next mark (entry ∷ other ∷ later) legal stored_is storable keeps unused = absurd storable
+slots_with_stored limits next mark [] legal stored_is storable keeps unused = slots_same limits next mark mark.moment stored_is keeps unused
+slots_with_stored limits next mark (entry ∷ []) legal stored_is storable keeps unused =
+    slots_stored limits next mark entry (record { legal = legal; stored_is = stored_is; number = storable.0; entered = storable.1; keeps = keeps; unused = unused })
+slots_with_stored limits next mark (entry ∷ other ∷ later) legal stored_is storable keeps unused = absurd storable
 
-pub put-step : (before after : State) (history : History) (session : SessionId) (moment : ℕ) (id : List ℕ) (mode : Mode) (life : Life) (secret : List ℕ) (turn : Turn)
+pub put_step : (before after : State) (history : History) (session : SessionId) (moment : ℕ) (id : List ℕ) (mode : Mode) (life : Life) (secret : List ℕ) (turn : Turn)
     → IsTaken before after history moment → Puts before moment id mode life secret turn after
     → IsStep (seen before) history session moment (asked.Put id mode life secret) turn (seen after)
-put-step before after history session moment id mode life secret Done is does =
+put_step before after history session moment id mode life secret Done is does =
     marked is.going (record {
       reply_is = reply.Done;
       rules = refl;
       shows = refl;
       stands = stands_then before after history mark _ (held_at before) before.stopped is.ready does is.state (record {
         slots_are = ap (λ (n : ℕ). with_stored (entry_of before.limits n moment id mode life secret) (slots_at before moment)) (number_is before history moment is.ready)
-            ∙ (ap (with_stored (entry_of before.limits (next_number (next_history history)) moment id mode life secret)) (slots_at-ready before history moment is.ready)
-            ∙ sym (slots-with_stored before.limits (next_history history) mark (entry_of before.limits (next_number (next_history history)) moment id mode life secret)
+            ∙ (ap (with_stored (entry_of before.limits (next_number (next_history history)) moment id mode life secret)) (slots_at_ready before history moment is.ready)
+            ∙ sym (slots_with_stored before.limits (next_history history) mark (entry_of before.limits (next_number (next_history history)) moment id mode life secret)
             is.ready.next.legal refl (entry_storable before.limits (next_history history) moment id mode life secret) (λ entry. refl) (λ n. refl)));
-        seat_is = seat-kept before history mark is.ready refl (λ held. refl);
-        stopped_is = stopped-kept before history mark is.ready refl;
+        seat_is = seat_kept before history mark is.ready refl (λ held. refl);
+        stopped_is = stopped_kept before history mark is.ready refl;
       });
     })
   where
     mark : Mark
     mark = mark_of session (asked.Put id mode life secret) reply.Done moment
-put-step before after history session moment id mode life secret Refused is does = refused is.going tt (as_before before after does)
-put-step before after history session moment id mode life secret (Given grant) is does = absurd does
-put-step before after history session moment id mode life secret Empty is does = absurd does
-put-step before after history session moment id mode life secret (Open number) is does = absurd does
-put-step before after history session moment id mode life secret (Stand wait) is does = absurd does
-put-step before after history session moment id mode life secret Late is does = absurd does
-put-step before after history session moment id mode life secret (WhetherHeld held) is does = absurd does
-put-step before after history session moment id mode life secret Stopping is does = absurd does
+put_step before after history session moment id mode life secret Refused is does = refused is.going tt (as_before before after does)
+put_step before after history session moment id mode life secret (Given grant) is does = absurd does
+put_step before after history session moment id mode life secret Empty is does = absurd does
+put_step before after history session moment id mode life secret (Open number) is does = absurd does
+put_step before after history session moment id mode life secret (Stand wait) is does = absurd does
+put_step before after history session moment id mode life secret Late is does = absurd does
+put_step before after history session moment id mode life secret (WhetherHeld held) is does = absurd does
+put_step before after history session moment id mode life secret Stopping is does = absurd does
 
-pub close-step : (before after : State) (history : History) (session : SessionId) (moment ticket : ℕ) (keep : Option (List ℕ))
+pub close_step : (before after : State) (history : History) (session : SessionId) (moment ticket : ℕ) (keep : Option (List ℕ))
     → IsTaken before after history moment → Closes before moment ticket keep after
     → IsStep (seen before) history session moment (asked.Close ticket keep) Done (seen after)
-close-step before after history session moment ticket keep is does =
+close_step before after history session moment ticket keep is does =
     marked is.going (record {
       reply_is = reply.Done;
       rules = refl;
@@ -275,11 +275,11 @@ close-step before after history session moment ticket keep is does =
       stands = stands_then before after history mark _ _ before.stopped is.ready does is.state (record {
         slots_are = ap (λ (n : ℕ). with_stored (kept before.limits n moment (kept_under (held_at before) ticket) keep) (slots_at before moment)) (number_is before history moment is.ready)
             ∙ (ap (λ (h : Option Held). with_stored (kept before.limits (next_number next) moment (kept_under h ticket) keep) (slots_at before moment)) is.ready.next.seat_is
-            ∙ (ap (with_stored (kept before.limits (next_number next) moment (kept_under (seat next) ticket) keep)) (slots_at-ready before history moment is.ready)
-            ∙ sym (slots-with_stored before.limits next mark (kept before.limits (next_number next) moment (kept_under (seat next) ticket) keep)
+            ∙ (ap (with_stored (kept before.limits (next_number next) moment (kept_under (seat next) ticket) keep)) (slots_at_ready before history moment is.ready)
+            ∙ sym (slots_with_stored before.limits next mark (kept before.limits (next_number next) moment (kept_under (seat next) ticket) keep)
             is.ready.next.legal refl (kept_storable before.limits next moment (kept_under (seat next) ticket) keep) (λ entry. refl) (λ n. refl))));
-        seat_is = ap (option_and_then (unless_given_back (asked.Close ticket keep))) is.ready.next.seat_is ∙ sym (seat-with_mark next mark);
-        stopped_is = stopped-kept before history mark is.ready refl;
+        seat_is = ap (option_and_then (unless_given_back (asked.Close ticket keep))) is.ready.next.seat_is ∙ sym (seat_with_mark next mark);
+        stopped_is = stopped_kept before history mark is.ready refl;
       });
     })
   where
@@ -289,37 +289,37 @@ close-step before after history session moment ticket keep is does =
     mark : Mark
     mark = mark_of session (asked.Close ticket keep) reply.Done moment
 
-pub clear-step : (before after : State) (history : History) (session : SessionId) (moment : ℕ) (id : List ℕ) (mode : Mode)
+pub clear_step : (before after : State) (history : History) (session : SessionId) (moment : ℕ) (id : List ℕ) (mode : Mode)
     → IsTaken before after history moment → HasMarked before moment (cleared id mode (slots_at before moment)) (held_at before) before.stopped after
     → IsStep (seen before) history session moment (asked.Clear id mode) Done (seen after)
-clear-step before after history session moment id mode is does =
+clear_step before after history session moment id mode is does =
     marked is.going (record {
       reply_is = reply.Done;
       rules = refl;
       shows = refl;
       stands = stands_then before after history mark _ (held_at before) before.stopped is.ready does is.state (record {
-        slots_are = ap (cleared id mode) (slots_at-ready before history moment is.ready)
-            ∙ sym (slots-cleared before.limits (next_history history) mark moment id mode refl (λ entry. refl) (λ n. refl));
-        seat_is = seat-kept before history mark is.ready refl (λ held. refl);
-        stopped_is = stopped-kept before history mark is.ready refl;
+        slots_are = ap (cleared id mode) (slots_at_ready before history moment is.ready)
+            ∙ sym (slots_cleared before.limits (next_history history) mark moment id mode refl (λ entry. refl) (λ n. refl));
+        seat_is = seat_kept before history mark is.ready refl (λ held. refl);
+        stopped_is = stopped_kept before history mark is.ready refl;
       });
     })
   where
     mark : Mark
     mark = mark_of session (asked.Clear id mode) reply.Done moment
 
-pub flush-step : (before after : State) (history : History) (session : SessionId) (moment : ℕ)
+pub flush_step : (before after : State) (history : History) (session : SessionId) (moment : ℕ)
     → IsTaken before after history moment → HasMarked before moment [] (held_at before) before.stopped after
     → IsStep (seen before) history session moment asked.Flush Done (seen after)
-flush-step before after history session moment is does =
+flush_step before after history session moment is does =
     marked is.going (record {
       reply_is = reply.Done;
       rules = refl;
       shows = refl;
       stands = stands_then before after history mark [] (held_at before) before.stopped is.ready does is.state (record {
-        slots_are = sym (slots-flushed before.limits (next_history history) mark moment refl (λ entry. refl));
-        seat_is = seat-kept before history mark is.ready refl (λ held. refl);
-        stopped_is = stopped-kept before history mark is.ready refl;
+        slots_are = sym (slots_flushed before.limits (next_history history) mark moment refl (λ entry. refl));
+        seat_is = seat_kept before history mark is.ready refl (λ held. refl);
+        stopped_is = stopped_kept before history mark is.ready refl;
       });
     })
   where
@@ -330,19 +330,19 @@ or_true : (b : Bool) → true ≡ (b || true)
 or_true true = refl
 or_true false = refl
 
-pub stop-step : (before after : State) (history : History) (session : SessionId) (moment : ℕ)
+pub stop_step : (before after : State) (history : History) (session : SessionId) (moment : ℕ)
     → IsTaken before after history moment → HasMarked before moment (slots_at before moment) (held_at before) true after
     → IsStep (seen before) history session moment asked.Stop Done (seen after)
-stop-step before after history session moment is does =
+stop_step before after history session moment is does =
     marked is.going (record {
       reply_is = reply.Done;
       rules = refl;
       shows = refl;
       stands = stands_then before after history mark (slots_at before moment) (held_at before) true is.ready does is.state (record {
-        slots_are = slots_at-ready before history moment is.ready
-            ∙ sym (slots-same before.limits (next_history history) mark moment refl (λ entry. refl) (λ n. refl));
-        seat_is = seat-kept before history mark is.ready refl (λ held. refl);
-        stopped_is = or_true (stopped (next_history history)) ∙ sym (stopped-with_mark (next_history history) mark);
+        slots_are = slots_at_ready before history moment is.ready
+            ∙ sym (slots_same before.limits (next_history history) mark moment refl (λ entry. refl) (λ n. refl));
+        seat_is = seat_kept before history mark is.ready refl (λ held. refl);
+        stopped_is = or_true (stopped (next_history history)) ∙ sym (stopped_with_mark (next_history history) mark);
       });
     })
   where
@@ -350,10 +350,10 @@ stop-step before after history session moment is does =
     mark = mark_of session asked.Stop reply.Done moment
 
 -- whether something is live is what was found
-pub peek-step : (before after : State) (history : History) (session : SessionId) (moment : ℕ) (id : List ℕ) (mode : Mode) (there : Bool) (found : Option Grant)
+pub peek_step : (before after : State) (history : History) (session : SessionId) (moment : ℕ) (id : List ℕ) (mode : Mode) (there : Bool) (found : Option Grant)
     → IsTaken before after history moment → Finds (next_slots before) id mode moment found → there ≡ is_some found → HasMarkedAlone before moment after
     → IsStep (seen before) history session moment (asked.Peek id mode) (WhetherHeld there) (seen after)
-peek-step before after history session moment id mode there found is finds there_is does =
+peek_step before after history session moment id mode there found is finds there_is does =
     marked is.going (record {
       reply_is = reply.Held there;
       rules = ap (λ (b : Bool). Reply (reply.Held b)) (looked found finds ∙ sym there_is);
@@ -363,8 +363,8 @@ peek-step before after history session moment id mode there found is finds there
     })
   where
     looked : (o : Option Grant) → Finds (next_slots before) id mode moment o → is_some (live before.limits (next_history history) id mode moment) ≡ is_some o
-    looked None none = ap is_some (live-none before history moment id mode is.ready none)
-    looked (Some grant) from = ap is_some (live-found before history moment id mode grant is.ready from).live_is
+    looked None none = ap is_some (live_none before history moment id mode is.ready none)
+    looked (Some grant) from = ap is_some (live_found before history moment id mode grant is.ready from).live_is
 
 -- since when a step stands, by the moment of its first try
 since_asked : (id : List ℕ) (mode : Mode) (way : Way) (since : Option ℕ) (moment : ℕ) → since_when (asked.Ask id mode way since) moment ≡ since_at since moment
@@ -380,7 +380,7 @@ pub wish_of_ask : (before after : State) (history : History) (moment : ℕ) (id 
     → IsWish before.limits (next_history history) (asked.Ask id mode Prompt since) moment since (Some (record { id = id; mode = mode }))
 wish_of_ask before after history moment id mode since is none = record {
   rules = ap (λ (o : Option Entry). ask_ruling o Prompt (stopped (next_history history)) (seat (next_history history)) (is_late since moment))
-      (live-none before history moment id mode is.ready none);
+      (live_none before history moment id mode is.ready none);
   since_is = since_asked id mode Prompt since moment;
   under_is = refl;
   none = refl;
@@ -403,14 +403,14 @@ wish_of_seat before after history moment since under is = record {
   wants = λ some opens. (some, opens);
 }
 
-pub empty-step : (before after : State) (history : History) (session : SessionId) (moment : ℕ) (id : List ℕ) (mode : Mode) (since : Option ℕ)
+pub empty_step : (before after : State) (history : History) (session : SessionId) (moment : ℕ) (id : List ℕ) (mode : Mode) (since : Option ℕ)
     → IsTaken before after history moment → ServesNone (next_slots before) id mode moment → HasMarkedAlone before moment after
     → IsStep (seen before) history session moment (asked.Ask id mode Quiet since) Empty (seen after)
-empty-step before after history session moment id mode since is none does =
+empty_step before after history session moment id mode since is none does =
     marked is.going (record {
       reply_is = reply.Empty;
       rules = ap (λ (o : Option Entry). ask_ruling o Quiet (stopped (next_history history)) (seat (next_history history)) (is_late since moment))
-          (live-none before history moment id mode is.ready none);
+          (live_none before history moment id mode is.ready none);
       shows = refl;
       stands = alone before after history (mark_of session (asked.Ask id mode Quiet since) reply.Empty moment) is does
           (record { none = refl; keeps = λ entry. refl; unused = λ n. refl; shut = refl; held = λ held. refl; no_stop = refl });

@@ -14,7 +14,7 @@ use Rattle.agent_core.specs.States.{seen, IsState}
 use Rattle.agent_core.specs.Taking.{Takes}
 use Rattle.agent_core.specs.Cores.{AtCore, StandsFor, IsStep, spent}
 use Rattle.agent_core.proofs.Standing.{next_is, ready}
-use Rattle.agent_core.proofs.Dispatch.{takes-step}
+use Rattle.agent_core.proofs.Dispatch.{takes_step}
 
 -- the numbers are used up exactly where the next history has the last base
 at_end : (base count : ℕ) → base < last_base → base % MAX_MARKS ≡ 0 → count ≤ MAX_MARKS → base + count ≡ last_base
@@ -67,7 +67,7 @@ step_counts : (before after : State) (history : History) (session : SessionId) (
     → IsStep (seen before) history session (moment_of before.moment reading) step_of turn (seen after)
 step_counts before after history session reading moment step_of turn is more taken legal stands =
     subst (λ (t : ℕ). IsStep (seen before) history session t step_of turn (seen after)) taken.moment_is
-    (takes-step before after history session moment (record {
+    (takes_step before after history session moment (record {
       ready = ready before history moment legal stands taken.later taken.within;
       state = taken.state;
       going = not_last (next_history history).base (subst (λ (n : ℕ). n < last_base) (next_is (seen before) history legal stands).base_is

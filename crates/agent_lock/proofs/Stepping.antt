@@ -26,10 +26,10 @@ use Rattle.cache_policy.specs.Seat.{seat, stopped as has_stopped}
 use Rattle.cache_policy.specs.Tallies.{with_history, with_one, one_if, IsSound}
 use Rattle.cache_policy.specs.Traces.{trace_mark, trace_step, reply_of}
 use Rattle.cache_policy.specs.Turns.{Turn, Given, Empty, Open, Stand, Done, Held as WhetherHeld, Stopping, Late, Refused}
-use Rattle.cache_policy.proofs.BareLemmas.{seat-bare, stopped-bare, policy-bare, legal-bare}
-use Rattle.cache_policy.proofs.Growing.{legal-with_mark, legal-turn_over, seat-turn_over}
-use Rattle.cache_policy.proofs.GrowingRuns.{spent-all}
-use Rattle.cache_policy.proofs.Tallying.{tally-with_mark, tally-turn_over}
+use Rattle.cache_policy.proofs.BareLemmas.{seat_bare, stopped_bare, policy_bare, legal_bare}
+use Rattle.cache_policy.proofs.Growing.{legal_with_mark, legal_turn_over, seat_turn_over}
+use Rattle.cache_policy.proofs.GrowingRuns.{spent_all}
+use Rattle.cache_policy.proofs.Tallying.{tally_with_mark, tally_turn_over}
 use Rattle.agent_core.specs.Cores.{AtCore, HasRoom, StandsFor, IsStep, IsMarked, IsAsBefore, mark_of}
 use Rattle.agent_core.specs.Cores as step
 use Rattle.agent_lock.specs.declared.state.Start.{Start}
@@ -41,21 +41,21 @@ use Rattle.agent_lock.specs.Journals.{IsJournaled, marked, stood, refused, spent
 use Rattle.agent_lock.specs.Keeping.{journal_of, next_start, started, carried_to, seen, IsKept}
 
 -- without the bytes of secrets, a history goes on alike
-bare-with_mark : (history : History) (mark : Mark) → bare (with_mark history mark) ≡ with_mark (bare history) (bare_mark mark)
-bare-with_mark history mark = let marks = map-append bare_mark history.marks (mark ∷ []) in λ i. record (bare history) { marks = marks i }
+bare_with_mark : (history : History) (mark : Mark) → bare (with_mark history mark) ≡ with_mark (bare history) (bare_mark mark)
+bare_with_mark history mark = let marks = map-append bare_mark history.marks (mark ∷ []) in λ i. record (bare history) { marks = marks i }
 
-bare-next : (history : History) → bare (next_history history) ≡ next_history (bare history)
-bare-next history =
+bare_next : (history : History) → bare (next_history history) ≡ next_history (bare history)
+bare_next history =
     either (length history.marks == MAX_MARKS) ∙ ap (λ (n : ℕ). cond (n == MAX_MARKS) (turn_over (bare history)) (bare history)) (sym (length-map history.marks bare_mark))
   where
     either : (b : Bool) → bare (cond b (turn_over history) history) ≡ cond b (turn_over (bare history)) (bare history)
-    either true = let held = sym (seat-bare history) in let stops = sym (stopped-bare history) in λ i. record { base = history.base + MAX_MARKS; held = held i; stopped = stops i; marks = [] }
+    either true = let held = sym (seat_bare history) in let stops = sym (stopped_bare history) in λ i. record { base = history.base + MAX_MARKS; held = held i; stopped = stops i; marks = [] }
     either false = refl
 
-seat-next : (history : History) → seat (next_history history) ≡ seat history
-seat-next history = either (length history.marks == MAX_MARKS) where
+seat_next : (history : History) → seat (next_history history) ≡ seat history
+seat_next history = either (length history.marks == MAX_MARKS) where
   either : (b : Bool) → seat (cond b (turn_over history) history) ≡ seat history
-  either true = seat-turn_over history
+  either true = seat_turn_over history
   either false = refl
 
 -- the next history is legal, has room for a mark, and no later moment
@@ -84,7 +84,7 @@ ready core history reading legal stands below more = either (length history.mark
       let full = eqb-true (length history.marks) MAX_MARKS is in
       let fits = whole_below history.base legal.base (omega (arith, below, stands.base)) in
       let left : history.base + MAX_MARKS ≡ last_base → ⊥ = λ e. more (omega (arith, e, full, stands.base, stands.count)) in
-      record { legal = legal-turn_over core.limits history legal full; few = omega arith; later = omega arith; going = less _ _ fits left }
+      record { legal = legal_turn_over core.limits history legal full; few = omega arith; later = omega arith; going = less _ _ fits left }
   either false is = record {
     legal = legal;
     few = less _ _ legal.few (eqb-false (length history.marks) MAX_MARKS is);
@@ -117,7 +117,7 @@ made_of answer legal stands more (step.marked going made) is = record { going = 
 made_of answer legal stands more (step.stood going rules wait same) is = absurd (cc is)
 made_of answer legal stands more (step.refused going wants same) is = absurd (cc is)
 made_of {core} {history} answer legal stands more (step.spent all same) is =
-    absurd (more (omega (arith, spent-all core.limits history legal all, stands.base, stands.count)))
+    absurd (more (omega (arith, spent_all core.limits history legal all, stands.base, stands.count)))
 
 -- what the core shows of the journal
 module _ (state : State) (kept : IsKept state) where
@@ -131,13 +131,13 @@ module _ (state : State) (kept : IsKept state) where
   base_is = kept.stands.stands.base ∙ ap (λ (h : History). h.base) kept.stands.bare_is
 
   held_is : state.core.held ≡ seat journal
-  held_is = kept.stands.stands.seat_is ∙ sym (seat-bare history) ∙ ap seat kept.stands.bare_is
+  held_is = kept.stands.stands.seat_is ∙ sym (seat_bare history) ∙ ap seat kept.stands.bare_is
 
   pub stopped_is : state.core.stopped ≡ has_stopped journal
-  stopped_is = kept.stands.stands.stopped_is ∙ sym (stopped-bare history) ∙ ap has_stopped kept.stands.bare_is
+  stopped_is = kept.stands.stands.stopped_is ∙ sym (stopped_bare history) ∙ ap has_stopped kept.stands.bare_is
 
   next_is : bare (next_history history) ≡ next_history journal
-  next_is = bare-next history ∙ ap next_history kept.stands.bare_is
+  next_is = bare_next history ∙ ap next_history kept.stands.bare_is
 
   len_is : length state.traces.items ≡ length journal.marks
   len_is = sym (length-map state.traces.items trace_mark)
@@ -164,7 +164,7 @@ module _ (state : State) (kept : IsKept state) where
   tally_is : with_history state.core.limits (carried_on (seen state)) (next_history journal) ≡ state.total
   tally_is = either (length journal.marks == MAX_MARKS) ∙ sym kept.total where
     either : (b : Bool) → with_history state.core.limits (cond b (tally_at (seen state)) state.carried) (cond b (turn_over journal) journal) ≡ tally_at (seen state)
-    either true = tally-turn_over state.core.limits (tally_at (seen state)) journal refl
+    either true = tally_turn_over state.core.limits (tally_at (seen state)) journal refl
     either false = refl
 
   numbers_next : (carried_on (seen state)).marks ≡ (next_history journal).base
@@ -229,7 +229,7 @@ module _ (state : State) (kept : IsKept state) (below : state.core.base < last_b
   rules = made.made.rules ∙ ap (λ (r : MarkReply). Reply r) answer_is
 
   legal_after : IsLegal state.core.limits (with_mark (next_history kept.stands.history) own)
-  legal_after = legal-with_mark state.core.limits (next_history kept.stands.history) own ready_is.legal rules ready_is.later (let w = kept.stands.stands.moment in omega (arith, w)) ready_is.going ready_is.few
+  legal_after = legal_with_mark state.core.limits (next_history kept.stands.history) own ready_is.legal rules ready_is.later (let w = kept.stands.stands.moment in omega (arith, w)) ready_is.going ready_is.few
 
   moment_core : core.moment ≡ moment
   moment_core =
@@ -244,18 +244,18 @@ module _ (state : State) (kept : IsKept state) (below : state.core.base < last_b
   journal_after = added.journal_is ∙ ap (λ (h : History). with_mark h (trace_mark trace)) (started_is state kept) ∙ ap (with_mark (next_history (journal state kept))) trace_is
 
   bare_after : bare (with_mark (next_history kept.stands.history) own) ≡ journal_of after.start after.traces.items
-  bare_after = bare-with_mark (next_history kept.stands.history) own ∙ ap (λ (h : History). with_mark h (bare_mark own)) (next_is state kept) ∙ sym journal_after
+  bare_after = bare_with_mark (next_history kept.stands.history) own ∙ ap (λ (h : History). with_mark h (bare_mark own)) (next_is state kept) ∙ sym journal_after
 
   core_limits : after.core.limits ≡ state.core.limits
   core_limits = ap (λ (k : AtCore). k.limits) added.core_is ∙ limits_are
 
   one_stored : length (stored state.core.limits (next_history (journal state kept)) (trace_mark trace).step (trace_mark trace).moment) ≡ one_if stores
-  one_stored = traced.stores_are (next_history (journal state kept)) trace.moment (seat-next (journal state kept) ∙ sym (held_is state kept))
+  one_stored = traced.stores_are (next_history (journal state kept)) trace.moment (seat_next (journal state kept) ∙ sym (held_is state kept))
 
   total_after : after.total ≡ tally_at (seen after)
   total_after =
       let now = ap (λ (h : History). with_history state.core.limits (carried_on (seen state)) h) (journal_after ∙ ap (with_mark (next_history (journal state kept))) (sym trace_is)) in
-      let more = tally-with_mark state.core.limits (carried_on (seen state)) (next_history (journal state kept)) (trace_mark trace) in
+      let more = tally_with_mark state.core.limits (carried_on (seen state)) (next_history (journal state kept)) (trace_mark trace) in
       let stores_one = ap (with_one (with_history state.core.limits (carried_on (seen state)) (next_history (journal state kept))) (trace_mark trace)) one_stored in
       let before = ap (λ (t : Tally). with_one t (trace_mark trace) (one_if stores)) (tally_is state kept) in
       let carried = ap (λ (t : Tally). with_history state.core.limits t (journal_of after.start after.traces.items)) (added.carried_is ∙ carried_is state kept) in
@@ -278,7 +278,7 @@ module _ (state : State) (kept : IsKept state) (below : state.core.base < last_b
     };
     journaled =
         marked answer (ap is_spent (sym (next_is state kept)) ∙ made.going)
-        (ap (λ (h : History). policy state.core.limits h (bare_step asked) moment) (sym (next_is state kept)) ∙ policy-bare state.core.limits (next_history kept.stands.history) asked moment ∙ rules)
+        (ap (λ (h : History). policy state.core.limits h (bare_step asked) moment) (sym (next_is state kept)) ∙ policy_bare state.core.limits (next_history kept.stands.history) asked moment ∙ rules)
         is journal_after (added.carried_is ∙ carried_is state kept);
   }
 
@@ -349,7 +349,7 @@ module _ (state : State) (kept : IsKept state) where
   rules_bare : (asked : MarkStep) (moment : ℕ) (ruling_is : ruling.Ruling) → policy state.core.limits (next_history kept.stands.history) asked moment ≡ ruling_is
       → policy state.core.limits (next_history (journal state kept)) (bare_step asked) moment ≡ ruling_is
   rules_bare asked moment ruling_is rules =
-      ap (λ (h : History). policy state.core.limits h (bare_step asked) moment) (sym (next_is state kept)) ∙ policy-bare state.core.limits (next_history kept.stands.history) asked moment ∙ rules
+      ap (λ (h : History). policy state.core.limits h (bare_step asked) moment) (sym (next_is state kept)) ∙ policy_bare state.core.limits (next_history kept.stands.history) asked moment ∙ rules
 
   pub unmade : {session : SessionId} {moment : ℕ} {asked : MarkStep} {turn : Turn} {core : AtCore} → state.core.base + state.core.count ≢ last_base
       → IsStep state.core kept.stands.history session moment asked turn core → reply_of turn ≡ None → IsStepped state session moment asked turn (with_core state core)
@@ -364,7 +364,7 @@ module _ (state : State) (kept : IsKept state) where
     journaled = refused (next_spent going) same refl;
   }
   unmade more (step.spent all same) none =
-      absurd (more (let every = spent-all state.core.limits kept.stands.history kept.stands.legal all in omega (arith, every, kept.stands.stands.base, kept.stands.stands.count)))
+      absurd (more (let every = spent_all state.core.limits kept.stands.history kept.stands.legal all in omega (arith, every, kept.stands.stands.base, kept.stands.stands.count)))
 
   pub given_up : {session : SessionId} {moment : ℕ} {asked : MarkStep} {turn : Turn} {core : AtCore} → state.core.base < last_base → state.core.base + state.core.count ≡ last_base
       → IsStep state.core kept.stands.history session moment asked turn core → IsStepped state session moment asked turn (with_core state core)
@@ -382,7 +382,7 @@ module _ (state : State) (kept : IsKept state) (below : state.core.base < last_b
   spent_is false is = sym (next_spent state kept (either (is_spent (next_history kept.stands.history)) refl)) where
     either : (b : Bool) → is_spent (next_history kept.stands.history) ≡ b → is_spent (next_history kept.stands.history) ≡ false
     either true all =
-        let every = spent-all state.core.limits kept.stands.history kept.stands.legal all in
+        let every = spent_all state.core.limits kept.stands.history kept.stands.legal all in
         absurd (cc (is.1 (omega (arith, every, kept.stands.stands.base, kept.stands.stands.count))))
     either false e = e
 
@@ -401,7 +401,7 @@ module _ (state : State) (kept : IsKept state) (below : state.core.base < last_b
 
 pub is_locked : (state : State) → IsKept state → IsLocked (seen state)
 is_locked state kept = record {
-  legal = subst (λ (h : History). IsLegal state.core.limits h) kept.stands.bare_is (legal-bare state.core.limits kept.stands.history kept.stands.legal);
+  legal = subst (λ (h : History). IsLegal state.core.limits h) kept.stands.bare_is (legal_bare state.core.limits kept.stands.history kept.stands.legal);
   stands = kept.stands;
 }
 

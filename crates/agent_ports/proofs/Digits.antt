@@ -7,7 +7,7 @@ use Rattle.hex.specs.Hex.{encode_with, encode_lower, encode_upper, lower_digits,
 upper_digit : (n : ℕ) → to_ascii_uppercase (slice_index lower_digits n) ≡ slice_index upper_digits n
 upper_digit n = sym (get_or-map to_ascii_uppercase lower_digits n 0) ∙ refl
 
-pub map-encode_lower : (bytes : List ℕ) → map to_ascii_uppercase (encode_lower bytes) ≡ encode_upper bytes
+pub map_encode_lower : (bytes : List ℕ) → map to_ascii_uppercase (encode_lower bytes) ≡ encode_upper bytes
 unfolding encode_with
-map-encode_lower [] = refl
-map-encode_lower (b ∷ bytes) = ap₂ (λ (d : ℕ) (ds : List ℕ). d ∷ ds) (upper_digit (b / 16)) (ap₂ (λ (d : ℕ) (ds : List ℕ). d ∷ ds) (upper_digit (b % 16)) (map-encode_lower bytes))
+map_encode_lower [] = refl
+map_encode_lower (b ∷ bytes) = ap₂ (λ (d : ℕ) (ds : List ℕ). d ∷ ds) (upper_digit (b / 16)) (ap₂ (λ (d : ℕ) (ds : List ℕ). d ∷ ds) (upper_digit (b % 16)) (map_encode_lower bytes))

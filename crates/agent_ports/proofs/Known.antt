@@ -25,9 +25,9 @@ known_then (Some rest) (Some left) None P Q R first second each = second
 known_then (Some rest) (Some left) (Some more) P Q R first second each = each rest left more first second
 
 -- what was written piece by piece was written
-pub with_bytes-append : (written : Option (List ℕ)) (first second : List ℕ) → with_bytes (with_bytes written first) second ≡ with_bytes written (first ++ second)
-with_bytes-append None first second = refl
-with_bytes-append (Some before) first second = ap (λ (x : List ℕ). Some x) (append_assoc before first second)
+pub with_bytes_append : (written : Option (List ℕ)) (first second : List ℕ) → with_bytes (with_bytes written first) second ≡ with_bytes written (first ++ second)
+with_bytes_append None first second = refl
+with_bytes_append (Some before) first second = ap (λ (x : List ℕ). Some x) (append_assoc before first second)
 
 -- two facts of the same bytes
 pub known_both : (before after : Option (List ℕ)) (P Q : List ℕ → List ℕ → Type 0) → WhereKnown before after P → WhereKnown before after Q → WhereKnown before after (λ rest left. P rest left × Q rest left)

@@ -3,7 +3,7 @@ use Rattle.std.proofs.Common.{◌≡◌, ◌≤◌, ℕ, List, [], ◌++◌, Opt
 use Rattle.agent_ports.specs.Sides.{Side, with_bytes}
 use Rattle.agent_ports.specs.Writing.{StopsWriting, WentOrStopped, Writes}
 use Rattle.agent_ports.specs.declared.link.WriteFault.{WriteFault}
-use Rattle.agent_ports.proofs.Known.{with_bytes-append}
+use Rattle.agent_ports.proofs.Known.{with_bytes_append}
 
 with_none : (written : Option (List ℕ)) → written ≡ with_bytes written []
 with_none None = refl
@@ -26,14 +26,14 @@ stops_within first text more {before = before} is faults stopped = record {
   split = ap (λ (x : List ℕ). first ++ (x ++ more)) stopped.split
       ∙ ap (λ (x : List ℕ). first ++ x) (append_assoc stopped.sent stopped.unsent more)
       ∙ sym (append_assoc first stopped.sent (stopped.unsent ++ more));
-  written = stopped.written ∙ ap (λ (o : Option (List ℕ)). with_bytes o stopped.sent) is ∙ with_bytes-append before.bytes first stopped.sent;
+  written = stopped.written ∙ ap (λ (o : Option (List ℕ)). with_bytes o stopped.sent) is ∙ with_bytes_append before.bytes first stopped.sent;
   rose = omega (arith, stopped.rose, faults);
 }
 
 went_then : (first second : List ℕ) (before mid after : Side) (result : Result (Unit {0}) WriteFault) → mid.bytes ≡ with_bytes before.bytes first → before.faults ≤ mid.faults
     → WentOrStopped second mid result after → WentOrStopped (first ++ second) before result after
 went_then first second before mid after (Ok whole) is faults went =
-    went ∙ ap (λ (o : Option (List ℕ)). with_bytes o second) is ∙ with_bytes-append before.bytes first second
+    went ∙ ap (λ (o : Option (List ℕ)). with_bytes o second) is ∙ with_bytes_append before.bytes first second
 went_then first second before mid after (Err fault) is faults stopped =
     subst (λ (x : List ℕ). StopsWriting (first ++ x) before after) (append-nil second) (stops_within first second [] is faults stopped)
 

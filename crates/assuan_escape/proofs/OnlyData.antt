@@ -13,15 +13,15 @@ joined_of : List (List ℕ) → List ℕ
 joined_of pieces = flat_map (λ piece. piece) pieces
 
 -- one byte more has its own escape more
-pub length-escapes_push : (piece : List ℕ) (byte : ℕ) → length (escapes (piece ++ byte ∷ [])) ≡ length (escapes piece) + length (escape_of byte)
-length-escapes_push piece byte =
+pub length_escapes_push : (piece : List ℕ) (byte : ℕ) → length (escapes (piece ++ byte ∷ [])) ≡ length (escapes piece) + length (escape_of byte)
+length_escapes_push piece byte =
     ap length (flat_map-append escape_of piece (byte ∷ []))
     ∙ length-append (escapes piece) (escape_of byte ++ [])
     ∙ ap (λ (x : List ℕ). length (escapes piece) + length x) (append-nil (escape_of byte))
 
 -- the front of some bytes has no longer escapes
-length-escapes-front : (front rest : List ℕ) → length (escapes front) ≤ length (escapes (front ++ rest))
-length-escapes-front front rest = omega (arith, ap length (flat_map-append escape_of front rest), length-append (escapes front) (escapes rest))
+length_escapes_front : (front rest : List ℕ) → length (escapes front) ≤ length (escapes (front ++ rest))
+length_escapes_front front rest = omega (arith, ap length (flat_map-append escape_of front rest), length-append (escapes front) (escapes rest))
 
 -- a piece that is full is no shorter than another for the same bytes
 not_shorter : (piece : List ℕ) (more : List (List ℕ)) (other rest : List ℕ) → piece ++ flat_map (λ p. p) more ≡ other ++ rest → All IsPiece more
@@ -34,7 +34,7 @@ not_shorter piece ((byte ∷ next) ∷ more) other rest same each full short les
     let front : take count other ≡ piece ++ byte ∷ [] =
     sym (take-append-le count other rest (omega arith)) ∙ ap (λ (x : List ℕ). take count x) (sym same) ∙ take-append-add piece (byte ∷ (next ++ flat_map (λ p. p) more)) 1 in
     let whole : (piece ++ byte ∷ []) ++ drop count other ≡ other = ap (λ (x : List ℕ). x ++ drop count other) (sym front) ∙ take-append-drop count other in
-    omega (arith, length-escapes_push piece byte, length-escapes-front (piece ++ byte ∷ []) (drop count other), ap (λ (x : List ℕ). length (escapes x)) whole)
+    omega (arith, length_escapes_push piece byte, length_escapes_front (piece ++ byte ∷ []) (drop count other), ap (λ (x : List ℕ). length (escapes x)) whole)
 
 -- two lists of pieces for the same bytes are one
 pub only : (pieces others : List (List ℕ)) → flat_map (λ p. p) pieces ≡ flat_map (λ p. p) others → All IsPiece pieces → All IsPiece others → AreFull pieces → AreFull others → pieces ≡ others
@@ -65,8 +65,8 @@ full_before : (piece : List ℕ) (byte : ℕ) (more : List (List ℕ)) → Begin
 full_before piece byte [] begins long = tt
 full_before piece byte (next ∷ more) begins long = subst (λ (b : ℕ). 1000 < length (data_line piece) + length (escape_of b)) (sym begins) long
 
-length-escape_of : (byte : ℕ) → length (escape_of byte) ≤ 3
-length-escape_of byte =
+length_escape_of : (byte : ℕ) → length (escape_of byte) ≤ 3
+length_escape_of byte =
     ⊎_elim
     (λ e. omega (arith, ap length (cond-true (is_escaped byte) (37 ∷ hex_digits byte) (byte ∷ []) e)))
     (λ e. omega (arith, ap length (cond-false (is_escaped byte) (37 ∷ hex_digits byte) (byte ∷ []) e)))
@@ -107,17 +107,17 @@ piece_before first byte piece rest short full others = record {
 pieces_from : (first : ℕ) (piece rest : List ℕ) → length (data_line (first ∷ piece)) ≤ 1000 → HasPieces first ((first ∷ piece) ++ rest)
 pieces_from first piece [] short = subst (λ (x : List ℕ). HasPieces first x) (sym (append-nil (first ∷ piece))) (last_piece first piece short)
 pieces_from first piece (byte ∷ rest) short = elim (cases_lt 1000 (length (data_line (first ∷ piece)) + length (escape_of byte))) [
-  | inl full ↦ piece_before first byte piece (byte ∷ rest) short full (pieces_from byte [] rest (omega (arith, length-escape_of byte, ap length (append-nil (escape_of byte)))))
+  | inl full ↦ piece_before first byte piece (byte ∷ rest) short full (pieces_from byte [] rest (omega (arith, length_escape_of byte, ap length (append-nil (escape_of byte)))))
   | inr fits ↦
       subst (λ (x : List ℕ). HasPieces first x) (append_assoc (first ∷ piece) (byte ∷ []) rest)
-      (pieces_from first (piece ++ byte ∷ []) rest (omega (arith, length-escapes_push (first ∷ piece) byte)))
+      (pieces_from first (piece ++ byte ∷ []) rest (omega (arith, length_escapes_push (first ∷ piece) byte)))
 ]
 
 -- there are pieces for any bytes
 pub pieces_of : (bytes : List ℕ) → (pieces : List (List ℕ)) × AreData bytes pieces
 pieces_of [] = ([], record { joined = refl; each = λ k d h. absurd (omega arith); full = tt })
 pieces_of (byte ∷ bytes) =
-    let has = pieces_from byte [] bytes (omega (arith, length-escape_of byte, ap length (append-nil (escape_of byte)))) in
+    let has = pieces_from byte [] bytes (omega (arith, length_escape_of byte, ap length (append-nil (escape_of byte)))) in
     (has.pieces, has.is)
 
 -- a first piece, and pieces of what follows it

@@ -3,7 +3,7 @@ use Rattle.std.proofs.Common.{◌≡◌, ℕ, ◌+◌, ◌-◌, ◌^◌, ◌≤�
 use Rattle.std.proofs.lemmas.List.{length_push}
 use Rattle.std.proofs.lemmas.List.Concat.{flat_map-append}
 use Rattle.agent_ports.specs.Sides.{with_bytes}
-use Rattle.agent_ports.proofs.Known.{with_bytes-append}
+use Rattle.agent_ports.proofs.Known.{with_bytes_append}
 use Rattle.agent_ports.specs.declared.link.Sent.{Sent}
 use Rattle.agent_ports.specs.declared.link.Sent.TheVariants.{All as Whole, Failed}
 use Rattle.assuan_server.specs.Connections.{Connection}
@@ -66,7 +66,7 @@ module _ (bytes : List ℕ) (before now : Connection) (rest : List ℕ) (sent : 
           subst (λ (x : List (List ℕ)). AreData bytes x) (sym (append_assoc writing.done (take count rest ∷ []) later))
           (writing.completes (take count rest ∷ later) (first later are));
       output = wrote.output ∙ ap (λ (o : Option (List ℕ)). with_bytes o (line_of (data_line (take count rest)))) writing.output
-          ∙ with_bytes-append before.output.bytes (data_text writing.done) (line_of (data_line (take count rest)))
+          ∙ with_bytes_append before.output.bytes (data_text writing.done) (line_of (data_line (take count rest)))
           ∙ ap (λ (x : List ℕ). with_bytes before.output.bytes x) (sym text_more);
       counted = omega (arith, writing.counted, ap length text_more, length-append (data_text writing.done) (line_of (data_line (take count rest))), length_push (data_line (take count rest)) 10);
       faults = omega (arith, writing.faults, wrote.faults);
@@ -94,7 +94,7 @@ module _ (bytes : List ℕ) (before now : Connection) (rest : List ℕ) (sent : 
                 sent = data_text writing.done ++ cut.sent;
                 unsent = cut.unsent ++ data_text later.0;
                 split = whole;
-                written = cut.written ∙ ap (λ (o : Option (List ℕ)). with_bytes o cut.sent) writing.output ∙ with_bytes-append before.output.bytes (data_text writing.done) cut.sent;
+                written = cut.written ∙ ap (λ (o : Option (List ℕ)). with_bytes o cut.sent) writing.output ∙ with_bytes_append before.output.bytes (data_text writing.done) cut.sent;
                 rose = omega (arith, cut.rose, writing.faults);
               };
               counted = omega (arith, writing.counted, wrote.output.counted, length-append (data_text writing.done) cut.sent);
@@ -118,7 +118,7 @@ cut_after first second before mid after count part one counts two =
           sent = first ++ cut.sent;
           unsent = cut.unsent;
           split = ap (λ (x : List ℕ). first ++ x) cut.split ∙ sym (append_assoc first cut.sent cut.unsent);
-          written = cut.written ∙ ap (λ (o : Option (List ℕ)). with_bytes o cut.sent) one.output ∙ with_bytes-append before.output.bytes first cut.sent;
+          written = cut.written ∙ ap (λ (o : Option (List ℕ)). with_bytes o cut.sent) one.output ∙ with_bytes_append before.output.bytes first cut.sent;
           rose = omega (arith, cut.rose, one.faults);
         };
         counted = omega (arith, counts, two.output.counted, length-append first cut.sent);

@@ -25,8 +25,8 @@ drop_next count byte text = let one : 1 + count ≡ suc count = omega arith in a
 take_next : (count byte : ℕ) (text : List ℕ) → take (1 + count) (byte ∷ text) ≡ byte ∷ take count text
 take_next count byte text = let one : 1 + count ≡ suc count = omega arith in ap (λ n. take n (byte ∷ text)) one
 
-words-blank : (byte : ℕ) (text : List ℕ) → is_blank byte ≡ true → words (byte ∷ text) ≡ words text
-words-blank byte text blank = ap filled (slice_split-cons_yes is_blank byte text blank)
+words_blank : (byte : ℕ) (text : List ℕ) → is_blank byte ≡ true → words (byte ∷ text) ≡ words text
+words_blank byte text blank = ap filled (slice_split-cons_yes is_blank byte text blank)
 
 pieces_after : List ℕ → List (List ℕ)
 pieces_after [] = []
@@ -55,7 +55,7 @@ words_after (byte ∷ text) =
     cond_both (not (is_blank byte)) (1 + place text) 0
     (λ n. filled (pieces_after (drop n (byte ∷ text))) ≡ words (drop n (byte ∷ text)))
     (λ _. ap (λ (r : List ℕ). filled (pieces_after r)) (drop_next (place text) byte text) ∙ words_after text ∙ sym (ap words (drop_next (place text) byte text)))
-    (λ e. sym (words-blank byte text (not_false (is_blank byte) e)))
+    (λ e. sym (words_blank byte text (not_false (is_blank byte) e)))
 
 starts_word : (byte : ℕ) (text : List ℕ) → is_blank byte ≡ false → place (byte ∷ text) ≡ 1 + place text
 starts_word byte text plain = ap (λ b. cond (not b) (1 + place text) 0) plain
@@ -69,23 +69,23 @@ some_byte byte text plain =
     ap (λ n. take n (byte ∷ text)) (starts_word byte text plain) ∙ take_next (place text) byte text in
     omega (arith, ap (λ (w : List ℕ). length w) word)
 
-words-cut : (byte : ℕ) (text : List ℕ) → is_blank byte ≡ false → words (byte ∷ text) ≡ first_and_rest (byte ∷ text)
-words-cut byte text plain =
+words_cut : (byte : ℕ) (text : List ℕ) → is_blank byte ≡ false → words (byte ∷ text) ≡ first_and_rest (byte ∷ text)
+words_cut byte text plain =
     ap filled (first_piece (byte ∷ text))
     ∙ kept (before_first is_blank (byte ∷ text)) (pieces_after (drop (place (byte ∷ text)) (byte ∷ text))) (some_byte byte text plain)
     ∙ ap (λ (ws : List (List ℕ)). before_first is_blank (byte ∷ text) ∷ ws) (words_after (byte ∷ text))
 
-words-without_blanks : (text : List ℕ) → words (without_blanks text) ≡ words text
-words-without_blanks [] = refl
-words-without_blanks (byte ∷ text) =
+words_without_blanks : (text : List ℕ) → words (without_blanks text) ≡ words text
+words_without_blanks [] = refl
+words_without_blanks (byte ∷ text) =
     cond_both (is_blank byte) (1 + prefix_len is_blank text) 0
     (λ n. words (drop n (byte ∷ text)) ≡ words (byte ∷ text))
-    (λ blank. ap words (drop_next (prefix_len is_blank text) byte text) ∙ words-without_blanks text ∙ sym (words-blank byte text blank))
+    (λ blank. ap words (drop_next (prefix_len is_blank text) byte text) ∙ words_without_blanks text ∙ sym (words_blank byte text blank))
     (λ _. refl)
 
 -- where all is blank there is no word
 pub no_words : (text : List ℕ) → without_blanks text ≡ [] → words text ≡ []
-no_words text none = sym (words-without_blanks text) ∙ ap words none
+no_words text none = sym (words_without_blanks text) ∙ ap words none
 
 -- else the first word comes after the blanks, and has a byte
 pub record HasWord (text rest : List ℕ) : Type 0 where
@@ -98,5 +98,5 @@ next_is (byte ∷ text) =
     cond_both (is_blank byte) (1 + prefix_len is_blank text) 0
     (λ n. 0 < length (drop n (byte ∷ text)) → HasWord (byte ∷ text) (drop n (byte ∷ text)))
     (λ blank. subst (λ (r : List ℕ). 0 < length r → HasWord (byte ∷ text) r) (sym (drop_next (prefix_len is_blank text) byte text))
-    (λ some. let rest = next_is text some in record { words_are = words-blank byte text blank ∙ rest.words_are; some = rest.some }))
-    (λ plain _. record { words_are = words-cut byte text plain; some = omega (arith, starts_word byte text plain) })
+    (λ some. let rest = next_is text some in record { words_are = words_blank byte text blank ∙ rest.words_are; some = rest.some }))
+    (λ plain _. record { words_are = words_cut byte text plain; some = omega (arith, starts_word byte text plain) })

@@ -70,27 +70,27 @@ pub record IsOrder {A : Type 0} (before : A → A → Bool) : Type 0 where
   pub through : (x y z : A) → before x y ≡ true → before z y ≡ false → before x z ≡ true
 
 module _ {A : Type 0} (before : A → A → Bool) where
-  pub placed-here : (x y : A) (ys : List A) → before x y ≡ true → placed before x (y ∷ ys) ≡ x ∷ y ∷ ys
-  placed-here x y ys h = ap (λ b. cond b (x ∷ y ∷ ys) (y ∷ placed before x ys)) h
+  pub placed_here : (x y : A) (ys : List A) → before x y ≡ true → placed before x (y ∷ ys) ≡ x ∷ y ∷ ys
+  placed_here x y ys h = ap (λ b. cond b (x ∷ y ∷ ys) (y ∷ placed before x ys)) h
 
-  pub placed-further : (x y : A) (ys : List A) → before x y ≡ false → placed before x (y ∷ ys) ≡ y ∷ placed before x ys
-  placed-further x y ys h = ap (λ b. cond b (x ∷ y ∷ ys) (y ∷ placed before x ys)) h
+  pub placed_further : (x y : A) (ys : List A) → before x y ≡ false → placed before x (y ∷ ys) ≡ y ∷ placed before x ys
+  placed_further x y ys h = ap (λ b. cond b (x ∷ y ∷ ys) (y ∷ placed before x ys)) h
 
-  pub placed-front : (x : A) (ys : List A) → AllByRecursion (λ y. before x y ≡ true) ys → placed before x ys ≡ x ∷ ys
-  placed-front x [] h = refl
-  placed-front x (y ∷ ys) h = placed-here x y ys h.0
+  pub placed_front : (x : A) (ys : List A) → AllByRecursion (λ y. before x y ≡ true) ys → placed before x ys ≡ x ∷ ys
+  placed_front x [] h = refl
+  placed_front x (y ∷ ys) h = placed_here x y ys h.0
 
-  pub placed-back : (x : A) (ys : List A) → AllByRecursion (λ y. before x y ≡ false) ys → placed before x ys ≡ ys ++ x ∷ []
-  placed-back x [] h = refl
-  placed-back x (y ∷ ys) h = placed-further x y ys h.0 ∙ ap (λ (l : List A). y ∷ l) (placed-back x ys h.1)
+  pub placed_back : (x : A) (ys : List A) → AllByRecursion (λ y. before x y ≡ false) ys → placed before x ys ≡ ys ++ x ∷ []
+  placed_back x [] h = refl
+  placed_back x (y ∷ ys) h = placed_further x y ys h.0 ∙ ap (λ (l : List A). y ∷ l) (placed_back x ys h.1)
 
   -- before a last one
-  pub placed-append : (x z : A) (ys : List A) → before x z ≡ true → placed before x (ys ++ z ∷ []) ≡ placed before x ys ++ z ∷ []
-  placed-append x z [] h = placed-here x z [] h
-  placed-append x z (y ∷ ys) h =
+  pub placed_append : (x z : A) (ys : List A) → before x z ≡ true → placed before x (ys ++ z ∷ []) ≡ placed before x ys ++ z ∷ []
+  placed_append x z [] h = placed_here x z [] h
+  placed_append x z (y ∷ ys) h =
       elim (before x y) as (λ b. cond b (x ∷ y ∷ (ys ++ z ∷ [])) (y ∷ placed before x (ys ++ z ∷ [])) ≡ cond b (x ∷ y ∷ ys) (y ∷ placed before x ys) ++ z ∷ []) [
         | true ↦ refl
-        | false ↦ ap (λ (l : List A). y ∷ l) (placed-append x z ys h)
+        | false ↦ ap (λ (l : List A). y ∷ l) (placed_append x z ys h)
       ]
 
   pub all_placed : (P : A → Type 0) (x : A) (ys : List A) → P x → AllByRecursion P ys → AllByRecursion P (placed before x ys)
@@ -119,20 +119,20 @@ module _ {A : Type 0} (before : A → A → Bool) where
   all_unarranged P (x ∷ xs) h = let parts = all_unplaced P x (arranged before xs) h in (parts.0, all_unarranged P xs parts.1)
 
   -- a change that the order doesn't see
-  placed-map : (f : A → A) → ((x y : A) → before (f x) (f y) ≡ before x y) → (x : A) (ys : List A)
+  placed_map : (f : A → A) → ((x y : A) → before (f x) (f y) ≡ before x y) → (x : A) (ys : List A)
       → placed before (f x) (map f ys) ≡ map f (placed before x ys)
-  placed-map f same x [] = refl
-  placed-map f same x (y ∷ ys) =
+  placed_map f same x [] = refl
+  placed_map f same x (y ∷ ys) =
       ap (λ b. cond b (f x ∷ f y ∷ map f ys) (f y ∷ placed before (f x) (map f ys))) (same x y)
-      ∙ (ap (λ (l : List A). cond (before x y) (f x ∷ f y ∷ map f ys) (f y ∷ l)) (placed-map f same x ys)
+      ∙ (ap (λ (l : List A). cond (before x y) (f x ∷ f y ∷ map f ys) (f y ∷ l)) (placed_map f same x ys)
       ∙ elim (before x y) as (λ b. cond b (f x ∷ f y ∷ map f ys) (f y ∷ map f (placed before x ys)) ≡ map f (cond b (x ∷ y ∷ ys) (y ∷ placed before x ys))) [
         | true ↦ refl
         | false ↦ refl
       ])
 
-  pub arranged-map : (f : A → A) → ((x y : A) → before (f x) (f y) ≡ before x y) → (xs : List A) → arranged before (map f xs) ≡ map f (arranged before xs)
-  arranged-map f same [] = refl
-  arranged-map f same (x ∷ xs) = ap (placed before (f x)) (arranged-map f same xs) ∙ placed-map f same x (arranged before xs)
+  pub arranged_map : (f : A → A) → ((x y : A) → before (f x) (f y) ≡ before x y) → (xs : List A) → arranged before (map f xs) ≡ map f (arranged before xs)
+  arranged_map f same [] = refl
+  arranged_map f same (x ∷ xs) = ap (placed before (f x)) (arranged_map f same xs) ∙ placed_map f same x (arranged before xs)
 
 module _ {A : Type 0} (before : A → A → Bool) (order : IsOrder before) where
   before_all_behind : (x y : A) (ys : List A) → before x y ≡ true → AllByRecursion (λ z. before z y ≡ false) ys → AllByRecursion (λ z. before x z ≡ true) ys
@@ -156,15 +156,15 @@ module _ {A : Type 0} (before : A → A → Bool) (order : IsOrder before) where
   arranged_up [] = tt
   arranged_up (x ∷ xs) = up_placed x (arranged before xs) (arranged_up xs)
 
-  filter-placed : (test : A → Bool) (x : A) (ys : List A) → EachPair (λ a b. before b a ≡ false) ys
+  filter_placed : (test : A → Bool) (x : A) (ys : List A) → EachPair (λ a b. before b a ≡ false) ys
       → filter test (placed before x ys) ≡ cond (test x) (placed before x (filter test ys)) (filter test ys)
-  filter-placed test x [] up = refl
-  filter-placed test x (y ∷ ys) up =
+  filter_placed test x [] up = refl
+  filter_placed test x (y ∷ ys) up =
       elim (before x y) as (λ b. before x y ≡ b → filter test (cond b (x ∷ y ∷ ys) (y ∷ placed before x ys))
       ≡ cond (test x) (placed before x (filter test (y ∷ ys))) (filter test (y ∷ ys))) [
         | true ↦ λ h. ap (λ (l : List A). cond (test x) l (filter test (y ∷ ys)))
-            (sym (placed-front before x (filter test (y ∷ ys)) (all_filter (λ z. before x z ≡ true) test (y ∷ ys) (h, before_all_behind x y ys h up.0))))
-        | false ↦ λ h. ap (λ (l : List A). cond (test y) (y ∷ l) l) (filter-placed test x ys up.1) ∙ further h
+            (sym (placed_front before x (filter test (y ∷ ys)) (all_filter (λ z. before x z ≡ true) test (y ∷ ys) (h, before_all_behind x y ys h up.0))))
+        | false ↦ λ h. ap (λ (l : List A). cond (test y) (y ∷ l) l) (filter_placed test x ys up.1) ∙ further h
       ] refl
     where
       further : before x y ≡ false
@@ -174,29 +174,29 @@ module _ {A : Type 0} (before : A → A → Bool) (order : IsOrder before) where
           elim (test y) as (λ b. cond b (y ∷ cond (test x) (placed before x (filter test ys)) (filter test ys)) (cond (test x) (placed before x (filter test ys)) (filter test ys))
           ≡ cond (test x) (placed before x (cond b (y ∷ filter test ys) (filter test ys))) (cond b (y ∷ filter test ys) (filter test ys))) [
             | true ↦ elim (test x) as (λ b. y ∷ cond b (placed before x (filter test ys)) (filter test ys) ≡ cond b (placed before x (y ∷ filter test ys)) (y ∷ filter test ys)) [
-              | true ↦ sym (placed-further before x y (filter test ys) h)
+              | true ↦ sym (placed_further before x y (filter test ys) h)
               | false ↦ refl
             ]
             | false ↦ refl
           ]
 
-  pub arranged-filter : (test : A → Bool) (xs : List A) → arranged before (filter test xs) ≡ filter test (arranged before xs)
-  arranged-filter test [] = refl
-  arranged-filter test (x ∷ xs) =
+  pub arranged_filter : (test : A → Bool) (xs : List A) → arranged before (filter test xs) ≡ filter test (arranged before xs)
+  arranged_filter test [] = refl
+  arranged_filter test (x ∷ xs) =
       elim (test x) as (λ b. arranged before (cond b (x ∷ filter test xs) (filter test xs)) ≡ cond b (placed before x (filter test (arranged before xs))) (filter test (arranged before xs))) [
-        | true ↦ ap (placed before x) (arranged-filter test xs)
-        | false ↦ arranged-filter test xs
+        | true ↦ ap (placed before x) (arranged_filter test xs)
+        | false ↦ arranged_filter test xs
       ]
-      ∙ sym (filter-placed test x (arranged before xs) (arranged_up xs))
+      ∙ sym (filter_placed test x (arranged before xs) (arranged_up xs))
 
   -- an element after all others, wherever it is added
-  pub arranged-last : (i : ℕ) (x : A) (xs : List A) → AllByRecursion (λ y. before y x ≡ true) xs
+  pub arranged_last : (i : ℕ) (x : A) (xs : List A) → AllByRecursion (λ y. before y x ≡ true) xs
       → arranged before (take i xs ++ x ∷ drop i xs) ≡ arranged before xs ++ x ∷ []
-  arranged-last zero x xs h = placed-back before x (arranged before xs) (all_arranged before (λ y. before x y ≡ false) xs (after xs h))
+  arranged_last zero x xs h = placed_back before x (arranged before xs) (all_arranged before (λ y. before x y ≡ false) xs (after xs h))
     where
       after : (ys : List A) → AllByRecursion (λ y. before y x ≡ true) ys → AllByRecursion (λ y. before x y ≡ false) ys
       after [] k = tt
       after (y ∷ ys) k = (order.other y x k.0, after ys k.1)
-  arranged-last (suc i) x [] h = refl
-  arranged-last (suc i) x (y ∷ ys) h =
-      ap (placed before y) (arranged-last i x ys h.1) ∙ placed-append before y x (arranged before ys) h.0
+  arranged_last (suc i) x [] h = refl
+  arranged_last (suc i) x (y ∷ ys) h =
+      ap (placed before y) (arranged_last i x ys h.1) ∙ placed_append before y x (arranged before ys) h.0

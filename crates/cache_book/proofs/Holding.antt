@@ -108,18 +108,18 @@ module _ (places : List (Reverse Place)) where
   pub held_hidden : (later : Entry) (list : List Slot) → HavePlaces places list → HavePlaces places (hidden later list)
   held_hidden later list held =
       all_filter (λ slot. is_among (place_of slot) places ≡ true) (λ slot. has_some slot.modes) (map (hide later) list)
-      (all_map (λ slot. is_among (place_of slot) places ≡ true) (hide later) (λ slot h. subst (λ (p : Place). is_among p places ≡ true) (sym (hide-place slot)) h) list held)
+      (all_map (λ slot. is_among (place_of slot) places ≡ true) (hide later) (λ slot h. subst (λ (p : Place). is_among p places ≡ true) (sym (hide_place slot)) h) list held)
     where
-      hide-place : (slot : Slot) → place_of (hide later slot) ≡ place_of slot
-      hide-place slot =
+      hide_place : (slot : Slot) → place_of (hide later slot) ≡ place_of slot
+      hide_place slot =
           elim (same_id later.id slot.entry.id) as (λ b. place_of (cond b (record slot { modes = not_covered later.mode slot.modes }) slot) ≡ place_of slot) [ true ↦ refl | false ↦ refl ]
 
   -- no place is before now, so that each slot is within its lifetimes
-  pub swept-none : (now : ℕ) → now < 2 ^ 64 → AllByRecursion (λ place. now ≤ place.0.moment) places → (list : List Slot) → HavePlaces places list → swept now list ≡ list
-  swept-none now u64 all [] held = refl
-  swept-none now u64 all (slot ∷ later) held =
+  pub swept_none : (now : ℕ) → now < 2 ^ 64 → AllByRecursion (λ place. now ≤ place.0.moment) places → (list : List Slot) → HavePlaces places list → swept now list ≡ list
+  swept_none now u64 all [] held = refl
+  swept_none now u64 all (slot ∷ later) held =
       ap (λ b. cond b (slot ∷ swept now later) (swept now later)) (sym (within_deadline now u64 slot) ∙ upto (deadline slot) (later_among_later now (place_of slot) places all held.0))
-      ∙ ap (λ (l : List Slot). slot ∷ l) (swept-none now u64 all later held.1)
+      ∙ ap (λ (l : List Slot). slot ∷ l) (swept_none now u64 all later held.1)
     where
       upto : (d : ℕ) → now ≤ d → nat_le now d ≡ true
       upto d le = grind (arith, nat_tests)
@@ -199,7 +199,7 @@ module _ (hash now : ℕ) (slot : Slot) (rest later : List Slot) (same_rest : sw
   one_swept true true e k = by_hash true e ∙ (by_life true k ∙ stays_in)
   one_swept true false e k = by_hash true e ∙ (by_life false k ∙ (same_rest ∙ sym (ap (λ b. cond b (slot ∷ swept now later) (swept now later)) k)))
 
-pub swept-hash : (hash now : ℕ) (list : List Slot) → swept now (swept_hash hash now list) ≡ swept now list
-swept-hash hash now [] = refl
-swept-hash hash now (slot ∷ later) =
-    one_swept hash now slot (swept_hash hash now later) later (swept-hash hash now later) (hash == id_hash slot.entry.id) (within slot.entry slot.last now) refl refl
+pub swept_hash : (hash now : ℕ) (list : List Slot) → swept now (swept_hash hash now list) ≡ swept now list
+swept_hash hash now [] = refl
+swept_hash hash now (slot ∷ later) =
+    one_swept hash now slot (swept_hash hash now later) later (swept_hash hash now later) (hash == id_hash slot.entry.id) (within slot.entry slot.last now) refl refl

@@ -24,40 +24,40 @@ module _ {A : Type 0} (P : A → Type 0) where
   all_map f keeps (x ∷ xs) h = (keeps x h.0, all_map f keeps xs h.1)
 
 -- a set holds the modes by whose test it is made
-pub holds-where : (test : Mode → Bool) (mode : Mode) → holds (modes_where test) mode ≡ test mode
-holds-where test Normal = refl
-holds-where test User = refl
-holds-where test Ssh = refl
-holds-where test Nonce = refl
-holds-where test Any = refl
+pub holds_where : (test : Mode → Bool) (mode : Mode) → holds (modes_where test) mode ≡ test mode
+holds_where test Normal = refl
+holds_where test User = refl
+holds_where test Ssh = refl
+holds_where test Nonce = refl
+holds_where test Any = refl
 
 second_of : (a b : Bool) → (a && b) ≡ true → b ≡ true
 second_of true b h = h
 second_of false b h = cc
 
-within-touch : (number now : ℕ) (slot : Slot) → IsWithinMode slot → IsWithinMode (touch_slot number now slot)
-within-touch number now slot h =
+within_touch : (number now : ℕ) (slot : Slot) → IsWithinMode slot → IsWithinMode (touch_slot number now slot)
+within_touch number now slot h =
     elim (number == slot.entry.number) as (λ b. IsWithinMode (cond b (record slot { last = max slot.last now }) slot)) [ true ↦ h | false ↦ h ]
 
-pub within-touched : (number now : ℕ) (list : List Slot) → AreWithinMode list → AreWithinMode (touched number now list)
-within-touched number now list h = all_map IsWithinMode (touch_slot number now) (within-touch number now) list h
+pub within_touched : (number now : ℕ) (list : List Slot) → AreWithinMode list → AreWithinMode (touched number now list)
+within_touched number now list h = all_map IsWithinMode (touch_slot number now) (within_touch number now) list h
 
-pub within-hide : (entry : Entry) (slot : Slot) → IsWithinMode slot → IsWithinMode (hide entry slot)
-within-hide entry slot h =
+pub within_hide : (entry : Entry) (slot : Slot) → IsWithinMode slot → IsWithinMode (hide entry slot)
+within_hide entry slot h =
     elim (same_id entry.id slot.entry.id) as (λ b. IsWithinMode (cond b (record slot { modes = not_covered entry.mode slot.modes }) slot)) [
       | true ↦ λ mode held. h mode (second_of (not (covers entry.mode mode)) (holds slot.modes mode)
-          (sym (holds-where (λ other. not (covers entry.mode other) && holds slot.modes other) mode) ∙ held))
+          (sym (holds_where (λ other. not (covers entry.mode other) && holds slot.modes other) mode) ∙ held))
       | false ↦ h
     ]
 
-pub within-new_slot : (entry : Entry) → IsWithinMode (new_slot entry)
-within-new_slot entry mode held = sym (holds-where (covers entry.mode) mode) ∙ held
+pub within_new_slot : (entry : Entry) → IsWithinMode (new_slot entry)
+within_new_slot entry mode held = sym (holds_where (covers entry.mode) mode) ∙ held
 
-pub within-with_entry : (entry : Entry) (list : List Slot) → AreWithinMode list → AreWithinMode (with_entry entry list)
-within-with_entry entry list h =
+pub within_with_entry : (entry : Entry) (list : List Slot) → AreWithinMode list → AreWithinMode (with_entry entry list)
+within_with_entry entry list h =
     all_append IsWithinMode (hidden entry list) (new_slot entry ∷ [])
-    (all_filter IsWithinMode (λ slot. has_some slot.modes) (map (hide entry) list) (all_map IsWithinMode (hide entry) (within-hide entry) list h))
-    (within-new_slot entry, tt)
+    (all_filter IsWithinMode (λ slot. has_some slot.modes) (map (hide entry) list) (all_map IsWithinMode (hide entry) (within_hide entry) list h))
+    (within_new_slot entry, tt)
 
-pub within-filter : (test : Slot → Bool) (list : List Slot) → AreWithinMode list → AreWithinMode (filter test list)
-within-filter test list h = all_filter IsWithinMode test list h
+pub within_filter : (test : Slot → Bool) (list : List Slot) → AreWithinMode list → AreWithinMode (filter test list)
+within_filter test list h = all_filter IsWithinMode test list h

@@ -75,9 +75,9 @@ all_newest P limits history id mode all =
 abbrev pub is_newest : Limits → History → Entry → Mode → Bool
 is_newest limits history entry mode = has_number entry.number (newest limits history entry.id mode)
 
-still_serves-known : (limits : Limits) (history : History) (moment : ℕ) (entry : Entry) (mode : Mode) → IsKnown limits history entry
+still_serves_known : (limits : Limits) (history : History) (moment : ℕ) (entry : Entry) (mode : Mode) → IsKnown limits history entry
     → still_serves limits history moment entry mode ≡ (is_live history moment entry && is_newest limits history entry mode)
-still_serves-known limits history moment entry mode known =
+still_serves_known limits history moment entry mode known =
     at (newest limits history entry.id mode) (all_newest (IsSameAs entry) limits history entry.id mode known.only)
   where
     at : (o : Option Entry) → IfSome o (IsSameAs entry)
@@ -100,8 +100,8 @@ still_serves-known limits history moment entry mode known =
         none false true = refl
         none false false = refl
 
-pub modes_where-same : (f g : Mode → Bool) → ((mode : Mode) → f mode ≡ g mode) → modes_where f ≡ modes_where g
-modes_where-same f g h =
+pub modes_where_same : (f g : Mode → Bool) → ((mode : Mode) → f mode ≡ g mode) → modes_where f ≡ modes_where g
+modes_where_same f g h =
     ap (λ b. record { normal = b; user = f User; ssh = f Ssh; nonce = f Nonce; any = f Any }) (h Normal)
     ∙ (ap (λ b. record { normal = g Normal; user = b; ssh = f Ssh; nonce = f Nonce; any = f Any }) (h User)
     ∙ (ap (λ b. record { normal = g Normal; user = g User; ssh = b; nonce = f Nonce; any = f Any }) (h Ssh)
@@ -112,11 +112,11 @@ modes_where-same f g h =
 abbrev pub slot_where : Bool → Entry → ℕ → Modes → List Slot
 slot_where is entry last modes = if is then slot_with entry last modes else []
 
-pub slot_of-known : (limits : Limits) (history : History) (moment : ℕ) (entry : Entry) → IsKnown limits history entry
+pub slot_of_known : (limits : Limits) (history : History) (moment : ℕ) (entry : Entry) → IsKnown limits history entry
     → slot_of limits history moment entry
     ≡ slot_where (is_live history moment entry) entry (last_use history entry) (modes_where (is_newest limits history entry))
-slot_of-known limits history moment entry known =
-    ap (slot_with entry (last_use history entry)) (modes_where-same (still_serves limits history moment entry)
-    (λ mode. is_live history moment entry && is_newest limits history entry mode) (λ mode. still_serves-known limits history moment entry mode known))
+slot_of_known limits history moment entry known =
+    ap (slot_with entry (last_use history entry)) (modes_where_same (still_serves limits history moment entry)
+    (λ mode. is_live history moment entry && is_newest limits history entry mode) (λ mode. still_serves_known limits history moment entry mode known))
     ∙ elim (is_live history moment entry) as (λ b. slot_with entry (last_use history entry) (modes_where (λ mode. b && is_newest limits history entry mode))
     ≡ slot_where b entry (last_use history entry) (modes_where (is_newest limits history entry))) [ true ↦ refl | false ↦ refl ]

@@ -22,7 +22,7 @@ use Rattle.cache_book.specs.declared.slot.Slot.{Slot}
 use Rattle.cache_book.specs.Modes.{modes_where, holds, has_some}
 use Rattle.cache_book.specs.Slots.{has_number, still_serves, slot_of, slots}
 use Rattle.cache_book.specs.Shelves.{serves_at, IsOneOf, here, further, IsGrantFrom, ServesNone, swept}
-use Rattle.cache_book.proofs.Kept.{all_filter, holds-where}
+use Rattle.cache_book.proofs.Kept.{all_filter, holds_where}
 use Rattle.cache_book.proofs.Known.{IsSameAs, IsKnown, all_known, all_newest}
 use Rattle.cache_book.proofs.Finding.{all_at}
 use Rattle.cache_book.proofs.Marking.{both_true}
@@ -62,14 +62,14 @@ live_is_same limits history moment entry mode known = at (newest limits history 
     at (Some x) h = elim (is_live history moment x) as (λ b. IfSome (cond b (Some x) None) (IsSameAs entry)) [ true ↦ h | false ↦ tt ]
 
 -- a slot that serves a request is that of the live entry
-pub live-served : (limits : Limits) (history : History) (moment : ℕ) (id : List ℕ) (mode : Mode) (slot : Slot) → IsSlotOf limits history moment slot
+pub live_served : (limits : Limits) (history : History) (moment : ℕ) (id : List ℕ) (mode : Mode) (slot : Slot) → IsSlotOf limits history moment slot
     → serves_at id mode moment slot ≡ true → live limits history id mode moment ≡ Some slot.entry
-live-served limits history moment id mode slot is passes =
+live_served limits history moment id mode slot is passes =
     let parts = both_true (same_id slot.entry.id id) (holds slot.modes mode)
     (both_true (same_id slot.entry.id id && holds slot.modes mode) (within slot.entry slot.last moment) passes).0 in
     subst (λ (i : List ℕ). live limits history i mode moment ≡ Some slot.entry) (same_ids slot.entry.id id parts.0)
     (named (live limits history slot.entry.id mode moment) (live_is_same limits history moment slot.entry mode is.known)
-    (sym (holds-where (still_serves limits history moment slot.entry) mode) ∙ (ap (λ (m : Modes). holds m mode) (sym is.modes) ∙ parts.1)))
+    (sym (holds_where (still_serves limits history moment slot.entry) mode) ∙ (ap (λ (m : Modes). holds m mode) (sym is.modes) ∙ parts.1)))
   where
     named : (o : Option Entry) → IfSome o (IsSameAs slot.entry) → has_number slot.entry.number o ≡ true → o ≡ Some slot.entry
     named None h e = cc
@@ -88,7 +88,7 @@ pub grant_is_live : (limits : Limits) (history : History) (id : List ℕ) (mode 
 grant_is_live limits history id mode moment grant from =
     let is = all_at (IsSlotOf limits history moment) (slots limits history moment) from.slot (all_slots_of limits history moment) from.on in
     record {
-      live_is = live-served limits history moment id mode from.slot is from.serves ∙ ap Some (sym from.entry);
+      live_is = live_served limits history moment id mode from.slot is from.serves ∙ ap Some (sym from.entry);
       id_is = from.id_is;
       mode_is = from.mode_is;
       last = from.last ∙ (is.last ∙ ap (last_use history) (sym from.entry));
@@ -162,7 +162,7 @@ none_live limits history id mode moment none =
             let no = subst (AllByRecursion (λ slot. serves_at id mode moment slot ≡ false)) on none in
             let yes : serves_at id mode moment (record { entry = entry; last = last_use history entry; modes = modes }) ≡ true =
             ap (λ b. (b && holds modes mode) && within entry (last_use history entry) moment) ids.0
-            ∙ (ap (λ b. b && within entry (last_use history entry) moment) (holds-where (still_serves limits history moment entry) mode ∙ serves_still lives)
+            ∙ (ap (λ b. b && within entry (last_use history entry) moment) (holds_where (still_serves limits history moment entry) mode ∙ serves_still lives)
             ∙ (both_true (not (gone history entry)) (within entry (last_use history entry) moment) lives).1) in
             let wrong : true ≡ false = sym yes ∙ no.0 in cc
 
@@ -192,9 +192,9 @@ on_filter test slot (first ∷ later) (further on) passes =
       | false ↦ on_filter test slot later on passes
     ]
 
-pub grant-swept : (list : List Slot) (id : List ℕ) (mode : Mode) (moment : ℕ) (grant : Grant) → IsGrantFrom list id mode moment grant
+pub grant_swept : (list : List Slot) (id : List ℕ) (mode : Mode) (moment : ℕ) (grant : Grant) → IsGrantFrom list id mode moment grant
     → IsGrantFrom (swept moment list) id mode moment grant
-grant-swept list id mode moment grant from = record {
+grant_swept list id mode moment grant from = record {
   slot = from.slot;
   on = on_filter (λ (slot : Slot). within slot.entry slot.last moment) from.slot list from.on
       (both_true (same_id from.slot.entry.id id && holds from.slot.modes mode) (within from.slot.entry from.slot.last moment) from.serves).1;
@@ -206,5 +206,5 @@ grant-swept list id mode moment grant from = record {
   moment_is = from.moment_is;
 }
 
-pub none-swept : (list : List Slot) (id : List ℕ) (mode : Mode) (moment : ℕ) → ServesNone list id mode moment → ServesNone (swept moment list) id mode moment
-none-swept list id mode moment none = all_filter (λ (slot : Slot). serves_at id mode moment slot ≡ false) (λ slot. within slot.entry slot.last moment) list none
+pub none_swept : (list : List Slot) (id : List ℕ) (mode : Mode) (moment : ℕ) → ServesNone list id mode moment → ServesNone (swept moment list) id mode moment
+none_swept list id mode moment none = all_filter (λ (slot : Slot). serves_at id mode moment slot ≡ false) (λ slot. within slot.entry slot.last moment) list none

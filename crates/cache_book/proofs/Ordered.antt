@@ -20,9 +20,9 @@ use Rattle.cache_book.specs.Modes.{modes_where, has_some, not_covered}
 use Rattle.cache_book.specs.Shelves.{IsOneOf, here, further, touch_slot, touched, hide, hidden, new_slot, AreBelow}
 use Rattle.cache_book.specs.Arranged.{placed}
 use Rattle.cache_book.specs.SlotOrders.{id_cmp, is_upto, has_lower_hash, has_hash_upto, comes_before, is_older, by_number, AreById, HaveOwnNumbers, AreKept}
-use Rattle.cache_book.proofs.Kept.{all_filter, all_map, within-touched, within-hide, within-new_slot, within-filter}
+use Rattle.cache_book.proofs.Kept.{all_filter, all_map, within_touched, within_hide, within_new_slot, within_filter}
 use Rattle.cache_book.proofs.Live.{same_ids}
-use Rattle.cache_book.proofs.Arranging.{IsOrder, all_insert, pairs_filter, pairs_map, pairs_insert, arranged-map, arranged-filter, arranged-last}
+use Rattle.cache_book.proofs.Arranging.{IsOrder, all_insert, pairs_filter, pairs_map, pairs_insert, arranged_map, arranged_filter, arranged_last}
 
 -- the order of ids
 id_cmp_total : IsTotalOrder id_cmp
@@ -111,37 +111,37 @@ older_order = record {
 
 -- a change that leaves the entry of each slot
 module _ (f : Slot → Slot) (same : (slot : Slot) → (f slot).entry ≡ slot.entry) where
-  by_id-map : (a b : Slot) → comes_before a b ≡ true → comes_before (f a) (f b) ≡ true
-  by_id-map a b h =
+  by_id_map : (a b : Slot) → comes_before a b ≡ true → comes_before (f a) (f b) ≡ true
+  by_id_map a b h =
       ap (λ (e : Entry). is_lt (ordering_then (id_cmp e.id (f b).entry.id) (nat_cmp e.number (f b).entry.number))) (same a)
       ∙ (ap (λ (e : Entry). is_lt (ordering_then (id_cmp a.entry.id e.id) (nat_cmp a.entry.number e.number))) (same b) ∙ h)
 
-  own-map : (a b : Slot) → (a.entry.number == b.entry.number) ≡ false → ((f a).entry.number == (f b).entry.number) ≡ false
-  own-map a b h =
+  own_map : (a b : Slot) → (a.entry.number == b.entry.number) ≡ false → ((f a).entry.number == (f b).entry.number) ≡ false
+  own_map a b h =
       ap (λ (e : Entry). e.number == (f b).entry.number) (same a) ∙ (ap (λ (e : Entry). a.entry.number == e.number) (same b) ∙ h)
 
-  older-map : (a b : Slot) → is_older (f a) (f b) ≡ is_older a b
-  older-map a b = ap (λ (e : Entry). nat_lt e.number (f b).entry.number) (same a) ∙ ap (λ (e : Entry). nat_lt a.entry.number e.number) (same b)
+  older_map : (a b : Slot) → is_older (f a) (f b) ≡ is_older a b
+  older_map a b = ap (λ (e : Entry). nat_lt e.number (f b).entry.number) (same a) ∙ ap (λ (e : Entry). nat_lt a.entry.number e.number) (same b)
 
   pub kept_by_id : (list : List Slot) → AreById list → AreById (map f list)
-  kept_by_id list h = pairs_map (λ a b. comes_before a b ≡ true) f by_id-map list h
+  kept_by_id list h = pairs_map (λ a b. comes_before a b ≡ true) f by_id_map list h
 
   pub kept_own : (list : List Slot) → HaveOwnNumbers list → HaveOwnNumbers (map f list)
-  kept_own list h = pairs_map (λ a b. (a.entry.number == b.entry.number) ≡ false) f own-map list h
+  kept_own list h = pairs_map (λ a b. (a.entry.number == b.entry.number) ≡ false) f own_map list h
 
-  pub by_number-map : (list : List Slot) → by_number (map f list) ≡ map f (by_number list)
-  by_number-map list = arranged-map is_older f older-map list
+  pub by_number_map : (list : List Slot) → by_number (map f list) ≡ map f (by_number list)
+  by_number_map list = arranged_map is_older f older_map list
 
-pub touch-entry : (number now : ℕ) (slot : Slot) → (touch_slot number now slot).entry ≡ slot.entry
-touch-entry number now slot =
+pub touch_entry : (number now : ℕ) (slot : Slot) → (touch_slot number now slot).entry ≡ slot.entry
+touch_entry number now slot =
     elim (number == slot.entry.number) as (λ b. (cond b (record slot { last = max slot.last now }) slot).entry ≡ slot.entry) [ true ↦ refl | false ↦ refl ]
 
-pub hide-entry : (entry : Entry) (slot : Slot) → (hide entry slot).entry ≡ slot.entry
-hide-entry entry slot =
+pub hide_entry : (entry : Entry) (slot : Slot) → (hide entry slot).entry ≡ slot.entry
+hide_entry entry slot =
     elim (same_id entry.id slot.entry.id) as (λ b. (cond b (record slot { modes = not_covered entry.mode slot.modes }) slot).entry ≡ slot.entry) [ true ↦ refl | false ↦ refl ]
 
-touch-serving : (number now : ℕ) (slot : Slot) → has_some slot.modes ≡ true → has_some (touch_slot number now slot).modes ≡ true
-touch-serving number now slot h =
+touch_serving : (number now : ℕ) (slot : Slot) → has_some slot.modes ≡ true → has_some (touch_slot number now slot).modes ≡ true
+touch_serving number now slot h =
     elim (number == slot.entry.number) as (λ b. has_some (cond b (record slot { last = max slot.last now }) slot).modes ≡ true) [ true ↦ h | false ↦ h ]
 
 all_pass : (test : Slot → Bool) (list : List Slot) → AllByRecursion (λ slot. test slot ≡ true) (filter test list)
@@ -152,8 +152,8 @@ all_pass test (slot ∷ later) =
       | false ↦ λ e. all_pass test later
     ] refl
 
-new-serving : (entry : Entry) → has_some (new_slot entry).modes ≡ true
-new-serving entry = at entry.mode
+new_serving : (entry : Entry) → has_some (new_slot entry).modes ≡ true
+new_serving entry = at entry.mode
   where
     at : (mode : _) → has_some (modes_where (covers mode)) ≡ true
     at Normal = refl
@@ -163,46 +163,46 @@ new-serving entry = at entry.mode
     at Any = refl
 
 -- the calls keep the slots in order
-pub kept-filter : (test : Slot → Bool) (list : List Slot) → AreKept list → AreKept (filter test list)
-kept-filter test list h = record {
+pub kept_filter : (test : Slot → Bool) (list : List Slot) → AreKept list → AreKept (filter test list)
+kept_filter test list h = record {
   by_id = pairs_filter (λ a b. comes_before a b ≡ true) test list h.by_id;
   own_numbers = pairs_filter (λ a b. (a.entry.number == b.entry.number) ≡ false) test list h.own_numbers;
   serving = all_filter (λ slot. has_some slot.modes ≡ true) test list h.serving;
-  within_mode = within-filter test list h.within_mode;
+  within_mode = within_filter test list h.within_mode;
 }
 
-pub kept-touched : (number now : ℕ) (list : List Slot) → AreKept list → AreKept (touched number now list)
-kept-touched number now list h = record {
-  by_id = kept_by_id (touch_slot number now) (touch-entry number now) list h.by_id;
-  own_numbers = kept_own (touch_slot number now) (touch-entry number now) list h.own_numbers;
-  serving = all_map (λ slot. has_some slot.modes ≡ true) (touch_slot number now) (touch-serving number now) list h.serving;
-  within_mode = within-touched number now list h.within_mode;
+pub kept_touched : (number now : ℕ) (list : List Slot) → AreKept list → AreKept (touched number now list)
+kept_touched number now list h = record {
+  by_id = kept_by_id (touch_slot number now) (touch_entry number now) list h.by_id;
+  own_numbers = kept_own (touch_slot number now) (touch_entry number now) list h.own_numbers;
+  serving = all_map (λ slot. has_some slot.modes ≡ true) (touch_slot number now) (touch_serving number now) list h.serving;
+  within_mode = within_touched number now list h.within_mode;
 }
 
-pub kept-hidden : (entry : Entry) (list : List Slot) → AreKept list → AreKept (hidden entry list)
-kept-hidden entry list h = record {
-  by_id = pairs_filter (λ a b. comes_before a b ≡ true) (λ slot. has_some slot.modes) (map (hide entry) list) (kept_by_id (hide entry) (hide-entry entry) list h.by_id);
+pub kept_hidden : (entry : Entry) (list : List Slot) → AreKept list → AreKept (hidden entry list)
+kept_hidden entry list h = record {
+  by_id = pairs_filter (λ a b. comes_before a b ≡ true) (λ slot. has_some slot.modes) (map (hide entry) list) (kept_by_id (hide entry) (hide_entry entry) list h.by_id);
   own_numbers = pairs_filter (λ a b. (a.entry.number == b.entry.number) ≡ false) (λ slot. has_some slot.modes) (map (hide entry) list)
-      (kept_own (hide entry) (hide-entry entry) list h.own_numbers);
+      (kept_own (hide entry) (hide_entry entry) list h.own_numbers);
   serving = all_pass (λ slot. has_some slot.modes) (map (hide entry) list);
-  within_mode = within-filter (λ slot. has_some slot.modes) (map (hide entry) list) (all_map _ (hide entry) (within-hide entry) list h.within_mode);
+  within_mode = within_filter (λ slot. has_some slot.modes) (map (hide entry) list) (all_map _ (hide entry) (within_hide entry) list h.within_mode);
 }
 
-pub below-hidden : (entry : Entry) (number : ℕ) (list : List Slot) → AreBelow number list → AreBelow number (hidden entry list)
-below-hidden entry number list h =
+pub below_hidden : (entry : Entry) (number : ℕ) (list : List Slot) → AreBelow number list → AreBelow number (hidden entry list)
+below_hidden entry number list h =
     all_filter (λ slot. slot.entry.number < number) (λ slot. has_some slot.modes) (map (hide entry) list)
-    (all_map (λ slot. slot.entry.number < number) (hide entry) (λ slot k. subst (λ (e : Entry). e.number < number) (sym (hide-entry entry slot)) k) list h)
+    (all_map (λ slot. slot.entry.number < number) (hide entry) (λ slot k. subst (λ (e : Entry). e.number < number) (sym (hide_entry entry slot)) k) list h)
 
 -- a new slot at the end of the stretch of its id
 module _ (entry : Entry) (i : ℕ) (list : List Slot) (newest : AreBelow entry.number list) where
-  pub kept-stored : AreKept list → AllByRecursion (λ slot. is_upto entry.id slot ≡ true) (take i list)
+  pub kept_stored : AreKept list → AllByRecursion (λ slot. is_upto entry.id slot ≡ true) (take i list)
       → AllByRecursion (λ slot. is_upto entry.id slot ≡ false) (drop i list) → AreKept (take i list ++ new_slot entry ∷ drop i list)
-  kept-stored h before after = record {
+  kept_stored h before after = record {
     by_id = pairs_insert (λ a b. comes_before a b ≡ true) i (new_slot entry) list (firsts i list newest before)
         (all_weaker (λ slot. is_upto entry.id slot ≡ false) (λ slot. comes_before (new_slot entry) slot ≡ true) (λ slot k. higher_later slot (new_slot entry) k) (drop i list) after) h.by_id;
     own_numbers = pairs_insert (λ a b. (a.entry.number == b.entry.number) ≡ false) i (new_slot entry) list (others i list newest) (others_after i list newest) h.own_numbers;
-    serving = all_insert (λ slot. has_some slot.modes ≡ true) i (new_slot entry) list (new-serving entry) h.serving;
-    within_mode = all_insert _ i (new_slot entry) list (within-new_slot entry) h.within_mode;
+    serving = all_insert (λ slot. has_some slot.modes ≡ true) i (new_slot entry) list (new_serving entry) h.serving;
+    within_mode = all_insert _ i (new_slot entry) list (within_new_slot entry) h.within_mode;
   }
     where
       firsts : (j : ℕ) (l : List Slot) → AreBelow entry.number l → AllByRecursion (λ slot. is_upto entry.id slot ≡ true) (take j l)
@@ -228,24 +228,24 @@ module _ (entry : Entry) (i : ℕ) (list : List Slot) (newest : AreBelow entry.n
       others_after (suc j) [] below = tt
       others_after (suc j) (slot ∷ later) below = others_after j later below.1
 
-  pub by_number-stored : by_number (take i list ++ new_slot entry ∷ drop i list) ≡ by_number list ++ new_slot entry ∷ []
-  by_number-stored = arranged-last is_older older_order i (new_slot entry) list
+  pub by_number_stored : by_number (take i list ++ new_slot entry ∷ drop i list) ≡ by_number list ++ new_slot entry ∷ []
+  by_number_stored = arranged_last is_older older_order i (new_slot entry) list
       (all_weaker (λ slot. slot.entry.number < entry.number) (λ slot. is_older slot (new_slot entry) ≡ true) (λ slot k. older slot.entry.number entry.number k) list newest)
     where
       older : (m n : ℕ) → m < n → nat_lt m n ≡ true
       older m n lt = grind (arith, nat_tests)
 
 -- and they come to the same by number
-pub by_number-filter : (test : Slot → Bool) (list : List Slot) → by_number (filter test list) ≡ filter test (by_number list)
-by_number-filter test list = arranged-filter is_older older_order test list
+pub by_number_filter : (test : Slot → Bool) (list : List Slot) → by_number (filter test list) ≡ filter test (by_number list)
+by_number_filter test list = arranged_filter is_older older_order test list
 
-pub by_number-touched : (number now : ℕ) (list : List Slot) → by_number (touched number now list) ≡ touched number now (by_number list)
-by_number-touched number now list = by_number-map (touch_slot number now) (touch-entry number now) list
+pub by_number_touched : (number now : ℕ) (list : List Slot) → by_number (touched number now list) ≡ touched number now (by_number list)
+by_number_touched number now list = by_number_map (touch_slot number now) (touch_entry number now) list
 
-pub by_number-hidden : (entry : Entry) (list : List Slot) → by_number (hidden entry list) ≡ hidden entry (by_number list)
-by_number-hidden entry list =
-    by_number-filter (λ slot. has_some slot.modes) (map (hide entry) list)
-    ∙ ap (filter (λ (slot : Slot). has_some slot.modes)) (by_number-map (hide entry) (hide-entry entry) list)
+pub by_number_hidden : (entry : Entry) (list : List Slot) → by_number (hidden entry list) ≡ hidden entry (by_number list)
+by_number_hidden entry list =
+    by_number_filter (λ slot. has_some slot.modes) (map (hide entry) list)
+    ∙ ap (filter (λ (slot : Slot). has_some slot.modes)) (by_number_map (hide entry) (hide_entry entry) list)
 
 -- a slot is one of the list by number where it is one of the list
 one_placed_here : (x : Slot) (list : List Slot) → IsOneOf x (placed is_older x list)

@@ -90,11 +90,11 @@ module _ (id : List ℕ) (mode : Mode) (now : ℕ) (list : List Slot) (hash : �
       ] refl
 
 -- a use of the slot with a number is that of the one slot
-pub touched-none : (number now : ℕ) (list : List Slot) → AllByRecursion (λ slot. (number == slot.entry.number) ≡ false) list → touched number now list ≡ list
-touched-none number now [] h = refl
-touched-none number now (slot ∷ later) h =
+pub touched_none : (number now : ℕ) (list : List Slot) → AllByRecursion (λ slot. (number == slot.entry.number) ≡ false) list → touched number now list ≡ list
+touched_none number now [] h = refl
+touched_none number now (slot ∷ later) h =
     ap (λ b. cond b (record slot { last = max slot.last now }) slot ∷ touched number now later) h.0
-    ∙ ap (λ (l : List Slot). slot ∷ l) (touched-none number now later h.1)
+    ∙ ap (λ (l : List Slot). slot ∷ l) (touched_none number now later h.1)
 
 module _ (number now : ℕ) where
   others : (m : ℕ) (list : List Slot) → (number == m) ≡ true → AllByRecursion (λ slot. (m == slot.entry.number) ≡ false) list
@@ -105,48 +105,48 @@ module _ (number now : ℕ) where
   other : (m n : ℕ) → (m == n) ≡ false → (number == n) ≡ true → (number == m) ≡ false
   other m n apart is = grind (arith, apart, is)
 
-  pub touched-one : (i : ℕ) (list : List Slot) (d : Slot) → HaveOwnNumbers list → i < length list → (number == (get_or list i d).entry.number) ≡ true
+  pub touched_one : (i : ℕ) (list : List Slot) (d : Slot) → HaveOwnNumbers list → i < length list → (number == (get_or list i d).entry.number) ≡ true
       → touched number now list ≡ set list i (touch_slot number now (get_or list i d))
-  touched-one zero [] d own lt is = absurd (omega arith)
-  touched-one zero (x ∷ xs) d own lt is =
-      ap (λ (l : List Slot). touch_slot number now x ∷ l) (touched-none number now xs (others x.entry.number xs is own.0))
-  touched-one (suc i) [] d own lt is = absurd (omega arith)
-  touched-one (suc i) (x ∷ xs) d own lt is =
+  touched_one zero [] d own lt is = absurd (omega arith)
+  touched_one zero (x ∷ xs) d own lt is =
+      ap (λ (l : List Slot). touch_slot number now x ∷ l) (touched_none number now xs (others x.entry.number xs is own.0))
+  touched_one (suc i) [] d own lt is = absurd (omega arith)
+  touched_one (suc i) (x ∷ xs) d own lt is =
       ap (λ b. cond b (record x { last = max x.last now }) x ∷ touched number now xs)
       (other x.entry.number (get_or xs i d).entry.number
       (All-from_recursion (λ y. (x.entry.number == y.entry.number) ≡ false) xs own.0 i d (omega arith)) is)
-      ∙ ap (λ (l : List Slot). x ∷ l) (touched-one i xs d own.1 (omega arith) is)
+      ∙ ap (λ (l : List Slot). x ∷ l) (touched_one i xs d own.1 (omega arith) is)
 
   -- the slot that was found in a slice of the list
   pub touched_at : (i : ℕ) (list slice : List Slot) (old new : Slot) → HaveOwnNumbers list → slice ≡ list → i < length slice
       → HoldsAt (λ slot. (number == slot.entry.number) ≡ true) slice i → old ≡ get_or list i old → new ≡ touch_slot number now old → set list i new ≡ touched number now list
   touched_at i list slice old new own same lt is found touches =
       ap (set list i) (touches ∙ ap (touch_slot number now) found)
-      ∙ sym (touched-one i list old own (subst (λ (l : List Slot). i < length l) same lt)
+      ∙ sym (touched_one i list old own (subst (λ (l : List Slot). i < length l) same lt)
       (subst (λ (l : List Slot). (number == (get_or l i old).entry.number) ≡ true) same (is old)))
 
 -- slots outside of the stretch of an id are left as they are
-pub cleared-apart : (id : List ℕ) (mode : Mode) (list : List Slot) → AllByRecursion (λ slot. same_id slot.entry.id id ≡ false) list → cleared id mode list ≡ list
-cleared-apart id mode [] h = refl
-cleared-apart id mode (slot ∷ later) h =
+pub cleared_apart : (id : List ℕ) (mode : Mode) (list : List Slot) → AllByRecursion (λ slot. same_id slot.entry.id id ≡ false) list → cleared id mode list ≡ list
+cleared_apart id mode [] h = refl
+cleared_apart id mode (slot ∷ later) h =
     ap (λ b. cond (not (b && covers slot.entry.mode mode)) (slot ∷ cleared id mode later) (cleared id mode later)) h.0
-    ∙ ap (λ (l : List Slot). slot ∷ l) (cleared-apart id mode later h.1)
+    ∙ ap (λ (l : List Slot). slot ∷ l) (cleared_apart id mode later h.1)
 
-pub hidden-apart : (entry : Entry) (list : List Slot) → AreServing list → AllByRecursion (λ slot. same_id entry.id slot.entry.id ≡ false) list → hidden entry list ≡ list
-hidden-apart entry [] serving h = refl
-hidden-apart entry (slot ∷ later) serving h =
+pub hidden_apart : (entry : Entry) (list : List Slot) → AreServing list → AllByRecursion (λ slot. same_id entry.id slot.entry.id ≡ false) list → hidden entry list ≡ list
+hidden_apart entry [] serving h = refl
+hidden_apart entry (slot ∷ later) serving h =
     ap (λ b. cond (has_some (hidden_by b).modes) (hidden_by b ∷ hidden entry later) (hidden entry later)) h.0
     ∙ (ap (λ b. cond b (slot ∷ hidden entry later) (hidden entry later)) serving.0
-    ∙ ap (λ (l : List Slot). slot ∷ l) (hidden-apart entry later serving.1 h.1))
+    ∙ ap (λ (l : List Slot). slot ∷ l) (hidden_apart entry later serving.1 h.1))
   where
     hidden_by : Bool → Slot
     hidden_by b = cond b (record slot { modes = not_covered entry.mode slot.modes }) slot
 
-pub swept_hash-apart : (hash now : ℕ) (list : List Slot) → AllByRecursion (λ slot. (hash == id_hash slot.entry.id) ≡ false) list → swept_hash hash now list ≡ list
-swept_hash-apart hash now [] h = refl
-swept_hash-apart hash now (slot ∷ later) h =
+pub swept_hash_apart : (hash now : ℕ) (list : List Slot) → AllByRecursion (λ slot. (hash == id_hash slot.entry.id) ≡ false) list → swept_hash hash now list ≡ list
+swept_hash_apart hash now [] h = refl
+swept_hash_apart hash now (slot ∷ later) h =
     ap (λ b. cond (not (b && not (within slot.entry slot.last now))) (slot ∷ swept_hash hash now later) (swept_hash hash now later)) h.0
-    ∙ ap (λ (l : List Slot). slot ∷ l) (swept_hash-apart hash now later h.1)
+    ∙ ap (λ (l : List Slot). slot ∷ l) (swept_hash_apart hash now later h.1)
 
 -- the ends of a stretch
 all_taken : {A : Type 0} (P : A → Type 0) (i : ℕ) (xs : List A) → AllByRecursion P xs → AllByRecursion P (take i xs)
@@ -179,12 +179,12 @@ other_way : (id : List ℕ) (list : List Slot) → AllByRecursion (λ slot. same
 other_way id list h =
     all_weaker (λ slot. same_id slot.entry.id id ≡ false) (λ slot. same_id id slot.entry.id ≡ false) (λ slot k. nat_list_eq_equiv.symm id slot.entry.id ∙ k) list h
 
-pub hidden-after : (entry : Entry) (list : List Slot) (end : ℕ) → AreServing list → AllByRecursion (λ slot. same_id slot.entry.id entry.id ≡ false) (drop end list)
+pub hidden_after : (entry : Entry) (list : List Slot) (end : ℕ) → AreServing list → AllByRecursion (λ slot. same_id slot.entry.id entry.id ≡ false) (drop end list)
     → hidden entry (drop end list) ≡ drop end list
-hidden-after entry list end serving h =
-    hidden-apart entry (drop end list) (all_drop (λ slot. has_some slot.modes ≡ true) end list serving) (other_way entry.id (drop end list) h)
+hidden_after entry list end serving h =
+    hidden_apart entry (drop end list) (all_drop (λ slot. has_some slot.modes ≡ true) end list serving) (other_way entry.id (drop end list) h)
 
-pub hidden-before : (entry : Entry) (list : List Slot) (i : ℕ) → AreServing list → AllByRecursion (λ slot. same_id slot.entry.id entry.id ≡ false) (take i list)
+pub hidden_before : (entry : Entry) (list : List Slot) (i : ℕ) → AreServing list → AllByRecursion (λ slot. same_id slot.entry.id entry.id ≡ false) (take i list)
     → hidden entry (take i list) ≡ take i list
-hidden-before entry list i serving h =
-    hidden-apart entry (take i list) (all_taken (λ slot. has_some slot.modes ≡ true) i list serving) (other_way entry.id (take i list) h)
+hidden_before entry list i serving h =
+    hidden_apart entry (take i list) (all_taken (λ slot. has_some slot.modes ≡ true) i list serving) (other_way entry.id (take i list) h)

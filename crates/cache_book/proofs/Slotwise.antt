@@ -21,12 +21,12 @@ pub record IsSlotwise (op : List Slot → List Slot) : Type 0 where
   pub append : (xs ys : List Slot) → op (xs ++ ys) ≡ op xs ++ op ys
 
 -- such a call does to all slots what it does to those of each entry
-pub flat_map-slotwise : (op : List Slot → List Slot) → IsSlotwise op → (before after : Entry → List Slot) (list : List Entry)
+pub flat_map_slotwise : (op : List Slot → List Slot) → IsSlotwise op → (before after : Entry → List Slot) (list : List Entry)
     → AllByRecursion (λ entry. after entry ≡ op (before entry)) list → flat_map after list ≡ op (flat_map before list)
-flat_map-slotwise op is before after [] h = sym is.none
-flat_map-slotwise op is before after (entry ∷ later) h =
+flat_map_slotwise op is before after [] h = sym is.none
+flat_map_slotwise op is before after (entry ∷ later) h =
     ap (λ (xs : List Slot). xs ++ flat_map after later) h.0
-    ∙ (ap (λ (xs : List Slot). op (before entry) ++ xs) (flat_map-slotwise op is before after later h.1)
+    ∙ (ap (λ (xs : List Slot). op (before entry) ++ xs) (flat_map_slotwise op is before after later h.1)
     ∙ sym (is.append (before entry) (flat_map before later)))
 
 pub same_slotwise : IsSlotwise (λ list. list)
@@ -49,10 +49,10 @@ hidden_slotwise entry = record {
 }
 
 -- what is kept of a slot
-pub filter-slot_where : (test : Slot → Bool) (is : Bool) (entry : Entry) (last : ℕ) (modes : Modes)
+pub filter_slot_where : (test : Slot → Bool) (is : Bool) (entry : Entry) (last : ℕ) (modes : Modes)
     → filter test (slot_where is entry last modes) ≡ slot_where (is && test (record { entry = entry; last = last; modes = modes })) entry last modes
-filter-slot_where test false entry last modes = refl
-filter-slot_where test true entry last modes =
+filter_slot_where test false entry last modes = refl
+filter_slot_where test true entry last modes =
     elim (has_some modes) as (λ b. filter test (cond b (slot ∷ []) []) ≡ cond (test slot) (cond b (slot ∷ []) []) []) [
       | true ↦ refl
       | false ↦ elim (test slot) as (λ b. ◌≡◌ {A = List Slot} [] (cond b [] [])) [ true ↦ refl | false ↦ refl ]
@@ -62,10 +62,10 @@ filter-slot_where test true entry last modes =
     slot = record { entry = entry; last = last; modes = modes }
 
 -- a use of it, and one of another entry
-pub touched-other : (number now : ℕ) (is : Bool) (entry : Entry) (last : ℕ) (modes : Modes) → (number == entry.number) ≡ false
+pub touched_other : (number now : ℕ) (is : Bool) (entry : Entry) (last : ℕ) (modes : Modes) → (number == entry.number) ≡ false
     → touched number now (slot_where is entry last modes) ≡ slot_where is entry last modes
-touched-other number now false entry last modes other = refl
-touched-other number now true entry last modes other =
+touched_other number now false entry last modes other = refl
+touched_other number now true entry last modes other =
     elim (has_some modes) as (λ b. map (touch_slot number now) (cond b (slot ∷ []) []) ≡ cond b (slot ∷ []) []) [
       | true ↦ ap (λ (b : Bool). cond b (record slot { last = max slot.last now }) slot ∷ []) other
       | false ↦ refl
@@ -74,9 +74,9 @@ touched-other number now true entry last modes other =
     slot : Slot
     slot = record { entry = entry; last = last; modes = modes }
 
-pub touched-this : (number now : ℕ) (entry : Entry) (last : ℕ) (modes : Modes) → (number == entry.number) ≡ true
+pub touched_this : (number now : ℕ) (entry : Entry) (last : ℕ) (modes : Modes) → (number == entry.number) ≡ true
     → touched number now (slot_with entry last modes) ≡ slot_with entry (max last now) modes
-touched-this number now entry last modes this =
+touched_this number now entry last modes this =
     elim (has_some modes) as (λ b. map (touch_slot number now) (cond b (slot ∷ []) []) ≡ cond b (record slot { last = max last now } ∷ []) []) [
       | true ↦ ap (λ (b : Bool). cond b (record slot { last = max slot.last now }) slot ∷ []) this
       | false ↦ refl
@@ -95,9 +95,9 @@ none_left p q r s t false false false false true h = cc
 none_left p q r s t false false false false false h = simp and-false
 
 -- a slot of the same id without the modes that the later entry covers, and one of another id as it was
-pub hidden-slot_with : (later entry : Entry) (last : ℕ) (modes : Modes)
+pub hidden_slot_with : (later entry : Entry) (last : ℕ) (modes : Modes)
     → hidden later (slot_with entry last modes) ≡ slot_with entry last (cond (same_id later.id entry.id) (not_covered later.mode modes) modes)
-hidden-slot_with later entry last modes =
+hidden_slot_with later entry last modes =
     elim (has_some modes) as (λ b. has_some modes ≡ b → hidden later (cond b (slot ∷ []) [])
     ≡ slot_with entry last (cond (same_id later.id entry.id) (not_covered later.mode modes) modes)) [
       | true ↦ λ e. elim (same_id later.id entry.id) as (λ b. filter (λ (s : Slot). has_some s.modes) (cond b (record slot { modes = not_covered later.mode modes }) slot ∷ [])

@@ -39,11 +39,11 @@ take_one_more : (i : ℕ) (list : List Slot) (d : Slot) → i < length list → 
 take_one_more i list d lt = sym (ap (λ (k : ℕ). take k list) (one_more i)) ∙ take_further i list d lt
 
 -- a slot that was changed before it goes
-pub remove-set : (i : ℕ) (list : List Slot) (slot : Slot) → remove (set list i slot) i ≡ remove list i
-remove-set zero [] slot = refl
-remove-set zero (x ∷ xs) slot = refl
-remove-set (suc i) [] slot = refl
-remove-set (suc i) (x ∷ xs) slot = ap (λ (l : List Slot). x ∷ l) (remove-set i xs slot)
+pub remove_set : (i : ℕ) (list : List Slot) (slot : Slot) → remove (set list i slot) i ≡ remove list i
+remove_set zero [] slot = refl
+remove_set zero (x ∷ xs) slot = refl
+remove_set (suc i) [] slot = refl
+remove_set (suc i) (x ∷ xs) slot = ap (λ (l : List Slot). x ∷ l) (remove_set i xs slot)
 
 -- the list so far: the call's work is done from this place on
 pub record IsDoneFrom (op : List Slot → List Slot) (i : ℕ) (list done : List Slot) : Type 0 where
@@ -78,8 +78,8 @@ module _ (op : List Slot → List Slot) (slotwise : IsSlotwise op) (i : ℕ) (li
     before = let lt : i < length list = in_list in omega arith
 
     -- it goes
-    pub done-removed : op (slot ∷ []) ≡ [] → IsDoneFrom op i list (remove done i)
-    done-removed none = record {
+    pub done_removed : op (slot ∷ []) ≡ [] → IsDoneFrom op i list (remove done i)
+    done_removed none = record {
       within = before;
       is = ap (λ (l : List Slot). remove l i) parted
           ∙ (remove-append_right (take i list) (slot ∷ op (drop (i + 1) list)) i i front (omega arith)
@@ -88,8 +88,8 @@ module _ (op : List Slot → List Slot) (slotwise : IsSlotwise op) (i : ℕ) (li
     }
 
     -- it changes
-    pub done-set : (new : Slot) → op (slot ∷ []) ≡ new ∷ [] → IsDoneFrom op i list (set done i new)
-    done-set new changes = record {
+    pub done_set : (new : Slot) → op (slot ∷ []) ≡ new ∷ [] → IsDoneFrom op i list (set done i new)
+    done_set new changes = record {
       within = before;
       is = ap (λ (l : List Slot). set l i new) parted
           ∙ (set-append_right (take i list) (slot ∷ op (drop (i + 1) list)) i i new front (omega arith)
@@ -98,27 +98,27 @@ module _ (op : List Slot → List Slot) (slotwise : IsSlotwise op) (i : ℕ) (li
     }
 
   -- before the work, where it leaves what follows the stretch
-  pub done-none : i ≤ length list → op (drop i list) ≡ drop i list → IsDoneFrom op i list list
-  done-none le same = record {
+  pub done_none : i ≤ length list → op (drop i list) ≡ drop i list → IsDoneFrom op i list list
+  done_none le same = record {
     within = le;
     is = sym (ap (λ (l : List Slot). take i list ++ l) same ∙ take-append-drop i list);
   }
 
   -- and after it, where it leaves what is before the stretch
-  pub done-all : IsDoneFrom op i list done → op (take i list) ≡ take i list → done ≡ op list
-  done-all h same =
+  pub done_all : IsDoneFrom op i list done → op (take i list) ≡ take i list → done ≡ op list
+  done_all h same =
       h.is ∙ (ap (λ (l : List Slot). l ++ op (drop i list)) (sym same)
       ∙ (sym (slotwise.append (take i list) (drop i list)) ∙ ap op (take-append-drop i list)))
 
 -- what each call does to one slot
-pub cleared-one : (id : List ℕ) (mode : Mode) (slot : Slot) (goes : Bool) → (same_id slot.entry.id id && covers slot.entry.mode mode) ≡ goes
+pub cleared_one : (id : List ℕ) (mode : Mode) (slot : Slot) (goes : Bool) → (same_id slot.entry.id id && covers slot.entry.mode mode) ≡ goes
     → cleared id mode (slot ∷ []) ≡ cond goes [] (slot ∷ [])
-cleared-one id mode slot true e = ap (λ b. cond (not b) (slot ∷ []) []) e
-cleared-one id mode slot false e = ap (λ b. cond (not b) (slot ∷ []) []) e
+cleared_one id mode slot true e = ap (λ b. cond (not b) (slot ∷ []) []) e
+cleared_one id mode slot false e = ap (λ b. cond (not b) (slot ∷ []) []) e
 
-pub hidden-one : (entry : Entry) (slot : Slot) (stays : Bool) → has_some (hide entry slot).modes ≡ stays
+pub hidden_one : (entry : Entry) (slot : Slot) (stays : Bool) → has_some (hide entry slot).modes ≡ stays
     → hidden entry (slot ∷ []) ≡ cond stays (hide entry slot ∷ []) []
-hidden-one entry slot stays e = ap (λ b. cond b (hide entry slot ∷ []) []) e
+hidden_one entry slot stays e = ap (λ b. cond b (hide entry slot ∷ []) []) e
 
 -- what is done from a place on, seen from the place before it
 pub from_before : (op : List Slot → List Slot) (i start : ℕ) (list done : List Slot) → start < i → IsDoneFrom op i list done → IsDoneFrom op (i - 1 + 1) list done

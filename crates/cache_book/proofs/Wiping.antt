@@ -20,11 +20,11 @@ wiped_past now (slot ∷ later) = (one (within slot.entry slot.last now) refl, w
     one false e past = refl
 
 -- what is wiped is dropped
-pub swept-wiped : (now : ℕ) (list : List Slot) → swept now (map (wipe_past now) list) ≡ swept now list
-swept-wiped now [] = refl
-swept-wiped now (slot ∷ later) =
+pub swept_wiped : (now : ℕ) (list : List Slot) → swept now (map (wipe_past now) list) ≡ swept now list
+swept_wiped now [] = refl
+swept_wiped now (slot ∷ later) =
     elim (within slot.entry slot.last now) as (λ b. within slot.entry slot.last now ≡ b
     → swept now (cond b slot (wiped slot) ∷ map (wipe_past now) later) ≡ cond b (slot ∷ swept now later) (swept now later)) [
-      | true ↦ λ e. ap (λ b. cond b (slot ∷ swept now (map (wipe_past now) later)) (swept now (map (wipe_past now) later))) e ∙ ap (λ (l : List Slot). slot ∷ l) (swept-wiped now later)
-      | false ↦ λ e. ap (λ b. cond b (wiped slot ∷ swept now (map (wipe_past now) later)) (swept now (map (wipe_past now) later))) e ∙ swept-wiped now later
+      | true ↦ λ e. ap (λ b. cond b (slot ∷ swept now (map (wipe_past now) later)) (swept now (map (wipe_past now) later))) e ∙ ap (λ (l : List Slot). slot ∷ l) (swept_wiped now later)
+      | false ↦ λ e. ap (λ b. cond b (wiped slot ∷ swept now (map (wipe_past now) later)) (swept now (map (wipe_past now) later))) e ∙ swept_wiped now later
     ] refl

@@ -20,8 +20,8 @@ use Rattle.cache_policy.specs.Histories.{History, next_number, with_mark, marks_
 use Rattle.cache_policy.specs.Entries.{entry_of, entries}
 use Rattle.cache_policy.specs.Live.{newest, takes_away, gone, gives, last_use, is_live, live}
 use Rattle.cache_policy.specs.Book.{Book, after_put, found, put_mark, ask_mark, is_put, is_put_or_ask, IsPut, IsPutOrAsk, IsEndless, IsBookOf, unnumbered, IsEndlessBookOf}
-use Rattle.cache_policy.proofs.Lists.{all_append, all_drop, all_reverse, all_find, any_none, filter_none, all_weaker, map-reverse, find-map}
-use Rattle.cache_policy.proofs.EntriesLemmas.{entries-with_mark}
+use Rattle.cache_policy.proofs.Lists.{all_append, all_drop, all_reverse, all_find, any_none, filter_none, all_weaker, map_reverse, find_map}
+use Rattle.cache_policy.proofs.EntriesLemmas.{entries_with_mark}
 
 -- a put is a put or an ask
 put_is_either : (step : MarkStep) → is_put step ≡ true → is_put_or_ask step ≡ true
@@ -64,10 +64,10 @@ never_used history entry h =
     (λ mark k. ap (gives entry.number) k.reply) history.marks h))
 
 -- over puts alone the live entry is the one that is found
-pub live-puts_alone : (limits : Limits) (history : History) (id : List ℕ) (mode : Mode) (moment : ℕ) →
+pub live_puts_alone : (limits : Limits) (history : History) (id : List ℕ) (mode : Mode) (moment : ℕ) →
     AllByRecursion IsPut history.marks → live limits history id mode moment
     ≡ found (entries limits history) id mode moment
-live-puts_alone limits history id mode moment h = same (newest limits history id mode)
+live_puts_alone limits history id mode moment h = same (newest limits history id mode)
   where
     steps : AllByRecursion IsPutOrAsk history.marks
     steps = all_weaker IsPut IsPutOrAsk (λ mark k. put_is_either mark.step k.step) history.marks h
@@ -82,24 +82,24 @@ live-puts_alone limits history id mode moment h = same (newest limits history id
         ∙ ap (λ (last : ℕ). if within entry last moment then Some entry else None) (never_used history entry h)
 
 -- the book of a history of puts gives what is live
-pub found-puts_alone : (limits : Limits) (history : History) (book : Book) (id : List ℕ) (mode : Mode) (moment : ℕ) →
+pub found_puts_alone : (limits : Limits) (history : History) (book : Book) (id : List ℕ) (mode : Mode) (moment : ℕ) →
     IsBookOf limits history book → found book.entries id mode moment ≡ live limits history id mode moment
-found-puts_alone limits history book id mode moment h =
+found_puts_alone limits history book id mode moment h =
     ap (λ (list : List Entry). found list id mode moment) (sym h.same)
-    ∙ sym (live-puts_alone limits history id mode moment h.puts)
+    ∙ sym (live_puts_alone limits history id mode moment h.puts)
 
 -- and it stays so after a put
-book_of-after_put : (limits : Limits) (history : History) (book : Book) (session : SessionId) (moment : ℕ)
+book_of_after_put : (limits : Limits) (history : History) (book : Book) (session : SessionId) (moment : ℕ)
     (id : List ℕ) (mode : Mode) (life : Life) (secret : List ℕ) →
     IsBookOf limits history book → IsBookOf limits (with_mark history (put_mark session moment id mode life secret))
     (after_put limits book moment id mode life secret)
-book_of-after_put limits history book session moment id mode life secret h = record {
+book_of_after_put limits history book session moment id mode life secret h = record {
   puts = all_append IsPut history.marks (put_mark session moment id mode life secret ∷ []) h.puts
       (record { step = refl; reply = refl }, tt);
   numbers = ap (λ (n : ℕ). history.base + n) (length_push history.marks
       (put_mark session moment id mode life secret)) ∙ (sym (add_assoc history.base (length history.marks) 1)
       ∙ ap (λ (n : ℕ). n + 1) h.numbers);
-  same = entries-with_mark limits history (put_mark session moment id mode life secret)
+  same = entries_with_mark limits history (put_mark session moment id mode life secret)
       ∙ (ap (λ (list : List Entry). list ++ entry_of limits (next_number history) moment id mode life secret) h.same
       ∙ ap (λ (n : ℕ). book.entries ++ entry_of limits n moment id mode life secret) h.numbers);
 }
@@ -112,11 +112,11 @@ endless_within entry last other moment h =
     ∙ sym (ap (λ (ttl : Option ℕ). within (record entry { ttl = ttl }) other moment) h)
 
 -- over puts and asks the live entry is the one that is found, where each entry is endless
-live-endless : (limits : Limits) (history : History) (id : List ℕ) (mode : Mode) (moment : ℕ) →
+live_endless : (limits : Limits) (history : History) (id : List ℕ) (mode : Mode) (moment : ℕ) →
     AllByRecursion IsPutOrAsk history.marks →
     AllByRecursion IsEndless (entries limits history) →
     live limits history id mode moment ≡ found (entries limits history) id mode moment
-live-endless limits history id mode moment steps endless =
+live_endless limits history id mode moment steps endless =
     same (newest limits history id mode)
     (all_find IsEndless (serves id mode) (reverse (entries limits history))
     (all_reverse IsEndless (entries limits history) endless))
@@ -141,12 +141,12 @@ from_unnumbered [] h = tt
 from_unnumbered (entry ∷ list) h = (h.0, from_unnumbered list h.1)
 
 -- what is found does not depend on the numbers
-found-unnumbered : (list : List Entry) (id : List ℕ) (mode : Mode) (moment : ℕ) →
+found_unnumbered : (list : List Entry) (id : List ℕ) (mode : Mode) (moment : ℕ) →
     found (map unnumbered list) id mode moment ≡ option_map unnumbered (found list id mode moment)
-found-unnumbered list id mode moment =
+found_unnumbered list id mode moment =
     ap (λ (o : Option Entry). option_and_then passing o)
-    (ap (find (serves id mode)) (sym (map-reverse unnumbered list))
-    ∙ find-map unnumbered (serves id mode) (λ entry. refl) (reverse list))
+    (ap (find (serves id mode)) (sym (map_reverse unnumbered list))
+    ∙ find_map unnumbered (serves id mode) (λ entry. refl) (reverse list))
     ∙ after (find (serves id mode) (reverse list))
   where
     passing : Entry → Option Entry
@@ -163,20 +163,20 @@ found-unnumbered list id mode moment =
 abbrev its_secret : Entry → List ℕ
 its_secret entry = entry.secret
 
-secret-unnumbered : (o : Option Entry) → option_map its_secret (option_map unnumbered o) ≡ option_map its_secret o
-secret-unnumbered None = refl
-secret-unnumbered (Some entry) = refl
+secret_unnumbered : (o : Option Entry) → option_map its_secret (option_map unnumbered o) ≡ option_map its_secret o
+secret_unnumbered None = refl
+secret_unnumbered (Some entry) = refl
 
 -- the book of endless puts and asks gives the live secret
-pub found-endless : (limits : Limits) (history : History) (book : Book) (id : List ℕ) (mode : Mode) (moment : ℕ) →
+pub found_endless : (limits : Limits) (history : History) (book : Book) (id : List ℕ) (mode : Mode) (moment : ℕ) →
     IsEndlessBookOf limits history book →
     option_map its_secret (found book.entries id mode moment)
     ≡ option_map its_secret (live limits history id mode moment)
-found-endless limits history book id mode moment h =
+found_endless limits history book id mode moment h =
     sym (secret_of book.entries)
     ∙ (ap (λ (list : List Entry). option_map its_secret (found list id mode moment)) (sym h.same)
     ∙ (secret_of (entries limits history)
-    ∙ ap (option_map its_secret) (sym (live-endless limits history id mode moment h.steps endless))))
+    ∙ ap (option_map its_secret) (sym (live_endless limits history id mode moment h.steps endless))))
   where
     endless : AllByRecursion IsEndless (entries limits history)
     endless = from_unnumbered (entries limits history) (subst (AllByRecursion IsEndless) (sym h.same)
@@ -184,23 +184,23 @@ found-endless limits history book id mode moment h =
 
     secret_of : (list : List Entry) → option_map its_secret (found (map unnumbered list) id mode moment)
         ≡ option_map its_secret (found list id mode moment)
-    secret_of list = ap (option_map its_secret) (found-unnumbered list id mode moment)
-        ∙ secret-unnumbered (found list id mode moment)
+    secret_of list = ap (option_map its_secret) (found_unnumbered list id mode moment)
+        ∙ secret_unnumbered (found list id mode moment)
 
 -- it stays so after a put
-endless_book_of-after_put : (limits : Limits) (history : History) (book : Book) (session : SessionId) (moment : ℕ)
+endless_book_of_after_put : (limits : Limits) (history : History) (book : Book) (session : SessionId) (moment : ℕ)
     (id : List ℕ) (mode : Mode) (life : Life) (secret : List ℕ) →
     life ≡ Endless → IsEndlessBookOf limits history book →
     IsEndlessBookOf limits (with_mark history (put_mark session moment id mode life secret))
     (after_put limits book moment id mode life secret)
-endless_book_of-after_put limits history book session moment id mode life secret e h =
+endless_book_of_after_put limits history book session moment id mode life secret e h =
     subst (λ (life : Life). IsEndlessBookOf limits (with_mark history (put_mark session moment id mode life secret))
     (after_put limits book moment id mode life secret)) (sym e) (record {
       steps = all_append IsPutOrAsk history.marks (put_mark session moment id mode Endless secret ∷ []) h.steps
           (refl, tt);
       endless = all_append IsEndless book.entries
           (entry_of limits book.puts moment id mode Endless secret) h.endless (refl, tt);
-      same = ap (map unnumbered) (entries-with_mark limits history (put_mark session moment id mode Endless secret))
+      same = ap (map unnumbered) (entries_with_mark limits history (put_mark session moment id mode Endless secret))
           ∙ (map-append unnumbered (entries limits history) (entry_of limits
           (next_number history) moment id mode Endless secret)
           ∙ (ap (λ (list : List Entry). list ++ map unnumbered (entry_of limits
@@ -209,30 +209,30 @@ endless_book_of-after_put limits history book session moment id mode life secret
     })
 
 -- and after an ask, which leaves the book alone
-pub endless_book_of-ask : (limits : Limits) (history : History) (book : Book) (session : SessionId) (moment : ℕ)
+pub endless_book_of_ask : (limits : Limits) (history : History) (book : Book) (session : SessionId) (moment : ℕ)
     (id : List ℕ) (mode : Mode) (way : Way) (since : Option ℕ) (reply : MarkReply) →
     IsEndlessBookOf limits history book → IsEndlessBookOf limits (with_mark history
     (ask_mark session moment id mode way since reply)) book
-endless_book_of-ask limits history book session moment id mode way since reply h = record {
+endless_book_of_ask limits history book session moment id mode way since reply h = record {
   steps = all_append IsPutOrAsk history.marks (ask_mark session moment id mode way since reply ∷ []) h.steps (refl, tt);
   endless = h.endless;
-  same = ap (map unnumbered) (entries-with_mark limits history (ask_mark session moment id mode way since reply)
+  same = ap (map unnumbered) (entries_with_mark limits history (ask_mark session moment id mode way since reply)
       ∙ append-nil (entries limits history)) ∙ h.same;
 }
 
 -- both for a book that is known to be the one after the put
-pub book_of-put : (limits : Limits) (history : History) (book new : Book) (session : SessionId) (moment : ℕ)
+pub book_of_put : (limits : Limits) (history : History) (book new : Book) (session : SessionId) (moment : ℕ)
     (id : List ℕ) (mode : Mode) (life : Life) (secret : List ℕ) →
     new ≡ after_put limits book moment id mode life secret → IsBookOf limits history book →
     IsBookOf limits (with_mark history (put_mark session moment id mode life secret)) new
-book_of-put limits history book new session moment id mode life secret e h =
+book_of_put limits history book new session moment id mode life secret e h =
     subst (IsBookOf limits (with_mark history (put_mark session moment id mode life secret))) (sym e)
-    (book_of-after_put limits history book session moment id mode life secret h)
+    (book_of_after_put limits history book session moment id mode life secret h)
 
-pub endless_book_of-put : (limits : Limits) (history : History) (book new : Book) (session : SessionId) (moment : ℕ)
+pub endless_book_of_put : (limits : Limits) (history : History) (book new : Book) (session : SessionId) (moment : ℕ)
     (id : List ℕ) (mode : Mode) (life : Life) (secret : List ℕ) →
     new ≡ after_put limits book moment id mode life secret → life ≡ Endless → IsEndlessBookOf limits history book →
     IsEndlessBookOf limits (with_mark history (put_mark session moment id mode life secret)) new
-endless_book_of-put limits history book new session moment id mode life secret e endless h =
+endless_book_of_put limits history book new session moment id mode life secret e endless h =
     subst (IsEndlessBookOf limits (with_mark history (put_mark session moment id mode life secret))) (sym e)
-    (endless_book_of-after_put limits history book session moment id mode life secret endless h)
+    (endless_book_of_after_put limits history book session moment id mode life secret endless h)

@@ -33,36 +33,36 @@ use Rattle.cache_policy.specs.Waits.{is_late}
 use Rattle.cache_policy.specs.Runs.{last_base, turn_over, moment_before}
 use Rattle.cache_policy.specs.Legal.{FollowsPolicy, NeverFall, IsLegal}
 use Rattle.cache_policy.proofs.Lists.{all_reverse, all_find, filter_none}
-use Rattle.cache_policy.proofs.OneMore.{next_number-with_mark, gone-newest, last_use-with_mark}
+use Rattle.cache_policy.proofs.OneMore.{next_number_with_mark, gone_newest, last_use_with_mark}
 
 -- one mark more that follows the policy
-pub follows-push : (limits : Limits) (start : History) (marks : List Mark) (mark : Mark) → FollowsPolicy limits start marks
+pub follows_push : (limits : Limits) (start : History) (marks : List Mark) (mark : Mark) → FollowsPolicy limits start marks
     → policy limits (with_marks start marks) mark.step mark.moment ≡ Reply mark.reply
     → FollowsPolicy limits start (marks ++ mark ∷ [])
-follows-push limits start [] mark follows rules =
+follows_push limits start [] mark follows rules =
     (ap (λ (marks : List Mark). policy limits (record start { marks = marks }) mark.step mark.moment) (sym (append-nil start.marks)) ∙ rules, tt)
-follows-push limits start (first ∷ later) mark follows rules = (
+follows_push limits start (first ∷ later) mark follows rules = (
   follows.0,
-  follows-push limits (with_mark start first) later mark follows.1
+  follows_push limits (with_mark start first) later mark follows.1
       (ap (λ (marks : List Mark). policy limits (record start { marks = marks }) mark.step mark.moment) (append_assoc start.marks (first ∷ []) later) ∙ rules),
 )
 
 -- one mark more whose moment isn't below the last one
-pub never_fall-push : (since : ℕ) (marks : List Mark) (mark : Mark) → NeverFall since marks
+pub never_fall_push : (since : ℕ) (marks : List Mark) (mark : Mark) → NeverFall since marks
     → fold (λ _ (m : Mark). m.moment) since marks ≤ mark.moment → mark.moment ≤ MAX_MOMENT
     → NeverFall since (marks ++ mark ∷ [])
-never_fall-push since [] mark moments later within = (later, within, tt)
-never_fall-push since (first ∷ others) mark moments later within =
-    (moments.0, moments.1, never_fall-push first.moment others mark moments.2 later within)
+never_fall_push since [] mark moments later within = (later, within, tt)
+never_fall_push since (first ∷ others) mark moments later within =
+    (moments.0, moments.1, never_fall_push first.moment others mark moments.2 later within)
 
 -- a legal history with one mark more is legal, where the mark follows the policy, has room, and its moment doesn't fall
-pub legal-with_mark : (limits : Limits) (history : History) (mark : Mark) → IsLegal limits history
+pub legal_with_mark : (limits : Limits) (history : History) (mark : Mark) → IsLegal limits history
     → policy limits history mark.step mark.moment ≡ Reply mark.reply → moment_before history.marks ≤ mark.moment
     → mark.moment ≤ MAX_MOMENT → history.base < last_base → length history.marks < MAX_MARKS
     → IsLegal limits (with_mark history mark)
-legal-with_mark limits history mark legal rules later within going few = record {
-  replies = follows-push limits (start_of history) history.marks mark legal.replies rules;
-  moments = never_fall-push 0 history.marks mark legal.moments later within;
+legal_with_mark limits history mark legal rules later within going few = record {
+  replies = follows_push limits (start_of history) history.marks mark legal.replies rules;
+  moments = never_fall_push 0 history.marks mark legal.moments later within;
   base = legal.base;
   not_spent = inl going;
   few = omega (arith, length_push history.marks mark);
@@ -70,17 +70,17 @@ legal-with_mark limits history mark legal rules later within going few = record 
 }
 
 -- numbers that rise up to some bound rise up to a greater one
-numbered-wider : (low : ℕ) (list : List Entry) (high higher : ℕ) → AreNumbered low list high → high ≤ higher → AreNumbered low list higher
-numbered-wider low [] high higher numbered wider = omega (arith, numbered)
-numbered-wider low (entry ∷ later) high higher numbered wider =
-    (numbered.0, numbered-wider (entry.number + 1) later high higher numbered.1 wider)
+numbered_wider : (low : ℕ) (list : List Entry) (high higher : ℕ) → AreNumbered low list high → high ≤ higher → AreNumbered low list higher
+numbered_wider low [] high higher numbered wider = omega (arith, numbered)
+numbered_wider low (entry ∷ later) high higher numbered wider =
+    (numbered.0, numbered_wider (entry.number + 1) later high higher numbered.1 wider)
 
 -- and go on from there
-numbered-append : (low : ℕ) (list more : List Entry) (mid high : ℕ) → AreNumbered low list mid → AreNumbered mid more high
+numbered_append : (low : ℕ) (list more : List Entry) (mid high : ℕ) → AreNumbered low list mid → AreNumbered mid more high
     → AreNumbered low (list ++ more) high
-numbered-append low [] [] mid high one two = omega (arith, one, two)
-numbered-append low [] (entry ∷ later) mid high one two = (omega (arith, one, two.0), two.1)
-numbered-append low (entry ∷ later) more mid high one two = (one.0, numbered-append (entry.number + 1) later more mid high one.1 two)
+numbered_append low [] [] mid high one two = omega (arith, one, two)
+numbered_append low [] (entry ∷ later) mid high one two = (omega (arith, one, two.0), two.1)
+numbered_append low (entry ∷ later) more mid high one two = (one.0, numbered_append (entry.number + 1) later more mid high one.1 two)
 
 entry_numbered : (limits : Limits) (number moment : ℕ) (id : List ℕ) (mode : Mode) (life : Life) (secret : List ℕ)
     → AreNumbered number (entry_of limits number moment id mode life secret) (number + 1)
@@ -115,17 +115,17 @@ entries_after_numbered limits before [] = omega arith
 entries_after_numbered limits before (mark ∷ later) =
     let more : AreNumbered (next_number (with_mark before mark)) (entries_after limits (with_mark before mark) later)
     (next_number (with_mark before mark) + length later) = entries_after_numbered limits (with_mark before mark) later in
-    numbered-append (next_number before) (stored limits before mark.step mark.moment)
+    numbered_append (next_number before) (stored limits before mark.step mark.moment)
     (entries_after limits (with_mark before mark) later) (next_number before + 1) (next_number before + length (mark ∷ later))
     (stored_numbered limits before mark.step mark.moment)
-    (subst (λ (n : ℕ). AreNumbered n (entries_after limits (with_mark before mark) later) (next_number before + length (mark ∷ later))) (next_number-with_mark before mark)
-    (numbered-wider (next_number (with_mark before mark)) (entries_after limits (with_mark before mark) later)
-    (next_number (with_mark before mark) + length later) (next_number before + length (mark ∷ later)) more (omega (arith, next_number-with_mark before mark))))
+    (subst (λ (n : ℕ). AreNumbered n (entries_after limits (with_mark before mark) later) (next_number before + length (mark ∷ later))) (next_number_with_mark before mark)
+    (numbered_wider (next_number (with_mark before mark)) (entries_after limits (with_mark before mark) later)
+    (next_number (with_mark before mark) + length later) (next_number before + length (mark ∷ later)) more (omega (arith, next_number_with_mark before mark))))
 
 -- the entries of a history have the numbers of marks of it, which rise
 pub entries_numbered : (limits : Limits) (history : History) → AreNumbered history.base (entries limits history) (next_number history)
 entries_numbered limits history =
-    numbered-wider history.base (entries limits history) (history.base + length history.marks) (next_number history)
+    numbered_wider history.base (entries limits history) (history.base + length history.marks) (next_number history)
     (subst (λ (n : ℕ). AreNumbered n (entries limits history) (n + length history.marks)) start (entries_after_numbered limits (start_of history) history.marks)) (omega arith)
   where
     start : next_number (start_of history) ≡ history.base
@@ -187,7 +187,7 @@ none_gives : (limits : Limits) (start : History) (marks : List Mark) (number : �
 none_gives limits start [] number follows later = tt
 none_gives limits start (mark ∷ others) number follows later = (
   not_given mark.reply refl,
-  none_gives limits (with_mark start mark) others number follows.1 (omega (arith, later, next_number-with_mark start mark)),
+  none_gives limits (with_mark start mark) others number follows.1 (omega (arith, later, next_number_with_mark start mark)),
 )
   where
     not_given : (reply : MarkReply) → mark.reply ≡ reply → gives number reply ≡ false
@@ -240,20 +240,20 @@ seat_below history older =
         (λ h. h.ticket < next_number history)) [ true ↦ tt | false ↦ below ]
 
 -- the seat and 'stopped' are kept over a turn-over, and no entry is
-pub seat-turn_over : (history : History) → seat (turn_over history) ≡ seat history
-seat-turn_over history = elim (seat history) as (λ h. option_and_then unless_back (option_map (λ held. (held, [])) h) ≡ h) [ Some held ↦ refl | None ↦ refl ]
+pub seat_turn_over : (history : History) → seat (turn_over history) ≡ seat history
+seat_turn_over history = elim (seat history) as (λ h. option_and_then unless_back (option_map (λ held. (held, [])) h) ≡ h) [ Some held ↦ refl | None ↦ refl ]
 
-pub stopped-turn_over : (history : History) → stopped (turn_over history) ≡ stopped history
-stopped-turn_over history = or-false (stopped history)
+pub stopped_turn_over : (history : History) → stopped (turn_over history) ≡ stopped history
+stopped_turn_over history = or-false (stopped history)
 
-pub live-turn_over : (limits : Limits) (history : History) (id : List ℕ) (mode : Mode) (moment : ℕ)
+pub live_turn_over : (limits : Limits) (history : History) (id : List ℕ) (mode : Mode) (moment : ℕ)
     → live limits (turn_over history) id mode moment ≡ None
-live-turn_over limits history id mode moment = refl
+live_turn_over limits history id mode moment = refl
 
 -- the history that follows a legal full one is legal
-pub legal-turn_over : (limits : Limits) (history : History) → IsLegal limits history → length history.marks ≡ MAX_MARKS
+pub legal_turn_over : (limits : Limits) (history : History) → IsLegal limits history → length history.marks ≡ MAX_MARKS
     → IsLegal limits (turn_over history)
-legal-turn_over limits history legal full = record {
+legal_turn_over limits history legal full = record {
   replies = tt;
   moments = tt;
   base = add-mod_right history.base MAX_MARKS ∙ legal.base;
@@ -266,13 +266,13 @@ legal-turn_over limits history legal full = record {
 }
 
 -- an entry that the last mark stored, and didn't give, is live from its own moment on
-pub is_live-stored : (limits : Limits) (history : History) (mark : Mark) (entry : Entry) (moment : ℕ) → IsLegal limits history
+pub is_live_stored : (limits : Limits) (history : History) (mark : Mark) (entry : Entry) (moment : ℕ) → IsLegal limits history
     → entry.number ≡ next_number history → gives entry.number mark.reply ≡ false
     → is_live (with_mark history mark) moment entry ≡ within entry entry.entered moment
-is_live-stored limits history mark entry moment legal same kept =
-    ap (λ (b : Bool). not b && within entry (last_use (with_mark history mark) entry) moment) (gone-newest history mark entry same)
+is_live_stored limits history mark entry moment legal same kept =
+    ap (λ (b : Bool). not b && within entry (last_use (with_mark history mark) entry) moment) (gone_newest history mark entry same)
     ∙ ap (λ (last : ℕ). within entry last moment)
-    (last_use-with_mark history mark entry ∙ ap (λ (b : Bool). if b then max (last_use history entry) mark.moment else last_use history entry) kept ∙ never_used)
+    (last_use_with_mark history mark entry ∙ ap (λ (b : Bool). if b then max (last_use history entry) mark.moment else last_use history entry) kept ∙ never_used)
   where
     never_used : last_use history entry ≡ entry.entered
     never_used = ap (λ (marks : List Mark). fold max entry.entered (moments marks))

@@ -48,20 +48,20 @@ all_weaker P Q f [] h = tt
 all_weaker P Q f (x ∷ xs) h = (f x h.0, all_weaker P Q f xs h.1)
 
 module _ {A : Type 0} (change : A → A) where
-  map-reverse_aux : (xs ys : List A) → map change (reverse_aux xs ys) ≡ reverse_aux (map change xs) (map change ys)
-  map-reverse_aux [] ys = refl
-  map-reverse_aux (x ∷ xs) ys = map-reverse_aux xs (x ∷ ys)
+  map_reverse_aux : (xs ys : List A) → map change (reverse_aux xs ys) ≡ reverse_aux (map change xs) (map change ys)
+  map_reverse_aux [] ys = refl
+  map_reverse_aux (x ∷ xs) ys = map_reverse_aux xs (x ∷ ys)
 
-  pub map-reverse : (xs : List A) → map change (reverse xs) ≡ reverse (map change xs)
-  map-reverse xs = map-reverse_aux xs []
+  pub map_reverse : (xs : List A) → map change (reverse xs) ≡ reverse (map change xs)
+  map_reverse xs = map_reverse_aux xs []
 
   -- a change that the test does not see leaves what is found, but for the change
-  pub find-map : (test : A → Bool) → ((x : A) → test (change x) ≡ test x) → (xs : List A) →
+  pub find_map : (test : A → Bool) → ((x : A) → test (change x) ≡ test x) → (xs : List A) →
       find test (map change xs) ≡ option_map change (find test xs)
-  find-map test same [] = refl
-  find-map test same (x ∷ xs) =
+  find_map test same [] = refl
+  find_map test same (x ∷ xs) =
       ap (λ b. cond b (Some (change x)) (find test (map change xs))) (same x)
-      ∙ (ap (cond (test x) (Some (change x))) (find-map test same xs)
+      ∙ (ap (cond (test x) (Some (change x))) (find_map test same xs)
       ∙ elim (test x) as (λ b. cond b (Some (change x)) (option_map change (find test xs))
       ≡ option_map change (cond b (Some x) (find test xs))) [ true ↦ refl | false ↦ refl ])
 
@@ -73,7 +73,7 @@ find_passes test (x ∷ xs) =
     ≡ true)) [ true ↦ λ h. h | false ↦ λ h. find_passes test xs ] refl
 
 -- one change after another
-pub option_map-map : {A B C : Type 0} (f : A → B) (g : B → C) (o : Option A) →
+pub option_map_map : {A B C : Type 0} (f : A → B) (g : B → C) (o : Option A) →
     option_map g (option_map f o) ≡ option_map (λ x. g (f x)) o
-option_map-map f g None = refl
-option_map-map f g (Some x) = refl
+option_map_map f g None = refl
+option_map_map f g (Some x) = refl

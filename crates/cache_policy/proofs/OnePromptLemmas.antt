@@ -23,8 +23,8 @@ use Rattle.cache_policy.specs.Waits.{is_late}
 use Rattle.cache_policy.specs.Runs.{IsFollowedBy, IsRun, joined, start_of_run}
 use Rattle.cache_policy.specs.Legal.{FollowsPolicy, IsLegal, IsLegalRun}
 use Rattle.cache_policy.specs.OnePrompt.{before_close, NoneOpens, HasOnePrompt}
-use Rattle.cache_policy.proofs.OneMore.{next_number-with_mark, seat-with_mark}
-use Rattle.cache_policy.proofs.Growing.{seat-turn_over}
+use Rattle.cache_policy.proofs.OneMore.{next_number_with_mark, seat_with_mark}
+use Rattle.cache_policy.proofs.Growing.{seat_turn_over}
 
 prompt_waits : (stops : Bool) (held : Held) (late : Bool) → prompt_ruling stops (Some held) late ≡ Reply Open → ⊥
 prompt_waits true held late rules = cc
@@ -91,7 +91,7 @@ module _ (limits : Limits) where
 
       still : gives_back held.ticket mark.step ≡ false → seat (with_mark before mark) ≡ Some held
       still e =
-          seat-with_mark before mark
+          seat_with_mark before mark
           ∙ ap (λ (b : Bool). if b then Some (record { ticket = next_number before; under = under_of mark.step }) else option_and_then (unless_given_back mark.step) (seat before)) shut
           ∙ ap (option_and_then (unless_given_back mark.step)) out
           ∙ ap (λ (b : Bool). cond b None (Some held)) e
@@ -106,7 +106,7 @@ module _ (limits : Limits) where
       let same : first ≡ mark = cc in
       let behind : later ++ rest ≡ back = cc in
       let ticket : Held = record { ticket = next_number before + 0; under = under_of first.step } in
-      let out : seat (with_mark before first) ≡ Some ticket = seat-with_mark before first
+      let out : seat (with_mark before first) ≡ Some ticket = seat_with_mark before first
       ∙ ap (λ (b : Bool). if b then Some (record { ticket = next_number before; under = under_of first.step }) else option_and_then (unless_given_back first.step) (seat before))
       (ap (λ (m : Mark). is_open m.reply) same ∙ ap is_open opens)
       ∙ ap (λ (n : ℕ). Some (record { ticket = n; under = under_of first.step })) (omega arith) in
@@ -115,7 +115,7 @@ module _ (limits : Limits) where
       (λ o. stays.out ticket (ap (λ (marks : List Mark). seat (record before { marks = marks })) (sym (append_assoc before.marks (first ∷ []) later)) ∙ o)))
   opened_among before (first ∷ later) rest (other ∷ front) back mark follows stays place opens =
       let behind : later ++ rest ≡ front ++ mark ∷ back = cc in
-      subst (λ (n : ℕ). NoneOpens (before_close n back)) (omega (arith, next_number-with_mark before first))
+      subst (λ (n : ℕ). NoneOpens (before_close n back)) (omega (arith, next_number_with_mark before first))
       (opened_among (with_mark before first) later rest front back mark follows.1
       (subst (λ (marks : List Mark). StaysOne (record before { marks = marks }) rest) (sym (append_assoc before.marks (first ∷ []) later)) stays) behind opens)
 
@@ -129,7 +129,7 @@ module _ (limits : Limits) where
 -- a turn-over leaves the ticket out, and the numbers go on
 turned_over : (history next : History) (marks : List Mark) → IsFollowedBy history next → StaysOne (start_of next) marks → StaysOne history marks
 turned_over history next marks followed stays = record {
-  out = λ held out. stays.out held (ap seat followed.start ∙ seat-turn_over history ∙ out);
+  out = λ held out. stays.out held (ap seat followed.start ∙ seat_turn_over history ∙ out);
   opened = λ front back mark place opens. subst (λ (n : ℕ). NoneOpens (before_close n back))
       (omega (arith, followed.full, ap (λ (h : History). h.base) followed.start)) (stays.opened front back mark place opens);
 }

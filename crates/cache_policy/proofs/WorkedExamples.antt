@@ -297,11 +297,11 @@ moment_of_the_last : moment_before (joined (one_close ∷ [])) ≡ 10
 moment_of_the_last = refl
 
 -- the next history goes on with the same ticket out, and stopped likewise
-seat-turn_over : (history : History) → seat (turn_over history) ≡ seat history
-seat-turn_over history = elim (seat history) as
+seat_turn_over : (history : History) → seat (turn_over history) ≡ seat history
+seat_turn_over history = elim (seat history) as
     (λ held. seat (record { base = 0; held = held; stopped = false; marks = [] })
     ≡ held) [ None ↦ refl | Some held ↦ refl ]
 
-stopped-turn_over : (history : History) → stopped (turn_over history) ≡ stopped history
-stopped-turn_over history = elim (stopped history) as
+stopped_turn_over : (history : History) → stopped (turn_over history) ≡ stopped history
+stopped_turn_over history = elim (stopped history) as
     (λ b. stopped (record { base = 0; held = None; stopped = b; marks = [] }) ≡ b) [ true ↦ refl | false ↦ refl ]

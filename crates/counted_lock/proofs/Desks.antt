@@ -19,7 +19,7 @@ use Rattle.cache_policy.specs.Histories.{History}
 use Rattle.cache_policy.specs.Legal.{NeverFall, IsLegalRun}
 use Rattle.cache_policy.specs.Runs.{last_history, next_history, moment_before, moment_of}
 use Rattle.cache_policy.specs.Turns.{Turn, Given, Empty, Open, Stand, Done, Held, Stopping, Late, Refused, FitsReply, FitsStep, MayWantMemory, asked_step, mark_step, wait_of, turn_of, opens, out_after, since_of, since_when, wait_after, with_since}
-use Rattle.cache_policy.proofs.GrowingRuns.{last-run_with_mark}
+use Rattle.cache_policy.proofs.GrowingRuns.{last_run_with_mark}
 use Rattle.cache_policy.specs.declared.step.Step.{Step}
 use Rattle.agent_core.specs.declared.opening.Opening.{Opening}
 use Rattle.agent_core.specs.declared.opening.Opening.TheVariants as opening
@@ -65,7 +65,7 @@ makes_marks limits found own session moment tried turn called asked since settle
       waited = subst (λ (a : MarkStep). IfSome (since_of a) (λ first. (opens asked ≡ true) × (called ≤ first))) (sym tried_is)
           (since_with since asked (λ first. (opens asked ≡ true) × (called ≤ first)) waited);
       before = next_history last;
-      last = ap last_history is ∙ last-run_with_mark (run_of_log found) last mark last_is;
+      last = ap last_history is ∙ last_run_with_mark (run_of_log found) last mark last_is;
       shows = shows;
     }))
 makes_marks limits found own session moment tried _ called asked since settled tried_is waited (stood last last_is more rules wait_is is) = absurd settled

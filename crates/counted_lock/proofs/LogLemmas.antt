@@ -10,7 +10,7 @@ use Rattle.cache_policy.specs.Replay.{first_history}
 use Rattle.cache_policy.specs.Runs.{last_base, IsRun, run_with_mark, last_history, joined, start_of_run, moment_before, moment_of}
 use Rattle.cache_policy.specs.Seat.{stopped}
 use Rattle.cache_policy.specs.Desks.{IsSpentRun}
-use Rattle.cache_policy.proofs.GrowingRuns.{is_run-run_with_mark, joined-run_with_mark, last_is_legal, start-run_with_mark}
+use Rattle.cache_policy.proofs.GrowingRuns.{is_run_run_with_mark, joined_run_with_mark, last_is_legal, start_run_with_mark}
 use Rattle.agent_core.specs.Cores.{AtCore, StandsFor}
 use Rattle.agent_core.specs.Recording.{KeepsRun}
 use Rattle.agent_core.proofs.Counting.{first_base, numbers}
@@ -23,17 +23,17 @@ log_more run (m ∷ ms) mark = log_more (run_with_mark run m) ms mark
 
 is_run_from : (run : List History) (marks : List Mark) → IsRun run → IsRun (run_from run marks)
 is_run_from run [] is = is
-is_run_from run (m ∷ ms) is = is_run_from (run_with_mark run m) ms (is_run-run_with_mark run m is)
+is_run_from run (m ∷ ms) is = is_run_from (run_with_mark run m) ms (is_run_run_with_mark run m is)
 
 joined_from : (run : List History) (marks : List Mark) → IsRun run → joined (run_from run marks) ≡ joined run ++ marks
 joined_from run [] is = sym (append-nil (joined run))
 joined_from run (m ∷ ms) is =
-    joined_from (run_with_mark run m) ms (is_run-run_with_mark run m is)
-    ∙ (ap (λ (l : List Mark). l ++ ms) (joined-run_with_mark run m is) ∙ append_assoc (joined run) (m ∷ []) ms)
+    joined_from (run_with_mark run m) ms (is_run_run_with_mark run m is)
+    ∙ (ap (λ (l : List Mark). l ++ ms) (joined_run_with_mark run m is) ∙ append_assoc (joined run) (m ∷ []) ms)
 
 start_from : (run : List History) (marks : List Mark) → start_of_run (run_from run marks) ≡ start_of_run run
 start_from run [] = refl
-start_from run (m ∷ ms) = start_from (run_with_mark run m) ms ∙ start-run_with_mark run m
+start_from run (m ∷ ms) = start_from (run_with_mark run m) ms ∙ start_run_with_mark run m
 
 pub is_run_log : (marks : List Mark) → IsRun (run_of_log marks)
 is_run_log marks = is_run_from (first_history ∷ []) marks tt

@@ -18,7 +18,7 @@ use Rattle.cache_policy.specs.Histories.{History}
 use Rattle.cache_policy.specs.Runs.{joined, run_with_mark}
 use Rattle.cache_policy.specs.Tallies.{one_if}
 use Rattle.cache_policy.specs.Turns.{Turn, turn_of}
-use Rattle.cache_policy.proofs.GrowingRuns.{joined-run_with_mark}
+use Rattle.cache_policy.proofs.GrowingRuns.{joined_run_with_mark}
 use Rattle.agent_core.specs.Cores.{mark_of}
 use Rattle.agent_core.specs.Known.{TakesStep, marked, stood, refused, spent}
 use Rattle.agent_core.specs.Tallies.{tally_of}
@@ -61,7 +61,7 @@ added_none found marks is = added found marks [] (run_of_log found) is (joined_l
 pub added_one : (found marks : List Mark) (mark : Mark) → run_of_log (found ++ marks) ≡ run_with_mark (run_of_log found) mark → marks ≡ mark ∷ []
 added_one found marks mark is =
     added found marks (mark ∷ []) (run_with_mark (run_of_log found) mark) is
-    (joined-run_with_mark (run_of_log found) mark (is_run_log found) ∙ ap (λ (l : List Mark). l ++ mark ∷ []) (joined_log found))
+    (joined_run_with_mark (run_of_log found) mark (is_run_log found) ∙ ap (λ (l : List Mark). l ++ mark ∷ []) (joined_log found))
 
 own_none : (session : SessionId) (moment : ℕ) (asked : MarkStep) (marks : List Mark) → marks ≡ [] → Own session moment asked marks
 own_none session moment asked marks is = subst (Own session moment asked) (sym is) (record { by = tt; steps = tt; moments = tt })

@@ -13,58 +13,58 @@ step test x y xs ys none = elim (test x) as (λ b. (b || list_any test xs) ≡ f
 ] none
 
 -- the first that passes stands behind those that don't
-pub place-behind : (test : List ℕ → Bool) (xs ys : List (List ℕ)) (y : List ℕ) → list_any test xs ≡ false → test y ≡ true → position_or_len test (xs ++ y ∷ ys) ≡ length xs
-place-behind test [] ys y none here = ap (λ b. cond (not b) (1 + position_or_len test ys) 0) here
-place-behind test (x ∷ xs) ys y none here =
+pub place_behind : (test : List ℕ → Bool) (xs ys : List (List ℕ)) (y : List ℕ) → list_any test xs ≡ false → test y ≡ true → position_or_len test (xs ++ y ∷ ys) ≡ length xs
+place_behind test [] ys y none here = ap (λ b. cond (not b) (1 + position_or_len test ys) 0) here
+place_behind test (x ∷ xs) ys y none here =
     let fails = step test x y xs ys none in
-    let behind = place-behind test xs ys y fails.1 here in
+    let behind = place_behind test xs ys y fails.1 here in
     let at : position_or_len test (x ∷ xs ++ y ∷ ys) ≡ 1 + position_or_len test (xs ++ y ∷ ys) =
     ap (λ b. cond (not b) (1 + position_or_len test (xs ++ y ∷ ys)) 0) fails.0 in
     omega (arith, at, behind)
 
-pub take-front : (xs ys : List (List ℕ)) → take (length xs) (xs ++ ys) ≡ xs
-take-front [] ys = refl
-take-front (x ∷ xs) ys = ap (λ (rest : List (List ℕ)). x ∷ rest) (take-front xs ys)
+pub take_front : (xs ys : List (List ℕ)) → take (length xs) (xs ++ ys) ≡ xs
+take_front [] ys = refl
+take_front (x ∷ xs) ys = ap (λ (rest : List (List ℕ)). x ∷ rest) (take_front xs ys)
 
-pub drop-front : (xs ys : List (List ℕ)) → drop (length xs) (xs ++ ys) ≡ ys
-drop-front [] ys = refl
-drop-front (x ∷ xs) ys = drop-front xs ys
+pub drop_front : (xs ys : List (List ℕ)) → drop (length xs) (xs ++ ys) ≡ ys
+drop_front [] ys = refl
+drop_front (x ∷ xs) ys = drop_front xs ys
 
 -- what lines that go on add to a value
 abbrev pub joined : List (List ℕ) → List ℕ
 joined lines = flat_map (λ line. 32 ∷ line_text line) lines
 
-pub join-is : (value : List ℕ) (lines : List (List ℕ)) → join_with_byte 32 (value ∷ map line_text lines) ≡ value ++ joined lines
-join-is value [] = sym (append-nil value)
-join-is value (line ∷ lines) = ap (λ (rest : List ℕ). value ++ 32 ∷ rest) (join-is (line_text line) lines)
+pub join_is : (value : List ℕ) (lines : List (List ℕ)) → join_with_byte 32 (value ∷ map line_text lines) ≡ value ++ joined lines
+join_is value [] = sym (append-nil value)
+join_is value (line ∷ lines) = ap (λ (rest : List ℕ). value ++ 32 ∷ rest) (join_is (line_text line) lines)
 
 -- a line that goes on is the first of those that do
-pub more-step : (line : List ℕ) (lines : List (List ℕ)) → is_more line ≡ true → take_while is_more (line ∷ lines) ≡ line ∷ take_while is_more lines
-more-step line lines more =
+pub more_step : (line : List ℕ) (lines : List (List ℕ)) → is_more line ≡ true → take_while is_more (line ∷ lines) ≡ line ∷ take_while is_more lines
+more_step line lines more =
     let one : 1 + prefix_len is_more lines ≡ suc (prefix_len is_more lines) = omega arith in
     ap (λ b. take (cond b (1 + prefix_len is_more lines) 0) (line ∷ lines)) more ∙ ap (λ n. take n (line ∷ lines)) one
 
-pub rest-step : (line : List ℕ) (lines : List (List ℕ)) → is_more line ≡ true → drop (prefix_len is_more (line ∷ lines)) (line ∷ lines) ≡ drop (prefix_len is_more lines) lines
-rest-step line lines more =
+pub rest_step : (line : List ℕ) (lines : List (List ℕ)) → is_more line ≡ true → drop (prefix_len is_more (line ∷ lines)) (line ∷ lines) ≡ drop (prefix_len is_more lines) lines
+rest_step line lines more =
     let one : 1 + prefix_len is_more lines ≡ suc (prefix_len is_more lines) = omega arith in
     ap (λ b. drop (cond b (1 + prefix_len is_more lines) 0) (line ∷ lines)) more ∙ ap (λ n. drop n (line ∷ lines)) one
 
-pub more-stops : (line : List ℕ) (lines : List (List ℕ)) → is_more line ≡ false → prefix_len is_more (line ∷ lines) ≡ 0
-more-stops line lines none = ap (λ b. cond b (1 + prefix_len is_more lines) 0) none
+pub more_stops : (line : List ℕ) (lines : List (List ℕ)) → is_more line ≡ false → prefix_len is_more (line ∷ lines) ≡ 0
+more_stops line lines none = ap (λ b. cond b (1 + prefix_len is_more lines) 0) none
 
-front-of : (xs ys : List ℕ) → take (length xs) (xs ++ ys) ≡ xs
-front-of [] ys = refl
-front-of (x ∷ xs) ys = ap (λ (rest : List ℕ). x ∷ rest) (front-of xs ys)
+front_of : (xs ys : List ℕ) → take (length xs) (xs ++ ys) ≡ xs
+front_of [] ys = refl
+front_of (x ∷ xs) ys = ap (λ (rest : List ℕ). x ∷ rest) (front_of xs ys)
 
 -- what stands before a rest
-pub take-bytes : (file front rest : List ℕ) → file ≡ front ++ rest → take (length file - length rest) file ≡ front
-take-bytes file front rest e =
+pub take_bytes : (file front rest : List ℕ) → file ≡ front ++ rest → take (length file - length rest) file ≡ front
+take_bytes file front rest e =
     let long : length file - length rest ≡ length front = omega (arith, ap (λ (t : List ℕ). length t) e, length-append front rest) in
-    ap (λ n. take n file) long ∙ ap (λ (t : List ℕ). take (length front) t) e ∙ front-of front rest
+    ap (λ n. take n file) long ∙ ap (λ (t : List ℕ). take (length front) t) e ∙ front_of front rest
 
 -- one line more of a value
-pub add-line : (value text line : List ℕ) (lines : List (List ℕ)) → text ≡ line_text line → ((value ++ 32 ∷ []) ++ text) ++ joined lines ≡ value ++ joined (line ∷ lines)
-add-line value text line lines is =
+pub add_line : (value text line : List ℕ) (lines : List (List ℕ)) → text ≡ line_text line → ((value ++ 32 ∷ []) ++ text) ++ joined lines ≡ value ++ joined (line ∷ lines)
+add_line value text line lines is =
     ap (λ (t : List ℕ). ((value ++ 32 ∷ []) ++ t) ++ joined lines) is
     ∙ append_assoc (value ++ 32 ∷ []) (line_text line) (joined lines)
     ∙ append_assoc value (32 ∷ []) (line_text line ++ joined lines)

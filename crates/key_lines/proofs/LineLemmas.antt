@@ -39,16 +39,16 @@ from_rest byte bytes further = elim (is_lf byte) as (λ b. is_lf byte ≡ b → 
 ] refl
 
 -- the first line ends with the first LF, or with the file
-pub lines-step : (byte : ℕ) (bytes : List ℕ) → lines_of (byte ∷ bytes) ≡ first_and_rest (byte ∷ bytes)
-lines-step byte [] = from_rest byte [] refl
-lines-step byte (next ∷ bytes) = from_rest byte (next ∷ bytes) (ap (onto_first byte) (lines-step next bytes))
+pub lines_step : (byte : ℕ) (bytes : List ℕ) → lines_of (byte ∷ bytes) ≡ first_and_rest (byte ∷ bytes)
+lines_step byte [] = from_rest byte [] refl
+lines_step byte (next ∷ bytes) = from_rest byte (next ∷ bytes) (ap (onto_first byte) (lines_step next bytes))
 
 -- a byte is among these where the place of the first isn't past their end
-pub any-before_end : (test : ℕ → Bool) (bytes : List ℕ) → list_any test bytes ≡ nat_lt (position_or_len test bytes) (length bytes)
-any-before_end test [] = refl
-any-before_end test (byte ∷ bytes) = elim (test byte) as (λ b. (b || list_any test bytes) ≡ nat_lt (cond (not b) (1 + position_or_len test bytes) 0) (suc (length bytes))) [
+pub any_before_end : (test : ℕ → Bool) (bytes : List ℕ) → list_any test bytes ≡ nat_lt (position_or_len test bytes) (length bytes)
+any_before_end test [] = refl
+any_before_end test (byte ∷ bytes) = elim (test byte) as (λ b. (b || list_any test bytes) ≡ nat_lt (cond (not b) (1 + position_or_len test bytes) 0) (suc (length bytes))) [
   | true ↦ grind (arith, nat_tests)
-  | false ↦ grind (arith, nat_tests, any-before_end test bytes)
+  | false ↦ grind (arith, nat_tests, any_before_end test bytes)
 ]
 
 onto : (byte : ℕ) (lines : List (List ℕ)) → concat (onto_first byte lines) ≡ byte ∷ concat lines
@@ -56,17 +56,17 @@ onto byte [] = refl
 onto byte (line ∷ lines) = refl
 
 -- the lines make the file
-pub concat-lines : (bytes : List ℕ) → concat (lines_of bytes) ≡ bytes
-concat-lines [] = refl
-concat-lines (byte ∷ bytes) = cond_both (is_lf byte) ((byte ∷ []) ∷ lines_of bytes) (onto_first byte (lines_of bytes))
+pub concat_lines : (bytes : List ℕ) → concat (lines_of bytes) ≡ bytes
+concat_lines [] = refl
+concat_lines (byte ∷ bytes) = cond_both (is_lf byte) ((byte ∷ []) ∷ lines_of bytes) (onto_first byte (lines_of bytes))
     (λ (lines : List (List ℕ)). concat lines ≡ byte ∷ bytes)
-    (λ _. ap (λ (rest : List ℕ). byte ∷ rest) (concat-lines bytes))
-    (λ _. onto byte (lines_of bytes) ∙ ap (λ (rest : List ℕ). byte ∷ rest) (concat-lines bytes))
+    (λ _. ap (λ (rest : List ℕ). byte ∷ rest) (concat_lines bytes))
+    (λ _. onto byte (lines_of bytes) ∙ ap (λ (rest : List ℕ). byte ∷ rest) (concat_lines bytes))
 
 -- all pass where those at the front that pass are all
-pub all-within : (test : ℕ → Bool) (bytes : List ℕ) → list_all test bytes ≡ nat_le (length bytes) (prefix_len test bytes)
-all-within test [] = refl
-all-within test (byte ∷ bytes) = elim (test byte) as (λ b. (b && list_all test bytes) ≡ nat_le (suc (length bytes)) (cond b (1 + prefix_len test bytes) 0)) [
-  | true ↦ grind (arith, nat_tests, all-within test bytes)
+pub all_within : (test : ℕ → Bool) (bytes : List ℕ) → list_all test bytes ≡ nat_le (length bytes) (prefix_len test bytes)
+all_within test [] = refl
+all_within test (byte ∷ bytes) = elim (test byte) as (λ b. (b && list_all test bytes) ≡ nat_le (suc (length bytes)) (cond b (1 + prefix_len test bytes) 0)) [
+  | true ↦ grind (arith, nat_tests, all_within test bytes)
   | false ↦ grind (arith, nat_tests)
 ]

@@ -18,6 +18,6 @@ never place lists_open broken_atom = λ e. absurd cc
 never place lists_open ended = λ e. absurd cc
 never place lists_open no_item = λ e. absurd cc
 
-pub no-memory : (value : List ℕ) → IsTextFault value NoMemory → ⊥
-no-memory value (inl h) = never (place_of value (without_front is_space_byte h.rest)) (length h.lists) h.found h.is
-no-memory value (inr h) = let e = h.is in absurd (cc e)
+pub no_memory : (value : List ℕ) → IsTextFault value NoMemory → ⊥
+no_memory value (inl h) = never (place_of value (without_front is_space_byte h.rest)) (length h.lists) h.found h.is
+no_memory value (inr h) = let e = h.is in absurd (cc e)

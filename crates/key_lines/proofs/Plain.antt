@@ -33,69 +33,69 @@ pub both : (a b : Bool) → (a && b) ≡ true → (a ≡ true) × (b ≡ true)
 both true b e = (refl, e)
 both false b e = absurd cc
 
-plain-where : (b : ℕ) → (b ≡ 10 → ⊥) → (b ≡ 13 → ⊥) → is_plain b ≡ true
-plain-where b lf cr =
+plain_where : (b : ℕ) → (b ≡ 10 → ⊥) → (b ≡ 13 → ⊥) → is_plain b ≡ true
+plain_where b lf cr =
     ap (λ t. not t && not (b == 13)) (isnt (b == 10) (λ e. lf (eqb-true b 10 e)))
     ∙ ap (λ t. not t) (isnt (b == 13) (λ e. cr (eqb-true b 13 e)))
 
-plain-append : (a b : List ℕ) → are_plain a ≡ true → are_plain b ≡ true → are_plain (a ++ b) ≡ true
-plain-append a b e f = list_all-append is_plain a b ∙ ap (λ t. t && are_plain b) e ∙ f
+plain_append : (a b : List ℕ) → are_plain a ≡ true → are_plain b ≡ true → are_plain (a ++ b) ≡ true
+plain_append a b e f = list_all-append is_plain a b ∙ ap (λ t. t && are_plain b) e ∙ f
 
 -- ---- tokens
 
-token_byte-plain : (b : ℕ) → is_token_byte b ≡ true → is_plain b ≡ true
+token_byte_plain : (b : ℕ) → is_token_byte b ≡ true → is_plain b ≡ true
 unfolding is_token_byte is_token_start is_token_mark
-token_byte-plain b token = plain-where b
+token_byte_plain b token = plain_where b
     (λ at. let e : true ≡ false = sym token ∙ ap is_token_byte at in absurd (cc e))
     (λ at. let e : true ≡ false = sym token ∙ ap is_token_byte at in absurd (cc e))
 
-start-byte : (b : ℕ) → is_token_start b ≡ true → is_token_byte b ≡ true
+start_byte : (b : ℕ) → is_token_start b ≡ true → is_token_byte b ≡ true
 unfolding is_token_byte
-start-byte b start = ap (λ t. t || is_ascii_digit b) start
+start_byte b start = ap (λ t. t || is_ascii_digit b) start
 
-tokens-plain : (bytes : List ℕ) → are_token_bytes bytes ≡ true → are_plain bytes ≡ true
-tokens-plain [] e = refl
-tokens-plain (b ∷ more) e =
+tokens_plain : (bytes : List ℕ) → are_token_bytes bytes ≡ true → are_plain bytes ≡ true
+tokens_plain [] e = refl
+tokens_plain (b ∷ more) e =
     let parts = both (is_token_byte b) (are_token_bytes more) e in
-    ap (λ t. t && are_plain more) (token_byte-plain b parts.0) ∙ tokens-plain more parts.1
+    ap (λ t. t && are_plain more) (token_byte_plain b parts.0) ∙ tokens_plain more parts.1
 
-token-plain : (bytes : List ℕ) → is_token bytes ≡ true → are_plain bytes ≡ true
-token-plain [] e = refl
-token-plain (b ∷ more) e =
+token_plain : (bytes : List ℕ) → is_token bytes ≡ true → are_plain bytes ≡ true
+token_plain [] e = refl
+token_plain (b ∷ more) e =
     let parts = both (is_token_start b) (are_token_bytes more) e in
-    ap (λ t. t && are_plain more) (token_byte-plain b (start-byte b parts.0)) ∙ tokens-plain more parts.1
+    ap (λ t. t && are_plain more) (token_byte_plain b (start_byte b parts.0)) ∙ tokens_plain more parts.1
 
 -- ---- hexadecimal atoms
 
-glyph-high : (n : ℕ) → 48 ≤ hex_glyph n
-glyph-high n = cond_both (nat_lt n 10) (48 + n) (65 + (n - 10)) (λ g. 48 ≤ g) (λ _. omega arith) (λ _. omega arith)
+glyph_high : (n : ℕ) → 48 ≤ hex_glyph n
+glyph_high n = cond_both (nat_lt n 10) (48 + n) (65 + (n - 10)) (λ g. 48 ≤ g) (λ _. omega arith) (λ _. omega arith)
 
-glyph-plain : (n : ℕ) → is_plain (hex_glyph n) ≡ true
-glyph-plain n = let high = glyph-high n in plain-where (hex_glyph n) (λ e. absurd (omega (arith, e, high))) (λ e. absurd (omega (arith, e, high)))
+glyph_plain : (n : ℕ) → is_plain (hex_glyph n) ≡ true
+glyph_plain n = let high = glyph_high n in plain_where (hex_glyph n) (λ e. absurd (omega (arith, e, high))) (λ e. absurd (omega (arith, e, high)))
 
-pairs-plain : (bytes : List ℕ) → are_plain (hex_pairs bytes) ≡ true
-pairs-plain [] = refl
-pairs-plain (b ∷ more) =
-    ap (λ t. t && (is_plain (hex_glyph (b % 16)) && are_plain (hex_pairs more))) (glyph-plain (b / 16))
-    ∙ ap (λ t. t && are_plain (hex_pairs more)) (glyph-plain (b % 16))
-    ∙ pairs-plain more
+pairs_plain : (bytes : List ℕ) → are_plain (hex_pairs bytes) ≡ true
+pairs_plain [] = refl
+pairs_plain (b ∷ more) =
+    ap (λ t. t && (is_plain (hex_glyph (b % 16)) && are_plain (hex_pairs more))) (glyph_plain (b / 16))
+    ∙ ap (λ t. t && are_plain (hex_pairs more)) (glyph_plain (b % 16))
+    ∙ pairs_plain more
 
 -- ---- expressions
 
 mutual
-  plain-tree : (t : Tree) → are_plain (advanced t) ≡ true
-  plain-tree (leaf bytes) = cond_both (is_token bytes) bytes (35 ∷ hex_pairs bytes ++ 35 ∷ []) (λ (text : List ℕ). are_plain text ≡ true)
-      (λ token. token-plain bytes token)
-      (λ _. plain-append (hex_pairs bytes) (35 ∷ []) (pairs-plain bytes) refl)
-  plain-tree (branch items) = plain-append (row_text items) (41 ∷ []) (plain-row items) refl
+  plain_tree : (t : Tree) → are_plain (advanced t) ≡ true
+  plain_tree (leaf bytes) = cond_both (is_token bytes) bytes (35 ∷ hex_pairs bytes ++ 35 ∷ []) (λ (text : List ℕ). are_plain text ≡ true)
+      (λ token. token_plain bytes token)
+      (λ _. plain_append (hex_pairs bytes) (35 ∷ []) (pairs_plain bytes) refl)
+  plain_tree (branch items) = plain_append (row_text items) (41 ∷ []) (plain_row items) refl
 
-  plain-row : (items : Row) → are_plain (row_text items) ≡ true
-  plain-row end = refl
-  plain-row (item t more) = plain-append (advanced t) (spaced_row more) (plain-tree t) (plain-spaced more)
+  plain_row : (items : Row) → are_plain (row_text items) ≡ true
+  plain_row end = refl
+  plain_row (item t more) = plain_append (advanced t) (spaced_row more) (plain_tree t) (plain_spaced more)
 
-  plain-spaced : (items : Row) → are_plain (spaced_row items) ≡ true
-  plain-spaced end = refl
-  plain-spaced (item t more) = plain-append (advanced t) (spaced_row more) (plain-tree t) (plain-spaced more)
+  plain_spaced : (items : Row) → are_plain (spaced_row items) ≡ true
+  plain_spaced end = refl
+  plain_spaced (item t more) = plain_append (advanced t) (spaced_row more) (plain_tree t) (plain_spaced more)
 
 -- ---- the line
 
@@ -106,12 +106,12 @@ key_text tree = codes "Key: " ++ advanced_of tree
 abbrev pub key_line : Sexp → List ℕ
 key_line tree = key_text tree ++ 10 ∷ []
 
-pub text-plain : (tree : Sexp) → are_plain (key_text tree) ≡ true
-text-plain tree = plain-tree (tree_of tree)
+pub text_plain : (tree : Sexp) → are_plain (key_text tree) ≡ true
+text_plain tree = plain_tree (tree_of tree)
 
 -- a line of plain bytes that LF ends: its text is all but that
-plain-last : (bytes : List ℕ) → 0 < length bytes → are_plain bytes ≡ true → is_plain (last_byte bytes) ≡ true
-plain-last bytes some plain =
+plain_last : (bytes : List ℕ) → 0 < length bytes → are_plain bytes ≡ true → is_plain (last_byte bytes) ≡ true
+plain_last bytes some plain =
     let inside : length bytes - 1 < length bytes = omega arith in
     elim (is_plain (last_byte bytes)) as (λ b. is_plain (last_byte bytes) ≡ b → b ≡ true) [
       | true ↦ λ _. refl
@@ -121,21 +121,21 @@ plain-last bytes some plain =
 no_cr : (byte : ℕ) → is_plain byte ≡ true → (byte == 13) ≡ false
 no_cr byte plain = isnt (byte == 13) (λ e. let at : is_plain byte ≡ is_plain 13 = ap is_plain (eqb-true byte 13 e) in let f : true ≡ false = sym plain ∙ at in absurd (cc f))
 
-pub text-of-line : (text : List ℕ) → 0 < length text → are_plain text ≡ true → line_text (text ++ 10 ∷ []) ≡ text
-text-of-line text some plain =
+pub text_of_line : (text : List ℕ) → 0 < length text → are_plain text ≡ true → line_text (text ++ 10 ∷ []) ≡ text
+text_of_line text some plain =
     let line = text ++ 10 ∷ [] in
     let long : length line - 1 ≡ length text = omega (arith, length-append text (10 ∷ [])) in
     let last : last_byte line ≡ 10 = ap (λ n. get_or line n 0) long ∙ get_or-append_seam text 10 [] 0 in
     let rest : without_last line ≡ text = ap (λ n. take n line) long ∙ take-append_seam text (10 ∷ []) in
     ap (λ b. if is_lf b then without_cr (without_last line) else line) last
     ∙ ap without_cr rest
-    ∙ ap (λ b. if b then without_last text else text) (no_cr (last_byte text) (plain-last text some plain))
+    ∙ ap (λ b. if b then without_last text else text) (no_cr (last_byte text) (plain_last text some plain))
 
-pub text-of-key : (tree : Sexp) → line_text (key_line tree) ≡ key_text tree
-text-of-key tree = text-of-line (key_text tree) (omega arith) (text-plain tree)
+pub text_of_key : (tree : Sexp) → line_text (key_line tree) ≡ key_text tree
+text_of_key tree = text_of_line (key_text tree) (omega arith) (text_plain tree)
 
-pub form-of-key : (tree : Sexp) → line_form (key_line tree) ≡ Key
-form-of-key tree = ap form_of_text (text-of-key tree)
+pub form_of_key : (tree : Sexp) → line_form (key_line tree) ≡ Key
+form_of_key tree = ap form_of_text (text_of_key tree)
 
-pub value-of-key : (tree : Sexp) → value_in (line_text (key_line tree)) ≡ 32 ∷ advanced_of tree
-value-of-key tree = ap value_in (text-of-key tree)
+pub value_of_key : (tree : Sexp) → value_in (line_text (key_line tree)) ≡ 32 ∷ advanced_of tree
+value_of_key tree = ap value_in (text_of_key tree)

@@ -21,11 +21,11 @@ use Rattle.key_lines.specs.KeyFile.{KeyFile, IsKeyFile, with_key}
 use Rattle.key_lines.specs.Canon.{is_canonical, Canon}
 use Rattle.key_lines.specs.declared.forms.LineForm.{LineForm}
 use Rattle.key_lines.specs.declared.forms.LineForm.TheVariants.{Comment, GoesOn, Item, Key, NoForm}
-use Rattle.key_lines.proofs.LineLemmas.{concat-lines}
-use Rattle.key_lines.proofs.KeyLemmas.{place-behind, take-front, drop-front}
-use Rattle.key_lines.proofs.Plain.{key_text, key_line, text-plain, form-of-key, value-of-key}
-use Rattle.key_lines.proofs.Ended.{line-first, lines-first, before-ended, lines-last, plain-ended}
-use Rattle.key_lines.proofs.LeftOut.{well-without}
+use Rattle.key_lines.proofs.LineLemmas.{concat_lines}
+use Rattle.key_lines.proofs.KeyLemmas.{place_behind, take_front, drop_front}
+use Rattle.key_lines.proofs.Plain.{key_text, key_line, text_plain, form_of_key, value_of_key}
+use Rattle.key_lines.proofs.Ended.{line_first, lines_first, before_ended, lines_last, plain_ended}
+use Rattle.key_lines.proofs.LeftOut.{well_without}
 
 -- ---- where the first that passes stands
 
@@ -63,37 +63,37 @@ first_later test x xs e i =
       none = ap (λ n. list_any test (take n (x ∷ xs))) at ∙ ap (λ b. b || list_any test (take place xs)) e ∙ i.none;
     }
 
-first-of : (test : List ℕ → Bool) (xs : List (List ℕ)) → list_any test xs ≡ true → IsFirst test xs
-first-of test [] some = absurd cc
-first-of test (x ∷ xs) some =
+first_of : (test : List ℕ → Bool) (xs : List (List ℕ)) → list_any test xs ≡ true → IsFirst test xs
+first_of test [] some = absurd cc
+first_of test (x ∷ xs) some =
     elim (test x) as (λ b. test x ≡ b → (b || list_any test xs) ≡ true → IsFirst test (x ∷ xs)) [
       | true ↦ λ e _. first_here test x xs e
-      | false ↦ λ e h. first_later test x xs e (first-of test xs h)
+      | false ↦ λ e h. first_later test x xs e (first_of test xs h)
     ] refl some
 
 -- ---- the lines that go on
 
-taken-go-on : (lines : List (List ℕ)) → list_all goes_on (map line_form (take (prefix_len is_more lines) lines)) ≡ true
-taken-go-on [] = refl
-taken-go-on (line ∷ lines) =
+taken_go_on : (lines : List (List ℕ)) → list_all goes_on (map line_form (take (prefix_len is_more lines) lines)) ≡ true
+taken_go_on [] = refl
+taken_go_on (line ∷ lines) =
     elim (is_more line) as (λ b. is_more line ≡ b → list_all goes_on (map line_form (take (prefix_len is_more (line ∷ lines)) (line ∷ lines))) ≡ true) [
       | true ↦ λ e.
           let one : 1 + prefix_len is_more lines ≡ suc (prefix_len is_more lines) = omega arith in
           let at : prefix_len is_more (line ∷ lines) ≡ suc (prefix_len is_more lines) = ap (λ b. cond b (1 + prefix_len is_more lines) 0) e ∙ one in
           ap (λ n. list_all goes_on (map line_form (take n (line ∷ lines)))) at
           ∙ ap (λ b. b && list_all goes_on (map line_form (take (prefix_len is_more lines) lines))) e
-          ∙ taken-go-on lines
+          ∙ taken_go_on lines
       | false ↦ λ e. ap (λ n. list_all goes_on (map line_form (take (cond n (1 + prefix_len is_more lines) 0) (line ∷ lines)))) e
     ] refl
 
-rest-stops : (lines : List (List ℕ)) → prefix_len is_more (drop (prefix_len is_more lines) lines) ≡ 0
-rest-stops [] = refl
-rest-stops (line ∷ lines) =
+rest_stops : (lines : List (List ℕ)) → prefix_len is_more (drop (prefix_len is_more lines) lines) ≡ 0
+rest_stops [] = refl
+rest_stops (line ∷ lines) =
     elim (is_more line) as (λ b. is_more line ≡ b → prefix_len is_more (drop (prefix_len is_more (line ∷ lines)) (line ∷ lines)) ≡ 0) [
       | true ↦ λ e.
           let one : 1 + prefix_len is_more lines ≡ suc (prefix_len is_more lines) = omega arith in
           let at : prefix_len is_more (line ∷ lines) ≡ suc (prefix_len is_more lines) = ap (λ b. cond b (1 + prefix_len is_more lines) 0) e ∙ one in
-          ap (λ n. prefix_len is_more (drop n (line ∷ lines))) at ∙ rest-stops lines
+          ap (λ n. prefix_len is_more (drop n (line ∷ lines))) at ∙ rest_stops lines
       | false ↦ λ e.
           let at : prefix_len is_more (line ∷ lines) ≡ 0 = ap (λ b. cond b (1 + prefix_len is_more lines) 0) e in
           ap (λ n. prefix_len is_more (drop n (line ∷ lines))) at ∙ at
@@ -105,27 +105,27 @@ rest-stops (line ∷ lines) =
 abbrev pub IsReadAgain : Sexp → Type 0
 IsReadAgain tree = ReadsAdvanced (advanced_of tree) (Ok (tree, length (advanced_of tree)))
 
-begins-behind : (t : Tree) (text rest : List ℕ) → Begins text (signs t) rest → Begins (32 ∷ text) (signs t) rest
+begins_behind : (t : Tree) (text rest : List ℕ) → Begins text (signs t) rest → Begins (32 ∷ text) (signs t) rest
 unfolding is_between
-begins-behind (leaf bytes) text rest h = h
-begins-behind (branch items) text rest h = h
+begins_behind (leaf bytes) text rest h = h
+begins_behind (branch items) text rest h = h
 
-reads-behind : (tree : Sexp) → IsReadAgain tree → ReadsAdvanced (32 ∷ advanced_of tree) (Ok (tree, suc (length (advanced_of tree))))
-reads-behind tree e =
+reads_behind : (tree : Sexp) → IsReadAgain tree → ReadsAdvanced (32 ∷ advanced_of tree) (Ok (tree, suc (length (advanced_of tree))))
+reads_behind tree e =
     let text = advanced_of tree in
     record {
       within = omega (arith, e.within);
       shallow = e.shallow;
-      spelled = begins-behind (tree_of tree) text (drop (length text) text) e.spelled;
+      spelled = begins_behind (tree_of tree) text (drop (length text) text) e.spelled;
     }
 
-drop-all : (bytes : List ℕ) → drop (length bytes) bytes ≡ []
-drop-all [] = refl
-drop-all (byte ∷ bytes) = drop-all bytes
+drop_all : (bytes : List ℕ) → drop (length bytes) bytes ≡ []
+drop_all [] = refl
+drop_all (byte ∷ bytes) = drop_all bytes
 
-text-again : (tree : Sexp) → IsReadAgain tree → length (spelling_of tree) ≤ most_bytes → IsKeyText (32 ∷ advanced_of tree) tree
-text-again tree again short =
-    (record { len = suc (length (advanced_of tree)); reads = reads-behind tree again; blank = ap (list_all is_blank) (drop-all (advanced_of tree)) }, short)
+text_again : (tree : Sexp) → IsReadAgain tree → length (spelling_of tree) ≤ most_bytes → IsKeyText (32 ∷ advanced_of tree) tree
+text_again tree again short =
+    (record { len = suc (length (advanced_of tree)); reads = reads_behind tree again; blank = ap (list_all is_blank) (drop_all (advanced_of tree)) }, short)
 
 -- ---- the file
 
@@ -147,71 +147,71 @@ only_key Item e = absurd cc
 only_key Key e = refl
 only_key NoForm e = absurd cc
 
-key-form : (line : List ℕ) → is_key_line line ≡ true → line_form line ≡ Key
-key-form line e = only_key (line_form line) e
+key_form : (line : List ℕ) → is_key_line line ≡ true → line_form line ≡ Key
+key_form line e = only_key (line_form line) e
 
-new-lines : (file : List ℕ) (tree : Sexp) → line_fault file ≡ None → has_key file ≡ true → HasLines file (before_key file ++ (key_line tree ++ after_key file)) tree
-new-lines file tree formed has =
+new_lines : (file : List ℕ) (tree : Sexp) → line_fault file ≡ None → has_key file ≡ true → HasLines file (before_key file ++ (key_line tree ++ after_key file)) tree
+new_lines file tree formed has =
     let all = lines_of file in
-    let i = first-of is_key_line all has in
+    let i = first_of is_key_line all has in
     let passed = take (position_or_len is_key_line all) all in
     let more = take (prefix_len is_more i.rest) i.rest in
     let rest = drop (prefix_len is_more i.rest) i.rest in
     let cut : i.rest ≡ more ++ rest = sym (take-append-drop (prefix_len is_more i.rest) i.rest) in
     let parts : all ≡ (passed ++ i.first ∷ more) ++ rest =
     i.parts ∙ ap (λ (ls : List (List ℕ)). passed ++ i.first ∷ ls) cut ∙ sym (append_assoc passed (i.first ∷ more) rest) in
-    let ended = before-ended passed i.rest i.first file i.parts in
-    let line = plain-ended (key_text tree) (text-plain tree) in
-    let last = lines-last (passed ++ i.first ∷ more) rest file parts in
+    let ended = before_ended passed i.rest i.first file i.parts in
+    let line = plain_ended (key_text tree) (text_plain tree) in
+    let last = lines_last (passed ++ i.first ∷ more) rest file parts in
     let after : after_key file ≡ concat rest = ap (λ (ls : List (List ℕ)). concat (after_item ls)) i.from in
     record {
       passed = passed;
       rest = rest;
-      lines = lines-first passed (key_line tree ++ after_key file) ended
+      lines = lines_first passed (key_line tree ++ after_key file) ended
           ∙ ap (λ (ls : List (List ℕ)). passed ++ ls)
-          (line-first (key_line tree) (after_key file) line ∙ ap (λ (ls : List (List ℕ)). key_line tree ∷ ls) (ap lines_of after ∙ last));
+          (line_first (key_line tree) (after_key file) line ∙ ap (λ (ls : List (List ℕ)). key_line tree ∷ ls) (ap lines_of after ∙ last));
       none = i.none;
-      stops = rest-stops i.rest;
-      formed = well-without (map line_form passed) (map line_form more) (map line_form rest) (taken-go-on i.rest)
+      stops = rest_stops i.rest;
+      formed = well_without (map line_form passed) (map line_form more) (map line_form rest) (taken_go_on i.rest)
           (sym (ap (λ (ls : List (List ℕ)). first_line_fault [] (map line_form ls)) (i.parts ∙ ap (λ (ls : List (List ℕ)). passed ++ i.first ∷ ls) cut)
           ∙ ap (λ (fs : List LineForm). first_line_fault [] fs)
           (map-append line_form passed (i.first ∷ (more ++ rest))
-          ∙ ap (λ (f : LineForm). map line_form passed ++ f ∷ map line_form (more ++ rest)) (key-form i.first i.passes)
+          ∙ ap (λ (f : LineForm). map line_form passed ++ f ∷ map line_form (more ++ rest)) (key_form i.first i.passes)
           ∙ ap (λ (fs : List LineForm). map line_form passed ++ Key ∷ fs) (map-append line_form more rest)))
           ∙ formed);
       before = refl;
       after = after;
     }
 
-has-key : (file new : List ℕ) (tree : Sexp) → HasLines file new tree → IsReadAgain tree → length (spelling_of tree) ≤ most_bytes
+has_key : (file new : List ℕ) (tree : Sexp) → HasLines file new tree → IsReadAgain tree → length (spelling_of tree) ≤ most_bytes
     → IsKeyFile new (record { before = before_key file; tree = tree; after = after_key file })
-has-key file new tree h again short =
+has_key file new tree h again short =
     let line = key_line tree in
-    let is : is_key_line line ≡ true = ap is_key (form-of-key tree) in
+    let is : is_key_line line ≡ true = ap is_key (form_of_key tree) in
     let place : position_or_len is_key_line (lines_of new) ≡ length h.passed =
-    ap (λ (ls : List (List ℕ)). position_or_len is_key_line ls) h.lines ∙ place-behind is_key_line h.passed h.rest line h.none is in
+    ap (λ (ls : List (List ℕ)). position_or_len is_key_line ls) h.lines ∙ place_behind is_key_line h.passed h.rest line h.none is in
     let from : from_key new ≡ line ∷ h.rest =
-    ap (λ n. drop n (lines_of new)) place ∙ ap (λ (ls : List (List ℕ)). drop (length h.passed) ls) h.lines ∙ drop-front h.passed (line ∷ h.rest) in
+    ap (λ n. drop n (lines_of new)) place ∙ ap (λ (ls : List (List ℕ)). drop (length h.passed) ls) h.lines ∙ drop_front h.passed (line ∷ h.rest) in
     let value : key_value new ≡ 32 ∷ advanced_of tree =
-    ap value_of from ∙ ap (λ n. join_with_byte 32 (value_in (line_text line) ∷ map line_text (take n h.rest))) h.stops ∙ value-of-key tree in
+    ap value_of from ∙ ap (λ n. join_with_byte 32 (value_in (line_text line) ∷ map line_text (take n h.rest))) h.stops ∙ value_of_key tree in
     record {
       item = record {
         formed = ap (λ (ls : List (List ℕ)). first_line_fault [] (map line_form ls)) h.lines
             ∙ ap (λ (fs : List LineForm). first_line_fault [] fs)
-            (map-append line_form h.passed (line ∷ h.rest) ∙ ap (λ (f : LineForm). map line_form h.passed ++ f ∷ map line_form h.rest) (form-of-key tree))
+            (map-append line_form h.passed (line ∷ h.rest) ∙ ap (λ (f : LineForm). map line_form h.passed ++ f ∷ map line_form h.rest) (form_of_key tree))
             ∙ h.formed;
         has = ap (λ (ls : List (List ℕ)). list_any is_key_line ls) h.lines ∙ list_any-append is_key_line h.passed (line ∷ h.rest)
             ∙ ap (λ b. b || list_any is_key_line (line ∷ h.rest)) h.none ∙ ap (λ b. b || list_any is_key_line h.rest) is;
       };
       before = h.before
-          ∙ sym (ap (λ n. concat (take n (lines_of new))) place ∙ ap (λ (ls : List (List ℕ)). concat (take (length h.passed) ls)) h.lines ∙ ap concat (take-front h.passed (line ∷ h.rest)));
-      text = subst (λ (v : List ℕ). IsKeyText v tree) (sym value) (text-again tree again short);
+          ∙ sym (ap (λ n. concat (take n (lines_of new))) place ∙ ap (λ (ls : List (List ℕ)). concat (take (length h.passed) ls)) h.lines ∙ ap concat (take_front h.passed (line ∷ h.rest)));
+      text = subst (λ (v : List ℕ). IsKeyText v tree) (sym value) (text_again tree again short);
       after = h.after ∙ sym (ap (λ (ls : List (List ℕ)). concat (after_item ls)) from ∙ ap (λ n. concat (drop n h.rest)) h.stops);
     }
 
 -- the file with another key, in one way of joining its parts
-with-parts : (before after : List ℕ) (tree : Sexp) → before ++ codes "Key: " ++ advanced_of tree ++ 10 ∷ after ≡ before ++ (key_line tree ++ after)
-with-parts before after tree =
+with_parts : (before after : List ℕ) (tree : Sexp) → before ++ codes "Key: " ++ advanced_of tree ++ 10 ∷ after ≡ before ++ (key_line tree ++ after)
+with_parts before after tree =
     let name = codes "Key: " in
     let text = advanced_of tree in
     append_assoc (before ++ name) text (10 ∷ after)
@@ -224,10 +224,10 @@ record_of before tree after = record { before = before; tree = tree; after = aft
 pub replaced : (file : List ℕ) (key : KeyFile) (tree : Sexp) → IsKeyFile file key → IsReadAgain tree → length (spelling_of tree) ≤ most_bytes
     → IsKeyFile (with_key key tree) (record { before = key.before; tree = tree; after = key.after })
 replaced file key tree h again short =
-    let lines = new-lines file tree h.item.formed h.item.has in
-    let new = has-key file (before_key file ++ (key_line tree ++ after_key file)) tree lines again short in
+    let lines = new_lines file tree h.item.formed h.item.has in
+    let new = has_key file (before_key file ++ (key_line tree ++ after_key file)) tree lines again short in
     let same : with_key key tree ≡ before_key file ++ (key_line tree ++ after_key file) =
-    with-parts key.before key.after tree ∙ ap (λ (b : List ℕ). b ++ (key_line tree ++ key.after)) h.before ∙ ap (λ (b : List ℕ). before_key file ++ (key_line tree ++ b)) h.after in
+    with_parts key.before key.after tree ∙ ap (λ (b : List ℕ). b ++ (key_line tree ++ key.after)) h.before ∙ ap (λ (b : List ℕ). before_key file ++ (key_line tree ++ b)) h.after in
     let parts : record_of (before_key file) tree (after_key file) ≡ record_of key.before tree key.after =
     ap (λ (b : List ℕ). record_of b tree (after_key file)) (sym h.before) ∙ ap (λ (b : List ℕ). record_of key.before tree b) (sym h.after) in
     subst (λ (k : KeyFile). IsKeyFile (with_key key tree) k) parts
@@ -240,16 +240,16 @@ first_byte : (file before rest : List ℕ) (tree : Sexp) (after : List ℕ) → 
 first_byte file [] rest tree after e parts = refl
 first_byte file (byte ∷ before) rest tree after e parts = sym (ap is_canonical parts) ∙ e
 
-key-parts : (file : List ℕ) → file ≡ before_key file ++ concat (from_key file)
-key-parts file =
+key_parts : (file : List ℕ) → file ≡ before_key file ++ concat (from_key file)
+key_parts file =
     let all = lines_of file in
     let place = position_or_len is_key_line all in
-    sym (concat-lines file) ∙ ap concat (sym (take-append-drop place all)) ∙ concat-append (take place all) (drop place all)
+    sym (concat_lines file) ∙ ap concat (sym (take-append-drop place all)) ∙ concat-append (take place all) (drop place all)
 
-pub replaced-canon : (file : List ℕ) (key : KeyFile) (tree : Sexp) → is_canonical file ≡ false → IsKeyFile file key → IsReadAgain tree → length (spelling_of tree) ≤ most_bytes
+pub replaced_canon : (file : List ℕ) (key : KeyFile) (tree : Sexp) → is_canonical file ≡ false → IsKeyFile file key → IsReadAgain tree → length (spelling_of tree) ≤ most_bytes
     → Canon (with_key key tree) (Some (spelling_of tree))
-replaced-canon file key tree extended h again short = inr (record {
-  extended = first_byte file key.before (concat (from_key file)) tree key.after extended (key-parts file ∙ ap (λ (b : List ℕ). b ++ concat (from_key file)) (sym h.before));
+replaced_canon file key tree extended h again short = inr (record {
+  extended = first_byte file key.before (concat (from_key file)) tree key.after extended (key_parts file ∙ ap (λ (b : List ℕ). b ++ concat (from_key file)) (sym h.before));
   key = record_of key.before tree key.after;
   has = replaced file key tree h again short;
   spelled = refl;

@@ -35,20 +35,20 @@ tab = 9 ∷ []
 abbrev worked : List ℕ
 worked = codes "Created: x" ++ lf ++ codes "Key: (private-key (ecc (q \"Q\")" ++ lf ++ codes " (d #44#)))" ++ lf
 
-worked-formed : line_fault worked ≡ None
-worked-formed = refl
+worked_formed : line_fault worked ≡ None
+worked_formed = refl
 
-worked-before : before_key worked ≡ codes "Created: x" ++ lf
-worked-before = refl
+worked_before : before_key worked ≡ codes "Created: x" ++ lf
+worked_before = refl
 
-worked-value : key_value worked ≡ codes " (private-key (ecc (q \"Q\")  (d #44#)))"
-worked-value = refl
+worked_value : key_value worked ≡ codes " (private-key (ecc (q \"Q\")  (d #44#)))"
+worked_value = refl
 
-worked-after : after_key worked ≡ []
-worked-after = refl
+worked_after : after_key worked ≡ []
+worked_after = refl
 
-worked-extended : is_canonical worked ≡ false
-worked-extended = refl
+worked_extended : is_canonical worked ≡ false
+worked_extended = refl
 
 -- the lines of a file, with no LF at the end, and with one
 no_end : lines_of (codes "a" ++ lf ++ lf ++ codes "b") ≡ (codes "a" ++ lf) ∷ lf ∷ codes "b" ∷ []
@@ -134,15 +134,15 @@ worked_key = sexp_of worked_tree
 abbrev canonical : List ℕ
 canonical = codes "(11:private-key(3:ecc(1:q1:Q)(1:d1:D)))"
 
-worked-length : length canonical ≡ 39
-worked-length = refl
+worked_length : length canonical ≡ 39
+worked_length = refl
 
-worked-spelling : spelling_of worked_key ≡ canonical
+worked_spelling : spelling_of worked_key ≡ canonical
 unfolding numeral
-worked-spelling = refl
+worked_spelling = refl
 
-worked-tree : tree_of worked_key ≡ worked_tree
-worked-tree = refl
+tree_of_worked_key : tree_of worked_key ≡ worked_tree
+tree_of_worked_key = refl
 
 quoted : IsDelimited Quoted (codes "Q\")  (d #44#)))") (sign (Atom (codes "Q")) (codes ")  (d #44#)))"))
 unfolding quoted_piece escape
@@ -152,9 +152,9 @@ hexadecimal : IsDelimited Hexadecimal (codes "44#)))") (sign (Atom (codes "D")) 
 unfolding pair pair_here low_digit hex_value is_between
 hexadecimal = record { bytes = codes "D"; at = codes "#)))"; spelled = (codes "#)))", refl, refl); is = refl }
 
-worked-begins : Begins (key_value worked) (signs (tree_of worked_key)) []
+worked_begins : Begins (key_value worked) (signs (tree_of worked_key)) []
 unfolding class_of is_token_byte is_token_start is_token_mark is_between
-worked-begins = (
+worked_begins = (
   codes "private-key (ecc (q \"Q\")  (d #44#)))",
   refl,
   (
@@ -208,23 +208,23 @@ worked-begins = (
   ),
 )
 
-worked-has : IsKeyFile worked (record { before = codes "Created: x" ++ lf; tree = worked_key; after = [] })
-worked-has = record {
+worked_has : IsKeyFile worked (record { before = codes "Created: x" ++ lf; tree = worked_key; after = [] })
+worked_has = record {
   item = record { formed = refl; has = refl };
   before = refl;
   text = (
-    record { len = length (key_value worked); reads = record { within = lit≤ tt; shallow = lit≤ tt; spelled = worked-begins }; blank = refl },
-    subst (λ (text : List ℕ). length text ≤ most_bytes) (sym worked-spelling) (lit≤ tt),
+    record { len = length (key_value worked); reads = record { within = lit≤ tt; shallow = lit≤ tt; spelled = worked_begins }; blank = refl },
+    subst (λ (text : List ℕ). length text ≤ most_bytes) (sym worked_spelling) (lit≤ tt),
   );
   after = refl;
 }
 
-worked-canon : Canon worked (Some canonical)
-worked-canon = inr (record {
+worked_canon : Canon worked (Some canonical)
+worked_canon = inr (record {
   extended = refl;
   key = record { before = codes "Created: x" ++ lf; tree = worked_key; after = [] };
-  has = worked-has;
-  spelled = sym worked-spelling;
+  has = worked_has;
+  spelled = sym worked_spelling;
 })
 
 -- without its second and third line it stands for none
@@ -232,7 +232,7 @@ keyless : Canon (codes "Created: x" ++ lf) None
 keyless = record { extended = refl; fault = NoKey; is = (refl, refl) }
 
 -- and with another key the first line stays
-replaced-first : with_key (record { before = codes "Created: x" ++ lf; tree = worked_key; after = [] }) worked_key
+replaced_first : with_key (record { before = codes "Created: x" ++ lf; tree = worked_key; after = [] }) worked_key
     ≡ codes "Created: x" ++ lf ++ codes "Key: (private-key (ecc (q Q) (d D)))" ++ lf
 unfolding is_token_byte is_token_start is_token_mark
-replaced-first = refl
+replaced_first = refl

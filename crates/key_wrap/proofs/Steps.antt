@@ -8,7 +8,7 @@ use Rattle.std.proofs.lemmas.List.Folds.{concat-append}
 use Rattle.std.proofs.Math.Seq.{drop-cons, take-suc-set}
 use Rattle.aes_block.specs.Aes.{xor_of, encrypted, decrypted}
 use Rattle.aes_block.proofs.Lists.{literal}
-use Rattle.aes_block.proofs.Blocks.{length-first_chunks}
+use Rattle.aes_block.proofs.Blocks.{length_first_chunks}
 use Rattle.key_wrap.specs.KeyWrap.{Registers, initial_value, wrap_pass, unwrap_pass, wrap_passes, unwrap_passes, wrapped_of, unwrapped_of}
 
 pub two_halves : (left right : List ℕ) → length left ≡ 8 → length right ≡ 8
@@ -138,7 +138,7 @@ unfolding wrapped_of
 wrapped_from key bytes blocks after e h =
     let n = length bytes / 8 in
     let f : ℕ → List (List ℕ) → Registers = λ n bs. wrap_passes key n 6 (record { check = initial_value; blocks = bs }) in
-    ap (λ s. s.check ++ concat s.blocks) (h ∙ ap₂ f (ap length e ∙ length-first_chunks 8 n bytes) e)
+    ap (λ s. s.check ++ concat s.blocks) (h ∙ ap₂ f (ap length e ∙ length_first_chunks 8 n bytes) e)
 
 pub unwrapped_from : (key bytes : List ℕ) (all blocks : List (List ℕ)) (after : Registers) → 8 ≤ length bytes
     → all ≡ first_chunks 8 (length bytes / 8) bytes → blocks ≡ drop 1 all
@@ -152,5 +152,5 @@ unwrapped_from key bytes all blocks after some e rest h =
     let others : blocks ≡ first_chunks 8 n (drop 8 bytes) = rest ∙ ap (drop 1) cut in
     let f : ℕ → List ℕ → List (List ℕ) → Registers = λ k a bs. unwrap_passes key k 6 (record { check = a; blocks = bs }) in
     h
-    ∙ ap (λ k. f k (get_or all 0 []) blocks) (ap length others ∙ length-first_chunks 8 n (drop 8 bytes))
+    ∙ ap (λ k. f k (get_or all 0 []) blocks) (ap length others ∙ length_first_chunks 8 n (drop 8 bytes))
     ∙ ap₂ (f n) (ap (λ l. get_or l 0 []) cut) others

@@ -5,7 +5,7 @@ use Rattle.std.proofs.lemmas.Grind.{flat_map-append}
 use Rattle.agent_ports.specs.Counts.{Rose}
 use Rattle.agent_ports.specs.Sides.{Side, with_bytes, WhereKnown}
 use Rattle.agent_ports.specs.Writing.{StopsWriting, WentOrStopped}
-use Rattle.agent_ports.proofs.Known.{known_then, known_both, known_same, with_bytes-append}
+use Rattle.agent_ports.proofs.Known.{known_then, known_both, known_same, with_bytes_append}
 use Rattle.assuan_line.specs.Lines.{pieces_of}
 use Rattle.assuan_line.specs.Next.{Reader, next_of, TakesWhatItNeeds}
 use Rattle.assuan_line.specs.Reading.{HasRead}
@@ -182,7 +182,7 @@ module _ (file : List ℕ) (input output : Side) (session : Code) (reader : Read
       short = subst IsShortText (sym turn.pid) serving.short;
       written = said ∙ ap (λ (s : Side). with_bytes s.bytes (text_of (says response))) same
           ∙ ap (λ o. with_bytes o (text_of (says response))) serving.written
-          ∙ with_bytes-append output.bytes (text_of (session_of file serving.lines).said) (text_of (says response))
+          ∙ with_bytes_append output.bytes (text_of (session_of file serving.lines).said) (text_of (says response))
           ∙ ap (with_bytes output.bytes) (sym text_is);
       going = rw is at has_read.ended;
       read = lines_read;
@@ -199,7 +199,7 @@ module _ (file : List ℕ) (input output : Side) (session : Code) (reader : Read
           (text_is ∙ ap (λ x. text_of (session_of file serving.lines).said ++ x) stopped.split ∙ sym (append_assoc _ stopped.sent stopped.unsent));
       written = stopped.written ∙ ap (λ (s : Side). with_bytes s.bytes stopped.sent) same
           ∙ ap (λ o. with_bytes o stopped.sent) serving.written
-          ∙ with_bytes-append output.bytes (text_of (session_of file serving.lines).said) stopped.sent;
+          ∙ with_bytes_append output.bytes (text_of (session_of file serving.lines).said) stopped.sent;
       read = known_then input.bytes input_then.bytes input_then.bytes
           (λ bytes left. ReadsLines bytes (serving.lines ++ line ∷ []) reader_after.ahead left × (length bytes + reader_after.left ≡ length left + BUDGET))
           (λ rest left. rest ≡ left)

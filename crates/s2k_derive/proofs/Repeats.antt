@@ -9,34 +9,34 @@ use Rattle.s2k_derive.specs.S2k.{copies_of}
 abbrev pub at : List ℕ → ℕ → ℕ
 at text i = slice_index text (i % length text)
 
-pub take-repeated : (text : List ℕ) (m n : ℕ) → n ≤ m → take n (copies_of text m) ≡ copies_of text n
+pub take_repeated : (text : List ℕ) (m n : ℕ) → n ≤ m → take n (copies_of text m) ≡ copies_of text n
 unfolding copies_of
-take-repeated text m n h = take-map-range_with_len (at text) 0 m n h
+take_repeated text m n h = take-map-range_with_len (at text) 0 m n h
 
-copies_of-suc : (text : List ℕ) (n : ℕ) → copies_of text (n + 1) ≡ copies_of text n ++ at text n ∷ []
+copies_of_suc : (text : List ℕ) (n : ℕ) → copies_of text (n + 1) ≡ copies_of text n ++ at text n ∷ []
 unfolding copies_of
-copies_of-suc text n = map-range_with_len_more (at text) 0 n n (omega arith)
+copies_of_suc text n = map-range_with_len_more (at text) 0 n n (omega arith)
 
-pub copies_of-zero : (text : List ℕ) → copies_of text 0 ≡ []
+pub copies_of_zero : (text : List ℕ) → copies_of text 0 ≡ []
 unfolding copies_of
-copies_of-zero text = refl
+copies_of_zero text = refl
 
-pub length-repeated : (text : List ℕ) (n : ℕ) → length (copies_of text n) ≡ n
+pub length_repeated : (text : List ℕ) (n : ℕ) → length (copies_of text n) ≡ n
 unfolding copies_of
-length-repeated text n = length-map-range_with_len (at text) 0 n
+length_repeated text n = length-map-range_with_len (at text) 0 n
 
 -- whole copies, and what follows
-pub copies_of-add : (text : List ℕ) (a n : ℕ) → ((i : ℕ) → (a + i) % length text ≡ i % length text)
+pub copies_of_add : (text : List ℕ) (a n : ℕ) → ((i : ℕ) → (a + i) % length text ≡ i % length text)
     → copies_of text (a + n) ≡ copies_of text a ++ copies_of text n
-copies_of-add text a zero h = ap (copies_of text) (add-zero a) ∙ sym (append-nil (copies_of text a)) ∙ ap (λ t. copies_of text a ++ t) (sym (copies_of-zero text))
-copies_of-add text a (suc n) h =
+copies_of_add text a zero h = ap (copies_of text) (add-zero a) ∙ sym (append-nil (copies_of text a)) ∙ ap (λ t. copies_of text a ++ t) (sym (copies_of_zero text))
+copies_of_add text a (suc n) h =
     let e : a + suc n ≡ a + n + 1 = omega arith in
     let f : suc n ≡ n + 1 = omega arith in
     ap (copies_of text) e
-    ∙ copies_of-suc text (a + n)
-    ∙ ap₂ (λ t b. t ++ b ∷ []) (copies_of-add text a n h) (ap (slice_index text) (h n))
+    ∙ copies_of_suc text (a + n)
+    ∙ ap₂ (λ t b. t ++ b ∷ []) (copies_of_add text a n h) (ap (slice_index text) (h n))
     ∙ append_assoc (copies_of text a) (copies_of text n) (at text n ∷ [])
-    ∙ ap (λ t. copies_of text a ++ t) (sym (copies_of-suc text n) ∙ ap (copies_of text) (sym f))
+    ∙ ap (λ t. copies_of text a ++ t) (sym (copies_of_suc text n) ∙ ap (copies_of text) (sym f))
 
 -- what the loop has written
 pub written : (text s : List ℕ) (n : ℕ) → length s ≡ n → ((k : ℕ) → k < n → get_or s k 0 ≡ at text k) → s ≡ copies_of text n
@@ -58,7 +58,7 @@ repeated_more text p k n h =
     let q = p / len in
     let e : p ≡ len * q = omega (arith, div-add-mod' p len) in
     let f : p * k ≡ len * (q * k) = ap (λ x. x * k) e ∙ mul_assoc len q k in
-    copies_of-add text (p * k) n (λ i. ap (λ x. (x + i) % len) f ∙ mul-add-mod_self_left len (q * k) i)
+    copies_of_add text (p * k) n (λ i. ap (λ x. (x + i) % len) f ∙ mul-add-mod_self_left len (q * k) i)
 
 -- a piece is the text over and over, and it ends with a whole copy of it
 pub record IsPiece (text piece : List ℕ) : Type 0 where
@@ -69,8 +69,8 @@ pub piece_of : (text : List ℕ) (size : ℕ) → IsPiece text (take (size - siz
 piece_of text size =
     let n = size - size % length text in
     let less : n ≤ size = omega arith in
-    let e = take-repeated text size n less in
-    let long = ap length e ∙ length-repeated text n in
+    let e = take_repeated text size n less in
+    let long = ap length e ∙ length_repeated text n in
     record { same = e ∙ ap (copies_of text) (sym long); ends = ap (λ k. k % length text) long ∙ whole size (length text) }
 
 pub piece_more : (text piece : List ℕ) (k : ℕ) → IsPiece text piece
@@ -88,7 +88,7 @@ piece_last text piece total k h pos e =
     let p = length piece in
     let part : total % p ≤ p = omega arith in
     let sum : p * k + total % p ≡ total = ap (λ x. p * x + total % p) e ∙ omega (arith, div-add-mod' total p) in
-    ap (λ t. copies_of text (p * k) ++ t) (ap (take (total % p)) h.same ∙ take-repeated text p (total % p) part)
+    ap (λ t. copies_of text (p * k) ++ t) (ap (take (total % p)) h.same ∙ take_repeated text p (total % p) part)
     ∙ sym (repeated_more text p k (total % p) h.ends)
     ∙ ap (copies_of text) sum
 

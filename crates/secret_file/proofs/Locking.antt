@@ -9,7 +9,7 @@ use Rattle.sha1.specs.Sha1.{sha1}
 use Rattle.sexp_canonical.specs.Tree.{leaf, list_of}
 use Rattle.sexp_canonical.specs.Spelling.{numeral, spelling, depth}
 use Rattle.sexp_canonical.specs.declared.tree.Sexp.TheVariants.{List as Listed}
-use Rattle.sexp_canonical.proofs.Numerals.{length-numeral}
+use Rattle.sexp_canonical.proofs.Numerals.{length_numeral}
 use Rattle.sexp_keys.specs.Names.{algorithm_name, form_name}
 use Rattle.sexp_keys.specs.Parameters.{are_protection, are_private}
 use Rattle.sexp_keys.specs.Key.{Key, IsFormed, key_tree, algorithm_list, clear_with}
@@ -20,7 +20,7 @@ use Rattle.secret_file.specs.Protects.{padded, secret_text, sealed_text, written
 use Rattle.aes_modes.specs.Cbc.{cbc_decrypted}
 use Rattle.secret_file.specs.declared.cipher.Cipher.TheVariants.{Cbc, Ocb}
 use Rattle.secret_file.proofs.Within.{sealed_size}
-use Rattle.secret_file.proofs.Fits.{list_len, size-cons, size-append, key_len, FitsLocked, list_some, times_len, locked_len, locked_depth}
+use Rattle.secret_file.proofs.Fits.{list_len, size_cons, size_append, key_len, FitsLocked, list_some, times_len, locked_len, locked_depth}
 
 large_count : (n : ℕ) → 256 ≤ n → octets n ≡ n
 large_count n h = let no = le-ltb n 256 h in rw no refl
@@ -29,7 +29,7 @@ count_written : (count : ℕ) → MIN_COUNT ≤ count → count ≤ MAX_COUNT �
 count_written count low high = record {
   written = count;
   spelled = refl;
-  short = length-numeral 9 count (omega arith);
+  short = length_numeral 9 count (omega arith);
   value = let large : octets count ≡ count = large_count count (omega arith) in sym large;
   accepted = record { least = low; greatest = high };
 }
@@ -112,7 +112,7 @@ cbc_made key salt count iv encrypted time pass plain text padding salt-len iv-le
     let few = few_more (length text) padding in
     let some = text_some key time text text-is in
     record {
-      fits = record { salt_len = salt-len; digits_len = length-numeral 9 count (omega arith); iv_short = omega arith; encrypted_len = omega arith; times = times_len time times };
+      fits = record { salt_len = salt-len; digits_len = length_numeral 9 count (omega arith); iv_short = omega arith; encrypted_len = omega arith; times = times_len time times };
       low = low;
       high = high;
       length_of_iv = iv-len;
@@ -140,8 +140,8 @@ associated_within key time h =
       key_len key,
       times_len time h,
       list_len (leaf (algorithm_name key.algorithm) ∷ key.public ++ time_lists time),
-      size-cons (leaf (algorithm_name key.algorithm)) (key.public ++ time_lists time),
-      size-append key.public (time_lists time),
+      size_cons (leaf (algorithm_name key.algorithm)) (key.public ++ time_lists time),
+      size_append key.public (time_lists time),
     )
 
 pub ocb_made : (key : Key) (salt : List ℕ) (count : ℕ) (iv encrypted : List ℕ) (time : Option (List ℕ)) (pass assoc plain : List ℕ) → length salt ≡ 8 → length iv ≡ 12 → MIN_COUNT ≤ count → count ≤ MAX_COUNT
@@ -151,7 +151,7 @@ ocb_made key salt count iv encrypted time pass assoc plain salt-len iv-len low h
     let p = sealed salt count iv encrypted in
     let plain-len : length plain ≡ length (flat_map spelling key.private) + 4 = ap length plain-is ∙ sealed_size key.private in
     record {
-      fits = record { salt_len = salt-len; digits_len = length-numeral 9 count (omega arith); iv_short = omega arith; encrypted_len = omega arith; times = times_len time times };
+      fits = record { salt_len = salt-len; digits_len = length_numeral 9 count (omega arith); iv_short = omega arith; encrypted_len = omega arith; times = times_len time times };
       low = low;
       high = high;
       length_of_iv = iv-len;

@@ -26,7 +26,7 @@ use Rattle.secret_file.specs.declared.locked.Opened.TheVariants as openings
 use Rattle.secret_file.specs.declared.unlocked.Unlocked.{Unlocked}
 use Rattle.secret_file.specs.declared.unlocked.Unlocked.TheVariants as answers
 use Rattle.secret_file.proofs.Decrypted.{one_secret}
-use Rattle.secret_file.proofs.Unsealing.{key-bytes, one_plain, one_sealed}
+use Rattle.secret_file.proofs.Unsealing.{key_bytes, one_plain, one_sealed}
 use Rattle.secret_file.proofs.Shapes.{one_cipher}
 
 -- ---- the key
@@ -37,7 +37,7 @@ one_held (Cbc iv) locked pass k l s r h g =
 one_held (Ocb iv) locked pass k l s r h g =
     one_sealed s r
     (one_plain (key_by pass locked.protection) iv (associated_list_of locked.key (time_of locked.key.private)) locked.protection.encrypted (spelling (sealed_tree s)) (spelling (sealed_tree r))
-    (key-bytes pass locked.protection.salt locked.protection.count) h g)
+    (key_bytes pass locked.protection.salt locked.protection.count) h g)
 
 one_clear : (locked : LockedKey) (pass : List ℕ) (k l : Key) → OpensTo locked pass k → OpensTo locked pass l → k ≡ l
 one_clear locked pass k l h g =

@@ -7,9 +7,9 @@ use Rattle.std.specs.Int.{w32, to_be_bytes, bytes_high_first, byte_at}
 use Rattle.sha1.specs.Sha1.{sha1, digest_bytes}
 use Rattle.s2k_derive.specs.S2k.{derived_key}
 use Rattle.aes_block.specs.Aes.{IsBytes}
-use Rattle.aes_block.proofs.Blocks.{IsBytes-take, IsBytes-append}
+use Rattle.aes_block.proofs.Blocks.{IsBytes_take, IsBytes_append}
 use Rattle.aes_modes.specs.Ocb.{ocb_encrypted, ocb_decrypted, ocb_tag}
-use Rattle.aes_modes.proofs.OcbUndone.{ocb_encrypted-bytes, ocb_decrypted-ocb_encrypted}
+use Rattle.aes_modes.proofs.OcbUndone.{ocb_encrypted_bytes, ocb_decrypted_ocb_encrypted}
 use Rattle.sexp_canonical.specs.Tree.{Tree, list_of, row}
 use Rattle.sexp_canonical.specs.View.{tree_of}
 use Rattle.sexp_canonical.specs.Spelling.{IsReadable, most_bytes, most_depth, depth, spelling}
@@ -27,30 +27,30 @@ use Rattle.secret_file.proofs.Within.{sealed_size}
 
 -- ---- the key of a passphrase is bytes
 
-byte_at-small : (k n : ℕ) → byte_at k n < 256
-byte_at-small zero n = omega arith
-byte_at-small (suc k) n = omega arith
+byte_at_small : (k n : ℕ) → byte_at k n < 256
+byte_at_small zero n = omega arith
+byte_at_small (suc k) n = omega arith
 
-high_first-small : (k n i : ℕ) → slice_index (bytes_high_first k n) i < 256
-high_first-small zero n i = lit< tt
-high_first-small (suc k) n zero = byte_at-small k n
-high_first-small (suc k) n (suc i) = high_first-small k n i
+high_first_small : (k n i : ℕ) → slice_index (bytes_high_first k n) i < 256
+high_first_small zero n i = lit< tt
+high_first_small (suc k) n zero = byte_at_small k n
+high_first_small (suc k) n (suc i) = high_first_small k n i
 
-digest-bytes : (h : List ℕ) (n : ℕ) → IsBytes (n * 4) (digest_bytes h n)
+digest_bytes : (h : List ℕ) (n : ℕ) → IsBytes (n * 4) (digest_bytes h n)
 unfolding digest_bytes
-digest-bytes h zero = record { len = refl; small = λ k. lit< tt }
-digest-bytes h (suc n) =
+digest_bytes h zero = record { len = refl; small = λ k. lit< tt }
+digest_bytes h (suc n) =
     let four : n * 4 + 4 ≡ suc n * 4 = omega arith in
     subst (λ (k : ℕ). IsBytes k (digest_bytes h n ++ to_be_bytes w32 (slice_index h n))) four
-    (IsBytes-append (n * 4) 4 (digest_bytes h n) (to_be_bytes w32 (slice_index h n)) (digest-bytes h n)
-    (record { len = refl; small = high_first-small 4 (slice_index h n) }))
+    (IsBytes_append (n * 4) 4 (digest_bytes h n) (to_be_bytes w32 (slice_index h n)) (digest_bytes h n)
+    (record { len = refl; small = high_first_small 4 (slice_index h n) }))
 
-sha1-bytes : (m : List ℕ) → IsBytes 20 (sha1 m)
+sha1_bytes : (m : List ℕ) → IsBytes 20 (sha1 m)
 unfolding sha1
-sha1-bytes m = digest-bytes _ 5
+sha1_bytes m = digest_bytes _ 5
 
-pub key-bytes : (pass salt : List ℕ) (count : ℕ) → IsBytes 16 (derived_key pass salt count)
-key-bytes pass salt count = IsBytes-take 16 20 _ (omega arith) (sha1-bytes _)
+pub key_bytes : (pass salt : List ℕ) (count : ℕ) → IsBytes 16 (derived_key pass salt count)
+key_bytes pass salt count = IsBytes_take 16 20 _ (omega arith) (sha1_bytes _)
 
 -- ---- sealed octets hold one text
 
@@ -68,9 +68,9 @@ pub one_plain : (key nonce assoc octets x y : List ℕ) → IsBytes 16 key → A
 one_plain key nonce assoc octets x y k h g =
     let same : ocb_encrypted key nonce x ++ ocb_tag key nonce assoc x ≡ ocb_encrypted key nonce y ++ ocb_tag key nonce assoc y = sym h.parts ∙ g.parts in
     let len = same_length (ocb_encrypted key nonce x) (ocb_encrypted key nonce y) (ocb_tag key nonce assoc x) (ocb_tag key nonce assoc y) same h.tag_len g.tag_len in
-    sym (ocb_decrypted-ocb_encrypted key nonce x k h.bytes)
+    sym (ocb_decrypted_ocb_encrypted key nonce x k h.bytes)
     ∙ ap (ocb_decrypted key nonce) (same_front (ocb_encrypted key nonce x) (ocb_encrypted key nonce y) (ocb_tag key nonce assoc x) (ocb_tag key nonce assoc y) same len)
-    ∙ ocb_decrypted-ocb_encrypted key nonce y k g.bytes
+    ∙ ocb_decrypted_ocb_encrypted key nonce y k g.bytes
 
 pub one_sealed : (s r : List Tree) → spelling (sealed_tree s) ≡ spelling (sealed_tree r) → s ≡ r
 one_sealed s r e =
@@ -86,7 +86,7 @@ sealed_parts key nonce assoc octets plain bytes tag k e len h =
     let n = same_length bytes (ocb_encrypted key nonce plain) tag (ocb_tag key nonce assoc plain) same len h.tag_len in (
       same_front bytes (ocb_encrypted key nonce plain) tag (ocb_tag key nonce assoc plain) same n,
       same_back bytes (ocb_encrypted key nonce plain) tag (ocb_tag key nonce assoc plain) same n,
-      sym (ocb_encrypted-bytes key nonce plain k h.bytes).len ∙ sym n,
+      sym (ocb_encrypted_bytes key nonce plain k h.bytes).len ∙ sym n,
     )
 
 pub sealed_back : (key nonce assoc old new tag : List ℕ) → IsBytes (length new) new → length tag ≡ 16 → (old ≡ ocb_encrypted key nonce new) × (tag ≡ ocb_tag key nonce assoc new) → AreSealed key nonce assoc (old ++ tag) new
@@ -147,7 +147,7 @@ not_sealed key salt count iv encrypted pass assoc e none clear h =
 pub same_sealed : (key : Key) (salt : List ℕ) (count : ℕ) (iv encrypted pass assoc plain : List ℕ) → assoc ≡ associated_list_of key (time_of key.private) → AreSealed (derived_key pass salt count) iv assoc encrypted plain
     → (clear : Key) → (h : OpensTo (sealed_locked key salt count iv encrypted) pass clear) → plain ≡ spelling (sealed_tree h.secret)
 same_sealed key salt count iv encrypted pass assoc plain e is clear h =
-    one_plain (derived_key pass salt count) iv assoc encrypted plain (spelling (sealed_tree h.secret)) (key-bytes pass salt count) is
+    one_plain (derived_key pass salt count) iv assoc encrypted plain (spelling (sealed_tree h.secret)) (key_bytes pass salt count) is
     (subst (λ (a : List ℕ). AreSealed (derived_key pass salt count) iv a encrypted (spelling (sealed_tree h.secret))) (sym e) h.held)
 
 pub not_listed : (key : Key) (salt : List ℕ) (count : ℕ) (iv encrypted pass assoc plain bytes : List ℕ) → assoc ≡ associated_list_of key (time_of key.private) → AreSealed (derived_key pass salt count) iv assoc encrypted plain

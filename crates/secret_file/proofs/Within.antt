@@ -13,7 +13,7 @@ use Rattle.sexp_keys.specs.Lists.{associated_list_of, hashed_list_of, key_list_o
 use Rattle.secret_file.specs.Protection.{Protection, protection_name, iv_of, derivation_tree, IsProtection}
 use Rattle.secret_file.specs.Opens.{first_of, hash_tree, secret_tree, sealed_tree, time_in, time_of, IsFile, FitsFile, LockedKey, IsLocked, OpensTo}
 use Rattle.secret_file.specs.Steps.{AreSecrets}
-use Rattle.secret_file.proofs.Fits.{list_len, size-cons, size-append, atom_len, atom_least, short_atom_len, key_len, depths-le-append, depths-front}
+use Rattle.secret_file.proofs.Fits.{list_len, size_cons, size_append, atom_len, atom_least, short_atom_len, key_len, depths_le_append, depths_front}
 use Rattle.secret_file.proofs.Decrypted.{flat_secret}
 
 pub file_fits : (file : List ℕ) (key : Key) → IsFile file key → FitsFile key
@@ -34,12 +34,12 @@ octets_size (t ∷ more) p h =
       arith,
       same,
       list_len (leaf protected_name ∷ leaf (protection_name p.cipher) ∷ d ∷ leaf p.encrypted ∷ []),
-      size-cons (leaf protected_name) (leaf (protection_name p.cipher) ∷ d ∷ leaf p.encrypted ∷ []),
-      size-cons (leaf (protection_name p.cipher)) (d ∷ leaf p.encrypted ∷ []),
-      size-cons d (leaf p.encrypted ∷ []),
-      size-cons (leaf p.encrypted) [],
+      size_cons (leaf protected_name) (leaf (protection_name p.cipher) ∷ d ∷ leaf p.encrypted ∷ []),
+      size_cons (leaf (protection_name p.cipher)) (d ∷ leaf p.encrypted ∷ []),
+      size_cons d (leaf p.encrypted ∷ []),
+      size_cons (leaf p.encrypted) [],
       atom_least p.encrypted,
-      size-cons t more,
+      size_cons t more,
     )
 
 pub encrypted_within : (locked : LockedKey) → IsLocked locked → FitsFile locked.key → length locked.protection.encrypted ≤ most_bytes
@@ -58,12 +58,12 @@ secret_size locked key bytes h =
       ap length h.spelled.parts,
       length-append (spelling (secret_tree h.secret hash)) more,
       list_len (list_of h.secret ∷ hash ∷ []),
-      size-cons (list_of h.secret) (hash ∷ []),
+      size_cons (list_of h.secret) (hash ∷ []),
       list_len h.secret,
     )
 
 pub sealed_size : (secret : List Tree) → length (spelling (sealed_tree secret)) ≡ length (flat_map spelling secret) + 4
-sealed_size secret = omega (arith, list_len (list_of secret ∷ []), size-cons (list_of secret) [], list_len secret)
+sealed_size secret = omega (arith, list_len (list_of secret ∷ []), size_cons (list_of secret) [], list_len secret)
 
 clear_short : (locked : Key) (secret : List Tree) → locked.is_clear ≡ false → length (flat_map spelling secret) ≤ length (flat_map spelling locked.private) → length (key_list_of locked) ≤ most_bytes
     → length (key_list_of (clear_with locked secret)) ≤ most_bytes
@@ -73,10 +73,10 @@ clear_short locked secret e less short =
 
 clear_shallow : (locked : Key) (secret : List Tree) → are_secret locked.algorithm secret ≡ true → depth (key_tree locked) ≤ most_depth → depth (key_tree (clear_with locked secret)) ≤ most_depth
 clear_shallow locked secret names h =
-    let front = depths-front locked.public locked.private in
+    let front = depths_front locked.public locked.private in
     let public-depth : depths (row locked.public) ≤ 62 = omega arith in
     let behind : depths (row secret) ≤ 62 = omega (arith, flat_secret locked.algorithm secret names) in
-    omega (arith, depths-le-append locked.public secret 62 public-depth behind)
+    omega (arith, depths_le_append locked.public secret 62 public-depth behind)
 
 pub fits_opened : (locked : LockedKey) (pass : List ℕ) (key : Key) → IsLocked locked → FitsFile locked.key → OpensTo locked pass key → length (flat_map spelling key.private) ≤ length locked.protection.encrypted → FitsFile key
 fits_opened locked pass key is fits h size =
@@ -98,19 +98,19 @@ time_size t (name ∷ leaf time ∷ more) e =
       arith,
       ap (λ (u : Tree). length (spelling u)) (listed t name (leaf time ∷ more) e),
       list_len (name ∷ leaf time ∷ more),
-      size-cons name (leaf time ∷ more),
-      size-cons (leaf time) more,
+      size_cons name (leaf time ∷ more),
+      size_cons (leaf time) more,
       list_len (leaf time_name ∷ leaf time ∷ []),
-      size-cons (leaf time_name) (leaf time ∷ []),
-      size-cons (leaf time) [],
-      size-cons (list_of (leaf time_name ∷ leaf time ∷ [])) [],
+      size_cons (leaf time_name) (leaf time ∷ []),
+      size_cons (leaf time) [],
+      size_cons (list_of (leaf time_name ∷ leaf time ∷ [])) [],
       short_atom_len time_name (omega arith),
     )
 
 times_size : (private : List Tree) → length (flat_map spelling (time_lists (time_of private))) ≤ length (flat_map spelling private) + 15
 times_size [] = omega arith
 times_size (p ∷ []) = omega arith
-times_size (p ∷ t ∷ more) = omega (arith, time_size t (items t) refl, size-cons p (t ∷ more), size-cons t more)
+times_size (p ∷ t ∷ more) = omega (arith, time_size t (items t) refl, size_cons p (t ∷ more), size_cons t more)
 
 form_least : (is_clear : Bool) → 11 ≤ length (form_name is_clear)
 form_least true = omega arith
@@ -127,6 +127,6 @@ associated_short key =
       atom_least (form_name key.is_clear),
       form_least key.is_clear,
       list_len (leaf (algorithm_name key.algorithm) ∷ key.public ++ times),
-      size-cons (leaf (algorithm_name key.algorithm)) (key.public ++ times),
-      size-append key.public times,
+      size_cons (leaf (algorithm_name key.algorithm)) (key.public ++ times),
+      size_append key.public times,
     )

@@ -23,20 +23,20 @@ name_ends (byte ∷ name) rest h e =
     let place = name_ends name rest parts.1 e in
     ap (λ b. cond (not b) (1 + prefix_len (λ x. not (ends_name x)) (name ++ rest)) 0) parts.0 ∙ omega (arith, place)
 
-pub without_blanks-plain : (value : List ℕ) → is_blank (get_or value 0 0) ≡ false → without_blanks value ≡ value
-without_blanks-plain [] plain = refl
-without_blanks-plain (byte ∷ value) plain =
+pub without_blanks_plain : (value : List ℕ) → is_blank (get_or value 0 0) ≡ false → without_blanks value ≡ value
+without_blanks_plain [] plain = refl
+without_blanks_plain (byte ∷ value) plain =
     ap (λ b. drop (cond b (1 + prefix_len is_blank value) 0) (byte ∷ value)) plain
 
 -- blanks at the front fall away
-pub without_blanks-append : (blanks rest : List ℕ) → list_all is_blank blanks ≡ true → without_blanks (blanks ++ rest) ≡ without_blanks rest
-without_blanks-append [] rest h = refl
-without_blanks-append (byte ∷ blanks) rest h =
+pub without_blanks_append : (blanks rest : List ℕ) → list_all is_blank blanks ≡ true → without_blanks (blanks ++ rest) ≡ without_blanks rest
+without_blanks_append [] rest h = refl
+without_blanks_append (byte ∷ blanks) rest h =
     let parts = and_parts (is_blank byte) (list_all is_blank blanks) h in
     let one : 1 + prefix_len is_blank (blanks ++ rest) ≡ suc (prefix_len is_blank (blanks ++ rest)) = omega arith in
     ap (λ b. drop (cond b (1 + prefix_len is_blank (blanks ++ rest)) 0) (byte ∷ (blanks ++ rest))) parts.0
     ∙ ap (λ (n : ℕ). drop n (byte ∷ (blanks ++ rest))) one
-    ∙ without_blanks-append blanks rest parts.1
+    ∙ without_blanks_append blanks rest parts.1
 
 -- what is left without the dashes decides
 pub applied_parts : (old : OptionValues) (text name rest value : List ℕ) → without (codes "--") text ≡ name ++ rest → list_any ends_name name ≡ false
@@ -59,8 +59,8 @@ applied_parts old text name rest value bare whole ended is =
 pub marked : (before after value : List ℕ) → list_all is_blank before ≡ true → list_all is_blank after ≡ true → is_blank (get_or value 0 0) ≡ false
     → without_blanks (without (codes "=") (without_blanks (before ++ (61 ∷ (after ++ value))))) ≡ value
 marked before after value blank blanks plain =
-    ap (λ (r : List ℕ). without_blanks (without (codes "=") r)) (without_blanks-append before (61 ∷ (after ++ value)) blank)
-    ∙ without_blanks-append after value blanks ∙ without_blanks-plain value plain
+    ap (λ (r : List ℕ). without_blanks (without (codes "=") r)) (without_blanks_append before (61 ∷ (after ++ value)) blank)
+    ∙ without_blanks_append after value blanks ∙ without_blanks_plain value plain
 
 pub marked_ends : (before rest : List ℕ) → list_all is_blank before ≡ true → ends (before ++ (61 ∷ rest)) ≡ true
 marked_ends [] rest h = refl
@@ -77,13 +77,13 @@ pub unmarked : (blank : ℕ) (before value : List ℕ) → is_blank blank ≡ tr
 unmarked blank before value one blanks plain =
     let first = or_parts (is_blank (get_or value 0 0)) (get_or value 0 0 == 61) plain in
     ap (λ (r : List ℕ). without_blanks (without (codes "=") r))
-    (without_blanks-append (blank ∷ before) value (ap (λ (b : Bool). b && list_all is_blank before) one ∙ blanks) ∙ without_blanks-plain value first.0)
-    ∙ ap without_blanks (without_mark value plain) ∙ without_blanks-plain value first.0
+    (without_blanks_append (blank ∷ before) value (ap (λ (b : Bool). b && list_all is_blank before) one ∙ blanks) ∙ without_blanks_plain value first.0)
+    ∙ ap without_blanks (without_mark value plain) ∙ without_blanks_plain value first.0
 
 -- a text that doesn't begin with a dash stays
-pub without_dashes-plain : (text : List ℕ) → get_or text 0 0 ≢ 45 → without (codes "--") text ≡ text
-without_dashes-plain [] other = refl
-without_dashes-plain (byte ∷ rest) other =
+pub without_dashes_plain : (text : List ℕ) → get_or text 0 0 ≢ 45 → without (codes "--") text ≡ text
+without_dashes_plain [] other = refl
+without_dashes_plain (byte ∷ rest) other =
     ap (λ (b : Bool). cond (b && bytes_eq (take 1 rest) (45 ∷ [])) (drop 2 (byte ∷ rest)) (byte ∷ rest)) (ne_eqb byte 45 other)
 
 -- nor does one whose name doesn't, with blanks and the mark behind it

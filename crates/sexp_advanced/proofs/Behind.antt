@@ -36,11 +36,11 @@ behind_more a b (x ∷ c) h (inr g) = inr (behind_more a b c h g)
 abbrev pub IsEnd : List ℕ → List ℕ → Type 0
 IsEnd rest text = (rest ≡ text) ⊎ IsBehind rest text
 
-pub without_front-end : (kind : ℕ → Bool) (text : List ℕ) → IsEnd (without_front kind text) text
-without_front-end kind [] = inl refl
-without_front-end kind (b ∷ more) =
+pub without_front_end : (kind : ℕ → Bool) (text : List ℕ) → IsEnd (without_front kind text) text
+without_front_end kind [] = inl refl
+without_front_end kind (b ∷ more) =
     elim (kind b) as (λ v. IsEnd (cond v (without_front kind more) (b ∷ more)) (b ∷ more)) [
-      | true ↦ inr (without_front-end kind more)
+      | true ↦ inr (without_front_end kind more)
       | false ↦ inl refl
     ]
 
@@ -70,76 +70,76 @@ known : (text : List ℕ) (o : Option ℕ) (f : ℕ → Piece) → ((n : ℕ) �
 known text (Some n) f h = h n
 known text None f h = tt
 
-pub low_digit-behind : (high : ℕ) (text : List ℕ) → LiesBehind text (low_digit high text)
+pub low_digit_behind : (high : ℕ) (text : List ℕ) → LiesBehind text (low_digit high text)
 unfolding low_digit
-low_digit-behind high [] = tt
-low_digit-behind high (b ∷ more) = known (b ∷ more) (hex_value b) (λ low. byte (16 * high + low) more) (λ n. inl refl)
+low_digit_behind high [] = tt
+low_digit_behind high (b ∷ more) = known (b ∷ more) (hex_value b) (λ low. byte (16 * high + low) more) (λ n. inl refl)
 
-low_digit-more : (high b : ℕ) (text more : List ℕ) → IsEnd text more → LiesBehind (b ∷ more) (low_digit high text)
-low_digit-more high b text more e = lies_more (low_digit high text) text (b ∷ more) (low_digit-behind high text) (inr e)
+low_digit_more : (high b : ℕ) (text more : List ℕ) → IsEnd text more → LiesBehind (b ∷ more) (low_digit high text)
+low_digit_more high b text more e = lies_more (low_digit high text) text (b ∷ more) (low_digit_behind high text) (inr e)
 
-pub pair_here-behind : (text : List ℕ) → LiesBehind text (pair_here text)
+pub pair_here_behind : (text : List ℕ) → LiesBehind text (pair_here text)
 unfolding pair_here
-pair_here-behind [] = tt
-pair_here-behind (b ∷ more) =
+pair_here_behind [] = tt
+pair_here_behind (b ∷ more) =
     either (b ∷ more) _ (close more) _ (inl refl)
-    (known (b ∷ more) (hex_value b) (λ high. low_digit high (without_front is_space_byte more)) (λ high. low_digit-more high b (without_front is_space_byte more) more (without_front-end is_space_byte more)))
+    (known (b ∷ more) (hex_value b) (λ high. low_digit high (without_front is_space_byte more)) (λ high. low_digit_more high b (without_front is_space_byte more) more (without_front_end is_space_byte more)))
 
-pair-behind : (text : List ℕ) → LiesBehind text (pair text)
+pair_behind : (text : List ℕ) → LiesBehind text (pair text)
 unfolding pair
-pair-behind text = lies_more (pair text) (without_front is_space_byte text) text (pair_here-behind (without_front is_space_byte text)) (without_front-end is_space_byte text)
+pair_behind text = lies_more (pair text) (without_front is_space_byte text) text (pair_here_behind (without_front is_space_byte text)) (without_front_end is_space_byte text)
 
-pub hex_escape-behind : (text : List ℕ) → LiesBehind text (hex_escape text)
+pub hex_escape_behind : (text : List ℕ) → LiesBehind text (hex_escape text)
 unfolding hex_escape
-hex_escape-behind [] = tt
-hex_escape-behind (b ∷ more) = known (b ∷ more) (hex_value b) (λ high. low_digit high more) (λ high. low_digit-more high b more more (inl refl))
+hex_escape_behind [] = tt
+hex_escape_behind (b ∷ more) = known (b ∷ more) (hex_value b) (λ high. low_digit high more) (λ high. low_digit_more high b more more (inl refl))
 
-pub third_octal-behind : (first second : ℕ) (text : List ℕ) → LiesBehind text (third_octal first second text)
+pub third_octal_behind : (first second : ℕ) (text : List ℕ) → LiesBehind text (third_octal first second text)
 unfolding third_octal
-third_octal-behind first second [] = tt
-third_octal-behind first second (b ∷ more) = either (b ∷ more) _ (byte (64 * first + 8 * second + (b - 48)) more) broken (inl refl) tt
+third_octal_behind first second [] = tt
+third_octal_behind first second (b ∷ more) = either (b ∷ more) _ (byte (64 * first + 8 * second + (b - 48)) more) broken (inl refl) tt
 
-pub second_octal-behind : (first : ℕ) (text : List ℕ) → LiesBehind text (second_octal first text)
+pub second_octal_behind : (first : ℕ) (text : List ℕ) → LiesBehind text (second_octal first text)
 unfolding second_octal
-second_octal-behind first [] = tt
-second_octal-behind first (b ∷ more) =
-    either (b ∷ more) _ (third_octal first (b - 48) more) broken (lies_more (third_octal first (b - 48) more) more (b ∷ more) (third_octal-behind first (b - 48) more) (inr (inl refl))) tt
+second_octal_behind first [] = tt
+second_octal_behind first (b ∷ more) =
+    either (b ∷ more) _ (third_octal first (b - 48) more) broken (lies_more (third_octal first (b - 48) more) more (b ∷ more) (third_octal_behind first (b - 48) more) (inr (inl refl))) tt
 
-pub escape-behind : (text : List ℕ) → LiesBehind text (escape text)
+pub escape_behind : (text : List ℕ) → LiesBehind text (escape text)
 unfolding escape
-escape-behind [] = tt
-escape-behind (b ∷ more) =
+escape_behind [] = tt
+escape_behind (b ∷ more) =
     let meant : Piece = elim (letter b) [ Some c ↦ byte c more | None ↦ broken ] in
     let octal : Piece = cond (is_in_range 48 51 b) (second_octal (b - 48) more) meant in
-    either (b ∷ more) (b == 120) (hex_escape more) octal (lies_more (hex_escape more) more (b ∷ more) (hex_escape-behind more) (inr (inl refl)))
-    (either (b ∷ more) (is_in_range 48 51 b) (second_octal (b - 48) more) meant (lies_more (second_octal (b - 48) more) more (b ∷ more) (second_octal-behind (b - 48) more) (inr (inl refl)))
+    either (b ∷ more) (b == 120) (hex_escape more) octal (lies_more (hex_escape more) more (b ∷ more) (hex_escape_behind more) (inr (inl refl)))
+    (either (b ∷ more) (is_in_range 48 51 b) (second_octal (b - 48) more) meant (lies_more (second_octal (b - 48) more) more (b ∷ more) (second_octal_behind (b - 48) more) (inr (inl refl)))
     (known (b ∷ more) (letter b) (λ c. byte c more) (λ c. inl refl)))
 
-pub quoted_piece-behind : (text : List ℕ) → LiesBehind text (quoted_piece text)
+pub quoted_piece_behind : (text : List ℕ) → LiesBehind text (quoted_piece text)
 unfolding quoted_piece
-quoted_piece-behind [] = tt
-quoted_piece-behind (b ∷ more) =
+quoted_piece_behind [] = tt
+quoted_piece_behind (b ∷ more) =
     let plain : Piece = cond (b == 10 || b == 13) broken (byte b more) in
     let others : Piece = cond (b == 92) (escape more) plain in
     either (b ∷ more) (b == 34) (close more) others (inl refl)
-    (either (b ∷ more) (b == 92) (escape more) plain (lies_more (escape more) more (b ∷ more) (escape-behind more) (inr (inl refl)))
+    (either (b ∷ more) (b == 92) (escape more) plain (lies_more (escape more) more (b ∷ more) (escape_behind more) (inr (inl refl)))
     (either (b ∷ more) (b == 10 || b == 13) broken (byte b more) tt (inl refl)))
 
-pub piece_at-behind : (form : Form) (text : List ℕ) → LiesBehind text (piece_at form text)
-piece_at-behind Hexadecimal text = pair-behind text
-piece_at-behind Quoted text = quoted_piece-behind text
+pub piece_at_behind : (form : Form) (text : List ℕ) → LiesBehind text (piece_at form text)
+piece_at_behind Hexadecimal text = pair_behind text
+piece_at_behind Quoted text = quoted_piece_behind text
 
 pub byte_behind : (form : Form) (text more : List ℕ) (b : ℕ) → piece_at form text ≡ byte b more → IsBehind more text
-byte_behind form text more b e = subst (LiesBehind text) e (piece_at-behind form text)
+byte_behind form text more b e = subst (LiesBehind text) e (piece_at_behind form text)
 
 pub close_behind : (form : Form) (text more : List ℕ) → piece_at form text ≡ close more → IsBehind more text
-close_behind form text more e = subst (LiesBehind text) e (piece_at-behind form text)
+close_behind form text more e = subst (LiesBehind text) e (piece_at_behind form text)
 
 -- ---- a front of a kind
 
-pub without_front-le : (kind : ℕ → Bool) (text : List ℕ) → length (without_front kind text) ≤ length text
-without_front-le kind text =
-    elim (without_front-end kind text) [
+pub without_front_le : (kind : ℕ → Bool) (text : List ℕ) → length (without_front kind text) ≤ length text
+without_front_le kind text =
+    elim (without_front_end kind text) [
       | inl e ↦ let l = ap length e in omega arith
       | inr h ↦ let l = behind_shorter (without_front kind text) text h in omega arith
     ]
@@ -147,7 +147,7 @@ without_front-le kind text =
 front_by_test : (kind : ℕ → Bool) (b : ℕ) (more : List ℕ) (v : Bool) → kind b ≡ v → take (length more - length (without_front kind more)) more ≡ front_of kind more
     → take (length (b ∷ more) - length (without_front kind (b ∷ more))) (b ∷ more) ≡ front_of kind (b ∷ more)
 front_by_test kind b more true e h =
-    let less = without_front-le kind more in
+    let less = without_front_le kind more in
     let n : length (b ∷ more) - length (without_front kind more) ≡ (length more - length (without_front kind more)) + 1 = omega arith in
     rw e (rw (n, add-one) (ap (λ (s : List ℕ). b ∷ s) h))
 front_by_test kind b more false e h =

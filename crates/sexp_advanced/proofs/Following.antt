@@ -20,9 +20,9 @@ use Rattle.sexp_advanced.specs.declared.pieces.Form.{Form}
 use Rattle.sexp_advanced.specs.declared.pieces.Form.TheVariants.{Hexadecimal as InHexadecimal, Quoted as InQuotes}
 use Rattle.sexp_advanced.specs.declared.signs.Sign.{Sign}
 use Rattle.sexp_advanced.specs.declared.signs.Sign.TheVariants.{Open, Close, Atom}
-use Rattle.sexp_advanced.proofs.Behind.{IsEnd, LiesBehind, without_front-end, without_front-le, close_behind, behind_shorter, lies_more}
-use Rattle.sexp_advanced.proofs.Behind.{low_digit-behind, pair_here-behind, hex_escape-behind, third_octal-behind, second_octal-behind, escape-behind, quoted_piece-behind}
-use Rattle.sexp_advanced.proofs.OneSign.{sign_behind, spells-end, no_sign}
+use Rattle.sexp_advanced.proofs.Behind.{IsEnd, LiesBehind, without_front_end, without_front_le, close_behind, behind_shorter, lies_more}
+use Rattle.sexp_advanced.proofs.Behind.{low_digit_behind, pair_here_behind, hex_escape_behind, third_octal_behind, second_octal_behind, escape_behind, quoted_piece_behind}
+use Rattle.sexp_advanced.proofs.OneSign.{sign_behind, spells_end, no_sign}
 use Rattle.sexp_advanced.proofs.Again.{drop_front}
 use Rattle.sexp_advanced.proofs.Open.{begins_end, end_shorter}
 
@@ -42,7 +42,7 @@ ends_front (c ∷ x) e = (rw e refl, rw e refl)
 ends_by_test : (c : ℕ) (x : List ℕ) (t : Bool) → is_token_byte c ≡ t → length (c ∷ x) ≤ length (without_front is_token_byte (c ∷ x)) → t ≡ false
 ends_by_test c x true e h =
     let whole : length (c ∷ x) ≤ length (without_front is_token_byte x) = (rw e at h) in
-    absurd (omega (arith, without_front-le is_token_byte x))
+    absurd (omega (arith, without_front_le is_token_byte x))
 ends_by_test c x false e h = refl
 
 ends_from : (x : List ℕ) → length x ≤ length (without_front is_token_byte x) → EndsToken x
@@ -87,7 +87,7 @@ module _ (y z : List ℕ) where
 
   -- what is left without a front is before y, or within it
   front_swaps : (kind : ℕ → Bool) (v : List ℕ) → ((w : List ℕ) × (without_front kind (v ++ y) ≡ w ++ y) × (without_front kind (v ++ z) ≡ w ++ z)) ⊎ IsEnd (without_front kind (v ++ y)) y
-  front_swaps kind [] = inr (without_front-end kind y)
+  front_swaps kind [] = inr (without_front_end kind y)
   front_swaps kind (c ∷ v) = front_by_test kind c v (kind c) refl (front_swaps kind v)
 
   -- a piece behind blanks
@@ -103,79 +103,79 @@ module _ (y z : List ℕ) where
             none_before (f text) (f (without_front is_space_byte (v ++ z))) (lies_more (f text) text y (lies text) e) before
       ]
 
-  low_digit-swaps : (high : ℕ) (v : List ℕ) → Before (low_digit high (v ++ y)) → Swaps (low_digit high (v ++ y)) (low_digit high (v ++ z))
+  low_digit_swaps : (high : ℕ) (v : List ℕ) → Before (low_digit high (v ++ y)) → Swaps (low_digit high (v ++ y)) (low_digit high (v ++ z))
   unfolding low_digit
-  low_digit-swaps high [] h = none_before (low_digit high y) (low_digit high z) (low_digit-behind high y) h
-  low_digit-swaps high (c ∷ v) h = swaps_known (hex_value c) (λ low. byte (16 * high + low) (v ++ y)) (λ low. byte (16 * high + low) (v ++ z)) (λ low g. (v, refl, refl)) h
+  low_digit_swaps high [] h = none_before (low_digit high y) (low_digit high z) (low_digit_behind high y) h
+  low_digit_swaps high (c ∷ v) h = swaps_known (hex_value c) (λ low. byte (16 * high + low) (v ++ y)) (λ low. byte (16 * high + low) (v ++ z)) (λ low g. (v, refl, refl)) h
 
-  pair_here-swaps : (v : List ℕ) → Before (pair_here (v ++ y)) → Swaps (pair_here (v ++ y)) (pair_here (v ++ z))
+  pair_here_swaps : (v : List ℕ) → Before (pair_here (v ++ y)) → Swaps (pair_here (v ++ y)) (pair_here (v ++ z))
   unfolding pair_here
-  pair_here-swaps [] h = none_before (pair_here y) (pair_here z) (pair_here-behind y) h
-  pair_here-swaps (c ∷ v) h =
+  pair_here_swaps [] h = none_before (pair_here y) (pair_here z) (pair_here_behind y) h
+  pair_here_swaps (c ∷ v) h =
       let first : Piece = elim (hex_value c) [ Some high ↦ low_digit high (without_front is_space_byte (v ++ y)) | None ↦ broken ] in
       let second : Piece = elim (hex_value c) [ Some high ↦ low_digit high (without_front is_space_byte (v ++ z)) | None ↦ broken ] in
       swaps_either (c == 35) (close (v ++ y)) first (close (v ++ z)) second (λ g. (v, refl, refl))
       (swaps_known (hex_value c) (λ high. low_digit high (without_front is_space_byte (v ++ y))) (λ high. low_digit high (without_front is_space_byte (v ++ z)))
-      (λ high. behind_blanks (low_digit high) (low_digit-behind high) (low_digit-swaps high) v)) h
+      (λ high. behind_blanks (low_digit high) (low_digit_behind high) (low_digit_swaps high) v)) h
 
-  hex_escape-swaps : (v : List ℕ) → Before (hex_escape (v ++ y)) → Swaps (hex_escape (v ++ y)) (hex_escape (v ++ z))
+  hex_escape_swaps : (v : List ℕ) → Before (hex_escape (v ++ y)) → Swaps (hex_escape (v ++ y)) (hex_escape (v ++ z))
   unfolding hex_escape
-  hex_escape-swaps [] h = none_before (hex_escape y) (hex_escape z) (hex_escape-behind y) h
-  hex_escape-swaps (c ∷ v) h = swaps_known (hex_value c) (λ high. low_digit high (v ++ y)) (λ high. low_digit high (v ++ z)) (λ high. low_digit-swaps high v) h
+  hex_escape_swaps [] h = none_before (hex_escape y) (hex_escape z) (hex_escape_behind y) h
+  hex_escape_swaps (c ∷ v) h = swaps_known (hex_value c) (λ high. low_digit high (v ++ y)) (λ high. low_digit high (v ++ z)) (λ high. low_digit_swaps high v) h
 
-  third_octal-swaps : (first second : ℕ) (v : List ℕ) → Before (third_octal first second (v ++ y)) → Swaps (third_octal first second (v ++ y)) (third_octal first second (v ++ z))
+  third_octal_swaps : (first second : ℕ) (v : List ℕ) → Before (third_octal first second (v ++ y)) → Swaps (third_octal first second (v ++ y)) (third_octal first second (v ++ z))
   unfolding third_octal
-  third_octal-swaps first second [] h = none_before (third_octal first second y) (third_octal first second z) (third_octal-behind first second y) h
-  third_octal-swaps first second (c ∷ v) h =
+  third_octal_swaps first second [] h = none_before (third_octal first second y) (third_octal first second z) (third_octal_behind first second y) h
+  third_octal_swaps first second (c ∷ v) h =
       swaps_either (is_octal c) (byte (64 * first + 8 * second + (c - 48)) (v ++ y)) broken (byte (64 * first + 8 * second + (c - 48)) (v ++ z)) broken (λ g. (v, refl, refl)) (λ _. tt) h
 
-  second_octal-swaps : (first : ℕ) (v : List ℕ) → Before (second_octal first (v ++ y)) → Swaps (second_octal first (v ++ y)) (second_octal first (v ++ z))
+  second_octal_swaps : (first : ℕ) (v : List ℕ) → Before (second_octal first (v ++ y)) → Swaps (second_octal first (v ++ y)) (second_octal first (v ++ z))
   unfolding second_octal
-  second_octal-swaps first [] h = none_before (second_octal first y) (second_octal first z) (second_octal-behind first y) h
-  second_octal-swaps first (c ∷ v) h =
-      swaps_either (is_octal c) (third_octal first (c - 48) (v ++ y)) broken (third_octal first (c - 48) (v ++ z)) broken (third_octal-swaps first (c - 48) v) (λ _. tt) h
+  second_octal_swaps first [] h = none_before (second_octal first y) (second_octal first z) (second_octal_behind first y) h
+  second_octal_swaps first (c ∷ v) h =
+      swaps_either (is_octal c) (third_octal first (c - 48) (v ++ y)) broken (third_octal first (c - 48) (v ++ z)) broken (third_octal_swaps first (c - 48) v) (λ _. tt) h
 
-  escape-swaps : (v : List ℕ) → Before (escape (v ++ y)) → Swaps (escape (v ++ y)) (escape (v ++ z))
+  escape_swaps : (v : List ℕ) → Before (escape (v ++ y)) → Swaps (escape (v ++ y)) (escape (v ++ z))
   unfolding escape
-  escape-swaps [] h = none_before (escape y) (escape z) (escape-behind y) h
-  escape-swaps (c ∷ v) h =
+  escape_swaps [] h = none_before (escape y) (escape z) (escape_behind y) h
+  escape_swaps (c ∷ v) h =
       let meant-y : Piece = elim (letter c) [ Some n ↦ byte n (v ++ y) | None ↦ broken ] in
       let meant-z : Piece = elim (letter c) [ Some n ↦ byte n (v ++ z) | None ↦ broken ] in
       let octal-y : Piece = cond (is_in_range 48 51 c) (second_octal (c - 48) (v ++ y)) meant-y in
       let octal-z : Piece = cond (is_in_range 48 51 c) (second_octal (c - 48) (v ++ z)) meant-z in
-      swaps_either (c == 120) (hex_escape (v ++ y)) octal-y (hex_escape (v ++ z)) octal-z (hex_escape-swaps v)
-      (swaps_either (is_in_range 48 51 c) (second_octal (c - 48) (v ++ y)) meant-y (second_octal (c - 48) (v ++ z)) meant-z (second_octal-swaps (c - 48) v)
+      swaps_either (c == 120) (hex_escape (v ++ y)) octal-y (hex_escape (v ++ z)) octal-z (hex_escape_swaps v)
+      (swaps_either (is_in_range 48 51 c) (second_octal (c - 48) (v ++ y)) meant-y (second_octal (c - 48) (v ++ z)) meant-z (second_octal_swaps (c - 48) v)
       (swaps_known (letter c) (λ n. byte n (v ++ y)) (λ n. byte n (v ++ z)) (λ n g. (v, refl, refl)))) h
 
-  quoted_piece-swaps : (v : List ℕ) → Before (quoted_piece (v ++ y)) → Swaps (quoted_piece (v ++ y)) (quoted_piece (v ++ z))
+  quoted_piece_swaps : (v : List ℕ) → Before (quoted_piece (v ++ y)) → Swaps (quoted_piece (v ++ y)) (quoted_piece (v ++ z))
   unfolding quoted_piece
-  quoted_piece-swaps [] h = none_before (quoted_piece y) (quoted_piece z) (quoted_piece-behind y) h
-  quoted_piece-swaps (c ∷ v) h =
+  quoted_piece_swaps [] h = none_before (quoted_piece y) (quoted_piece z) (quoted_piece_behind y) h
+  quoted_piece_swaps (c ∷ v) h =
       let plain-y : Piece = cond (c == 10 || c == 13) broken (byte c (v ++ y)) in
       let plain-z : Piece = cond (c == 10 || c == 13) broken (byte c (v ++ z)) in
       let others-y : Piece = cond (c == 92) (escape (v ++ y)) plain-y in
       let others-z : Piece = cond (c == 92) (escape (v ++ z)) plain-z in
       swaps_either (c == 34) (close (v ++ y)) others-y (close (v ++ z)) others-z (λ g. (v, refl, refl))
-      (swaps_either (c == 92) (escape (v ++ y)) plain-y (escape (v ++ z)) plain-z (escape-swaps v)
+      (swaps_either (c == 92) (escape (v ++ y)) plain-y (escape (v ++ z)) plain-z (escape_swaps v)
       (swaps_either (c == 10 || c == 13) broken (byte c (v ++ y)) broken (byte c (v ++ z)) (λ _. tt) (λ g. (v, refl, refl)))) h
 
-  piece_at-swaps : (form : Form) (v : List ℕ) → Before (piece_at form (v ++ y)) → Swaps (piece_at form (v ++ y)) (piece_at form (v ++ z))
+  piece_at_swaps : (form : Form) (v : List ℕ) → Before (piece_at form (v ++ y)) → Swaps (piece_at form (v ++ y)) (piece_at form (v ++ z))
   unfolding pair
-  piece_at-swaps InHexadecimal v = behind_blanks pair_here pair_here-behind pair_here-swaps v
-  piece_at-swaps InQuotes v = quoted_piece-swaps v
+  piece_at_swaps InHexadecimal v = behind_blanks pair_here pair_here_behind pair_here_swaps v
+  piece_at_swaps InQuotes v = quoted_piece_swaps v
 
   byte_swaps : (form : Form) (v more : List ℕ) (b : ℕ) → piece_at form (v ++ y) ≡ byte b more → length y ≤ length more → (w : List ℕ) × (more ≡ w ++ y) × (piece_at form (v ++ z) ≡ byte b (w ++ z))
-  byte_swaps form v more b e before = subst (λ (p : Piece). Before p → Swaps p (piece_at form (v ++ z))) e (piece_at-swaps form v) before
+  byte_swaps form v more b e before = subst (λ (p : Piece). Before p → Swaps p (piece_at form (v ++ z))) e (piece_at_swaps form v) before
 
   close_swaps : (form : Form) (v more : List ℕ) → piece_at form (v ++ y) ≡ close more → length y ≤ length more → (w : List ℕ) × (more ≡ w ++ y) × (piece_at form (v ++ z) ≡ close (w ++ z))
-  close_swaps form v more e before = subst (λ (p : Piece). Before p → Swaps p (piece_at form (v ++ z))) e (piece_at-swaps form v) before
+  close_swaps form v more e before = subst (λ (p : Piece). Before p → Swaps p (piece_at form (v ++ z))) e (piece_at_swaps form v) before
 
   -- ---- atoms between two marks
 
   pub spells_swaps : (form : Form) (v bytes at : List ℕ) → Spells form (v ++ y) bytes at → length y ≤ length at → (w : List ℕ) × (at ≡ w ++ y) × Spells form (v ++ z) bytes (w ++ z)
   spells_swaps form v [] at h before = (v, sym h, refl)
   spells_swaps form v (b ∷ bytes) at h before =
-      let less = end_shorter at h.0 (spells-end form h.0 bytes at h.2) in
+      let less = end_shorter at h.0 (spells_end form h.0 bytes at h.2) in
       let first = byte_swaps form v h.0 b h.1 (omega arith) in
       let rest = spells_swaps form first.0 bytes at (subst (λ (t : List ℕ). Spells form t bytes at) first.1 h.2) before in
       (rest.0, rest.1, (first.0 ++ z, first.2, rest.2))

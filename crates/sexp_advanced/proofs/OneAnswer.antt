@@ -48,27 +48,27 @@ closes zero more = refl
 closes (suc n) more = refl
 
 mutual
-  run-tree : (n : ℕ) (t : Tree) (more : List Sign) → run n (signs t ++ more) ≡ behind n more
-  run-tree zero (leaf bytes) more = refl
-  run-tree (suc n) (leaf bytes) more = refl
-  run-tree n (branch r) more =
-      ap (run (suc n)) (append_assoc (row_signs r) (Close ∷ []) more) ∙ run-row n r (Close ∷ more) ∙ closes n more
+  run_tree : (n : ℕ) (t : Tree) (more : List Sign) → run n (signs t ++ more) ≡ behind n more
+  run_tree zero (leaf bytes) more = refl
+  run_tree (suc n) (leaf bytes) more = refl
+  run_tree n (branch r) more =
+      ap (run (suc n)) (append_assoc (row_signs r) (Close ∷ []) more) ∙ run_row n r (Close ∷ more) ∙ closes n more
 
-  run-row : (n : ℕ) (r : Row) (more : List Sign) → run (suc n) (row_signs r ++ more) ≡ run (suc n) more
-  run-row n end more = refl
-  run-row n (item t r) more = ap (run (suc n)) (append_assoc (signs t) (row_signs r) more) ∙ run-tree (suc n) t (row_signs r ++ more) ∙ run-row n r more
+  run_row : (n : ℕ) (r : Row) (more : List Sign) → run (suc n) (row_signs r ++ more) ≡ run (suc n) more
+  run_row n end more = refl
+  run_row n (item t r) more = ap (run (suc n)) (append_assoc (signs t) (row_signs r) more) ∙ run_tree (suc n) t (row_signs r ++ more) ∙ run_row n r more
 
-run-items : (n : ℕ) (ts : List Tree) (more : List Sign) → run (suc n) (flat_map signs ts ++ more) ≡ run (suc n) more
-run-items n [] more = refl
-run-items n (t ∷ ts) more =
-    ap (run (suc n)) (ap (λ (s : List Sign). s ++ more) (flat_map-cons signs t ts) ∙ append_assoc (signs t) (flat_map signs ts) more) ∙ run-tree (suc n) t (flat_map signs ts ++ more) ∙ run-items n ts more
+run_items : (n : ℕ) (ts : List Tree) (more : List Sign) → run (suc n) (flat_map signs ts ++ more) ≡ run (suc n) more
+run_items n [] more = refl
+run_items n (t ∷ ts) more =
+    ap (run (suc n)) (ap (λ (s : List Sign). s ++ more) (flat_map-cons signs t ts) ∙ append_assoc (signs t) (flat_map signs ts) more) ∙ run_tree (suc n) t (flat_map signs ts ++ more) ∙ run_items n ts more
 
 -- behind the signs of open lists
-run-opening : (n : ℕ) (lists : OpenLists) (more : List Sign) → run n (opening_signs lists ++ more) ≡ run (n + length lists) more
-run-opening n [] more = let e : n + 0 ≡ n = omega arith in rw e refl
-run-opening n (items ∷ lists) more =
+run_opening : (n : ℕ) (lists : OpenLists) (more : List Sign) → run n (opening_signs lists ++ more) ≡ run (n + length lists) more
+run_opening n [] more = let e : n + 0 ≡ n = omega arith in rw e refl
+run_opening n (items ∷ lists) more =
     let e : n + suc (length lists) ≡ suc n + length lists = omega arith in
-    ap (run (suc n)) (append_assoc (flat_map signs items) (opening_signs lists) more) ∙ run-items n items (opening_signs lists ++ more) ∙ run-opening (suc n) lists more ∙ ap (λ (k : ℕ). run k more) (sym e)
+    ap (run (suc n)) (append_assoc (flat_map signs items) (opening_signs lists) more) ∙ run_items n items (opening_signs lists ++ more) ∙ run_opening (suc n) lists more ∙ ap (λ (k : ℕ). run k more) (sym e)
 
 -- ---- how many lists are open at the deepest place
 
@@ -78,39 +78,39 @@ deepest n (Open ∷ more) = deepest (suc n) more
 deepest n (Close ∷ more) = max n (deepest (n - 1) more)
 deepest n (Atom bytes ∷ more) = deepest n more
 
-deepest-le : (n : ℕ) (xs : List Sign) → n ≤ deepest n xs
-deepest-le n [] = omega arith
-deepest-le n (Open ∷ xs) = omega (arith, deepest-le (suc n) xs)
-deepest-le n (Close ∷ xs) = omega arith
-deepest-le n (Atom bytes ∷ xs) = deepest-le n xs
+deepest_le : (n : ℕ) (xs : List Sign) → n ≤ deepest n xs
+deepest_le n [] = omega arith
+deepest_le n (Open ∷ xs) = omega (arith, deepest_le (suc n) xs)
+deepest_le n (Close ∷ xs) = omega arith
+deepest_le n (Atom bytes ∷ xs) = deepest_le n xs
 
 mutual
-  deepest-tree : (n : ℕ) (t : Tree) (more : List Sign) → deepest n (signs t ++ more) ≡ max (n + depth t) (deepest n more)
-  deepest-tree n (leaf bytes) more = let l = deepest-le n more in omega arith
-  deepest-tree n (branch r) more =
+  deepest_tree : (n : ℕ) (t : Tree) (more : List Sign) → deepest n (signs t ++ more) ≡ max (n + depth t) (deepest n more)
+  deepest_tree n (leaf bytes) more = let l = deepest_le n more in omega arith
+  deepest_tree n (branch r) more =
       let down : suc n - 1 ≡ n = omega arith in
-      let l = deepest-le n more in
-      let inside = ap (deepest (suc n)) (append_assoc (row_signs r) (Close ∷ []) more) ∙ deepest-row (suc n) r (Close ∷ more) in
+      let l = deepest_le n more in
+      let inside = ap (deepest (suc n)) (append_assoc (row_signs r) (Close ∷ []) more) ∙ deepest_row (suc n) r (Close ∷ more) in
       let last : deepest (suc n) (Close ∷ more) ≡ max (suc n) (deepest n more) = rw down refl in
       omega (arith, inside, last)
 
-  deepest-row : (n : ℕ) (r : Row) (more : List Sign) → deepest n (row_signs r ++ more) ≡ max (n + depths r) (deepest n more)
-  deepest-row n end more = let l = deepest-le n more in omega arith
-  deepest-row n (item t r) more =
-      omega (arith, ap (deepest n) (append_assoc (signs t) (row_signs r) more) ∙ deepest-tree n t (row_signs r ++ more), deepest-row n r more)
+  deepest_row : (n : ℕ) (r : Row) (more : List Sign) → deepest n (row_signs r ++ more) ≡ max (n + depths r) (deepest n more)
+  deepest_row n end more = let l = deepest_le n more in omega arith
+  deepest_row n (item t r) more =
+      omega (arith, ap (deepest n) (append_assoc (signs t) (row_signs r) more) ∙ deepest_tree n t (row_signs r ++ more), deepest_row n r more)
 
-deepest-items : (n : ℕ) (ts : List Tree) (more : List Sign) → deepest n (flat_map signs ts ++ more) ≡ max (n + depths (row ts)) (deepest n more)
-deepest-items n [] more = let l = deepest-le n more in omega arith
-deepest-items n (t ∷ ts) more =
-    omega (arith, ap (deepest n) (ap (λ (s : List Sign). s ++ more) (flat_map-cons signs t ts) ∙ append_assoc (signs t) (flat_map signs ts) more) ∙ deepest-tree n t (flat_map signs ts ++ more), deepest-items n ts more)
+deepest_items : (n : ℕ) (ts : List Tree) (more : List Sign) → deepest n (flat_map signs ts ++ more) ≡ max (n + depths (row ts)) (deepest n more)
+deepest_items n [] more = let l = deepest_le n more in omega arith
+deepest_items n (t ∷ ts) more =
+    omega (arith, ap (deepest n) (ap (λ (s : List Sign). s ++ more) (flat_map-cons signs t ts) ∙ append_assoc (signs t) (flat_map signs ts) more) ∙ deepest_tree n t (flat_map signs ts ++ more), deepest_items n ts more)
 
-deepest-opening : (n : ℕ) (lists : OpenLists) (more : List Sign) → deepest n (opening_signs lists ++ more) ≡ max (n + open_depth lists) (deepest (n + length lists) more)
-deepest-opening n [] more = let e : n + 0 ≡ n = omega arith in let l = deepest-le n more in rw e (omega arith)
-deepest-opening n (items ∷ lists) more =
+deepest_opening : (n : ℕ) (lists : OpenLists) (more : List Sign) → deepest n (opening_signs lists ++ more) ≡ max (n + open_depth lists) (deepest (n + length lists) more)
+deepest_opening n [] more = let e : n + 0 ≡ n = omega arith in let l = deepest_le n more in rw e (omega arith)
+deepest_opening n (items ∷ lists) more =
     let e : n + suc (length lists) ≡ suc n + length lists = omega arith in
-    let inside = ap (deepest (suc n)) (append_assoc (flat_map signs items) (opening_signs lists) more) ∙ deepest-items (suc n) items (opening_signs lists ++ more) in
+    let inside = ap (deepest (suc n)) (append_assoc (flat_map signs items) (opening_signs lists) more) ∙ deepest_items (suc n) items (opening_signs lists ++ more) in
     let f = ap (λ (k : ℕ). deepest k more) e in
-    omega (arith, inside, deepest-opening (suc n) lists more)
+    omega (arith, inside, deepest_opening (suc n) lists more)
 
 -- ---- two ways from one text
 
@@ -140,20 +140,20 @@ abbrev glyphs : List Sign → List ℕ
 glyphs [] = []
 glyphs (s ∷ more) = glyph s ++ glyphs more
 
-glyphs-append : (xs ys : List Sign) → glyphs (xs ++ ys) ≡ glyphs xs ++ glyphs ys
-glyphs-append [] ys = refl
-glyphs-append (x ∷ xs) ys = ap (λ (s : List ℕ). glyph x ++ s) (glyphs-append xs ys) ∙ sym (append_assoc (glyph x) (glyphs xs) (glyphs ys))
+glyphs_append : (xs ys : List Sign) → glyphs (xs ++ ys) ≡ glyphs xs ++ glyphs ys
+glyphs_append [] ys = refl
+glyphs_append (x ∷ xs) ys = ap (λ (s : List ℕ). glyph x ++ s) (glyphs_append xs ys) ∙ sym (append_assoc (glyph x) (glyphs xs) (glyphs ys))
 
 mutual
   unfolding glyph
 
   spelled_signs : (t : Tree) → glyphs (signs t) ≡ spelling t
   spelled_signs (leaf bytes) = append-nil (spelling (leaf bytes))
-  spelled_signs (branch r) = ap (λ (s : List ℕ). 40 ∷ s) (glyphs-append (row_signs r) (Close ∷ []) ∙ ap (λ (s : List ℕ). s ++ 41 ∷ []) (spelled_row r))
+  spelled_signs (branch r) = ap (λ (s : List ℕ). 40 ∷ s) (glyphs_append (row_signs r) (Close ∷ []) ∙ ap (λ (s : List ℕ). s ++ 41 ∷ []) (spelled_row r))
 
   spelled_row : (r : Row) → glyphs (row_signs r) ≡ spellings r
   spelled_row end = refl
-  spelled_row (item t r) = glyphs-append (signs t) (row_signs r) ∙ (λ i. spelled_signs t i ++ spelled_row r i)
+  spelled_row (item t r) = glyphs_append (signs t) (row_signs r) ∙ (λ i. spelled_signs t i ++ spelled_row r i)
 
 signs_injective : (t u : Tree) → signs t ≡ signs u → t ≡ u
 signs_injective t u e =
@@ -177,39 +177,39 @@ no_way_on lists s zs whole place fault parts bad well shallow =
     elim (bad_sign place (length lists) s fault bad) [
       | inl closed ↦
           let none : 0 + length lists ≡ 0 = let n = closed.1 in omega arith in
-          well (ap (run 0) (parts ∙ ap (λ (r : Sign). opening_signs lists ++ r ∷ zs) closed.0) ∙ run-opening 0 lists (Close ∷ zs) ∙ ap (λ (n : ℕ). run n (Close ∷ zs)) none)
+          well (ap (run 0) (parts ∙ ap (λ (r : Sign). opening_signs lists ++ r ∷ zs) closed.0) ∙ run_opening 0 lists (Close ∷ zs) ∙ ap (λ (n : ℕ). run n (Close ∷ zs)) none)
       | inr opened ↦
-          let deep = ap (deepest 0) (parts ∙ ap (λ (r : Sign). opening_signs lists ++ r ∷ zs) opened.0) ∙ deepest-opening 0 lists (Open ∷ zs) in
+          let deep = ap (deepest 0) (parts ∙ ap (λ (r : Sign). opening_signs lists ++ r ∷ zs) opened.0) ∙ deepest_opening 0 lists (Open ∷ zs) in
           let n = opened.1 in
-          omega (arith, deepest-le (suc (0 + length lists)) zs)
+          omega (arith, deepest_le (suc (0 + length lists)) zs)
     ]
 
-run-open : (lists : OpenLists) → run 0 (opening_signs lists) ≡ going (length lists)
-run-open lists =
+run_open : (lists : OpenLists) → run 0 (opening_signs lists) ≡ going (length lists)
+run_open lists =
     let e : 0 + length lists ≡ length lists = omega arith in
-    ap (run 0) (sym (append-nil (opening_signs lists))) ∙ run-opening 0 lists [] ∙ ap going e
+    ap (run 0) (sym (append-nil (opening_signs lists))) ∙ run_opening 0 lists [] ∙ ap going e
 
-run-whole : (t : Tree) → run 0 (signs t) ≡ done []
-run-whole t = ap (run 0) (sym (append-nil (signs t))) ∙ run-tree 0 t []
+run_whole : (t : Tree) → run 0 (signs t) ≡ done []
+run_whole t = ap (run 0) (sym (append-nil (signs t))) ∙ run_tree 0 t []
 
-deepest-open : (lists : OpenLists) → deepest 0 (opening_signs lists) ≡ max (open_depth lists) (length lists)
-deepest-open lists = omega (arith, ap (deepest 0) (append-nil (opening_signs lists)), deepest-opening 0 lists [])
+deepest_open : (lists : OpenLists) → deepest 0 (opening_signs lists) ≡ max (open_depth lists) (length lists)
+deepest_open lists = omega (arith, ap (deepest 0) (append-nil (opening_signs lists)), deepest_opening 0 lists [])
 
-deepest-whole : (t : Tree) → deepest 0 (signs t) ≡ depth t
-deepest-whole t = omega (arith, ap (deepest 0) (append-nil (signs t)), deepest-tree 0 t [])
+deepest_whole : (t : Tree) → deepest 0 (signs t) ≡ depth t
+deepest_whole t = omega (arith, ap (deepest 0) (append-nil (signs t)), deepest_tree 0 t [])
 
-length-le-open_depth : (lists : OpenLists) → length lists ≤ open_depth lists
-length-le-open_depth [] = omega arith
-length-le-open_depth (o ∷ lists) = omega (arith, length-le-open_depth lists)
+length_le_open_depth : (lists : OpenLists) → length lists ≤ open_depth lists
+length_le_open_depth [] = omega arith
+length_le_open_depth (o ∷ lists) = omega (arith, length_le_open_depth lists)
 
-going-done : (n : ℕ) (xs : List Sign) → going n ≡ done xs → ⊥
-going-done n xs e = cc
+going_done : (n : ℕ) (xs : List Sign) → going n ≡ done xs → ⊥
+going_done n xs e = cc
 
-going-astray : (n : ℕ) → going n ≡ astray → ⊥
-going-astray n e = cc
+going_astray : (n : ℕ) → going n ≡ astray → ⊥
+going_astray n e = cc
 
-done-astray : (xs : List Sign) → done xs ≡ astray → ⊥
-done-astray xs e = cc
+done_astray : (xs : List Sign) → done xs ≡ astray → ⊥
+done_astray xs e = cc
 
 -- a fault stands where no way goes on
 stopped : (text rest last : List ℕ) (lists : OpenLists) (found : Found) (fault : AdvFault) (zs whole : List Sign) → IsAt (without_front is_space_byte rest) found
@@ -227,12 +227,12 @@ no_fault : (bytes : List ℕ) (tree : Sexp) (n : ℕ) (fault : AdvFault) → IsE
 no_fault bytes tree n fault read first =
     let t = tree_of tree in
     elim (one_way bytes (signs t) (opening_signs first.lists) (drop n bytes) first.rest read.spelled first.begins) [
-      | inl g ↦ going-done (length first.lists) g.0 (sym (run-open first.lists) ∙ ap (run 0) g.1 ∙ run-tree 0 t g.0)
+      | inl g ↦ going_done (length first.lists) g.0 (sym (run_open first.lists) ∙ ap (run 0) g.1 ∙ run_tree 0 t g.0)
       | inr g ↦
           let none = stopped bytes first.rest (drop n bytes) first.lists first.found fault g.0 (signs t) first.stands first.is g.1 g.2
-          (λ e. done-astray [] (sym (run-whole t) ∙ e)) (omega (arith, deepest-whole t, read.shallow)) in
-          going-done (length first.lists) []
-          (sym (run-open first.lists) ∙ ap (run 0) (sym (append-nil (opening_signs first.lists)) ∙ ap (λ (zs : List Sign). opening_signs first.lists ++ zs) (sym none) ∙ sym g.1) ∙ run-whole t)
+          (λ e. done_astray [] (sym (run_whole t) ∙ e)) (omega (arith, deepest_whole t, read.shallow)) in
+          going_done (length first.lists) []
+          (sym (run_open first.lists) ∙ ap (run 0) (sym (append-nil (opening_signs first.lists)) ∙ ap (λ (zs : List Sign). opening_signs first.lists ++ zs) (sym none) ∙ sym g.1) ∙ run_whole t)
     ]
 
 -- ---- one fault
@@ -243,10 +243,10 @@ some_fault f = Some f
 same_fault : (bytes : List ℕ) (f g : AdvFault) (a : IsFirstAdvFault bytes f) (b : IsFirstAdvFault bytes g) (zs : List Sign) → opening_signs b.lists ≡ opening_signs a.lists ++ zs → Begins a.rest zs b.rest → f ≡ g
 same_fault bytes f g a b zs parts goes =
     let none = stopped bytes a.rest b.rest a.lists a.found f zs (opening_signs b.lists) a.stands a.is parts goes
-    (λ e. going-astray (length b.lists) (sym (run-open b.lists) ∙ e)) (omega (arith, deepest-open b.lists, length-le-open_depth b.lists, b.shallow)) in
+    (λ e. going_astray (length b.lists) (sym (run_open b.lists) ∙ e)) (omega (arith, deepest_open b.lists, length_le_open_depth b.lists, b.shallow)) in
     let rest : a.rest ≡ b.rest = subst (λ (ws : List Sign). Begins a.rest ws b.rest) none goes in
     let same-signs : opening_signs b.lists ≡ opening_signs a.lists = parts ∙ ap (λ (ws : List Sign). opening_signs a.lists ++ ws) none ∙ append-nil (opening_signs a.lists) in
-    let counts : going (length b.lists) ≡ going (length a.lists) = sym (run-open b.lists) ∙ ap (run 0) same-signs ∙ run-open a.lists in
+    let counts : going (length b.lists) ≡ going (length a.lists) = sym (run_open b.lists) ∙ ap (run 0) same-signs ∙ run_open a.lists in
     let count : length b.lists ≡ length a.lists = cc in
     let found : b.found ≡ a.found =
     one_here (without_front is_space_byte a.rest) b.found a.found (subst (λ (t : List ℕ). IsAt (without_front is_space_byte t) b.found) (sym rest) b.stands) a.stands in
@@ -266,7 +266,7 @@ same_place bytes m n h g e = omega (arith, ap length e, length-drop m bytes, len
 same_expression : (bytes : List ℕ) (a b : Sexp) (m n : ℕ) (h : IsExpression bytes a m) (k : IsExpression bytes b n) (zs : List Sign) → signs (tree_of b) ≡ signs (tree_of a) ++ zs
     → Begins (drop m bytes) zs (drop n bytes) → (a ≡ b) × (m ≡ n)
 same_expression bytes a b m n h k zs parts goes =
-    let none : zs ≡ [] = done_same zs [] (sym (run-tree 0 (tree_of a) zs) ∙ ap (run 0) (sym parts) ∙ run-whole (tree_of b)) in
+    let none : zs ≡ [] = done_same zs [] (sym (run_tree 0 (tree_of a) zs) ∙ ap (run 0) (sym parts) ∙ run_whole (tree_of b)) in
     let same-signs : signs (tree_of a) ≡ signs (tree_of b) = sym (parts ∙ ap (λ (ws : List Sign). signs (tree_of a) ++ ws) none ∙ append-nil (signs (tree_of a))) in
     let rest : drop m bytes ≡ drop n bytes = subst (λ (ws : List Sign). Begins (drop m bytes) ws (drop n bytes)) none goes in
     (tree_of_injective a b (signs_injective (tree_of a) (tree_of b) same-signs), same_place bytes m n h.within k.within rest)

@@ -19,7 +19,7 @@ use Rattle.sexp_advanced.specs.declared.signs.Sign.{Sign}
 use Rattle.sexp_advanced.specs.declared.signs.Sign.TheVariants.{Open, Close, Atom}
 use Rattle.sexp_advanced.specs.declared.fault.AdvFault.{AdvFault}
 use Rattle.sexp_advanced.specs.declared.fault.AdvFault.TheVariants.{NoMemory}
-use Rattle.sexp_advanced.proofs.Behind.{IsBehind, IsEnd, behind_more, behind_end, byte_behind, close_behind, without_front-end}
+use Rattle.sexp_advanced.proofs.Behind.{IsBehind, IsEnd, behind_more, behind_end, byte_behind, close_behind, without_front_end}
 use Rattle.sexp_advanced.proofs.Delimited.{one_delimited}
 
 -- ---- an atom in the canonical form
@@ -75,28 +75,28 @@ FoundBehind text broken_atom = Unit {0}
 FoundBehind text ended = Unit {0}
 FoundBehind text no_item = Unit {0}
 
-pub spells-end : (form : Form) (text bytes at : List ℕ) → Spells form text bytes at → IsEnd at text
-spells-end form text [] at h = inl (sym h)
-spells-end form text (b ∷ bytes) at h = inr (behind_from at h.0 text (spells-end form h.0 bytes at h.2) (byte_behind form text h.0 b h.1))
+pub spells_end : (form : Form) (text bytes at : List ℕ) → Spells form text bytes at → IsEnd at text
+spells_end form text [] at h = inl (sym h)
+spells_end form text (b ∷ bytes) at h = inr (behind_from at h.0 text (spells_end form h.0 bytes at h.2) (byte_behind form text h.0 b h.1))
   where
     behind_from : (a b c : List ℕ) → IsEnd a b → IsBehind b c → IsBehind a c
     behind_from a b c (inl e) g = subst (λ (s : List ℕ). IsBehind s c) (sym e) g
     behind_from a b c (inr h) g = behind_more a b c h g
 
-outcome-behind : (form : Form) (text bytes at : List ℕ) (p : Piece) (s : Sign) (rest : List ℕ) → piece_at form at ≡ p → outcome bytes p ≡ Some (sign s rest) → IsBehind rest at
-outcome-behind form text bytes at (byte b more) s rest e f = absurd cc
-outcome-behind form text bytes at (close more) s rest e f = let same : more ≡ rest = cc in close_behind form at rest (e ∙ ap close same)
-outcome-behind form text bytes at broken s rest e f = absurd cc
-outcome-behind form text bytes at cut s rest e f = absurd cc
+outcome_behind : (form : Form) (text bytes at : List ℕ) (p : Piece) (s : Sign) (rest : List ℕ) → piece_at form at ≡ p → outcome bytes p ≡ Some (sign s rest) → IsBehind rest at
+outcome_behind form text bytes at (byte b more) s rest e f = absurd cc
+outcome_behind form text bytes at (close more) s rest e f = let same : more ≡ rest = cc in close_behind form at rest (e ∙ ap close same)
+outcome_behind form text bytes at broken s rest e f = absurd cc
+outcome_behind form text bytes at cut s rest e f = absurd cc
 
-delimited-behind : (form : Form) (text : List ℕ) (s : Sign) (rest : List ℕ) → IsDelimited form text (sign s rest) → IsBehind rest text
-delimited-behind form text s rest h =
-    behind_end rest h.at text (outcome-behind form text h.bytes h.at (piece_at form h.at) s rest refl h.is) (spells-end form text h.bytes h.at h.spelled)
+delimited_behind : (form : Form) (text : List ℕ) (s : Sign) (rest : List ℕ) → IsDelimited form text (sign s rest) → IsBehind rest text
+delimited_behind form text s rest h =
+    behind_end rest h.at text (outcome_behind form text h.bytes h.at (piece_at form h.at) s rest refl h.is) (spells_end form text h.bytes h.at h.spelled)
 
-drop-end : (n : ℕ) (text : List ℕ) → IsEnd (drop n text) text
-drop-end zero text = inl refl
-drop-end (suc n) [] = inl refl
-drop-end (suc n) (b ∷ more) = inr (drop-end n more)
+drop_end : (n : ℕ) (text : List ℕ) → IsEnd (drop n text) text
+drop_end zero text = inl refl
+drop_end (suc n) [] = inl refl
+drop_end (suc n) (b ∷ more) = inr (drop_end n more)
 
 atom_behind : (text bytes rest : List ℕ) (n : ℕ) → n ≤ length text → take n text ≡ spelling_of (Atomic bytes) → drop n text ≡ rest → IsBehind rest text
 atom_behind [] bytes rest n w e f =
@@ -110,11 +110,11 @@ atom_behind [] bytes rest n w e f =
 atom_behind (b ∷ more) bytes rest zero w e f =
     let some = ap length e ∙ length-append (numeral (length bytes)) (58 ∷ bytes) in
     absurd (omega arith)
-atom_behind (b ∷ more) bytes rest (suc n) w e f = subst (λ (s : List ℕ). IsEnd s more) f (drop-end n more)
+atom_behind (b ∷ more) bytes rest (suc n) w e f = subst (λ (s : List ℕ). IsEnd s more) f (drop_end n more)
 
-verbatim-behind : (text : List ℕ) (tree : Sexp) (n : ℕ) (s : Sign) (rest : List ℕ) → ReadsCanonical text (Ok (tree, n)) → verbatim_tree text tree n ≡ sign s rest → IsBehind rest text
-verbatim-behind text (Atomic bytes) n s rest h e = let same : drop n text ≡ rest = cc in atom_behind text bytes rest n h.0 h.1.spelled same
-verbatim-behind text (Listed items) n s rest h e = absurd cc
+verbatim_behind : (text : List ℕ) (tree : Sexp) (n : ℕ) (s : Sign) (rest : List ℕ) → ReadsCanonical text (Ok (tree, n)) → verbatim_tree text tree n ≡ sign s rest → IsBehind rest text
+verbatim_behind text (Atomic bytes) n s rest h e = let same : drop n text ≡ rest = cc in atom_behind text bytes rest n h.0 h.1.spelled same
+verbatim_behind text (Listed items) n s rest h e = absurd cc
 
 pub no_sign : (fault : SexpFault) (s : Sign) (rest : List ℕ) → verbatim_fault fault ≡ sign s rest → ⊥
 no_sign (BadByte n) s rest e = cc
@@ -123,29 +123,29 @@ no_sign (Deep n) s rest e = cc
 no_sign Short s rest e = cc
 no_sign NoRoom s rest e = cc
 
-verbatim-sign : (text : List ℕ) (answer : Result (Sexp × ℕ) SexpFault) (s : Sign) (rest : List ℕ) → ReadsCanonical text answer → verbatim text answer ≡ sign s rest → IsBehind rest text
-verbatim-sign text (Ok read) s rest h e = verbatim-behind text read.0 read.1 s rest h e
-verbatim-sign text (Err fault) s rest h e = absurd (no_sign fault s rest e)
+verbatim_sign : (text : List ℕ) (answer : Result (Sexp × ℕ) SexpFault) (s : Sign) (rest : List ℕ) → ReadsCanonical text answer → verbatim text answer ≡ sign s rest → IsBehind rest text
+verbatim_sign text (Ok read) s rest h e = verbatim_behind text read.0 read.1 s rest h e
+verbatim_sign text (Err fault) s rest h e = absurd (no_sign fault s rest e)
 
-token-behind : (b : ℕ) (more rest : List ℕ) → is_token_start b ≡ true → rest ≡ without_front is_token_byte (b ∷ more) → IsBehind rest (b ∷ more)
+token_behind : (b : ℕ) (more rest : List ℕ) → is_token_start b ≡ true → rest ≡ without_front is_token_byte (b ∷ more) → IsBehind rest (b ∷ more)
 unfolding is_token_byte
-token-behind b more rest start e =
+token_behind b more rest start e =
     let goes : is_token_byte b ≡ true = rw start refl in
     let same : rest ≡ without_front is_token_byte more = e ∙ rw goes refl in
-    subst (λ (s : List ℕ). IsBehind s (b ∷ more)) (sym same) (without_front-end is_token_byte more)
+    subst (λ (s : List ℕ). IsBehind s (b ∷ more)) (sym same) (without_front_end is_token_byte more)
 
 rest_of : (s t : Sign) (x y : List ℕ) → sign s x ≡ sign t y → x ≡ y
 rest_of s t x y e = cc
 
-of-behind : (k : Class) (b : ℕ) (more : List ℕ) (s : Sign) (rest : List ℕ) → class_of b ≡ k → IsOf k (b ∷ more) more (sign s rest) → IsBehind rest (b ∷ more)
-of-behind Opens b more s rest e h = inl (rest_of s Open rest more h)
-of-behind Closes b more s rest e h = inl (rest_of s Close rest more h)
-of-behind Hexadecimal b more s rest e h = inr (delimited-behind _ more s rest h)
-of-behind Quoted b more s rest e h = inr (delimited-behind _ more s rest h)
-of-behind Verbatim b more s rest e h = verbatim-sign (b ∷ more) h.answer s rest h.reads h.is
-of-behind Token b more s rest e h = token-behind b more rest (token_starts b e) (rest_of s (Atom (front_of is_token_byte (b ∷ more))) rest (without_front is_token_byte (b ∷ more)) h)
-of-behind Nothing b more s rest e h = absurd (let f : no_item ≡ sign s rest = sym h in cc)
+of_behind : (k : Class) (b : ℕ) (more : List ℕ) (s : Sign) (rest : List ℕ) → class_of b ≡ k → IsOf k (b ∷ more) more (sign s rest) → IsBehind rest (b ∷ more)
+of_behind Opens b more s rest e h = inl (rest_of s Open rest more h)
+of_behind Closes b more s rest e h = inl (rest_of s Close rest more h)
+of_behind Hexadecimal b more s rest e h = inr (delimited_behind _ more s rest h)
+of_behind Quoted b more s rest e h = inr (delimited_behind _ more s rest h)
+of_behind Verbatim b more s rest e h = verbatim_sign (b ∷ more) h.answer s rest h.reads h.is
+of_behind Token b more s rest e h = token_behind b more rest (token_starts b e) (rest_of s (Atom (front_of is_token_byte (b ∷ more))) rest (without_front is_token_byte (b ∷ more)) h)
+of_behind Nothing b more s rest e h = absurd (let f : no_item ≡ sign s rest = sym h in cc)
 
 pub sign_behind : (text : List ℕ) (s : Sign) (rest : List ℕ) → IsAt text (sign s rest) → IsBehind rest text
 sign_behind [] s rest h = absurd (let f : ended ≡ sign s rest = sym h in cc)
-sign_behind (b ∷ more) s rest h = of-behind (class_of b) b more s rest refl h
+sign_behind (b ∷ more) s rest h = of_behind (class_of b) b more s rest refl h

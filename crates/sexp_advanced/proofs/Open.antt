@@ -10,7 +10,7 @@ use Rattle.sexp_canonical.specs.Spelling.{most_depth, depth}
 use Rattle.sexp_canonical.specs.Reading.{OpenLists, open_depth}
 use Rattle.sexp_canonical.specs.Adding.{AddsTree}
 use Rattle.sexp_canonical.specs.declared.tree.Sexp.{Sexp}
-use Rattle.sexp_canonical.proofs.Depths.{deeper-more, deeper-new, deeper-outer, deeper-last, length-le-open_depth}
+use Rattle.sexp_canonical.proofs.Depths.{deeper_more, deeper_new, deeper_outer, deeper_last, length_le_open_depth}
 use Rattle.sexp_advanced.specs.Bytes.{is_space_byte, without_front}
 use Rattle.sexp_advanced.specs.Signs.{sign, IsAt}
 use Rattle.sexp_advanced.specs.Reading.{signs, row_signs, opening_signs, Begins, IsExpression, IsFirstAdvFault, sign_fault, place_of}
@@ -18,7 +18,7 @@ use Rattle.sexp_advanced.specs.Steps.{HasNoSign, Adds}
 use Rattle.sexp_advanced.specs.declared.signs.Sign.{Sign}
 use Rattle.sexp_advanced.specs.declared.signs.Sign.TheVariants.{Open, Close, Atom}
 use Rattle.sexp_advanced.specs.declared.fault.AdvFault.{AdvFault}
-use Rattle.sexp_advanced.proofs.Behind.{IsBehind, IsEnd, behind_shorter, behind_drop, behind_more, without_front-end, without_front-le}
+use Rattle.sexp_advanced.proofs.Behind.{IsBehind, IsEnd, behind_shorter, behind_drop, behind_more, without_front_end, without_front_le}
 use Rattle.sexp_advanced.proofs.OneSign.{sign_behind}
 
 -- ---- signs one after another
@@ -41,7 +41,7 @@ end_end a b c h (inr g) = end_more a b c h g
 pub begins_end : (text : List ℕ) (xs : List Sign) (rest : List ℕ) → Begins text xs rest → IsEnd rest text
 begins_end text [] rest h = inl (sym h)
 begins_end text (x ∷ xs) rest h =
-    end_end rest (without_front is_space_byte text) text (end_more rest h.0 (without_front is_space_byte text) (begins_end h.0 xs rest h.2) (sign_behind (without_front is_space_byte text) x h.0 h.1)) (without_front-end is_space_byte text)
+    end_end rest (without_front is_space_byte text) text (end_more rest h.0 (without_front is_space_byte text) (begins_end h.0 xs rest h.2) (sign_behind (without_front is_space_byte text) x h.0 h.1)) (without_front_end is_space_byte text)
 
 pub end_shorter : (rest text : List ℕ) → IsEnd rest text → length rest ≤ length text
 end_shorter rest text (inl e) = let l = ap length e in omega arith
@@ -55,34 +55,34 @@ end_drop rest text (inr h) = behind_drop rest text h
 
 -- ---- the signs of the open lists
 
-opening-append : (xs ys : OpenLists) → opening_signs (xs ++ ys) ≡ opening_signs xs ++ opening_signs ys
-opening-append [] ys = refl
-opening-append (items ∷ xs) ys =
-    ap (λ (s : List Sign). Open ∷ (flat_map signs items ++ s)) (opening-append xs ys) ∙ ap (λ (s : List Sign). Open ∷ s) (sym (append_assoc (flat_map signs items) (opening_signs xs) (opening_signs ys)))
+opening_append : (xs ys : OpenLists) → opening_signs (xs ++ ys) ≡ opening_signs xs ++ opening_signs ys
+opening_append [] ys = refl
+opening_append (items ∷ xs) ys =
+    ap (λ (s : List Sign). Open ∷ (flat_map signs items ++ s)) (opening_append xs ys) ∙ ap (λ (s : List Sign). Open ∷ s) (sym (append_assoc (flat_map signs items) (opening_signs xs) (opening_signs ys)))
 
-opening-last : (outer : OpenLists) (items : List Tree) → opening_signs (outer ++ items ∷ []) ≡ opening_signs outer ++ Open ∷ flat_map signs items
-opening-last outer items = opening-append outer (items ∷ []) ∙ ap (λ (s : List Sign). opening_signs outer ++ Open ∷ s) (append-nil (flat_map signs items))
+opening_last : (outer : OpenLists) (items : List Tree) → opening_signs (outer ++ items ∷ []) ≡ opening_signs outer ++ Open ∷ flat_map signs items
+opening_last outer items = opening_append outer (items ∷ []) ∙ ap (λ (s : List Sign). opening_signs outer ++ Open ∷ s) (append-nil (flat_map signs items))
 
-flat_map-last : (items : List Tree) (t : Tree) → flat_map signs (items ++ t ∷ []) ≡ flat_map signs items ++ signs t
-flat_map-last items t = flat_map-append signs items (t ∷ []) ∙ ap (λ (s : List Sign). flat_map signs items ++ s) (flat_map-cons signs t [] ∙ append-nil (signs t))
+flat_map_last : (items : List Tree) (t : Tree) → flat_map signs (items ++ t ∷ []) ≡ flat_map signs items ++ signs t
+flat_map_last items t = flat_map-append signs items (t ∷ []) ∙ ap (λ (s : List Sign). flat_map signs items ++ s) (flat_map-cons signs t [] ∙ append-nil (signs t))
 
-opening-more : (outer : OpenLists) (items : List Tree) (t : Tree) → opening_signs (outer ++ (items ++ t ∷ []) ∷ []) ≡ opening_signs (outer ++ items ∷ []) ++ signs t
-opening-more outer items t =
-    opening-last outer (items ++ t ∷ []) ∙ ap (λ (s : List Sign). opening_signs outer ++ Open ∷ s) (flat_map-last items t)
-    ∙ sym (append_assoc (opening_signs outer) (Open ∷ flat_map signs items) (signs t)) ∙ ap (λ (s : List Sign). s ++ signs t) (sym (opening-last outer items))
+opening_more : (outer : OpenLists) (items : List Tree) (t : Tree) → opening_signs (outer ++ (items ++ t ∷ []) ∷ []) ≡ opening_signs (outer ++ items ∷ []) ++ signs t
+opening_more outer items t =
+    opening_last outer (items ++ t ∷ []) ∙ ap (λ (s : List Sign). opening_signs outer ++ Open ∷ s) (flat_map_last items t)
+    ∙ sym (append_assoc (opening_signs outer) (Open ∷ flat_map signs items) (signs t)) ∙ ap (λ (s : List Sign). s ++ signs t) (sym (opening_last outer items))
 
-row_signs-row : (ts : List Tree) → row_signs (row ts) ≡ flat_map signs ts
-row_signs-row [] = refl
-row_signs-row (t ∷ ts) = ap (λ (s : List Sign). signs t ++ s) (row_signs-row ts) ∙ sym (flat_map-cons signs t ts)
+row_signs_row : (ts : List Tree) → row_signs (row ts) ≡ flat_map signs ts
+row_signs_row [] = refl
+row_signs_row (t ∷ ts) = ap (λ (s : List Sign). signs t ++ s) (row_signs_row ts) ∙ sym (flat_map-cons signs t ts)
 
-closed-list : (outer : OpenLists) (items : List Tree) → opening_signs (outer ++ items ∷ []) ++ Close ∷ [] ≡ opening_signs outer ++ signs (list_of items)
-closed-list outer items =
-    ap (λ (s : List Sign). s ++ Close ∷ []) (opening-last outer items) ∙ append_assoc (opening_signs outer) (Open ∷ flat_map signs items) (Close ∷ [])
-    ∙ ap (λ (s : List Sign). opening_signs outer ++ Open ∷ (s ++ Close ∷ [])) (sym (row_signs-row items))
+closed_list : (outer : OpenLists) (items : List Tree) → opening_signs (outer ++ items ∷ []) ++ Close ∷ [] ≡ opening_signs outer ++ signs (list_of items)
+closed_list outer items =
+    ap (λ (s : List Sign). s ++ Close ∷ []) (opening_last outer items) ∙ append_assoc (opening_signs outer) (Open ∷ flat_map signs items) (Close ∷ [])
+    ∙ ap (λ (s : List Sign). opening_signs outer ++ Open ∷ (s ++ Close ∷ [])) (sym (row_signs_row items))
 
-length-last : (outer : OpenLists) (items : List Tree) → length (outer ++ items ∷ []) ≡ length outer + 1
-length-last [] items = omega arith
-length-last (o ∷ outer) items = omega (arith, length-last outer items)
+length_last : (outer : OpenLists) (items : List Tree) → length (outer ++ items ∷ []) ≡ length outer + 1
+length_last [] items = omega arith
+length_last (o ∷ outer) items = omega (arith, length_last outer items)
 
 -- ---- places
 
@@ -106,22 +106,22 @@ rest_shorter text lists rest at = end_shorter rest text (begins_end text (openin
 atom_finished : (text : List ℕ) (lists : OpenLists) (rest more bytes : List ℕ) → IsOpenAt text lists rest → IsAt (without_front is_space_byte rest) (sign (Atom bytes) more) → IsFinished text lists (leaf bytes) more
 atom_finished text lists rest more bytes at here = record {
   shallow = at.shallow;
-  fits = let s = at.shallow in omega (arith, length-le-open_depth lists);
+  fits = let s = at.shallow in omega (arith, length_le_open_depth lists);
   begins = begins_one text rest more (opening_signs lists) (Atom bytes) at.begins here;
 }
 
 list_finished : (text : List ℕ) (outer : OpenLists) (items : List Tree) (rest more : List ℕ) → IsOpenAt text (outer ++ items ∷ []) rest → IsAt (without_front is_space_byte rest) (sign Close more)
     → IsFinished text outer (list_of items) more
 list_finished text outer items rest more at here = record {
-  shallow = let s = at.shallow in omega (arith, deeper-outer outer items);
-  fits = let s = at.shallow in omega (arith, deeper-last outer items);
-  begins = subst (λ (xs : List Sign). Begins text xs more) (closed-list outer items) (begins_one text rest more (opening_signs (outer ++ items ∷ [])) Close at.begins here);
+  shallow = let s = at.shallow in omega (arith, deeper_outer outer items);
+  fits = let s = at.shallow in omega (arith, deeper_last outer items);
+  begins = subst (λ (xs : List Sign). Begins text xs more) (closed_list outer items) (begins_one text rest more (opening_signs (outer ++ items ∷ [])) Close at.begins here);
 }
 
 list_opened : (text : List ℕ) (lists : OpenLists) (rest more : List ℕ) → IsOpenAt text lists rest → IsAt (without_front is_space_byte rest) (sign Open more) → (length lists ≡ most_depth → ⊥) → IsOpenAt text (lists ++ [] ∷ []) more
 list_opened text lists rest more at here room = record {
-  shallow = let s = at.shallow in let l = length-le-open_depth lists in let less : length lists < most_depth = omega arith in omega (arith, deeper-new lists);
-  begins = subst (λ (xs : List Sign). Begins text xs more) (sym (opening-last lists [])) (begins_one text rest more (opening_signs lists) Open at.begins here);
+  shallow = let s = at.shallow in let l = length_le_open_depth lists in let less : length lists < most_depth = omega arith in omega (arith, deeper_new lists);
+  begins = subst (λ (xs : List Sign). Begins text xs more) (sym (opening_last lists [])) (begins_one text rest more (opening_signs lists) Open at.begins here);
 }
 
 -- what has been read where a sign more is taken: the open lists, or the whole
@@ -133,16 +133,16 @@ tree_added : (text : List ℕ) (old new : OpenLists) (t : Tree) (more : List ℕ
 tree_added text old new t more None done adds =
     let outer = adds.outer in
     let items = adds.items in
-    let lists = ap length adds.before ∙ length-last outer items in
+    let lists = ap length adds.before ∙ length_last outer items in
     record {
       shallow =
           let s = done.shallow in
           let f = done.fits in
           let d = ap open_depth adds.before in
           let e = ap open_depth adds.after in
-          omega (arith, deeper-more outer items t);
+          omega (arith, deeper_more outer items t);
       begins = subst (λ (xs : List Sign). Begins text xs more)
-          (ap (λ (ls : OpenLists). opening_signs ls ++ signs t) adds.before ∙ sym (opening-more outer items t) ∙ ap opening_signs (sym adds.after)) done.begins;
+          (ap (λ (ls : OpenLists). opening_signs ls ++ signs t) adds.before ∙ sym (opening_more outer items t) ∙ ap opening_signs (sym adds.after)) done.begins;
     }
 tree_added text old new t more (Some whole) done (none, same) =
     let whole-signs : opening_signs old ++ signs t ≡ signs (tree_of whole) = ap (λ (ls : OpenLists). opening_signs ls ++ signs t) none ∙ ap signs (sym same) in
@@ -176,10 +176,10 @@ no_sign_here text lists rest fault at h = record { lists = lists; shallow = at.s
 -- ---- the steps of the loop
 
 pub item_shorter : (text item : List ℕ) (lists : OpenLists) (rest : List ℕ) → IsOpenAt text lists rest → item ≡ without_front is_space_byte rest → length item ≤ length text
-item_shorter text item lists rest at e = let l = ap length e in omega (arith, rest_shorter text lists rest at, without_front-le is_space_byte rest)
+item_shorter text item lists rest at e = let l = ap length e in omega (arith, rest_shorter text lists rest at, without_front_le is_space_byte rest)
 
 pub more_shorter : (item rest more : List ℕ) (s : Sign) → item ≡ without_front is_space_byte rest → IsAt item (sign s more) → length more < length rest
-more_shorter item rest more s e here = let l = ap length e in omega (arith, behind_shorter more item (sign_behind item s more here), without_front-le is_space_byte rest)
+more_shorter item rest more s e here = let l = ap length e in omega (arith, behind_shorter more item (sign_behind item s more here), without_front_le is_space_byte rest)
 
 pub taken_here : (text item : List ℕ) (old new : OpenLists) (rest more : List ℕ) (s : Sign) (r : Option Sexp) → IsOpenAt text old rest → item ≡ without_front is_space_byte rest → IsAt item (sign s more) → Adds old new s r
     → IsTaken text new more r

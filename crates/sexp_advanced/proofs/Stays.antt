@@ -71,74 +71,74 @@ module _ (x : List ℕ) where
   behind_blanks f whole stays v [] e h = absurd (whole h)
   behind_blanks f whole stays v (c ∷ u) e h = ap f (front_more is_space_byte v c u e) ∙ stays (c ∷ u) h
 
-  low_digit-stays : (high : ℕ) (v : List ℕ) → low_digit high v ≡ broken → low_digit high (v ++ x) ≡ broken
+  low_digit_stays : (high : ℕ) (v : List ℕ) → low_digit high v ≡ broken → low_digit high (v ++ x) ≡ broken
   unfolding low_digit
-  low_digit-stays high [] e = absurd cc
-  low_digit-stays high (c ∷ v) e = known_stays (hex_value c) (λ low. byte (16 * high + low) v) (λ low. byte (16 * high + low) (v ++ x)) (λ n. byte_whole (16 * high + n) v (byte (16 * high + n) (v ++ x))) e
+  low_digit_stays high [] e = absurd cc
+  low_digit_stays high (c ∷ v) e = known_stays (hex_value c) (λ low. byte (16 * high + low) v) (λ low. byte (16 * high + low) (v ++ x)) (λ n. byte_whole (16 * high + n) v (byte (16 * high + n) (v ++ x))) e
 
-  low_digit-whole : (high : ℕ) → low_digit high [] ≡ broken → ⊥
+  low_digit_whole : (high : ℕ) → low_digit high [] ≡ broken → ⊥
   unfolding low_digit
-  low_digit-whole high e = cc
+  low_digit_whole high e = cc
 
-  pair_here-whole : pair_here [] ≡ broken → ⊥
+  pair_here_whole : pair_here [] ≡ broken → ⊥
   unfolding pair_here
-  pair_here-whole e = cc
+  pair_here_whole e = cc
 
-  pair_here-stays : (v : List ℕ) → pair_here v ≡ broken → pair_here (v ++ x) ≡ broken
+  pair_here_stays : (v : List ℕ) → pair_here v ≡ broken → pair_here (v ++ x) ≡ broken
   unfolding pair_here
-  pair_here-stays [] e = absurd cc
-  pair_here-stays (c ∷ v) e =
+  pair_here_stays [] e = absurd cc
+  pair_here_stays (c ∷ v) e =
       let first : Piece = elim (hex_value c) [ Some high ↦ low_digit high (without_front is_space_byte v) | None ↦ broken ] in
       let second : Piece = elim (hex_value c) [ Some high ↦ low_digit high (without_front is_space_byte (v ++ x)) | None ↦ broken ] in
       either_stays (c == 35) (close v) first (close (v ++ x)) second (close_whole v (close (v ++ x)))
       (known_stays (hex_value c) (λ high. low_digit high (without_front is_space_byte v)) (λ high. low_digit high (without_front is_space_byte (v ++ x)))
-      (λ high. behind_blanks (low_digit high) (low_digit-whole high) (low_digit-stays high) v (without_front is_space_byte v) refl)) e
+      (λ high. behind_blanks (low_digit high) (low_digit_whole high) (low_digit_stays high) v (without_front is_space_byte v) refl)) e
 
-  hex_escape-stays : (v : List ℕ) → hex_escape v ≡ broken → hex_escape (v ++ x) ≡ broken
+  hex_escape_stays : (v : List ℕ) → hex_escape v ≡ broken → hex_escape (v ++ x) ≡ broken
   unfolding hex_escape
-  hex_escape-stays [] e = absurd cc
-  hex_escape-stays (c ∷ v) e = known_stays (hex_value c) (λ high. low_digit high v) (λ high. low_digit high (v ++ x)) (λ high. low_digit-stays high v) e
+  hex_escape_stays [] e = absurd cc
+  hex_escape_stays (c ∷ v) e = known_stays (hex_value c) (λ high. low_digit high v) (λ high. low_digit high (v ++ x)) (λ high. low_digit_stays high v) e
 
-  third_octal-stays : (i j : ℕ) (v : List ℕ) → third_octal i j v ≡ broken → third_octal i j (v ++ x) ≡ broken
+  third_octal_stays : (i j : ℕ) (v : List ℕ) → third_octal i j v ≡ broken → third_octal i j (v ++ x) ≡ broken
   unfolding third_octal
-  third_octal-stays i j [] e = absurd cc
-  third_octal-stays i j (c ∷ v) e =
+  third_octal_stays i j [] e = absurd cc
+  third_octal_stays i j (c ∷ v) e =
       either_stays (is_octal c) (byte (64 * i + 8 * j + (c - 48)) v) broken (byte (64 * i + 8 * j + (c - 48)) (v ++ x)) broken
       (byte_whole (64 * i + 8 * j + (c - 48)) v (byte (64 * i + 8 * j + (c - 48)) (v ++ x))) (λ h. h) e
 
-  second_octal-stays : (i : ℕ) (v : List ℕ) → second_octal i v ≡ broken → second_octal i (v ++ x) ≡ broken
+  second_octal_stays : (i : ℕ) (v : List ℕ) → second_octal i v ≡ broken → second_octal i (v ++ x) ≡ broken
   unfolding second_octal
-  second_octal-stays i [] e = absurd cc
-  second_octal-stays i (c ∷ v) e = either_stays (is_octal c) (third_octal i (c - 48) v) broken (third_octal i (c - 48) (v ++ x)) broken (third_octal-stays i (c - 48) v) (λ h. h) e
+  second_octal_stays i [] e = absurd cc
+  second_octal_stays i (c ∷ v) e = either_stays (is_octal c) (third_octal i (c - 48) v) broken (third_octal i (c - 48) (v ++ x)) broken (third_octal_stays i (c - 48) v) (λ h. h) e
 
-  escape-stays : (v : List ℕ) → escape v ≡ broken → escape (v ++ x) ≡ broken
+  escape_stays : (v : List ℕ) → escape v ≡ broken → escape (v ++ x) ≡ broken
   unfolding escape
-  escape-stays [] e = absurd cc
-  escape-stays (c ∷ v) e =
+  escape_stays [] e = absurd cc
+  escape_stays (c ∷ v) e =
       let meant-v : Piece = elim (letter c) [ Some n ↦ byte n v | None ↦ broken ] in
       let meant-x : Piece = elim (letter c) [ Some n ↦ byte n (v ++ x) | None ↦ broken ] in
       let octal-v : Piece = cond (is_in_range 48 51 c) (second_octal (c - 48) v) meant-v in
       let octal-x : Piece = cond (is_in_range 48 51 c) (second_octal (c - 48) (v ++ x)) meant-x in
-      either_stays (c == 120) (hex_escape v) octal-v (hex_escape (v ++ x)) octal-x (hex_escape-stays v)
-      (either_stays (is_in_range 48 51 c) (second_octal (c - 48) v) meant-v (second_octal (c - 48) (v ++ x)) meant-x (second_octal-stays (c - 48) v)
+      either_stays (c == 120) (hex_escape v) octal-v (hex_escape (v ++ x)) octal-x (hex_escape_stays v)
+      (either_stays (is_in_range 48 51 c) (second_octal (c - 48) v) meant-v (second_octal (c - 48) (v ++ x)) meant-x (second_octal_stays (c - 48) v)
       (known_stays (letter c) (λ n. byte n v) (λ n. byte n (v ++ x)) (λ n. byte_whole n v (byte n (v ++ x))))) e
 
-  quoted_piece-stays : (v : List ℕ) → quoted_piece v ≡ broken → quoted_piece (v ++ x) ≡ broken
+  quoted_piece_stays : (v : List ℕ) → quoted_piece v ≡ broken → quoted_piece (v ++ x) ≡ broken
   unfolding quoted_piece
-  quoted_piece-stays [] e = absurd cc
-  quoted_piece-stays (c ∷ v) e =
+  quoted_piece_stays [] e = absurd cc
+  quoted_piece_stays (c ∷ v) e =
       let plain-v : Piece = cond (c == 10 || c == 13) broken (byte c v) in
       let plain-x : Piece = cond (c == 10 || c == 13) broken (byte c (v ++ x)) in
       let others-v : Piece = cond (c == 92) (escape v) plain-v in
       let others-x : Piece = cond (c == 92) (escape (v ++ x)) plain-x in
       either_stays (c == 34) (close v) others-v (close (v ++ x)) others-x (close_whole v (close (v ++ x)))
-      (either_stays (c == 92) (escape v) plain-v (escape (v ++ x)) plain-x (escape-stays v)
+      (either_stays (c == 92) (escape v) plain-v (escape (v ++ x)) plain-x (escape_stays v)
       (either_stays (c == 10 || c == 13) broken (byte c v) broken (byte c (v ++ x)) (λ h. h) (byte_whole c v (byte c (v ++ x))))) e
 
-  piece_at-stays : (form : Form) (v : List ℕ) → piece_at form v ≡ broken → piece_at form (v ++ x) ≡ broken
+  piece_at_stays : (form : Form) (v : List ℕ) → piece_at form v ≡ broken → piece_at form (v ++ x) ≡ broken
   unfolding pair
-  piece_at-stays InHexadecimal v e = behind_blanks pair_here pair_here-whole pair_here-stays v (without_front is_space_byte v) refl e
-  piece_at-stays InQuotes v e = quoted_piece-stays v e
+  piece_at_stays InHexadecimal v e = behind_blanks pair_here pair_here_whole pair_here_stays v (without_front is_space_byte v) refl e
+  piece_at_stays InQuotes v e = quoted_piece_stays v e
 
   -- ---- atoms
 
@@ -153,7 +153,7 @@ module _ (x : List ℕ) where
       let whole : v ≡ v ++ [] = sym (append-nil v) in
       let there = spells_swaps [] x form v h.bytes h.at (subst (λ (t : List ℕ). Spells form t h.bytes h.at) whole h.spelled) (omega arith) in
       let at : h.at ≡ there.0 = there.1 ∙ append-nil there.0 in
-      let break : piece_at form (there.0 ++ x) ≡ broken = piece_at-stays form there.0 (ap (piece_at form) (sym at) ∙ broken_by h.bytes (piece_at form h.at) h.is) in
+      let break : piece_at form (there.0 ++ x) ≡ broken = piece_at_stays form there.0 (ap (piece_at form) (sym at) ∙ broken_by h.bytes (piece_at form h.at) h.is) in
       record { bytes = h.bytes; at = there.0 ++ x; spelled = there.2; is = ap (outcome h.bytes) break }
 
   -- ---- canonical atoms

@@ -5,44 +5,44 @@ use Rattle.sexp_canonical.specs.View.{tree_of, trees}
 use Rattle.sexp_canonical.specs.Writing.{begun_lists}
 use Rattle.sexp_canonical.specs.declared.tree.Sexp.{Sexp}
 use Rattle.sexp_canonical.specs.declared.tree.Sexp.TheVariants.{Atom, List as Listed}
-use Rattle.sexp_canonical.proofs.Written.{begun-last}
+use Rattle.sexp_canonical.proofs.Written.{begun_last}
 use Rattle.sexp_advanced.specs.Writing.{advanced, advanced_of, spaced_row}
 use Rattle.sexp_advanced.specs.Octets.{AreOctets, IsOfOctets, AreOfOctets}
 use Rattle.sexp_advanced.specs.Left.{spaced_text, lists_left, text_left, list_steps, lists_steps, AreListsOfOctets}
 
 -- ---- what is left
 
-lists_left-last : (outer : List (List Tree)) (items : List Tree) → lists_left (outer ++ items ∷ []) ≡ spaced_text items ++ lists_left outer
-lists_left-last [] items = sym (append-none (spaced_text items))
+lists_left_last : (outer : List (List Tree)) (items : List Tree) → lists_left (outer ++ items ∷ []) ≡ spaced_text items ++ lists_left outer
+lists_left_last [] items = sym (append_none (spaced_text items))
   where
-    append-none : (xs : List ℕ) → xs ++ [] ≡ xs
-    append-none [] = refl
-    append-none (x ∷ xs) = ap (λ (s : List ℕ). x ∷ s) (append-none xs)
-lists_left-last (o ∷ outer) items = ap (λ (s : List ℕ). s ++ spaced_text o) (lists_left-last outer items) ∙ append_assoc (spaced_text items) (lists_left outer) (spaced_text o)
+    append_none : (xs : List ℕ) → xs ++ [] ≡ xs
+    append_none [] = refl
+    append_none (x ∷ xs) = ap (λ (s : List ℕ). x ∷ s) (append_none xs)
+lists_left_last (o ∷ outer) items = ap (λ (s : List ℕ). s ++ spaced_text o) (lists_left_last outer items) ∙ append_assoc (spaced_text items) (lists_left outer) (spaced_text o)
 
-lists_steps-last : (outer : List (List Tree)) (items : List Tree) → lists_steps (outer ++ items ∷ []) ≡ lists_steps outer + list_steps items
-lists_steps-last [] items = omega arith
-lists_steps-last (o ∷ outer) items = omega (arith, lists_steps-last outer items)
+lists_steps_last : (outer : List (List Tree)) (items : List Tree) → lists_steps (outer ++ items ∷ []) ≡ lists_steps outer + list_steps items
+lists_steps_last [] items = omega arith
+lists_steps_last (o ∷ outer) items = omega (arith, lists_steps_last outer items)
 
-octets-last : (outer : List (List Tree)) (items : List Tree) → AreListsOfOctets (outer ++ items ∷ []) → AreOfOctets (row items) × AreListsOfOctets outer
-octets-last [] items h = (h.0, tt)
-octets-last (o ∷ outer) items h = let inner = octets-last outer items h.1 in (inner.0, (h.0, inner.1))
+octets_last : (outer : List (List Tree)) (items : List Tree) → AreListsOfOctets (outer ++ items ∷ []) → AreOfOctets (row items) × AreListsOfOctets outer
+octets_last [] items h = (h.0, tt)
+octets_last (o ∷ outer) items h = let inner = octets_last outer items h.1 in (inner.0, (h.0, inner.1))
 
-octets-push : (outer : List (List Tree)) (items : List Tree) → AreOfOctets (row items) → AreListsOfOctets outer → AreListsOfOctets (outer ++ items ∷ [])
-octets-push [] items h g = (h, tt)
-octets-push (o ∷ outer) items h g = (g.0, octets-push outer items h g.1)
+octets_push : (outer : List (List Tree)) (items : List Tree) → AreOfOctets (row items) → AreListsOfOctets outer → AreListsOfOctets (outer ++ items ∷ [])
+octets_push [] items h g = (h, tt)
+octets_push (o ∷ outer) items h g = (g.0, octets_push outer items h g.1)
 
-left-last : (before after : List (Bor (List Sexp))) (s : Bor (List Sexp)) → after ≡ before ++ s ∷ [] → lists_left (begun_lists after) ≡ spaced_text (trees s.now) ++ lists_left (begun_lists before)
-left-last before after s e = ap lists_left (ap begun_lists e ∙ begun-last before s) ∙ lists_left-last (begun_lists before) (trees s.now)
+left_last : (before after : List (Bor (List Sexp))) (s : Bor (List Sexp)) → after ≡ before ++ s ∷ [] → lists_left (begun_lists after) ≡ spaced_text (trees s.now) ++ lists_left (begun_lists before)
+left_last before after s e = ap lists_left (ap begun_lists e ∙ begun_last before s) ∙ lists_left_last (begun_lists before) (trees s.now)
 
-steps-last : (before after : List (Bor (List Sexp))) (s : Bor (List Sexp)) → after ≡ before ++ s ∷ [] → lists_steps (begun_lists after) ≡ lists_steps (begun_lists before) + list_steps (trees s.now)
-steps-last before after s e = ap lists_steps (ap begun_lists e ∙ begun-last before s) ∙ lists_steps-last (begun_lists before) (trees s.now)
+steps_last : (before after : List (Bor (List Sexp))) (s : Bor (List Sexp)) → after ≡ before ++ s ∷ [] → lists_steps (begun_lists after) ≡ lists_steps (begun_lists before) + list_steps (trees s.now)
+steps_last before after s e = ap lists_steps (ap begun_lists e ∙ begun_last before s) ∙ lists_steps_last (begun_lists before) (trees s.now)
 
-begun-octets : (before after : List (Bor (List Sexp))) (s : Bor (List Sexp)) → after ≡ before ++ s ∷ [] → AreListsOfOctets (begun_lists after) → AreOfOctets (row (trees s.now)) × AreListsOfOctets (begun_lists before)
-begun-octets before after s e h = octets-last (begun_lists before) (trees s.now) (subst AreListsOfOctets (ap begun_lists e ∙ begun-last before s) h)
+begun_octets : (before after : List (Bor (List Sexp))) (s : Bor (List Sexp)) → after ≡ before ++ s ∷ [] → AreListsOfOctets (begun_lists after) → AreOfOctets (row (trees s.now)) × AreListsOfOctets (begun_lists before)
+begun_octets before after s e h = octets_last (begun_lists before) (trees s.now) (subst AreListsOfOctets (ap begun_lists e ∙ begun_last before s) h)
 
-octets-begun : (before after : List (Bor (List Sexp))) (s : Bor (List Sexp)) → after ≡ before ++ s ∷ [] → AreOfOctets (row (trees s.now)) → AreListsOfOctets (begun_lists before) → AreListsOfOctets (begun_lists after)
-octets-begun before after s e h g = subst AreListsOfOctets (sym (ap begun_lists e ∙ begun-last before s)) (octets-push (begun_lists before) (trees s.now) h g)
+octets_begun : (before after : List (Bor (List Sexp))) (s : Bor (List Sexp)) → after ≡ before ++ s ∷ [] → AreOfOctets (row (trees s.now)) → AreListsOfOctets (begun_lists before) → AreListsOfOctets (begun_lists after)
+octets_begun before after s e h g = subst AreListsOfOctets (sym (ap begun_lists e ∙ begun_last before s)) (octets_push (begun_lists before) (trees s.now) h g)
 
 -- ---- the beginning of a tree
 
@@ -71,10 +71,10 @@ list_written t0 t1 tree first items xs others before after tree-is items-is part
     let spelled : advanced_of tree ++ rest ≡ 40 ∷ (advanced_of first ++ (spaced_text (trees others.now) ++ rest)) =
     ap (λ (t : Sexp). advanced_of t ++ rest) whole ∙ ap (λ (s : List ℕ). 40 ∷ s) (regroup (advanced_of first) os (41 ∷ []) rest) in
     ap (λ (s : List ℕ). s ++ (advanced_of first ++ lists_left (begun_lists after))) e ∙ append_assoc t0 (40 ∷ []) (advanced_of first ++ lists_left (begun_lists after))
-    ∙ ap (λ (s : List ℕ). t0 ++ 40 ∷ (advanced_of first ++ s)) (left-last before after others after-is) ∙ ap (λ (s : List ℕ). t0 ++ s) (sym spelled)
+    ∙ ap (λ (s : List ℕ). t0 ++ 40 ∷ (advanced_of first ++ s)) (left_last before after others after-is) ∙ ap (λ (s : List ℕ). t0 ++ s) (sym spelled)
 
-nodes-first : (first : Tree) (others : List Tree) → node_count (first ∷ others) ≡ node_count (first ∷ []) + node_count others
-nodes-first first others = omega arith
+nodes_first : (first : Tree) (others : List Tree) → node_count (first ∷ others) ≡ node_count (first ∷ []) + node_count others
+nodes_first first others = omega arith
 
 some_nodes : (t : Tree) → 0 < node_count (t ∷ [])
 some_nodes (leaf bytes) = omega arith
@@ -86,13 +86,13 @@ pub list_steps_fall : (tree first : Sexp) (items : List Tree) (xs : List Sexp) (
 list_steps_fall tree first items xs others before after tree-is items-is parts after-is =
     let whole : tree ≡ Listed (tree_of first ∷ trees others.now) = tree-is ∙ ap Listed (sym items-is ∙ ap trees parts) in
     let nodes : node_count (tree_of tree ∷ []) ≡ (node_count (tree_of first ∷ []) + node_count (trees others.now)) + 1 = ap (λ (t : Sexp). node_count (tree_of t ∷ [])) whole ∙ omega arith in
-    omega (arith, steps-last before after others after-is, some_nodes (tree_of first))
+    omega (arith, steps_last before after others after-is, some_nodes (tree_of first))
 
 pub list_octets : (tree first : Sexp) (items : List Tree) (xs : List Sexp) (others : Bor (List Sexp)) (before after : List (Bor (List Sexp))) → tree ≡ Listed items → trees xs ≡ items → xs ≡ first ∷ others.now → after ≡ before ++ others ∷ []
     → IsOfOctets (tree_of first) × AreListsOfOctets (begun_lists after) → IsOfOctets (tree_of tree) × AreListsOfOctets (begun_lists before)
 list_octets tree first items xs others before after tree-is items-is parts after-is h =
     let whole : tree ≡ Listed (tree_of first ∷ trees others.now) = tree-is ∙ ap Listed (sym items-is ∙ ap trees parts) in
-    let inner = begun-octets before after others after-is h.1 in
+    let inner = begun_octets before after others after-is h.1 in
     (subst (λ (t : Sexp). IsOfOctets (tree_of t)) (sym whole) (h.0, inner.0), inner.1)
 
 pub none_octets : (tree : Sexp) (items : List Tree) (xs : List Sexp) → tree ≡ Listed items → trees xs ≡ items → xs ≡ [] → IsOfOctets (tree_of tree)
@@ -119,18 +119,18 @@ item_written t0 t1 first xs others before after parts e after-is =
     let spelled : spaced_text (trees xs) ++ rest ≡ 32 ∷ (advanced_of first ++ (spaced_text (trees others.now) ++ rest)) =
     ap (λ (ys : List Sexp). spaced_text (trees ys) ++ rest) parts ∙ ap (λ (s : List ℕ). 32 ∷ s) (regroup (advanced_of first) os (41 ∷ []) rest) in
     ap (λ (s : List ℕ). s ++ (advanced_of first ++ lists_left (begun_lists after))) e ∙ append_assoc t0 (32 ∷ []) (advanced_of first ++ lists_left (begun_lists after))
-    ∙ ap (λ (s : List ℕ). t0 ++ 32 ∷ (advanced_of first ++ s)) (left-last before after others after-is) ∙ ap (λ (s : List ℕ). t0 ++ s) (sym spelled)
+    ∙ ap (λ (s : List ℕ). t0 ++ 32 ∷ (advanced_of first ++ s)) (left_last before after others after-is) ∙ ap (λ (s : List ℕ). t0 ++ s) (sym spelled)
 
 pub item_steps_fall : (first : Sexp) (xs : List Sexp) (others : Bor (List Sexp)) (before after : List (Bor (List Sexp))) → xs ≡ first ∷ others.now → after ≡ before ++ others ∷ []
     → (2 * node_count (tree_of first ∷ []) - 1) + lists_steps (begun_lists after) < list_steps (trees xs) + lists_steps (begun_lists before)
 item_steps_fall first xs others before after parts after-is =
     let nodes : node_count (trees xs) ≡ node_count (tree_of first ∷ []) + node_count (trees others.now) = ap (λ (ys : List Sexp). node_count (trees ys)) parts ∙ omega arith in
-    omega (arith, steps-last before after others after-is, some_nodes (tree_of first))
+    omega (arith, steps_last before after others after-is, some_nodes (tree_of first))
 
 pub item_octets : (first : Sexp) (xs : List Sexp) (others : Bor (List Sexp)) (before after : List (Bor (List Sexp))) → xs ≡ first ∷ others.now → after ≡ before ++ others ∷ []
     → IsOfOctets (tree_of first) × AreListsOfOctets (begun_lists after) → AreOfOctets (row (trees xs)) × AreListsOfOctets (begun_lists before)
 item_octets first xs others before after parts after-is h =
-    let inner = begun-octets before after others after-is h.1 in
+    let inner = begun_octets before after others after-is h.1 in
     (subst (λ (ys : List Sexp). AreOfOctets (row (trees ys))) (sym parts) (h.0, inner.0), inner.1)
 
 pub no_octets : (xs : List Sexp) → xs ≡ [] → AreOfOctets (row (trees xs))
@@ -140,13 +140,13 @@ no_octets xs none = subst (λ (ys : List Sexp). AreOfOctets (row (trees ys))) (s
 
 pub popped_written : (old : List ℕ) (all before : List (Bor (List Sexp))) (s : Bor (List Sexp)) (whole : List ℕ) → all ≡ before ++ s ∷ [] → old ++ lists_left (begun_lists all) ≡ whole
     → old ++ (spaced_text (trees s.now) ++ lists_left (begun_lists before)) ≡ whole
-popped_written old all before s whole e h = ap (λ (r : List ℕ). old ++ r) (sym (left-last before all s e)) ∙ h
+popped_written old all before s whole e h = ap (λ (r : List ℕ). old ++ r) (sym (left_last before all s e)) ∙ h
 
 pub popped_steps : (all before : List (Bor (List Sexp))) (s : Bor (List Sexp)) → all ≡ before ++ s ∷ [] → list_steps (trees s.now) + lists_steps (begun_lists before) ≡ lists_steps (begun_lists all)
-popped_steps all before s e = omega (arith, steps-last before all s e)
+popped_steps all before s e = omega (arith, steps_last before all s e)
 
 pub popped_octets : (all before : List (Bor (List Sexp))) (s : Bor (List Sexp)) → all ≡ before ++ s ∷ [] → AreOfOctets (row (trees s.now)) × AreListsOfOctets (begun_lists before) → AreListsOfOctets (begun_lists all)
-popped_octets all before s e h = octets-begun before all s e h.0 h.1
+popped_octets all before s e h = octets_begun before all s e h.0 h.1
 
 -- what is left where nothing comes next at once
 pub nothing_next : (text whole : List ℕ) (next : Option Tree) (begun : List (List Tree)) → next ≡ None → text ++ text_left next begun ≡ whole → text ++ lists_left begun ≡ whole

@@ -8,9 +8,9 @@ use Rattle.sexp_canonical.specs.View.{tree_of, trees}
 use Rattle.sexp_canonical.specs.declared.tree.Sexp.{Sexp}
 use Rattle.sexp_canonical.specs.declared.tree.Sexp.TheVariants.{Atom, List as Listed}
 
-node_count-append : (ts us : List Tree) → node_count (ts ++ us) ≡ node_count ts + node_count us
-node_count-append [] us = omega arith
-node_count-append (t ∷ ts) us = omega (arith, node_count-append ts us)
+node_count_append : (ts us : List Tree) → node_count (ts ++ us) ≡ node_count ts + node_count us
+node_count_append [] us = omega arith
+node_count_append (t ∷ ts) us = omega (arith, node_count_append ts us)
 
 -- fewer nodes take fewer steps
 fewer_steps : (m n a b : ℕ) → m < n → m * (m + 1) + (m - a) < n * (n + 1) + (n - b)
@@ -23,13 +23,13 @@ fewer_nodes : (ts us : List Tree) → node_count ts < node_count us → drop_ste
 fewer_nodes ts us h = fewer_steps (node_count ts) (node_count us) (first_nodes ts) (first_nodes us) h
 
 pub last_dropped : (ts : List Tree) (bytes : List ℕ) → drop_steps ts < drop_steps (ts ++ leaf bytes ∷ [])
-last_dropped ts bytes = fewer_nodes ts (ts ++ leaf bytes ∷ []) (omega (arith, node_count-append ts (leaf bytes ∷ [])))
+last_dropped ts bytes = fewer_nodes ts (ts ++ leaf bytes ∷ []) (omega (arith, node_count_append ts (leaf bytes ∷ [])))
 
 pub nothing_left : (inner : List Tree) → drop_steps inner < drop_steps (list_of inner ∷ [])
 nothing_left inner = fewer_nodes inner (list_of inner ∷ []) (omega arith)
 
 pub nothing_inside : (outer : List Tree) → drop_steps outer < drop_steps (outer ++ list_of [] ∷ [])
-nothing_inside outer = fewer_nodes outer (outer ++ list_of [] ∷ []) (omega (arith, node_count-append outer (list_of [] ∷ [])))
+nothing_inside outer = fewer_nodes outer (outer ++ list_of [] ∷ []) (omega (arith, node_count_append outer (list_of [] ∷ [])))
 
 turned : (m n a b : ℕ) → m ≡ n → a < b → b ≤ m → m * (m + 1) + (m - b) < n * (n + 1) + (n - a)
 turned m n a b same h g = subst (λ (k : ℕ). m * (m + 1) + (m - b) < k * (k + 1) + (k - a)) same (omega arith)
@@ -39,8 +39,8 @@ turned_inside_out first last outer front =
     let before = first ∷ (outer ++ list_of (front ++ last ∷ []) ∷ []) in
     let after = list_of (first ∷ (outer ++ last ∷ [])) ∷ front in
     let same : node_count after ≡ node_count before =
-    omega (arith, node_count-append outer (last ∷ []), node_count-append front (last ∷ []), node_count-append outer (list_of (front ++ last ∷ []) ∷ [])) in
-    turned (node_count after) (node_count before) (first_nodes before) (first_nodes after) same (omega (arith, node_count-append outer (last ∷ []))) (omega arith)
+    omega (arith, node_count_append outer (last ∷ []), node_count_append front (last ∷ []), node_count_append outer (list_of (front ++ last ∷ []) ∷ [])) in
+    turned (node_count after) (node_count before) (first_nodes before) (first_nodes after) same (omega (arith, node_count_append outer (last ∷ []))) (omega arith)
 
 -- ---- the steps of the loop
 

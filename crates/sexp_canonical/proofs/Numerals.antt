@@ -55,21 +55,21 @@ abbrev pub AreDigits : List ℕ → Type 0
 AreDigits [] = Unit {0}
 AreDigits (b ∷ bs) = (is_ascii_digit b ≡ true) × AreDigits bs
 
-AreDigits-append : (bs cs : List ℕ) → AreDigits bs → AreDigits cs → AreDigits (bs ++ cs)
-AreDigits-append [] cs h g = g
-AreDigits-append (b ∷ bs) cs h g = (h.0, AreDigits-append bs cs h.1 g)
+AreDigits_append : (bs cs : List ℕ) → AreDigits bs → AreDigits cs → AreDigits (bs ++ cs)
+AreDigits_append [] cs h g = g
+AreDigits_append (b ∷ bs) cs h g = (h.0, AreDigits_append bs cs h.1 g)
 
-pub AreDigits-back : (bs cs : List ℕ) → AreDigits (bs ++ cs) → AreDigits cs
-AreDigits-back [] cs h = h
-AreDigits-back (b ∷ bs) cs h = AreDigits-back bs cs h.1
+pub AreDigits_back : (bs cs : List ℕ) → AreDigits (bs ++ cs) → AreDigits cs
+AreDigits_back [] cs h = h
+AreDigits_back (b ∷ bs) cs h = AreDigits_back bs cs h.1
 
-pub is_digit-glyph : (d : ℕ) → d < 10 → is_ascii_digit (48 + d) ≡ true
-is_digit-glyph d h = rw (le-leb 48 (48 + d) (omega arith), le-leb (48 + d) 57 (omega arith)) refl
+pub is_digit_glyph : (d : ℕ) → d < 10 → is_ascii_digit (48 + d) ≡ true
+is_digit_glyph d h = rw (le-leb 48 (48 + d) (omega arith), le-leb (48 + d) 57 (omega arith)) refl
 
-pub AreDigits-numeral : (n : ℕ) → AreDigits (numeral n)
-AreDigits-numeral = numeral_by_steps (λ n ds. AreDigits ds)
-    (λ n h. (is_digit-glyph n h, tt))
-    (λ n ds h g. AreDigits-append ds ((48 + n % 10) ∷ []) g (is_digit-glyph (n % 10) (omega arith), tt))
+pub AreDigits_numeral : (n : ℕ) → AreDigits (numeral n)
+AreDigits_numeral = numeral_by_steps (λ n ds. AreDigits ds)
+    (λ n h. (is_digit_glyph n h, tt))
+    (λ n ds h g. AreDigits_append ds ((48 + n % 10) ∷ []) g (is_digit_glyph (n % 10) (omega arith), tt))
 
 -- ---- the value
 
@@ -77,21 +77,21 @@ abbrev value_after : ℕ → List ℕ → ℕ
 value_after n [] = n
 value_after n (b ∷ bs) = value_after (10 * n + (b - 48)) bs
 
-value_after-append : (n : ℕ) (bs cs : List ℕ) → value_after n (bs ++ cs) ≡ value_after (value_after n bs) cs
-value_after-append n [] cs = refl
-value_after-append n (b ∷ bs) cs = value_after-append (10 * n + (b - 48)) bs cs
+value_after_append : (n : ℕ) (bs cs : List ℕ) → value_after n (bs ++ cs) ≡ value_after (value_after n bs) cs
+value_after_append n [] cs = refl
+value_after_append n (b ∷ bs) cs = value_after_append (10 * n + (b - 48)) bs cs
 
-value_after-le : (n : ℕ) (bs : List ℕ) → n ≤ value_after n bs
-value_after-le n [] = omega arith
-value_after-le n (b ∷ bs) = omega (arith, value_after-le (10 * n + (b - 48)) bs)
+value_after_le : (n : ℕ) (bs : List ℕ) → n ≤ value_after n bs
+value_after_le n [] = omega arith
+value_after_le n (b ∷ bs) = omega (arith, value_after_le (10 * n + (b - 48)) bs)
 
-value-numeral : (n : ℕ) → value_after 0 (numeral n) ≡ n
-value-numeral = numeral_by_steps (λ n ds. value_after 0 ds ≡ n)
+value_numeral : (n : ℕ) → value_after 0 (numeral n) ≡ n
+value_numeral = numeral_by_steps (λ n ds. value_after 0 ds ≡ n)
     (λ n h. omega arith)
-    (λ n ds h g. value_after-append 0 ds ((48 + n % 10) ∷ []) ∙ rw g (omega arith))
+    (λ n ds h g. value_after_append 0 ds ((48 + n % 10) ∷ []) ∙ rw g (omega arith))
 
 pub numeral_injective : (m n : ℕ) → numeral m ≡ numeral n → m ≡ n
-numeral_injective m n e = sym (value-numeral m) ∙ ap (value_after 0) e ∙ value-numeral n
+numeral_injective m n e = sym (value_numeral m) ∙ ap (value_after 0) e ∙ value_numeral n
 
 -- ---- how many digits
 
@@ -106,8 +106,8 @@ short (suc k) n h =
           omega (arith, short k (n / 10) (omega arith))
     ]
 
-pub length-numeral : (k n : ℕ) → n < 10 ^ (k + 1) → length (numeral n) ≤ k + 1
-length-numeral k n h = let e : k + 1 ≡ suc k = omega arith in rw e (short k n (rw e at h))
+pub length_numeral : (k n : ℕ) → n < 10 ^ (k + 1) → length (numeral n) ≤ k + 1
+length_numeral k n h = let e : k + 1 ≡ suc k = omega arith in rw e (short k n (rw e at h))
 
 -- ---- the first digit
 
@@ -116,17 +116,17 @@ abbrev pub Leads : ℕ → List ℕ → Type 0
 Leads n [] = ⊥
 Leads n (d ∷ ds) = (48 < d) ⊎ ((d ≡ 48) × (ds ≡ []) × (n ≡ 0))
 
-Leads-more : (n : ℕ) (ds : List ℕ) (d : ℕ) → 10 ≤ n → Leads (n / 10) ds → Leads n (ds ++ d ∷ [])
-Leads-more n [] d h g = absurd g
-Leads-more n (b ∷ bs) d h (inl lt) = inl lt
-Leads-more n (b ∷ bs) d h (inr z) = absurd (let e = z.2 in omega arith)
+Leads_more : (n : ℕ) (ds : List ℕ) (d : ℕ) → 10 ≤ n → Leads (n / 10) ds → Leads n (ds ++ d ∷ [])
+Leads_more n [] d h g = absurd g
+Leads_more n (b ∷ bs) d h (inl lt) = inl lt
+Leads_more n (b ∷ bs) d h (inr z) = absurd (let e = z.2 in omega arith)
 
-Leads-one : (n : ℕ) → Leads n ((48 + n) ∷ [])
-Leads-one zero = inr (refl, refl, refl)
-Leads-one (suc n) = inl (omega arith)
+Leads_one : (n : ℕ) → Leads n ((48 + n) ∷ [])
+Leads_one zero = inr (refl, refl, refl)
+Leads_one (suc n) = inl (omega arith)
 
-pub Leads-numeral : (n : ℕ) → Leads n (numeral n)
-Leads-numeral = numeral_by_steps Leads (λ n h. Leads-one n) (λ n ds h g. Leads-more n ds (48 + n % 10) h g)
+pub Leads_numeral : (n : ℕ) → Leads n (numeral n)
+Leads_numeral = numeral_by_steps Leads (λ n h. Leads_one n) (λ n ds h g. Leads_more n ds (48 + n % 10) h g)
 
 -- ---- where it ends
 
@@ -150,16 +150,16 @@ cuts (u ∷ us) (v ∷ vs) xs ys e =
 no_longer : (limit n m d : ℕ) (ds : List ℕ) → m ≤ limit → numeral m ≡ numeral n ++ d ∷ ds → (n ≡ 0) ⊎ (limit < 10 * n + (d - 48)) → ⊥
 no_longer limit n m d ds h e (inl z) =
     let begins : numeral m ≡ 48 ∷ d ∷ ds = e ∙ ap (λ (k : ℕ). numeral k ++ d ∷ ds) z ∙ rw (numeral_small 0 (omega arith)) refl in
-    let leads : Leads m (48 ∷ d ∷ ds) = subst (Leads m) begins (Leads-numeral m) in
+    let leads : Leads m (48 ∷ d ∷ ds) = subst (Leads m) begins (Leads_numeral m) in
     elim leads [ inl lt ↦ omega arith | inr same ↦ let none = same.1 in cc ]
 no_longer limit n m d ds h e (inr high) =
-    let value : m ≡ value_after (10 * n + (d - 48)) ds = sym (value-numeral m) ∙ ap (value_after 0) e ∙ value_after-append 0 (numeral n) (d ∷ ds) ∙ rw (value-numeral n) refl in
-    omega (arith, value_after-le (10 * n + (d - 48)) ds)
+    let value : m ≡ value_after (10 * n + (d - 48)) ds = sym (value_numeral m) ∙ ap (value_after 0) e ∙ value_after_append 0 (numeral n) (d ∷ ds) ∙ rw (value_numeral n) refl in
+    omega (arith, value_after_le (10 * n + (d - 48)) ds)
 
 ends_here : (limit n m : ℕ) (zs x y : List ℕ) → m ≤ limit → Ends limit n x → numeral m ≡ numeral n ++ zs → x ≡ zs ++ y → zs ≡ []
 ends_here limit n m [] x y h ends e f = refl
 ends_here limit n m (d ∷ ds) x y h ends e f =
-    let digits : AreDigits (d ∷ ds) = AreDigits-back (numeral n) (d ∷ ds) (subst AreDigits e (AreDigits-numeral m)) in
+    let digits : AreDigits (d ∷ ds) = AreDigits_back (numeral n) (d ∷ ds) (subst AreDigits e (AreDigits_numeral m)) in
     let at_end : Ends limit n (d ∷ ds ++ y) = subst (Ends limit n) f ends in
     absurd (no_longer limit n m d ds h e (at_end digits.0))
 

@@ -14,15 +14,15 @@ use Rattle.sexp_canonical.proofs.Trees.{one_spelling, tree_of_injective}
 use Rattle.sexp_canonical.proofs.Faults.{no_fault, one_fault}
 
 -- the front of the front
-take-take : (n m : ℕ) (bytes : List ℕ) → n ≤ m → n ≤ length bytes → take n (take m bytes) ≡ take n bytes
-take-take n m bytes h g =
+take_take : (n m : ℕ) (bytes : List ℕ) → n ≤ m → n ≤ length bytes → take n (take m bytes) ≡ take n bytes
+take_take n m bytes h g =
     sym (take-append-le n (take m bytes) (drop m bytes) (omega (arith, length-take m bytes))) ∙ ap (take n) (take-append-drop m bytes)
 
 no_fault_where_read : (bytes : List ℕ) (tree : Sexp) (n : ℕ) (fault : SexpFault) → n ≤ length bytes → IsReadable (take n bytes) tree → IsFirstSexpFault (take most_bytes bytes) fault → ⊥
 no_fault_where_read bytes tree n fault within read first =
     let len : length (take n bytes) ≡ n = length-take-le n bytes within in
     let short : n ≤ most_bytes = omega (arith, read.short) in
-    let front : take n (take most_bytes bytes) ≡ spelling_of tree = take-take n most_bytes bytes short within ∙ read.spelled in
+    let front : take n (take most_bytes bytes) ≡ spelling_of tree = take_take n most_bytes bytes short within ∙ read.spelled in
     let parts : opening_bytes first.lists ++ first.bytes ≡ spelling_of tree ++ drop n (take most_bytes bytes) =
     sym first.parts ∙ sym (take-append-drop n (take most_bytes bytes)) ∙ ap (λ (s : List ℕ). s ++ drop n (take most_bytes bytes)) front in
     no_fault first.lists first.bytes (length (opening_bytes first.lists)) (length first.lists) 0 fault
@@ -57,7 +57,7 @@ found_from_front : (bytes : List ℕ) (n : ℕ) (read : Sexp × ℕ) → n ≡ m
 found_from_front bytes n read e at =
     let w = at.within in
     let len : length (take n bytes) ≡ n = length-take-le n bytes (omega arith) in
-    let front : take read.1 (take n bytes) ≡ take read.1 bytes = take-take read.1 n bytes (omega arith) (omega arith) in (
+    let front : take read.1 (take n bytes) ≡ take read.1 bytes = take_take read.1 n bytes (omega arith) (omega arith) in (
       omega arith,
       record {
         spelled = sym front ∙ at.spelled;

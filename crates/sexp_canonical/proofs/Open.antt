@@ -19,27 +19,27 @@ use Rattle.sexp_canonical.specs.declared.tree.Sexp.{Sexp}
 use Rattle.sexp_canonical.specs.declared.tree.Sexp.TheVariants.{List as Listed}
 use Rattle.sexp_canonical.specs.declared.fault.SexpFault.{SexpFault}
 use Rattle.sexp_canonical.specs.declared.fault.SexpFault.TheVariants.{BadByte, Deep, Short}
-use Rattle.sexp_canonical.proofs.Depths.{deeper-more, deeper-new, deeper-outer, deeper-last, length-le-open_depth}
+use Rattle.sexp_canonical.proofs.Depths.{deeper_more, deeper_new, deeper_outer, deeper_last, length_le_open_depth}
 use Rattle.sexp_canonical.proofs.Trees.{spelled_list}
 use Rattle.sexp_canonical.proofs.Steps.{drop_at_place}
 
 -- ---- what lists are open
 
-opening-append : (xs ys : OpenLists) → opening_bytes (xs ++ ys) ≡ opening_bytes xs ++ opening_bytes ys
-opening-append [] ys = refl
-opening-append (items ∷ xs) ys =
-    ap (λ (s : List ℕ). 40 ∷ (flat_map spelling items ++ s)) (opening-append xs ys) ∙ ap (λ (s : List ℕ). 40 ∷ s) (sym (append_assoc (flat_map spelling items) (opening_bytes xs) (opening_bytes ys)))
+opening_append : (xs ys : OpenLists) → opening_bytes (xs ++ ys) ≡ opening_bytes xs ++ opening_bytes ys
+opening_append [] ys = refl
+opening_append (items ∷ xs) ys =
+    ap (λ (s : List ℕ). 40 ∷ (flat_map spelling items ++ s)) (opening_append xs ys) ∙ ap (λ (s : List ℕ). 40 ∷ s) (sym (append_assoc (flat_map spelling items) (opening_bytes xs) (opening_bytes ys)))
 
-opening-last : (outer : OpenLists) (items : List Tree) → opening_bytes (outer ++ items ∷ []) ≡ opening_bytes outer ++ 40 ∷ flat_map spelling items
-opening-last outer items = opening-append outer (items ∷ []) ∙ ap (λ (s : List ℕ). opening_bytes outer ++ 40 ∷ s) (append-nil (flat_map spelling items))
+opening_last : (outer : OpenLists) (items : List Tree) → opening_bytes (outer ++ items ∷ []) ≡ opening_bytes outer ++ 40 ∷ flat_map spelling items
+opening_last outer items = opening_append outer (items ∷ []) ∙ ap (λ (s : List ℕ). opening_bytes outer ++ 40 ∷ s) (append-nil (flat_map spelling items))
 
-flat_map-last : (items : List Tree) (t : Tree) → flat_map spelling (items ++ t ∷ []) ≡ flat_map spelling items ++ spelling t
-flat_map-last items t = flat_map-append spelling items (t ∷ []) ∙ ap (λ (s : List ℕ). flat_map spelling items ++ s) (flat_map-cons spelling t [] ∙ append-nil (spelling t))
+flat_map_last : (items : List Tree) (t : Tree) → flat_map spelling (items ++ t ∷ []) ≡ flat_map spelling items ++ spelling t
+flat_map_last items t = flat_map-append spelling items (t ∷ []) ∙ ap (λ (s : List ℕ). flat_map spelling items ++ s) (flat_map-cons spelling t [] ∙ append-nil (spelling t))
 
-opening-more : (outer : OpenLists) (items : List Tree) (t : Tree) → opening_bytes (outer ++ (items ++ t ∷ []) ∷ []) ≡ opening_bytes (outer ++ items ∷ []) ++ spelling t
-opening-more outer items t =
-    opening-last outer (items ++ t ∷ []) ∙ ap (λ (s : List ℕ). opening_bytes outer ++ 40 ∷ s) (flat_map-last items t)
-    ∙ sym (append_assoc (opening_bytes outer) (40 ∷ flat_map spelling items) (spelling t)) ∙ ap (λ (s : List ℕ). s ++ spelling t) (sym (opening-last outer items))
+opening_more : (outer : OpenLists) (items : List Tree) (t : Tree) → opening_bytes (outer ++ (items ++ t ∷ []) ∷ []) ≡ opening_bytes (outer ++ items ∷ []) ++ spelling t
+opening_more outer items t =
+    opening_last outer (items ++ t ∷ []) ∙ ap (λ (s : List ℕ). opening_bytes outer ++ 40 ∷ s) (flat_map_last items t)
+    ∙ sym (append_assoc (opening_bytes outer) (40 ∷ flat_map spelling items) (spelling t)) ∙ ap (λ (s : List ℕ). s ++ spelling t) (sym (opening_last outer items))
 
 -- ---- places
 
@@ -65,19 +65,19 @@ place_is text place lists at = let w = at.within in omega (arith, ap length at.p
 pub list_opened : (text : List ℕ) (place : ℕ) (lists : OpenLists) → IsOpenAt text place lists → place < length text → get_or text place 0 ≡ 40 → length lists < most_depth → IsOpenAt text (place + 1) (lists ++ [] ∷ [])
 list_opened text place lists at within byte room = record {
   within = omega arith;
-  shallow = let s = at.shallow in omega (arith, deeper-new lists);
+  shallow = let s = at.shallow in omega (arith, deeper_new lists);
   parts = at.parts ∙ ap (λ (s : List ℕ). opening_bytes lists ++ s) (drop_at_place text place within ∙ ap (λ (b : ℕ). b ∷ drop (place + 1) text) byte)
-      ∙ sym (append_assoc (opening_bytes lists) (40 ∷ []) (drop (place + 1) text)) ∙ ap (λ (s : List ℕ). s ++ drop (place + 1) text) (sym (opening-last lists []));
+      ∙ sym (append_assoc (opening_bytes lists) (40 ∷ []) (drop (place + 1) text)) ∙ ap (λ (s : List ℕ). s ++ drop (place + 1) text) (sym (opening_last lists []));
 }
 
 pub room_left : (text : List ℕ) (place : ℕ) (lists : OpenLists) → IsOpenAt text place lists → (length lists ≡ most_depth → ⊥) → length lists < most_depth
-room_left text place lists at other = let s = at.shallow in omega (arith, length-le-open_depth lists)
+room_left text place lists at other = let s = at.shallow in omega (arith, length_le_open_depth lists)
 
 pub atom_finished : (text : List ℕ) (place end : ℕ) (lists : OpenLists) (tree : Sexp) → IsOpenAt text place lists → HasAtom text place (tree, end) → IsFinished text end lists (tree_of tree)
 atom_finished text place end lists tree at read = record {
   within = read.within;
   shallow = at.shallow;
-  fits = let s = at.shallow in omega (arith, length-le-open_depth lists, read.flat);
+  fits = let s = at.shallow in omega (arith, length_le_open_depth lists, read.flat);
   parts = at.parts ∙ ap (λ (s : List ℕ). opening_bytes lists ++ s) read.parts;
 }
 
@@ -88,10 +88,10 @@ list_finished text place outer items at within byte =
     sym (append_assoc (40 ∷ flat_map spelling items) (41 ∷ []) rest) ∙ ap (λ (s : List ℕ). s ++ rest) (sym (spelled_list items)) in
     record {
       within = omega arith;
-      shallow = let s = at.shallow in omega (arith, deeper-outer outer items);
-      fits = let s = at.shallow in omega (arith, deeper-last outer items);
+      shallow = let s = at.shallow in omega (arith, deeper_outer outer items);
+      fits = let s = at.shallow in omega (arith, deeper_last outer items);
       parts = at.parts ∙ ap (λ (s : List ℕ). opening_bytes (outer ++ items ∷ []) ++ s) (drop_at_place text place within ∙ ap (λ (b : ℕ). b ∷ rest) byte)
-          ∙ ap (λ (s : List ℕ). s ++ 41 ∷ rest) (opening-last outer items) ∙ append_assoc (opening_bytes outer) (40 ∷ flat_map spelling items) (41 ∷ rest)
+          ∙ ap (λ (s : List ℕ). s ++ 41 ∷ rest) (opening_last outer items) ∙ append_assoc (opening_bytes outer) (40 ∷ flat_map spelling items) (41 ∷ rest)
           ∙ ap (λ (s : List ℕ). opening_bytes outer ++ s) inside;
     }
 
@@ -103,10 +103,10 @@ item_added text end old new tree done adds =
     let f = done.fits in
     let s = done.shallow in
     let written : opening_bytes (lists_of new) ≡ opening_bytes (lists_of old) ++ spelling_of tree =
-    ap opening_bytes adds.after ∙ opening-more adds.outer adds.items (tree_of tree) ∙ ap (λ (ls : OpenLists). opening_bytes ls ++ spelling_of tree) (sym adds.before) in
+    ap opening_bytes adds.after ∙ opening_more adds.outer adds.items (tree_of tree) ∙ ap (λ (ls : OpenLists). opening_bytes ls ++ spelling_of tree) (sym adds.before) in
     record {
       within = done.within;
-      shallow = omega (arith, deeper-more adds.outer adds.items (tree_of tree));
+      shallow = omega (arith, deeper_more adds.outer adds.items (tree_of tree));
       parts = done.parts ∙ sym (append_assoc (opening_bytes (lists_of old)) (spelling_of tree) (drop end text)) ∙ ap (λ (s : List ℕ). s ++ drop end text) (sym written);
     }
 

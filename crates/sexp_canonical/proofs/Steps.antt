@@ -26,8 +26,8 @@ pub record IsNumeralUpTo (text : List ℕ) (place end count : ℕ) : Type 0 wher
   pub further : place < end
   pub parts : drop place text ≡ numeral count ++ drop end text
 
-pub IsNumeralUpTo-first : (text : List ℕ) (place : ℕ) → IsDigit text place → IsNumeralUpTo text place (place + 1) (get_or text place 0 - 48)
-IsNumeralUpTo-first text place digit =
+pub IsNumeralUpTo_first : (text : List ℕ) (place : ℕ) → IsDigit text place → IsNumeralUpTo text place (place + 1) (get_or text place 0 - 48)
+IsNumeralUpTo_first text place digit =
     let low = digit.low in
     let high = digit.high in
     let glyph : 48 + (get_or text place 0 - 48) ≡ get_or text place 0 = omega arith in
@@ -39,9 +39,9 @@ IsNumeralUpTo-first text place digit =
       parts = drop_at_place text place digit.within ∙ sym (rw (numeral_small (get_or text place 0 - 48) small, glyph) refl);
     }
 
-pub IsNumeralUpTo-more : (text : List ℕ) (place end count more : ℕ) → IsNumeralUpTo text place end count → end < length text → 48 ≤ get_or text end 0 → get_or text end 0 ≤ 57
+pub IsNumeralUpTo_more : (text : List ℕ) (place end count more : ℕ) → IsNumeralUpTo text place end count → end < length text → 48 ≤ get_or text end 0 → get_or text end 0 ≤ 57
     → 0 < count → more ≡ 10 * count + (get_or text end 0 - 48) → more ≤ most_bytes → IsNumeralUpTo text place (end + 1) more
-IsNumeralUpTo-more text place end count more so_far within low high some more-is small =
+IsNumeralUpTo_more text place end count more so_far within low high some more-is small =
     let d = get_or text end 0 - 48 in
     let glyph : 48 + d ≡ get_or text end 0 = omega arith in
     let longer : numeral more ≡ numeral count ++ get_or text end 0 ∷ [] = ap numeral more-is ∙ numeral_digit count d some (omega arith) ∙ ap (λ (b : ℕ). numeral count ++ b ∷ []) glyph in

@@ -10,7 +10,7 @@ use Rattle.sexp_canonical.specs.View.{tree_of}
 use Rattle.sexp_canonical.specs.Spelling.{numeral, spelling, spellings, depth, depths}
 use Rattle.sexp_canonical.specs.declared.tree.Sexp.{Sexp}
 use Rattle.sexp_canonical.specs.declared.tree.Sexp.TheVariants.{Atom, List as Listed}
-use Rattle.sexp_canonical.proofs.Numerals.{AreDigits, AreDigits-numeral, Leads, Leads-numeral, Ends, one_numeral}
+use Rattle.sexp_canonical.proofs.Numerals.{AreDigits, AreDigits_numeral, Leads, Leads_numeral, Ends, one_numeral}
 
 -- ---- trees in memory
 
@@ -32,36 +32,36 @@ tree_of_injective (Listed ts) (Listed us) e =
     let same : row ts ≡ row us = cc in
     ap Listed (row_injective ts us same)
 
-pub spellings-row : (ts : List Tree) → spellings (row ts) ≡ flat_map spelling ts
-spellings-row [] = refl
-spellings-row (t ∷ ts) = ap (λ (s : List ℕ). spelling t ++ s) (spellings-row ts) ∙ sym (flat_map-cons spelling t ts)
+pub spellings_row : (ts : List Tree) → spellings (row ts) ≡ flat_map spelling ts
+spellings_row [] = refl
+spellings_row (t ∷ ts) = ap (λ (s : List ℕ). spelling t ++ s) (spellings_row ts) ∙ sym (flat_map-cons spelling t ts)
 
 pub spelled_list : (items : List Tree) → spelling (list_of items) ≡ 40 ∷ (flat_map spelling items ++ 41 ∷ [])
-spelled_list items = ap (λ (s : List ℕ). 40 ∷ (s ++ 41 ∷ [])) (spellings-row items)
+spelled_list items = ap (λ (s : List ℕ). 40 ∷ (s ++ 41 ∷ [])) (spellings_row items)
 
-pub row-items_of : (r : Row) → row (items_of r) ≡ r
-row-items_of end = refl
-row-items_of (item t more) = ap (item t) (row-items_of more)
+pub row_items_of : (r : Row) → row (items_of r) ≡ r
+row_items_of end = refl
+row_items_of (item t more) = ap (item t) (row_items_of more)
 
-pub items_of-row : (ts : List Tree) → items_of (row ts) ≡ ts
-items_of-row [] = refl
-items_of-row (t ∷ ts) = ap (λ (us : List Tree). t ∷ us) (items_of-row ts)
+pub items_of_row : (ts : List Tree) → items_of (row ts) ≡ ts
+items_of_row [] = refl
+items_of_row (t ∷ ts) = ap (λ (us : List Tree). t ∷ us) (items_of_row ts)
 
-pub items-listed : (tree : Sexp) (ts us : List Tree) → tree ≡ Listed ts → us ≡ ts → us ≡ items (tree_of tree)
-items-listed tree ts us e f = f ∙ sym (items_of-row ts) ∙ ap (λ (t : Sexp). items (tree_of t)) (sym e)
+pub items_listed : (tree : Sexp) (ts us : List Tree) → tree ≡ Listed ts → us ≡ ts → us ≡ items (tree_of tree)
+items_listed tree ts us e f = f ∙ sym (items_of_row ts) ∙ ap (λ (t : Sexp). items (tree_of t)) (sym e)
 
 -- ---- how deep a list is
 
-pub depths-le : (ts : List Tree) (n : ℕ) → All (λ t. depth t ≤ n) ts → depths (row ts) ≤ n
-depths-le [] n h = omega arith
-depths-le (t ∷ ts) n h =
+pub depths_le : (ts : List Tree) (n : ℕ) → All (λ t. depth t ≤ n) ts → depths (row ts) ≤ n
+depths_le [] n h = omega arith
+depths_le (t ∷ ts) n h =
     let P : Tree → Type 0 = λ u. depth u ≤ n in
     let first = All-head P t ts h in
-    omega (arith, depths-le ts n (All-tail P t ts h))
+    omega (arith, depths_le ts n (All-tail P t ts h))
 
-pub All-depths : (ts : List Tree) (n : ℕ) → depths (row ts) ≤ n → All (λ t. depth t ≤ n) ts
-All-depths [] n h = All-nil (λ t. depth t ≤ n)
-All-depths (t ∷ ts) n h = All-cons (λ u. depth u ≤ n) t ts (omega arith) (All-depths ts n (omega arith))
+pub All_depths : (ts : List Tree) (n : ℕ) → depths (row ts) ≤ n → All (λ t. depth t ≤ n) ts
+All_depths [] n h = All-nil (λ t. depth t ≤ n)
+All_depths (t ∷ ts) n h = All-cons (λ u. depth u ≤ n) t ts (omega arith) (All_depths ts n (omega arith))
 
 -- ---- first bytes
 
@@ -82,7 +82,7 @@ begins_with_digit n [] leads digits = absurd leads
 begins_with_digit n (d ∷ ds) leads digits = record { first = d; others = ds; parts = refl; digit = digits.0 }
 
 pub numeral_begins : (n : ℕ) → BeginsWithDigit (numeral n)
-numeral_begins n = begins_with_digit n (numeral n) (Leads-numeral n) (AreDigits-numeral n)
+numeral_begins n = begins_with_digit n (numeral n) (Leads_numeral n) (AreDigits_numeral n)
 
 -- no numeral begins with another byte
 pub no_numeral : (n b : ℕ) (x y : List ℕ) → is_ascii_digit b ≡ false → numeral n ++ x ≡ b ∷ y → ⊥

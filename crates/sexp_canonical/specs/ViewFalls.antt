@@ -8,7 +8,7 @@ use Rattle.sexp_canonical.specs.declared.tree.Sexp.{Sexp}
 use Rattle.sexp_canonical.specs.declared.tree.Sexp.TheVariants.{Atom, List as Listed}
 use Rattle.sexp_canonical.specs.declared.tree.Items.TheDeep.{deep-Sexp}
 
-pub depth_le-node_count : (items : List Sexp) → max (most deep-Sexp items) 0 ≤ node_count (trees items)
-depth_le-node_count [] = omega arith
-depth_le-node_count (Atom bytes ∷ items) = omega (arith, depth_le-node_count items)
-depth_le-node_count (Listed inner ∷ items) = omega (arith, depth_le-node_count items)
+pub depth_le_node_count : (items : List Sexp) → max (most deep-Sexp items) 0 ≤ node_count (trees items)
+depth_le_node_count [] = omega arith
+depth_le_node_count (Atom bytes ∷ items) = omega (arith, depth_le_node_count items)
+depth_le_node_count (Listed inner ∷ items) = omega (arith, depth_le_node_count items)

@@ -36,9 +36,9 @@ impl Model for Items {
 
     ghost size = { node_count };
 
-    ghost use Rattle.sexp_canonical.specs.ViewFalls.{depth_le-node_count};
+    ghost use Rattle.sexp_canonical.specs.ViewFalls.{depth_le_node_count};
 
-    ghost size_decreases = { λ items _. depth_le-node_count items.0.items };
+    ghost size_decreases = { λ items _. depth_le_node_count items.0.items };
 }
 
 impl Items {

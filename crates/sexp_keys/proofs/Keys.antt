@@ -10,7 +10,7 @@ use Rattle.sexp_keys.specs.Named.{HasNames, AreParts}
 use Rattle.sexp_keys.specs.declared.algorithm.Algorithm.{Algorithm}
 use Rattle.sexp_keys.specs.declared.fault.KeyFault.{KeyFault}
 use Rattle.sexp_keys.specs.declared.fault.KeyFault.TheVariants.{BadSecKey, NoMemory}
-use Rattle.sexp_keys.proofs.OneName.{same_names, named_fault-names}
+use Rattle.sexp_keys.proofs.OneName.{same_names, named_fault_names}
 use Rattle.sexp_keys.proofs.Parts.{counted_parts}
 
 key_names : (t : Tree) (k : Key) → IsKey t k → HasNames t k.is_clear k.algorithm (k.public ++ k.private) k.further
@@ -32,7 +32,7 @@ key_read t c a ps fs public private us vs ws names parts lists e f g = record {
 }
 
 bad_key : (t : Tree) (c : Bool) (a : Algorithm) (ps fs : List Tree) → HasNames t c a ps fs → ((k : Key) → IsKey t k → ⊥) → IsFirstKeyFault t BadSecKey
-bad_key t c a ps fs names none = inr (named_fault-names t c a ps fs names, none, refl)
+bad_key t c a ps fs names none = inr (named_fault_names t c a ps fs names, none, refl)
 
 -- the parameters are no key's
 pub bad_parameters : (t : Tree) (c : Bool) (a : Algorithm) (ps fs : List Tree) → HasNames t c a ps fs → ((public private : List Tree) → AreParts c a ps public private → ⊥) → IsFirstKeyFault t BadSecKey
@@ -68,7 +68,7 @@ one_key t k l h g =
     λ i. record { algorithm = same.algorithm i; is_clear = same.form i; public = front i; private = back i; further = same.further i }
 
 no_named_fault : (t : Tree) (k : Key) → IsKey t k → named_fault t ≡ None
-no_named_fault t k h = named_fault-names t k.is_clear k.algorithm (k.public ++ k.private) k.further (key_names t k h)
+no_named_fault t k h = named_fault_names t k.is_clear k.algorithm (k.public ++ k.private) k.further (key_names t k h)
 
 no_fault : (t : Tree) (k : Key) (fault : KeyFault) → IsKey t k → IsFirstKeyFault t fault → ⊥
 no_fault t k fault h (inl e) = let none = no_named_fault t k h in cc

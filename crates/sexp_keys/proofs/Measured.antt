@@ -7,7 +7,7 @@ use Rattle.std.proofs.lemmas.List.Concat.{flat_map-cons}
 use Rattle.sexp_canonical.specs.Tree.{Tree, leaf, list_of, row}
 use Rattle.sexp_canonical.specs.Spelling.{most_bytes, most_depth, numeral, spelling, depth, depths}
 use Rattle.sexp_canonical.proofs.Measured.{size}
-use Rattle.sexp_canonical.proofs.Numerals.{length-numeral}
+use Rattle.sexp_canonical.proofs.Numerals.{length_numeral}
 use Rattle.sexp_canonical.proofs.Trees.{spelled_list}
 use Rattle.sexp_keys.specs.Names.{algorithm_name, form_name}
 use Rattle.sexp_keys.specs.Key.{Key, algorithm_list, key_tree}
@@ -15,14 +15,14 @@ use Rattle.sexp_keys.specs.Lists.{key_list_of}
 use Rattle.sexp_keys.specs.declared.algorithm.Algorithm.{Algorithm}
 use Rattle.sexp_keys.specs.declared.algorithm.Algorithm.TheVariants.{Rsa, Dsa, Elg, Ecc}
 
-size-list : (ts : List Tree) → length (spelling (list_of ts)) ≡ size ts + 2
-size-list ts = omega (arith, ap length (spelled_list ts), length-append (flat_map spelling ts) (41 ∷ []))
+size_list : (ts : List Tree) → length (spelling (list_of ts)) ≡ size ts + 2
+size_list ts = omega (arith, ap length (spelled_list ts), length-append (flat_map spelling ts) (41 ∷ []))
 
-size-cons : (t : Tree) (ts : List Tree) → size (t ∷ ts) ≡ length (spelling t) + size ts
-size-cons t ts = ap length (flat_map-cons spelling t ts) ∙ length-append (spelling t) (flat_map spelling ts)
+size_cons : (t : Tree) (ts : List Tree) → size (t ∷ ts) ≡ length (spelling t) + size ts
+size_cons t ts = ap length (flat_map-cons spelling t ts) ∙ length-append (spelling t) (flat_map spelling ts)
 
-size-append : (ts us : List Tree) → size (ts ++ us) ≡ size ts + size us
-size-append ts us = ap length (flat_map-append spelling ts us) ∙ length-append (flat_map spelling ts) (flat_map spelling us)
+size_append : (ts us : List Tree) → size (ts ++ us) ≡ size ts + size us
+size_append ts us = ap length (flat_map-append spelling ts us) ∙ length-append (flat_map spelling ts) (flat_map spelling us)
 
 abbrev pub names_size : Key → ℕ
 names_size key = length (spelling (leaf (form_name key.is_clear))) + length (spelling (leaf (algorithm_name key.algorithm)))
@@ -34,12 +34,12 @@ key_size key =
     let inner = algorithm_list key key.private in
     omega (
       arith,
-      size-list (form ∷ inner ∷ key.further),
-      size-cons form (inner ∷ key.further),
-      size-cons inner key.further,
-      size-list (name ∷ key.public ++ key.private),
-      size-cons name (key.public ++ key.private),
-      size-append key.public key.private,
+      size_list (form ∷ inner ∷ key.further),
+      size_cons form (inner ∷ key.further),
+      size_cons inner key.further,
+      size_list (name ∷ key.public ++ key.private),
+      size_cons name (key.public ++ key.private),
+      size_append key.public key.private,
     )
 
 -- the names' bytes and those of the parts, as they are counted, make the key's
@@ -61,7 +61,7 @@ list_measured key parts same names-is a-is b-is d-is public-is private-is furthe
 -- ---- names are short
 
 short_atom : (bytes : List ℕ) → length bytes < 100 → length (spelling (leaf bytes)) < 104
-short_atom bytes h = omega (arith, length-append (numeral (length bytes)) (58 ∷ bytes), length-numeral 1 (length bytes) (omega arith))
+short_atom bytes h = omega (arith, length-append (numeral (length bytes)) (58 ∷ bytes), length_numeral 1 (length bytes) (omega arith))
 
 short_form : (is_clear : Bool) → length (form_name is_clear) < 100
 short_form true = omega arith
@@ -82,13 +82,13 @@ short_names key = omega (
 
 -- ---- a part that doesn't fit makes the key too long, where the key is shallow
 
-depths-front : (ts us : List Tree) → depths (row ts) ≤ depths (row (ts ++ us))
-depths-front [] us = omega arith
-depths-front (t ∷ ts) us = omega (arith, depths-front ts us)
+depths_front : (ts us : List Tree) → depths (row ts) ≤ depths (row (ts ++ us))
+depths_front [] us = omega arith
+depths_front (t ∷ ts) us = omega (arith, depths_front ts us)
 
-depths-behind : (ts us : List Tree) → depths (row us) ≤ depths (row (ts ++ us))
-depths-behind [] us = omega arith
-depths-behind (t ∷ ts) us = omega (arith, depths-behind ts us)
+depths_behind : (ts us : List Tree) → depths (row us) ≤ depths (row (ts ++ us))
+depths_behind [] us = omega arith
+depths_behind (t ∷ ts) us = omega (arith, depths_behind ts us)
 
 -- the part isn't within the limits of an expression
 abbrev pub IsUnfit : List Tree → Type 0
@@ -99,12 +99,12 @@ part_long ts unfit shallow = lt_of_not-le (λ short. unfit (shallow, short))
 
 pub public_long : (key : Key) → IsUnfit key.public → depth (key_tree key) ≤ most_depth → most_bytes < length (key_list_of key)
 public_long key unfit shallow =
-    let within : depths (row key.public) ≤ most_depth = omega (arith, shallow, depths-front key.public key.private) in
+    let within : depths (row key.public) ≤ most_depth = omega (arith, shallow, depths_front key.public key.private) in
     omega (arith, key_size key, part_long key.public unfit within)
 
 pub private_long : (key : Key) → IsUnfit key.private → depth (key_tree key) ≤ most_depth → most_bytes < length (key_list_of key)
 private_long key unfit shallow =
-    let within : depths (row key.private) ≤ most_depth = omega (arith, shallow, depths-behind key.public key.private) in
+    let within : depths (row key.private) ≤ most_depth = omega (arith, shallow, depths_behind key.public key.private) in
     omega (arith, key_size key, part_long key.private unfit within)
 
 pub further_long : (key : Key) → IsUnfit key.further → depth (key_tree key) ≤ most_depth → most_bytes < length (key_list_of key)

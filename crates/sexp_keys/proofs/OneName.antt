@@ -2,35 +2,35 @@
 use Rattle.std.proofs.Common.{◌≡◌, ℕ, Bool, true, false, List, ◌∷◌, Some, None, refl, sym, ap, ◌∙◌}
 use Rattle.std.specs.Prelude.{bytes_eq}
 use Rattle.sexp_canonical.specs.Tree.{Tree, leaf, branch, row, list_of, items}
-use Rattle.sexp_canonical.proofs.Trees.{row_injective, row-items_of}
+use Rattle.sexp_canonical.proofs.Trees.{row_injective, row_items_of}
 use Rattle.sexp_keys.specs.Names.{algorithm_name, algorithm_of, form_name}
 use Rattle.sexp_keys.specs.Faults.{named_fault}
 use Rattle.sexp_keys.specs.Named.{HasNames}
 use Rattle.sexp_keys.specs.declared.algorithm.Algorithm.{Algorithm}
 use Rattle.sexp_keys.specs.declared.algorithm.Algorithm.TheVariants.{Rsa, Dsa, Elg, Ecc}
 
-form_of-name : (a : Bool) → bytes_eq (form_name a) (form_name true) ≡ a
-form_of-name true = refl
-form_of-name false = refl
+form_of_name : (a : Bool) → bytes_eq (form_name a) (form_name true) ≡ a
+form_of_name true = refl
+form_of_name false = refl
 
-form_name-injective : (a b : Bool) → form_name a ≡ form_name b → a ≡ b
-form_name-injective a b e = sym (form_of-name a) ∙ ap (λ (name : List ℕ). bytes_eq name (form_name true)) e ∙ form_of-name b
+form_name_injective : (a b : Bool) → form_name a ≡ form_name b → a ≡ b
+form_name_injective a b e = sym (form_of_name a) ∙ ap (λ (name : List ℕ). bytes_eq name (form_name true)) e ∙ form_of_name b
 
-algorithm_of-name : (a : Algorithm) → algorithm_of (algorithm_name a) ≡ Some a
-algorithm_of-name Rsa = refl
-algorithm_of-name Dsa = refl
-algorithm_of-name Elg = refl
-algorithm_of-name Ecc = refl
+algorithm_of_name : (a : Algorithm) → algorithm_of (algorithm_name a) ≡ Some a
+algorithm_of_name Rsa = refl
+algorithm_of_name Dsa = refl
+algorithm_of_name Elg = refl
+algorithm_of_name Ecc = refl
 
-algorithm_name-injective : (a b : Algorithm) → algorithm_name a ≡ algorithm_name b → a ≡ b
-algorithm_name-injective a b e =
-    let same : Some a ≡ Some b = sym (algorithm_of-name a) ∙ ap algorithm_of e ∙ algorithm_of-name b in
+algorithm_name_injective : (a b : Algorithm) → algorithm_name a ≡ algorithm_name b → a ≡ b
+algorithm_name_injective a b e =
+    let same : Some a ≡ Some b = sym (algorithm_of_name a) ∙ ap algorithm_of e ∙ algorithm_of_name b in
     cc
 
 -- a tree that has items is a list of them
 pub listed : (t u : Tree) (us : List Tree) → items t ≡ u ∷ us → t ≡ list_of (u ∷ us)
 listed (leaf b) u us e = absurd cc
-listed (branch r) u us e = ap branch (sym (row-items_of r) ∙ ap row e)
+listed (branch r) u us e = ap branch (sym (row_items_of r) ∙ ap row e)
 
 pub has_names : (t s : Tree) (c : Bool) (a : Algorithm) (os ps fs : List Tree) → items t ≡ leaf (form_name c) ∷ os → os ≡ s ∷ fs → items s ≡ leaf (algorithm_name a) ∷ ps → HasNames t c a ps fs
 has_names t s c a os ps fs e f g = record {
@@ -52,8 +52,8 @@ same_names t c d a b ps qs fs gs h k =
     let parameters : row ps ≡ row qs = cc in
     let further : row fs ≡ row gs = cc in
     record {
-      form = form_name-injective c d forms;
-      algorithm = algorithm_name-injective a b names;
+      form = form_name_injective c d forms;
+      algorithm = algorithm_name_injective a b names;
       parameters = row_injective ps qs parameters;
       further = row_injective fs gs further;
     }
@@ -69,5 +69,5 @@ no_fault false Elg ps fs = refl
 no_fault false Ecc ps fs = refl
 
 -- where the names are right there is no fault of them
-pub named_fault-names : (t : Tree) (c : Bool) (a : Algorithm) (ps fs : List Tree) → HasNames t c a ps fs → named_fault t ≡ None
-named_fault-names t c a ps fs h = ap named_fault h.parts ∙ no_fault c a ps fs
+pub named_fault_names : (t : Tree) (c : Bool) (a : Algorithm) (ps fs : List Tree) → HasNames t c a ps fs → named_fault t ≡ None
+named_fault_names t c a ps fs h = ap named_fault h.parts ∙ no_fault c a ps fs

@@ -13,10 +13,10 @@ use Rattle.sexp_keys.specs.Named.{ends_with_time, private_count, AreParts}
 use Rattle.sexp_keys.specs.declared.algorithm.Algorithm.{Algorithm}
 use Rattle.sexp_keys.specs.declared.algorithm.Algorithm.TheVariants.{Rsa}
 
-pub ends-append : (xs : List Tree) (y : Tree) (ys : List Tree) → ends_with_time (xs ++ y ∷ ys) ≡ ends_with_time (y ∷ ys)
-ends-append [] y ys = refl
-ends-append (x ∷ []) y ys = refl
-ends-append (x ∷ z ∷ xs) y ys = ends-append (z ∷ xs) y ys
+pub ends_append : (xs : List Tree) (y : Tree) (ys : List Tree) → ends_with_time (xs ++ y ∷ ys) ≡ ends_with_time (y ∷ ys)
+ends_append [] y ys = refl
+ends_append (x ∷ []) y ys = refl
+ends_append (x ∷ z ∷ xs) y ys = ends_append (z ∷ xs) y ys
 
 and_second : (a b : Bool) → (a && b) ≡ true → b ≡ true
 and_second true b e = e
@@ -33,11 +33,11 @@ not_both (branch r ∷ ts) e = refl
 counted_protection : (public private : List Tree) → are_protection private ≡ true → private_count false Rsa (public ++ private) ≡ length private
 counted_protection public [] e = absurd cc
 counted_protection public (p ∷ []) e =
-    let other : ends_with_time (public ++ p ∷ []) ≡ false = ends-append public p [] ∙ not_both (items p) e in
+    let other : ends_with_time (public ++ p ∷ []) ≡ false = ends_append public p [] ∙ not_both (items p) e in
     rw other refl
 counted_protection public (p ∷ t ∷ []) e =
     let time : is_time t ≡ true = and_second (has_name protected_name p) (is_time t) e in
-    let last : ends_with_time (public ++ p ∷ t ∷ []) ≡ true = ends-append public p (t ∷ []) ∙ and_second _ (has_name time_name t) time in
+    let last : ends_with_time (public ++ p ∷ t ∷ []) ≡ true = ends_append public p (t ∷ []) ∙ and_second _ (has_name time_name t) time in
     rw last refl
 counted_protection public (p ∷ t ∷ u ∷ more) e = absurd cc
 
@@ -63,21 +63,21 @@ counted_parts c a ps public private h =
       back = ap (drop (length ps - n)) h.joined ∙ drop_at public private (length ps - n) (omega arith);
     }
 
-trees-take : (n : ℕ) (xs : List Sexp) → trees (take n xs) ≡ take n (trees xs)
-trees-take zero xs = refl
-trees-take (suc n) [] = refl
-trees-take (suc n) (x ∷ xs) = ap (λ (ts : List Tree). tree_of x ∷ ts) (trees-take n xs)
+trees_take : (n : ℕ) (xs : List Sexp) → trees (take n xs) ≡ take n (trees xs)
+trees_take zero xs = refl
+trees_take (suc n) [] = refl
+trees_take (suc n) (x ∷ xs) = ap (λ (ts : List Tree). tree_of x ∷ ts) (trees_take n xs)
 
-trees-drop : (n : ℕ) (xs : List Sexp) → trees (drop n xs) ≡ drop n (trees xs)
-trees-drop zero xs = refl
-trees-drop (suc n) [] = refl
-trees-drop (suc n) (x ∷ xs) = trees-drop n xs
+trees_drop : (n : ℕ) (xs : List Sexp) → trees (drop n xs) ≡ drop n (trees xs)
+trees_drop zero xs = refl
+trees_drop (suc n) [] = refl
+trees_drop (suc n) (x ∷ xs) = trees_drop n xs
 
 -- a cut of the lists in memory is one of the trees
 pub trees_cut : (xs front back : List Sexp) (n m : ℕ) (ps public private : List Tree) → Counted n ps public private → ps ≡ trees xs → n ≡ m → front ≡ take (length xs - m) xs → back ≡ drop (length xs - m) xs
     → (trees front ≡ public) × (trees back ≡ private)
 trees_cut xs front back n m ps public private h all count front-is back-is =
     let place : length ps - n ≡ length xs - m = ap (λ (qs : List Tree). length qs - n) all ∙ ap (λ (k : ℕ). k - n) (length-map xs tree_of) ∙ ap (λ (k : ℕ). length xs - k) count in (
-      ap trees front-is ∙ trees-take (length xs - m) xs ∙ ap (λ (qs : List Tree). take (length xs - m) qs) (sym all) ∙ ap (λ (k : ℕ). take k ps) (sym place) ∙ h.front,
-      ap trees back-is ∙ trees-drop (length xs - m) xs ∙ ap (λ (qs : List Tree). drop (length xs - m) qs) (sym all) ∙ ap (λ (k : ℕ). drop k ps) (sym place) ∙ h.back,
+      ap trees front-is ∙ trees_take (length xs - m) xs ∙ ap (λ (qs : List Tree). take (length xs - m) qs) (sym all) ∙ ap (λ (k : ℕ). take k ps) (sym place) ∙ h.front,
+      ap trees back-is ∙ trees_drop (length xs - m) xs ∙ ap (λ (qs : List Tree). drop (length xs - m) qs) (sym all) ∙ ap (λ (k : ℕ). drop k ps) (sym place) ∙ h.back,
     )

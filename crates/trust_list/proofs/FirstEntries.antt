@@ -6,7 +6,7 @@ use Rattle.std.proofs.lemmas.List.Elements.{All-cons, All-head, All-nil, All-tai
 use Rattle.assuan_text.specs.Words.{words}
 use Rattle.trust_list.specs.Entries.{judgement_of}
 use Rattle.trust_list.specs.Written.{FirstEntry, IsSilent}
-use Rattle.trust_list.proofs.EntryLaw.{IsEntry-from_judgement, judgement-written}
+use Rattle.trust_list.proofs.EntryLaw.{IsEntry_from_judgement, judgement_written}
 use Rattle.trust_list.proofs.NewEntries.{AreDigits}
 
 module _ (digits : List ℕ) (are : AreDigits digits) where
@@ -17,11 +17,11 @@ module _ (digits : List ℕ) (are : AreDigits digits) where
   first_of lines = slice_get (filter_map judge lines) 0
 
   silent_from_none : (line : List ℕ) → judge line ≡ None → IsSilent digits line
-  silent_from_none line none trusted entry = let some : judge line ≡ Some trusted = judgement-written digits line trusted are entry in cc
+  silent_from_none line none trusted entry = let some : judge line ≡ Some trusted = judgement_written digits line trusted are entry in cc
 
   none_by : (line : List ℕ) (judgement : Option Bool) → judge line ≡ judgement → IsSilent digits line → judge line ≡ None
   none_by line None e silent = e
-  none_by line (Some trusted) e silent = absurd (silent trusted (IsEntry-from_judgement digits line trusted e))
+  none_by line (Some trusted) e silent = absurd (silent trusted (IsEntry_from_judgement digits line trusted e))
 
   -- lines that are no entries say nothing
   no_judgements : (lines : List (List ℕ)) → All (IsSilent digits) lines → filter_map judge lines ≡ []
@@ -49,20 +49,20 @@ module _ (digits : List ℕ) (are : AreDigits digits) where
         after = lines;
         are = refl;
         silent = All-nil (IsSilent digits);
-        entry = IsEntry-from_judgement digits line trusted (e ∙ first);
+        entry = IsEntry_from_judgement digits line trusted (e ∙ first);
       }
 
-  pub FirstEntry-from_trust : (lines : List (List ℕ)) (trusted : Bool) → first_of lines ≡ Some trusted → FirstEntry digits lines trusted
-  FirstEntry-from_trust [] trusted first = cc first
-  FirstEntry-from_trust (line ∷ lines) trusted first = first_by line lines trusted (judge line) refl first (FirstEntry-from_trust lines trusted)
+  pub FirstEntry_from_trust : (lines : List (List ℕ)) (trusted : Bool) → first_of lines ≡ Some trusted → FirstEntry digits lines trusted
+  FirstEntry_from_trust [] trusted first = cc first
+  FirstEntry_from_trust (line ∷ lines) trusted first = first_by line lines trusted (judge line) refl first (FirstEntry_from_trust lines trusted)
 
-  pub first_of-FirstEntry : (lines : List (List ℕ)) (trusted : Bool) → FirstEntry digits lines trusted → first_of lines ≡ Some trusted
-  first_of-FirstEntry lines trusted entry =
+  pub first_of_FirstEntry : (lines : List (List ℕ)) (trusted : Bool) → FirstEntry digits lines trusted → first_of lines ≡ Some trusted
+  first_of_FirstEntry lines trusted entry =
       ap first_of entry.are
       ∙ ap (λ (ms : List Bool). slice_get ms 0)
       (filter_map-append judge entry.before (entry.line ∷ entry.after)
       ∙ ap (λ (ms : List Bool). ms ++ filter_map judge (entry.line ∷ entry.after)) (no_judgements entry.before entry.silent))
-      ∙ ap (λ (o : Option Bool). slice_get (cons_option o (filter_map judge entry.after)) 0) (judgement-written digits entry.line trusted are entry.entry)
+      ∙ ap (λ (o : Option Bool). slice_get (cons_option o (filter_map judge entry.after)) 0) (judgement_written digits entry.line trusted are entry.entry)
 
   silent_by : (line : List ℕ) (lines : List (List ℕ)) (judgement : Option Bool) → judge line ≡ judgement
       → slice_get (cons_option judgement (filter_map judge lines)) 0 ≡ None → (first_of lines ≡ None → All (IsSilent digits) lines) → All (IsSilent digits) (line ∷ lines)
@@ -73,5 +73,5 @@ module _ (digits : List ℕ) (are : AreDigits digits) where
   silent_from_trust [] none = All-nil (IsSilent digits)
   silent_from_trust (line ∷ lines) none = silent_by line lines (judge line) refl none (silent_from_trust lines)
 
-  pub first_of-silent : (lines : List (List ℕ)) → All (IsSilent digits) lines → first_of lines ≡ None
-  first_of-silent lines silent = ap (λ (ms : List Bool). slice_get ms 0) (no_judgements lines silent)
+  pub first_of_silent : (lines : List (List ℕ)) → All (IsSilent digits) lines → first_of lines ≡ None
+  first_of_silent lines silent = ap (λ (ms : List Bool). slice_get ms 0) (no_judgements lines silent)

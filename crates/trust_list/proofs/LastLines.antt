@@ -17,10 +17,10 @@ pub some_part : {X : Type 0} (p : X → Bool) (xs : List X) → 1 ≤ length (sl
 some_part p xs = omega (arith, length-slice_split p xs)
 
 -- the parts on both sides of a place where a list is cut
-pub split-append : {X : Type 0} (p : X → Bool) (front : List X) (cut : X) (back : List X) → p cut ≡ true → slice_split p (front ++ cut ∷ back) ≡ slice_split p front ++ slice_split p back
-split-append p [] cut back cuts = slice_split-cons_yes p cut back cuts
-split-append p (x ∷ front) cut back cuts =
-    let ih = split-append p front cut back cuts in
+pub split_append : {X : Type 0} (p : X → Bool) (front : List X) (cut : X) (back : List X) → p cut ≡ true → slice_split p (front ++ cut ∷ back) ≡ slice_split p front ++ slice_split p back
+split_append p [] cut back cuts = slice_split-cons_yes p cut back cuts
+split_append p (x ∷ front) cut back cuts =
+    let ih = split_append p front cut back cuts in
     elim (p x) as (λ b. cond b ([] ∷ slice_split p (front ++ cut ∷ back)) (onto_first x (slice_split p (front ++ cut ∷ back)))
     ≡ cond b ([] ∷ slice_split p front) (onto_first x (slice_split p front)) ++ slice_split p back) [
       | true ↦ ap (λ parts. [] ∷ parts) ih
@@ -52,7 +52,7 @@ module _ {Y : Type 0} (judge : List ℕ → Option Y) (silent : judge [] ≡ Non
 
   cut : (front back : List ℕ) (byte : ℕ) → is_lf byte ≡ true → judgements_of (front ++ byte ∷ back) ≡ judgements_of front ++ judgements_of back
   cut front back byte ends =
-      ap (filter_map judge) (split-append is_lf front byte back ends) ∙ filter_map-append judge (slice_split is_lf front) (slice_split is_lf back)
+      ap (filter_map judge) (split_append is_lf front byte back ends) ∙ filter_map-append judge (slice_split is_lf front) (slice_split is_lf back)
 
   nothing : judgements_of [] ≡ []
   nothing = ap (λ judgement. cons_option judgement []) silent
@@ -67,9 +67,9 @@ module _ {Y : Type 0} (judge : List ℕ → Option Y) (silent : judge [] ≡ Non
       ∙ ap (λ judgements. judgements ++ judgements_of entry) (sym kept ∙ sym (ap judgements_of last.whole))
   by_last file entry last false other = ap judgements_of (append_assoc file (10 ∷ []) entry) ∙ cut file entry 10 refl
 
-  pub judgements-append : (file entry : List ℕ) → judgements_of (file ++ missing_end file ++ entry) ≡ judgements_of file ++ judgements_of entry
-  judgements-append [] entry = sym (ap (λ judgements. judgements ++ judgements_of entry) nothing)
-  judgements-append (byte ∷ bytes) entry =
+  pub judgements_append : (file entry : List ℕ) → judgements_of (file ++ missing_end file ++ entry) ≡ judgements_of file ++ judgements_of entry
+  judgements_append [] entry = sym (ap (λ judgements. judgements ++ judgements_of entry) nothing)
+  judgements_append (byte ∷ bytes) entry =
       let last = last_of byte bytes in
       ap (λ o. judgements_of (byte ∷ bytes ++ cond (option_map_or is_lf o true) [] (10 ∷ []) ++ entry)) last.found
       ∙ by_last (byte ∷ bytes) entry last (is_lf last.last) refl

@@ -18,23 +18,23 @@ filled parts = filter (λ word. nat_le 1 (length word)) parts
 kept : (word : List ℕ) (parts : List (List ℕ)) → 1 ≤ length word → filled (word ∷ parts) ≡ word ∷ filled parts
 kept word parts some = ap (λ b. cond b (word ∷ filled parts) (filled parts)) (le-leb 1 (length word) some)
 
-words-blank : (byte : ℕ) (text : List ℕ) → is_blank byte ≡ true → words (byte ∷ text) ≡ words text
-words-blank byte text blank = ap filled (slice_split-cons_yes is_blank byte text blank)
+words_blank : (byte : ℕ) (text : List ℕ) → is_blank byte ≡ true → words (byte ∷ text) ≡ words text
+words_blank byte text blank = ap filled (slice_split-cons_yes is_blank byte text blank)
 
-pub words-blanks : (front text : List ℕ) → list_all is_blank front ≡ true → words (front ++ text) ≡ words text
-words-blanks [] text blank = refl
-words-blanks (byte ∷ front) text blank =
+pub words_blanks : (front text : List ℕ) → list_all is_blank front ≡ true → words (front ++ text) ≡ words text
+words_blanks [] text blank = refl
+words_blanks (byte ∷ front) text blank =
     let parts = and_parts (is_blank byte) (list_all is_blank front) blank in
-    words-blank byte (front ++ text) parts.0 ∙ words-blanks front text parts.1
+    words_blank byte (front ++ text) parts.0 ∙ words_blanks front text parts.1
 
 -- a word, and then the words of what comes after it
-pub words-word : (word rest : List ℕ) → AreNotBlank word → 1 ≤ length word → EndsWord rest → words (word ++ rest) ≡ word ∷ words rest
-words-word word [] plain some ends =
+pub words_word : (word rest : List ℕ) → AreNotBlank word → 1 ≤ length word → EndsWord rest → words (word ++ rest) ≡ word ∷ words rest
+words_word word [] plain some ends =
     ap words (append-nil word) ∙ ap filled (slice_split_none is_blank word plain) ∙ kept word [] some
-words-word word (byte ∷ rest) plain some ends =
+words_word word (byte ∷ rest) plain some ends =
     ap filled (slice_split_at is_blank word byte rest plain ends)
     ∙ kept word (slice_split is_blank rest) some
-    ∙ ap (λ (ws : List (List ℕ)). word ∷ ws) (sym (words-blank byte rest ends))
+    ∙ ap (λ (ws : List (List ℕ)). word ∷ ws) (sym (words_blank byte rest ends))
 
 -- a text up to its first blank
 record IsCut (text : List ℕ) : Type 0 where
@@ -75,7 +75,7 @@ at_word c text word others plain are =
     let first = c ∷ behind.word in
     let whole : c ∷ text ≡ first ++ behind.rest = ap (λ (t : List ℕ). c ∷ t) behind.whole in
     let is : words (c ∷ text) ≡ first ∷ words behind.rest =
-    ap words whole ∙ words-word first behind.rest (All-cons (λ c. is_blank c ≡ false) c behind.word plain behind.plain) (omega arith) behind.ends in
+    ap words whole ∙ words_word first behind.rest (All-cons (λ c. is_blank c ≡ false) c behind.word plain behind.plain) (omega arith) behind.ends in
     let same : first ∷ words behind.rest ≡ word ∷ others = sym is ∙ are in
     let word_is : first ≡ word = cc in
     record {
@@ -87,12 +87,12 @@ at_word c text word others plain are =
       ends = behind.ends;
     }
 
-pub HasWord-from_words : (text word : List ℕ) (others : List (List ℕ)) → words text ≡ word ∷ others → HasWord text word others
-HasWord-from_words [] word others are = cc are
-HasWord-from_words (c ∷ text) word others are =
+pub HasWord_from_words : (text word : List ℕ) (others : List (List ℕ)) → words text ≡ word ∷ others → HasWord text word others
+HasWord_from_words [] word others are = cc are
+HasWord_from_words (c ∷ text) word others are =
     elim (cases_Bool (is_blank c)) [
       | inl blank ↦
-          let more = HasWord-from_words text word others (sym (words-blank c text blank) ∙ are) in
+          let more = HasWord_from_words text word others (sym (words_blank c text blank) ∙ are) in
           record {
             front = c ∷ more.front;
             rest = more.rest;

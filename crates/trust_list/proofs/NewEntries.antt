@@ -17,7 +17,7 @@ use Rattle.assuan_text.specs.LineEnds.{is_lf}
 use Rattle.assuan_text.specs.Words.{words}
 use Rattle.trust_list.specs.Entries.{are_pairs, capital_digits, is_colon, is_flag, is_in_pairs, first_word_judgement, judgement_of, spells}
 use Rattle.trust_list.specs.Trust.{entry, IsNewFlag, judgements, with_entry}
-use Rattle.trust_list.proofs.LastLines.{judgements-append}
+use Rattle.trust_list.proofs.LastLines.{judgements_append}
 
 -- no colon, blank, line feed or `!`, and no lowercase letter
 abbrev pub is_plain : ℕ → Bool
@@ -30,8 +30,8 @@ pub record IsPlain (c : ℕ) : Type 0 where
   pub exclamation : (c == 33) ≡ false
   pub capital : to_ascii_uppercase c ≡ c
 
-pub IsPlain-from_test : (c : ℕ) → is_plain c ≡ true → IsPlain c
-IsPlain-from_test c plain =
+pub IsPlain_from_test : (c : ℕ) → is_plain c ≡ true → IsPlain c
+IsPlain_from_test c plain =
     let one = and_parts (not (is_colon c)) _ plain in
     let two = and_parts (not (is_blank c)) _ one.1 in
     let three = and_parts (not (is_lf c)) _ two.1 in
@@ -61,20 +61,20 @@ pub record AreDigits (text : List ℕ) : Type 0 where
   pub plain : list_all is_plain text ≡ true
   pub len : length text ≡ 40
 
-pub AreDigits-encode_upper : (bytes : List ℕ) → length bytes ≡ 20 → AreDigits (encode_upper bytes)
-AreDigits-encode_upper bytes len =
+pub AreDigits_encode_upper : (bytes : List ℕ) → length bytes ≡ 20 → AreDigits (encode_upper bytes)
+AreDigits_encode_upper bytes len =
     record { plain = plain_digits bytes; len = omega (arith, len, length-encode_with upper_digits bytes) }
 
 each : (test : ℕ → Bool) → ((c : ℕ) → IsPlain c → test c ≡ false) → (text : List ℕ) → list_all is_plain text ≡ true → All (λ c. test c ≡ false) text
 each test fails text plain =
-    All-weaker (λ c. is_plain c ≡ true) (λ c. test c ≡ false) (λ c p. fails c (IsPlain-from_test c p)) text
+    All-weaker (λ c. is_plain c ≡ true) (λ c. test c ≡ false) (λ c p. fails c (IsPlain_from_test c p)) text
     (AllPass-from_list_all is_plain text plain)
 
 capital : (text : List ℕ) → list_all is_plain text ≡ true → capital_digits text ≡ text
 capital [] plain = refl
 capital (c ∷ text) plain =
     let parts = and_parts (is_plain c) (list_all is_plain text) plain in
-    let first = IsPlain-from_test c parts.0 in
+    let first = IsPlain_from_test c parts.0 in
     let others = filter (λ byte. not (is_colon byte)) text in
     ap (λ b. map to_ascii_uppercase (cond (not b) (c ∷ others) others)) first.colon
     ∙ ap₂ (λ (d : ℕ) (ds : List ℕ). d ∷ ds) first.capital (capital text parts.1)
@@ -92,7 +92,7 @@ spelled digits text are =
 judgement_at_digits : (digits text : List ℕ) → AreDigits text → first_word_judgement digits text ≡ cond (bytes_eq text digits) (Some true) None
 judgement_at_digits digits [] are = absurd (omega (arith, are.len))
 judgement_at_digits digits (c ∷ text) are =
-    let first = IsPlain-from_test c (and_parts (is_plain c) (list_all is_plain text) are.plain).0 in
+    let first = IsPlain_from_test c (and_parts (is_plain c) (list_all is_plain text) are.plain).0 in
     ap (λ b. cond b (cond (spells digits text) (Some false) None) (cond (spells digits (c ∷ text)) (Some true) None)) first.exclamation
     ∙ ap (λ b. cond b (Some true) None) (spelled digits (c ∷ text) are)
 
@@ -101,8 +101,8 @@ record IsPlainFlag (flag : ℕ) : Type 0 where
   lf : is_lf flag ≡ false
   known : is_flag (flag ∷ []) ≡ true
 
-IsPlainFlag-from_new : (flag : ℕ) → IsNewFlag flag → IsPlainFlag flag
-IsPlainFlag-from_new flag new =
+IsPlainFlag_from_new : (flag : ℕ) → IsNewFlag flag → IsPlainFlag flag
+IsPlainFlag_from_new flag new =
     elim new [
       | inl is ↦ record { blank = ap is_blank is; lf = ap is_lf is; known = ap (λ c. is_flag (c ∷ [])) is }
       | inr is ↦ record { blank = ap is_blank is; lf = ap is_lf is; known = ap (λ c. is_flag (c ∷ [])) is }
@@ -114,21 +114,21 @@ line_of text flag = text ++ 32 ∷ flag ∷ []
 filled : List (List ℕ) → List (List ℕ)
 filled parts = filter (λ word. nat_le 1 (length word)) parts
 
-words-line : (text : List ℕ) (flag : ℕ) → AreDigits text → IsPlainFlag flag → words (line_of text flag) ≡ text ∷ (flag ∷ []) ∷ []
+words_line : (text : List ℕ) (flag : ℕ) → AreDigits text → IsPlainFlag flag → words (line_of text flag) ≡ text ∷ (flag ∷ []) ∷ []
 unfolding filled
-words-line text flag are is =
+words_line text flag are is =
     ap filled (slice_split_at is_blank text 32 (flag ∷ []) (each is_blank (λ c p. p.blank) text are.plain) refl)
     ∙ ap (λ b. filled (text ∷ cond b ([] ∷ [] ∷ []) ((flag ∷ []) ∷ []))) is.blank
     ∙ ap (λ n. cond (nat_le 1 n) (text ∷ (flag ∷ []) ∷ []) ((flag ∷ []) ∷ [])) are.len
 
-judgement_of-line : (digits text : List ℕ) (flag : ℕ) → AreDigits text → IsPlainFlag flag → judgement_of digits (words (line_of text flag)) ≡ cond (bytes_eq text digits) (Some true) None
-judgement_of-line digits text flag are is =
-    ap (judgement_of digits) (words-line text flag are is)
+judgement_of_line : (digits text : List ℕ) (flag : ℕ) → AreDigits text → IsPlainFlag flag → judgement_of digits (words (line_of text flag)) ≡ cond (bytes_eq text digits) (Some true) None
+judgement_of_line digits text flag are is =
+    ap (judgement_of digits) (words_line text flag are is)
     ∙ ap (λ b. cond b (first_word_judgement digits text) None) is.known
     ∙ judgement_at_digits digits text are
 
-lines-entry : (f : List ℕ) (flag : ℕ) → length f ≡ 20 → IsPlainFlag flag → slice_split is_lf (entry f flag) ≡ line_of (encode_upper f) flag ∷ [] ∷ []
-lines-entry f flag len is =
+lines_entry : (f : List ℕ) (flag : ℕ) → length f ≡ 20 → IsPlainFlag flag → slice_split is_lf (entry f flag) ≡ line_of (encode_upper f) flag ∷ [] ∷ []
+lines_entry f flag len is =
     let lf = λ (c : ℕ). is_lf c ≡ false in
     let text = encode_upper f in
     ap (slice_split is_lf) (sym (append_assoc text (32 ∷ flag ∷ []) (10 ∷ [])))
@@ -140,14 +140,14 @@ abbrev pub new_judgements : List ℕ → List ℕ → List Bool
 new_judgements f g = cons_option (cond (bytes_eq (encode_upper f) (encode_upper g)) (Some true) None) []
 
 -- after all that the file said
-pub judgements-with_entry : (file f g : List ℕ) (flag : ℕ) → length f ≡ 20 → IsNewFlag flag → judgements (with_entry file f flag) g ≡ judgements file g ++ new_judgements f g
-judgements-with_entry file f g flag len new =
-    let is = IsPlainFlag-from_new flag new in
+pub judgements_with_entry : (file f g : List ℕ) (flag : ℕ) → length f ≡ 20 → IsNewFlag flag → judgements (with_entry file f flag) g ≡ judgements file g ++ new_judgements f g
+judgements_with_entry file f g flag len new =
+    let is = IsPlainFlag_from_new flag new in
     let judge = λ (line : List ℕ). judgement_of (encode_upper g) (words line) in
-    judgements-append judge refl file (entry f flag)
+    judgements_append judge refl file (entry f flag)
     ∙ ap (λ (ms : List Bool). judgements file g ++ ms)
-    (ap (filter_map judge) (lines-entry f flag len is)
-    ∙ ap (λ (m : Option Bool). cons_option m []) (judgement_of-line (encode_upper g) (encode_upper f) flag (AreDigits-encode_upper f len) is))
+    (ap (filter_map judge) (lines_entry f flag len is)
+    ∙ ap (λ (m : Option Bool). cons_option m []) (judgement_of_line (encode_upper g) (encode_upper f) flag (AreDigits_encode_upper f len) is))
 
 same_bytes : (f g : List ℕ) → IsBytes f → IsBytes g → encode_upper f ≡ encode_upper g → f ≡ g
 same_bytes f g fits fits' e =

@@ -42,14 +42,14 @@ all_less a b c (part ∷ parts) some all =
     let both = and_parts (are_pairs (a ∷ b ∷ c ∷ part)) (list_all are_pairs parts) all in
     and_from (are_pairs (c ∷ part)) (list_all are_pairs parts) (pairs_less a b c part both.0) both.1
 
-pub is_in_pairs-written : {word : List ℕ} → InPairs word → is_in_pairs word ≡ true
-is_in_pairs-written (last {a} {b} plain plain') = ap (list_all are_pairs) (two_off a b [] plain plain')
-is_in_pairs-written (joined {a} {b} {more} plain plain' pairs) =
+pub is_in_pairs_written : {word : List ℕ} → InPairs word → is_in_pairs word ≡ true
+is_in_pairs_written (last {a} {b} plain plain') = ap (list_all are_pairs) (two_off a b [] plain plain')
+is_in_pairs_written (joined {a} {b} {more} plain plain' pairs) =
     ap (list_all are_pairs) (two_off a b more plain plain')
-    ∙ all_more a b (parts_of more) (some_part is_colon more) (is_in_pairs-written pairs)
-is_in_pairs-written (parted {a} {b} {c} {more} plain plain' colon pairs) =
+    ∙ all_more a b (parts_of more) (some_part is_colon more) (is_in_pairs_written pairs)
+is_in_pairs_written (parted {a} {b} {c} {more} plain plain' colon pairs) =
     ap (list_all are_pairs) (two_off a b (c ∷ more) plain plain' ∙ ap (λ parts. onto_first a (onto_first b parts)) (slice_split-cons_yes is_colon c more colon))
-    ∙ is_in_pairs-written pairs
+    ∙ is_in_pairs_written pairs
 
 first_plain : (a : ℕ) (word : List ℕ) → is_in_pairs (a ∷ word) ≡ true → is_colon a ≡ false
 first_plain a word is =
@@ -61,25 +61,25 @@ second_plain a b word is plain =
     (λ colon. both_ways (is_in_pairs (a ∷ b ∷ word))
     (ap (list_all are_pairs) (slice_split-cons_no is_colon a (b ∷ word) plain ∙ ap (onto_first a) (slice_split-cons_yes is_colon b word colon))) is)
 
-pub InPairs-from_test : (word : List ℕ) → is_in_pairs word ≡ true → InPairs word
-InPairs-from_test [] is = absurd (both_ways (is_in_pairs []) refl is)
-InPairs-from_test (a ∷ []) is =
+pub InPairs_from_test : (word : List ℕ) → is_in_pairs word ≡ true → InPairs word
+InPairs_from_test [] is = absurd (both_ways (is_in_pairs []) refl is)
+InPairs_from_test (a ∷ []) is =
     let plain = first_plain a [] is in
     absurd (both_ways (is_in_pairs (a ∷ [])) (ap (list_all are_pairs) (slice_split-cons_no is_colon a [] plain)) is)
-InPairs-from_test (a ∷ b ∷ []) is =
+InPairs_from_test (a ∷ b ∷ []) is =
     let plain = first_plain a (b ∷ []) is in
     last plain (second_plain a b [] is plain)
-InPairs-from_test (a ∷ b ∷ c ∷ more) is =
+InPairs_from_test (a ∷ b ∷ c ∷ more) is =
     let plain = first_plain a (b ∷ c ∷ more) is in
     let plain' = second_plain a b (c ∷ more) is plain in
     let parts = two_off a b (c ∷ more) plain plain' in
     elim (cases_Bool (is_colon c)) [
       | inl colon ↦
           let behind = sym (ap (list_all are_pairs) (parts ∙ ap (λ ps. onto_first a (onto_first b ps)) (slice_split-cons_yes is_colon c more colon))) ∙ is in
-          parted plain plain' colon (InPairs-from_test more behind)
+          parted plain plain' colon (InPairs_from_test more behind)
       | inr other ↦
           let cut = slice_split-cons_no is_colon c more other in
           let behind = all_less a b c (parts_of more) (some_part is_colon more)
           (sym (ap (list_all are_pairs) (parts ∙ ap (λ ps. onto_first a (onto_first b ps)) cut)) ∙ is) in
-          joined plain plain' (InPairs-from_test (c ∷ more) (ap (list_all are_pairs) cut ∙ behind))
+          joined plain plain' (InPairs_from_test (c ∷ more) (ap (list_all are_pairs) cut ∙ behind))
     ]

@@ -3,13 +3,13 @@ use native.Mathlib.Nat.{mul-zero}
 use Rattle.std.proofs.lemmas.List.{length-append, length-take}
 use Rattle.sha1.specs.Sha1.{Holds, sha1}
 use Rattle.s2k_derive.specs.S2k.{copies_of}
-use Rattle.s2k_derive.proofs.Repeats.{copies_of-zero, length-repeated, piece_cut, piece_more, piece_last}
+use Rattle.s2k_derive.proofs.Repeats.{copies_of_zero, length_repeated, piece_cut, piece_more, piece_last}
 use Rattle.s2k_derive.proofs.derive.Goals as goal
 
 pub pieces-init : goal.pieces-init
 pieces-init c =
     let text = c.args.salt.now ++ c.args.pass.now in
-    subst (λ (m : List ℕ). Holds c.new-hasher.result m) (sym (ap (copies_of text) (mul-zero _) ∙ copies_of-zero text)) c.new-hasher.ensures
+    subst (λ (m : List ℕ). Holds c.new-hasher.result m) (sym (ap (copies_of text) (mul-zero _) ∙ copies_of_zero text)) c.new-hasher.ensures
 
 pub pieces-preserved : goal.pieces-preserved
 pieces-preserved c =
@@ -21,7 +21,7 @@ returns c =
     let text = c.args.salt.now ++ c.args.pass.now in
     let cut = piece_cut c.args.pass.now c.args.salt.now c.write_copies.new.copies c.told-salt c.write_copies.ensures in
     let n = 2048 - 2048 % (8 + length c.args.pass.now) in
-    let size : length c.write_copies.new.copies ≡ 2048 = ap length c.write_copies.ensures ∙ length-repeated text 2048 in
+    let size : length c.write_copies.new.copies ≡ 2048 = ap length c.write_copies.ensures ∙ length_repeated text 2048 in
     let pos : 0 < length (take n c.write_copies.new.copies) = omega (arith, length-take n c.write_copies.new.copies) in
     let all = piece_last _ _ c.max-total.result c.pieces.counter cut pos (omega arith) in
     let long : length text ≡ 8 + length c.args.pass.now = length-append _ _ ∙ ap (λ n. n + length c.args.pass.now) c.told-salt in

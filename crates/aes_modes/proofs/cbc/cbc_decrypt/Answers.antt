@@ -1,7 +1,7 @@
 use Rattle.std.proofs.Common.{refl, ◌∙◌, ◌%◌, ap, arith}
 use Rattle.aes_modes.specs.Cbc.{cbc_decrypted}
 use Rattle.aes_modes.proofs.Chains.{decrypt_more, decrypted_at_end}
-use Rattle.aes_modes.proofs.Undone.{cbc_decrypted-cbc_encrypted}
+use Rattle.aes_modes.proofs.Undone.{cbc_decrypted_cbc_encrypted}
 use Rattle.aes_modes.proofs.cbc.cbc_decrypt.Goals as goal
 
 pub loop-i-preserved : goal.loop-i-preserved
@@ -19,6 +19,6 @@ pub returns-clause-undoes : goal.returns-clause-undoes
 returns-clause-undoes c plain h e =
     returns-clause-value c
     ∙ ap (cbc_decrypted c.args.key.now c.args.iv.now) e
-    ∙ cbc_decrypted-cbc_encrypted c.args.key.now c.args.iv.now plain
+    ∙ cbc_decrypted_cbc_encrypted c.args.key.now c.args.iv.now plain
     (record { len = c.told-key; small = c.fits-key }) (record { len = c.told-iv; small = c.fits-iv })
     (record { len = refl; small = h.small }) (ap (λ n. n % 16) h.len ∙ c.requires)

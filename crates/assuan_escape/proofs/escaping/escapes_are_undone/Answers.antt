@@ -1,5 +1,5 @@
-use Rattle.assuan_escape.proofs.EscapeLemmas.{percent_decode-escapes}
+use Rattle.assuan_escape.proofs.EscapeLemmas.{percent_decode_escapes}
 use Rattle.assuan_escape.proofs.escaping.escapes_are_undone.Goals as goal
 
 pub returns : goal.returns
-returns c = λ bytes small. percent_decode-escapes bytes small
+returns c = λ bytes small. percent_decode_escapes bytes small

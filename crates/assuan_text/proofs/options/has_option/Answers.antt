@@ -1,7 +1,7 @@
 use Rattle.std.proofs.Common.{◌||◌, sym, ap, ◌∙◌}
 use Rattle.assuan_text.specs.Words.{words}
 use Rattle.assuan_text.specs.Options.{has_option, options_of}
-use Rattle.assuan_text.proofs.OptionLemmas.{options-step}
+use Rattle.assuan_text.proofs.OptionLemmas.{options_step}
 use Rattle.assuan_text.proofs.options.has_option.Goals as goal
 
 pub loop-option-preserved : goal.loop-option-preserved
@@ -9,6 +9,6 @@ loop-option-preserved c =
     let name = c.args.name.now in
     let more = words c.in-Some.after.now in
     let is = c.in-Some.ensures.words in
-    sym (ap (has_option name) (options-step _ more _ is.0 is.1)
+    sym (ap (has_option name) (options_step _ more _ is.0 is.1)
     ∙ ap (λ b. b || has_option name (options_of more)) (sym c.eq.ensures ∙ c.if-eq.false))
     ∙ c.loop-option.invariant

@@ -2,7 +2,7 @@ use Rattle.std.proofs.Common.{◌≡◌, ◌∷◌, Bool, true, false, cond, fin
 use Rattle.std.specs.Option.{option_map, option_or}
 use Rattle.assuan_text.specs.Words.{words}
 use Rattle.assuan_text.specs.Options.{names_option, options_of}
-use Rattle.assuan_text.proofs.OptionLemmas.{options-step, find-reverse-cons}
+use Rattle.assuan_text.proofs.OptionLemmas.{options_step, find_reverse_cons}
 use Rattle.assuan_text.proofs.options.last_option.Goals as goal
 
 -- the last option of this name among these, or else the one before them
@@ -19,19 +19,19 @@ step : (name option : List ℕ) (before : Option (List ℕ)) (words more : List 
 step name option before words more named is e =
     or_one (find (names_option name) (reverse (options_of more))) named option before
     ∙ sym (ap (last name before) is
-    ∙ ap (λ o. option_or o before) (find-reverse-cons (names_option name) option (options_of more))
+    ∙ ap (λ o. option_or o before) (find_reverse_cons (names_option name) option (options_of more))
     ∙ ap (λ b. option_or (option_or (find (names_option name) (reverse (options_of more))) (cond b (Some option) None)) before) e)
 
 pub loop-option-preserved : goal.loop-option-preserved
 loop-option-preserved c =
     let is = c.in-Some.ensures.words in
     step c.args.name.now c.in-Some.option.now (option_map (λ option. option.now) c.loop-option.latest) (words c.loop-option.rest.now) (words c.in-Some.after.now) _
-    (options-step _ (words c.in-Some.after.now) _ is.0 is.1) (sym c.names_option.ensures ∙ c.if-names_option.false)
+    (options_step _ (words c.in-Some.after.now) _ is.0 is.1) (sym c.names_option.ensures ∙ c.if-names_option.false)
     ∙ c.loop-option.invariant
 
 pub loop-option-preserved-then-names_option : goal.loop-option-preserved-then-names_option
 loop-option-preserved-then-names_option c =
     let is = c.in-Some.ensures.words in
     step c.args.name.now c.in-Some.option.now (option_map (λ option. option.now) c.loop-option.latest) (words c.loop-option.rest.now) (words c.in-Some.after.now) _
-    (options-step _ (words c.in-Some.after.now) _ is.0 is.1) (sym c.names_option.ensures ∙ c.if-names_option.true)
+    (options_step _ (words c.in-Some.after.now) _ is.0 is.1) (sym c.names_option.ensures ∙ c.if-names_option.true)
     ∙ c.loop-option.invariant

@@ -2,7 +2,7 @@ use Rattle.std.proofs.Common.{◌≡◌, ◌+◌, ◌∷◌, Bool, true, false, 
 use Rattle.std.specs.Option.{option_map, option_or}
 use Rattle.assuan_text.specs.Words.{words}
 use Rattle.assuan_text.specs.Options.{gives_value, last_value, options_of}
-use Rattle.assuan_text.proofs.OptionLemmas.{options-step, find-reverse-cons}
+use Rattle.assuan_text.proofs.OptionLemmas.{options_step, find_reverse_cons}
 use Rattle.assuan_text.proofs.options.last_value.Goals as goal
 
 -- what the last option of this name says, or else what one before them did
@@ -21,7 +21,7 @@ step name option before words more gives is e =
     let value = drop {A = ℕ} (length name + 1) in
     or_one value (find (gives_value name) (reverse (options_of more))) gives option before
     ∙ sym (ap (last name before) is
-    ∙ ap (λ o. option_or (option_map value o) before) (find-reverse-cons (gives_value name) option (options_of more))
+    ∙ ap (λ o. option_or (option_map value o) before) (find_reverse_cons (gives_value name) option (options_of more))
     ∙ ap (λ b. option_or (option_map value (option_or (find (gives_value name) (reverse (options_of more))) (cond b (Some option) None))) before) e)
 
 pub loop-option-preserved-in-Some-value_in : goal.loop-option-preserved-in-Some-value_in
@@ -30,12 +30,12 @@ loop-option-preserved-in-Some-value_in c =
     let gives = c.in-Some-value_in.ensures in
     ap (λ (v : List ℕ). last c.args.name.now (Some v) (options_of (words c.in-Some.after.now))) gives.1
     ∙ step c.args.name.now c.in-Some.option.now (option_map (λ value. value.now) c.loop-option.latest) (words c.loop-option.rest.now) (words c.in-Some.after.now) true
-    (options-step _ (words c.in-Some.after.now) _ is.0 is.1) gives.0
+    (options_step _ (words c.in-Some.after.now) _ is.0 is.1) gives.0
     ∙ c.loop-option.invariant
 
 pub loop-option-preserved : goal.loop-option-preserved
 loop-option-preserved c =
     let is = c.in-Some.ensures.words in
     step c.args.name.now c.in-Some.option.now (option_map (λ value. value.now) c.loop-option.latest) (words c.loop-option.rest.now) (words c.in-Some.after.now) false
-    (options-step _ (words c.in-Some.after.now) _ is.0 is.1) c.in_default-value_in.ensures
+    (options_step _ (words c.in-Some.after.now) _ is.0 is.1) c.in_default-value_in.ensures
     ∙ c.loop-option.invariant

@@ -7,25 +7,25 @@ use Rattle.cache_policy.specs.declared.entry.Entry.{Entry}
 use Rattle.cache_policy.specs.Histories.{History}
 use Rattle.cache_policy.specs.Entries.{stored}
 use Rattle.cache_policy.specs.Live.{takes_away, gives}
-use Rattle.cache_book.proofs.Marking.{slots-later, slots-same, slots-flushed, slots-cleared}
-use Rattle.cache_book.proofs.Storing.{slots-given, slots-stored}
+use Rattle.cache_book.proofs.Marking.{slots_later, slots_same, slots_flushed, slots_cleared}
+use Rattle.cache_book.proofs.Storing.{slots_given, slots_stored}
 use Rattle.cache_book.proofs.Live.{grant_is_live, none_live, live_is_live}
 use Rattle.cache_book.proofs.laws.slots_of_a_history.Goals as goal
 
 pub returns-clause-later : goal.returns-clause-later
-returns-clause-later c = λ limits history now later h. slots-later limits history now later h
+returns-clause-later c = λ limits history now later h. slots_later limits history now later h
 
 pub returns-clause-same : goal.returns-clause-same
-returns-clause-same c = λ limits history mark moment none keeps unused. slots-same limits history mark moment none keeps unused
+returns-clause-same c = λ limits history mark moment none keeps unused. slots_same limits history mark moment none keeps unused
 
 pub returns-clause-cleared : goal.returns-clause-cleared
 returns-clause-cleared c = λ limits history mark moment id mode is done.
-    slots-cleared limits history mark moment id mode (ap (λ (s : MarkStep). stored limits history s mark.moment) is)
+    slots_cleared limits history mark moment id mode (ap (λ (s : MarkStep). stored limits history s mark.moment) is)
     (λ entry. ap (takes_away entry) is) (λ number. ap (gives number) done)
 
 pub returns-clause-flushed : goal.returns-clause-flushed
 returns-clause-flushed c = λ limits history mark moment is.
-    slots-flushed limits history mark moment (ap (λ (s : MarkStep). stored limits history s mark.moment) is) (λ entry. ap (takes_away entry) is)
+    slots_flushed limits history mark moment (ap (λ (s : MarkStep). stored limits history s mark.moment) is) (λ entry. ap (takes_away entry) is)
 
 pub returns-clause-found : goal.returns-clause-found
 returns-clause-found c = λ limits history id mode moment grant from. (grant_is_live limits history id mode moment grant from).live_is
@@ -35,7 +35,7 @@ returns-clause-none c = λ limits history id mode moment none. none_live limits 
 
 pub returns-clause-given : goal.returns-clause-given
 returns-clause-given c = λ limits history mark id mode way since entry is lives given.
-    slots-given limits history mark entry.number (ap (λ (s : MarkStep). stored limits history s mark.moment) is)
+    slots_given limits history mark entry.number (ap (λ (s : MarkStep). stored limits history s mark.moment) is)
     (λ other. ap (takes_away other) is) (λ number. ap (gives number) given)
     (λ other known same. live_is_live limits history id mode mark.moment entry other lives known same)
 
@@ -53,7 +53,7 @@ keeps limits history Stop moment entry other is = refl
 
 pub returns-clause-stored : goal.returns-clause-stored
 returns-clause-stored c = λ limits history mark entry legal is number entered done.
-    slots-stored limits history mark entry (record {
+    slots_stored limits history mark entry (record {
       legal = legal;
       stored_is = is;
       number = number;

@@ -7,13 +7,13 @@ use Rattle.cache_book.specs.Shelves.{hidden, new_slot}
 use Rattle.cache_book.specs.SlotOrders.{is_upto, by_number, AreById, AreKept}
 use Rattle.cache_book.specs.Deadlines.{place_of, is_place, is_among}
 use Rattle.cache_book.proofs.Arranging.{all_insert, all_take_within, all_drop_within}
-use Rattle.cache_book.proofs.Ordered.{kept-hidden, kept-stored, by_number-stored, by_number-hidden, below-hidden}
+use Rattle.cache_book.proofs.Ordered.{kept_hidden, kept_stored, by_number_stored, by_number_hidden, below_hidden}
 use Rattle.cache_book.proofs.Holding.{held_or, held_new, held_hidden}
 use Rattle.cache_book.proofs.slot_shelf.store_in.Goals as goal
 
 pub end_of-end-requires : goal.end_of-end-requires
 end_of-end-requires c =
-    subst AreById (sym (c.as_slice.ensures.value ∙ c.hide_in.ensures.items)) (kept-hidden c.args.entry c.args.slots.now.items c.requires.kept).by_id
+    subst AreById (sym (c.as_slice.ensures.value ∙ c.hide_in.ensures.items)) (kept_hidden c.args.entry c.args.slots.now.items c.requires.kept).by_id
 
 -- the slots behind the insertion
 stored : (entry : Entry) (list left after : List Slot) (end : ℕ) (slot : Slot) → after ≡ insert left end slot → left ≡ hidden entry list → slot ≡ new_slot entry
@@ -39,8 +39,8 @@ inserted c = stored c.args.entry c.args.slots.now.items _ _ c.end_of-end.result 
 pub returns-clause-kept : goal.returns-clause-kept
 returns-clause-kept c =
     subst AreKept (sym (inserted c))
-    (kept-stored c.args.entry c.end_of-end.result (hidden c.args.entry c.args.slots.now.items) (below-hidden c.args.entry c.args.entry.number c.args.slots.now.items c.requires.newest)
-    (kept-hidden c.args.entry c.args.slots.now.items c.requires.kept)
+    (kept_stored c.args.entry c.end_of-end.result (hidden c.args.entry c.args.slots.now.items) (below_hidden c.args.entry c.args.entry.number c.args.slots.now.items c.requires.newest)
+    (kept_hidden c.args.entry c.args.slots.now.items c.requires.kept)
     (subst (λ (list : List Slot). AllByRecursion (λ slot. is_upto c.args.entry.id slot ≡ true) (take c.end_of-end.result list)) (slots_are c)
     (all_take_within _ c.end_of-end.result c.as_slice.result.now c.end_of-end.ensures.within c.end_of-end.ensures.parts.0))
     (subst (λ (list : List Slot). AllByRecursion (λ slot. is_upto c.args.entry.id slot ≡ false) (drop c.end_of-end.result list)) (slots_are c)
@@ -49,5 +49,5 @@ returns-clause-kept c =
 pub returns-clause-items : goal.returns-clause-items
 returns-clause-items c =
     ap by_number (inserted c)
-    ∙ (by_number-stored c.args.entry c.end_of-end.result (hidden c.args.entry c.args.slots.now.items) (below-hidden c.args.entry c.args.entry.number c.args.slots.now.items c.requires.newest)
-    ∙ ap (λ (list : List Slot). list ++ new_slot c.args.entry ∷ []) (by_number-hidden c.args.entry c.args.slots.now.items))
+    ∙ (by_number_stored c.args.entry c.end_of-end.result (hidden c.args.entry c.args.slots.now.items) (below_hidden c.args.entry c.args.entry.number c.args.slots.now.items c.requires.newest)
+    ∙ ap (λ (list : List Slot). list ++ new_slot c.args.entry ∷ []) (by_number_hidden c.args.entry c.args.slots.now.items))

@@ -2,14 +2,14 @@ use Rattle.std.specs.Prelude.{refl}
 use Rattle.std.proofs.Common.{rules}
 use Rattle.cache_book.specs.SlotOrders.{swept_hash}
 use Rattle.cache_book.proofs.Slotwise.{filter_slotwise}
-use Rattle.cache_book.proofs.Stretch.{done-none, done-all}
-use Rattle.cache_book.proofs.Searching.{behind_hash, before_hash, swept_hash-apart}
+use Rattle.cache_book.proofs.Stretch.{done_none, done_all}
+use Rattle.cache_book.proofs.Searching.{behind_hash, before_hash, swept_hash_apart}
 use Rattle.cache_book.proofs.slot_shelf.sweep_hash.Goals as goal
 
 pub loop-i-init : goal.loop-i-init
 loop-i-init c = record {
-  done = done-none (swept_hash c.args.hash c.args.now) (filter_slotwise _) c.before_higher_hashes-i.result c.args.slots.now.items c.args.slots.now.items (search rules)
-      (swept_hash-apart c.args.hash c.args.now _
+  done = done_none (swept_hash c.args.hash c.args.now) (filter_slotwise _) c.before_higher_hashes-i.result c.args.slots.now.items c.args.slots.now.items (search rules)
+      (swept_hash_apart c.args.hash c.args.now _
       (behind_hash c.args.hash c.as_slice-2.result.now c.args.slots.now.items c.before_higher_hashes-i.result c.as_slice-2.ensures.value c.before_higher_hashes-i.ensures.parts));
   len = search rules;
   capacity = refl;
@@ -17,7 +17,7 @@ loop-i-init c = record {
 
 pub returns-clause-items : goal.returns-clause-items
 returns-clause-items c =
-    done-all (swept_hash c.args.hash c.args.now) (filter_slotwise _) c.loop-i.i c.args.slots.now.items c.loop-i.slots.items c.loop-i.invariant.done
-    (swept_hash-apart c.args.hash c.args.now _
+    done_all (swept_hash c.args.hash c.args.now) (filter_slotwise _) c.loop-i.i c.args.slots.now.items c.loop-i.slots.items c.loop-i.invariant.done
+    (swept_hash_apart c.args.hash c.args.now _
     (before_hash c.args.hash c.as_slice.result.now c.args.slots.now.items c.behind_lower_hashes-start.result c.loop-i.i c.as_slice.ensures.value
     c.behind_lower_hashes-start.ensures.within c.loop-i-test.false c.behind_lower_hashes-start.ensures.parts))

@@ -3,12 +3,12 @@ use Rattle.std.proofs.Common.{sym, subst}
 use Rattle.std.specs.List.{AllByRecursion}
 use Rattle.cache_book.specs.Deadlines.{place_of, is_place, is_among}
 use Rattle.cache_book.proofs.Holding.{held_set}
-use Rattle.cache_book.proofs.Searching.{touched-none, touched_at}
+use Rattle.cache_book.proofs.Searching.{touched_none, touched_at}
 use Rattle.cache_book.proofs.slot_shelf.touch_in.Goals as goal
 
 pub returns-in_default-clause-items : goal.returns-in_default-clause-items
 returns-in_default-clause-items c =
-    sym (touched-none c.args.number c.args.now c.args.slots.now.items
+    sym (touched_none c.args.number c.args.now c.args.slots.now.items
     (subst (AllByRecursion (λ slot. (c.args.number == slot.entry.number) ≡ false)) c.as_slice.ensures.value c.in_default.ensures.none))
 
 pub returns-in-Some-touch-clause-items : goal.returns-in-Some-touch-clause-items

@@ -3,12 +3,12 @@ use Rattle.std.specs.Prelude.{nat_lt, ◌&&◌}
 use Rattle.std.specs.List.{position_or_len}
 use Rattle.std.proofs.lemmas.Bool.Decides.{nat_tests}
 use Rattle.key_lines.specs.Items.{is_colon, is_name, begins_item, name_in}
-use Rattle.key_lines.proofs.LineLemmas.{any-before_end}
+use Rattle.key_lines.proofs.LineLemmas.{any_before_end}
 use Rattle.key_lines.proofs.forms.name_in.Goals as goal
 
 -- whether there is a colon, and whether what stands before it is a name
 both : (text : List ℕ) (colon named : Bool) → nat_lt (position_or_len is_colon text) (length text) ≡ colon → is_name (name_in text) ≡ named → begins_item text ≡ (colon && named)
-both text colon named e f = ap (λ b. b && is_name (name_in text)) (any-before_end is_colon text ∙ e) ∙ ap (λ b. colon && b) f
+both text colon named e f = ap (λ b. b && is_name (name_in text)) (any_before_end is_colon text ∙ e) ∙ ap (λ b. colon && b) f
 
 name : (text front : List ℕ) (place : ℕ) → front ≡ take place text → place ≡ position_or_len is_colon text → front ≡ name_in text
 name text front place e f = e ∙ ap (λ n. take n text) f

@@ -5,7 +5,7 @@ use Rattle.std.proofs.lemmas.List.Folds.{concat-append, list_any-append}
 use Rattle.key_lines.specs.Lines.{lines_of}
 use Rattle.key_lines.specs.Items.{is_key}
 use Rattle.key_lines.specs.KeyItem.{is_key_line, has_key, before_key, from_key}
-use Rattle.key_lines.proofs.KeyLemmas.{place-behind, take-front, drop-front, take-bytes}
+use Rattle.key_lines.proofs.KeyLemmas.{place_behind, take_front, drop_front, take_bytes}
 use Rattle.key_lines.proofs.item.cut_at_key.Goals as goal
 
 -- what stands before the Key item, and what begins with it, where none of the lines before begins one
@@ -19,13 +19,13 @@ cut : (file rest line after : List ℕ) (passed : List (List ℕ)) → lines_of 
 cut file rest line after passed lines bytes none first key =
     let all : lines_of file ≡ passed ++ line ∷ lines_of after = lines ∙ ap (λ (ls : List (List ℕ)). passed ++ ls) first in
     let place : position_or_len is_key_line (lines_of file) ≡ length passed =
-    ap (λ (ls : List (List ℕ)). position_or_len is_key_line ls) all ∙ place-behind is_key_line passed (lines_of after) line none key in
+    ap (λ (ls : List (List ℕ)). position_or_len is_key_line ls) all ∙ place_behind is_key_line passed (lines_of after) line none key in
     record {
       has = ap (λ (ls : List (List ℕ)). list_any is_key_line ls) all ∙ list_any-append is_key_line passed (line ∷ lines_of after)
           ∙ ap (λ b. b || list_any is_key_line (line ∷ lines_of after)) none ∙ ap (λ b. b || list_any is_key_line (lines_of after)) key;
-      before-is = take-bytes file (concat passed) rest bytes
-          ∙ sym (ap (λ n. concat (take n (lines_of file))) place ∙ ap (λ (ls : List (List ℕ)). concat (take (length passed) ls)) lines ∙ ap concat (take-front passed (lines_of rest)));
-      rest-is = sym (ap (λ n. drop n (lines_of file)) place ∙ ap (λ (ls : List (List ℕ)). drop (length passed) ls) lines ∙ drop-front passed (lines_of rest));
+      before-is = take_bytes file (concat passed) rest bytes
+          ∙ sym (ap (λ n. concat (take n (lines_of file))) place ∙ ap (λ (ls : List (List ℕ)). concat (take (length passed) ls)) lines ∙ ap concat (take_front passed (lines_of rest)));
+      rest-is = sym (ap (λ n. drop n (lines_of file)) place ∙ ap (λ (ls : List (List ℕ)). drop (length passed) ls) lines ∙ drop_front passed (lines_of rest));
     }
 
 pub returns-then-is_key : goal.returns-then-is_key

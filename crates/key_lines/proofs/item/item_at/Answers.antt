@@ -3,8 +3,8 @@ use Rattle.std.specs.List.{concat, prefix_len, take_while}
 use Rattle.key_lines.specs.Lines.{lines_of, line_text}
 use Rattle.key_lines.specs.Items.{goes_on, value_in}
 use Rattle.key_lines.specs.KeyItem.{is_more, value_of, after_item}
-use Rattle.key_lines.proofs.LineLemmas.{concat-lines}
-use Rattle.key_lines.proofs.KeyLemmas.{joined, join-is, more-step, rest-step, more-stops, add-line}
+use Rattle.key_lines.proofs.LineLemmas.{concat_lines}
+use Rattle.key_lines.proofs.KeyLemmas.{joined, join_is, more_step, rest_step, more_stops, add_line}
 use Rattle.key_lines.proofs.item.item_at.Goals as goal
 
 pub loop-line-init : goal.loop-line-init
@@ -16,7 +16,7 @@ loop-line-init c =
     let added : c.extend_from_slice.new.self ≡ c.value_in.result.now = c.in_ok-extend_from_slice.ensures.ok ∙ ap (λ (t : List ℕ). t ++ c.value_in.result.now) c.new-value.ensures in
     let value : c.extend_from_slice.new.self ≡ value_in (line_text line) = added ∙ c.value_in.ensures ∙ ap value_in c.line_text.ensures in
     record {
-      value = ap (λ (t : List ℕ). t ++ joined more) value ∙ sym (ap value_of is ∙ join-is (value_in (line_text line)) more);
+      value = ap (λ (t : List ℕ). t ++ joined more) value ∙ sym (ap value_of is ∙ join_is (value_in (line_text line)) more);
       after = sym (ap (λ (ls : List (List ℕ)). concat (after_item ls)) is);
     }
 
@@ -26,8 +26,8 @@ returns-then-not-goes_on-clause-after c =
     let line = c.in-Some-next_line.line.now in
     let lines = lines_of c.in-Some-next_line.after.now in
     let other : is_more line ≡ false = sym (c.goes_on.ensures ∙ ap goes_on c.line_form.ensures) ∙ c.if-not-goes_on.true in
-    let none : prefix_len is_more (lines_of rest) ≡ 0 = ap (prefix_len is_more) c.in-Some-next_line.ensures.lines ∙ more-stops line lines other in
-    sym (ap (λ n. concat (drop n (lines_of rest))) none ∙ concat-lines rest) ∙ c.loop-line.invariant.after
+    let none : prefix_len is_more (lines_of rest) ≡ 0 = ap (prefix_len is_more) c.in-Some-next_line.ensures.lines ∙ more_stops line lines other in
+    sym (ap (λ n. concat (drop n (lines_of rest))) none ∙ concat_lines rest) ∙ c.loop-line.invariant.after
 
 pub loop-line-preserved : goal.loop-line-preserved
 loop-line-preserved c =
@@ -42,11 +42,11 @@ loop-line-preserved c =
     let new = c.extend_from_slice-in-Some-next_line-2.new.self in
     let added : new ≡ (c.loop-line.value ++ 32 ∷ []) ++ text =
     c.in_ok-extend_from_slice-3.ensures.ok ∙ ap (λ (t : List ℕ). t ++ text) c.in_ok-extend_from_slice-2.ensures.ok in
-    let lines : take_while is_more (lines_of rest) ≡ line ∷ more = ap (take_while is_more) is ∙ more-step line (lines_of after) goes in
+    let lines : take_while is_more (lines_of rest) ≡ line ∷ more = ap (take_while is_more) is ∙ more_step line (lines_of after) goes in
     record {
       value = ap (λ (t : List ℕ). t ++ joined more) added
-          ∙ add-line c.loop-line.value text line more c.line_text-in-Some-next_line.ensures
+          ∙ add_line c.loop-line.value text line more c.line_text-in-Some-next_line.ensures
           ∙ sym (ap (λ (ls : List (List ℕ)). c.loop-line.value ++ joined ls) lines)
           ∙ i.value;
-      after = sym (ap (λ (ls : List (List ℕ)). concat (drop (prefix_len is_more ls) ls)) is ∙ ap concat (rest-step line (lines_of after) goes)) ∙ i.after;
+      after = sym (ap (λ (ls : List (List ℕ)). concat (drop (prefix_len is_more ls) ls)) is ∙ ap concat (rest_step line (lines_of after) goes)) ∙ i.after;
     }

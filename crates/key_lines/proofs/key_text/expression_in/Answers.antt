@@ -5,7 +5,7 @@ use Rattle.std.proofs.lemmas.Bool.Decides.{nat_tests}
 use Rattle.std.proofs.lemmas.List.{take_rest}
 use Rattle.assuan_text.specs.Blanks.{is_blank}
 use Rattle.sexp_advanced.specs.declared.fault.AdvFault.TheVariants.{BadByte}
-use Rattle.key_lines.proofs.LineLemmas.{all-within}
+use Rattle.key_lines.proofs.LineLemmas.{all_within}
 use Rattle.key_lines.proofs.key_text.expression_in.Goals as goal
 
 -- the test of the places, for what stands behind the expression
@@ -13,13 +13,13 @@ test_false : (behind rest : List ℕ) (blanks : ℕ) → behind ≡ rest → bla
 test_false behind rest blanks same is less =
     let place = prefix_len is_blank behind in
     let fails : nat_le (length behind) place ≡ false = grind (arith, nat_tests, less, is) in
-    ap (list_all is_blank) (sym same) ∙ all-within is_blank behind ∙ fails
+    ap (list_all is_blank) (sym same) ∙ all_within is_blank behind ∙ fails
 
 test_true : (behind rest : List ℕ) (blanks : ℕ) → behind ≡ rest → blanks ≡ prefix_len is_blank behind → length behind ≤ blanks → list_all is_blank rest ≡ true
 test_true behind rest blanks same is all =
     let place = prefix_len is_blank behind in
     let passes : nat_le (length behind) place ≡ true = grind (arith, nat_tests, all, is) in
-    ap (list_all is_blank) (sym same) ∙ all-within is_blank behind ∙ passes
+    ap (list_all is_blank) (sym same) ∙ all_within is_blank behind ∙ passes
 
 pub returns-then-blanks-behind-clause-fault : goal.returns-then-blanks-behind-clause-fault
 returns-then-blanks-behind-clause-fault c =

@@ -1,5 +1,5 @@
 use Rattle.key_lines.specs.KeyItem.{key_value}
-use Rattle.key_lines.proofs.NoMemory.{no-memory}
+use Rattle.key_lines.proofs.NoMemory.{no_memory}
 use Rattle.key_lines.proofs.OneAnswer as answers
 use Rattle.key_lines.proofs.laws.one_answer.Goals as goal
 
@@ -10,4 +10,4 @@ pub returns-clause-canon : goal.returns-clause-canon
 returns-clause-canon c = answers.one_canon c.one_answer.ensures
 
 pub returns-clause-memory : goal.returns-clause-memory
-returns-clause-memory c file = (λ h. h, λ h. no-memory (key_value file) h.1)
+returns-clause-memory c file = (λ h. h, λ h. no_memory (key_value file) h.1)

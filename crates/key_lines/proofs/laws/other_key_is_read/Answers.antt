@@ -2,7 +2,7 @@ use Rattle.std.proofs.Common.{◌++◌, [], ℕ, List, length, Ok, subst, append
 use Rattle.sexp_canonical.specs.declared.tree.Sexp.{Sexp}
 use Rattle.sexp_advanced.specs.Reading.{ReadsAdvanced}
 use Rattle.sexp_advanced.specs.Writing.{advanced_of}
-use Rattle.key_lines.proofs.Replaced.{IsReadAgain, replaced, replaced-canon}
+use Rattle.key_lines.proofs.Replaced.{IsReadAgain, replaced, replaced_canon}
 use Rattle.key_lines.proofs.laws.other_key_is_read.Goals as goal
 
 -- what is written is read again, with nothing behind it
@@ -15,4 +15,4 @@ returns-clause-key c file key tree has octets shallow short =
 
 pub returns-clause-canon : goal.returns-clause-canon
 returns-clause-canon c file key tree extended has octets shallow short =
-    replaced-canon file key tree extended has (again tree (c.written_is_read.ensures tree [] [] refl octets shallow tt)) short
+    replaced_canon file key tree extended has (again tree (c.written_is_read.ensures tree [] [] refl octets shallow tt)) short

@@ -1,11 +1,11 @@
 use Rattle.std.proofs.Common.{◌||◌, [], ◌∷◌, ◌++◌, refl, sym, ap, append-nil}
 use Rattle.std.specs.Prelude.{◌==◌}
-use Rattle.session_options.proofs.Spelling.{applied_parts, marked, marked_ends, unmarked, without_dashes-plain, first_byte}
+use Rattle.session_options.proofs.Spelling.{applied_parts, marked, marked_ends, unmarked, without_dashes_plain, first_byte}
 use Rattle.session_options.proofs.options.spelling_is_plain.Goals as goal
 
 pub returns-clause-bare : goal.returns-clause-bare
 returns-clause-bare c = λ old name before after value whole first blank blanks plain.
-    applied_parts old _ name (before ++ (61 ∷ (after ++ value))) value (without_dashes-plain _ (first_byte name before (after ++ value) first blank)) whole
+    applied_parts old _ name (before ++ (61 ∷ (after ++ value))) value (without_dashes_plain _ (first_byte name before (after ++ value) first blank)) whole
     (marked_ends before (after ++ value) blank) (marked before after value blank blanks plain)
 
 pub returns-clause-dashed : goal.returns-clause-dashed

@@ -1,7 +1,7 @@
 use Rattle.std.proofs.Common.{refl, arith, ap, sym, ◌∙◌}
 use Rattle.std.proofs.lemmas.List.{nil_from_length}
 use Rattle.sexp_canonical.specs.declared.tree.Sexp.TheVariants.{Atom, List as Listed}
-use Rattle.sexp_canonical.proofs.Copied.{nothing_left, list_ended, list_ended-steps, atom_copied, atom_copied-steps, list_begun, list_begun-steps}
+use Rattle.sexp_canonical.proofs.Copied.{nothing_left, list_ended, list_ended_steps, atom_copied, atom_copied_steps, list_begun, list_begun_steps}
 use Rattle.sexp_canonical.proofs.copying.copy_of_list.Goals as goal
 
 pub loop-item-init : goal.loop-item-init
@@ -15,7 +15,7 @@ returns-in_default-pop c =
     (nil_from_length c.loop-item.outer.items (omega arith)) (nil_from_length c.loop-item.left.now c.in_default.ensures.cases) c.list-tree.ensures
 
 pub loop-item-smaller-in_default : goal.loop-item-smaller-in_default
-loop-item-smaller-in_default c = list_ended-steps c.loop-item.outer.items c.pop.new.self.items c.in-Some-pop.around c.loop-item.left.now c.in-Some-pop.ensures.items
+loop-item-smaller-in_default c = list_ended_steps c.loop-item.outer.items c.pop.new.self.items c.in-Some-pop.around c.loop-item.left.now c.in-Some-pop.ensures.items
 
 pub loop-item-preserved-in_default : goal.loop-item-preserved-in_default
 loop-item-preserved-in_default c =
@@ -24,7 +24,7 @@ loop-item-preserved-in_default c =
 
 pub loop-item-smaller-in_ok-push-in-Atom : goal.loop-item-smaller-in_ok-push-in-Atom
 loop-item-smaller-in_ok-push-in-Atom c =
-    atom_copied-steps c.loop-item.left.now c.in-Some.others.now c.in-Some.item.now c.in-Atom.bytes c.loop-item.outer.items c.in-Some.ensures.cases.0 c.in-Atom.is
+    atom_copied_steps c.loop-item.left.now c.in-Some.others.now c.in-Some.item.now c.in-Atom.bytes c.loop-item.outer.items c.in-Some.ensures.cases.0 c.in-Atom.is
 
 pub loop-item-preserved-in_ok-push-in-Atom : goal.loop-item-preserved-in_ok-push-in-Atom
 loop-item-preserved-in_ok-push-in-Atom c =
@@ -33,7 +33,7 @@ loop-item-preserved-in_ok-push-in-Atom c =
 
 pub loop-item-smaller : goal.loop-item-smaller
 loop-item-smaller c =
-    list_begun-steps c.loop-item.outer.items c.push-in-List.new.self.items (record { copied = c.loop-item.copied; left = c.in-Some.others }) c.loop-item.left.now c.in-Some.others.now c.as_slice-left.result.now c.in-Some.item.now
+    list_begun_steps c.loop-item.outer.items c.push-in-List.new.self.items (record { copied = c.loop-item.copied; left = c.in-Some.others }) c.loop-item.left.now c.in-Some.others.now c.as_slice-left.result.now c.in-Some.item.now
     c.in-Some.ensures.cases.0 (c.in-List.is ∙ ap Listed (sym c.as_slice-left.ensures)) refl c.in_ok-push-in-List.ensures.items
 
 pub loop-item-preserved : goal.loop-item-preserved

@@ -1,9 +1,9 @@
 use Rattle.std.proofs.Common.{arith}
-use Rattle.sexp_canonical.proofs.Steps.{IsNumeralUpTo-first, IsNumeralUpTo-more, bad_length, bad_byte_low, bad_byte_high, cut_short}
+use Rattle.sexp_canonical.proofs.Steps.{IsNumeralUpTo_first, IsNumeralUpTo_more, bad_length, bad_byte_low, bad_byte_high, cut_short}
 use Rattle.sexp_canonical.proofs.reading.length_at.Goals as goal
 
 pub loop-end-init : goal.loop-end-init
-loop-end-init c = rw c.from-count.ensures (IsNumeralUpTo-first c.args.text.now c.args.place c.requires)
+loop-end-init c = rw c.from-count.ensures (IsNumeralUpTo_first c.args.text.now c.args.place c.requires)
 
 pub returns-in_default-clause-fault : goal.returns-in_default-clause-fault
 returns-in_default-clause-fault c = bad_byte_low c.args.text.now c.args.place c.loop-end.end c.loop-end.count c.loop-end.invariant c.loop-end-test.true (omega arith)
@@ -19,4 +19,4 @@ returns-in_default-with_digit-clause-fault c = bad_length c.args.text.now c.args
 
 pub loop-end-preserved : goal.loop-end-preserved
 loop-end-preserved c =
-    IsNumeralUpTo-more c.args.text.now c.args.place c.loop-end.end c.loop-end.count c.in-Some.more c.loop-end.invariant c.loop-end-test.true (omega arith) (omega arith) c.in-Some.ensures.0 c.in-Some.ensures.1 c.in-Some.ensures.2
+    IsNumeralUpTo_more c.args.text.now c.args.place c.loop-end.end c.loop-end.count c.in-Some.more c.loop-end.invariant c.loop-end-test.true (omega arith) (omega arith) c.in-Some.ensures.0 c.in-Some.ensures.1 c.in-Some.ensures.2

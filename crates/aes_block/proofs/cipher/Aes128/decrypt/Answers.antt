@@ -2,7 +2,7 @@ use Rattle.std.proofs.Common.{◌≡◌, ◌+◌, ◌-◌, ℕ, List, length, ap
 use Rattle.aes_block.specs.Columns.{bytes_of}
 use Rattle.aes_block.specs.Aes.{IsBytes, xor_of, decrypted}
 use Rattle.aes_block.proofs.Rounds.{key_at, unmixed_key_at, inv_rounds_less, decrypted_first, decrypted_last}
-use Rattle.aes_block.proofs.Undone.{decrypted-encrypted}
+use Rattle.aes_block.proofs.Undone.{decrypted_encrypted}
 use Rattle.aes_block.proofs.cipher.Aes128.decrypt.Goals as goal
 
 pub loop-round-init : goal.loop-round-init
@@ -29,4 +29,4 @@ pub returns-clause-undoes : goal.returns-clause-undoes
 returns-clause-undoes c plain h e =
     returns-clause-value c
     ∙ ap (decrypted c.args.self.now) e
-    ∙ decrypted-encrypted c.args.self.now plain (subst (λ (k : List ℕ). IsBytes 16 k) c.self.view_is c.self.invariant.0) h
+    ∙ decrypted_encrypted c.args.self.now plain (subst (λ (k : List ℕ). IsBytes 16 k) c.self.view_is c.self.invariant.0) h

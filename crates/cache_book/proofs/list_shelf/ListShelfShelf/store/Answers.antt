@@ -4,7 +4,7 @@ use Rattle.std.proofs.lemmas.Fn.{filter_same}
 use Rattle.cache_book.specs.declared.slot.Slot.{Slot}
 use Rattle.cache_book.specs.Modes.{has_some}
 use Rattle.cache_book.specs.Shelves.{AtShelf, hidden, with_entry, AreWithinMode}
-use Rattle.cache_book.proofs.Kept.{within-with_entry}
+use Rattle.cache_book.proofs.Kept.{within_with_entry}
 use Rattle.cache_book.proofs.list_shelf.ListShelfShelf.store.Goals as goal
 
 stored : (c : goal.After-push_reserved) → c.push_reserved.new.self.items ≡ with_entry c.args.entry c.self.inside.slots.items
@@ -15,7 +15,7 @@ stored c =
     ∙ ap (λ (slot : Slot). hidden c.args.entry c.self.inside.slots.items ++ slot ∷ []) c.of.ensures)
 
 pub invariant_of-self : goal.invariant_of-self
-invariant_of-self c = subst AreWithinMode (sym (stored c)) (within-with_entry c.args.entry c.self.inside.slots.items c.self.invariant)
+invariant_of-self c = subst AreWithinMode (sym (stored c)) (within_with_entry c.args.entry c.self.inside.slots.items c.self.invariant)
 
 pub returns-clause-slots : goal.returns-clause-slots
 returns-clause-slots c = stored c ∙ ap (λ (at : AtShelf). with_entry c.args.entry at.slots) c.self.view_is

@@ -1,12 +1,12 @@
 use Rattle.std.proofs.Common.{ap, sym, ◌∙◌, subst, rules}
 use Rattle.cache_book.specs.Shelves.{AtShelf, swept}
 use Rattle.cache_book.specs.SlotOrders.{by_number, AreKept}
-use Rattle.cache_book.proofs.Ordered.{kept-filter, by_number-filter}
+use Rattle.cache_book.proofs.Ordered.{kept_filter, by_number_filter}
 use Rattle.cache_book.proofs.slot_shelf.SlotShelfShelf.sweep.Goals as goal
 
 pub invariant_of-self : goal.invariant_of-self
 invariant_of-self c = record {
-  kept = subst AreKept (sym c.sweep_in.ensures.items) (kept-filter _ c.self.inside.slots.items c.self.invariant.kept);
+  kept = subst AreKept (sym c.sweep_in.ensures.items) (kept_filter _ c.self.inside.slots.items c.self.invariant.kept);
   places = c.sweep_in.ensures.held;
   room = search rules;
 }
@@ -14,4 +14,4 @@ invariant_of-self c = record {
 pub returns-clause-slots : goal.returns-clause-slots
 returns-clause-slots c =
     ap by_number c.sweep_in.ensures.items
-    ∙ (by_number-filter _ c.self.inside.slots.items ∙ ap (λ (at : AtShelf). swept c.args.now at.slots) c.self.view_is)
+    ∙ (by_number_filter _ c.self.inside.slots.items ∙ ap (λ (at : AtShelf). swept c.args.now at.slots) c.self.view_is)

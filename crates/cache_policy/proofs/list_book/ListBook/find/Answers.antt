@@ -4,24 +4,24 @@ use Rattle.std.specs.Option.{option_map}
 use Rattle.cache_policy.specs.declared.grant.Grant.{Grant}
 use Rattle.cache_policy.specs.declared.entry.Entry.{Entry}
 use Rattle.cache_policy.specs.Book.{found}
-use Rattle.cache_policy.proofs.Lists.{option_map-map}
-use Rattle.cache_policy.proofs.BookLemmas.{found-puts_alone, found-endless, endless_book_of-ask}
+use Rattle.cache_policy.proofs.Lists.{option_map_map}
+use Rattle.cache_policy.proofs.BookLemmas.{found_puts_alone, found_endless, endless_book_of_ask}
 use Rattle.cache_policy.proofs.list_book.ListBook.find.Goals as goal
 
 pub returns-clause-puts_alone : goal.returns-clause-puts_alone
 returns-clause-puts_alone c = λ limits history h.
     let e : option_map (λ (grant : Grant). grant.entry) c.grant_of.result
     ≡ found c.args.self.now.entries c.args.id.now c.args.mode c.args.moment = search rules in
-    e ∙ found-puts_alone limits history c.args.self.now c.args.id.now c.args.mode c.args.moment h
+    e ∙ found_puts_alone limits history c.args.self.now c.args.id.now c.args.mode c.args.moment h
 
 pub returns-clause-endless : goal.returns-clause-endless
 returns-clause-endless c = λ limits history h.
     let e : option_map (λ (grant : Grant). grant.entry) c.grant_of.result
     ≡ found c.args.self.now.entries c.args.id.now c.args.mode c.args.moment = search rules in
-    sym (option_map-map (λ (grant : Grant). grant.entry) (λ (entry : Entry). entry.secret) c.grant_of.result)
+    sym (option_map_map (λ (grant : Grant). grant.entry) (λ (entry : Entry). entry.secret) c.grant_of.result)
     ∙ (ap (option_map (λ (entry : Entry). entry.secret)) e
-    ∙ found-endless limits history c.args.self.now c.args.id.now c.args.mode c.args.moment h)
+    ∙ found_endless limits history c.args.self.now c.args.id.now c.args.mode c.args.moment h)
 
 pub returns-clause-asked : goal.returns-clause-asked
 returns-clause-asked c = λ limits history session way since reply h.
-    endless_book_of-ask limits history c.args.self.now session c.args.moment c.args.id.now c.args.mode way since reply h
+    endless_book_of_ask limits history c.args.self.now session c.args.moment c.args.id.now c.args.mode way since reply h

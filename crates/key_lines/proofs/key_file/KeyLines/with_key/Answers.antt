@@ -7,7 +7,7 @@ use Rattle.sexp_advanced.specs.Reading.{ReadsAdvanced}
 use Rattle.sexp_advanced.specs.Writing.{advanced_of}
 use Rattle.key_lines.specs.KeyFile.{KeyFile, IsKeyFile}
 use Rattle.key_lines.specs.Canon.{is_canonical, Canon}
-use Rattle.key_lines.proofs.Replaced.{IsReadAgain, replaced, replaced-canon}
+use Rattle.key_lines.proofs.Replaced.{IsReadAgain, replaced, replaced_canon}
 use Rattle.key_lines.proofs.key_file.KeyLines.with_key.Goals as goal
 
 -- the file with a text as the value of its key
@@ -29,7 +29,7 @@ canon_of : {V E : Type 0} (r : Result V E) (items : V → List ℕ) (key : KeyFi
     → Canon (items v) (Some (spelling_of tree)))
 canon_of (Ok v) items key tree text is same again = λ file extended has shallow short.
     subst (λ (f : List ℕ). Canon f (Some (spelling_of tree))) (sym (is ∙ ap (put key) same))
-    (replaced-canon file key tree extended has (again shallow) short)
+    (replaced_canon file key tree extended has (again shallow) short)
 canon_of (Err e) items key tree text is same again = is
 
 read_again : (tree : Sexp) (text : List ℕ) → text ≡ advanced_of tree → ReadsAdvanced text (Ok (tree, length text)) → IsReadAgain tree

@@ -1,5 +1,5 @@
-use Rattle.sexp_canonical.proofs.Trees.{items-listed}
+use Rattle.sexp_canonical.proofs.Trees.{items_listed}
 use Rattle.sexp_canonical.proofs.tree.Sexp.items.Goals as goal
 
 pub returns-in-List : goal.returns-in-List
-returns-in-List c = items-listed c.args.self.now c.in-List.items _ c.in-List.is c.as_slice.ensures
+returns-in-List c = items_listed c.args.self.now c.in-List.items _ c.in-List.is c.as_slice.ensures
