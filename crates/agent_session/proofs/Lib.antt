@@ -54,5 +54,6 @@ mod TurnCourses
 mod Uncaused
 mod WorkedExact
 mod WorkedExamples
+mod WorkedLink
 mod WorkedPassphrases
 mod WorkedRuns

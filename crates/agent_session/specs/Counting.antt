@@ -1,8 +1,9 @@
--- How many events of a session failed, on each of its further ends. This is the project's own.
+-- How many events of a session failed, on each of its further ends and at its link. This is the project's own.
 use Rattle.std.specs.List.{count_by}
 use Rattle.std.specs.Prelude.{Bool, true, false, List}
 use Rattle.agent_ask.specs.Events.{Called}
 use Rattle.agent_ask.specs.Further.{FurtherEnds, Read, Listed, Replaced, Removed, NotDrawn, Prompt, Keys, Dice, Trust}
+use Rattle.agent_ask.specs.LinkFaults.{fails_at_input, fails_at_output, CountsFailed}
 use Rattle.agent_ask.specs.Prompters.{AtPrompter, is_failed}
 use Rattle.agent_ask.specs.SessionEvents.{Further}
 use Rattle.agent_ask.specs.TrustCalls as trust_call
@@ -12,7 +13,11 @@ use Rattle.agent_ports.specs.declared.keys.KeyNames.TheVariants as key_names
 use Rattle.agent_ports.specs.declared.keys.KeyRead.TheVariants as key_read
 use Rattle.agent_ports.specs.declared.trust.TrustDone.TheVariants as trust_done
 use Rattle.agent_ports.specs.declared.trust.TrustRead.TheVariants as trust_read
+use Rattle.assuan_server.specs.Clients.{session_lines}
+use Rattle.agent_commands.specs.Events.{Event as EventIn}
+use Rattle.agent_commands.specs.Outside.{World}
 use Rattle.key_commands.specs.Events.{Event}
+use Rattle.agent_origin.specs.Sessions.{Surroundings}
 
 -- whether an event is a call that failed: of the prompter, of the keys, of the dice, or of the trust file
 abbrev pub fails_at_prompter : Event → Bool
@@ -41,3 +46,8 @@ pub record CountsFailures {P : Type 0} (at : P → AtPrompter) (events : List Ev
   pub keys : RoseBy (count_by fails_at_keys events) before.keys.faults after.keys.faults
   pub dice : RoseBy (count_by fails_at_dice events) before.dice.faults after.dice.faults
   pub trust : RoseBy (count_by fails_at_trust events) before.trust.faults after.trust.faults
+
+-- The same of both sides of the link.
+pub record CountsLink {w : World} (events : List (EventIn w.Further)) (before after : Surroundings w) : Type 0 where
+  pub reads : CountsFailed (fails_at_input session_lines) events before.input.faults after.input.faults
+  pub writes : CountsFailed (fails_at_output session_lines) events before.output.faults after.output.faults

@@ -9,15 +9,17 @@ ghost use Rattle.agent_commands.specs.declared.went.SessionEnd.{SessionEnd as En
 ghost use Rattle.agent_commands.specs.declared.went.Went.{Went};
 ghost use Rattle.key_commands.specs.Events.{Event};
 ghost use Rattle.session_options.specs.declared.rules.Rules.{Rules};
-ghost use Rattle.agent_session.specs.Counting.{CountsFailures};
+ghost use Rattle.agent_session.specs.Counting.{CountsFailures, CountsLink};
 ghost use Rattle.agent_session.specs.Completeness.{SessionCauses, CausedInSession};
 ghost use Rattle.agent_session.specs.Completeness.{FaultlessInSession, IsUncaused, IsAnsweredOk};
 ghost use Rattle.agent_session.specs.Completeness.{FailuresRise, IsStopped, AnswersAtOnce};
 ghost use Rattle.agent_session.specs.Completeness.{Remembers, NoCountRose, AnswersAll};
+ghost use Rattle.agent_origin.specs.DoorSessions.{ServesDoor};
 ghost use Rattle.agent_origin.specs.FurtherStates.{FurtherWorld};
 ghost use Rattle.agent_origin.specs.SessionExchanges.{kept_at_start, SessionExchange};
 ghost use Rattle.agent_origin.specs.Sessions.{Surroundings};
 ghost use Rattle.agent_session.specs.Sessions.{ServesRules};
+ghost use Rattle.agent_origin.specs.declared.door.Door.{Door};
 ghost use Rattle.agent_origin.specs.declared.kept.Kept.{Kept};
 
 use agent_ask::Prompter;
@@ -57,6 +59,19 @@ pub fn each_failure_is_counted<D: Desk, P: Prompter>()
         (events : List Event)
         → Leads (Does (FurtherWorld D.turned P.prompted) supply) before events after
         → CountsFailures P.at events before.ends after.ends }
+{}
+
+/// Of the reads and of the writes of a session's link at most as many failed as the counts of its
+/// two sides rose by, as long as these are below their last values; of a session at a door too.
+pub fn failures_at_the_link_are_counted<D: Desk, P: Prompter>()
+    ensures session { (rules : Rules)
+        (before after : Surroundings (FurtherWorld D.turned P.prompted)) (end : Ends)
+        → (served : ServesRules D.turned P.prompted rules before end after)
+        → CountsLink served.events before after }
+    ensures door { (door : Door) (rules : Rules)
+        (before after : Surroundings (FurtherWorld D.turned P.prompted)) (end : Ends)
+        → (served : ServesDoor D.turned P.prompted door rules before end after)
+        → CountsLink served.events before after }
 {}
 
 /// A request that asks nobody is answered at once, unless a turn of it found no memory or was

@@ -199,7 +199,7 @@ module _ (hash now : ℕ) (slot : Slot) (rest later : List Slot) (same_rest : sw
   one_swept true true e k = by_hash true e ∙ (by_life true k ∙ stays_in)
   one_swept true false e k = by_hash true e ∙ (by_life false k ∙ (same_rest ∙ sym (ap (λ b. cond b (slot ∷ swept now later) (swept now later)) k)))
 
-pub swept_hash : (hash now : ℕ) (list : List Slot) → swept now (swept_hash hash now list) ≡ swept now list
-swept_hash hash now [] = refl
-swept_hash hash now (slot ∷ later) =
-    one_swept hash now slot (swept_hash hash now later) later (swept_hash hash now later) (hash == id_hash slot.entry.id) (within slot.entry slot.last now) refl refl
+pub swept_of_hash : (hash now : ℕ) (list : List Slot) → swept now (swept_hash hash now list) ≡ swept now list
+swept_of_hash hash now [] = refl
+swept_of_hash hash now (slot ∷ later) =
+    one_swept hash now slot (swept_hash hash now later) later (swept_of_hash hash now later) (hash == id_hash slot.entry.id) (within slot.entry slot.last now) refl refl

@@ -183,9 +183,9 @@ new_lines file tree formed has =
       after = after;
     }
 
-has_key : (file new : List ℕ) (tree : Sexp) → HasLines file new tree → IsReadAgain tree → length (spelling_of tree) ≤ most_bytes
+with_key_is_read : (file new : List ℕ) (tree : Sexp) → HasLines file new tree → IsReadAgain tree → length (spelling_of tree) ≤ most_bytes
     → IsKeyFile new (record { before = before_key file; tree = tree; after = after_key file })
-has_key file new tree h again short =
+with_key_is_read file new tree h again short =
     let line = key_line tree in
     let is : is_key_line line ≡ true = ap is_key (form_of_key tree) in
     let place : position_or_len is_key_line (lines_of new) ≡ length h.passed =
@@ -225,7 +225,7 @@ pub replaced : (file : List ℕ) (key : KeyFile) (tree : Sexp) → IsKeyFile fil
     → IsKeyFile (with_key key tree) (record { before = key.before; tree = tree; after = key.after })
 replaced file key tree h again short =
     let lines = new_lines file tree h.item.formed h.item.has in
-    let new = has_key file (before_key file ++ (key_line tree ++ after_key file)) tree lines again short in
+    let new = with_key_is_read file (before_key file ++ (key_line tree ++ after_key file)) tree lines again short in
     let same : with_key key tree ≡ before_key file ++ (key_line tree ++ after_key file) =
     with_parts key.before key.after tree ∙ ap (λ (b : List ℕ). b ++ (key_line tree ++ key.after)) h.before ∙ ap (λ (b : List ℕ). before_key file ++ (key_line tree ++ b)) h.after in
     let parts : record_of (before_key file) tree (after_key file) ≡ record_of key.before tree key.after =

@@ -36,18 +36,18 @@ high_first_small zero n i = lit< tt
 high_first_small (suc k) n zero = byte_at_small k n
 high_first_small (suc k) n (suc i) = high_first_small k n i
 
-digest_bytes : (h : List ℕ) (n : ℕ) → IsBytes (n * 4) (digest_bytes h n)
+digest_has_bytes : (h : List ℕ) (n : ℕ) → IsBytes (n * 4) (digest_bytes h n)
 unfolding digest_bytes
-digest_bytes h zero = record { len = refl; small = λ k. lit< tt }
-digest_bytes h (suc n) =
+digest_has_bytes h zero = record { len = refl; small = λ k. lit< tt }
+digest_has_bytes h (suc n) =
     let four : n * 4 + 4 ≡ suc n * 4 = omega arith in
     subst (λ (k : ℕ). IsBytes k (digest_bytes h n ++ to_be_bytes w32 (slice_index h n))) four
-    (IsBytes_append (n * 4) 4 (digest_bytes h n) (to_be_bytes w32 (slice_index h n)) (digest_bytes h n)
+    (IsBytes_append (n * 4) 4 (digest_bytes h n) (to_be_bytes w32 (slice_index h n)) (digest_has_bytes h n)
     (record { len = refl; small = high_first_small 4 (slice_index h n) }))
 
 sha1_bytes : (m : List ℕ) → IsBytes 20 (sha1 m)
 unfolding sha1
-sha1_bytes m = digest_bytes _ 5
+sha1_bytes m = digest_has_bytes _ 5
 
 pub key_bytes : (pass salt : List ℕ) (count : ℕ) → IsBytes 16 (derived_key pass salt count)
 key_bytes pass salt count = IsBytes_take 16 20 _ (omega arith) (sha1_bytes _)

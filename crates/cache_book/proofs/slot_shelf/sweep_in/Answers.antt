@@ -6,7 +6,7 @@ use Rattle.cache_book.specs.Shelves.{swept}
 use Rattle.cache_book.specs.SlotOrders.{AreKept}
 use Rattle.cache_book.specs.Deadlines.{HavePlaces}
 use Rattle.cache_book.proofs.Ordered.{kept_filter}
-use Rattle.cache_book.proofs.Holding.{swept_none, swept_hash, held_swept, held_swept_hash}
+use Rattle.cache_book.proofs.Holding.{swept_none, swept_of_hash, held_swept, held_swept_hash}
 use Rattle.cache_book.proofs.slot_shelf.sweep_in.Goals as goal
 
 pub returns-in_default-clause-items : goal.returns-in_default-clause-items
@@ -21,7 +21,7 @@ loop-preserved c =
       kept = subst AreKept (sym c.sweep_hash.ensures.items) (kept_filter _ c.loop.slots.items c.loop.invariant.kept);
       held = subst (HavePlaces c.pop_past.new.self.places) (sym c.sweep_hash.ensures.items)
           (held_swept_hash c.loop.deadlines.places c.pop_past.new.self.places c.args.now u64 c.in-Some.ensures.later c.in-Some.hash c.in-Some.ensures.others c.loop.slots.items c.loop.invariant.held);
-      swept_is = ap (swept c.args.now) c.sweep_hash.ensures.items ∙ (swept_hash c.in-Some.hash c.args.now c.loop.slots.items ∙ c.loop.invariant.swept_is);
+      swept_is = ap (swept c.args.now) c.sweep_hash.ensures.items ∙ (swept_of_hash c.in-Some.hash c.args.now c.loop.slots.items ∙ c.loop.invariant.swept_is);
       len = search rules;
       capacity = search rules;
       room = search rules;

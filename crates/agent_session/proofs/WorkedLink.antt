@@ -1,0 +1,31 @@
+-- Failures at a session's link, counted: a read that failed behind the greeting, and an inquiry whose line couldn't be written.
+use Rattle.std.specs.List.{count_by}
+use Rattle.std.specs.Prelude.{codes}
+use Rattle.std.proofs.Common.{◌≡◌, ℕ, List, [], ◌∷◌, refl}
+use Rattle.agent_ask.specs.Further.{FurtherEvent}
+use Rattle.agent_ask.specs.LinkFaults.{fails_at_input, fails_at_output}
+use Rattle.agent_ask.specs.SessionEvents.{Received, Sent, Inquiry}
+use Rattle.assuan_line.specs.declared.reader.Took.TheVariants.{Line, ReadFault}
+use Rattle.assuan_server.specs.Clients.{session_lines}
+use Rattle.assuan_server.specs.Written.{greeting}
+use Rattle.assuan_text.specs.LineEnds.{line_of}
+use Rattle.session_client.specs.Asking.{NotAsked}
+use Rattle.key_commands.specs.Events.{Event}
+
+abbrev unread : List Event
+unread = Sent (line_of greeting) ∷ Received ReadFault ∷ []
+
+one_read_failed : count_by (fails_at_input session_lines) unread ≡ 1
+one_read_failed = refl
+
+no_write_failed : count_by (fails_at_output session_lines) unread ≡ 0
+no_write_failed = refl
+
+abbrev unasked : List Event
+unasked = Received (Line (codes "PRESET_PASSPHRASE --inquire id1 -1")) ∷ Inquiry (codes "PASSPHRASE") [] 255 (NotAsked (codes "INQ")) ∷ []
+
+one_write_failed : count_by (fails_at_output session_lines) unasked ≡ 1
+one_write_failed = refl
+
+no_read_failed : count_by (fails_at_input session_lines) unasked ≡ 0
+no_read_failed = refl
