@@ -5,15 +5,17 @@ use Rattle.agent_ask.proofs.Doing.{done_said, done_cut, done_inquired}
 use Rattle.agent_ports.specs.Writing.{StopsWriting}
 use Rattle.agent_ports.specs.declared.link.WriteFault.{WriteFault}
 use Rattle.assuan_line.specs.Next.{Reader, held}
-use Rattle.assuan_server.specs.Clients.{connection_views}
+use Rattle.assuan_server.specs.Clients.{connection_views, session_lines}
 use Rattle.assuan_server.specs.Connections.{Connection, IsOpen}
 use Rattle.assuan_server.specs.Written.{WritesText}
 use Rattle.assuan_server.proofs.Clients.{said_so}
 use Rattle.session_client.specs.Asking.{LeftBy, AsksClient as AskedClient}
+use Rattle.session_client.specs.Refusals.{gone_by}
 use Rattle.session_client.specs.declared.unheard.Gone.TheVariants as gone
 use Rattle.session_client.specs.declared.unheard.Unheard.{Unheard}
 use Rattle.session_client.specs.declared.unheard.Unheard.TheVariants as unheard
-use Rattle.key_commands.specs.Parts.{Writes, written, cut, Inquires, given, not_given, refusal_went}
+use Rattle.agent_ask.specs.ClientParts.{Writes, written, cut, Inquires, given, not_given}
+use Rattle.key_commands.specs.Parts.{key_went_after}
 use Rattle.key_commands.specs.Partial.{NoTurn, NoCall, DoesAtClient}
 use Rattle.key_commands.specs.States.{KeyWorld, ReaderAfter, FaultsRise, KeyState, key_state}
 use Rattle.session_client.specs.declared.refusal.Refusal.TheVariants.{Client}
@@ -23,14 +25,14 @@ use Rattle.cache_policy.specs.Turns.{Turn}
 
 -- how the session goes on whose client gave nothing, by how its connection is left
 module _ (start now : Connection) (fewer : IsOpen now → held now.reader ≤ held start.reader) where
-  pub reader_unheard : (why : Unheard) → LeftBy connection_views {A = List ℕ} (Err why) start now → ReaderAfter (refusal_went (Client why)) start.reader now.reader
+  pub reader_unheard : (why : Unheard) → LeftBy connection_views {A = List ℕ} (Err why) start now → ReaderAfter (key_went_after (gone_by (Client why))) start.reader now.reader
   reader_unheard unheard.Cancelled left = (left, fewer left)
   reader_unheard unheard.TooMuch left = (left, fewer left)
   reader_unheard unheard.Unexpected left = (left, fewer left)
   reader_unheard (unheard.Gone how) left = left.ended
 
 module _ {D P : Type 0} (turned : D → MarkStep → Turn → D → Type 0) (prompted : P → Call → P → Type 0) (start now : KeyState turned prompted) where
-  pub faults_unheard : (why : Unheard) → LeftBy connection_views {A = List ℕ} (Err why) start.conn now.conn → FaultsRise turned prompted (refusal_went (Client why)) start now
+  pub faults_unheard : (why : Unheard) → LeftBy connection_views {A = List ℕ} (Err why) start.conn now.conn → FaultsRise turned prompted (key_went_after (gone_by (Client why))) start now
   faults_unheard unheard.Cancelled left = record { read = λ e. absurd (cc e); write = λ e. absurd (cc e) }
   faults_unheard unheard.TooMuch left = record { read = λ e. absurd (cc e); write = λ e. absurd (cc e) }
   faults_unheard unheard.Unexpected left = record { read = λ e. absurd (cc e); write = λ e. absurd (cc e) }
@@ -61,7 +63,7 @@ wrote_part {text} {start} {now} fault part ticket files side =
 
 -- the client was asked by a word, and gave bytes
 pub gave : {word : List ℕ} {limit : ℕ} {bytes : List ℕ} {start now : Connection} → AskedClient connection_views word limit (Ok bytes) start now
-    → DoesAtClient (Inquires word limit) start (Ok bytes) now
+    → DoesAtClient (Inquires session_lines word limit) start (Ok bytes) now
 gave asks ticket files side = record {
   events = Inquiry _ [] _ asks.inquired ∷ [];
   does = given (sym asks.result_is);
@@ -72,7 +74,7 @@ gave asks ticket files side = record {
 
 -- or it gave none
 pub gave_none : {word : List ℕ} {limit : ℕ} {why : Unheard} {start now : Connection} → AskedClient connection_views word limit (Err why) start now
-    → DoesAtClient (Inquires word limit) start (Err (Client why)) now
+    → DoesAtClient (Inquires session_lines word limit) start (Err (Client why)) now
 gave_none {why} {start} {now} asks ticket files side = record {
   events = Inquiry _ [] _ asks.inquired ∷ [];
   does = not_given (sym asks.result_is);

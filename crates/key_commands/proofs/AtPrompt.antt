@@ -16,7 +16,7 @@ use Rattle.agent_ask.specs.declared.spec.PromptSpec.{PromptSpec}
 use Rattle.agent_ask.specs.declared.test.Tested.{Tested}
 use Rattle.agent_ports.specs.Leads.{none, one}
 use Rattle.arrayvec.specs.ArrayVec.{ArrayVec}
-use Rattle.assuan_server.specs.Clients.{connection_views, Wishes}
+use Rattle.assuan_server.specs.Clients.{connection_views, session_lines, Wishes}
 use Rattle.assuan_server.specs.Connections.{Connection, IsOpen}
 use Rattle.session_client.specs.declared.code.Code.TheVariants as code
 use Rattle.secret_file.specs.Opens.{LockedKey, OpensTo, FitsFile}
@@ -27,7 +27,7 @@ use Rattle.key_commands.specs.Events.{Event}
 use Rattle.agent_ask.specs.Plans.{text}
 use Rattle.key_commands.specs.Parts.{Part}
 use Rattle.key_commands.specs.Partial.{DoesAtPrompter}
-use Rattle.key_commands.specs.Passphrases.{PromptsPin, pin_refusal}
+use Rattle.agent_ask.specs.PinParts.{PromptsPin, pin_refusal}
 use Rattle.key_commands.specs.Trials.{IsTrial, IsUsable}
 use Rattle.session_client.specs.declared.refusal.Refusal.{Refusal}
 use Rattle.session_client.specs.declared.refusal.Refusal.TheVariants.{Agent, Pinentry}
@@ -53,31 +53,16 @@ module _ {P : Type 0} (prompted : P → Call → P → Type 0) {T : Type 0} {tes
     (asks : HasEvents (DoesPrompt prompted (Hears connection_views Wishes)) (λ events. AsksPinBy tested before after spec plan Rule events answer) start now)
     {A : Type 0} {part : Part A} {ticket : ℕ} where
   -- it came to a passphrase
-  pub prompt_gave : {value : A} → IsOpen now.caller → ((events : List Event) → PromptsPin spec plan Rule events answer → part (Some ticket) events (Ok value) (Some ticket))
+  pub prompt_gave : {value : A} → IsOpen now.caller → ((events : List Event) → PromptsPin session_lines spec plan Rule events answer → part (Some ticket) events (Ok value) (Some ticket))
       → DoesAtPrompter part prompted (Some ticket) start.caller start.prompter (Ok value) now.caller now.prompter
   prompt_gave going each = part_prompted asks.lead (λ events shown. each events (record { prompt = asks.events; asks = asks.are.asks; in_session = shown })) going
 
   -- or the request is refused by its answer
   pub prompt_refused : {why : Refusal} → pin_refusal answer ≡ Some why → LeftByPin connection_views answer start.caller now.caller
-      → ((events : List Event) → PromptsPin spec plan Rule events answer → part (Some ticket) events (Err why) (Some ticket))
+      → ((events : List Event) → PromptsPin session_lines spec plan Rule events answer → part (Some ticket) events (Err why) (Some ticket))
       → DoesAtPrompter part prompted (Some ticket) start.caller start.prompter (Err why) now.caller now.prompter
   prompt_refused {why} is left each =
       part_prompted asks.lead (λ events shown. each events (record { prompt = asks.events; asks = asks.are.asks; in_session = shown })) (left_by_pin A start.caller now.caller answer why is left)
-
--- a prompt that gave no passphrase refuses its request
-pub pin_refuses : (answer : Asked) → ((heard : Heard) → answer ≡ asked.Heard heard → IsUnheardBy heard) → ((pin : List ℕ) → answer ≢ asked.Pin pin) → IsSome (pin_refusal answer)
-pin_refuses (asked.Pin pin) by not_pin = absurd (not_pin pin refl)
-pin_refuses asked.Cancelled by not_pin = refl
-pin_refuses asked.TimedOut by not_pin = refl
-pin_refuses asked.NoPinentry by not_pin = refl
-pin_refuses asked.Bad by not_pin = refl
-pin_refuses asked.NoMemory by not_pin = refl
-pin_refuses (asked.Heard Fine) by not_pin = absurd (by Fine refl)
-pin_refuses (asked.Heard (Secret secret)) by not_pin = absurd (by (Secret secret) refl)
-pin_refuses (asked.Heard Cancelled) by not_pin = refl
-pin_refuses (asked.Heard TooMuch) by not_pin = refl
-pin_refuses (asked.Heard Unexpected) by not_pin = refl
-pin_refuses (asked.Heard (Gone how)) by not_pin = refl
 
 -- ---- what a prompt shows
 
@@ -86,9 +71,9 @@ pub spec_says : {rules : Rules} {options : OptionValues} {description words : Ar
 spec_says described field is = rw (← described, ← field) is
 
 -- the same plan in other words
-pub planned : {spec : PromptSpec} {plan other : AskPlan} {Rule : List ℕ → Type 0} {events : List Event} {answer : Asked} → plan ≡ other → PromptsPin spec plan Rule events answer
-    → PromptsPin spec other Rule events answer
-planned {spec} {Rule} {events} {answer} same prompts = subst (λ (p : AskPlan). PromptsPin spec p Rule events answer) same prompts
+pub planned : {spec : PromptSpec} {plan other : AskPlan} {Rule : List ℕ → Type 0} {events : List Event} {answer : Asked} → plan ≡ other → PromptsPin session_lines spec plan Rule events answer
+    → PromptsPin session_lines spec other Rule events answer
+planned {spec} {Rule} {events} {answer} same prompts = subst (λ (p : AskPlan). PromptsPin session_lines spec p Rule events answer) same prompts
 
 pub plan_says : (rules : Rules) (options : OptionValues) {error : ArrayVec ℕ} (check : Bool) (repeat : ℕ) {plan : AskPlan} → plan ≡ plan_of rules options error check repeat → error.items ≡ []
     → plan ≡ plan_of rules options (text []) check repeat

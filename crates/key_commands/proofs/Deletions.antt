@@ -21,7 +21,7 @@ use Rattle.agent_ask.specs.Parts.{returns, refuses}
 use Rattle.key_commands.specs.Partial.{LeavesKeys}
 use Rattle.key_commands.specs.Replies.{CarriesOut, comes_to, stops_at}
 use Rattle.key_commands.specs.States.{KeyState, key_state}
-use Rattle.key_commands.specs.Steps.{DoesTurn, DoesKeyCalls}
+use Rattle.key_commands.specs.Steps.{DoesKeyCalls, TakesTurn}
 use Rattle.session_client.specs.declared.refusal.Refusal.{Refusal}
 use Rattle.session_client.specs.declared.refusal.Refusal.TheVariants.{Agent}
 use Rattle.key_commands.specs.declared.reply.Reply.TheVariants as replies
@@ -71,7 +71,7 @@ module _ {D P : Type 0} (turned : D → MarkStep → Turn → D → Type 0) (pro
 
       -- its file was removed
       module _ (removed : DoesKeyCalls (Removes grip) mid (Ok tt) now) (desk_end : D) where
-        pub not_cleared : (why : Refusal) → DoesTurn turned (Changes (Clear (grip_text grip) Normal)) held desk_now (Err why) held desk_end
+        pub not_cleared : (why : Refusal) → TakesTurn turned (Changes (Clear (grip_text grip) Normal)) held desk_now (Err why) held desk_end
             → CarriesOut turned prompted (DeleteKeyReplies rules options wraps force grip) wraps start (Err why) wraps held (key_state turned prompted conn_now desk_end prompter_now now side)
         unfolding DeleteKeyReplies
         not_cleared why turn = stops_at (
@@ -83,7 +83,7 @@ module _ {D P : Type 0} (turned : D → MarkStep → Turn → D → Type 0) (pro
             (part_turned turned prompted conn_now (record { prompter = prompter_now; keys = now; dice = side }) (agreed mid side).fits.0 (changes_on turn.does) turn)))))
             )
 
-        pub deleted : DoesTurn turned (Changes (Clear (grip_text grip) Normal)) held desk_now (Ok tt) held desk_end
+        pub deleted : TakesTurn turned (Changes (Clear (grip_text grip) Normal)) held desk_now (Ok tt) held desk_end
             → CarriesOut turned prompted (DeleteKeyReplies rules options wraps force grip) wraps start (Ok replies.Ok) wraps held (key_state turned prompted conn_now desk_end prompter_now now side)
         unfolding DeleteKeyReplies
         deleted turn = comes_to (λ text is.

@@ -19,7 +19,8 @@ use Rattle.key_commands.specs.KeyParts.{change_fault}
 use Rattle.key_commands.specs.Parts.{Part}
 use Rattle.agent_ask.specs.Parts.{◌>>=◌, goes_on, stops}
 use Rattle.key_commands.specs.States.{KeyWorld, KeyState, KeyLead, key_state, ReaderAfter, FaultsRise, went_by, DoesPart}
-use Rattle.key_commands.specs.Steps.{DoesTurn, DoesTurns, still, one, AreAlone, nothing, memory, DoesAlone, KeysLead, none, calls, wants_memory, DoesKeyCalls, DoesDrawing, DoesDrawings, no_draw, one_draw, IsChanged}
+use Rattle.agent_ask.specs.PartStates.{DoesTurn, DoesTurns, still, one}
+use Rattle.key_commands.specs.Steps.{AreAlone, nothing, memory, DoesAlone, KeysLead, none, calls, wants_memory, DoesKeyCalls, DoesDrawing, DoesDrawings, no_draw, one_draw, IsChanged}
 use Rattle.session_client.specs.declared.refusal.Refusal.{Refusal}
 use Rattle.session_client.specs.declared.refusal.Refusal.TheVariants.{Agent}
 use Rattle.key_commands.specs.declared.went.KeyWent.{KeyWent}

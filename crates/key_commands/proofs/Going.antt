@@ -15,7 +15,8 @@ use Rattle.key_commands.specs.Parts.{Part, Finds, Draws, found, absent, faulted,
 use Rattle.agent_ask.specs.Parts.{wanted, or_else, unless, returns, refuses, stops, goes_on}
 use Rattle.agent_ask.specs.TurnParts.{Seats, Changes, Peeks, opened, done, interrupted, peeked}
 use Rattle.key_commands.specs.States.{went_by}
-use Rattle.key_commands.specs.Steps.{DoesDrawings, no_draw, one_draw, DoesTurns, still, one}
+use Rattle.agent_ask.specs.PartStates.{DoesTurns, still, one}
+use Rattle.key_commands.specs.Steps.{DoesDrawings, no_draw, one_draw}
 use Rattle.key_commands.specs.declared.key_calls.KeyFile.{KeyFile}
 use Rattle.session_client.specs.declared.refusal.Refusal.{Refusal}
 use Rattle.key_commands.specs.declared.went.KeyWent.TheVariants.{On}

@@ -15,9 +15,10 @@ use Rattle.key_commands.specs.Parts.{Part}
 use Rattle.agent_ask.specs.Parts.{◌>>=◌, returns, refuses, wanted}
 use Rattle.agent_ask.specs.TurnParts.{Asks, given, empty, opened, interrupted, opened as seat_opened, interrupted as seat_interrupted}
 use Rattle.key_commands.specs.Partial.{LeavesKeys}
-use Rattle.key_commands.specs.Passphrases.{Locks, is_locked, has_fault, no_memory as no_lock_memory, Tries, opens, stays, no_memory, TriesFound, LooksForNonce, TakesSeat, old_by, verified_by}
+use Rattle.key_commands.specs.Passphrases.{Locks, is_locked, has_fault, no_memory as no_lock_memory, TriesPassphrase, opens, stays, no_memory, TriesFound, LooksForNonce, TakesSeat, old_by, verified_by}
 use Rattle.key_commands.specs.States.{went_by}
-use Rattle.key_commands.specs.Steps.{DoesTurn, DoesTurns, still, one, DoesAlone}
+use Rattle.agent_ask.specs.PartStates.{DoesTurn, DoesTurns, still, one}
+use Rattle.key_commands.specs.Steps.{DoesAlone}
 use Rattle.key_commands.specs.declared.opened.OpenedKey.{OpenedKey}
 use Rattle.session_client.specs.declared.refusal.Refusal.{Refusal}
 use Rattle.session_client.specs.declared.refusal.Refusal.TheVariants.{Agent}
@@ -74,7 +75,7 @@ locks_on (is_locked same locked) = refl
 locks_on (has_fault fault) = refl
 locks_on no_lock_memory = refl
 
-pub tries_on : {locked : LockedKey} {pass : List ℕ} {before after : Option ℕ} {events : List Event} {result : Result (Option OpenedKey) Refusal} → Tries locked pass before events result after
+pub tries_on : {locked : LockedKey} {pass : List ℕ} {before after : Option ℕ} {events : List Event} {result : Result (Option OpenedKey) Refusal} → TriesPassphrase locked pass before events result after
     → went_by result ≡ On
 tries_on (opens by) = refl
 tries_on (stays not) = refl

@@ -7,7 +7,7 @@ use Rattle.agent_ask.proofs.Doing.{done_then, done_further, done_inquired}
 use Rattle.agent_ports.specs.Sides.{WhereKnown}
 use Rattle.agent_ports.specs.declared.grip.Grip.{Grip}
 use Rattle.assuan_server.specs.Asking.{Inquire, IsNotAsked}
-use Rattle.assuan_server.specs.Clients.{connection_views, outcome_says}
+use Rattle.assuan_server.specs.Clients.{connection_views, session_lines, outcome_says}
 use Rattle.assuan_server.specs.Connections.{Connection, IsOpen}
 use Rattle.assuan_server.specs.Inquiries as outcome
 use Rattle.assuan_server.specs.Inquiries.{Outcome, Inquiry as Comes, IsAtEnd, Answers, outcome_of, inquire_text}
@@ -23,7 +23,7 @@ use Rattle.sexp_keys.specs.Lists.{key_list_of, grip_of}
 use Rattle.key_commands.specs.Events.{out_of_memory}
 use Rattle.key_commands.specs.KeyEnds.{no_memory as wants_memory}
 use Rattle.key_commands.specs.KeyParts.{AsksKeyData, asked, no_memory, max_key_data, Unwraps, is_key, refused, no_memory as no_key_memory, NamesKey, named as grip_named, no_memory as no_name_memory}
-use Rattle.key_commands.specs.Parts.{Inquires}
+use Rattle.agent_ask.specs.ClientParts.{Inquires}
 use Rattle.key_commands.specs.Partial.{NoTurn, NoCall, DoesAtClient}
 use Rattle.key_commands.specs.States.{KeyWorld}
 use Rattle.key_commands.specs.Steps.{key_data_of, DoesAlone, nothing, memory as memory_wanted}
@@ -38,7 +38,7 @@ abbrev word : List ℕ
 word = codes "KEYDATA"
 
 -- the inquiry for a key, in which memory for its bytes is found
-as_key_data : {start now : Connection} {result : Result (List ℕ) Refusal} → DoesAtClient (Inquires word max_key_data) start result now → DoesAtClient AsksKeyData start result now
+as_key_data : {start now : Connection} {result : Result (List ℕ) Refusal} → DoesAtClient (Inquires session_lines word max_key_data) start result now → DoesAtClient AsksKeyData start result now
 as_key_data done ticket files side =
     let d = done ticket files side in
     record { events = d.events; does = asked d.does; done = d.done; fits = d.fits; faults = d.faults }

@@ -17,7 +17,7 @@ use Rattle.agent_ask.specs.Parts.{returns}
 use Rattle.key_commands.specs.Partial.{NoCall}
 use Rattle.key_commands.specs.Replies.{CarriesOut, comes_to, stops_at}
 use Rattle.key_commands.specs.States.{DoesPart, key_state}
-use Rattle.key_commands.specs.Steps.{DoesTurn, DoesKeyCalls}
+use Rattle.key_commands.specs.Steps.{DoesKeyCalls, TakesTurn}
 use Rattle.key_commands.specs.declared.key_calls.KeyFile.{KeyFile}
 use Rattle.session_client.specs.declared.refusal.Refusal.{Refusal}
 use Rattle.key_commands.specs.declared.reply.Reply.TheVariants as replies
@@ -34,7 +34,7 @@ module _ {D : Type 0} (turned : D → MarkStep → Turn → D → Type 0) (rules
     info_unread why calls = stops_at (part_stops turned NoCall (part_called turned NoCall conn desk tt side None going (file_on (calls.does None)) calls))
 
     module _ (file : KeyFile) (calls : DoesKeyCalls (ReadsFile grip) keys (Ok file) mid) (now : D) where
-      pub info_unknown : (why : Refusal) → DoesTurn turned (Peeks (grip_text grip) Normal) None desk (Err why) None now
+      pub info_unknown : (why : Refusal) → TakesTurn turned (Peeks (grip_text grip) Normal) None desk (Err why) None now
           → CarriesOut turned NoCall (KeyInfoReplies rules options wraps grip) wraps (key_state turned NoCall conn desk tt keys side) (Err why) wraps None (key_state turned NoCall conn now tt mid side)
       unfolding KeyInfoReplies
       info_unknown why turn = stops_at (
@@ -42,7 +42,7 @@ module _ {D : Type 0} (turned : D → MarkStep → Turn → D → Type 0) (rules
           (part_stops turned NoCall (part_stops turned NoCall (part_turned turned NoCall conn (record { prompter = tt; keys = mid; dice = side }) going (peeks_on turn.does) turn)))
           )
 
-      pub info_known : (cached : Bool) → DoesTurn turned (Peeks (grip_text grip) Normal) None desk (Ok cached) None now
+      pub info_known : (cached : Bool) → TakesTurn turned (Peeks (grip_text grip) Normal) None desk (Ok cached) None now
           → CarriesOut turned NoCall (KeyInfoReplies rules options wraps grip) wraps (key_state turned NoCall conn desk tt keys side) (Ok (replies.Info grip cached file.key.is_clear)) wraps None
           (key_state turned NoCall conn now tt mid side)
       unfolding KeyInfoReplies

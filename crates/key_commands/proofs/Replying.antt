@@ -14,16 +14,19 @@ use Rattle.cache_policy.specs.declared.mark.MarkStep.{MarkStep}
 use Rattle.cache_policy.specs.Turns.{Turn}
 use Rattle.session_options.specs.OptionValues.{OptionValues}
 use Rattle.session_options.specs.declared.rules.Rules.{Rules}
+use Rattle.agent_ask.specs.PartExchanges.{answered, refused as is_refused}
+use Rattle.key_commands.specs.Steps.{TakesTurns}
 use Rattle.key_commands.specs.Events.{Event}
-use Rattle.key_commands.specs.Exchanges.{Exchange, Replies, reply, answered, refused as is_refused}
+use Rattle.key_commands.specs.Exchanges.{KeyExchange, KeyReplies, key_reply}
 use Rattle.key_commands.specs.KeyEnds.{KeyEnds}
 use Rattle.agent_ask.specs.TurnParts.{Closes}
 use Rattle.assuan_server.specs.Written.{refusal_line}
-use Rattle.key_commands.specs.Parts.{refusal_went}
+use Rattle.key_commands.specs.Parts.{key_went_after}
 use Rattle.assuan_server.specs.Written.{WritesLine}
 use Rattle.key_commands.specs.Replies.{went_unless_cut, RespondsTo, replied, refused, CarriesOut, comes_to, stops_at}
 use Rattle.key_commands.specs.States.{KeyWorld, KeyState, KeyLead, ReaderAfter, FaultsRise, AnswersKey, whole, cut, DoesPart}
-use Rattle.key_commands.specs.Steps.{DoesTurns, still, one}
+use Rattle.agent_ask.specs.PartStates.{still, one}
+use Rattle.session_client.specs.Refusals.{gone_by}
 use Rattle.session_client.specs.declared.refusal.Refusal.{Refusal}
 use Rattle.key_commands.specs.declared.reply.Reply.{Reply}
 use Rattle.key_commands.specs.declared.request.KeyRequest.{KeyRequest}
@@ -73,7 +76,7 @@ module _ {D P : Type 0} (turned : D → MarkStep → Turn → D → Type 0) (pro
     pub closes : Closes None held back (Ok tt) None
     pub done : KeyLead turned prompted back (at_conn conn desk ends) (at_conn conn desk_now ends)
 
-  gives_back : (held : Option ℕ) (conn : Connection) (desk desk_now : D) (ends : KeyEnds P) → DoesTurns turned (Closes None) held desk (Ok tt) None desk_now
+  gives_back : (held : Option ℕ) (conn : Connection) (desk desk_now : D) (ends : KeyEnds P) → TakesTurns turned (Closes None) held desk (Ok tt) None desk_now
       → GivesBack held conn desk desk_now ends
   gives_back held conn desk desk_now ends (still closes) = record { back = []; closes = closes; done = done_none (at_conn conn desk ends) }
   gives_back held conn desk desk_now ends (one close) = record {
@@ -84,32 +87,32 @@ module _ {D P : Type 0} (turned : D → MarkStep → Turn → D → Type 0) (pro
 
   module _ (rules : Rules) (options : OptionValues) (wraps : WrapKeys) (request : KeyRequest) where
     abbrev exchange : List Event → WrapKeys → KeyWent → Type 0
-    exchange = Exchange rules options wraps request
+    exchange = KeyExchange rules options wraps request
 
     module _ (start : KeyState turned prompted) (held : Option ℕ) (mid now : Connection) (desk desk_now : D) (ends : KeyEnds P) where
       module _ (gives : GivesBack held mid desk desk_now ends) where
         with_reply : (after : WrapKeys) (text : List ℕ)
-            → DoesPart turned prompted (Replies rules options wraps request) None start (Ok (reply after text)) held (at_conn mid desk ends) → (written : Result (Unit {0}) WriteFault)
+            → DoesPart turned prompted (KeyReplies rules options wraps request) None start (Ok (key_reply after text)) held (at_conn mid desk ends) → (written : Result (Unit {0}) WriteFault)
             → WritesText text mid written now → AnswersKey turned prompted exchange start (went_unless_cut On written) after (at_conn now desk_now ends)
         with_reply after text part written said =
             text_written exchange after On (part.events ++ gives.back) start mid desk_now ends (done_then part.done gives.done) part.fits
             (record { read = λ e. absurd (cc e); write = λ e. absurd (cc e) })
-            text (subst (λ (e : List Event). exchange e after On) (sym (append_assoc part.events gives.back (Sent text ∷ []))) (answered part.events held (reply after text) part.does gives.closes))
+            text (subst (λ (e : List Event). exchange e after On) (sym (append_assoc part.events gives.back (Sent text ∷ []))) (answered part.events held (key_reply after text) part.does gives.closes))
             written now said
 
-        with_refusal : (why : Refusal) → DoesPart turned prompted (Replies rules options wraps request) None start (Err why) held (at_conn mid desk ends)
+        with_refusal : (why : Refusal) → DoesPart turned prompted (KeyReplies rules options wraps request) None start (Err why) held (at_conn mid desk ends)
             → (written : Result (Unit {0}) WriteFault) → WritesLine (refusal_line why) mid written now
-            → AnswersKey turned prompted exchange start (went_unless_cut (refusal_went why) written) wraps (at_conn now desk_now ends)
+            → AnswersKey turned prompted exchange start (went_unless_cut (key_went_after (gone_by why)) written) wraps (at_conn now desk_now ends)
         with_refusal why part written said =
-            line_written exchange wraps (refusal_went why) (part.events ++ gives.back) start mid desk_now ends (done_then part.done gives.done) part.fits
+            line_written exchange wraps (key_went_after (gone_by why)) (part.events ++ gives.back) start mid desk_now ends (done_then part.done gives.done) part.fits
             (record { read = λ e. part.faults.read e; write = λ e. part.faults.write e })
             (refusal_line why)
-            (subst (λ (e : List Event). exchange e wraps (refusal_went why)) (sym (append_assoc part.events gives.back (said_last (refusal_line why)))) (is_refused part.events held why part.does gives.closes))
+            (subst (λ (e : List Event). exchange e wraps (key_went_after (gone_by why))) (sym (append_assoc part.events gives.back (said_last (refusal_line why)))) (is_refused part.events held why part.does gives.closes))
             written now said
 
     pub answers : (start : KeyState turned prompted) (answer : Result Reply Refusal) (after : WrapKeys) (held : Option ℕ) (mid now : Connection) (desk desk_now : D) (ends : KeyEnds P) (went : KeyWent)
-        → CarriesOut turned prompted (Replies rules options wraps request) wraps start answer after held (at_conn mid desk ends)
-        → DoesTurns turned (Closes None) held desk (Ok tt) None desk_now → RespondsTo mid answer went now
+        → CarriesOut turned prompted (KeyReplies rules options wraps request) wraps start answer after held (at_conn mid desk ends)
+        → TakesTurns turned (Closes None) held desk (Ok tt) None desk_now → RespondsTo mid answer went now
         → AnswersKey turned prompted exchange start went after (at_conn now desk_now ends)
     answers start answer after held mid now desk desk_now ends went (comes_to each) closes (replied {text} written is said) =
         with_reply start held mid now desk desk_now ends (gives_back held mid desk desk_now ends closes) after text (each text is) written said

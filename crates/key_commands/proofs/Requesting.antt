@@ -5,8 +5,9 @@ use Rattle.agent_ports.specs.declared.grip.Grip.{Grip}
 use Rattle.cache_policy.specs.declared.mark.MarkStep.{MarkStep}
 use Rattle.cache_policy.specs.Turns.{Turn}
 use Rattle.sexp_keys.specs.Key.{Key}
+use Rattle.key_commands.specs.Steps.{TakesTurn, TakesTurns}
 use Rattle.key_commands.specs.Events.{Event}
-use Rattle.key_commands.specs.Exchanges.{KeyReply, reply}
+use Rattle.key_commands.specs.Exchanges.{KeyReply, key_reply}
 use Rattle.key_commands.specs.Files.{Rewrites, canonical_file, extended_file, too_long, no_memory as no_new_memory}
 use Rattle.key_commands.specs.KeyParts.{KeepsNew, Protects, made, no_memory, Replaces, done as is_replaced, not_done, IsShort, short, long, WrapsKey, is_wrapped, no_memory as no_wrap_memory}
 use Rattle.key_commands.specs.Lines.{ok}
@@ -17,7 +18,7 @@ use Rattle.agent_ask.specs.Parts.{needed, returns, refuses}
 use Rattle.key_commands.specs.Passphrases.{put_key}
 use Rattle.key_commands.specs.Replies.{CarriesOut, comes_to}
 use Rattle.key_commands.specs.States.{KeyState, DoesPart, went_by}
-use Rattle.key_commands.specs.Steps.{DoesTurn, DoesTurns, still, one}
+use Rattle.agent_ask.specs.PartStates.{still, one}
 use Rattle.session_client.specs.declared.refusal.Refusal.{Refusal}
 use Rattle.session_client.specs.declared.refusal.Refusal.TheVariants.{Agent}
 use Rattle.key_commands.specs.declared.reply.Reply.TheVariants as replies
@@ -27,19 +28,19 @@ use Rattle.key_commands.proofs.Going.{changes_on}
 
 -- a request whose reply is OK alone
 pub replies_ok : {D P : Type 0} {turned : D → MarkStep → Turn → D → Type 0} {prompted : P → Call → P → Type 0} {part : Part KeyReply} {before after : WrapKeys} {held : Option ℕ}
-    {start now : KeyState turned prompted} → DoesPart turned prompted part None start (Ok (reply after ok)) held now → CarriesOut turned prompted part before start (Ok replies.Ok) after held now
+    {start now : KeyState turned prompted} → DoesPart turned prompted part None start (Ok (key_reply after ok)) held now → CarriesOut turned prompted part before start (Ok replies.Ok) after held now
 replies_ok carried = comes_to {answer = replies.Ok} (λ text is. rw is carried)
 
 module _ {D : Type 0} {turned : D → MarkStep → Turn → D → Type 0} (grip : Grip) (pass : List ℕ) where
   -- a new passphrase is kept by the ticket that is held
-  pub kept_by_ticket : {desk now : D} (held : Option ℕ) → is_some held ≡ true → DoesTurns turned (Closes (Some pass)) held desk (Ok tt) None now → DoesTurns turned (KeepsNew grip pass) held desk (Ok tt) None now
+  pub kept_by_ticket : {desk now : D} (held : Option ℕ) → is_some held ≡ true → TakesTurns turned (Closes (Some pass)) held desk (Ok tt) None now → TakesTurns turned (KeepsNew grip pass) held desk (Ok tt) None now
   kept_by_ticket None is closes = cc is
   kept_by_ticket (Some ticket) is (still does) = still does
   kept_by_ticket (Some ticket) is (one turn) = one (record { step = turn.step; turn = turn.turn; turned_so = turn.turned_so; does = turn.does })
 
   -- or by a turn of its own
-  pub kept_by_turn : {desk now : D} {result : Result (Unit {0}) Refusal} (held : Option ℕ) → is_some held ≡ false → DoesTurn turned (Changes (put_key grip pass)) held desk result held now
-      → DoesTurns turned (KeepsNew grip pass) held desk result held now
+  pub kept_by_turn : {desk now : D} {result : Result (Unit {0}) Refusal} (held : Option ℕ) → is_some held ≡ false → TakesTurn turned (Changes (put_key grip pass)) held desk result held now
+      → TakesTurns turned (KeepsNew grip pass) held desk result held now
   kept_by_turn None is turn = one (record { step = turn.step; turn = turn.turn; turned_so = turn.turned_so; does = turn.does })
   kept_by_turn (Some ticket) is turn = cc is
 

@@ -19,7 +19,7 @@ use Rattle.agent_ask.specs.TurnParts.{Changes}
 use Rattle.agent_ask.specs.Parts.{returns}
 use Rattle.key_commands.specs.Partial.{NoCall}
 use Rattle.key_commands.specs.States.{DoesPart, KeyState, key_state}
-use Rattle.key_commands.specs.Steps.{DoesTurn, DoesTurns, DoesAlone, DoesKeyCalls, DoesDrawing}
+use Rattle.key_commands.specs.Steps.{DoesAlone, DoesKeyCalls, DoesDrawing, TakesTurn, TakesTurns}
 use Rattle.session_client.specs.declared.refusal.Refusal.{Refusal}
 use Rattle.key_commands.proofs.Doing.{part_drawn, part_alone, part_turned, part_turns, part_called, part_still, part_then, part_stops}
 use Rattle.key_commands.proofs.Going.{draws_on, changes_on, turns_on}
@@ -44,14 +44,14 @@ module _ {D : Type 0} (turned : D → MarkStep → Turn → D → Type 0) (count
         (part_stops turned NoCall (part_alone turned NoCall conn (ends keys thrown) (Protects key pass (take 8 drawn) (take 12 (drop 8 drawn)) count) (Err why) desk held going (protects_on (alone.does None)) alone))
 
     module _ (file : List ℕ) (protected : DoesAlone (Protects key pass (take 8 drawn) (take 12 (drop 8 drawn)) count) (Ok file)) (desk_mid : D) where
-      pub none_cached : (why : Refusal) → DoesTurn turned (Changes (Put (hex_text (drop 20 drawn)) Nonce Default pass)) held desk (Err why) held desk_mid
+      pub none_cached : (why : Refusal) → TakesTurn turned (Changes (Put (hex_text (drop 20 drawn)) Nonce Default pass)) held desk (Err why) held desk_mid
           → DoesPart turned NoCall (StoresKey count key grip pass) held (at desk keys dice) (Err why) held (at desk_mid keys thrown)
       none_cached why turn =
           part_then turned NoCall (part_drawn turned NoCall conn desk tt keys held going refl draws)
           (part_then turned NoCall (part_alone turned NoCall conn (ends keys thrown) (Protects key pass (take 8 drawn) (take 12 (drop 8 drawn)) count) (Ok file) desk held going refl protected)
           (part_stops turned NoCall (part_turned turned NoCall conn (ends keys thrown) going (changes_on turn.does) turn)))
 
-      module _ (cached : DoesTurn turned (Changes (Put (hex_text (drop 20 drawn)) Nonce Default pass)) held desk (Ok tt) held desk_mid) (now : KeyFiles) where
+      module _ (cached : TakesTurn turned (Changes (Put (hex_text (drop 20 drawn)) Nonce Default pass)) held desk (Ok tt) held desk_mid) (now : KeyFiles) where
         pub none_replaced : (why : Refusal) → DoesKeyCalls (Replaces grip file) keys (Err why) now → DoesPart turned NoCall (StoresKey count key grip pass) held (at desk keys dice) (Err why) held (at desk_mid now thrown)
         none_replaced why calls =
             part_then turned NoCall (part_drawn turned NoCall conn desk tt keys held going refl draws)
@@ -60,7 +60,7 @@ module _ {D : Type 0} (turned : D → MarkStep → Turn → D → Type 0) (count
             (part_stops turned NoCall (part_called turned NoCall conn desk_mid tt thrown held going (replaces_on (calls.does None)) calls))))
 
         module _ (replaced : DoesKeyCalls (Replaces grip file) keys (Ok tt) now) (after : Option ℕ) (desk_now : D) where
-          pub none_kept : (why : Refusal) → DoesTurns turned (KeepsNew grip pass) held desk_mid (Err why) after desk_now → DoesPart turned NoCall (StoresKey count key grip pass) held (at desk keys dice) (Err why) after
+          pub none_kept : (why : Refusal) → TakesTurns turned (KeepsNew grip pass) held desk_mid (Err why) after desk_now → DoesPart turned NoCall (StoresKey count key grip pass) held (at desk keys dice) (Err why) after
               (at desk_now now thrown)
           none_kept why turns =
               part_then turned NoCall (part_drawn turned NoCall conn desk tt keys held going refl draws)
@@ -69,7 +69,7 @@ module _ {D : Type 0} (turned : D → MarkStep → Turn → D → Type 0) (count
               (part_then turned NoCall (part_called turned NoCall conn desk_mid tt thrown held going refl replaced)
               (part_stops turned NoCall (part_turns turned NoCall conn (ends now thrown) going (turns_on (λ events does. kept_on grip pass held after (Err why) events does) turns) turns)))))
 
-          pub all_stored : DoesTurns turned (KeepsNew grip pass) held desk_mid (Ok tt) after desk_now → DoesPart turned NoCall (StoresKey count key grip pass) held (at desk keys dice) (Ok (drop 20 drawn)) after (at desk_now now thrown)
+          pub all_stored : TakesTurns turned (KeepsNew grip pass) held desk_mid (Ok tt) after desk_now → DoesPart turned NoCall (StoresKey count key grip pass) held (at desk keys dice) (Ok (drop 20 drawn)) after (at desk_now now thrown)
           all_stored turns =
               part_then turned NoCall (part_drawn turned NoCall conn desk tt keys held going refl draws)
               (part_then turned NoCall (part_alone turned NoCall conn (ends keys thrown) (Protects key pass (take 8 drawn) (take 12 (drop 8 drawn)) count) (Ok file) desk held going refl protected)

@@ -7,10 +7,11 @@ use Rattle.assuan_server.specs.Connections.{Connection}
 use Rattle.assuan_server.specs.Written.{WritesText, WritesLine, refusal_line}
 use Rattle.cache_policy.specs.declared.mark.MarkStep.{MarkStep}
 use Rattle.cache_policy.specs.Turns.{Turn}
+use Rattle.session_client.specs.Refusals.{gone_by}
 use Rattle.session_client.specs.declared.unheard.Gone.TheVariants as gone
-use Rattle.key_commands.specs.Exchanges.{KeyReply, reply}
+use Rattle.key_commands.specs.Exchanges.{KeyReply, key_reply}
 use Rattle.key_commands.specs.Lines.{ok, info_line, nonce_line, IsDataAnswer}
-use Rattle.key_commands.specs.Parts.{Part, refusal_went}
+use Rattle.key_commands.specs.Parts.{Part, key_went_after}
 use Rattle.key_commands.specs.States.{KeyState, DoesPart}
 use Rattle.session_client.specs.declared.refusal.Refusal.{Refusal}
 use Rattle.key_commands.specs.declared.reply.Reply.{Reply}
@@ -37,13 +38,13 @@ pub data RespondsTo (before : Connection) : Result Reply Refusal → KeyWent →
   replied : {answer : Reply} {text : List ℕ} {after : Connection} (written : Result (Unit {0}) WriteFault) → IsReply answer text → WritesText text before written after
       → RespondsTo before (Ok answer) (went_unless_cut On written) after
   refused : {why : Refusal} {after : Connection} (written : Result (Unit {0}) WriteFault) → WritesLine (refusal_line why) before written after
-      → RespondsTo before (Err why) (went_unless_cut (refusal_went why) written) after
+      → RespondsTo before (Err why) (went_unless_cut (key_went_after (gone_by why)) written) after
 
 -- all was done for a request but its reply, whatever text that is written by
 pub data CarriesOut {D P : Type 0} (turned : D → MarkStep → Turn → D → Type 0) (prompted : P → Call → P → Type 0) (part : Part KeyReply) (before : WrapKeys)
     (start : KeyState turned prompted) : Result Reply Refusal → WrapKeys → Option ℕ → KeyState turned prompted → Type 0 where
   comes_to : {answer : Reply} {after : WrapKeys} {held : Option ℕ} {now : KeyState turned prompted}
-      → ((text : List ℕ) → IsReply answer text → DoesPart turned prompted part None start (Ok (reply after text)) held now)
+      → ((text : List ℕ) → IsReply answer text → DoesPart turned prompted part None start (Ok (key_reply after text)) held now)
       → CarriesOut turned prompted part before start (Ok answer) after held now
   stops_at : {why : Refusal} {held : Option ℕ} {now : KeyState turned prompted} → DoesPart turned prompted part None start (Err why) held now
       → CarriesOut turned prompted part before start (Err why) before held now

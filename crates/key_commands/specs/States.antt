@@ -14,10 +14,11 @@ use Rattle.assuan_server.specs.Connections.{Connection}
 use Rattle.cache_policy.specs.declared.mark.MarkStep.{MarkStep}
 use Rattle.cache_policy.specs.Turns.{Turn}
 use Rattle.session_client.specs.Asking.{HasEnded}
+use Rattle.session_client.specs.Refusals.{gone_by}
 use Rattle.session_client.specs.declared.unheard.Gone.TheVariants.{ReadFault, WriteFault}
 use Rattle.key_commands.specs.Events.{Event}
 use Rattle.key_commands.specs.KeyEnds.{DoesAtKeys}
-use Rattle.key_commands.specs.Parts.{Part, refusal_went}
+use Rattle.key_commands.specs.Parts.{Part, key_went_after}
 use Rattle.session_client.specs.declared.refusal.Refusal.{Refusal}
 use Rattle.key_commands.specs.declared.went.KeyWent.{KeyWent}
 use Rattle.key_commands.specs.declared.went.KeyWent.TheVariants.{On, Gone}
@@ -31,7 +32,7 @@ ReaderAfter (Gone how) before after = HasEnded answer_of how after.ended
 -- how the session stands after a part that came to this
 abbrev pub went_by : {A : Type 0} → Result A Refusal → KeyWent
 went_by (Ok value) = On
-went_by (Err why) = refusal_went why
+went_by (Err why) = key_went_after (gone_by why)
 
 module _ {D P : Type 0} (turned : D → MarkStep → Turn → D → Type 0) (prompted : P → Call → P → Type 0) where
   -- a desk, and a prompter, keys and dice, that show their calls so

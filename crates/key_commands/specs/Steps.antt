@@ -2,7 +2,8 @@
 use Rattle.std.specs.Prelude.{◌≡◌, ℕ, ◌==◌, ◌&&◌, nat_lt, Bool, List, [], ◌∷◌, length, Option, Some, None, Result, Ok, Err}
 use Rattle.std.specs.List.{list_all}
 use Rattle.agent_ask.specs.Further.{KeyCall, Draw, Dice, DoesKeys, DoesDraw}
-use Rattle.agent_ask.specs.SessionEvents.{Further, cache_turn}
+use Rattle.agent_ask.specs.PartStates.{DoesTurn, DoesTurns}
+use Rattle.agent_ask.specs.SessionEvents.{Further}
 use Rattle.agent_ports.specs.KeyFiles.{KeyFiles}
 use Rattle.agent_ports.specs.Sides.{Side}
 use Rattle.agent_ports.specs.declared.keys.KeyDone.{KeyDone}
@@ -28,19 +29,12 @@ use Rattle.session_client.specs.declared.refusal.Refusal.TheVariants.{Agent, Cli
 abbrev pub are_padding : List ℕ → Bool
 are_padding bytes = nat_lt (length bytes) 8 && list_all (λ byte. byte == 0) bytes
 
--- a part that is one turn at the desk
-pub record DoesTurn {D : Type 0} (turned : D → MarkStep → Turn → D → Type 0) {A : Type 0} (part : Part A) (before : Option ℕ) (desk : D)
-    (result : Result A Refusal) (after : Option ℕ) (now : D) : Type 0 where
-  pub step : MarkStep
-  pub turn : Turn
-  pub turned_so : turned desk step turn now
-  pub does : part before (cache_turn step turn ∷ []) result after
+-- a part of a request on keys that is one turn at the desk, and one that is one turn at most
+abbrev pub TakesTurn : {D : Type 0} (turned : D → MarkStep → Turn → D → Type 0) {A : Type 0} → Part A → Option ℕ → D → Result A Refusal → Option ℕ → D → Type 0
+TakesTurn turned part = DoesTurn turned part
 
--- a part that is one turn at the desk, or nothing
-pub data DoesTurns {D : Type 0} (turned : D → MarkStep → Turn → D → Type 0) {A : Type 0} (part : Part A) (before : Option ℕ) (desk : D)
-    (result : Result A Refusal) (after : Option ℕ) : D → Type 0 where
-  still : part before [] result after → DoesTurns turned part before desk result after desk
-  one : {now : D} → DoesTurn turned part before desk result after now → DoesTurns turned part before desk result after now
+abbrev pub TakesTurns : {D : Type 0} (turned : D → MarkStep → Turn → D → Type 0) {A : Type 0} → Part A → Option ℕ → D → Result A Refusal → Option ℕ → D → Type 0
+TakesTurns turned part = DoesTurns turned part
 
 -- no events, or that there was no memory
 pub data AreAlone : List Event → Type 0 where

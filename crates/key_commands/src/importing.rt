@@ -13,7 +13,6 @@ ghost use Rattle.key_commands.specs.declared.wrapping.TheConstants.{MAX_LIST_LEN
 
 use crate::asking::Asking;
 use crate::drawing::draw;
-use crate::held::Held;
 use crate::key_calls::replace_file;
 use crate::new::new_passphrase;
 use crate::protecting::{keep_new, protected_key};
@@ -21,7 +20,7 @@ use crate::receiving::{check_free, look_over, name_key, receive_key};
 use crate::reply::Reply;
 use crate::turns::keep_by_nonce;
 use crate::wrap_keys::WrapKeys;
-use agent_ask::Prompter;
+use agent_ask::{Held, Prompter};
 use agent_ports::{Dice, Keys, Link};
 use assuan_server::{Code, Conn};
 use cache_policy::{CacheId, Desk, Secret};

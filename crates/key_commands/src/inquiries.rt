@@ -5,9 +5,9 @@ ghost use Rattle.assuan_line.specs.Lines.{IsLine};
 ghost use Rattle.assuan_server.specs.Connections.{IsOpen};
 ghost use Rattle.assuan_server.specs.Inquiries.{inquire_text};
 ghost use Rattle.assuan_server.specs.Written.{WritesText};
-ghost use Rattle.cache_policy.specs.declared.secret.TheConstants.{MAX_SECRET_LEN};
 ghost use Rattle.key_commands.specs.Lines.{limit_line};
-ghost use Rattle.key_commands.specs.Parts.{AsksClient, Writes};
+ghost use Rattle.agent_ask.specs.ClientParts.{Writes};
+ghost use Rattle.key_commands.specs.Passphrases.{AsksSecret};
 ghost use Rattle.key_commands.specs.Partial.{DoesAtClient};
 
 use agent_ports::{Link, WriteFault};
@@ -20,7 +20,7 @@ use session_client::{Gone, Refusal, Unheard};
 pub(crate) fn ask_client<L: Link>(word: &[u8], conn: &mut Conn<'_, L>) -> Result<Secret, Refusal>
     requires open { IsOpen conn.old }
     requires one_line { IsLine (inquire_text word.now []) }
-    ensures { DoesAtClient (AsksClient word.now MAX_SECRET_LEN) conn.old result conn.new }
+    ensures { DoesAtClient (AsksSecret word.now) conn.old result conn.new }
 {
     tell_limit(MAX_SECRET_LEN, conn)?;
     match conn.inquire_secret(word, b"").said() {

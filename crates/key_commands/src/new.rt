@@ -9,12 +9,11 @@ ghost use Rattle.key_commands.specs.Partial.{DoesAtClient, LeavesKeys};
 ghost use Rattle.key_commands.specs.Passphrases.{ClientNew, NewPassphrase, new_by};
 
 use crate::asking::Asking;
-use crate::held::Held;
 use crate::inquiries::ask_client;
 use crate::nonces::look_for_nonce;
 use crate::prompting::prompt_new;
 use crate::turns::take_seat;
-use agent_ask::Prompter;
+use agent_ask::{Held, Prompter};
 use agent_ports::Link;
 use assuan_server::{Code, Conn};
 use cache_policy::{CacheId, Desk, Secret};

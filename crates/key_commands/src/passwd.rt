@@ -18,14 +18,12 @@ ghost use Rattle.key_commands.specs.declared.wrapping.TheConstants.{MAX_LIST_LEN
 use crate::asking::Asking;
 use crate::drawing::{Drawn, draw};
 use crate::files::rewrite;
-use crate::held::Held;
 use crate::key_calls::{read_file, replace_file};
 use crate::new::renewed_passphrase;
 use crate::old::{old_passphrase, verified_passphrase};
 use crate::protecting::{check_len, keep_new, protected_key, salt_and_iv};
 use crate::reply::Reply;
-use crate::turns::close;
-use agent_ask::Prompter;
+use agent_ask::{Held, Prompter, close};
 use agent_ports::{Dice, Keys, Link};
 use assuan_server::Conn;
 use cache_policy::{CacheId, Desk, Secret};

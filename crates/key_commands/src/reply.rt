@@ -6,7 +6,8 @@ ghost use Rattle.assuan_server.specs.Written.{WritesText};
 ghost use Rattle.assuan_text.specs.LineEnds.{has_lf};
 ghost use Rattle.key_commands.specs.Lines.{ok, nonce_line, IsDataAnswer};
 ghost use Rattle.assuan_server.specs.Written.{refusal_line};
-ghost use Rattle.key_commands.specs.Parts.{refusal_went};
+ghost use Rattle.key_commands.specs.Parts.{key_went_after};
+ghost use Rattle.session_client.specs.Refusals.{gone_by};
 ghost use Rattle.key_commands.specs.Replies.{IsReply, RespondsTo, went_unless_cut};
 ghost use Rattle.assuan_server.specs.Written.{WritesLine};
 
@@ -90,7 +91,7 @@ fn write_nonce<L: Link>(nonce: &[u8; 12], conn: &mut Conn<'_, L>) -> Result<(), 
 
 /// How a session goes on after a refusal.
 fn went_after(why: Refusal) -> KeyWent
-    ensures { result ≡ refusal_went why }
+    ensures { result ≡ key_went_after (gone_by why) }
 {
     match why.gone() {
         Some(how) => KeyWent::Gone(how),

@@ -5,27 +5,28 @@ use Rattle.agent_ask.specs.Parts.{returns, refuses}
 use Rattle.key_commands.proofs.Doing.{part_still, part_turned, part_then, part_stops}
 use Rattle.key_commands.proofs.Going.{seats_on}
 use Rattle.key_commands.proofs.Partial.{beside_prompter}
+use Rattle.key_commands.proofs.Seating.{seat_turn}
 use Rattle.key_commands.proofs.consent.consent.Goals as goal
 
 pub returns-then-force-clause-consents : goal.returns-then-force-clause-consents
 returns-then-force-clause-consents g c = λ files side.
     rw c.if-force.true (part_still g.D.Desk.turned g.P.Prompter.prompted c.args.conn.now (record { prompter = c.args.prompter.now; keys = files; dice = side }) c.args.desk.now c.requires.open refl returns)
 
-pub returns-in_err-seat-in-Ask-clause-consents : goal.returns-in_err-seat-in-Ask-clause-consents
-returns-in_err-seat-in-Ask-clause-consents g c = λ files side.
+pub returns-in_err-hold_seat-in-Ask-clause-consents : goal.returns-in_err-hold_seat-in-Ask-clause-consents
+returns-in_err-hold_seat-in-Ask-clause-consents g c = λ files side.
     let p = err_from_is_err_and c.from_residual.result c.from_residual.ensures.1 in
-    let turn = c.in_err-seat-in-Ask.ensures.turn in
-    rw (c.if-force.false, sym c.mode.ensures ∙ c.in-Ask.is, p.1, p.2)
+    let turn = seat_turn c.in_err-hold_seat-in-Ask.ensures.taken in
+    rw (c.if-force.false, sym c.mode.ensures ∙ c.in-Ask.is, c.requires.none, p.1, p.2)
     (part_stops g.D.Desk.turned g.P.Prompter.prompted
     (part_turned g.D.Desk.turned g.P.Prompter.prompted c.args.conn.now (record { prompter = c.args.prompter.now; keys = files; dice = side }) c.requires.open (seats_on turn.does) turn))
 
 pub returns-in-Some-clause-consents : goal.returns-in-Some-clause-consents
 returns-in-Some-clause-consents g c = λ files side.
-    let held : c.seat.new.held ≡ Some c.in-Some.ticket.now = sym c.ticket.ensures ∙ ap option_copied c.in-Some.is in
-    rw (c.if-force.false, sym c.mode.ensures ∙ c.in-Ask.is)
+    let held : c.hold_seat.new.held ≡ Some c.in-Some.ticket.now = sym c.ticket.ensures ∙ ap option_copied c.in-Some.is in
+    rw (c.if-force.false, sym c.mode.ensures ∙ c.in-Ask.is, c.requires.none)
     (part_then g.D.Desk.turned g.P.Prompter.prompted
-    (part_turned g.D.Desk.turned g.P.Prompter.prompted c.args.conn.now (record { prompter = c.args.prompter.now; keys = files; dice = side }) c.requires.open refl c.in_ok-seat-in-Ask.ensures.turn)
-    (rw held (beside_prompter g.D.Desk.turned g.P.Prompter.prompted c.seat.new.desk c.ask_consent.ensures.agrees files side)))
+    (part_turned g.D.Desk.turned g.P.Prompter.prompted c.args.conn.now (record { prompter = c.args.prompter.now; keys = files; dice = side }) c.requires.open refl (seat_turn c.in_ok-hold_seat-in-Ask.ensures.taken))
+    (rw held (beside_prompter g.D.Desk.turned g.P.Prompter.prompted c.hold_seat.new.desk c.ask_consent.ensures.agrees files side)))
 
 pub returns-in-Cancel-clause-consents : goal.returns-in-Cancel-clause-consents
 returns-in-Cancel-clause-consents g c = λ files side.

@@ -1,6 +1,7 @@
 use Rattle.std.proofs.Common.{None, refl, sym}
 use Rattle.std.proofs.lemmas.Result.{err_from_is_err_and}
 use Rattle.session_client.specs.declared.code.Code.TheVariants.{Parameter}
+use Rattle.agent_ask.proofs.PartsDone.{ticket_given}
 use Rattle.key_commands.specs.Exchanges.{ExportKeyReplies}
 use Rattle.key_commands.specs.KeyParts.{tells}
 use Rattle.agent_ask.specs.Parts.{returns as is_returned}
@@ -60,7 +61,7 @@ returns-in_err-wrapped-clause-carries g c = λ dice.
     (part_called g.D.Desk.turned g.P.Prompter.prompted c.args.conn.now c.args.desk.now c.args.prompter.now dice None c.requires.open refl c.in_ok-file.ensures.reads)
     (part_then g.D.Desk.turned g.P.Prompter.prompted (opened (g.K.Keys.keys c.read_file.new.keys) dice)
     (part_then g.D.Desk.turned g.P.Prompter.prompted
-    (leaves_turns g.D.Desk.turned g.P.Prompter.prompted going (λ events closes. refl) c.close.ensures.turn (g.K.Keys.keys c.read_file.new.keys) dice)
+    (leaves_turns g.D.Desk.turned g.P.Prompter.prompted going (λ events closes. refl) (ticket_given c.close.ensures.given) (g.K.Keys.keys c.read_file.new.keys) dice)
     (part_stops g.D.Desk.turned g.P.Prompter.prompted
     (leaves_alone g.D.Desk.turned g.P.Prompter.prompted going None c.close.new.desk (λ events. wraps_on) c.in_err-wrapped.ensures (g.K.Keys.keys c.read_file.new.keys) dice)))))))
 
@@ -78,7 +79,7 @@ returns-clause-carries g c = λ dice.
     (part_called g.D.Desk.turned g.P.Prompter.prompted c.args.conn.now c.args.desk.now c.args.prompter.now dice None c.requires.open refl c.in_ok-file.ensures.reads)
     (part_then g.D.Desk.turned g.P.Prompter.prompted (opened (g.K.Keys.keys c.read_file.new.keys) dice)
     (part_then g.D.Desk.turned g.P.Prompter.prompted
-    (leaves_turns g.D.Desk.turned g.P.Prompter.prompted going (λ events closes. refl) c.close.ensures.turn (g.K.Keys.keys c.read_file.new.keys) dice)
+    (leaves_turns g.D.Desk.turned g.P.Prompter.prompted going (λ events closes. refl) (ticket_given c.close.ensures.given) (g.K.Keys.keys c.read_file.new.keys) dice)
     (part_then g.D.Desk.turned g.P.Prompter.prompted
     (leaves_alone g.D.Desk.turned g.P.Prompter.prompted going None c.close.new.desk (λ events. wraps_on) c.in_ok-wrapped.ensures (g.K.Keys.keys c.read_file.new.keys) dice)
     (part_then g.D.Desk.turned g.P.Prompter.prompted

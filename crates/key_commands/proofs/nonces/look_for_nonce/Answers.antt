@@ -1,5 +1,5 @@
 use Rattle.agent_ask.specs.Parts.{returns}
-use Rattle.key_commands.specs.Steps.{still, one}
+use Rattle.agent_ask.specs.PartStates.{still, one}
 use Rattle.key_commands.proofs.nonces.look_for_nonce.Goals as goal
 
 pub returns-in-None-clause-turn : goal.returns-in-None-clause-turn

@@ -1,5 +1,6 @@
 use Rattle.std.proofs.Common.{None, refl}
 use Rattle.std.proofs.lemmas.Result.{err_from_is_err_and}
+use Rattle.agent_ask.proofs.PartsDone.{ticket_given}
 use Rattle.key_commands.specs.Exchanges.{VerifyReplies}
 use Rattle.agent_ask.specs.Parts.{returns as is_returned}
 use Rattle.key_commands.specs.Replies.{stops_at}
@@ -40,5 +41,5 @@ returns-clause-carries g c = λ wraps dice.
     (part_called g.D.Desk.turned g.P.Prompter.prompted c.args.conn.now c.args.desk.now c.args.prompter.now dice None c.requires.open refl c.in_ok-file.ensures.reads)
     (part_then g.D.Desk.turned g.P.Prompter.prompted (opened (g.K.Keys.keys c.read_file.new.keys) dice)
     (part_then g.D.Desk.turned g.P.Prompter.prompted
-    (leaves_turns g.D.Desk.turned g.P.Prompter.prompted going (λ events closes. refl) c.close.ensures.turn (g.K.Keys.keys c.read_file.new.keys) dice)
+    (leaves_turns g.D.Desk.turned g.P.Prompter.prompted going (λ events closes. refl) (ticket_given c.close.ensures.given) (g.K.Keys.keys c.read_file.new.keys) dice)
     (leaves_still g.D.Desk.turned g.P.Prompter.prompted going c.close.new.desk refl is_returned (g.K.Keys.keys c.read_file.new.keys) dice)))))

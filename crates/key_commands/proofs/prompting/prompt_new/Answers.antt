@@ -1,6 +1,7 @@
 use Rattle.std.proofs.Common.{true}
 use Rattle.key_commands.specs.Passphrases.{given, refused}
-use Rattle.key_commands.proofs.AtPrompt.{prompt_gave, prompt_refused, pin_refuses, spec_says, plan_says, planned}
+use Rattle.agent_ask.proofs.PartsAtClient.{pin_refuses}
+use Rattle.key_commands.proofs.AtPrompt.{prompt_gave, prompt_refused, spec_says, plan_says, planned}
 use Rattle.key_commands.proofs.prompting.prompt_new.Goals as goal
 
 pub pin_refusal-requires : goal.pin_refusal-requires

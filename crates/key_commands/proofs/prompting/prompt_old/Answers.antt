@@ -1,6 +1,7 @@
 use Rattle.std.proofs.Common.{false, refl}
 use Rattle.key_commands.specs.Passphrases.{opens_by, refused}
-use Rattle.key_commands.proofs.AtPrompt.{prompt_gave, prompt_refused, pin_refuses, opened_last, opens_last, spec_says, plan_says, planned}
+use Rattle.agent_ask.proofs.PartsAtClient.{pin_refuses}
+use Rattle.key_commands.proofs.AtPrompt.{prompt_gave, prompt_refused, opened_last, opens_last, spec_says, plan_says, planned}
 use Rattle.key_commands.proofs.prompting.prompt_old.Goals as goal
 
 pub pin_refusal-requires : goal.pin_refusal-requires
