@@ -1,9 +1,8 @@
 -- Requests on keys each of whose events is so, where each event but a read request and a call of the trust file is so.
-use Rattle.std.specs.List.{AllByRecursion}
-use Rattle.std.proofs.Common.{ℕ, Bool, true, false, List, [], ◌∷◌, ◌++◌, Option, Some, None, Result, Ok, Err}
+use Rattle.std.proofs.Common.{ℕ, Bool, true, false, List, ◌++◌, Option, Some, None, Ok, Err}
 use Rattle.std.specs.Prelude.{⊤}
 use Rattle.agent_ask.specs.Further.{Keys, Dice, NoMemory, Prompt, Trust}
-use Rattle.agent_ask.specs.SessionEvents.{Received, Sent, Cut, Inquiry, CacheTurn, Further, CutAtLast, said_last}
+use Rattle.agent_ask.specs.SessionEvents.{Received, Sent, Cut, Inquiry, CacheTurn, Further, said_last}
 use Rattle.agent_ports.specs.declared.grip.Grip.{Grip}
 use Rattle.session_client.specs.declared.code.Code.TheVariants as code
 use Rattle.secret_file.specs.Opens.{LockedKey}
@@ -19,8 +18,7 @@ use Rattle.agent_ask.specs.PartExchanges as exchange
 use Rattle.key_commands.specs.KeyParts.{Consents}
 use Rattle.agent_ask.specs.TurnParts.{Closes}
 use Rattle.assuan_server.specs.Written.{refusal_line}
-use Rattle.key_commands.specs.Passphrases.{UncachedOld, OpensLocked, OldPassphrase, NewPassphrase, old_by, verified_by, new_by}
-use Rattle.session_client.specs.declared.refusal.Refusal.{Refusal}
+use Rattle.key_commands.specs.Passphrases.{UncachedOld, OpensLocked, old_by, verified_by, new_by}
 use Rattle.session_client.specs.declared.refusal.Refusal.TheVariants.{Agent}
 use Rattle.key_commands.specs.declared.request.Direction.{Direction}
 use Rattle.key_commands.specs.declared.request.KeyRequest.{KeyRequest}

@@ -10,9 +10,10 @@ use Rattle.cache_policy.specs.Turns.{Turn, Open, FitsStep, opens}
 use Rattle.agent_ask.specs.Seats.{TakesTicket}
 use Rattle.agent_ask.proofs.PartsDone.{ticket_taken}
 use Rattle.agent_ask.specs.Parts.{returns}
+use Rattle.key_commands.specs.Events.{Event}
 use Rattle.key_commands.specs.Passphrases.{TakesSeat, seat_for}
-use Rattle.agent_ask.specs.PartStates.{one}
-use Rattle.agent_ask.specs.TurnParts.{Seats}
+use Rattle.agent_ask.specs.PartStates.{still, one}
+use Rattle.agent_ask.specs.TurnParts.{Seats, opened}
 use Rattle.key_commands.specs.Steps.{TakesTurn, TakesTurns}
 use Rattle.session_client.specs.declared.refusal.Refusal.{Refusal}
 
@@ -35,11 +36,21 @@ pub seat_turn : {D : Type 0} {turned : D → MarkStep → Turn → D → Type 0}
     → TakesTicket turned step desk result after now → TakesTurn turned (Seats step) None desk result after now
 seat_turn = ticket_taken
 
-seat_one : {D : Type 0} {turned : D → MarkStep → Turn → D → Type 0} {desk now : D} {result : Result (Unit {0}) Refusal} {after : Option ℕ} (grip : Grip)
-    → TakesTurn turned (Seats (seat_for grip)) None desk result after now → TakesTurns turned (TakesSeat grip) None desk result after now
-seat_one grip done = one (record { step = done.step; turn = done.turn; turned_so = done.turned_so; does = done.does })
+module _ {D : Type 0} {turned : D → MarkStep → Turn → D → Type 0} (grip : Grip) {desk now : D} where
+  seat_one : {result : Result (Unit {0}) Refusal} {after : Option ℕ} → TakesTurn turned (Seats (seat_for grip)) None desk result after now → TakesTurns turned (TakesSeat grip) None desk result after now
+  seat_one done = one (record { step = done.step; turn = done.turn; turned_so = done.turned_so; does = done.does; on = done.on })
 
-pub seat_taken : {D : Type 0} {turned : D → MarkStep → Turn → D → Type 0} {desk now : D} {result : Result (Unit {0}) Refusal} {after : Option ℕ} (grip : Grip) (held : Option ℕ) → held ≡ None
-    → TakesTicket turned (seat_for grip) desk result after now → TakesTurns turned (TakesSeat grip) held desk result after now
-seat_taken grip None is takes = seat_one grip (seat_turn takes)
-seat_taken grip (Some ticket) is takes = cc is
+  pub seat_taken : {result : Result (Unit {0}) Refusal} {after : Option ℕ} (held : Option ℕ) → held ≡ None → TakesTicket turned (seat_for grip) desk result after now
+      → TakesTurns turned (TakesSeat grip) held desk result after now
+  seat_taken None is takes = seat_one (seat_turn takes)
+  seat_taken (Some ticket) is takes = cc is
+
+-- a request that has taken its seat holds a ticket
+holds_ticket : (grip : Grip) (before after : Option ℕ) (events : List Event) → TakesSeat grip before events (Ok tt) after → is_some after ≡ true
+holds_ticket grip None after events opened = refl
+holds_ticket grip (Some ticket) after events returns = refl
+
+pub seated : {D : Type 0} {turned : D → MarkStep → Turn → D → Type 0} (grip : Grip) {before after : Option ℕ} {desk now : D} → TakesTurns turned (TakesSeat grip) before desk (Ok tt) after now
+    → is_some after ≡ true
+seated grip {before} {after} (still does on) = holds_ticket grip before after [] does
+seated grip {before} {after} (one turn) = holds_ticket grip before after _ turn.does

@@ -47,6 +47,10 @@ abbrev pub key_went_after : Option Gone → KeyWent
 key_went_after None = On
 key_went_after (Some how) = AtGone how
 
+abbrev pub key_gone : KeyWent → Option Gone
+key_gone On = None
+key_gone (AtGone how) = Some how
+
 -- what is written for a refusal
 abbrev pub refusal_events : Refusal → List Event
 refusal_events why = said_last (refusal_line why)

@@ -2,7 +2,7 @@
 use Rattle.std.specs.Prelude.{◌≡◌, ℕ, ◌==◌, ◌&&◌, nat_lt, Bool, List, [], ◌∷◌, length, Option, Some, None, Result, Ok, Err}
 use Rattle.std.specs.List.{list_all}
 use Rattle.agent_ask.specs.Further.{KeyCall, Draw, Dice, DoesKeys, DoesDraw}
-use Rattle.agent_ask.specs.PartStates.{DoesTurn, DoesTurns}
+use Rattle.agent_ask.specs.PartStates.{gone_in, DoesTurn, DoesTurns}
 use Rattle.agent_ask.specs.SessionEvents.{Further}
 use Rattle.agent_ports.specs.KeyFiles.{KeyFiles}
 use Rattle.agent_ports.specs.Sides.{Side}
@@ -36,16 +36,10 @@ TakesTurn turned part = DoesTurn turned part
 abbrev pub TakesTurns : {D : Type 0} (turned : D → MarkStep → Turn → D → Type 0) {A : Type 0} → Part A → Option ℕ → D → Result A Refusal → Option ℕ → D → Type 0
 TakesTurns turned part = DoesTurns turned part
 
--- no events, or that there was no memory
-pub data AreAlone : List Event → Type 0 where
-  nothing : AreAlone []
-  memory : AreAlone (out_of_memory ∷ [])
-
 -- a part in which nothing is done, but that there may be no memory, whatever ticket is held
-pub record DoesAlone {A : Type 0} (part : Part A) (result : Result A Refusal) : Type 0 where
-  pub events : List Event
-  pub alone : AreAlone events
-  pub does : (held : Option ℕ) → part held events result held
+pub data DoesAlone {A : Type 0} (part : Part A) (result : Result A Refusal) : Type 0 where
+  nothing : ((held : Option ℕ) → part held [] result held) → gone_in result ≡ None → DoesAlone part result
+  memory : ((held : Option ℕ) → part held (out_of_memory ∷ []) result held) → gone_in result ≡ None → DoesAlone part result
 
 -- calls of the keys, one after another, by which memory may be wanted
 pub data KeysLead : KeyFiles → List Event → KeyFiles → Type 0 where
@@ -58,16 +52,18 @@ pub record DoesKeyCalls {A : Type 0} (part : Part A) (before : KeyFiles) (result
   pub events : List Event
   pub lead : KeysLead before events after
   pub does : (held : Option ℕ) → part held events result held
+  pub on : gone_in result ≡ None
 
 -- a part that is one draw of random bytes, whatever ticket is held
 pub record DoesDrawing {A : Type 0} (part : Part A) (before : Side) (result : Result A Refusal) (after : Side) : Type 0 where
   pub draw : Draw
   pub draws : DoesDraw before draw after
   pub does : (held : Option ℕ) → part held (Further (Dice draw) ∷ []) result held
+  pub on : gone_in result ≡ None
 
 -- one draw at most
 pub data DoesDrawings {A : Type 0} (part : Part A) (before : Side) (result : Result A Refusal) : Side → Type 0 where
-  no_draw : ((held : Option ℕ) → part held [] result held) → DoesDrawings part before result before
+  no_draw : ((held : Option ℕ) → part held [] result held) → gone_in result ≡ None → DoesDrawings part before result before
   one_draw : {after : Side} → DoesDrawing part before result after → DoesDrawings part before result after
 
 -- a change of a key's file was done, or is refused by this answer
