@@ -11,3 +11,5 @@ pub mod Prompting
 pub mod ConsentParts
 pub mod PartsDone
 pub mod PartsAtClient
+pub mod Replying
+pub mod PartValues

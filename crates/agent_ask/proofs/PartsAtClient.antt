@@ -1,5 +1,5 @@
 -- Parts at the client: a text that is written, an inquiry, a prompt that it is told of.
-use Rattle.std.proofs.Common.{◌≡◌, ◌≢◌, ◌≤◌, ℕ, List, [], ◌∷◌, Option, Some, Result, Ok, Err, IsSome, refl, arith, sym, ◌∙◌}
+use Rattle.std.proofs.Common.{◌≡◌, ◌≢◌, ◌≤◌, ℕ, List, [], ◌∷◌, Option, Some, Result, Ok, Err, IsSome, refl, arith, sym, ◌∙◌, subst}
 use Rattle.agent_ports.specs.Leads.{Leads}
 use Rattle.agent_ports.specs.Writing.{StopsWriting}
 use Rattle.agent_ports.specs.declared.link.WriteFault.{WriteFault}
@@ -12,6 +12,7 @@ use Rattle.session_client.specs.declared.refusal.Refusal.TheVariants.{Agent, Pin
 use Rattle.session_client.specs.declared.unheard.Gone.TheVariants as gone
 use Rattle.session_client.specs.declared.unheard.Unheard.{Unheard}
 use Rattle.session_client.specs.declared.unheard.Unheard.TheVariants as unheard
+use Rattle.agent_ask.specs.Answering.{ReaderLeft, FaultsCounted}
 use Rattle.agent_ask.specs.Callers.{IsUnheardBy}
 use Rattle.agent_ask.specs.ClientParts.{Writes, written, cut, Inquires, given, not_given}
 use Rattle.agent_ask.specs.Clients.{Hears, LeftByPin, LeftByPart}
@@ -19,7 +20,7 @@ use Rattle.agent_ask.specs.Doing.{PromptEnds, DoesCall, DoesPrompt, HasEvents}
 use Rattle.agent_ask.specs.Events.{Call, PromptEvent}
 use Rattle.agent_ask.specs.Further.{FurtherEvent, Prompt, EventOf, world_with}
 use Rattle.agent_ask.specs.Parts.{PartOf}
-use Rattle.agent_ask.specs.PartStates.{part_state, ReaderLeft, FaultsCounted, gone_in, DoesPart, NoTurn, NoEnd, DoesWithClient}
+use Rattle.agent_ask.specs.PartStates.{part_state, gone_in, DoesPart, NoTurn, NoEnd, DoesWithClient}
 use Rattle.agent_ask.specs.PinParts.{PromptsPin, pin_refusal}
 use Rattle.agent_ask.specs.Prompts.{AsksPinBy}
 use Rattle.agent_ask.specs.SessionEvents.{Sent, Cut, Inquiry}
@@ -50,6 +51,32 @@ module _ {lines : Lines} {C : Type 0} (views : Views lines C) (start now : C) wh
   faults_unheard unheard.Unexpected left = record { read = λ e. absurd (cc e); write = λ e. absurd (cc e) }
   faults_unheard (unheard.Gone how) left = record { read = λ e. left.read_fault (cc e); write = λ e. left.write_fault (cc e) }
 
+  -- how it is left by a prompt
+  module _ {A : Type 0} where
+    reader_left : (result : Result A Refusal) → (IsOpen views now → views.held now ≤ views.held start) → LeftByPart views result start now → ReaderLeft views (gone_in result) start now
+    reader_left (Ok value) fewer left = (left, fewer left)
+    reader_left (Err (Agent code)) fewer left = (left, fewer left)
+    reader_left (Err (Pinentry code)) fewer left = (left, fewer left)
+    reader_left (Err (Client why)) fewer left = reader_unheard fewer why left
+
+    faults_left : (result : Result A Refusal) → LeftByPart views result start now → FaultsCounted views (gone_in result) start now
+    faults_left (Ok value) left = record { read = λ e. absurd (cc e); write = λ e. absurd (cc e) }
+    faults_left (Err (Agent code)) left = record { read = λ e. absurd (cc e); write = λ e. absurd (cc e) }
+    faults_left (Err (Pinentry code)) left = record { read = λ e. absurd (cc e); write = λ e. absurd (cc e) }
+    faults_left (Err (Client why)) left = faults_unheard why left
+
+  -- whose answer refuses its request
+  module _ (A : Type 0) where
+    left_by_pin : (answer : Asked) (why : Refusal) → pin_refusal answer ≡ Some why → LeftByPin views answer start now → LeftByPart views {A = A} (Err why) start now
+    left_by_pin (asked.Pin pin) why is left = cc is
+    left_by_pin asked.Cancelled why is left = left_open views start now A (Pinentry code.Cancelled) why is left
+    left_by_pin asked.TimedOut why is left = left_open views start now A (Pinentry code.Timeout) why is left
+    left_by_pin asked.NoPinentry why is left = left_open views start now A (Agent code.NoPinentry) why is left
+    left_by_pin asked.Bad why is left = left_open views start now A (Agent code.BadPass) why is left
+    left_by_pin asked.NoMemory why is left = left_open views start now A (Agent code.NoMemory) why is left
+    left_by_pin (asked.Heard heard) why is left = left_unheard views start now A heard why is left
+
+module _ {lines : Lines} {C : Type 0} {views : Views lines C} {start now : C} where
   -- a text was written
   pub wrote : {text : List ℕ} → IsOpen views start → HasSaid views text start (Ok tt) now → DoesWithClient views (Writes text) start (Ok tt) now
   wrote going said ticket = record {
@@ -90,34 +117,9 @@ module _ {lines : Lines} {C : Type 0} (views : Views lines C) (start now : C) wh
     events = Inquiry _ [] _ asks.inquired ∷ [];
     does = not_given (sym asks.result_is);
     done = done_inquired {w = world_with {lines = lines} NoTurn NoEnd} tt tt asks.inquired asks.inquires.done;
-    fits = reader_unheard asks.inquires.fewer why asks.inquires.left;
-    faults = faults_unheard why asks.inquires.left;
+    fits = reader_unheard views start now asks.inquires.fewer why asks.inquires.left;
+    faults = faults_unheard views start now why asks.inquires.left;
   }
-
-  -- how it is left by a prompt
-  module _ {A : Type 0} where
-    reader_left : (result : Result A Refusal) → (IsOpen views now → views.held now ≤ views.held start) → LeftByPart views result start now → ReaderLeft views (gone_in result) start now
-    reader_left (Ok value) fewer left = (left, fewer left)
-    reader_left (Err (Agent code)) fewer left = (left, fewer left)
-    reader_left (Err (Pinentry code)) fewer left = (left, fewer left)
-    reader_left (Err (Client why)) fewer left = reader_unheard fewer why left
-
-    faults_left : (result : Result A Refusal) → LeftByPart views result start now → FaultsCounted views (gone_in result) start now
-    faults_left (Ok value) left = record { read = λ e. absurd (cc e); write = λ e. absurd (cc e) }
-    faults_left (Err (Agent code)) left = record { read = λ e. absurd (cc e); write = λ e. absurd (cc e) }
-    faults_left (Err (Pinentry code)) left = record { read = λ e. absurd (cc e); write = λ e. absurd (cc e) }
-    faults_left (Err (Client why)) left = faults_unheard why left
-
-  -- whose answer refuses its request
-  module _ (A : Type 0) where
-    left_by_pin : (answer : Asked) (why : Refusal) → pin_refusal answer ≡ Some why → LeftByPin views answer start now → LeftByPart views {A = A} (Err why) start now
-    left_by_pin (asked.Pin pin) why is left = cc is
-    left_by_pin asked.Cancelled why is left = left_open views start now A (Pinentry code.Cancelled) why is left
-    left_by_pin asked.TimedOut why is left = left_open views start now A (Pinentry code.Timeout) why is left
-    left_by_pin asked.NoPinentry why is left = left_open views start now A (Agent code.NoPinentry) why is left
-    left_by_pin asked.Bad why is left = left_open views start now A (Agent code.BadPass) why is left
-    left_by_pin asked.NoMemory why is left = left_open views start now A (Agent code.NoMemory) why is left
-    left_by_pin (asked.Heard heard) why is left = left_unheard views start now A heard why is left
 
 -- The further ends hold the prompter: with each state of it they are these, and what a prompt does to it is done to them.
 module _ {lines : Lines} {C P E : Type 0} (views : Views lines C) {prompted : P → Call → P → Type 0} (further : E → FurtherEvent → E → Type 0) (put : P → E)
@@ -169,3 +171,8 @@ pin_refuses (asked.Heard Cancelled) by not_pin = refl
 pin_refuses (asked.Heard TooMuch) by not_pin = refl
 pin_refuses (asked.Heard Unexpected) by not_pin = refl
 pin_refuses (asked.Heard (Gone how)) by not_pin = refl
+
+-- the same plan in other words
+pub planned : {lines : Lines} {spec : PromptSpec} {plan other : AskPlan} {Rule : List ℕ → Type 0} {events : List (EventOf lines)} {answer : Asked} → plan ≡ other
+    → PromptsPin lines spec plan Rule events answer → PromptsPin lines spec other Rule events answer
+planned {lines} {spec} {Rule} {events} {answer} same prompts = subst (λ (p : AskPlan). PromptsPin lines spec p Rule events answer) same prompts

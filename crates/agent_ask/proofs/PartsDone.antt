@@ -6,12 +6,13 @@ use Rattle.cache_policy.specs.Turns.{Turn, Open}
 use Rattle.session_client.specs.Lines.{Lines, Views, IsOpen}
 use Rattle.session_client.specs.declared.refusal.Refusal.{Refusal}
 use Rattle.session_client.specs.declared.unheard.Gone.{Gone}
+use Rattle.agent_ask.specs.Answering.{ReaderLeft, FaultsCounted}
 use Rattle.agent_ask.specs.Further.{FurtherEvent, EventOf, world_with}
 use Rattle.agent_ask.specs.Parts.{PartOf, ◌>>=◌, goes_on, stops}
-use Rattle.agent_ask.specs.PartStates.{PartState, part_state, ReaderLeft, FaultsCounted, gone_in, DoesPart, NoTurn, NoEnd, DoesWithClient, DoesTurn, DoesTurns, still, one}
+use Rattle.agent_ask.specs.PartStates.{PartState, part_state, gone_in, DoesPart, NoTurn, NoEnd, DoesWithClient, DoesTurn, DoesTurns, still, one}
 use Rattle.agent_ask.specs.Seats.{Gives, TakesTicket, GivesTicket, opened as ticket_opened, interrupted as ticket_refused, taken, refused, unheld, given}
 use Rattle.agent_ask.specs.SessionEvents.{AnyEvent, cache_turn}
-use Rattle.agent_ask.specs.TurnParts.{Asks, Seats, Changes, Closes, closed}
+use Rattle.agent_ask.specs.TurnParts.{Seats, Closes, closed}
 use Rattle.agent_ask.specs.TurnParts as turns
 use Rattle.agent_ask.proofs.Beside.{done_in}
 use Rattle.agent_ask.proofs.Doing.{done_none, done_then, done_turned}
@@ -23,22 +24,22 @@ module _ {lines : Lines} {C : Type 0} (views : Views lines C) where
   reader_from (Some how) start mid now fewer fits = fits
 
   -- a part that leaves the connection alone, and after which the session goes on
-  still_open : (how : Option Gone) → how ≡ None → (conn : C) → IsOpen views conn → ReaderLeft views how conn conn
+  pub still_open : (how : Option Gone) → how ≡ None → (conn : C) → IsOpen views conn → ReaderLeft views how conn conn
   still_open how on conn going = rw on (going, omega arith)
 
-  no_fault : (how : Option Gone) → how ≡ None → (start now : C) → FaultsCounted views how start now
+  pub no_fault : (how : Option Gone) → how ≡ None → (start now : C) → FaultsCounted views how start now
   no_fault how on start now = rw on (record { read = λ e. absurd (cc e); write = λ e. absurd (cc e) })
 
-  module _ {D E : Type 0} (turned : D → MarkStep → Turn → D → Type 0) (further : E → FurtherEvent → E → Type 0) where
+module _ {lines : Lines} {C D E : Type 0} {views : Views lines C} {turned : D → MarkStep → Turn → D → Type 0} {further : E → FurtherEvent → E → Type 0} where
+  module _ {A B : Type 0} {part : PartOf (EventOf lines) A} {next : A → PartOf (EventOf lines) B} {before after : Option ℕ} {start now : PartState views turned further} where
     -- a part came to a value, and then the next was done
-    pub part_then : {A B : Type 0} {part : PartOf (EventOf lines) A} {next : A → PartOf (EventOf lines) B} {before mid after : Option ℕ} {start between now : PartState views turned further}
-        {value : A} {result : Result B Refusal} → DoesPart views turned further part before start (Ok value) mid between
+    pub part_then : {mid : Option ℕ} {between : PartState views turned further} {value : A} {result : Result B Refusal} → DoesPart views turned further part before start (Ok value) mid between
         → DoesPart views turned further (next value) mid between result after now → DoesPart views turned further (part >>= next) before start result after now
-    part_then {start} {between} {now} {result} first second = record {
+    part_then {between} {result} first second = record {
       events = first.events ++ second.events;
       does = goes_on first.does second.does;
       done = done_then first.done second.done;
-      fits = reader_from (gone_in result) start.conn between.conn now.conn first.fits.1 second.fits;
+      fits = reader_from views (gone_in result) start.conn between.conn now.conn first.fits.1 second.fits;
       faults = record {
         read = λ e. omega (arith, first.done.input_faults, second.faults.read e);
         write = λ e. omega (arith, first.done.output_faults, second.faults.write e);
@@ -46,42 +47,37 @@ module _ {lines : Lines} {C : Type 0} (views : Views lines C) where
     }
 
     -- a part was refused, and nothing is done behind it
-    pub part_stops : {A B : Type 0} {part : PartOf (EventOf lines) A} {next : A → PartOf (EventOf lines) B} {before after : Option ℕ} {start now : PartState views turned further} {why : Refusal}
-        → DoesPart views turned further part before start (Err why) after now → DoesPart views turned further (part >>= next) before start (Err why) after now
+    pub part_stops : {why : Refusal} → DoesPart views turned further part before start (Err why) after now → DoesPart views turned further (part >>= next) before start (Err why) after now
     part_stops first = record { events = first.events; does = stops first.does; done = first.done; fits = first.fits; faults = first.faults }
 
-    module _ (conn : C) (ends : E) where
-      -- one turn at the desk
-      pub part_turned : {A : Type 0} {part : PartOf (EventOf lines) A} {before after : Option ℕ} {result : Result A Refusal} {desk now : D} → IsOpen views conn → gone_in result ≡ None
-          → DoesTurn turned part before desk result after now
-          → DoesPart views turned further part before (part_state views turned further conn desk ends) result after (part_state views turned further conn now ends)
-      part_turned {result} {desk} {now} going on done = record {
-        events = cache_turn done.step done.turn ∷ [];
-        does = done.does;
-        done = done_turned {w = world_with {lines = lines} turned further} done.step done.turn conn desk now ends done.turned_so;
-        fits = still_open (gone_in result) on conn going;
-        faults = no_fault (gone_in result) on conn conn;
-      }
+  -- parts at the desk alone, while the connection is open
+  module _ {A : Type 0} {part : PartOf (EventOf lines) A} {before after : Option ℕ} {result : Result A Refusal} {conn : C} {ends : E} (going : IsOpen views conn) where
+    -- one turn
+    pub part_turned : {desk now : D} → DoesTurn turned part before desk result after now → DoesPart views turned further part before (part_state views turned further conn desk ends) result after (part_state views turned further conn now ends)
+    part_turned {desk} {now} done = record {
+      events = cache_turn done.step done.turn ∷ [];
+      does = done.does;
+      done = done_turned {w = world_with {lines = lines} turned further} done.step done.turn conn desk now ends done.turned_so;
+      fits = still_open views (gone_in result) done.on conn going;
+      faults = no_fault views (gone_in result) done.on conn conn;
+    }
 
-      -- nothing
-      pub part_still : {A : Type 0} {part : PartOf (EventOf lines) A} {before after : Option ℕ} {result : Result A Refusal} (desk : D) → IsOpen views conn → gone_in result ≡ None
-          → part before [] result after
-          → DoesPart views turned further part before (part_state views turned further conn desk ends) result after (part_state views turned further conn desk ends)
-      part_still {result} desk going on does = record {
-        events = [];
-        does = does;
-        done = done_none (part_state views turned further conn desk ends);
-        fits = still_open (gone_in result) on conn going;
-        faults = no_fault (gone_in result) on conn conn;
-      }
+    -- nothing
+    pub part_still : {desk : D} → gone_in result ≡ None → part before [] result after → DoesPart views turned further part before (part_state views turned further conn desk ends) result after (part_state views turned further conn desk ends)
+    part_still {desk} on does = record {
+      events = [];
+      does = does;
+      done = done_none (part_state views turned further conn desk ends);
+      fits = still_open views (gone_in result) on conn going;
+      faults = no_fault views (gone_in result) on conn conn;
+    }
 
-      -- one turn at most
-      pub part_turns : {A : Type 0} {part : PartOf (EventOf lines) A} {before after : Option ℕ} {result : Result A Refusal} {desk now : D} → IsOpen views conn → gone_in result ≡ None
-          → DoesTurns turned part before desk result after now
-          → DoesPart views turned further part before (part_state views turned further conn desk ends) result after (part_state views turned further conn now ends)
-      part_turns {desk} going on (still does) = part_still desk going on does
-      part_turns going on (one done) = part_turned going on done
+    -- one turn at most
+    pub part_turns : {desk now : D} → DoesTurns turned part before desk result after now → DoesPart views turned further part before (part_state views turned further conn desk ends) result after (part_state views turned further conn now ends)
+    part_turns (still does on) = part_still on does
+    part_turns (one done) = part_turned done
 
+module _ {lines : Lines} {C : Type 0} (views : Views lines C) where
   -- Each turn of a desk is one of another desk that holds it, and each event at some further ends is one at others that hold them.
   module _ {B D E Whole : Type 0} (part_turned : B → MarkStep → Turn → B → Type 0) (part_further : E → FurtherEvent → E → Type 0)
       (turned : D → MarkStep → Turn → D → Type 0) (further : Whole → FurtherEvent → Whole → Type 0) (desk_of : B → D) (put : E → Whole)
@@ -100,28 +96,47 @@ module _ {lines : Lines} {C : Type 0} (views : Views lines C) where
       faults = done.faults;
     }
 
-  module _ {D E : Type 0} (turned : D → MarkStep → Turn → D → Type 0) (further : E → FurtherEvent → E → Type 0) {A : Type 0} {part : PartOf (EventOf lines) A} {result : Result A Refusal}
-      {conn now : C} where
-    -- a part at the client alone, with a desk and further ends beside
-    pub beside_client : (held : Option ℕ) (desk : D) (ends : E) → DoesWithClient views part conn result now
-        → DoesPart views turned further part held (part_state views turned further conn desk ends) result held (part_state views turned further now desk ends)
-    beside_client held desk ends done =
-        part_in NoTurn NoEnd turned further (λ none. desk) (λ none. ends) (λ before after step turn never. absurd never) (λ before after what never. absurd never) (done held)
+module _ {lines : Lines} {C : Type 0} {views : Views lines C} {A : Type 0} {part : PartOf (EventOf lines) A} where
+  -- a part at the client alone, with a desk and further ends beside
+  pub beside_client : {D E : Type 0} {turned : D → MarkStep → Turn → D → Type 0} {further : E → FurtherEvent → E → Type 0} {result : Result A Refusal} {conn now : C} {held : Option ℕ} {desk : D} {ends : E}
+      → DoesWithClient views part conn result now
+      → DoesPart views turned further part held (part_state views turned further conn desk ends) result held (part_state views turned further now desk ends)
+  beside_client {turned} {further} {held} {desk} {ends} done =
+      part_in views NoTurn NoEnd turned further (λ none. desk) (λ none. ends) (λ before after step turn never. absurd never) (λ before after what never. absurd never) (done held)
 
   -- a connection is open after a part that came to a value
-  pub open_after : {A : Type 0} {part : PartOf (EventOf lines) A} {value : A} {conn now : C} → DoesWithClient views part conn (Ok value) now → IsOpen views now
+  pub open_after : {value : A} {conn now : C} → DoesWithClient views part conn (Ok value) now → IsOpen views now
   open_after done = (done None).fits.0
+
+-- ---- turns, and nothing behind them
+
+module _ {T O F D A B : Type 0} {turned : D → MarkStep → Turn → D → Type 0} {part : PartOf (AnyEvent T O F) A} {next : A → PartOf (AnyEvent T O F) B} {before after : Option ℕ} {desk : D} where
+  pub turn_then : {now : D} {value : A} {result : Result B Refusal} {mid : Option ℕ} → DoesTurn turned part before desk (Ok value) mid now → next value mid [] result after → gone_in result ≡ None
+      → DoesTurn turned (part >>= next) before desk result after now
+  turn_then turn more on = record { step = turn.step; turn = turn.turn; turned_so = turn.turned_so; does = goes_on turn.does more; on = on }
+
+  pub turn_stops : {now : D} {why : Refusal} → DoesTurn turned part before desk (Err why) after now → DoesTurn turned (part >>= next) before desk (Err why) after now
+  turn_stops turn = record { step = turn.step; turn = turn.turn; turned_so = turn.turned_so; does = stops turn.does; on = turn.on }
+
+  pub turns_then : {now : D} {value : A} {result : Result B Refusal} {mid : Option ℕ} → DoesTurns turned part before desk (Ok value) mid now → next value mid [] result after → gone_in result ≡ None
+      → DoesTurns turned (part >>= next) before desk result after now
+  turns_then (still does is) more on = still (goes_on does more) on
+  turns_then (one turn) more on = one (turn_then turn more on)
+
+  pub turns_stop : {now : D} {why : Refusal} → DoesTurns turned part before desk (Err why) after now → DoesTurns turned (part >>= next) before desk (Err why) after now
+  turns_stop (still does on) = still (stops does) on
+  turns_stop (one turn) = one (turn_stops turn)
 
 -- ---- tickets
 
 module _ {T O F D : Type 0} {turned : D → MarkStep → Turn → D → Type 0} {desk now : D} where
   opened_by : {step : MarkStep} {turn : Turn} {number : ℕ} → turned desk step turn now → Gives turn (Ok number)
       → DoesTurn turned (Seats {T = T} {O = O} {F = F} step) None desk (Ok tt) (Some number) now
-  opened_by {step} {number} turned_so ticket_opened = record { step = step; turn = Open number; turned_so = turned_so; does = turns.Seats.opened }
+  opened_by {step} {number} turned_so ticket_opened = record { step = step; turn = Open number; turned_so = turned_so; does = turns.Seats.opened; on = refl }
 
   refused_by : {step : MarkStep} {turn : Turn} {why : Refusal} → turned desk step turn now → Gives turn (Err why)
       → DoesTurn turned (Seats {T = T} {O = O} {F = F} step) None desk (Err why) None now
-  refused_by {step} {turn} turned_so (ticket_refused by) = record { step = step; turn = turn; turned_so = turned_so; does = turns.Seats.interrupted by }
+  refused_by {step} {turn} turned_so (ticket_refused by) = record { step = step; turn = turn; turned_so = turned_so; does = turns.Seats.interrupted by; on = refl }
 
   -- a request took the seat, or is refused
   pub ticket_taken : {step : MarkStep} {result : Result (Unit {0}) Refusal} {after : Option ℕ} → TakesTicket turned step desk result after now
@@ -132,24 +147,5 @@ module _ {T O F D : Type 0} {turned : D → MarkStep → Turn → D → Type 0} 
 -- a request gave its ticket back
 pub ticket_given : {T O F D : Type 0} {turned : D → MarkStep → Turn → D → Type 0} {desk now : D} {keep : Option (List ℕ)} {before : Option ℕ} → GivesTicket turned keep before desk now
     → DoesTurns turned (Closes {T = T} {O = O} {F = F} keep) before desk (Ok tt) None now
-ticket_given unheld = still turns.Closes.unheld
-ticket_given (given {ticket} turn turned_so) = one (record { step = Close ticket _; turn = turn; turned_so = turned_so; does = closed turn })
-
--- ---- parts that are refused by errors of the agent's own, after which the session goes on
-
-pub asks_on : {T O F : Type 0} {step : MarkStep} {before after : Option ℕ} {events : List (AnyEvent T O F)} {result : Result (Option (List ℕ)) Refusal}
-    → Asks step before events result after → gone_in result ≡ None
-asks_on turns.Asks.given = refl
-asks_on turns.Asks.empty = refl
-asks_on turns.Asks.opened = refl
-asks_on (turns.Asks.interrupted by) = refl
-
-pub seats_on : {T O F : Type 0} {step : MarkStep} {before after : Option ℕ} {events : List (AnyEvent T O F)} {result : Result (Unit {0}) Refusal}
-    → Seats step before events result after → gone_in result ≡ None
-seats_on turns.Seats.opened = refl
-seats_on (turns.Seats.interrupted by) = refl
-
-pub changes_on : {T O F : Type 0} {step : MarkStep} {before after : Option ℕ} {events : List (AnyEvent T O F)} {result : Result (Unit {0}) Refusal}
-    → Changes step before events result after → gone_in result ≡ None
-changes_on turns.Changes.done = refl
-changes_on (turns.Changes.interrupted by) = refl
+ticket_given unheld = still turns.Closes.unheld refl
+ticket_given (given {ticket} turn turned_so) = one (record { step = Close ticket _; turn = turn; turned_so = turned_so; does = closed turn; on = refl })

@@ -24,4 +24,6 @@ pub mod Seats
 pub mod ClientParts
 pub mod PinParts
 pub mod PartExchanges
+pub mod Answering
 pub mod PartStates
+pub mod PartReplies

@@ -1,15 +1,13 @@
 -- Private: how a session stands at some state of its code before and after a part of a request, and how events lead from one to the other. Its connection is of any
 -- type of which this is seen. This is the project's own.
-use Rattle.std.specs.Prelude.{◌≡◌, ◌≤◌, ℕ, List, [], ◌∷◌, Option, Some, None, Result, Ok, Err}
-use Rattle.agent_ports.specs.Counts.{Rose}
+use Rattle.std.specs.Prelude.{◌≡◌, ℕ, List, [], ◌∷◌, Option, None, Result, Ok, Err}
 use Rattle.cache_policy.specs.declared.mark.MarkStep.{MarkStep}
 use Rattle.cache_policy.specs.Turns.{Turn}
-use Rattle.session_client.specs.Asking.{HasEnded}
 use Rattle.session_client.specs.Lines.{Lines, Views}
 use Rattle.session_client.specs.Refusals.{gone_by}
 use Rattle.session_client.specs.declared.refusal.Refusal.{Refusal}
 use Rattle.session_client.specs.declared.unheard.Gone.{Gone}
-use Rattle.session_client.specs.declared.unheard.Gone.TheVariants.{ReadFault, WriteFault}
+use Rattle.agent_ask.specs.Answering.{ReaderLeft, FaultsCounted}
 use Rattle.agent_ask.specs.Further.{FurtherEvent, EventOf, world_with}
 use Rattle.agent_ask.specs.Parts.{PartOf}
 use Rattle.agent_ask.specs.SessionEvents.{AnyEvent, cache_turn}
@@ -21,16 +19,6 @@ gone_in (Ok value) = None
 gone_in (Err why) = gone_by why
 
 module _ {lines : Lines} {C : Type 0} (views : Views lines C) where
-  -- how the reader stands then
-  abbrev pub ReaderLeft : Option Gone → C → C → Type 0
-  ReaderLeft None start now = (views.ended now ≡ None) × (views.held now ≤ views.held start)
-  ReaderLeft (Some how) start now = HasEnded lines.ended_by how (views.ended now)
-
-  -- a fault of the link is told only where its count rose
-  pub record FaultsCounted (how : Option Gone) (start now : C) : Type 0 where
-    pub read : how ≡ Some ReadFault → Rose (views.input start).faults (views.input now).faults
-    pub write : how ≡ Some WriteFault → Rose (views.output start).faults (views.output now).faults
-
   -- at a desk that shows its turns so, with further ends to which their events do this
   module _ {D E : Type 0} (turned : D → MarkStep → Turn → D → Type 0) (further : E → FurtherEvent → E → Type 0) where
     abbrev pub PartState : Type 0
@@ -44,8 +32,8 @@ module _ {lines : Lines} {C : Type 0} (views : Views lines C) where
       pub events : List (EventOf lines)
       pub does : part before events result after
       pub done : AnyLead {w = world_with {lines = lines} turned further} views events start now
-      pub fits : ReaderLeft (gone_in result) start.conn now.conn
-      pub faults : FaultsCounted (gone_in result) start.conn now.conn
+      pub fits : ReaderLeft views (gone_in result) start.conn now.conn
+      pub faults : FaultsCounted views (gone_in result) start.conn now.conn
 
 -- no turn is taken, and no further end is called
 abbrev pub NoTurn : Unit {0} → MarkStep → Turn → Unit {0} → Type 0
@@ -59,16 +47,17 @@ abbrev pub DoesWithClient : {lines : Lines} {C : Type 0} (views : Views lines C)
 DoesWithClient views part conn result now =
     (held : Option ℕ) → DoesPart views NoTurn NoEnd part held (part_state views NoTurn NoEnd conn tt tt) result held (part_state views NoTurn NoEnd now tt tt)
 
--- a part that is one turn at the desk
+-- a part that is one turn at the desk, and after which the session goes on, whatever it comes to
 pub record DoesTurn {T O F D : Type 0} (turned : D → MarkStep → Turn → D → Type 0) {A : Type 0} (part : PartOf (AnyEvent T O F) A) (before : Option ℕ) (desk : D)
     (result : Result A Refusal) (after : Option ℕ) (now : D) : Type 0 where
   pub step : MarkStep
   pub turn : Turn
   pub turned_so : turned desk step turn now
   pub does : part before (cache_turn step turn ∷ []) result after
+  pub on : gone_in result ≡ None
 
 -- one turn, or nothing
 pub data DoesTurns {T O F D : Type 0} (turned : D → MarkStep → Turn → D → Type 0) {A : Type 0} (part : PartOf (AnyEvent T O F) A) (before : Option ℕ) (desk : D)
     (result : Result A Refusal) (after : Option ℕ) : D → Type 0 where
-  still : part before [] result after → DoesTurns turned part before desk result after desk
+  still : part before [] result after → gone_in result ≡ None → DoesTurns turned part before desk result after desk
   one : {now : D} → DoesTurn turned part before desk result after now → DoesTurns turned part before desk result after now

@@ -9,6 +9,7 @@
 #![tactic(auto)]
 
 mod agreeing;
+mod answering;
 mod ask;
 mod caller;
 mod client;
@@ -26,6 +27,7 @@ mod test;
 mod tries;
 
 pub use agreeing::agree;
+pub use answering::unless_cut;
 pub use ask::{Asked, ask_pin};
 pub use caller::{Caller, Heard};
 pub use consent::{Agreed, ask_consent};

@@ -27,3 +27,8 @@ gone_of WriteFault = Some gone.WriteFault
 abbrev pub went_after : Option Gone → Went
 went_after None = On
 went_after (Some how) = End (end_of how)
+
+-- how the client is gone after a request that went so, where it is
+abbrev pub gone_after : Went → Option Gone
+gone_after On = None
+gone_after (End end) = gone_of end

@@ -4,15 +4,14 @@ use Rattle.agent_ask.specs.Events.{Call}
 use Rattle.agent_ask.specs.Further.{FurtherEvent}
 use Rattle.agent_ask.specs.Parts.{Refuses}
 use Rattle.agent_ask.specs.TurnParts.{Asks, Changes, Closes, Seats}
+use Rattle.agent_ask.specs.PartReplies.{RespondsBy, CarriesBy}
 use Rattle.agent_ask.specs.PartStates.{PartState, part_state, DoesPart, NoTurn, NoEnd, DoesTurns}
-use Rattle.agent_ports.specs.declared.link.WriteFault.{WriteFault as Fault}
 use Rattle.assuan_server.specs.Clients.{connection_views}
 use Rattle.assuan_server.specs.Connections.{Connection}
-use Rattle.assuan_server.specs.Written.{WritesText, WritesLine, refusal_line}
+use Rattle.assuan_server.specs.Written.{refusal_line}
 use Rattle.cache_policy.specs.declared.mark.MarkStep.{MarkStep}
 use Rattle.cache_policy.specs.declared.mark.MarkStep.TheVariants.{Put, Clear, Flush, Stop}
 use Rattle.cache_policy.specs.Turns.{Turn}
-use Rattle.session_client.specs.Refusals.{gone_by}
 use Rattle.session_client.specs.declared.code.Code.TheVariants as code
 use Rattle.session_client.specs.declared.refusal.Refusal.{Refusal}
 use Rattle.session_client.specs.declared.refusal.Refusal.TheVariants.{Agent}
@@ -96,10 +95,6 @@ module _ {A : Type 0} (part : CachePart A) where
       DoesPart connection_views NoTurn (DoesPrompts prompted) part held (part_state connection_views NoTurn (DoesPrompts prompted) conn tt prompter) result held
       (part_state connection_views NoTurn (DoesPrompts prompted) now tt prompter_now)
 
--- the reply that a response is, with some text of its own
-abbrev pub reply_by : Response → List ℕ → OptionValues → CacheReply
-reply_by response text after = record { text = text; kept = after; went = went_of response }
-
 -- how a GET_PASSPHRASE comes by its passphrase
 abbrev pub PassphraseOf : Rules → OptionValues → CacheCommand → CachePart (List ℕ)
 PassphraseOf rules options (GetPassphrase plain check no_ask repeat quality id texts) =
@@ -125,22 +120,10 @@ pub data TellsCached {D : Type 0} (turned : D → MarkStep → Turn → D → Ty
   refused : {why : Refusal} {after : D} → DoesTurns turned (ByCache id) None before (Part why) None after → TellsCached turned plain id before (Part why) after
 
 -- all was done for a request but its reply, whatever text that is written by
-pub data CarriesOut {D E : Type 0} (turned : D → MarkStep → Turn → D → Type 0) (further : E → FurtherEvent → E → Type 0) (part : CachePart CacheReply) (before : OptionValues)
-    (start : PartState connection_views turned further) : Result Response Refusal → OptionValues → Option ℕ → PartState connection_views turned further → Type 0 where
-  comes_to : {response : Response} {after : OptionValues} {held : Option ℕ} {now : PartState connection_views turned further}
-      → ((text : List ℕ) → IsText response text → DoesPart connection_views turned further part None start (Whole (reply_by response text after)) held now)
-      → CarriesOut turned further part before start (Whole response) after held now
-  stops_at : {why : Refusal} {held : Option ℕ} {now : PartState connection_views turned further} → DoesPart connection_views turned further part None start (Part why) held now
-      → CarriesOut turned further part before start (Part why) before held now
-
--- how the session goes on whose last write came to this
-abbrev pub went_unless_cut : Went → Result (Unit {0}) Fault → Went
-went_unless_cut whole (Whole written) = whole
-went_unless_cut whole (Part fault) = End ends.WriteFault
+abbrev pub CarriesOut : {D E : Type 0} (turned : D → MarkStep → Turn → D → Type 0) (further : E → FurtherEvent → E → Type 0) → CachePart CacheReply → OptionValues → PartState connection_views turned further
+    → Result Response Refusal → OptionValues → Option ℕ → PartState connection_views turned further → Type 0
+CarriesOut = CarriesBy connection_views IsText went_of
 
 -- the reply of a request was written, or its refusal, and the session goes on so
-pub data RespondsTo (before : Connection) : Result Response Refusal → Went → Connection → Type 0 where
-  replied : {response : Response} {text : List ℕ} {after : Connection} (written : Result (Unit {0}) Fault) → IsText response text → WritesText text before written after
-      → RespondsTo before (Whole response) (went_unless_cut (went_of response) written) after
-  refused : {why : Refusal} {after : Connection} (written : Result (Unit {0}) Fault) → WritesLine (refusal_line why) before written after
-      → RespondsTo before (Part why) (went_unless_cut (went_after (gone_by why)) written) after
+abbrev pub RespondsTo : Connection → Result Response Refusal → Went → Connection → Type 0
+RespondsTo = RespondsBy connection_views IsText went_of refusal_line went_after

@@ -8,11 +8,12 @@ ghost use Rattle.assuan_server.specs.Written.{IsDataAnswer};
 ghost use Rattle.agent_commands.specs.Endings.{went_after};
 ghost use Rattle.agent_commands.specs.Names.{command_names};
 ghost use Rattle.assuan_server.specs.Written.{WritesText};
-ghost use Rattle.agent_commands.specs.Steps.{IsText, RespondsTo, went_of, went_unless_cut};
+ghost use Rattle.agent_commands.specs.Steps.{IsText, RespondsTo, went_of};
 ghost use Rattle.session_client.specs.Refusals.{gone_by};
 
 use crate::found::Found;
 use crate::{COMMANDS, KEY_COMMANDS, SessionEnd, Went};
+use agent_ask::unless_cut;
 use agent_ports::{Link, WriteFault};
 use assuan_escape::upper_hex;
 use assuan_server::Conn;
@@ -49,19 +50,10 @@ pub(crate) enum Response {
 pub(crate) fn respond<L: Link>(reply: &Result<Response, Refusal>, conn: &mut Conn<'_, L>) -> Went
     ensures { RespondsTo conn.old reply.now result conn.new }
 {
+    let cut = Went::End(SessionEnd::WriteFault);
     match reply {
-        Ok(response) => went_unless_cut(response.went(), write_response(conn, response)),
-        Err(why) => went_unless_cut(went_after(*why), conn.refuse(*why)),
-    }
-}
-
-/// How a session goes on whose last write came to this: where it was whole, as it would go on.
-fn went_unless_cut(whole: Went, written: Result<(), WriteFault>) -> Went
-    ensures { result ≡ went_unless_cut whole written }
-{
-    match written {
-        Ok(()) => whole,
-        Err(WriteFault) => Went::End(SessionEnd::WriteFault),
+        Ok(response) => unless_cut(response.went(), cut, write_response(conn, response)),
+        Err(why) => unless_cut(went_after(*why), cut, conn.refuse(*why)),
     }
 }
 

@@ -26,18 +26,20 @@ use Rattle.key_commands.specs.Events.{Event}
 use Rattle.key_commands.specs.Exchanges.{StoresKey, RewritesFile}
 use Rattle.key_commands.specs.Files.{Rewrites}
 use Rattle.key_commands.specs.Files as files
-use Rattle.key_commands.specs.KeyParts.{Tells, tells, ReadsFile, Replaces, Removes, KeepsNew, Protects, IsShort, HasOne, TellsInfo, ListsGrips, ReadsListed, WritesInfo, TellsListed, WritesInfos}
+use Rattle.key_commands.specs.KeyParts.{Tells, tells, ReadsFile, Replaces, Removes, KeepsNew, Protects, IsShort, HasOne, TellsKeyInfo, ListsGrips, ReadsListed, WritesInfo, TellsListed, WritesInfos}
 use Rattle.key_commands.specs.KeyParts.{max_key_data, AsksKeyData, Unwraps, ReceivesKey, NamesKey, IsFree, LooksOver, WrapsKey, Agrees}
 use Rattle.key_commands.specs.KeyParts as parts
 use Rattle.key_commands.specs.Lines.{grip_text, limit_line}
-use Rattle.key_commands.specs.Parts.{Part, Writes, Inquires, AsksClient, Finds, Draws}
+use Rattle.key_commands.specs.Parts.{Part, Finds, Draws}
 use Rattle.agent_ask.specs.Parts.{◌>>=◌, Follows, goes_on, stops, Returns, returns, Refuses, needed, or_else, unless, wanted}
 use Rattle.agent_ask.specs.TurnParts.{Asks, Seats, Changes, Peeks, Closes}
 use Rattle.agent_ask.specs.Parts as chain
+use Rattle.agent_ask.specs.ClientParts.{Writes, Inquires}
+use Rattle.agent_ask.specs.ClientParts as client
 use Rattle.agent_ask.specs.ConsentParts as consent
 use Rattle.agent_ask.specs.TurnParts as taken
 use Rattle.key_commands.specs.Parts as small
-use Rattle.key_commands.specs.Passphrases.{PromptsOld, PromptsNew, ClientOld, ClientNew, LooksForNonce, TakesSeat, Locks, Tries, TriesFound, ask_nonce, seat_for, put_key}
+use Rattle.key_commands.specs.Passphrases.{AsksSecret, PromptsOld, PromptsNew, ClientOld, ClientNew, LooksForNonce, TakesSeat, Locks, TriesPassphrase, TriesFound, ask_nonce, seat_for, put_key}
 use Rattle.key_commands.specs.Passphrases as passphrases
 use Rattle.session_client.specs.declared.refusal.Refusal.{Refusal}
 use Rattle.session_client.specs.declared.refusal.Refusal.TheVariants.{Agent}
@@ -169,15 +171,15 @@ module _ (Is : Event → Type 0) where
     one event is = (still event is, tt)
 
     writes_of : (text : List ℕ) (before : Option ℕ) (events : List Event) (result : Result (Unit {0}) Refusal) (after : Option ℕ) → Writes text before events result after → All events
-    writes_of text before events result after small.written = one _ tt
-    writes_of text before events result after (small.cut unsent is) = one _ tt
+    writes_of text before events result after client.written = one _ tt
+    writes_of text before events result after (client.cut unsent is) = one _ tt
 
-    inquires_of : (word : List ℕ) (most : ℕ) (before : Option ℕ) (events : List Event) (result : Result (List ℕ) Refusal) (after : Option ℕ) → Inquires word most before events result after → All events
-    inquires_of word most before events result after (small.given is) = one _ tt
-    inquires_of word most before events result after (small.not_given is) = one _ tt
+    inquires_of : (word : List ℕ) (most : ℕ) (before : Option ℕ) (events : List Event) (result : Result (List ℕ) Refusal) (after : Option ℕ) → Inquires session_lines word most before events result after → All events
+    inquires_of word most before events result after (client.given is) = one _ tt
+    inquires_of word most before events result after (client.not_given is) = one _ tt
 
-    asks_client : (word : List ℕ) (most : ℕ) → EachSo (AsksClient word most)
-    asks_client word most = each_bind (record { of = writes_of (limit_line most) }) (λ told. record { of = inquires_of word most })
+    asks_secret : (word : List ℕ) → EachSo (AsksSecret word)
+    asks_secret word = each_bind (record { of = writes_of (limit_line MAX_SECRET_LEN) }) (λ told. record { of = inquires_of word MAX_SECRET_LEN })
 
     finds_of : (grip : Grip) (before : Option ℕ) (events : List Event) (result : Result Bool Refusal) (after : Option ℕ) → Finds grip before events result after → All events
     finds_of grip before events result after small.found = one _ tt
@@ -285,7 +287,7 @@ module _ (Is : Event → Type 0) where
     pub locks : (key : Key) → EachSo (Locks key)
     locks key = record { of = locks_of key }
 
-    tries_of : (locked : LockedKey) (pass : List ℕ) (before : Option ℕ) (events : List Event) (result : Result (Option _) Refusal) (after : Option ℕ) → Tries locked pass before events result after → All events
+    tries_of : (locked : LockedKey) (pass : List ℕ) (before : Option ℕ) (events : List Event) (result : Result (Option _) Refusal) (after : Option ℕ) → TriesPassphrase locked pass before events result after → All events
     tries_of locked pass before events result after (passphrases.opens to) = tt
     tries_of locked pass before events result after (passphrases.stays closed) = tt
     tries_of locked pass before events result after passphrases.no_memory = one _ tt
@@ -306,7 +308,7 @@ module _ (Is : Event → Type 0) where
     removes grip = record { of = removes_of grip }
 
     module _ (peeked : (grip : Grip) (turn : Turn) → Is (cache_turn (Peek (grip_text grip) Normal) turn)) where
-      pub tells_info : (grip : Grip) (key : Key) → EachSo (TellsInfo grip key)
+      pub tells_info : (grip : Grip) (key : Key) → EachSo (TellsKeyInfo grip key)
       tells_info grip key = each_bind (record { of = peeks_of grip (peeked grip) }) (λ cached. each_returned _)
 
       writes_info : (grip : Grip) (key : Option Key) → EachSo (WritesInfo grip key)
@@ -322,7 +324,7 @@ module _ (Is : Event → Type 0) where
       pub client_old : (rules : Rules) (options : OptionValues) (grip : Grip) (locked : LockedKey) → EachSo (ClientOld rules options grip locked)
       unfolding ClientOld
       client_old rules options grip locked =
-          each_bind (asks_client (codes "PASSPHRASE") MAX_SECRET_LEN) (λ pass. each_bind (record { of = tries_of locked pass }) (λ tried. each_bind (each_needed code.BadPass tried)
+          each_bind (asks_secret (codes "PASSPHRASE")) (λ pass. each_bind (record { of = tries_of locked pass }) (λ tried. each_bind (each_needed code.BadPass tried)
           (λ opened. each_bind (each_changes (stored grip pass)) (λ kept. each_returned opened))))
 
       module _ (closed : (number : ℕ) (keep : Option (List ℕ)) (turn : Turn) → Is (cache_turn (Close number keep) turn)) where
@@ -344,7 +346,7 @@ module _ (Is : Event → Type 0) where
 
     pub client_new : EachSo ClientNew
     unfolding ClientNew
-    client_new = each_bind (asks_client (codes "NEW_PASSPHRASE") MAX_SECRET_LEN) (λ pass. each_bind (each_wanted code.BadPass (not (length pass == 0))) (λ some. each_returned pass))
+    client_new = each_bind (asks_secret (codes "NEW_PASSPHRASE")) (λ pass. each_bind (each_wanted code.BadPass (not (length pass == 0))) (λ some. each_returned pass))
 
     -- ---- prompts
     module _ (calls : (event : PromptEvent) → Is (Further (Prompt event))) where

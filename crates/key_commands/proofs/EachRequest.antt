@@ -1,9 +1,8 @@
 -- Requests on keys each of whose events is so, where each event but a read request and a call of the trust file is so.
-use Rattle.std.specs.List.{AllByRecursion}
-use Rattle.std.proofs.Common.{ℕ, Bool, true, false, List, [], ◌∷◌, ◌++◌, Option, Some, None, Result, Ok, Err}
+use Rattle.std.proofs.Common.{ℕ, Bool, true, false, List, ◌++◌, Option, Some, None, Ok, Err}
 use Rattle.std.specs.Prelude.{⊤}
 use Rattle.agent_ask.specs.Further.{Keys, Dice, NoMemory, Prompt, Trust}
-use Rattle.agent_ask.specs.SessionEvents.{Received, Sent, Cut, Inquiry, CacheTurn, Further, CutAtLast, said_last}
+use Rattle.agent_ask.specs.SessionEvents.{Received, Sent, Cut, Inquiry, CacheTurn, Further, said_last}
 use Rattle.agent_ports.specs.declared.grip.Grip.{Grip}
 use Rattle.session_client.specs.declared.code.Code.TheVariants as code
 use Rattle.secret_file.specs.Opens.{LockedKey}
@@ -13,15 +12,13 @@ use Rattle.session_options.specs.declared.options.PinMode.TheVariants as mode
 use Rattle.session_options.specs.declared.rules.Rules.{Rules}
 use Rattle.sexp_keys.specs.Key.{Key}
 use Rattle.key_commands.specs.Events.{Event}
-use Rattle.key_commands.specs.Exchanges.{Exchange, HaveKeyReplies, KeyInfoReplies, ListKeysReplies, KeyWrapReplies, ImportKeyReplies, ExportKeyReplies, PasswdReplies, VerifyReplies}
-use Rattle.key_commands.specs.Exchanges.{DeleteKeyReplies, Replies, wrap_key, FoundOrNew, RenewsPassphrase, ChangesOpened}
-use Rattle.key_commands.specs.Exchanges as exchange
+use Rattle.key_commands.specs.Exchanges.{KeyExchange, HaveKeyReplies, KeyInfoReplies, ListKeysReplies, KeyWrapReplies, ImportKeyReplies, ExportKeyReplies, PasswdReplies, VerifyReplies}
+use Rattle.key_commands.specs.Exchanges.{DeleteKeyReplies, KeyReplies, wrap_key, FoundOrNew, RenewsPassphrase, ChangesOpened}
+use Rattle.agent_ask.specs.PartExchanges as exchange
 use Rattle.key_commands.specs.KeyParts.{Consents}
 use Rattle.agent_ask.specs.TurnParts.{Closes}
 use Rattle.assuan_server.specs.Written.{refusal_line}
-use Rattle.key_commands.specs.Parts.{refusal_events}
-use Rattle.key_commands.specs.Passphrases.{UncachedOld, OpensLocked, OldPassphrase, NewPassphrase, old_by, verified_by, new_by}
-use Rattle.session_client.specs.declared.refusal.Refusal.{Refusal}
+use Rattle.key_commands.specs.Passphrases.{UncachedOld, OpensLocked, old_by, verified_by, new_by}
 use Rattle.session_client.specs.declared.refusal.Refusal.TheVariants.{Agent}
 use Rattle.key_commands.specs.declared.request.Direction.{Direction}
 use Rattle.key_commands.specs.declared.request.KeyRequest.{KeyRequest}
@@ -156,7 +153,7 @@ module _ (Is : Event → Type 0) (every : (event : Event) → IsBesideTrust even
         each_bind Is (finds Is still grip) (λ there. each_bind Is (each_wanted Is code.NoSecKey there) (λ some. each_bind Is (each_consented rules options grip force)
         (λ agreed. each_bind Is (removes Is still grip) (λ removed. each_bind Is (each_changes Is (λ turn. every _ tt)) (λ cleared. each_returned Is _)))))
 
-    replies : (asked : KeyRequest) → EachSo Is (Replies rules options wraps asked)
+    replies : (asked : KeyRequest) → EachSo Is (KeyReplies rules options wraps asked)
     replies (on.HaveKey grips) = have_key grips
     replies (on.KeyInfo grip) = key_info grip
     replies on.ListKeys = list_keys
@@ -174,6 +171,6 @@ module _ (Is : Event → Type 0) (every : (event : Event) → IsBesideTrust even
         (each_append Is back last ((each_closes Is None (λ number turn. every _ tt)).of _ back (Ok tt) None closes) each_last)
 
     -- all that is done for a request
-    pub each_exchange : (asked : KeyRequest) {events : List Event} {after : WrapKeys} {went : KeyWent} → Exchange rules options wraps asked events after went → All Is events
+    pub each_exchange : (asked : KeyRequest) {events : List Event} {after : WrapKeys} {went : KeyWent} → KeyExchange rules options wraps asked events after went → All Is events
     each_exchange asked (exchange.answered events held reply {back} does closes) = ends_so events back _ ((replies asked).of None events (Ok reply) held does) closes (every _ tt, tt)
     each_exchange asked (exchange.refused events held why {back} does closes) = ends_so events back _ ((replies asked).of None events (Err why) held does) closes (said_last_so (refusal_line why))

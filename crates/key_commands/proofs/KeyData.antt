@@ -1,13 +1,17 @@
 -- Keys that come in.
 use Rattle.std.proofs.Common.{◌≡◌, ◌≢◌, ◌≤◌, ◌⊎◌, inl, inr, ℕ, List, [], ◌∷◌, ◌++◌, length, Option, Some, None, Result, Ok, Err, refl, subst}
 use Rattle.std.specs.Prelude.{codes}
-use Rattle.agent_ask.specs.Further.{NoMemory}
+use Rattle.agent_ask.specs.ClientParts.{Inquires}
+use Rattle.agent_ask.specs.Further.{NoMemory, world_with}
+use Rattle.agent_ask.specs.PartStates.{NoTurn, DoesWithClient}
 use Rattle.agent_ask.specs.SessionEvents.{Inquiry}
 use Rattle.agent_ask.proofs.Doing.{done_then, done_further, done_inquired}
+use Rattle.agent_ask.proofs.PartsAtClient.{gave, gave_none}
+use Rattle.agent_ask.proofs.PartsDone.{beside_client}
 use Rattle.agent_ports.specs.Sides.{WhereKnown}
 use Rattle.agent_ports.specs.declared.grip.Grip.{Grip}
 use Rattle.assuan_server.specs.Asking.{Inquire, IsNotAsked}
-use Rattle.assuan_server.specs.Clients.{connection_views, outcome_says}
+use Rattle.assuan_server.specs.Clients.{connection_views, session_lines, outcome_says}
 use Rattle.assuan_server.specs.Connections.{Connection, IsOpen}
 use Rattle.assuan_server.specs.Inquiries as outcome
 use Rattle.assuan_server.specs.Inquiries.{Outcome, Inquiry as Comes, IsAtEnd, Answers, outcome_of, inquire_text}
@@ -21,27 +25,23 @@ use Rattle.session_client.specs.Asking.{Asked, AsksClient, LeftBy}
 use Rattle.sexp_keys.specs.Key.{Key}
 use Rattle.sexp_keys.specs.Lists.{key_list_of, grip_of}
 use Rattle.key_commands.specs.Events.{out_of_memory}
-use Rattle.key_commands.specs.KeyEnds.{no_memory as wants_memory}
 use Rattle.key_commands.specs.KeyParts.{AsksKeyData, asked, no_memory, max_key_data, Unwraps, is_key, refused, no_memory as no_key_memory, NamesKey, named as grip_named, no_memory as no_name_memory}
-use Rattle.key_commands.specs.Parts.{Inquires}
-use Rattle.key_commands.specs.Partial.{NoTurn, NoCall, DoesAtClient}
-use Rattle.key_commands.specs.States.{KeyWorld}
+use Rattle.key_commands.specs.Partial.{NoCall, DoesBesideKeys, no_memory as wants_memory, LeavesKeys, DoesAtClient}
 use Rattle.key_commands.specs.Steps.{key_data_of, DoesAlone, nothing, memory as memory_wanted}
 use Rattle.key_commands.specs.Trials.{IsUsable}
 use Rattle.key_commands.specs.Wrapping.{PlainSays, key as plain_key, WrappedSays, checked}
 use Rattle.session_client.specs.declared.refusal.Refusal.{Refusal}
 use Rattle.session_client.specs.declared.refusal.Refusal.TheVariants.{Agent}
 use Rattle.key_commands.specs.declared.wrapping.TheConstants.{MAX_LIST_LEN}
-use Rattle.key_commands.proofs.AtClient.{gave, gave_none}
 
 abbrev word : List ℕ
 word = codes "KEYDATA"
 
 -- the inquiry for a key, in which memory for its bytes is found
-as_key_data : {start now : Connection} {result : Result (List ℕ) Refusal} → DoesAtClient (Inquires word max_key_data) start result now → DoesAtClient AsksKeyData start result now
-as_key_data done ticket files side =
-    let d = done ticket files side in
-    record { events = d.events; does = asked d.does; done = d.done; fits = d.fits; faults = d.faults }
+as_key_data : {start now : Connection} {result : Result (List ℕ) Refusal} → DoesWithClient connection_views (Inquires session_lines word max_key_data) start result now → DoesAtClient AsksKeyData start result now
+as_key_data done held =
+    let inquired : LeavesKeys NoTurn NoCall (Inquires session_lines word max_key_data) held _ tt tt _ held _ tt tt = beside_client done in
+    record { events = inquired.events; does = asked inquired.does; done = inquired.done; fits = inquired.fits; faults = inquired.faults }
 
 -- an inquiry at whose end END was read
 some_end : (before after : Option (List ℕ)) (P : List ℕ → List ℕ → Outcome → Type 0) → WhereKnown before after (λ rest left. (what : Outcome) × P rest left what × IsAtEnd what)
@@ -86,7 +86,7 @@ module _ {start now : Connection} (going : IsOpen start) where
 
   -- there was no memory for the bytes
   without_bytes : Inquire max_key_data (inquire_text word []) IsAtEnd start now → DoesAtClient AsksKeyData start (key_data_of inquired.NoMemory) now
-  without_bytes inquire ticket files side =
+  without_bytes inquire held =
       let end = some_end start.input.bytes now.input.bytes (λ rest left o. Comes max_key_data (start.reader.ahead ++ rest) inquire.took o now.reader left) inquire.gathered.read.known in
       let asks = inquiry_is_done word [] max_key_data start now going end.0 (as_named end.0 end.1 inquire end.2) in
       let stays : IsOpen now = open_at_end start now end.0 end.1 asks.left in
@@ -94,8 +94,8 @@ module _ {start now : Connection} (going : IsOpen start) where
         events = Inquiry word [] max_key_data (Asked end.0) ∷ out_of_memory ∷ [];
         does = no_memory end.1;
         done =
-            done_then (done_inquired {w = KeyWorld NoTurn NoCall} tt (record { prompter = tt; keys = files; dice = side }) (Asked end.0) asks.done)
-            (done_further {w = KeyWorld NoTurn NoCall} NoMemory now tt (record { prompter = tt; keys = files; dice = side }) (record { prompter = tt; keys = files; dice = side }) wants_memory);
+            done_then (done_inquired {w = world_with {lines = session_lines} NoTurn (DoesBesideKeys NoCall)} tt tt (Asked end.0) asks.done)
+            (done_further {w = world_with {lines = session_lines} NoTurn (DoesBesideKeys NoCall)} NoMemory now tt tt tt wants_memory);
         fits = (stays, asks.fewer stays);
         faults = record { read = λ e. absurd (cc e); write = λ e. absurd (cc e) };
       }
@@ -124,15 +124,15 @@ wrapped_usable (checked are says) = plain_usable says
 -- wrapped bytes that are a key, or how they are refused
 module _ {wrap wrapped : List ℕ} where
   pub unwraps : {key : Key} → WrappedSays wrap wrapped (Ok key) → DoesAlone (Unwraps wrap wrapped) (Ok key)
-  unwraps says = record { events = []; alone = nothing; does = λ held. is_key says }
+  unwraps says = nothing (λ held. is_key says) refl
 
   pub not_unwrapped : (why : Code) → (why ≡ code.NoMemory) ⊎ WrappedSays wrap wrapped (Err why) → DoesAlone (Unwraps wrap wrapped) (Err (Agent why))
-  not_unwrapped why (inl memory) = rw memory (record { events = out_of_memory ∷ []; alone = memory_wanted; does = λ held. no_key_memory })
-  not_unwrapped why (inr says) = record { events = []; alone = nothing; does = λ held. refused says }
+  not_unwrapped why (inl memory) = rw memory (memory_wanted (λ held. no_key_memory) refl)
+  not_unwrapped why (inr says) = nothing (λ held. refused says) refl
 
 -- the grip of a key
 pub names_its_grip : (key : Key) (grip : Grip) → grip.0 ≡ grip_of key → DoesAlone (NamesKey key) (Ok grip)
-names_its_grip key grip is = record { events = []; alone = nothing; does = λ held. grip_named is }
+names_its_grip key grip is = nothing (λ held. grip_named is) refl
 
 pub not_named : (key : Key) → DoesAlone (NamesKey key) (Err (Agent code.NoMemory))
-not_named key = record { events = out_of_memory ∷ []; alone = memory_wanted; does = λ held. no_name_memory }
+not_named key = memory_wanted (λ held. no_name_memory) refl

@@ -1,5 +1,5 @@
 -- Keys that are listed.
-use Rattle.std.proofs.Common.{◌≡◌, ◌⊎◌, ◌≤◌, ◌<◌, ◌+◌, ℕ, true, false, List, [], ◌∷◌, length, drop, get_or, map, Option, Some, Result, Ok, Err, inl, inr, ap, sym, ◌∙◌, subst, add-one}
+use Rattle.std.proofs.Common.{◌≡◌, ◌⊎◌, ◌≤◌, ◌<◌, ◌+◌, ℕ, true, false, List, [], ◌∷◌, length, drop, get_or, map, Option, Some, Result, Ok, Err, inl, inr, refl, ap, sym, ◌∙◌, subst, add-one}
 use Rattle.std.proofs.Math.Seq.{drop-cons}
 use Rattle.std.proofs.lemmas.List.{drop_all}
 use Rattle.agent_ask.specs.Events.{Call}
@@ -16,24 +16,25 @@ use Rattle.key_commands.specs.Files.{FileSays}
 use Rattle.key_commands.specs.KeyParts.{file_in, ReadsListed, faulty, no_memory, HasOne, TellsListed, WritesInfos}
 use Rattle.key_commands.specs.Parts.{Finds}
 use Rattle.agent_ask.specs.Parts.{returns, refuses}
-use Rattle.key_commands.specs.States.{KeyState, DoesPart}
+use Rattle.agent_ask.proofs.PartsDone.{part_then, part_stops}
+use Rattle.key_commands.specs.States.{KeyState, DoesKeyPart}
 use Rattle.key_commands.specs.Steps.{DoesKeyCalls, unlisted}
 use Rattle.session_client.specs.declared.refusal.Refusal.{Refusal}
 use Rattle.session_client.specs.declared.refusal.Refusal.TheVariants.{Agent}
-use Rattle.key_commands.proofs.Doing.{one_call, one_call_of_memory, calls_then, calls_stop, no_calls, part_then, part_stops}
+use Rattle.key_commands.proofs.Doing.{one_call, one_call_of_memory, calls_then, calls_stop, no_calls}
 
 -- a listed key's file was read, and has this fault
 module _ {file : List ℕ} {start now : KeyFiles} (grip : Grip) (answer : KeyRead) (found : file_in answer ≡ Some file) (reads : DoesKeys start (Read grip answer) now) where
   pub fault_is_unlisted : (fault : KeyFault) → (fault ≡ NoMemory) ⊎ FileSays file (Err fault) → DoesKeyCalls (ReadsListed grip) start (unlisted fault) now
-  fault_is_unlisted NoMemory why = one_call_of_memory (Read grip answer) reads (λ held. no_memory found)
+  fault_is_unlisted NoMemory why = one_call_of_memory (Read grip answer) reads (λ held. no_memory found) refl
   fault_is_unlisted InvSexp (inl memory) = cc memory
-  fault_is_unlisted InvSexp (inr says) = one_call (Read grip answer) reads (λ held. faulty found says)
+  fault_is_unlisted InvSexp (inr says) = one_call (Read grip answer) reads (λ held. faulty found says) refl
   fault_is_unlisted BadSecKey (inl memory) = cc memory
-  fault_is_unlisted BadSecKey (inr says) = one_call (Read grip answer) reads (λ held. faulty found says)
+  fault_is_unlisted BadSecKey (inr says) = one_call (Read grip answer) reads (λ held. faulty found says) refl
   fault_is_unlisted Shadowed (inl memory) = cc memory
-  fault_is_unlisted Shadowed (inr says) = one_call (Read grip answer) reads (λ held. faulty found says)
+  fault_is_unlisted Shadowed (inr says) = one_call (Read grip answer) reads (λ held. faulty found says) refl
   fault_is_unlisted NotSupported (inl memory) = cc memory
-  fault_is_unlisted NotSupported (inr says) = one_call (Read grip answer) reads (λ held. faulty found says)
+  fault_is_unlisted NotSupported (inr says) = one_call (Read grip answer) reads (λ held. faulty found says) refl
 
 -- the grips of these bytes
 abbrev pub grips_of : List (List ℕ) → List Grip
@@ -52,7 +53,7 @@ module _ (items : List (List ℕ)) (i : ℕ) (within : i < length items) where
   -- it is there
   pub seeks_no_more : {start now : KeyFiles} → DoesKeyCalls (Finds (record { 0 = get_or items i [] })) start (Ok true) now
       → DoesKeyCalls (HasOne (grips_of (drop i items))) start (Ok tt) now
-  seeks_no_more {start} {now} one = subst (λ (grips : List Grip). DoesKeyCalls (HasOne grips) start (Ok tt) now) (sym next_grip) (calls_then one (no_calls now (λ held. returns)))
+  seeks_no_more {start} {now} one = subst (λ (grips : List Grip). DoesKeyCalls (HasOne grips) start (Ok tt) now) (sym next_grip) (calls_then one (no_calls now (λ held. returns) refl))
 
   -- it isn't known whether it is
   pub seeks_in_vain : {start now : KeyFiles} {why : Refusal} → DoesKeyCalls (Finds (record { 0 = get_or items i [] })) start (Err why) now
@@ -62,28 +63,28 @@ module _ (items : List (List ℕ)) (i : ℕ) (within : i < length items) where
 -- none is left
 pub seeks_none : (items : List (List ℕ)) (i : ℕ) → length items ≤ i → (keys : KeyFiles) → DoesKeyCalls (HasOne (grips_of (drop i items))) keys (Err (Agent NoSecKey)) keys
 seeks_none items i past keys =
-    subst (λ (left : List (List ℕ)). DoesKeyCalls (HasOne (grips_of left)) keys (Err (Agent NoSecKey)) keys) (sym (drop_all i items past)) (no_calls keys (λ held. refuses))
+    subst (λ (left : List (List ℕ)). DoesKeyCalls (HasOne (grips_of left)) keys (Err (Agent NoSecKey)) keys) (sym (drop_all i items past)) (no_calls keys (λ held. refuses) refl)
 
-module _ {D P : Type 0} (turned : D → MarkStep → Turn → D → Type 0) (prompted : P → Call → P → Type 0) (grips : List Grip) (i : ℕ) where
+-- the keys from some place on are the one there and the later ones
+next_key : (grips : List Grip) (i : ℕ) (grip : Grip) → i < length grips → drop i grips ≡ get_or grips i grip ∷ drop (i + 1) grips
+next_key grips i grip within = drop-cons grips i grip within ∙ ap (λ (k : ℕ). get_or grips i grip ∷ drop k grips) (sym (add-one i))
+
+module _ {D P : Type 0} {turned : D → MarkStep → Turn → D → Type 0} {prompted : P → Call → P → Type 0} (grips : List Grip) (i : ℕ) where
   module _ (grip : Grip) (within : i < length grips) where
-    -- the keys from some place on are the one there and the later ones
-    next_key : drop i grips ≡ get_or grips i grip ∷ drop (i + 1) grips
-    next_key = drop-cons grips i grip within ∙ ap (λ (k : ℕ). get_or grips i grip ∷ drop k grips) (sym (add-one i))
-
     -- the client was told of the key there, and then of the later ones
     pub tells_on : {held mid after : Option ℕ} {start between now : KeyState turned prompted} {result : Result (Unit {0}) Refusal}
-        → DoesPart turned prompted (TellsListed (get_or grips i grip)) held start (Ok tt) mid between
-        → DoesPart turned prompted (WritesInfos (drop (i + 1) grips)) mid between result after now → DoesPart turned prompted (WritesInfos (drop i grips)) held start result after now
+        → DoesKeyPart turned prompted (TellsListed (get_or grips i grip)) held start (Ok tt) mid between
+        → DoesKeyPart turned prompted (WritesInfos (drop (i + 1) grips)) mid between result after now → DoesKeyPart turned prompted (WritesInfos (drop i grips)) held start result after now
     tells_on {held} {after} {start} {now} {result} one later =
-        subst (λ (left : List Grip). DoesPart turned prompted (WritesInfos left) held start result after now) (sym next_key) (part_then turned prompted one later)
+        subst (λ (left : List Grip). DoesKeyPart turned prompted (WritesInfos left) held start result after now) (sym (next_key grips i grip within)) (part_then one later)
 
     -- it couldn't be
-    pub tells_in_vain : {held after : Option ℕ} {start now : KeyState turned prompted} {why : Refusal} → DoesPart turned prompted (TellsListed (get_or grips i grip)) held start (Err why) after now
-        → DoesPart turned prompted (WritesInfos (drop i grips)) held start (Err why) after now
+    pub tells_in_vain : {held after : Option ℕ} {start now : KeyState turned prompted} {why : Refusal} → DoesKeyPart turned prompted (TellsListed (get_or grips i grip)) held start (Err why) after now
+        → DoesKeyPart turned prompted (WritesInfos (drop i grips)) held start (Err why) after now
     tells_in_vain {held} {after} {start} {now} {why} one =
-        subst (λ (left : List Grip). DoesPart turned prompted (WritesInfos left) held start (Err why) after now) (sym next_key) (part_stops turned prompted one)
+        subst (λ (left : List Grip). DoesKeyPart turned prompted (WritesInfos left) held start (Err why) after now) (sym (next_key grips i grip within)) (part_stops one)
 
   -- no key is left
-  pub tells_none : {held : Option ℕ} {now : KeyState turned prompted} → length grips ≤ i → DoesPart turned prompted (WritesInfos []) held now (Ok tt) held now
-      → DoesPart turned prompted (WritesInfos (drop i grips)) held now (Ok tt) held now
-  tells_none {held} {now} past returns_so = subst (λ (left : List Grip). DoesPart turned prompted (WritesInfos left) held now (Ok tt) held now) (sym (drop_all i grips past)) returns_so
+  pub tells_none : {held : Option ℕ} {now : KeyState turned prompted} → length grips ≤ i → DoesKeyPart turned prompted (WritesInfos []) held now (Ok tt) held now
+      → DoesKeyPart turned prompted (WritesInfos (drop i grips)) held now (Ok tt) held now
+  tells_none {held} {now} past returns_so = subst (λ (left : List Grip). DoesKeyPart turned prompted (WritesInfos left) held now (Ok tt) held now) (sym (drop_all i grips past)) returns_so

@@ -1,5 +1,5 @@
 -- Tickets that requests hold, and the turns that give them.
-use Rattle.std.proofs.Common.{◌≡◌, ℕ, List, [], true, false, Option, Some, None, Result, Ok, Err, is_some, refl}
+use Rattle.std.proofs.Common.{◌≡◌, ℕ, List, [], true, false, Option, Some, None, Result, Ok, is_some, refl}
 use Rattle.agent_ports.specs.declared.grip.Grip.{Grip}
 use Rattle.cache_policy.specs.declared.mark.MarkStep.{MarkStep}
 use Rattle.cache_policy.specs.declared.mark.MarkStep.TheVariants.{Ask}
@@ -7,11 +7,14 @@ use Rattle.cache_policy.specs.declared.mark.Way.{Way}
 use Rattle.cache_policy.specs.declared.mark.Way.TheVariants.{Quiet, Prompt}
 use Rattle.cache_policy.specs.declared.mode.Mode.{Mode}
 use Rattle.cache_policy.specs.Turns.{Turn, Open, FitsStep, opens}
-use Rattle.agent_ask.specs.Seats.{WantsSeat, Gives, opened as ticket_given, interrupted}
-use Rattle.agent_ask.specs.TurnParts.{Seats, opened, interrupted as not_opened}
+use Rattle.agent_ask.specs.Seats.{TakesTicket}
+use Rattle.agent_ask.proofs.PartsDone.{ticket_taken}
 use Rattle.agent_ask.specs.Parts.{returns}
+use Rattle.key_commands.specs.Events.{Event}
 use Rattle.key_commands.specs.Passphrases.{TakesSeat, seat_for}
-use Rattle.key_commands.specs.Steps.{DoesTurn, DoesTurns, one}
+use Rattle.agent_ask.specs.PartStates.{still, one}
+use Rattle.agent_ask.specs.TurnParts.{Seats, opened}
+use Rattle.key_commands.specs.Steps.{TakesTurn, TakesTurns}
 use Rattle.session_client.specs.declared.refusal.Refusal.{Refusal}
 
 -- only a question that may open a prompt is answered by a ticket
@@ -28,23 +31,26 @@ pub keeps_seat : (grip : Grip) (held : Option ℕ) → is_some held ≡ true →
 keeps_seat grip None is = cc is
 keeps_seat grip (Some ticket) is = returns
 
--- one that holds none takes the seat
-pub seat_taken : {D : Type 0} {turned : D → MarkStep → Turn → D → Type 0} {desk now : D} {result : Result (Unit {0}) Refusal} {after : Option ℕ} (grip : Grip) (held : Option ℕ) → held ≡ None
-    → DoesTurn turned (Seats (seat_for grip)) held desk result after now → DoesTurns turned (TakesSeat grip) held desk result after now
-seat_taken grip None is done = one (record { step = done.step; turn = done.turn; turned_so = done.turned_so; does = done.does })
-seat_taken grip (Some ticket) is done = cc is
+-- one that holds none takes the seat, or is refused
+pub seat_turn : {D : Type 0} {turned : D → MarkStep → Turn → D → Type 0} {desk now : D} {step : MarkStep} {result : Result (Unit {0}) Refusal} {after : Option ℕ}
+    → TakesTicket turned step desk result after now → TakesTurn turned (Seats step) None desk result after now
+seat_turn = ticket_taken
 
--- a request wanted the seat, and has its ticket
-module _ {D : Type 0} {turned : D → MarkStep → Turn → D → Type 0} {step : MarkStep} {desk now : D} where
-  opened_by : {turn : Turn} {number : ℕ} → turned desk step turn now → Gives turn (Ok number) → DoesTurn turned (Seats step) None desk (Ok tt) (Some number) now
-  opened_by {number} turned_so ticket_given = record { step = step; turn = Open number; turned_so = turned_so; does = opened }
+module _ {D : Type 0} {turned : D → MarkStep → Turn → D → Type 0} (grip : Grip) {desk now : D} where
+  seat_one : {result : Result (Unit {0}) Refusal} {after : Option ℕ} → TakesTurn turned (Seats (seat_for grip)) None desk result after now → TakesTurns turned (TakesSeat grip) None desk result after now
+  seat_one done = one (record { step = done.step; turn = done.turn; turned_so = done.turned_so; does = done.does; on = done.on })
 
-  pub seat_opened : {number : ℕ} → WantsSeat turned step desk (Ok number) now → DoesTurn turned (Seats step) None desk (Ok tt) (Some number) now
-  seat_opened wants = opened_by wants.turned_so wants.gives
+  pub seat_taken : {result : Result (Unit {0}) Refusal} {after : Option ℕ} (held : Option ℕ) → held ≡ None → TakesTicket turned (seat_for grip) desk result after now
+      → TakesTurns turned (TakesSeat grip) held desk result after now
+  seat_taken None is takes = seat_one (seat_turn takes)
+  seat_taken (Some ticket) is takes = cc is
 
-  -- or is refused
-  refused_by : {turn : Turn} {why : Refusal} (held : Option ℕ) → turned desk step turn now → Gives turn (Err why) → DoesTurn turned (Seats step) held desk (Err why) held now
-  refused_by {turn} held turned_so (interrupted by) = record { step = step; turn = turn; turned_so = turned_so; does = not_opened by }
+-- a request that has taken its seat holds a ticket
+holds_ticket : (grip : Grip) (before after : Option ℕ) (events : List Event) → TakesSeat grip before events (Ok tt) after → is_some after ≡ true
+holds_ticket grip None after events opened = refl
+holds_ticket grip (Some ticket) after events returns = refl
 
-  pub seat_refused : {why : Refusal} (held : Option ℕ) → WantsSeat turned step desk (Err why) now → DoesTurn turned (Seats step) held desk (Err why) held now
-  seat_refused held wants = refused_by held wants.turned_so wants.gives
+pub seated : {D : Type 0} {turned : D → MarkStep → Turn → D → Type 0} (grip : Grip) {before after : Option ℕ} {desk now : D} → TakesTurns turned (TakesSeat grip) before desk (Ok tt) after now
+    → is_some after ≡ true
+seated grip {before} {after} (still does on) = holds_ticket grip before after [] does
+seated grip {before} {after} (one turn) = holds_ticket grip before after _ turn.does

@@ -21,8 +21,9 @@ use Rattle.sexp_canonical.specs.Tree.{Tree}
 use Rattle.sexp_keys.specs.Key.{Key}
 use Rattle.sexp_keys.specs.Lists.{key_list_of}
 use Rattle.sexp_keys.specs.declared.algorithm.Algorithm.{Algorithm}
+use Rattle.agent_ask.specs.PartExchanges.{answered, refused}
 use Rattle.key_commands.specs.Events.{called, read, drew, not_drawn}
-use Rattle.key_commands.specs.Exchanges.{Exchange, answered, refused, with_wrap_key, KeyInfoReplies, KeyWrapReplies, ExportKeyReplies, PasswdReplies, RewritesFile, DeleteKeyReplies, reply}
+use Rattle.key_commands.specs.Exchanges.{KeyExchange, key_reply, with_wrap_key, KeyInfoReplies, KeyWrapReplies, ExportKeyReplies, PasswdReplies, RewritesFile, DeleteKeyReplies}
 use Rattle.key_commands.specs.Files.{FileSays, canonical_file}
 use Rattle.key_commands.specs.KeyParts.{is_key, file_in, tells, short, made, done as replaced}
 use Rattle.key_commands.specs.Lines.{ok, info_line, grip_text, IsDataAnswer}
@@ -47,7 +48,7 @@ protected_line = refl
 
 module _ (rules : Rules) (options : OptionValues) (wraps : WrapKeys) (grip : Grip) where
   -- a key is exported before there is a wrapping key
-  no_export_key : Exchange rules options (record { import = wraps.import; export = None }) (ExportKey grip None) (Sent (failed Parameter) ∷ [])
+  no_export_key : KeyExchange rules options (record { import = wraps.import; export = None }) (ExportKey grip None) (Sent (failed Parameter) ∷ [])
       (record { import = wraps.import; export = None }) On
   unfolding ExportKeyReplies
   no_export_key = refused [] None (Agent Parameter) (stops refuses) unheld
@@ -55,25 +56,25 @@ module _ (rules : Rules) (options : OptionValues) (wraps : WrapKeys) (grip : Gri
   -- what is known of a clear key
   clear_info : {algorithm : Algorithm} {public private further : List Tree} {file : List ℕ} (answer : KeyRead) → file_in answer ≡ Some file
       → FileSays file (Ok (record { algorithm = algorithm; is_clear = true; public = public; private = private; further = further }))
-      → Exchange rules options wraps (KeyInfo grip) (read grip answer ∷ cache_turn (Peek (grip_text grip) Normal) (Held false) ∷ Sent (info_line grip false true ++ ok) ∷ []) wraps On
+      → KeyExchange rules options wraps (KeyInfo grip) (read grip answer ∷ cache_turn (Peek (grip_text grip) Normal) (Held false) ∷ Sent (info_line grip false true ++ ok) ∷ []) wraps On
   unfolding KeyInfoReplies
   clear_info answer file says =
-      answered (read grip answer ∷ cache_turn (Peek (grip_text grip) Normal) (Held false) ∷ []) None (reply wraps (info_line grip false true ++ ok))
+      answered (read grip answer ∷ cache_turn (Peek (grip_text grip) Normal) (Held false) ∷ []) None (key_reply wraps (info_line grip false true ++ ok))
       (goes_on (is_key file says) (goes_on (goes_on peeked returns) returns)) unheld
 
   -- a key that isn't there is deleted
-  nothing_to_delete : Exchange rules options wraps (DeleteKey grip true) (read grip Absent ∷ Sent (failed NoSecKey) ∷ []) wraps On
+  nothing_to_delete : KeyExchange rules options wraps (DeleteKey grip true) (read grip Absent ∷ Sent (failed NoSecKey) ∷ []) wraps On
   unfolding DeleteKeyReplies
   nothing_to_delete = refused (read grip Absent ∷ []) None (Agent NoSecKey) (goes_on absent (stops refuses)) unheld
 
   -- the session's key for a direction is the same each time
   same_wrap_key : (key text : List ℕ) → IsDataAnswer key text
-      → Exchange rules options (with_wrap_key Import key wraps) (KeyWrap Import) (Sent text ∷ []) (with_wrap_key Import key wraps) On
+      → KeyExchange rules options (with_wrap_key Import key wraps) (KeyWrap Import) (Sent text ∷ []) (with_wrap_key Import key wraps) On
   unfolding KeyWrapReplies
-  same_wrap_key key text data_is = answered [] None (reply (with_wrap_key Import key wraps) text) (goes_on returns (goes_on (tells data_is) returns)) unheld
+  same_wrap_key key text data_is = answered [] None (key_reply (with_wrap_key Import key wraps) text) (goes_on returns (goes_on (tells data_is) returns)) unheld
 
   -- no key could be drawn
-  no_wrap_key : Exchange rules options (record { import = None; export = wraps.export }) (KeyWrap Import) (not_drawn 16 ∷ Sent (failed General) ∷ [])
+  no_wrap_key : KeyExchange rules options (record { import = None; export = wraps.export }) (KeyWrap Import) (not_drawn 16 ∷ Sent (failed General) ∷ [])
       (record { import = None; export = wraps.export }) On
   unfolding KeyWrapReplies
   no_wrap_key = refused (not_drawn 16 ∷ []) None (Agent General) (stops faulted) unheld
@@ -86,13 +87,13 @@ module _ (rules : Rules) (options : OptionValues) (wraps : WrapKeys) (grip : Gri
       let made_file : List ℕ = protected_file clear (ocb_protection clear second.entry.secret (take 8 drawn_bytes) (drop 8 drawn_bytes) options.s2k_count None) None in
       file_in answer ≡ Some file → FileSays file (Ok key) → is_canonical file ≡ true → locked.key ≡ key → IsLocked locked → OpensTo locked first.entry.secret clear
       → length (key_list_of clear) ≤ MAX_LIST_LEN → length drawn_bytes ≡ 20
-      → Exchange rules options wraps (Passwd grip (Some old) (Some new) false)
+      → KeyExchange rules options wraps (Passwd grip (Some old) (Some new) false)
       (read grip answer ∷ cache_turn (ask_nonce old) (Given first) ∷ cache_turn (ask_nonce new) (Given second) ∷ drew drawn_bytes ∷ called (Replaced grip made_file IsDone)
       ∷ cache_turn (put_key grip second.entry.secret) Done ∷ Sent ok ∷ []) wraps On
   unfolding PasswdReplies OpensLocked RewritesFile
   changed_by_nonces {old} {new} {drawn_bytes} {clear} {first} {second} answer is says in_form key_is locked_is opens_to within twenty =
       answered (read grip answer ∷ cache_turn (ask_nonce old) (Given first) ∷ cache_turn (ask_nonce new) (Given second) ∷ drew drawn_bytes ∷ called (Replaced grip _ IsDone)
-      ∷ cache_turn (put_key grip second.entry.secret) Done ∷ []) None (reply wraps ok)
+      ∷ cache_turn (put_key grip second.entry.secret) Done ∷ []) None (key_reply wraps ok)
       (goes_on (is_key is says)
       (goes_on {first = cache_turn (ask_nonce old) (Given first) ∷ []} (goes_on (is_locked key_is locked_is) (goes_on given (goes_on (opens opens_to) returns)))
       (goes_on

@@ -1,24 +1,24 @@
 -- Requests on keys and what is done for them, as the GnuPG manual has them ("Agent's Assuan protocol"). The codes, the texts and the order of
 -- what is done are this project's own.
-use Rattle.std.specs.Prelude.{◌++◌, ℕ, Bool, true, false, List, [], ◌∷◌, take, drop, Option, Some, None, Ok, Err}
-use Rattle.agent_ask.specs.SessionEvents.{Sent}
+use Rattle.std.specs.Prelude.{◌++◌, ℕ, Bool, true, false, List, take, drop, Option, Some}
+use Rattle.agent_ask.specs.PartExchanges.{AnyReply, AnyExchange}
 use Rattle.agent_ports.specs.declared.grip.Grip.{Grip}
 use Rattle.session_client.specs.declared.code.Code.TheVariants as code
 use Rattle.cache_policy.specs.declared.life.Life.TheVariants.{Default}
 use Rattle.cache_policy.specs.declared.mark.MarkStep.TheVariants.{Put, Clear}
 use Rattle.cache_policy.specs.declared.mode.Mode.TheVariants.{Normal, Nonce}
 use Rattle.assuan_escape.specs.Escapes.{hex_text}
+use Rattle.assuan_server.specs.Written.{refusal_line}
 use Rattle.session_options.specs.OptionValues.{OptionValues}
 use Rattle.session_options.specs.declared.rules.Rules.{Rules}
 use Rattle.sexp_keys.specs.Key.{Key}
 use Rattle.key_commands.specs.Events.{Event}
 use Rattle.key_commands.specs.Files.{Rewrites}
 use Rattle.key_commands.specs.Lines.{ok, grip_text, nonce_line}
-use Rattle.key_commands.specs.Parts.{Part, Finds, Draws, refusal_events, refusal_went}
+use Rattle.key_commands.specs.Parts.{Part, Finds, Draws, key_went_after}
 use Rattle.agent_ask.specs.Parts.{◌>>=◌, Returns, Refuses, needed, wanted, or_else}
 use Rattle.agent_ask.specs.TurnParts.{Changes, Closes}
 use Rattle.key_commands.specs.Passphrases.{OldPassphrase, NewPassphrase, VerifiesPassphrase, LooksForNonce}
-use Rattle.session_client.specs.declared.refusal.Refusal.{Refusal}
 use Rattle.session_client.specs.declared.refusal.Refusal.TheVariants.{Agent}
 use Rattle.key_commands.specs.declared.request.Direction.{Direction}
 use Rattle.key_commands.specs.declared.request.Direction.TheVariants.{Import, Export}
@@ -27,15 +27,14 @@ use Rattle.key_commands.specs.declared.request.KeyRequest.TheVariants.{HaveKey, 
 use Rattle.key_commands.specs.declared.went.KeyWent.{KeyWent}
 use Rattle.key_commands.specs.declared.went.KeyWent.TheVariants.{On}
 use Rattle.key_commands.specs.declared.wrap_keys.WrapKeys.{WrapKeys}
-use Rattle.key_commands.specs.KeyParts.{Tells, ReadsFile, Replaces, Removes, Protects, IsShort, KeepsNew, HasOne, TellsInfo, ListsGrips, WritesInfos, ReceivesKey, NamesKey, IsFree, LooksOver, WrapsKey, Consents}
+use Rattle.key_commands.specs.KeyParts.{Tells, ReadsFile, Replaces, Removes, Protects, IsShort, KeepsNew, HasOne, TellsKeyInfo, ListsGrips, WritesInfos, ReceivesKey, NamesKey, IsFree, LooksOver, WrapsKey, Consents}
 
--- what a request is answered where it isn't refused, and the wrapping keys after it
-pub record KeyReply : Type 0 where
-  pub text : List ℕ
-  pub wraps : WrapKeys
+-- what a request is answered where it isn't refused, the wrapping keys after it, and how the session goes on
+abbrev pub KeyReply : Type 0
+KeyReply = AnyReply WrapKeys KeyWent
 
-abbrev pub reply : WrapKeys → List ℕ → KeyReply
-reply wraps text = record { text = text; wraps = wraps }
+abbrev pub key_reply : WrapKeys → List ℕ → KeyReply
+key_reply wraps text = record { text = text; kept = wraps; went = On }
 
 -- ---- KEYWRAP_KEY
 
@@ -97,26 +96,26 @@ module _ (rules : Rules) (options : OptionValues) where
     unfoldable pub HaveKeyReplies : List Grip → Part KeyReply
     HaveKeyReplies grips = do
       one ← HasOne grips
-      Returns (reply wraps ok)
+      Returns (key_reply wraps ok)
 
     unfoldable pub KeyInfoReplies : Grip → Part KeyReply
     KeyInfoReplies grip = do
       file ← ReadsFile grip
-      line ← TellsInfo grip file.key
-      Returns (reply wraps (line ++ ok))
+      line ← TellsKeyInfo grip file.key
+      Returns (key_reply wraps (line ++ ok))
 
     unfoldable pub ListKeysReplies : Part KeyReply
     ListKeysReplies = do
       grips ← ListsGrips
       written ← WritesInfos grips
-      Returns (reply wraps ok)
+      Returns (key_reply wraps ok)
 
     -- the first request of a session for a direction draws its key
     unfoldable pub KeyWrapReplies : Direction → Part KeyReply
     KeyWrapReplies way = do
       key ← or_else (wrap_key way wraps) (Draws 16)
       text ← Tells key
-      Returns (reply (with_wrap_key way key wraps) text)
+      Returns (key_reply (with_wrap_key way key wraps) text)
 
     unfoldable pub ImportKeyReplies : Bool → Option (List ℕ) → Part KeyReply
     ImportKeyReplies force nonce = do
@@ -126,7 +125,7 @@ module _ (rules : Rules) (options : OptionValues) where
       free ← IsFree force grip
       pass ← FoundOrNew nonce grip
       cache_nonce ← StoresKey options.s2k_count key grip pass
-      Returns (reply wraps (nonce_line (hex_text cache_nonce) ++ ok))
+      Returns (key_reply wraps (nonce_line (hex_text cache_nonce) ++ ok))
 
     unfoldable pub ExportKeyReplies : Grip → Option (List ℕ) → Part KeyReply
     ExportKeyReplies grip nonce = do
@@ -136,14 +135,14 @@ module _ (rules : Rules) (options : OptionValues) where
       closed ← Closes opened.by
       wrapped ← WrapsKey wrap opened.key
       text ← Tells wrapped
-      Returns (reply wraps text)
+      Returns (key_reply wraps text)
 
     unfoldable pub PasswdReplies : Grip → (nonce new_nonce : Option (List ℕ)) → Part KeyReply
     PasswdReplies grip nonce new_nonce = do
       file ← ReadsFile grip
       opened ← OldPassphrase rules options grip nonce file.key
       changed ← ChangesOpened grip new_nonce file.bytes opened.key
-      Returns (reply wraps ok)
+      Returns (key_reply wraps ok)
 
     -- PASSWD --verify
     unfoldable pub VerifyReplies : Grip → Part KeyReply
@@ -151,7 +150,7 @@ module _ (rules : Rules) (options : OptionValues) where
       file ← ReadsFile grip
       opened ← VerifiesPassphrase rules options grip file.key
       closed ← Closes opened.by
-      Returns (reply wraps ok)
+      Returns (key_reply wraps ok)
 
     unfoldable pub DeleteKeyReplies : Bool → Grip → Part KeyReply
     DeleteKeyReplies force grip = do
@@ -160,25 +159,21 @@ module _ (rules : Rules) (options : OptionValues) where
       agreed ← Consents rules options force grip
       removed ← Removes grip
       cleared ← Changes (Clear (grip_text grip) Normal)
-      Returns (reply wraps ok)
+      Returns (key_reply wraps ok)
 
     -- what is done for a request, up to its reply
-    abbrev pub Replies : KeyRequest → Part KeyReply
-    Replies (HaveKey grips) = HaveKeyReplies grips
-    Replies (KeyInfo grip) = KeyInfoReplies grip
-    Replies ListKeys = ListKeysReplies
-    Replies (KeyWrap way) = KeyWrapReplies way
-    Replies (ImportKey force nonce) = ImportKeyReplies force nonce
-    Replies (ExportKey grip nonce) = ExportKeyReplies grip nonce
-    Replies (Passwd grip old new true) = VerifyReplies grip
-    Replies (Passwd grip old new false) = PasswdReplies grip old new
-    Replies (DeleteKey grip force) = DeleteKeyReplies force grip
-    Replies (Bad code) = Refuses (Agent code)
+    abbrev pub KeyReplies : KeyRequest → Part KeyReply
+    KeyReplies (HaveKey grips) = HaveKeyReplies grips
+    KeyReplies (KeyInfo grip) = KeyInfoReplies grip
+    KeyReplies ListKeys = ListKeysReplies
+    KeyReplies (KeyWrap way) = KeyWrapReplies way
+    KeyReplies (ImportKey force nonce) = ImportKeyReplies force nonce
+    KeyReplies (ExportKey grip nonce) = ExportKeyReplies grip nonce
+    KeyReplies (Passwd grip old new true) = VerifyReplies grip
+    KeyReplies (Passwd grip old new false) = PasswdReplies grip old new
+    KeyReplies (DeleteKey grip force) = DeleteKeyReplies force grip
+    KeyReplies (Bad code) = Refuses (Agent code)
 
-  -- A request: the wrapping keys before it, what the session does for it, the wrapping keys after it, and how the session goes on. A ticket that
-  -- is still held is given back before the reply, and nothing is kept.
-  pub data Exchange (before : WrapKeys) (request : KeyRequest) : List Event → WrapKeys → KeyWent → Type 0 where
-    answered : (events : List Event) (held : Option ℕ) (reply : KeyReply) {back : List Event} → Replies before request None events (Ok reply) held → Closes None held back (Ok tt) None
-        → Exchange before request (events ++ (back ++ Sent reply.text ∷ [])) reply.wraps On
-    refused : (events : List Event) (held : Option ℕ) (why : Refusal) {back : List Event} → Replies before request None events (Err why) held → Closes None held back (Ok tt) None
-        → Exchange before request (events ++ (back ++ refusal_events why)) before (refusal_went why)
+  -- A request: the wrapping keys before it, what the session does for it, the wrapping keys after it, and how the session goes on.
+  abbrev pub KeyExchange : WrapKeys → KeyRequest → List Event → WrapKeys → KeyWent → Type 0
+  KeyExchange before request = AnyExchange refusal_line key_went_after (KeyReplies before request) before

@@ -1,6 +1,7 @@
 -- The parts of requests on keys that are no passphrase's: what is done with key files and with wrapped keys, and how consent is asked for (GnuPG
 -- manual, "Agent's Assuan protocol"). The codes, the texts and the order of what is done are this project's own.
 use Rattle.std.specs.Prelude.{◌≡◌, ◌≢◌, ◌≤◌, ◌<◌, length, ℕ, Bool, true, false, List, [], ◌∷◌, codes, not, Option, Some, None, Result, Ok, Err}
+use Rattle.agent_ask.specs.ClientParts.{Writes, Inquires}
 use Rattle.agent_ask.specs.Further.{Listed, Replaced, Removed}
 use Rattle.agent_ask.specs.SessionEvents.{Inquiry, cache_turn}
 use Rattle.agent_ports.specs.declared.grip.Grip.{Grip}
@@ -30,7 +31,7 @@ use Rattle.key_commands.specs.Events.{Event, called, read, out_of_memory}
 use Rattle.key_commands.specs.Files.{FileSays}
 use Rattle.key_commands.specs.Lines.{IsDataAnswer, grip_text, info_line, limit_line, described, delete_description}
 use Rattle.agent_ask.specs.ConsentParts.{AgreesTo}
-use Rattle.key_commands.specs.Parts.{Part, Writes, Inquires, Finds, read_fault}
+use Rattle.key_commands.specs.Parts.{Part, Finds, read_fault}
 use Rattle.agent_ask.specs.Parts.{◌>>=◌, Returns, Refuses, wanted, unless}
 use Rattle.agent_ask.specs.TurnParts.{Seats, Changes, Peeks, Closes}
 use Rattle.key_commands.specs.Passphrases.{ask_nonce, put_key}
@@ -108,8 +109,8 @@ HasOne (grip ∷ more) = do
 -- ---- KEYINFO
 
 -- a key's line
-abbrev pub TellsInfo : Grip → Key → Part (List ℕ)
-TellsInfo grip key = do
+abbrev pub TellsKeyInfo : Grip → Key → Part (List ℕ)
+TellsKeyInfo grip key = do
   cached ← Peeks (grip_text grip) Normal
   Returns (info_line grip cached key.is_clear)
 
@@ -130,7 +131,7 @@ pub data ReadsListed (grip : Grip) (held : Option ℕ) : List Event → Result (
 abbrev pub WritesInfo : Grip → Option Key → Part (Unit {0})
 WritesInfo grip None = Returns tt
 WritesInfo grip (Some key) = do
-  line ← TellsInfo grip key
+  line ← TellsKeyInfo grip key
   Writes line
 
 abbrev pub TellsListed : Grip → Part (Unit {0})
@@ -153,7 +154,7 @@ max_key_data = 65544
 
 -- The client sends a wrapped key. Where there is no memory for its bytes they are read to their end.
 pub data AsksKeyData (held : Option ℕ) : List Event → Result (List ℕ) Refusal → Option ℕ → Type 0 where
-  asked : {events : List Event} {result : Result (List ℕ) Refusal} → Inquires (codes "KEYDATA") max_key_data held events result held → AsksKeyData held events result held
+  asked : {events : List Event} {result : Result (List ℕ) Refusal} → Inquires session_lines (codes "KEYDATA") max_key_data held events result held → AsksKeyData held events result held
   no_memory : {outcome : Outcome} → IsAtEnd outcome
       → AsksKeyData held (Inquiry (codes "KEYDATA") [] max_key_data (Asked outcome) ∷ out_of_memory ∷ []) (Err (Agent code.NoMemory)) held
 

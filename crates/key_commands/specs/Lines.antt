@@ -3,7 +3,6 @@
 use Rattle.std.specs.Prelude.{◌≡◌, ℕ, Bool, List, [], ◌++◌, codes, decimal, Option, Some, None, if◌then◌else◌}
 use Rattle.assuan_escape.specs.Escapes.{hex_text}
 use Rattle.agent_ports.specs.declared.grip.Grip.{Grip}
-use Rattle.arrayvec.specs.ArrayVec.{ArrayVec}
 use Rattle.assuan_escape.specs.DataLines.{AreData, data_text}
 use Rattle.assuan_server.specs.Written.{ok_text, status_text}
 use Rattle.assuan_text.specs.LineEnds.{line_of}

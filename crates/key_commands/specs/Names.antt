@@ -4,8 +4,8 @@ use Rattle.assuan_text.specs.Rows.{found_in_any_case}
 use Rattle.key_commands.specs.declared.names.KeyCommandName.{KeyCommandName}
 use Rattle.key_commands.specs.declared.names.KeyCommandName.TheVariants.{HaveKey, KeyInfo, KeyWrap, ImportKey, ExportKey, Passwd, DeleteKey}
 
-abbrev pub commands : List (List ℕ × KeyCommandName)
-commands =
+abbrev pub commands_on_keys : List (List ℕ × KeyCommandName)
+commands_on_keys =
     (codes "HAVEKEY", HaveKey)
     ∷ (codes "KEYINFO", KeyInfo)
     ∷ (codes "KEYWRAP_KEY", KeyWrap)
@@ -16,5 +16,5 @@ commands =
     ∷ []
 
 -- the command of this name, whatever the case of its letters
-unfoldable pub command_named : List ℕ → Option KeyCommandName
-command_named word = found_in_any_case word commands
+unfoldable pub key_command_named : List ℕ → Option KeyCommandName
+key_command_named word = found_in_any_case word commands_on_keys

@@ -1,15 +1,11 @@
 -- How a request comes by the passphrase of a key, old or new (GnuPG manual, "Agent EXPORT", "Agent PASSWD"). Where it is looked for, in which order, and what
 -- is kept of it, is this project's own.
 use Rattle.std.specs.Prelude.{◌≡◌, ◌==◌, ℕ, Bool, true, false, List, [], ◌∷◌, length, codes, Option, Some, None, Result, Ok, Err, not, ⊤}
-use Rattle.std.specs.Option.{option_map}
-use Rattle.agent_ask.specs.Callers.{unheard_of}
-use Rattle.agent_ask.specs.Events.{PromptEvent}
-use Rattle.agent_ask.specs.Plans.{IsSpec, plan_of}
-use Rattle.agent_ask.specs.Prompts.{AsksPin}
-use Rattle.agent_ask.specs.SessionPrompts.{AnyInSession}
+use Rattle.agent_ask.specs.ClientParts.{AsksClient}
+use Rattle.agent_ask.specs.PinParts.{PromptsPin, pin_refusal}
+use Rattle.agent_ask.specs.Plans.{IsSpec, plan_of, text}
 use Rattle.agent_ask.specs.declared.ask.Asked.{Asked}
 use Rattle.agent_ask.specs.declared.ask.Asked.TheVariants as asked
-use Rattle.agent_ask.specs.declared.spec.AskPlan.{AskPlan}
 use Rattle.agent_ask.specs.declared.spec.PromptSpec.{PromptSpec}
 use Rattle.agent_ports.specs.declared.grip.Grip.{Grip}
 use Rattle.assuan_server.specs.Clients.{session_lines}
@@ -30,15 +26,14 @@ use Rattle.session_options.specs.declared.rules.Rules.{Rules}
 use Rattle.sexp_keys.specs.Key.{Key}
 use Rattle.sexp_keys.specs.declared.fault.KeyFault.{KeyFault}
 use Rattle.key_commands.specs.Events.{Event, out_of_memory}
-use Rattle.key_commands.specs.Lines.{grip_text, described, old_description, new_description, field_text}
-use Rattle.agent_ask.specs.Plans.{text}
-use Rattle.key_commands.specs.Parts.{Part, AsksClient}
+use Rattle.key_commands.specs.Lines.{grip_text, described, old_description, new_description, field_text, limit_line}
+use Rattle.key_commands.specs.Parts.{Part}
 use Rattle.agent_ask.specs.Parts.{◌>>=◌, Returns, Refuses, needed, wanted, or_else}
 use Rattle.agent_ask.specs.TurnParts.{Asks, Seats, Changes}
 use Rattle.key_commands.specs.Faults.{fault_code}
 use Rattle.key_commands.specs.declared.opened.OpenedKey.{OpenedKey}
 use Rattle.session_client.specs.declared.refusal.Refusal.{Refusal}
-use Rattle.session_client.specs.declared.refusal.Refusal.TheVariants.{Agent, Pinentry, Client}
+use Rattle.session_client.specs.declared.refusal.Refusal.TheVariants.{Agent}
 
 -- ---- the cache
 
@@ -72,24 +67,6 @@ abbrev pub TakesSeat : Grip → Part (Unit {0})
 TakesSeat grip None = Seats (seat_for grip) None
 TakesSeat grip (Some ticket) = Returns tt (Some ticket)
 
--- ---- prompts
-
--- one prompt for a passphrase that is right by this rule, in the session: its events, and its answer
-pub record PromptsPin (spec : PromptSpec) (plan : AskPlan) (Rule : List ℕ → Type 0) (shown : List Event) (answer : Asked) : Type 0 where
-  pub prompt : List PromptEvent
-  pub asks : AsksPin spec plan Rule prompt answer
-  pub in_session : AnyInSession session_lines prompt shown
-
--- how a request is refused whose prompt gave no passphrase
-abbrev pub pin_refusal : Asked → Option Refusal
-pin_refusal (asked.Pin pin) = None
-pin_refusal asked.Cancelled = Some (Pinentry code.Cancelled)
-pin_refusal asked.TimedOut = Some (Pinentry code.Timeout)
-pin_refusal asked.NoPinentry = Some (Agent code.NoPinentry)
-pin_refusal asked.Bad = Some (Agent code.BadPass)
-pin_refusal (asked.Heard heard) = option_map Client (unheard_of heard)
-pin_refusal asked.NoMemory = Some (Agent code.NoMemory)
-
 -- ---- the old passphrase
 
 abbrev pub opened_by : Key → List ℕ → OpenedKey
@@ -106,20 +83,24 @@ abbrev pub OpensBy : LockedKey → List ℕ → Type 0
 OpensBy locked pass = (key : Key) × OpensTo locked pass key
 
 -- A passphrase is tried on it: the clear key, or none. Being out of memory is never taken for a passphrase that doesn't open it.
-pub data Tries (locked : LockedKey) (pass : List ℕ) (held : Option ℕ) : List Event → Result (Option OpenedKey) Refusal → Option ℕ → Type 0 where
-  opens : {key : Key} → OpensTo locked pass key → Tries locked pass held [] (Ok (Some (opened_by key pass))) held
-  stays : ¬ OpensBy locked pass → Tries locked pass held [] (Ok None) held
-  no_memory : Tries locked pass held (out_of_memory ∷ []) (Err (Agent code.NoMemory)) held
+pub data TriesPassphrase (locked : LockedKey) (pass : List ℕ) (held : Option ℕ) : List Event → Result (Option OpenedKey) Refusal → Option ℕ → Type 0 where
+  opens : {key : Key} → OpensTo locked pass key → TriesPassphrase locked pass held [] (Ok (Some (opened_by key pass))) held
+  stays : ¬ OpensBy locked pass → TriesPassphrase locked pass held [] (Ok None) held
+  no_memory : TriesPassphrase locked pass held (out_of_memory ∷ []) (Err (Agent code.NoMemory)) held
 
 -- one that was found is tried, where one was
 abbrev pub TriesFound : LockedKey → Option (List ℕ) → Part (Option OpenedKey)
 TriesFound locked None = Returns None
-TriesFound locked (Some pass) = Tries locked pass
+TriesFound locked (Some pass) = TriesPassphrase locked pass
+
+-- the client is asked for a passphrase by this word. It is told first how many bytes are taken.
+abbrev pub AsksSecret : (word : List ℕ) → Part (List ℕ)
+AsksSecret word = AsksClient session_lines (limit_line MAX_SECRET_LEN) word MAX_SECRET_LEN
 
 -- the client itself gives a new passphrase, which isn't empty
 unfoldable pub ClientNew : Part (List ℕ)
 ClientNew = do
-  pass ← AsksClient (codes "NEW_PASSPHRASE") MAX_SECRET_LEN
+  pass ← AsksSecret (codes "NEW_PASSPHRASE")
   some ← wanted code.BadPass (not (length pass == 0))
   Returns pass
 
@@ -128,18 +109,18 @@ module _ (rules : Rules) (options : OptionValues) (grip : Grip) where
   pub data PromptsOld (locked : LockedKey) : Option ℕ → List Event → Result OpenedKey Refusal → Option ℕ → Type 0 where
     opens_by : {ticket : ℕ} {shown : List Event} {pin : List ℕ} {key : Key} (spec : PromptSpec)
         → IsSpec rules options (text (described options.description (old_description grip))) (text field_text) false spec
-        → PromptsPin spec (plan_of rules options (text []) false 0) (OpensBy locked) shown (asked.Pin pin) → OpensTo locked pin key
+        → PromptsPin session_lines spec (plan_of rules options (text []) false 0) (OpensBy locked) shown (asked.Pin pin) → OpensTo locked pin key
         → PromptsOld locked (Some ticket) shown (Ok (opened_by key pin)) (Some ticket)
     refused : {ticket : ℕ} {shown : List Event} {answer : Asked} {why : Refusal} (spec : PromptSpec)
         → IsSpec rules options (text (described options.description (old_description grip))) (text field_text) false spec
-        → PromptsPin spec (plan_of rules options (text []) false 0) (OpensBy locked) shown answer → pin_refusal answer ≡ Some why
+        → PromptsPin session_lines spec (plan_of rules options (text []) false 0) (OpensBy locked) shown answer → pin_refusal answer ≡ Some why
         → PromptsOld locked (Some ticket) shown (Err why) (Some ticket)
 
   -- the client itself gives the passphrase, and it is kept
   unfoldable pub ClientOld : LockedKey → Part OpenedKey
   ClientOld locked = do
-    pass ← AsksClient (codes "PASSPHRASE") MAX_SECRET_LEN
-    tried ← Tries locked pass
+    pass ← AsksSecret (codes "PASSPHRASE")
+    tried ← TriesPassphrase locked pass
     opened ← needed code.BadPass tried
     kept ← Changes (put_key grip pass)
     Returns opened
@@ -194,11 +175,11 @@ module _ (rules : Rules) (options : OptionValues) (grip : Grip) where
   -- the client set for the request: these are about the key as it is.
   pub data PromptsNew : Option ℕ → List Event → Result (List ℕ) Refusal → Option ℕ → Type 0 where
     given : {ticket : ℕ} {shown : List Event} {pin : List ℕ} (spec : PromptSpec) → IsSpec rules options (text (new_description grip)) (text field_text) true spec
-        → PromptsPin spec (plan_of rules options (text []) true 1) (λ pin. ⊤) shown (asked.Pin pin)
+        → PromptsPin session_lines spec (plan_of rules options (text []) true 1) (λ pin. ⊤) shown (asked.Pin pin)
         → PromptsNew (Some ticket) shown (Ok pin) (Some ticket)
     refused : {ticket : ℕ} {shown : List Event} {answer : Asked} {why : Refusal} (spec : PromptSpec)
         → IsSpec rules options (text (new_description grip)) (text field_text) true spec
-        → PromptsPin spec (plan_of rules options (text []) true 1) (λ pin. ⊤) shown answer → pin_refusal answer ≡ Some why
+        → PromptsPin session_lines spec (plan_of rules options (text []) true 1) (λ pin. ⊤) shown answer → pin_refusal answer ≡ Some why
         → PromptsNew (Some ticket) shown (Err why) (Some ticket)
 
   abbrev pub new_by : PinMode → Part (List ℕ)

@@ -9,7 +9,7 @@ use Rattle.assuan_text.specs.Words.{command_of, rest_of, words}
 use Rattle.cache_policy.specs.declared.id.TheConstants.{MAX_ID_LEN}
 use Rattle.hex.specs.Hex.{decode_of}
 use Rattle.hex.specs.declared.error.FromHexError.{FromHexError}
-use Rattle.key_commands.specs.Names.{command_named}
+use Rattle.key_commands.specs.Names.{key_command_named}
 use Rattle.key_commands.specs.declared.grips.TheConstants.{MAX_GRIPS}
 use Rattle.key_commands.specs.declared.names.KeyCommandName.{KeyCommandName}
 use Rattle.key_commands.specs.declared.names.KeyCommandName.TheVariants as name
@@ -32,7 +32,7 @@ abbrev pub grip_of_bytes : Result (List ℕ) FromHexError → Option Grip
 grip_of_bytes (Ok bytes) = Some (record { 0 = bytes })
 grip_of_bytes (Err fault) = None
 
--- a key is named by its grip: 40 hexadecimal digits, of either case
+-- a key is named by its grip: 40 hexadecimal digits, of key_or_bad case
 abbrev pub grip : List ℕ → Option Grip
 grip word = if length word == 40 then grip_of_bytes (decode_of word) else None
 
@@ -70,8 +70,8 @@ have_of arguments = do
   Ok (HaveKey grips)
 
 -- KEYINFO GRIP, or KEYINFO --list
-abbrev pub info_of : List (List ℕ) → List (List ℕ) → Result KeyRequest Code
-info_of options arguments =
+abbrev pub key_info_of : List (List ℕ) → List (List ℕ) → Result KeyRequest Code
+key_info_of options arguments =
     if has_option (codes "--list") options then Ok ListKeys
     else (needed (first_grip arguments) >>= λ grip. Ok (KeyInfo grip))
 
@@ -115,26 +115,26 @@ delete_of options arguments = do
   (if has_option (codes "--stub-only") options then Err NotSupported else Ok (DeleteKey grip (has_option (codes "--force") options)))
 
 -- a command, and what comes after it
-abbrev pub asked_by : KeyCommandName → List ℕ → Result KeyRequest Code
-asked_by name.HaveKey rest = have_of (arguments_of (words rest))
-asked_by name.KeyInfo rest = info_of (options_of (words rest)) (arguments_of (words rest))
-asked_by name.KeyWrap rest = wrap_of (options_of (words rest))
-asked_by name.ImportKey rest = import_of (options_of (words rest)) (arguments_of (words rest))
-asked_by name.ExportKey rest = export_of (options_of (words rest)) (arguments_of (words rest))
-asked_by name.Passwd rest = passwd_of (options_of (words rest)) (arguments_of (words rest))
-asked_by name.DeleteKey rest = delete_of (options_of (words rest)) (arguments_of (words rest))
+abbrev pub key_asked_by : KeyCommandName → List ℕ → Result KeyRequest Code
+key_asked_by name.HaveKey rest = have_of (arguments_of (words rest))
+key_asked_by name.KeyInfo rest = key_info_of (options_of (words rest)) (arguments_of (words rest))
+key_asked_by name.KeyWrap rest = wrap_of (options_of (words rest))
+key_asked_by name.ImportKey rest = import_of (options_of (words rest)) (arguments_of (words rest))
+key_asked_by name.ExportKey rest = export_of (options_of (words rest)) (arguments_of (words rest))
+key_asked_by name.Passwd rest = passwd_of (options_of (words rest)) (arguments_of (words rest))
+key_asked_by name.DeleteKey rest = delete_of (options_of (words rest)) (arguments_of (words rest))
 
-abbrev pub either : Result KeyRequest Code → KeyRequest
-either (Ok request) = request
-either (Err code) = Bad code
+abbrev pub key_or_bad : Result KeyRequest Code → KeyRequest
+key_or_bad (Ok request) = request
+key_or_bad (Err code) = Bad code
 
 -- the command that the line begins with, with the rest of the line
-abbrev pub request_by : Option KeyCommandName → List ℕ → KeyRequest
-request_by (Some name) line = either (asked_by name (rest_of line))
-request_by None line = Bad UnknownCommand
+abbrev pub key_request_by : Option KeyCommandName → List ℕ → KeyRequest
+key_request_by (Some name) line = key_or_bad (key_asked_by name (rest_of line))
+key_request_by None line = Bad UnknownCommand
 
 unfoldable pub key_request_of : List ℕ → KeyRequest
-key_request_of line = request_by (command_named (command_of line)) line
+key_request_of line = key_request_by (key_command_named (command_of line)) line
 
 -- the commands whose prompts a client may describe (SETKEYDESC of gpg-agent). The others ask nobody.
 abbrev pub is_described : Option KeyCommandName → Bool
@@ -146,4 +146,4 @@ is_described _ = false
 
 -- a line with such a command, in form or not, ends the description
 unfoldable pub ends_description : List ℕ → Bool
-ends_description line = is_described (command_named (command_of line))
+ends_description line = is_described (key_command_named (command_of line))

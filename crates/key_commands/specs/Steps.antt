@@ -2,7 +2,8 @@
 use Rattle.std.specs.Prelude.{◌≡◌, ℕ, ◌==◌, ◌&&◌, nat_lt, Bool, List, [], ◌∷◌, length, Option, Some, None, Result, Ok, Err}
 use Rattle.std.specs.List.{list_all}
 use Rattle.agent_ask.specs.Further.{KeyCall, Draw, Dice, DoesKeys, DoesDraw}
-use Rattle.agent_ask.specs.SessionEvents.{Further, cache_turn}
+use Rattle.agent_ask.specs.PartStates.{gone_in, DoesTurn, DoesTurns}
+use Rattle.agent_ask.specs.SessionEvents.{Further}
 use Rattle.agent_ports.specs.KeyFiles.{KeyFiles}
 use Rattle.agent_ports.specs.Sides.{Side}
 use Rattle.agent_ports.specs.declared.keys.KeyDone.{KeyDone}
@@ -28,30 +29,17 @@ use Rattle.session_client.specs.declared.refusal.Refusal.TheVariants.{Agent, Cli
 abbrev pub are_padding : List ℕ → Bool
 are_padding bytes = nat_lt (length bytes) 8 && list_all (λ byte. byte == 0) bytes
 
--- a part that is one turn at the desk
-pub record DoesTurn {D : Type 0} (turned : D → MarkStep → Turn → D → Type 0) {A : Type 0} (part : Part A) (before : Option ℕ) (desk : D)
-    (result : Result A Refusal) (after : Option ℕ) (now : D) : Type 0 where
-  pub step : MarkStep
-  pub turn : Turn
-  pub turned_so : turned desk step turn now
-  pub does : part before (cache_turn step turn ∷ []) result after
+-- a part of a request on keys that is one turn at the desk, and one that is one turn at most
+abbrev pub TakesTurn : {D : Type 0} (turned : D → MarkStep → Turn → D → Type 0) {A : Type 0} → Part A → Option ℕ → D → Result A Refusal → Option ℕ → D → Type 0
+TakesTurn turned part = DoesTurn turned part
 
--- a part that is one turn at the desk, or nothing
-pub data DoesTurns {D : Type 0} (turned : D → MarkStep → Turn → D → Type 0) {A : Type 0} (part : Part A) (before : Option ℕ) (desk : D)
-    (result : Result A Refusal) (after : Option ℕ) : D → Type 0 where
-  still : part before [] result after → DoesTurns turned part before desk result after desk
-  one : {now : D} → DoesTurn turned part before desk result after now → DoesTurns turned part before desk result after now
-
--- no events, or that there was no memory
-pub data AreAlone : List Event → Type 0 where
-  nothing : AreAlone []
-  memory : AreAlone (out_of_memory ∷ [])
+abbrev pub TakesTurns : {D : Type 0} (turned : D → MarkStep → Turn → D → Type 0) {A : Type 0} → Part A → Option ℕ → D → Result A Refusal → Option ℕ → D → Type 0
+TakesTurns turned part = DoesTurns turned part
 
 -- a part in which nothing is done, but that there may be no memory, whatever ticket is held
-pub record DoesAlone {A : Type 0} (part : Part A) (result : Result A Refusal) : Type 0 where
-  pub events : List Event
-  pub alone : AreAlone events
-  pub does : (held : Option ℕ) → part held events result held
+pub data DoesAlone {A : Type 0} (part : Part A) (result : Result A Refusal) : Type 0 where
+  nothing : ((held : Option ℕ) → part held [] result held) → gone_in result ≡ None → DoesAlone part result
+  memory : ((held : Option ℕ) → part held (out_of_memory ∷ []) result held) → gone_in result ≡ None → DoesAlone part result
 
 -- calls of the keys, one after another, by which memory may be wanted
 pub data KeysLead : KeyFiles → List Event → KeyFiles → Type 0 where
@@ -64,16 +52,18 @@ pub record DoesKeyCalls {A : Type 0} (part : Part A) (before : KeyFiles) (result
   pub events : List Event
   pub lead : KeysLead before events after
   pub does : (held : Option ℕ) → part held events result held
+  pub on : gone_in result ≡ None
 
 -- a part that is one draw of random bytes, whatever ticket is held
 pub record DoesDrawing {A : Type 0} (part : Part A) (before : Side) (result : Result A Refusal) (after : Side) : Type 0 where
   pub draw : Draw
   pub draws : DoesDraw before draw after
   pub does : (held : Option ℕ) → part held (Further (Dice draw) ∷ []) result held
+  pub on : gone_in result ≡ None
 
 -- one draw at most
 pub data DoesDrawings {A : Type 0} (part : Part A) (before : Side) (result : Result A Refusal) : Side → Type 0 where
-  no_draw : ((held : Option ℕ) → part held [] result held) → DoesDrawings part before result before
+  no_draw : ((held : Option ℕ) → part held [] result held) → gone_in result ≡ None → DoesDrawings part before result before
   one_draw : {after : Side} → DoesDrawing part before result after → DoesDrawings part before result after
 
 -- a change of a key's file was done, or is refused by this answer

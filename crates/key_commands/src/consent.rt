@@ -7,10 +7,8 @@ ghost use Rattle.key_commands.specs.KeyParts.{Agrees, Consents};
 ghost use Rattle.key_commands.specs.Partial.{LeavesKeys, DoesAtPrompter};
 
 use crate::asking::Asking;
-use crate::held::Held;
 use crate::texts::{delete_description, described};
-use crate::turns::seat;
-use agent_ask::{Prompter, agree};
+use agent_ask::{Held, Prompter, agree, hold_seat};
 use agent_ports::Link;
 use assuan_server::{Code, Conn};
 use cache_policy::Desk;
@@ -42,7 +40,7 @@ pub(crate) fn consent<L: Link, D: Desk, P: Prompter>(
     }
     match asking.options.mode() {
         PinMode::Ask => {
-            seat(None, held, desk)?;
+            hold_seat(None, held, desk)?;
             match held.ticket() {
                 Some(ticket) => ask_consent(asking, ticket, conn, prompter),
                 None => unreachable!(),

@@ -11,11 +11,10 @@ ghost use Rattle.key_commands.specs.declared.wrap_keys.WrapKeys.{WrapKeys as Wra
 
 use crate::asking::Asking;
 use crate::consent::consent;
-use crate::held::Held;
 use crate::key_calls::{has_file, remove_file};
 use crate::reply::Reply;
 use crate::turns::clear_pass;
-use agent_ask::Prompter;
+use agent_ask::{Held, Prompter};
 use agent_ports::{Keys, Link};
 use assuan_server::{Code, Conn};
 use cache_policy::Desk;

@@ -13,16 +13,14 @@ ghost use Rattle.key_commands.specs.Trials.{IsUsable};
 
 use crate::asking::Asking;
 use crate::drawing::Drawn;
-use crate::held::Held;
 use crate::key_calls::read_file;
 use crate::old::old_passphrase;
 use crate::opened::OpenedKey;
 use crate::reply::Reply;
 use crate::request::Direction;
-use crate::turns::close;
 use crate::wrap_keys::WrapKeys;
 use crate::wrapping::wrapped_key;
-use agent_ask::Prompter;
+use agent_ask::{Held, Prompter, close};
 use agent_ports::{Keys, Link};
 use assuan_server::{Code, Conn};
 use cache_policy::{CacheId, Desk};

@@ -7,13 +7,12 @@ ghost use Rattle.sexp_keys.specs.Lists.{key_list_of};
 ghost use Rattle.key_commands.specs.Exchanges.{FoundOrNew, ImportKeyReplies, StoresKey};
 ghost use Rattle.key_commands.specs.Partial.{NoCall, LeavesKeys};
 ghost use Rattle.key_commands.specs.Replies.{CarriesOut};
-ghost use Rattle.key_commands.specs.States.{DoesPart, key_state};
+ghost use Rattle.key_commands.specs.States.{DoesKeyPart, key_state};
 ghost use Rattle.key_commands.specs.Trials.{IsUsable};
 ghost use Rattle.key_commands.specs.declared.wrapping.TheConstants.{MAX_LIST_LEN};
 
 use crate::asking::Asking;
 use crate::drawing::draw;
-use crate::held::Held;
 use crate::key_calls::replace_file;
 use crate::new::new_passphrase;
 use crate::protecting::{keep_new, protected_key};
@@ -21,7 +20,7 @@ use crate::receiving::{check_free, look_over, name_key, receive_key};
 use crate::reply::Reply;
 use crate::turns::keep_by_nonce;
 use crate::wrap_keys::WrapKeys;
-use agent_ask::Prompter;
+use agent_ask::{Held, Prompter};
 use agent_ports::{Dice, Keys, Link};
 use assuan_server::{Code, Conn};
 use cache_policy::{CacheId, Desk, Secret};
@@ -115,7 +114,7 @@ fn store_key<D: Desk, K: Keys, R: Dice>(
     requires usable { IsUsable key.now }
     requires short { length (key_list_of key.now) ≤ MAX_LIST_LEN }
     requires out { (D.at desk.old).out ≡ held.old }
-    ensures stores { (conn : Connection) → IsOpen conn → DoesPart D.turned NoCall
+    ensures stores { (conn : Connection) → IsOpen conn → DoesKeyPart D.turned NoCall
         (StoresKey asking.now.options.now.s2k_count key.now asking.now.grip.now pass.now) held.old
         (key_state D.turned NoCall conn desk.old tt (K.keys keys.old) (R.draws dice.old)) result
         held.new (key_state D.turned NoCall conn desk.new tt (K.keys keys.new) (R.draws dice.new)) }

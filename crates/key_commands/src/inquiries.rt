@@ -2,13 +2,14 @@
 
 ghost use Rattle.std.specs.Prelude.{[]};
 ghost use Rattle.assuan_line.specs.Lines.{IsLine};
+ghost use Rattle.assuan_server.specs.Clients.{connection_views};
 ghost use Rattle.assuan_server.specs.Connections.{IsOpen};
 ghost use Rattle.assuan_server.specs.Inquiries.{inquire_text};
 ghost use Rattle.assuan_server.specs.Written.{WritesText};
-ghost use Rattle.cache_policy.specs.declared.secret.TheConstants.{MAX_SECRET_LEN};
 ghost use Rattle.key_commands.specs.Lines.{limit_line};
-ghost use Rattle.key_commands.specs.Parts.{AsksClient, Writes};
-ghost use Rattle.key_commands.specs.Partial.{DoesAtClient};
+ghost use Rattle.agent_ask.specs.ClientParts.{Writes};
+ghost use Rattle.agent_ask.specs.PartStates.{DoesWithClient};
+ghost use Rattle.key_commands.specs.Passphrases.{AsksSecret};
 
 use agent_ports::{Link, WriteFault};
 use assuan_server::Conn;
@@ -20,7 +21,7 @@ use session_client::{Gone, Refusal, Unheard};
 pub(crate) fn ask_client<L: Link>(word: &[u8], conn: &mut Conn<'_, L>) -> Result<Secret, Refusal>
     requires open { IsOpen conn.old }
     requires one_line { IsLine (inquire_text word.now []) }
-    ensures { DoesAtClient (AsksClient word.now MAX_SECRET_LEN) conn.old result conn.new }
+    ensures { DoesWithClient connection_views (AsksSecret word.now) conn.old result conn.new }
 {
     tell_limit(MAX_SECRET_LEN, conn)?;
     match conn.inquire_secret(word, b"").said() {
@@ -32,7 +33,7 @@ pub(crate) fn ask_client<L: Link>(word: &[u8], conn: &mut Conn<'_, L>) -> Result
 /// Tells the client how many bytes are taken of what it is asked for.
 pub(crate) fn tell_limit<L: Link>(limit: usize, conn: &mut Conn<'_, L>) -> Result<(), Refusal>
     requires { IsOpen conn.old }
-    ensures { DoesAtClient (Writes (limit_line limit)) conn.old result conn.new }
+    ensures { DoesWithClient connection_views (Writes (limit_line limit)) conn.old result conn.new }
 {
     match write_limit(limit, conn) {
         Ok(()) => Ok(()),

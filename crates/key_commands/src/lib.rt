@@ -15,7 +15,6 @@ mod export;
 mod faults;
 mod files;
 mod grips;
-mod held;
 mod importing;
 mod inquiries;
 mod key_calls;

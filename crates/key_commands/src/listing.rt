@@ -2,25 +2,27 @@
 
 ghost use Rattle.std.specs.Prelude.{◌≡◌, None, Some};
 ghost use Rattle.agent_ports.specs.Sides.{Side};
+ghost use Rattle.assuan_server.specs.Clients.{connection_views};
 ghost use Rattle.assuan_server.specs.Connections.{Connection, IsOpen};
 ghost use Rattle.key_commands.specs.Exchanges.{KeyInfoReplies, ListKeysReplies};
 ghost use Rattle.key_commands.specs.KeyParts.{HasOne, TellsListed, WritesInfo, WritesInfos};
 ghost use Rattle.key_commands.specs.Lines.{info_line};
-ghost use Rattle.key_commands.specs.Parts.{Writes};
-ghost use Rattle.key_commands.specs.Partial.{NoCall, DoesAtDesk, DoesAtClient};
+ghost use Rattle.agent_ask.specs.ClientParts.{Writes};
+ghost use Rattle.agent_ask.specs.PartStates.{DoesWithClient};
+ghost use Rattle.key_commands.specs.Partial.{NoCall, DoesAtDesk};
 ghost use Rattle.key_commands.specs.Replies.{CarriesOut};
-ghost use Rattle.key_commands.specs.States.{DoesPart, key_state};
+ghost use Rattle.key_commands.specs.States.{DoesKeyPart, key_state};
 ghost use Rattle.key_commands.specs.Steps.{DoesKeyCalls};
 ghost use Rattle.key_commands.specs.declared.wrap_keys.WrapKeys.{WrapKeys};
 ghost use Rattle.session_options.specs.OptionValues.{OptionValues};
 ghost use Rattle.session_options.specs.declared.rules.Rules.{Rules as TheRules};
 
 use crate::grips::Grips;
-use crate::held::Held;
 use crate::key_calls::{has_file, list_grips, read_file, read_listed};
 use crate::reply::Reply;
 use crate::texts::write_info;
 use crate::turns::peek;
+use agent_ask::Held;
 use agent_ports::{Grip, Keys, Link, WriteFault};
 use assuan_server::{Code, Conn};
 use cache_policy::Desk;
@@ -99,7 +101,7 @@ pub(crate) fn write_infos<L: Link, D: Desk, K: Keys>(
 ) -> Result<(), Refusal>
     requires open { IsOpen conn.old }
     requires out { (D.at desk.old).out ≡ held.now }
-    ensures writes { (dice : Side) → DoesPart D.turned NoCall (WritesInfos grips.now) held.now
+    ensures writes { (dice : Side) → DoesKeyPart D.turned NoCall (WritesInfos grips.now) held.now
         (key_state D.turned NoCall conn.old desk.old tt (K.keys keys.old) dice) result held.now
         (key_state D.turned NoCall conn.new desk.new tt (K.keys keys.new) dice) }
     ensures out { (D.at desk.new).out ≡ held.now }
@@ -121,7 +123,7 @@ fn tell_listed<L: Link, D: Desk, K: Keys>(
 ) -> Result<(), Refusal>
     requires open { IsOpen conn.old }
     requires out { (D.at desk.old).out ≡ held.now }
-    ensures tells { (dice : Side) → DoesPart D.turned NoCall (TellsListed grip.now) held.now
+    ensures tells { (dice : Side) → DoesKeyPart D.turned NoCall (TellsListed grip.now) held.now
         (key_state D.turned NoCall conn.old desk.old tt (K.keys keys.old) dice) result held.now
         (key_state D.turned NoCall conn.new desk.new tt (K.keys keys.new) dice) }
     ensures out { (D.at desk.new).out ≡ held.now }
@@ -158,7 +160,8 @@ fn tell_info<L: Link>(
     conn: &mut Conn<'_, L>,
 ) -> Result<(), Refusal>
     requires { IsOpen conn.old }
-    ensures { DoesAtClient (Writes (info_line grip.now cached clear)) conn.old result conn.new }
+    ensures { DoesWithClient connection_views (Writes (info_line grip.now cached clear))
+        conn.old result conn.new }
 {
     match write_info(conn, grip, cached, clear) {
         Ok(()) => Ok(()),

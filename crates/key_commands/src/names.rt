@@ -1,5 +1,5 @@
 ghost use Rattle.std.specs.Prelude.{◌≡◌, map};
-ghost use Rattle.key_commands.specs.Names.{commands, command_named};
+ghost use Rattle.key_commands.specs.Names.{commands_on_keys, key_command_named};
 ghost use Rattle.key_commands.specs.declared.names.TheConstants.{KEY_COMMANDS};
 
 use assuan_text::found_in_any_case;
@@ -36,13 +36,13 @@ pub const KEY_COMMANDS: [(&[u8], KeyCommandName); 7] = [
 
 /// A law: `KEY_COMMANDS` has the names as they are defined, in this order.
 pub fn key_commands_are_as_defined()
-    ensures { map (λ row. (row.0.now, row.1)) KEY_COMMANDS ≡ commands }
+    ensures { map (λ row. (row.0.now, row.1)) KEY_COMMANDS ≡ commands_on_keys }
 {}
 
 /// The command of this name, whatever the case of its letters.
-#[tactic(auto, unfolding(crate::specs::Names::command_named))]
+#[tactic(auto, unfolding(crate::specs::Names::key_command_named))]
 pub(crate) fn command_named(word: &[u8]) -> Option<KeyCommandName>
-    ensures { result ≡ command_named word.now }
+    ensures { result ≡ key_command_named word.now }
 {
     found_in_any_case(word, &KEY_COMMANDS)
 }

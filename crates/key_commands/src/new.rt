@@ -1,20 +1,21 @@
 //! A new passphrase for a key: from the user, or the client itself.
 
 ghost use Rattle.std.specs.Prelude.{◌≡◌};
+ghost use Rattle.agent_ask.specs.PartStates.{DoesWithClient};
 ghost use Rattle.agent_ask.specs.Prompters.{IsShut};
+ghost use Rattle.assuan_server.specs.Clients.{connection_views};
 ghost use Rattle.assuan_server.specs.Connections.{IsOpen};
 ghost use Rattle.session_options.specs.declared.options.PinMode.TheVariants as pin_mode;
 ghost use Rattle.key_commands.specs.Exchanges.{RenewsPassphrase};
-ghost use Rattle.key_commands.specs.Partial.{DoesAtClient, LeavesKeys};
+ghost use Rattle.key_commands.specs.Partial.{LeavesKeys};
 ghost use Rattle.key_commands.specs.Passphrases.{ClientNew, NewPassphrase, new_by};
 
 use crate::asking::Asking;
-use crate::held::Held;
 use crate::inquiries::ask_client;
 use crate::nonces::look_for_nonce;
 use crate::prompting::prompt_new;
 use crate::turns::take_seat;
-use agent_ask::Prompter;
+use agent_ask::{Held, Prompter};
 use agent_ports::Link;
 use assuan_server::{Code, Conn};
 use cache_policy::{CacheId, Desk, Secret};
@@ -95,7 +96,7 @@ fn new_by_user<L: Link, D: Desk, P: Prompter>(
 /// One that the client itself gives, which isn't empty.
 fn new_by_client<L: Link>(conn: &mut Conn<'_, L>) -> Result<Secret, Refusal>
     requires open { IsOpen conn.old }
-    ensures { DoesAtClient ClientNew conn.old result conn.new }
+    ensures { DoesWithClient connection_views ClientNew conn.old result conn.new }
 {
     let pass = ask_client(b"NEW_PASSPHRASE", conn)?;
     if pass.bytes().is_empty() {

@@ -2,10 +2,10 @@
 
 ghost use Rattle.std.specs.Prelude.{◌≡◌};
 ghost use Rattle.key_commands.specs.Passphrases.{LooksForNonce};
-ghost use Rattle.key_commands.specs.Steps.{DoesTurns};
+ghost use Rattle.key_commands.specs.Steps.{TakesTurns};
 
-use crate::held::Held;
 use crate::turns::ask_cache;
+use agent_ask::Held;
 use cache_policy::{CacheId, Desk, Mode, Secret, Way};
 use session_client::Refusal;
 
@@ -16,7 +16,7 @@ pub(crate) fn look_for_nonce<D: Desk>(
     desk: &mut D,
 ) -> Result<Option<Secret>, Refusal>
     requires out { (D.at desk.old).out ≡ held.old }
-    ensures turn { DoesTurns D.turned
+    ensures turn { TakesTurns D.turned
         (LooksForNonce nonce) held.old desk.old result held.new desk.new }
     ensures same { held.new ≡ held.old }
     ensures out { (D.at desk.new).out ≡ held.new }

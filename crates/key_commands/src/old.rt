@@ -11,14 +11,13 @@ ghost use Rattle.key_commands.specs.Passphrases.{OldPassphrase, VerifiesPassphra
 ghost use Rattle.key_commands.specs.Trials.{IsUsable};
 
 use crate::asking::Asking;
-use crate::held::Held;
 use crate::inquiries::ask_client;
 use crate::nonces::look_for_nonce;
 use crate::opened::{OpenedKey, lock_of, try_found, try_pass};
 use crate::prompting::prompt_old;
 use crate::texts::key_id;
 use crate::turns::{ask_cache, keep_pass, take_seat};
-use agent_ask::Prompter;
+use agent_ask::{Held, Prompter};
 use agent_ports::Link;
 use assuan_server::{Code, Conn};
 use cache_policy::{CacheId, Desk, Mode, Way};

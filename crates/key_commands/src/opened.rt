@@ -2,7 +2,7 @@
 
 ghost use Rattle.std.specs.Prelude.{◌≡◌, IfOk, IfSome};
 ghost use Rattle.secret_file.specs.Opens.{FitsFile};
-ghost use Rattle.key_commands.specs.Passphrases.{Locks, Tries, TriesFound};
+ghost use Rattle.key_commands.specs.Passphrases.{Locks, TriesPassphrase, TriesFound};
 ghost use Rattle.key_commands.specs.Steps.{DoesAlone};
 ghost use Rattle.key_commands.specs.Trials.{IsUsable};
 
@@ -40,7 +40,7 @@ pub(crate) fn try_pass(
     locked: &Locked,
     pass: Secret,
 ) -> Result<Option<OpenedKey>, Refusal>
-    ensures tries { DoesAlone (Tries locked.now pass) result }
+    ensures tries { DoesAlone (TriesPassphrase locked.now pass) result }
     ensures usable { IfOk result (λ found. IfSome found (λ opened. IsUsable opened.key)) }
 {
     match locked.open(alloc, pass.bytes()) {

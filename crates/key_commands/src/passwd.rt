@@ -10,7 +10,7 @@ ghost use Rattle.key_commands.specs.Exchanges.{RewritesFile};
 ghost use Rattle.key_commands.specs.Files.{IsSomeKey};
 ghost use Rattle.key_commands.specs.Partial.{NoCall};
 ghost use Rattle.key_commands.specs.Replies.{CarriesOut};
-ghost use Rattle.key_commands.specs.States.{DoesPart, key_state};
+ghost use Rattle.key_commands.specs.States.{DoesKeyPart, key_state};
 ghost use Rattle.key_commands.specs.Trials.{IsUsable};
 ghost use Rattle.key_commands.specs.declared.wrap_keys.WrapKeys.{WrapKeys as Wraps};
 ghost use Rattle.key_commands.specs.declared.wrapping.TheConstants.{MAX_LIST_LEN};
@@ -18,14 +18,12 @@ ghost use Rattle.key_commands.specs.declared.wrapping.TheConstants.{MAX_LIST_LEN
 use crate::asking::Asking;
 use crate::drawing::{Drawn, draw};
 use crate::files::rewrite;
-use crate::held::Held;
 use crate::key_calls::{read_file, replace_file};
 use crate::new::renewed_passphrase;
 use crate::old::{old_passphrase, verified_passphrase};
 use crate::protecting::{check_len, keep_new, protected_key, salt_and_iv};
 use crate::reply::Reply;
-use crate::turns::close;
-use agent_ask::Prompter;
+use agent_ask::{Held, Prompter, close};
 use agent_ports::{Dice, Keys, Link};
 use assuan_server::Conn;
 use cache_policy::{CacheId, Desk, Secret};
@@ -120,7 +118,7 @@ fn change_opened<L: Link, D: Desk, P: Prompter, K: Keys, R: Dice>(
     requires open { IsOpen conn.old }
     requires out { (D.at desk.old).out ≡ held.old }
     requires shut { IsShut (P.at prompter.old) }
-    ensures does { DoesPart D.turned P.prompted
+    ensures does { DoesKeyPart D.turned P.prompted
         (ChangesOpened asking.now.rules.now asking.now.options.now asking.now.grip.now nonce
         file.now key.now) held.old (key_state D.turned P.prompted conn.old desk.old prompter.old
         (K.keys keys.old) (R.draws dice.old)) result held.new
@@ -150,7 +148,7 @@ fn rewrite_file<D: Desk, K: Keys, R: Dice>(
     requires short { length (key_list_of key.now) ≤ MAX_LIST_LEN }
     requires out { (D.at desk.old).out ≡ held.old }
     ensures does { (conn : Connection) → IsOpen conn
-        → DoesPart D.turned NoCall (RewritesFile asking.now.rules.now
+        → DoesKeyPart D.turned NoCall (RewritesFile asking.now.rules.now
         asking.now.options.now asking.now.grip.now file.now key.now pass.now) held.old
         (key_state D.turned NoCall conn desk.old tt (K.keys keys.old) (R.draws dice.old)) result
         held.new (key_state D.turned NoCall conn desk.new tt (K.keys keys.new) (R.draws dice.new)) }

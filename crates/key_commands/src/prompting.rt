@@ -1,20 +1,19 @@
 //! Prompts for the passphrase of a key, as parts of a request that holds a ticket.
 
-ghost use Rattle.std.specs.Prelude.{◌≡◌, Some, IfOk, IsSome, is_some, true};
+ghost use Rattle.std.specs.Prelude.{◌≡◌, IfOk, is_some, true};
 ghost use Rattle.agent_ask.specs.Prompters.{IsShut};
 ghost use Rattle.assuan_server.specs.Connections.{IsOpen};
 ghost use Rattle.key_commands.specs.Lines.{field_text};
 ghost use Rattle.key_commands.specs.Partial.{DoesAtPrompter};
-ghost use Rattle.key_commands.specs.Passphrases.{PromptsOld, PromptsNew, pin_refusal};
+ghost use Rattle.key_commands.specs.Passphrases.{PromptsOld, PromptsNew};
 ghost use Rattle.key_commands.specs.Trials.{IsUsable};
 
 use crate::asking::Asking;
-use crate::held::Held;
 use crate::opened::{OpenedKey, OpensKey};
 use crate::texts::{described, new_description, old_description};
-use agent_ask::{AnyPin, Asked, Prompter, ask_plan, ask_user, prompt_spec};
+use agent_ask::{AnyPin, Asked, Held, Prompter, ask_plan, ask_user, pin_refusal, prompt_spec};
 use agent_ports::Link;
-use assuan_server::{Code, Conn};
+use assuan_server::Conn;
 use assuan_text::Text;
 use cache_policy::Secret;
 use secret_file::Locked;
@@ -103,20 +102,4 @@ fn field_text() -> Text
     let mut text = Text::new();
     text.try_extend_from_slice(b"Passphrase:").unwrap();
     text
-}
-
-/// How a request is refused whose prompt gave no passphrase.
-fn pin_refusal(asked: Asked) -> Refusal
-    requires { IsSome (pin_refusal asked) }
-    ensures { pin_refusal asked ≡ Some result }
-{
-    match asked {
-        Asked::Cancelled => Refusal::Pinentry(Code::Cancelled),
-        Asked::TimedOut => Refusal::Pinentry(Code::Timeout),
-        Asked::NoPinentry => Refusal::Agent(Code::NoPinentry),
-        Asked::Bad => Refusal::Agent(Code::BadPass),
-        Asked::Heard(heard) => Refusal::Client(heard.unheard()),
-        Asked::NoMemory => Refusal::Agent(Code::NoMemory),
-        Asked::Pin(_) => unreachable!(),
-    }
 }

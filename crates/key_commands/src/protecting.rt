@@ -8,13 +8,13 @@ ghost use Rattle.sexp_keys.specs.Key.{key_tree};
 ghost use Rattle.sexp_keys.specs.Lists.{key_list_of};
 ghost use Rattle.key_commands.specs.Files.{IsSomeList};
 ghost use Rattle.key_commands.specs.KeyParts.{IsShort, Protects, KeepsNew};
-ghost use Rattle.key_commands.specs.Steps.{DoesAlone, DoesTurns};
+ghost use Rattle.key_commands.specs.Steps.{DoesAlone, TakesTurns};
 ghost use Rattle.key_commands.specs.Trials.{IsUsable};
 ghost use Rattle.key_commands.specs.declared.wrapping.TheConstants.{MAX_LIST_LEN};
 
-use crate::held::Held;
-use crate::turns::{close, keep_pass};
+use crate::turns::keep_pass;
 use crate::wrapping::has_short_list;
+use agent_ask::{Held, close};
 use agent_ports::Grip;
 use assuan_server::Code;
 use cache_policy::{Desk, Secret};
@@ -80,7 +80,7 @@ pub(crate) fn keep_new<D: Desk>(
     desk: &mut D,
 ) -> Result<(), Refusal>
     requires out { (D.at desk.old).out ≡ held.old }
-    ensures turn { DoesTurns D.turned
+    ensures turn { TakesTurns D.turned
         (KeepsNew grip.now pass.now) held.old desk.old result held.new desk.new }
     ensures out { (D.at desk.new).out ≡ held.new }
 {

@@ -3,8 +3,8 @@ ghost use Rattle.std.specs.Option.{option_map};
 ghost use Rattle.assuan_text.specs.Options.{options_of, arguments_of};
 ghost use Rattle.assuan_text.specs.Words.{words};
 ghost use Rattle.key_commands.specs.Requests.{needed, grip, first_grip, some_grips, nonce, have_of};
-ghost use Rattle.key_commands.specs.Requests.{info_of, wrap_of, import_of, export_of, passwd_of};
-ghost use Rattle.key_commands.specs.Requests.{delete_of, asked_by, key_request_of};
+ghost use Rattle.key_commands.specs.Requests.{key_info_of, wrap_of, import_of, export_of, passwd_of};
+ghost use Rattle.key_commands.specs.Requests.{delete_of, key_asked_by, key_request_of};
 ghost use Rattle.key_commands.specs.Requests.{ends_description};
 
 use crate::names::{KeyCommandName, command_named};
@@ -53,7 +53,7 @@ pub fn ends_description(line: &[u8]) -> bool
 
 /// What comes after a command of this name.
 fn read_command(name: KeyCommandName, rest: &[u8]) -> Result<KeyRequest, Code>
-    ensures { result ≡ asked_by name rest.now }
+    ensures { result ≡ key_asked_by name rest.now }
 {
     match name {
         KeyCommandName::HaveKey => read_have(rest),
@@ -123,7 +123,7 @@ fn read_grips(text: &[u8]) -> Result<Grips, Code>
 
 /// What comes after KEYINFO.
 fn read_info(text: &[u8]) -> Result<KeyRequest, Code>
-    ensures { result ≡ info_of (options_of (words text.now)) (arguments_of (words text.now)) }
+    ensures { result ≡ key_info_of (options_of (words text.now)) (arguments_of (words text.now)) }
 {
     if has_option(text, b"--list") {
         return Ok(KeyRequest::ListKeys);

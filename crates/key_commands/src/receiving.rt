@@ -6,15 +6,14 @@ ghost use Rattle.sexp_keys.specs.Lists.{key_list_of};
 ghost use Rattle.key_commands.specs.KeyParts.{AsksKeyData, ReceivesKey, Unwraps, NamesKey, IsFree};
 ghost use Rattle.key_commands.specs.KeyParts.{LooksOver};
 ghost use Rattle.key_commands.specs.Partial.{DoesAtClient};
-ghost use Rattle.key_commands.specs.Steps.{DoesAlone, DoesKeyCalls, DoesTurns, key_data_of};
+ghost use Rattle.key_commands.specs.Steps.{DoesAlone, DoesKeyCalls, TakesTurns, key_data_of};
 ghost use Rattle.key_commands.specs.Trials.{IsUsable};
 ghost use Rattle.key_commands.specs.declared.wrapping.TheConstants.{MAX_LIST_LEN};
 
-use crate::held::Held;
 use crate::inquiries::tell_limit;
 use crate::key_calls::has_file;
 use crate::wrapping::unwrapped_key;
-use agent_ask::without_memory;
+use agent_ask::{Held, without_memory};
 use agent_ports::{Grip, Keys, Link};
 use assuan_server::{Code, Conn, Inquired};
 use cache_policy::{CacheId, Desk, Mode, Refused, Reply, Secret, Step, Way};
@@ -116,7 +115,7 @@ pub(crate) fn look_over<D: Desk>(
     desk: &mut D,
 ) -> Result<Option<Secret>, Refusal>
     requires out { (D.at desk.old).out ≡ held.now }
-    ensures turn { DoesTurns D.turned
+    ensures turn { TakesTurns D.turned
         (LooksOver nonce.now) held.now desk.old result held.now desk.new }
     ensures out { (D.at desk.new).out ≡ held.now }
 {

@@ -1,22 +1,21 @@
 //! What is written for a request, once all else is done for it.
 
-ghost use Rattle.std.specs.Prelude.{◌≡◌, ◌++◌, ℕ, List, length, false};
+ghost use Rattle.std.specs.Prelude.{◌≡◌, ℕ, List};
 ghost use Rattle.assuan_escape.specs.Escapes.{hex_text};
 ghost use Rattle.assuan_server.specs.Written.{WritesText};
-ghost use Rattle.assuan_text.specs.LineEnds.{has_lf};
-ghost use Rattle.key_commands.specs.Lines.{ok, nonce_line, IsDataAnswer};
-ghost use Rattle.assuan_server.specs.Written.{refusal_line};
-ghost use Rattle.key_commands.specs.Parts.{refusal_went};
-ghost use Rattle.key_commands.specs.Replies.{IsReply, RespondsTo, went_unless_cut};
-ghost use Rattle.assuan_server.specs.Written.{WritesLine};
+ghost use Rattle.key_commands.specs.Lines.{nonce_line};
+ghost use Rattle.key_commands.specs.Parts.{key_went_after};
+ghost use Rattle.key_commands.specs.Replies.{IsReply, RespondsTo};
+ghost use Rattle.session_client.specs.Refusals.{gone_by};
 
 use crate::drawing::Drawn;
 use crate::texts::write_info;
 use crate::went::KeyWent;
+use agent_ask::unless_cut;
 use agent_ports::{Grip, Link, WriteFault};
 use assuan_escape::upper_hex;
-use assuan_server::{Code, Conn, Origin};
-use session_client::{Gone, Refusal, Unheard};
+use assuan_server::Conn;
+use session_client::{Gone, Refusal};
 use sexp_canonical::Bytes;
 
 /// What a request is answered where it isn't refused.
@@ -41,19 +40,10 @@ pub(crate) enum Reply {
 pub(crate) fn respond<L: Link>(reply: &Result<Reply, Refusal>, conn: &mut Conn<'_, L>) -> KeyWent
     ensures { RespondsTo conn.old reply.now result conn.new }
 {
+    let cut = KeyWent::Gone(Gone::WriteFault);
     match reply {
-        Ok(reply) => went_unless_cut(KeyWent::On, write_reply(reply, conn)),
-        Err(why) => went_unless_cut(went_after(*why), conn.refuse(*why)),
-    }
-}
-
-/// How a session goes on whose last write came to this: where it was whole, as it would go on.
-fn went_unless_cut(whole: KeyWent, written: Result<(), WriteFault>) -> KeyWent
-    ensures { result ≡ went_unless_cut whole written }
-{
-    match written {
-        Ok(()) => whole,
-        Err(WriteFault) => KeyWent::Gone(Gone::WriteFault),
+        Ok(reply) => unless_cut(KeyWent::On, cut, write_reply(reply, conn)),
+        Err(why) => unless_cut(went_after(*why), cut, conn.refuse(*why)),
     }
 }
 
@@ -90,7 +80,7 @@ fn write_nonce<L: Link>(nonce: &[u8; 12], conn: &mut Conn<'_, L>) -> Result<(), 
 
 /// How a session goes on after a refusal.
 fn went_after(why: Refusal) -> KeyWent
-    ensures { result ≡ refusal_went why }
+    ensures { result ≡ key_went_after (gone_by why) }
 {
     match why.gone() {
         Some(how) => KeyWent::Gone(how),

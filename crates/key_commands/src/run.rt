@@ -3,23 +3,21 @@
 ghost use Rattle.std.specs.Prelude.{◌≡◌, None};
 ghost use Rattle.agent_ask.specs.Prompters.{IsShut};
 ghost use Rattle.assuan_server.specs.Connections.{IsOpen};
-ghost use Rattle.key_commands.specs.Exchanges.{Exchange, Replies};
+ghost use Rattle.key_commands.specs.Exchanges.{KeyExchange, KeyReplies};
 ghost use Rattle.key_commands.specs.Replies.{CarriesOut};
 ghost use Rattle.key_commands.specs.States.{AnswersKey, key_state};
 
 use crate::asking::Asking;
 use crate::deleting::delete_key;
 use crate::export::export_key;
-use crate::held::Held;
 use crate::importing::import_key;
 use crate::listing::{has_one, key_info, list_keys};
 use crate::passwd::{change_passphrase, verify_key};
 use crate::reply::{Reply, respond};
 use crate::request::KeyRequest;
-use crate::turns::close;
 use crate::went::KeyWent;
 use crate::wrap_keys::{WrapKeys, wrapping_key};
-use agent_ask::Prompter;
+use agent_ask::{Held, Prompter, close};
 use agent_ports::{Dice, Keys, Link};
 use assuan_server::Conn;
 use cache_policy::{CacheId, Desk};
@@ -47,7 +45,7 @@ pub fn run_key<L: Link, D: Desk, P: Prompter, K: Keys, R: Dice>(
     requires free { (D.at desk.old).out ≡ None }
     requires shut { IsShut (P.at prompter.old) }
     ensures answers { AnswersKey D.turned P.prompted
-        (Exchange rules.now options.now wraps.old command.now)
+        (KeyExchange rules.now options.now wraps.old command.now)
         (key_state D.turned P.prompted conn.old desk.old prompter.old
         (K.keys keys.old) (R.draws dice.old)) result wraps.new
         (key_state D.turned P.prompted conn.new desk.new prompter.new (K.keys keys.new)
@@ -84,7 +82,7 @@ fn carry_out<L: Link, D: Desk, P: Prompter, K: Keys, R: Dice>(
     requires out { (D.at desk.old).out ≡ held.old }
     requires shut { IsShut (P.at prompter.old) }
     ensures carries { CarriesOut D.turned P.prompted
-        (Replies rules.now options.now wraps.old command.now) wraps.old
+        (KeyReplies rules.now options.now wraps.old command.now) wraps.old
         (key_state D.turned P.prompted conn.old desk.old prompter.old
         (K.keys keys.old) (R.draws dice.old)) result wraps.new held.new
         (key_state D.turned P.prompted conn.new desk.new prompter.new (K.keys keys.new)

@@ -1,19 +1,18 @@
 //! Turns at the desk, as parts of a request.
 
-ghost use Rattle.std.specs.Prelude.{◌≡◌, true, None, IsOk, IsSome};
+ghost use Rattle.std.specs.Prelude.{◌≡◌, true, None};
 ghost use Rattle.assuan_escape.specs.Escapes.{hex_text};
 ghost use Rattle.cache_policy.specs.declared.life.Life.TheVariants.{Default};
-ghost use Rattle.cache_policy.specs.declared.mark.MarkStep.TheVariants.{Ask, Seat, Put, Clear};
+ghost use Rattle.cache_policy.specs.declared.mark.MarkStep.TheVariants.{Ask, Put, Clear};
 ghost use Rattle.cache_policy.specs.declared.mode.Mode.TheVariants.{Normal, Nonce};
 ghost use Rattle.cache_policy.specs.Turns.{asked_step, closes, opens};
-ghost use Rattle.agent_ask.specs.TurnParts.{Asks, Changes, Closes, Peeks, Seats};
+ghost use Rattle.agent_ask.specs.TurnParts.{Asks, Changes, Peeks};
 ghost use Rattle.key_commands.specs.Passphrases.{TakesSeat, put_key};
 ghost use Rattle.key_commands.specs.Lines.{grip_text};
-ghost use Rattle.key_commands.specs.Steps.{DoesTurn, DoesTurns};
+ghost use Rattle.key_commands.specs.Steps.{TakesTurn, TakesTurns};
 
-use crate::held::Held;
 use crate::texts::{key_id, nonce_id};
-use agent_ask::{give_back, without_memory};
+use agent_ask::{Held, hold_seat, without_memory};
 use agent_ports::Grip;
 use assuan_server::Code;
 use cache_policy::{CacheId, Desk, Life, Mode, Refused, Reply, Secret, Step, Under, Way};
@@ -29,7 +28,7 @@ pub(crate) fn ask_cache<D: Desk>(
 ) -> Result<Option<Secret>, Refusal>
     requires out { (D.at desk.old).out ≡ held.old }
     requires free { opens (Ask id mode way None) ≡ true → held.old ≡ None }
-    ensures turn { DoesTurn D.turned
+    ensures turn { TakesTurn D.turned
         (Asks (Ask id mode way None)) held.old desk.old result held.new desk.new }
     ensures out { (D.at desk.new).out ≡ held.new }
 {
@@ -55,7 +54,7 @@ pub(crate) fn ask_cache<D: Desk>(
 /// Takes the seat for a prompt whose passphrase is this key's, unless a ticket is held.
 pub(crate) fn take_seat<D: Desk>(grip: &Grip, held: &mut Held, desk: &mut D) -> Result<(), Refusal>
     requires out { (D.at desk.old).out ≡ held.old }
-    ensures turn { DoesTurns D.turned
+    ensures turn { TakesTurns D.turned
         (TakesSeat grip.now) held.old desk.old result held.new desk.new }
     ensures out { (D.at desk.new).out ≡ held.new }
 {
@@ -66,25 +65,7 @@ pub(crate) fn take_seat<D: Desk>(grip: &Grip, held: &mut Held, desk: &mut D) -> 
         id: key_id(grip),
         mode: Mode::Normal,
     };
-    seat(Some(under), held, desk)
-}
-
-/// Takes the seat for a prompt, whose passphrase is cached so where it is one for a passphrase.
-pub(crate) fn seat<D: Desk>(
-    under: Option<Under>,
-    held: &mut Held,
-    desk: &mut D,
-) -> Result<(), Refusal>
-    requires none { held.old ≡ None }
-    requires out { (D.at desk.old).out ≡ held.old }
-    ensures turn { DoesTurn D.turned
-        (Seats (Seat under None)) held.old desk.old result held.new desk.new }
-    ensures out { (D.at desk.new).out ≡ held.new }
-    ensures seated { IsOk result → IsSome held.new }
-{
-    let ticket = agent_ask::take_seat(under, desk)?;
-    held.put(ticket);
-    Ok(())
+    hold_seat(Some(under), held, desk)
 }
 
 /// Keeps a key's passphrase in the cache.
@@ -95,7 +76,7 @@ pub(crate) fn keep_pass<D: Desk>(
     desk: &mut D,
 ) -> Result<(), Refusal>
     requires out { (D.at desk.old).out ≡ held.now }
-    ensures turn { DoesTurn D.turned
+    ensures turn { TakesTurn D.turned
         (Changes (put_key grip.now pass.now)) held.now desk.old result held.now desk.new }
     ensures out { (D.at desk.new).out ≡ held.now }
 {
@@ -120,7 +101,7 @@ pub(crate) fn keep_by_nonce<D: Desk>(
     desk: &mut D,
 ) -> Result<(), Refusal>
     requires out { (D.at desk.old).out ≡ held.now }
-    ensures turn { DoesTurn D.turned (Changes (Put (hex_text nonce.now) Nonce Default pass.now))
+    ensures turn { TakesTurn D.turned (Changes (Put (hex_text nonce.now) Nonce Default pass.now))
         held.now desk.old result held.now desk.new }
     ensures out { (D.at desk.new).out ≡ held.now }
 {
@@ -140,7 +121,7 @@ pub(crate) fn keep_by_nonce<D: Desk>(
 /// Whether a key's passphrase is cached. It isn't used, and lives no longer by this.
 pub(crate) fn peek<D: Desk>(grip: &Grip, held: &Held, desk: &mut D) -> Result<bool, Refusal>
     requires out { (D.at desk.old).out ≡ held.now }
-    ensures turn { DoesTurn D.turned
+    ensures turn { TakesTurn D.turned
         (Peeks (grip_text grip.now) Normal) held.now desk.old result held.now desk.new }
     ensures out { (D.at desk.new).out ≡ held.now }
 {
@@ -158,7 +139,7 @@ pub(crate) fn peek<D: Desk>(grip: &Grip, held: &Held, desk: &mut D) -> Result<bo
 /// Removes a key's passphrase from the cache.
 pub(crate) fn clear_pass<D: Desk>(grip: &Grip, held: &Held, desk: &mut D) -> Result<(), Refusal>
     requires out { (D.at desk.old).out ≡ held.now }
-    ensures turn { DoesTurn D.turned
+    ensures turn { TakesTurn D.turned
         (Changes (Clear (grip_text grip.now) Normal)) held.now desk.old result held.now desk.new }
     ensures out { (D.at desk.new).out ≡ held.now }
 {
@@ -170,17 +151,5 @@ pub(crate) fn clear_pass<D: Desk>(grip: &Grip, held: &Held, desk: &mut D) -> Res
         Ok(Reply::Stopping) => Err(Refusal::Agent(Code::Cancelled)),
         Ok(_) => unreachable!(),
         Err(Refused { step }) => Err(without_memory(step)),
-    }
-}
-
-/// Gives a ticket that is held back, with the passphrase that is kept.
-pub(crate) fn close<D: Desk>(keep: Option<Secret>, held: &mut Held, desk: &mut D)
-    requires out { (D.at desk.old).out ≡ held.old }
-    ensures turn { DoesTurns D.turned (Closes keep) held.old desk.old (Ok tt) None desk.new }
-    ensures none { held.new ≡ None }
-    ensures out { (D.at desk.new).out ≡ None }
-{
-    if let Some(ticket) = held.take() {
-        give_back(ticket, keep, desk);
     }
 }

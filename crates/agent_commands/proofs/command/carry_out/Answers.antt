@@ -2,10 +2,8 @@ use Rattle.std.proofs.Common.{refl}
 use Rattle.std.proofs.lemmas.Result.{err_from_is_err_and}
 use Rattle.agent_ask.specs.Parts.{returns, goes_on}
 use Rattle.agent_ask.proofs.PartsDone.{part_then, part_stops, part_still}
-use Rattle.assuan_server.specs.Clients.{connection_views}
 use Rattle.agent_commands.specs.Exchanges.{tells}
-use Rattle.agent_commands.specs.Outside.{DoesPrompts}
-use Rattle.agent_commands.specs.Steps.{comes_to, stops_at}
+use Rattle.agent_ask.specs.PartReplies.{comes_to, stops_at}
 use Rattle.agent_commands.proofs.Asking.{asks_nobody}
 use Rattle.agent_commands.proofs.Carrying.{beside_desk, carries_beside, replies_ok}
 use Rattle.agent_commands.proofs.command.carry_out.Goals as goal
@@ -20,22 +18,19 @@ pub returns-in_err-secret-in-GetPassphrase-clause-carries : goal.returns-in_err-
 returns-in_err-secret-in-GetPassphrase-clause-carries g c =
     let p = err_from_is_err_and c.from_residual.result c.from_residual.ensures.1 in
     rw (c.in-GetPassphrase.is, p.1, p.2)
-    (stops_at (part_stops connection_views g.D.Desk.turned (DoesPrompts g.P.Prompter.prompted) (rw (c.in-GetPassphrase.is, c.requires.none) at c.in_err-secret-in-GetPassphrase.ensures.comes)))
+    (stops_at (part_stops (rw (c.in-GetPassphrase.is, c.requires.none) at c.in_err-secret-in-GetPassphrase.ensures.comes)))
 
 pub returns-in_ok-secret-in-GetPassphrase-clause-carries : goal.returns-in_ok-secret-in-GetPassphrase-clause-carries
 returns-in_ok-secret-in-GetPassphrase-clause-carries g c =
     let comes = rw (c.in-GetPassphrase.is, c.requires.none) at c.in_ok-secret-in-GetPassphrase.ensures.comes in
     rw c.in-GetPassphrase.is
-    (comes_to (λ text is. part_then connection_views g.D.Desk.turned (DoesPrompts g.P.Prompter.prompted) comes
-    (part_still connection_views g.D.Desk.turned (DoesPrompts g.P.Prompter.prompted) c.get_passphrase.new.conn c.get_passphrase.new.prompter c.get_passphrase.new.desk comes.fits.0 refl
-    (goes_on (tells is) returns))))
+    (comes_to (λ text is. part_then comes (part_still comes.fits.0 refl (goes_on (tells is) returns))))
 
 pub returns-in_err-preset-in-PresetPassphrase-clause-carries : goal.returns-in_err-preset-in-PresetPassphrase-clause-carries
 returns-in_err-preset-in-PresetPassphrase-clause-carries g c =
     let p = err_from_is_err_and c.from_residual-in_err-preset-in-PresetPassphrase.result c.from_residual-in_err-preset-in-PresetPassphrase.ensures.1 in
     rw (c.in-PresetPassphrase.is, c.requires.none, p.1, p.2)
-    (stops_at (part_stops connection_views g.D.Desk.turned (DoesPrompts g.P.Prompter.prompted)
-    (beside_desk g.D.Desk.turned g.P.Prompter.prompted c.args.prompter.now c.in_err-preset-in-PresetPassphrase.ensures.presets)))
+    (stops_at (part_stops (beside_desk g.D.Desk.turned g.P.Prompter.prompted c.args.prompter.now c.in_err-preset-in-PresetPassphrase.ensures.presets)))
 
 pub returns-in_ok-preset-in-PresetPassphrase-clause-carries : goal.returns-in_ok-preset-in-PresetPassphrase-clause-carries
 returns-in_ok-preset-in-PresetPassphrase-clause-carries g c =
@@ -47,7 +42,7 @@ pub returns-in_err-confirm-in-GetConfirmation-clause-carries : goal.returns-in_e
 returns-in_err-confirm-in-GetConfirmation-clause-carries g c =
     let p = err_from_is_err_and c.from_residual-in_err-confirm-in-GetConfirmation.result c.from_residual-in_err-confirm-in-GetConfirmation.ensures.1 in
     rw (c.in-GetConfirmation.is, p.1, p.2)
-    (stops_at (part_stops connection_views g.D.Desk.turned (DoesPrompts g.P.Prompter.prompted) (rw c.requires.none at c.in_err-confirm-in-GetConfirmation.ensures.confirms)))
+    (stops_at (part_stops (rw c.requires.none at c.in_err-confirm-in-GetConfirmation.ensures.confirms)))
 
 pub returns-in_ok-confirm-in-GetConfirmation-clause-carries : goal.returns-in_ok-confirm-in-GetConfirmation-clause-carries
 returns-in_ok-confirm-in-GetConfirmation-clause-carries g c =

@@ -1,12 +1,10 @@
 use Rattle.std.proofs.Common.{refl}
 use Rattle.agent_ask.specs.Parts.{returns}
-use Rattle.agent_ask.specs.PartStates.{NoTurn, NoEnd}
 use Rattle.agent_ask.proofs.PartsDone.{part_still}
-use Rattle.assuan_server.specs.Clients.{connection_views}
 use Rattle.agent_commands.proofs.command.given_or_asked.Goals as goal
 
 pub returns-in-Some : goal.returns-in-Some
-returns-in-Some g c = rw (c.in-Some.is, c.copy.ensures) (λ held. part_still connection_views NoTurn NoEnd c.args.conn.now tt tt c.requires refl returns)
+returns-in-Some g c = rw (c.in-Some.is, c.copy.ensures) (λ held. part_still c.requires refl returns)
 
 pub returns-in-None : goal.returns-in-None
 returns-in-None g c = rw c.in-None.is c.ask_client.ensures

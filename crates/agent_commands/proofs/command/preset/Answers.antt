@@ -1,27 +1,22 @@
-use Rattle.std.proofs.Common.{None, refl}
+use Rattle.std.proofs.Common.{refl}
 use Rattle.std.proofs.lemmas.Result.{err_from_is_err_and}
 use Rattle.agent_ask.specs.Parts.{returns, refuses}
-use Rattle.agent_ask.specs.PartStates.{NoEnd}
-use Rattle.agent_ask.proofs.PartsDone.{part_then, part_stops, part_still, part_turned, beside_client, open_after, changes_on}
-use Rattle.assuan_server.specs.Clients.{connection_views}
+use Rattle.agent_ask.proofs.PartsDone.{part_then, part_stops, part_still, part_turned, beside_client, open_after}
 use Rattle.agent_commands.proofs.command.preset.Goals as goal
 
 pub returns-then-not-rules-clause-presets : goal.returns-then-not-rules-clause-presets
 returns-then-not-rules-clause-presets g c =
     rw c.if-not-rules.true
-    (part_stops connection_views g.D.Desk.turned NoEnd (part_still connection_views g.D.Desk.turned NoEnd c.args.conn.now tt c.args.desk.now c.requires refl refuses))
+    (part_stops (part_still c.requires refl refuses))
 
 pub returns-in_err-secret-clause-presets : goal.returns-in_err-secret-clause-presets
 returns-in_err-secret-clause-presets g c =
     let p = err_from_is_err_and c.from_residual.result c.from_residual.ensures.1 in
     rw (c.if-not-rules.false, p.1, p.2)
-    (part_then connection_views g.D.Desk.turned NoEnd (part_still connection_views g.D.Desk.turned NoEnd c.args.conn.now tt c.args.desk.now c.requires refl returns)
-    (part_stops connection_views g.D.Desk.turned NoEnd (beside_client connection_views g.D.Desk.turned NoEnd None c.args.desk.now tt c.in_err-secret.ensures)))
+    (part_then (part_still c.requires refl returns) (part_stops (beside_client c.in_err-secret.ensures)))
 
 pub returns-clause-presets : goal.returns-clause-presets
 returns-clause-presets g c =
     let turn = rw c.copy.ensures at c.change.ensures.turn in
     rw c.if-not-rules.false
-    (part_then connection_views g.D.Desk.turned NoEnd (part_still connection_views g.D.Desk.turned NoEnd c.args.conn.now tt c.args.desk.now c.requires refl returns)
-    (part_then connection_views g.D.Desk.turned NoEnd (beside_client connection_views g.D.Desk.turned NoEnd None c.args.desk.now tt c.in_ok-secret.ensures)
-    (part_turned connection_views g.D.Desk.turned NoEnd c.given_or_asked.new.conn tt (open_after connection_views c.in_ok-secret.ensures) (changes_on turn.does) turn)))
+    (part_then (part_still c.requires refl returns) (part_then (beside_client c.in_ok-secret.ensures) (part_turned (open_after c.in_ok-secret.ensures) turn)))

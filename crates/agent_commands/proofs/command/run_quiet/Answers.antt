@@ -1,7 +1,7 @@
 use Rattle.std.proofs.Common.{None}
-use Rattle.agent_ask.specs.PartStates.{NoEnd, still}
-use Rattle.agent_ask.specs.TurnParts.{unheld}
-use Rattle.agent_commands.specs.Exchanges.{GetReplies, CacheExchange}
+use Rattle.agent_ask.specs.PartStates.{NoEnd}
+use Rattle.agent_ask.specs.Seats.{unheld}
+use Rattle.agent_commands.specs.Exchanges.{CacheExchange, GetReplies}
 use Rattle.agent_commands.specs.Outside.{world}
 use Rattle.agent_commands.specs.Requests.{request_of}
 use Rattle.agent_commands.specs.States.{session_state, AnswersRequest}
@@ -16,9 +16,9 @@ returns-clause-answers g c = λ rules options line is_quiet.
     of_quiet (λ (asked : Request). AnswersRequest {w = world g.D.Desk.turned} (λ before. CacheExchange rules before asked) options
     (session_state g.D.Desk.turned c.args.conn.now c.args.desk.now) c.respond.result options (session_state g.D.Desk.turned c.respond.new.conn c.cached_reply-reply.new.desk)) c.args.request.now
     (λ check no_ask quality repeat texts asks.
-    answers g.D.Desk.turned NoEnd (λ values. GetReplies rules values
+    answers (λ values. GetReplies rules values
     (record { plain = c.args.request.now.plain; check = check; no_ask = no_ask; repeat = repeat; quality = quality; id = c.args.request.now.id; texts = texts }))
     options _ None c.args.conn.now c.respond.new.conn c.cached_reply-reply.new.desk c.cached_reply-reply.new.desk tt c.cached_reply-reply.result options c.respond.result
     (quiet_carried g.D.Desk.turned NoEnd c.args.conn.now c.requires tt rules options
     (record { plain = c.args.request.now.plain; check = check; no_ask = no_ask; repeat = repeat; quality = quality; id = c.args.request.now.id; texts = texts }) asks c.cached_reply-reply.ensures.tells)
-    (still unheld) c.respond.ensures) (request_of line) is_quiet
+    unheld c.respond.ensures) (request_of line) is_quiet

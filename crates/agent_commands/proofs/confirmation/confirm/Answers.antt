@@ -2,9 +2,7 @@ use Rattle.std.proofs.Common.{◌≡◌, Some, sym, ap, ◌∙◌, inl, inr, ref
 use Rattle.std.proofs.lemmas.Result.{err_from_is_err_and}
 use Rattle.std.specs.Option.{option_copied}
 use Rattle.agent_ask.specs.Parts.{refuses}
-use Rattle.agent_ask.proofs.PartsDone.{part_then, part_stops, part_still, part_turned, seats_on}
-use Rattle.assuan_server.specs.Clients.{connection_views}
-use Rattle.agent_commands.specs.Outside.{DoesPrompts}
+use Rattle.agent_ask.proofs.PartsDone.{part_then, part_stops, part_still, part_turned}
 use Rattle.agent_commands.proofs.Carrying.{beside_prompter, seat_turn}
 use Rattle.agent_commands.proofs.confirmation.confirm.Goals as goal
 
@@ -13,27 +11,24 @@ returns-in_err-hold_seat-in-Ask-clause-confirms g c =
     let p = err_from_is_err_and c.from_residual.result c.from_residual.ensures.1 in
     let turn = seat_turn c.in_err-hold_seat-in-Ask.ensures.taken in
     rw (sym c.mode.ensures ∙ c.in-Ask.is, c.requires.none, p.1, p.2)
-    (part_stops connection_views g.D.Desk.turned (DoesPrompts g.P.Prompter.prompted)
-    (part_turned connection_views g.D.Desk.turned (DoesPrompts g.P.Prompter.prompted) c.args.conn.now c.args.prompter.now c.requires.open (seats_on turn.does) turn))
+    (part_stops (part_turned c.requires.open turn))
 
 pub returns-in-Some-clause-confirms : goal.returns-in-Some-clause-confirms
 returns-in-Some-clause-confirms g c =
     let held : c.hold_seat.new.held ≡ Some c.in-Some.ticket.now = sym c.ticket.ensures ∙ ap option_copied c.in-Some.is in
     rw (sym c.mode.ensures ∙ c.in-Ask.is, c.requires.none)
-    (part_then connection_views g.D.Desk.turned (DoesPrompts g.P.Prompter.prompted)
-    (part_turned connection_views g.D.Desk.turned (DoesPrompts g.P.Prompter.prompted) c.args.conn.now c.args.prompter.now c.requires.open refl (seat_turn c.in_ok-hold_seat-in-Ask.ensures.taken))
-    (rw held (beside_prompter g.D.Desk.turned g.P.Prompter.prompted c.hold_seat.new.desk c.ask_consent.ensures.agrees)))
+    (part_then (part_turned c.requires.open (seat_turn c.in_ok-hold_seat-in-Ask.ensures.taken)) (rw held (beside_prompter g.D.Desk.turned g.P.Prompter.prompted c.hold_seat.new.desk c.ask_consent.ensures.agrees)))
 
 pub returns-in-Cancel-clause-confirms : goal.returns-in-Cancel-clause-confirms
 returns-in-Cancel-clause-confirms g c =
     rw (sym c.mode.ensures ∙ c.in-Cancel.is)
-    (part_still connection_views g.D.Desk.turned (DoesPrompts g.P.Prompter.prompted) c.args.conn.now c.args.prompter.now c.args.desk.now c.requires.open refl refuses)
+    (part_still c.requires.open refl refuses)
 
 pub returns-in-Error-clause-confirms : goal.returns-in-Error-clause-confirms
 returns-in-Error-clause-confirms g c =
     elim c.in-Error.is [
       | inl error ↦ rw (sym c.mode.ensures ∙ error)
-          (part_still connection_views g.D.Desk.turned (DoesPrompts g.P.Prompter.prompted) c.args.conn.now c.args.prompter.now c.args.desk.now c.requires.open refl refuses)
+          (part_still c.requires.open refl refuses)
       | inr loopback ↦ rw (sym c.mode.ensures ∙ loopback)
-          (part_still connection_views g.D.Desk.turned (DoesPrompts g.P.Prompter.prompted) c.args.conn.now c.args.prompter.now c.args.desk.now c.requires.open refl refuses)
+          (part_still c.requires.open refl refuses)
     ]

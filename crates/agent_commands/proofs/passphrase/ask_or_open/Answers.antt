@@ -1,3 +1,4 @@
+use Rattle.std.proofs.Common.{refl}
 use Rattle.agent_ask.specs.Interrupts.{stopping, late, refused}
 use Rattle.agent_ask.specs.TurnParts.{given, opened, interrupted}
 use Rattle.cache_policy.specs.Turns.{Given, Open, Stopping, Late, Refused}
@@ -11,6 +12,7 @@ returns-in-Ok-Given-clause-turn g c =
       turn = Given c.in-Ok-Given.grant;
       turned_so = rw (c.in-Ok-Given.field-0-is, c.copy.ensures) at c.in-Ok-Given.ensures.turned;
       does = given;
+      on = refl;
     })
 
 pub returns-in-Ok-Open-clause-turn : goal.returns-in-Ok-Open-clause-turn
@@ -20,6 +22,7 @@ returns-in-Ok-Open-clause-turn g c =
       turn = Open c.in-Ok-Open.ticket;
       turned_so = rw (c.in-Ok-Open.field-0-is, c.copy.ensures) at c.in-Ok-Open.ensures.turned;
       does = opened;
+      on = refl;
     })
 
 pub returns-in-Ok-Stopping-clause-turn : goal.returns-in-Ok-Stopping-clause-turn
@@ -28,6 +31,7 @@ returns-in-Ok-Stopping-clause-turn g c = record {
   turn = Stopping;
   turned_so = rw (c.in-Ok-Stopping.field-0-is, c.copy.ensures) at c.in-Ok-Stopping.ensures.turned;
   does = interrupted stopping;
+  on = refl;
 }
 
 pub returns-in-Ok-Late-clause-turn : goal.returns-in-Ok-Late-clause-turn
@@ -36,6 +40,7 @@ returns-in-Ok-Late-clause-turn g c = record {
   turn = Late;
   turned_so = rw (c.in-Ok-Late.field-0-is, c.copy.ensures) at c.in-Ok-Late.ensures.turned;
   does = interrupted late;
+  on = refl;
 }
 
 pub returns-in-Err-clause-turn : goal.returns-in-Err-clause-turn
@@ -45,4 +50,5 @@ returns-in-Err-clause-turn g c =
       turn = Refused;
       turned_so = rw c.copy.ensures at c.in-Err.ensures.turned;
       does = interrupted refused;
+      on = refl;
     })

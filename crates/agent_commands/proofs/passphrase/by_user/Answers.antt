@@ -1,10 +1,8 @@
-use Rattle.std.proofs.Common.{Err, refl}
+use Rattle.std.proofs.Common.{refl}
 use Rattle.std.proofs.lemmas.Result.{err_from_is_err_and}
 use Rattle.agent_ask.specs.Parts.{returns}
 use Rattle.agent_ask.proofs.PartsDone.{part_then, part_stops, part_still, part_turned, part_turns, ticket_given}
-use Rattle.assuan_server.specs.Clients.{connection_views}
-use Rattle.agent_commands.specs.Outside.{DoesPrompts}
-use Rattle.agent_commands.proofs.Carrying.{wants_turn_on, beside_prompter}
+use Rattle.agent_commands.proofs.Carrying.{beside_prompter}
 use Rattle.agent_commands.proofs.passphrase.by_user.Goals as goal
 
 pub prompt-requires-clause-seated : goal.prompt-requires-clause-seated
@@ -14,34 +12,19 @@ pub returns-in_err-found-clause-comes : goal.returns-in_err-found-clause-comes
 returns-in_err-found-clause-comes g c =
     let p = err_from_is_err_and c.from_residual.result c.from_residual.ensures.1 in
     rw (p.1, p.2)
-    (part_stops connection_views g.D.Desk.turned (DoesPrompts g.P.Prompter.prompted)
-    (part_turned connection_views g.D.Desk.turned (DoesPrompts g.P.Prompter.prompted) c.args.conn.now c.args.prompter.now c.requires.open
-    (wants_turn_on c.args.id.now (Err _) c.in_err-found.ensures.turn) c.in_err-found.ensures.turn))
+    (part_stops (part_turned c.requires.open c.in_err-found.ensures.turn))
 
 pub returns-in-Some-clause-comes : goal.returns-in-Some-clause-comes
 returns-in-Some-clause-comes g c =
-    part_then connection_views g.D.Desk.turned (DoesPrompts g.P.Prompter.prompted)
-    (part_turned connection_views g.D.Desk.turned (DoesPrompts g.P.Prompter.prompted) c.args.conn.now c.args.prompter.now c.requires.open refl
-    (rw c.in-Some.is at c.in_ok-found.ensures.turn))
-    (part_still connection_views g.D.Desk.turned (DoesPrompts g.P.Prompter.prompted) c.args.conn.now c.args.prompter.now c.want_prompt.new.desk c.requires.open refl returns)
+    part_then (part_turned c.requires.open (rw c.in-Some.is at c.in_ok-found.ensures.turn)) (part_still c.requires.open refl returns)
 
 pub returns-in_err-pin-clause-comes : goal.returns-in_err-pin-clause-comes
 returns-in_err-pin-clause-comes g c =
     let p = err_from_is_err_and c.from_residual-in_err-pin.result c.from_residual-in_err-pin.ensures.1 in
     rw (p.1, p.2)
-    (part_then connection_views g.D.Desk.turned (DoesPrompts g.P.Prompter.prompted)
-    (part_turned connection_views g.D.Desk.turned (DoesPrompts g.P.Prompter.prompted) c.args.conn.now c.args.prompter.now c.requires.open refl
-    (rw c.in_default.is at c.in_ok-found.ensures.turn))
-    (part_stops connection_views g.D.Desk.turned (DoesPrompts g.P.Prompter.prompted) (beside_prompter g.D.Desk.turned g.P.Prompter.prompted c.want_prompt.new.desk c.in_err-pin.ensures.prompts)))
+    (part_then (part_turned c.requires.open (rw c.in_default.is at c.in_ok-found.ensures.turn)) (part_stops (beside_prompter g.D.Desk.turned g.P.Prompter.prompted c.want_prompt.new.desk c.in_err-pin.ensures.prompts)))
 
 pub returns-clause-comes : goal.returns-clause-comes
 returns-clause-comes g c =
     rw (c.own.ensures, c.close.ensures.none)
-    (part_then connection_views g.D.Desk.turned (DoesPrompts g.P.Prompter.prompted)
-    (part_turned connection_views g.D.Desk.turned (DoesPrompts g.P.Prompter.prompted) c.args.conn.now c.args.prompter.now c.requires.open refl
-    (rw c.in_default.is at c.in_ok-found.ensures.turn))
-    (part_then connection_views g.D.Desk.turned (DoesPrompts g.P.Prompter.prompted) (beside_prompter g.D.Desk.turned g.P.Prompter.prompted c.want_prompt.new.desk c.in_ok-pin.ensures.prompts)
-    (part_then connection_views g.D.Desk.turned (DoesPrompts g.P.Prompter.prompted)
-    (part_turns connection_views g.D.Desk.turned (DoesPrompts g.P.Prompter.prompted) c.prompt.new.conn c.prompt.new.prompter c.in_ok-pin.ensures.prompts.fits.0 refl
-    (ticket_given (rw c.copy.ensures at c.close.ensures.given)))
-    (part_still connection_views g.D.Desk.turned (DoesPrompts g.P.Prompter.prompted) c.prompt.new.conn c.prompt.new.prompter c.close.new.desk c.in_ok-pin.ensures.prompts.fits.0 refl returns))))
+    (part_then (part_turned c.requires.open (rw c.in_default.is at c.in_ok-found.ensures.turn)) (part_then (beside_prompter g.D.Desk.turned g.P.Prompter.prompted c.want_prompt.new.desk c.in_ok-pin.ensures.prompts) (part_then (part_turns c.in_ok-pin.ensures.prompts.fits.0 (ticket_given (rw c.copy.ensures at c.close.ensures.given))) (part_still c.in_ok-pin.ensures.prompts.fits.0 refl returns))))

@@ -8,7 +8,7 @@ use Rattle.agent_commands.specs.Passphrases.{ask}
 use Rattle.agent_commands.proofs.passphrase.look.Goals as goal
 
 pub returns-in_default-clause-turn : goal.returns-in_default-clause-turn
-returns-in_default-clause-turn g c = rw c.in_default.is (still returns)
+returns-in_default-clause-turn g c = rw c.in_default.is (still returns refl)
 
 pub returns-in-Ok-Given-clause-turn : goal.returns-in-Ok-Given-clause-turn
 returns-in-Ok-Given-clause-turn g c =
@@ -17,6 +17,7 @@ returns-in-Ok-Given-clause-turn g c =
       turn = Given c.in-Ok-Given.grant;
       turned_so = rw (c.in-Ok-Given.field-0-is, c.copy.ensures) at c.in-Ok-Given.ensures.turned;
       does = record { asks = given; keeps = refl };
+      on = refl;
     }))
 
 pub returns-in-Ok-Empty-clause-turn : goal.returns-in-Ok-Empty-clause-turn
@@ -26,6 +27,7 @@ returns-in-Ok-Empty-clause-turn g c =
       turn = Empty;
       turned_so = rw (c.in-Ok-Empty.field-0-is, c.copy.ensures) at c.in-Ok-Empty.ensures.turned;
       does = record { asks = empty; keeps = refl };
+      on = refl;
     }))
 
 pub returns-in-Ok-Stopping-clause-turn : goal.returns-in-Ok-Stopping-clause-turn
@@ -35,6 +37,7 @@ returns-in-Ok-Stopping-clause-turn g c =
       turn = Stopping;
       turned_so = rw (c.in-Ok-Stopping.field-0-is, c.copy.ensures) at c.in-Ok-Stopping.ensures.turned;
       does = record { asks = interrupted stopping; keeps = refl };
+      on = refl;
     }))
 
 pub returns-in-Err-clause-turn : goal.returns-in-Err-clause-turn
@@ -44,4 +47,5 @@ returns-in-Err-clause-turn g c =
       turn = Refused;
       turned_so = rw c.copy.ensures at c.in-Err.ensures.turned;
       does = record { asks = interrupted refused; keeps = refl };
+      on = refl;
     }))

@@ -1,15 +1,13 @@
 use Rattle.std.proofs.Common.{refl}
 use Rattle.agent_ask.specs.Parts.{refuses}
-use Rattle.agent_ask.specs.PartStates.{NoEnd}
 use Rattle.agent_ask.proofs.PartsDone.{part_still}
-use Rattle.assuan_server.specs.Clients.{connection_views}
 use Rattle.agent_commands.proofs.passphrase.uncached.Goals as goal
 
 pub returns-in-Cancel-clause-comes : goal.returns-in-Cancel-clause-comes
-returns-in-Cancel-clause-comes g c = rw c.in-Cancel.is (part_still connection_views g.D.Desk.turned NoEnd c.args.conn.now tt c.args.desk.now c.requires.open refl refuses)
+returns-in-Cancel-clause-comes g c = rw c.in-Cancel.is (part_still c.requires.open refl refuses)
 
 pub returns-in-Error-clause-comes : goal.returns-in-Error-clause-comes
-returns-in-Error-clause-comes g c = rw c.in-Error.is (part_still connection_views g.D.Desk.turned NoEnd c.args.conn.now tt c.args.desk.now c.requires.open refl refuses)
+returns-in-Error-clause-comes g c = rw c.in-Error.is (part_still c.requires.open refl refuses)
 
 pub returns-in-Loopback-clause-comes : goal.returns-in-Loopback-clause-comes
 returns-in-Loopback-clause-comes g c = rw c.in-Loopback.is c.by_client.ensures.comes

@@ -1,7 +1,7 @@
+use Rattle.std.proofs.Common.{refl}
 use Rattle.std.proofs.lemmas.Result.{err_from_is_err_and}
 use Rattle.agent_ask.specs.Parts.{returns}
-use Rattle.agent_ask.proofs.PartsDone.{ticket_taken}
-use Rattle.agent_commands.proofs.Carrying.{turn_then, turn_stops}
+use Rattle.agent_ask.proofs.PartsDone.{ticket_taken, turn_then, turn_stops}
 use Rattle.agent_commands.proofs.passphrase.want_prompt.Goals as goal
 
 pub returns-in-Some-clause-turn : goal.returns-in-Some-clause-turn
@@ -10,8 +10,8 @@ returns-in-Some-clause-turn g c = rw c.in-Some.is c.ask_or_open.ensures.turn
 pub returns-in_err-hold_seat-in-None-clause-turn : goal.returns-in_err-hold_seat-in-None-clause-turn
 returns-in_err-hold_seat-in-None-clause-turn g c =
     let p = err_from_is_err_and c.from_residual.result c.from_residual.ensures.1 in
-    rw (c.in-None.is, c.requires.none, p.1, p.2) (turn_stops g.D.Desk.turned (ticket_taken c.in_err-hold_seat-in-None.ensures.taken))
+    rw (c.in-None.is, c.requires.none, p.1, p.2) (turn_stops (ticket_taken c.in_err-hold_seat-in-None.ensures.taken))
 
 pub returns-in_ok-hold_seat-in-None-clause-turn : goal.returns-in_ok-hold_seat-in-None-clause-turn
 returns-in_ok-hold_seat-in-None-clause-turn g c =
-    rw (c.in-None.is, c.requires.none) (turn_then g.D.Desk.turned (ticket_taken c.in_ok-hold_seat-in-None.ensures.taken) returns)
+    rw (c.in-None.is, c.requires.none) (turn_then (ticket_taken c.in_ok-hold_seat-in-None.ensures.taken) returns refl)

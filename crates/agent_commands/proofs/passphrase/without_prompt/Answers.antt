@@ -1,23 +1,18 @@
-use Rattle.std.proofs.Common.{Some, None, Ok, Err, refl}
+use Rattle.std.proofs.Common.{refl}
 use Rattle.std.proofs.lemmas.Result.{err_from_is_err_and}
 use Rattle.agent_ask.specs.Parts.{returns}
-use Rattle.agent_ask.specs.PartStates.{NoEnd}
-use Rattle.agent_ask.proofs.PartsDone.{part_then, part_stops, part_still}
-use Rattle.assuan_server.specs.Clients.{connection_views}
-use Rattle.agent_commands.proofs.Carrying.{looked}
+use Rattle.agent_ask.proofs.PartsDone.{part_then, part_stops, part_still, part_turns}
 use Rattle.agent_commands.proofs.passphrase.without_prompt.Goals as goal
 
 pub returns-in_err-found-clause-comes : goal.returns-in_err-found-clause-comes
 returns-in_err-found-clause-comes g c =
     let p = err_from_is_err_and c.from_residual.result c.from_residual.ensures.1 in
-    rw (p.1, p.2) (part_stops connection_views g.D.Desk.turned NoEnd (looked g.D.Desk.turned c.args.conn.now c.requires.open c.args.id.now (Err _) c.in_err-found.ensures.turn))
+    rw (p.1, p.2) (part_stops (part_turns c.requires.open c.in_err-found.ensures.turn))
 
 pub returns-in-Some-clause-comes : goal.returns-in-Some-clause-comes
 returns-in-Some-clause-comes g c =
-    part_then connection_views g.D.Desk.turned NoEnd (looked g.D.Desk.turned c.args.conn.now c.requires.open c.args.id.now (Ok (Some c.in-Some.found)) (rw c.in-Some.is at c.in_ok-found.ensures.turn))
-    (part_still connection_views g.D.Desk.turned NoEnd c.args.conn.now tt c.look.new.desk c.requires.open refl returns)
+    part_then (part_turns c.requires.open (rw c.in-Some.is at c.in_ok-found.ensures.turn)) (part_still c.requires.open refl returns)
 
 pub returns-in-None-clause-comes : goal.returns-in-None-clause-comes
 returns-in-None-clause-comes g c =
-    part_then connection_views g.D.Desk.turned NoEnd (looked g.D.Desk.turned c.args.conn.now c.requires.open c.args.id.now (Ok None) (rw c.in-None.is at c.in_ok-found.ensures.turn))
-    c.uncached.ensures.comes
+    part_then (part_turns c.requires.open (rw c.in-None.is at c.in_ok-found.ensures.turn)) c.uncached.ensures.comes

@@ -1,8 +1,11 @@
-use Rattle.std.proofs.Common.{List, ℕ, ap, subst, ◌≡◌}
+use Rattle.std.proofs.Common.{List, ℕ, subst, ◌≡◌}
 use Rattle.agent_ask.specs.ConsentParts.{AsksQuestion}
 use Rattle.agent_ask.proofs.ConsentParts.{agrees}
+use Rattle.agent_ask.proofs.PartsAtClient.{part_prompted}
+use Rattle.assuan_server.specs.Clients.{connection_views}
+use Rattle.key_commands.proofs.Partial.{each_prompted}
+use Rattle.key_commands.specs.Partial.{DoesBesideKeys}
 use Rattle.key_commands.specs.Lines.{described, delete_description}
-use Rattle.key_commands.proofs.Prompts.{part_prompted}
 use Rattle.key_commands.proofs.consent.ask_consent.Goals as goal
 
 pub returns-clause-agrees : goal.returns-clause-agrees
@@ -11,4 +14,4 @@ returns-clause-agrees g c =
     let asking = c.args.asking.now in
     let question : c.described-question.result.items ≡ described asking.options.now.description (delete_description asking.grip.now) = rw c.delete_description.ensures at c.described-question.ensures in
     let asks = subst (λ (q : List ℕ). AsksQuestion asking.rules.now asking.options.now q asked.events c.agree.result) question asked.are in
-    part_prompted asked.lead (λ events in_session. agrees c.args.ticket.now c.agree.result asks in_session) c.agree.ensures.left
+    part_prompted connection_views (DoesBesideKeys g.P.Prompter.prompted) (λ same. same) each_prompted asked.lead (λ events in_session. agrees c.args.ticket.now c.agree.result asks in_session) c.agree.ensures.left

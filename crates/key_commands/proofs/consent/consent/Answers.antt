@@ -2,43 +2,40 @@ use Rattle.std.proofs.Common.{◌≡◌, Some, sym, ap, ◌∙◌, inl, inr, ref
 use Rattle.std.proofs.lemmas.Result.{err_from_is_err_and}
 use Rattle.std.specs.Option.{option_copied}
 use Rattle.agent_ask.specs.Parts.{returns, refuses}
-use Rattle.key_commands.proofs.Doing.{part_still, part_turned, part_then, part_stops}
-use Rattle.key_commands.proofs.Going.{seats_on}
+use Rattle.agent_ask.proofs.PartsDone.{part_then, part_stops, part_turned, part_still}
 use Rattle.key_commands.proofs.Partial.{beside_prompter}
+use Rattle.key_commands.proofs.Seating.{seat_turn}
 use Rattle.key_commands.proofs.consent.consent.Goals as goal
 
 pub returns-then-force-clause-consents : goal.returns-then-force-clause-consents
-returns-then-force-clause-consents g c = λ files side.
-    rw c.if-force.true (part_still g.D.Desk.turned g.P.Prompter.prompted c.args.conn.now (record { prompter = c.args.prompter.now; keys = files; dice = side }) c.args.desk.now c.requires.open refl returns)
+returns-then-force-clause-consents g c =
+    rw c.if-force.true (part_still c.requires.open refl returns)
 
-pub returns-in_err-seat-in-Ask-clause-consents : goal.returns-in_err-seat-in-Ask-clause-consents
-returns-in_err-seat-in-Ask-clause-consents g c = λ files side.
+pub returns-in_err-hold_seat-in-Ask-clause-consents : goal.returns-in_err-hold_seat-in-Ask-clause-consents
+returns-in_err-hold_seat-in-Ask-clause-consents g c =
     let p = err_from_is_err_and c.from_residual.result c.from_residual.ensures.1 in
-    let turn = c.in_err-seat-in-Ask.ensures.turn in
-    rw (c.if-force.false, sym c.mode.ensures ∙ c.in-Ask.is, p.1, p.2)
-    (part_stops g.D.Desk.turned g.P.Prompter.prompted
-    (part_turned g.D.Desk.turned g.P.Prompter.prompted c.args.conn.now (record { prompter = c.args.prompter.now; keys = files; dice = side }) c.requires.open (seats_on turn.does) turn))
+    let turn = seat_turn c.in_err-hold_seat-in-Ask.ensures.taken in
+    rw (c.if-force.false, sym c.mode.ensures ∙ c.in-Ask.is, c.requires.none, p.1, p.2)
+    (part_stops (part_turned c.requires.open turn))
 
 pub returns-in-Some-clause-consents : goal.returns-in-Some-clause-consents
-returns-in-Some-clause-consents g c = λ files side.
-    let held : c.seat.new.held ≡ Some c.in-Some.ticket.now = sym c.ticket.ensures ∙ ap option_copied c.in-Some.is in
-    rw (c.if-force.false, sym c.mode.ensures ∙ c.in-Ask.is)
-    (part_then g.D.Desk.turned g.P.Prompter.prompted
-    (part_turned g.D.Desk.turned g.P.Prompter.prompted c.args.conn.now (record { prompter = c.args.prompter.now; keys = files; dice = side }) c.requires.open refl c.in_ok-seat-in-Ask.ensures.turn)
-    (rw held (beside_prompter g.D.Desk.turned g.P.Prompter.prompted c.seat.new.desk c.ask_consent.ensures.agrees files side)))
+returns-in-Some-clause-consents g c =
+    let held : c.hold_seat.new.held ≡ Some c.in-Some.ticket.now = sym c.ticket.ensures ∙ ap option_copied c.in-Some.is in
+    rw (c.if-force.false, sym c.mode.ensures ∙ c.in-Ask.is, c.requires.none)
+    (part_then (part_turned c.requires.open (seat_turn c.in_ok-hold_seat-in-Ask.ensures.taken)) (rw held (beside_prompter c.ask_consent.ensures.agrees)))
 
 pub returns-in-Cancel-clause-consents : goal.returns-in-Cancel-clause-consents
-returns-in-Cancel-clause-consents g c = λ files side.
+returns-in-Cancel-clause-consents g c =
     rw (c.if-force.false, sym c.mode.ensures ∙ c.in-Cancel.is)
-    (part_still g.D.Desk.turned g.P.Prompter.prompted c.args.conn.now (record { prompter = c.args.prompter.now; keys = files; dice = side }) c.args.desk.now c.requires.open refl refuses)
+    (part_still c.requires.open refl refuses)
 
 pub returns-in-Error-clause-consents : goal.returns-in-Error-clause-consents
-returns-in-Error-clause-consents g c = λ files side.
+returns-in-Error-clause-consents g c =
     elim c.in-Error.is [
       | inl error ↦
           rw (c.if-force.false, sym c.mode.ensures ∙ error)
-          (part_still g.D.Desk.turned g.P.Prompter.prompted c.args.conn.now (record { prompter = c.args.prompter.now; keys = files; dice = side }) c.args.desk.now c.requires.open refl refuses)
+          (part_still c.requires.open refl refuses)
       | inr loopback ↦
           rw (c.if-force.false, sym c.mode.ensures ∙ loopback)
-          (part_still g.D.Desk.turned g.P.Prompter.prompted c.args.conn.now (record { prompter = c.args.prompter.now; keys = files; dice = side }) c.args.desk.now c.requires.open refl refuses)
+          (part_still c.requires.open refl refuses)
     ]

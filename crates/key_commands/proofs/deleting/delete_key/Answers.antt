@@ -1,37 +1,59 @@
+use Rattle.std.proofs.Common.{refl}
 use Rattle.std.proofs.lemmas.Result.{err_from_is_err_and}
-use Rattle.key_commands.proofs.Deletions.{find_failed, not_found, not_agreed, not_removed, not_cleared, deleted}
+use Rattle.agent_ask.specs.Parts.{returns as is_returned, refuses}
+use Rattle.agent_ask.proofs.PartsDone.{part_then, part_stops, part_turned, part_still}
+use Rattle.agent_ask.specs.PartReplies.{stops_at}
+use Rattle.key_commands.proofs.Doing.{part_called}
+use Rattle.key_commands.proofs.Partial.{beside_keys}
+use Rattle.key_commands.proofs.Requesting.{replies_ok}
+use Rattle.key_commands.specs.Exchanges.{DeleteKeyReplies}
 use Rattle.key_commands.proofs.deleting.delete_key.Goals as goal
 
 pub returns-in_err-has_file-clause-carries : goal.returns-in_err-has_file-clause-carries
+unfolding DeleteKeyReplies
 returns-in_err-has_file-clause-carries g c = λ wraps side.
     let p = err_from_is_err_and c.from_residual.result c.from_residual.ensures.1 in
-    rw (p.1, p.2, c.requires.none) (find_failed g.D.Desk.turned g.P.Prompter.prompted c.args.asking.now.rules.now c.args.asking.now.options.now wraps c.args.force c.args.asking.now.grip.now c.args.conn.now c.args.desk.now c.args.prompter.now _ _ side
-    c.requires.open c.in_err-has_file.field-0.0 c.in_err-has_file.ensures)
+    rw (p.1, p.2, c.requires.none) (stops_at (part_stops (part_called c.requires.open c.in_err-has_file.ensures)))
 
 pub returns-then-not-branch-clause-carries : goal.returns-then-not-branch-clause-carries
+unfolding DeleteKeyReplies
 returns-then-not-branch-clause-carries g c = λ wraps side.
-    rw c.requires.none (not_found g.D.Desk.turned g.P.Prompter.prompted c.args.asking.now.rules.now c.args.asking.now.options.now wraps c.args.force c.args.asking.now.grip.now c.args.conn.now c.args.desk.now c.args.prompter.now _ _ side c.requires.open
-    (rw c.if-not-branch.true at c.in_ok-has_file.ensures))
+    let absent = rw c.if-not-branch.true at c.in_ok-has_file.ensures in
+    rw c.requires.none (stops_at (part_then (part_called c.requires.open absent) (part_stops (part_still c.requires.open refl refuses))))
 
 pub returns-in_err-consent-clause-carries : goal.returns-in_err-consent-clause-carries
+unfolding DeleteKeyReplies
 returns-in_err-consent-clause-carries g c = λ wraps side.
     let p = err_from_is_err_and c.from_residual-in_err-consent.result c.from_residual-in_err-consent.ensures.1 in
-    rw (p.1, p.2) (not_agreed g.D.Desk.turned g.P.Prompter.prompted c.args.asking.now.rules.now c.args.asking.now.options.now wraps c.args.force c.args.asking.now.grip.now c.args.conn.now c.args.desk.now c.args.prompter.now _ _ side c.requires.open
-    (rw c.if-not-branch.false at c.in_ok-has_file.ensures) _ _ _ _ c.in_err-consent.field-0.0 (rw c.requires.none at c.in_err-consent.ensures.consents))
+    let there = rw c.if-not-branch.false at c.in_ok-has_file.ensures in
+    let agreed = rw c.requires.none at c.in_err-consent.ensures.consents in
+    rw (p.1, p.2) (stops_at (part_then (part_called c.requires.open there) (part_then (part_still c.requires.open refl is_returned) (part_stops (beside_keys agreed)))))
 
 pub returns-in_err-remove_file-clause-carries : goal.returns-in_err-remove_file-clause-carries
+unfolding DeleteKeyReplies
 returns-in_err-remove_file-clause-carries g c = λ wraps side.
     let p = err_from_is_err_and c.from_residual-in_err-remove_file.result c.from_residual-in_err-remove_file.ensures.1 in
-    rw (p.1, p.2) (not_removed g.D.Desk.turned g.P.Prompter.prompted c.args.asking.now.rules.now c.args.asking.now.options.now wraps c.args.force c.args.asking.now.grip.now c.args.conn.now c.args.desk.now c.args.prompter.now _ _ side c.requires.open
-    (rw c.if-not-branch.false at c.in_ok-has_file.ensures) _ _ _ _ (rw c.requires.none at c.in_ok-consent.ensures.consents) _ c.in_err-remove_file.field-0.0 c.in_err-remove_file.ensures)
+    let there = rw c.if-not-branch.false at c.in_ok-has_file.ensures in
+    let agreed = rw c.requires.none at c.in_ok-consent.ensures.consents in
+    rw (p.1, p.2)
+    (stops_at (part_then (part_called c.requires.open there) (part_then (part_still c.requires.open refl is_returned) (part_then (beside_keys agreed)
+    (part_stops (part_called agreed.fits.0 c.in_err-remove_file.ensures))))))
 
 pub returns-in_err-clear_pass-clause-carries : goal.returns-in_err-clear_pass-clause-carries
+unfolding DeleteKeyReplies
 returns-in_err-clear_pass-clause-carries g c = λ wraps side.
     let p = err_from_is_err_and c.from_residual-in_err-clear_pass.result c.from_residual-in_err-clear_pass.ensures.1 in
-    rw (p.1, p.2) (not_cleared g.D.Desk.turned g.P.Prompter.prompted c.args.asking.now.rules.now c.args.asking.now.options.now wraps c.args.force c.args.asking.now.grip.now c.args.conn.now c.args.desk.now c.args.prompter.now _ _ side c.requires.open
-    (rw c.if-not-branch.false at c.in_ok-has_file.ensures) _ _ _ _ (rw c.requires.none at c.in_ok-consent.ensures.consents) _ c.in_ok-remove_file.ensures _ c.in_err-clear_pass.field-0.0 c.in_err-clear_pass.ensures.turn)
+    let there = rw c.if-not-branch.false at c.in_ok-has_file.ensures in
+    let agreed = rw c.requires.none at c.in_ok-consent.ensures.consents in
+    rw (p.1, p.2)
+    (stops_at (part_then (part_called c.requires.open there) (part_then (part_still c.requires.open refl is_returned) (part_then (beside_keys agreed)
+    (part_then (part_called agreed.fits.0 c.in_ok-remove_file.ensures) (part_stops (part_turned agreed.fits.0 c.in_err-clear_pass.ensures.turn)))))))
 
 pub returns-clause-carries : goal.returns-clause-carries
+unfolding DeleteKeyReplies
 returns-clause-carries g c = λ wraps side.
-    deleted g.D.Desk.turned g.P.Prompter.prompted c.args.asking.now.rules.now c.args.asking.now.options.now wraps c.args.force c.args.asking.now.grip.now c.args.conn.now c.args.desk.now c.args.prompter.now _ _ side c.requires.open
-    (rw c.if-not-branch.false at c.in_ok-has_file.ensures) _ _ _ _ (rw c.requires.none at c.in_ok-consent.ensures.consents) _ c.in_ok-remove_file.ensures _ c.in_ok-clear_pass.ensures.turn
+    let there = rw c.if-not-branch.false at c.in_ok-has_file.ensures in
+    let agreed = rw c.requires.none at c.in_ok-consent.ensures.consents in
+    replies_ok (part_then (part_called c.requires.open there) (part_then (part_still c.requires.open refl is_returned) (part_then (beside_keys agreed)
+    (part_then (part_called agreed.fits.0 c.in_ok-remove_file.ensures)
+    (part_then (part_turned agreed.fits.0 c.in_ok-clear_pass.ensures.turn) (part_still agreed.fits.0 refl is_returned))))))

@@ -1,4 +1,4 @@
-use Rattle.std.proofs.Common.{◌≡◌, ◌∙◌, ap, subst, ℕ, List, false, length, replicate}
+use Rattle.std.proofs.Common.{◌≡◌, ◌∙◌, ap, subst, ℕ, List, false, length, replicate, refl}
 use Rattle.agent_ask.specs.Further.{Drew, NotDrawn}
 use Rattle.agent_ports.specs.Draws.{IsDrawn}
 use Rattle.agent_ports.specs.Sides.{Side}
@@ -16,6 +16,7 @@ returns-then-fill g c = record {
   draw = Drew c.fill.new.out;
   draws = rw c.if-fill.true at c.fill.ensures;
   does = λ held. drawn (c.fill.auto.out ∙ zeros_len g.row.N);
+  on = refl;
 }
 
 pub returns-else-fill : goal.returns-else-fill
@@ -23,4 +24,5 @@ returns-else-fill g c = record {
   draw = NotDrawn g.row.N;
   draws = not_drawn _ _ c.fill.new.out g.row.N (c.fill.auto.out ∙ zeros_len g.row.N) (rw c.if-fill.false at c.fill.ensures);
   does = λ held. faulted;
+  on = refl;
 }

@@ -1,60 +1,76 @@
-use Rattle.std.proofs.Common.{None}
+use Rattle.std.proofs.Common.{None, refl}
 use Rattle.std.proofs.lemmas.Result.{err_from_is_err_and}
-use Rattle.key_commands.proofs.Imports.{no_wrap, none_received, none_named, none_free, none_passed, none_stored, imported}
-use Rattle.key_commands.proofs.Partial.{open_after}
+use Rattle.session_client.specs.declared.code.Code.TheVariants.{Parameter}
+use Rattle.agent_ask.specs.Parts.{returns as is_returned}
+use Rattle.agent_ask.proofs.PartsDone.{part_then, part_stops, part_still}
+use Rattle.agent_ask.proofs.PartValues.{needed_there, needed_missing}
+use Rattle.agent_ask.specs.PartReplies.{comes_to, stops_at}
+use Rattle.key_commands.proofs.Doing.{part_alone, part_called}
+use Rattle.key_commands.proofs.Partial.{beside_memory, beside_keys, with_prompter}
+use Rattle.key_commands.specs.Exchanges.{ImportKeyReplies}
+use Rattle.key_commands.specs.declared.reply.Reply.TheVariants.{Nonce}
 use Rattle.key_commands.proofs.importing.import_key.Goals as goal
 
 pub found_or_new-requires-clause-open : goal.found_or_new-requires-clause-open
-found_or_new-requires-clause-open g c = open_after (c.in_ok-key.ensures.receives None)
+found_or_new-requires-clause-open g c = (c.in_ok-key.ensures.receives None).fits.0
 
 pub returns-in_default-clause-carries : goal.returns-in_default-clause-carries
+unfolding ImportKeyReplies
 returns-in_default-clause-carries g c =
-    rw c.requires.free (no_wrap g.D.Desk.turned g.P.Prompter.prompted c.args.rules.now c.args.options.now c.args.wraps.now c.args.force c.args.nonce.now c.args.conn.now c.requires.open c.args.desk.now c.args.prompter.now _ _
-    c.in_default.is)
+    rw c.requires.free (stops_at (part_stops (part_still c.requires.open refl (needed_missing _ Parameter None c.args.wraps.now.import c.in_default.is))))
 
 pub returns-in_err-key-clause-carries : goal.returns-in_err-key-clause-carries
+unfolding ImportKeyReplies
 returns-in_err-key-clause-carries g c =
     let p = err_from_is_err_and c.from_residual.result c.from_residual.ensures.1 in
     let received = rw c.bytes.ensures at c.in_err-key.ensures.receives in
-    rw (c.requires.free, p.1, p.2) (none_received g.D.Desk.turned g.P.Prompter.prompted c.args.rules.now c.args.options.now c.args.wraps.now c.args.force c.args.nonce.now c.args.conn.now c.requires.open c.args.desk.now
-    c.args.prompter.now _ _ c.in-Some.wrap c.in-Some.is _ c.in_err-key.field-0.0 received)
+    rw (p.1, p.2, c.requires.free) (stops_at (part_then (part_still c.requires.open refl (needed_there _ Parameter None c.args.wraps.now.import c.in-Some.is))
+    (part_stops (beside_keys (beside_memory received)))))
 
 pub returns-in_err-grip-clause-carries : goal.returns-in_err-grip-clause-carries
+unfolding ImportKeyReplies
 returns-in_err-grip-clause-carries g c =
     let p = err_from_is_err_and c.from_residual-in_err-grip.result c.from_residual-in_err-grip.ensures.1 in
     let received = rw c.bytes.ensures at c.in_ok-key.ensures.receives in
-    rw (c.requires.free, p.1, p.2) (none_named g.D.Desk.turned g.P.Prompter.prompted c.args.rules.now c.args.options.now c.args.wraps.now c.args.force c.args.nonce.now c.args.conn.now c.requires.open c.args.desk.now
-    c.args.prompter.now _ _ c.in-Some.wrap c.in-Some.is _ c.in_ok-key.key received c.in_err-grip.field-0.0 c.in_err-grip.ensures)
+    rw (p.1, p.2, c.requires.free) (stops_at (part_then (part_still c.requires.open refl (needed_there _ Parameter None c.args.wraps.now.import c.in-Some.is))
+    (part_then (beside_keys (beside_memory received)) (part_stops (part_alone (received None).fits.0 c.in_err-grip.ensures)))))
 
 pub returns-in_err-check_free-clause-carries : goal.returns-in_err-check_free-clause-carries
+unfolding ImportKeyReplies
 returns-in_err-check_free-clause-carries g c =
     let p = err_from_is_err_and c.from_residual-in_err-check_free.result c.from_residual-in_err-check_free.ensures.1 in
     let received = rw c.bytes.ensures at c.in_ok-key.ensures.receives in
-    rw (c.requires.free, p.1, p.2) (none_free g.D.Desk.turned g.P.Prompter.prompted c.args.rules.now c.args.options.now c.args.wraps.now c.args.force c.args.nonce.now c.args.conn.now c.requires.open c.args.desk.now
-    c.args.prompter.now _ _ c.in-Some.wrap c.in-Some.is _ c.in_ok-key.key received c.in_ok-grip.grip c.in_ok-grip.ensures _ c.in_err-check_free.field-0.0 c.in_err-check_free.ensures)
+    rw (p.1, p.2, c.requires.free) (stops_at (part_then (part_still c.requires.open refl (needed_there _ Parameter None c.args.wraps.now.import c.in-Some.is))
+    (part_then (beside_keys (beside_memory received)) (part_then (part_alone (received None).fits.0 c.in_ok-grip.ensures)
+    (part_stops (part_called (received None).fits.0 c.in_err-check_free.ensures))))))
 
 pub returns-in_err-pass-clause-carries : goal.returns-in_err-pass-clause-carries
+unfolding ImportKeyReplies
 returns-in_err-pass-clause-carries g c =
     let p = err_from_is_err_and c.from_residual-in_err-pass.result c.from_residual-in_err-pass.ensures.1 in
     let received = rw c.bytes.ensures at c.in_ok-key.ensures.receives in
     let passed = rw c.requires.free at c.in_err-pass.ensures.does in
-    rw (p.1, p.2) (none_passed g.D.Desk.turned g.P.Prompter.prompted c.args.rules.now c.args.options.now c.args.wraps.now c.args.force c.args.nonce.now c.args.conn.now c.requires.open c.args.desk.now c.args.prompter.now _ _
-    c.in-Some.wrap c.in-Some.is _ c.in_ok-key.key received c.in_ok-grip.grip c.in_ok-grip.ensures _ c.in_ok-check_free.ensures _ _ _ _ c.in_err-pass.field-0.0 passed)
+    rw (p.1, p.2) (stops_at (part_then (part_still c.requires.open refl (needed_there _ Parameter None c.args.wraps.now.import c.in-Some.is))
+    (part_then (beside_keys (beside_memory received)) (part_then (part_alone (received None).fits.0 c.in_ok-grip.ensures)
+    (part_then (part_called (received None).fits.0 c.in_ok-check_free.ensures) (part_stops (beside_keys passed)))))))
 
 pub returns-in_err-cache_nonce-clause-carries : goal.returns-in_err-cache_nonce-clause-carries
+unfolding ImportKeyReplies
 returns-in_err-cache_nonce-clause-carries g c =
     let p = err_from_is_err_and c.from_residual-in_err-cache_nonce.result c.from_residual-in_err-cache_nonce.ensures.1 in
     let received = rw c.bytes.ensures at c.in_ok-key.ensures.receives in
     let passed = rw c.requires.free at c.in_ok-pass.ensures.does in
-    rw (p.1, p.2)
-    (none_stored g.D.Desk.turned g.P.Prompter.prompted c.args.rules.now c.args.options.now c.args.wraps.now c.args.force c.args.nonce.now c.args.conn.now c.requires.open c.args.desk.now c.args.prompter.now _ _ c.in-Some.wrap
-    c.in-Some.is _ c.in_ok-key.key received c.in_ok-grip.grip c.in_ok-grip.ensures _ c.in_ok-check_free.ensures _ _ _ _ c.in_ok-pass.pass passed _ _ _ _ c.in_err-cache_nonce.field-0.0
-    (c.in_err-cache_nonce.ensures.stores _ (open_after c.in_ok-pass.ensures.does)))
+    rw (p.1, p.2) (stops_at (part_then (part_still c.requires.open refl (needed_there _ Parameter None c.args.wraps.now.import c.in-Some.is))
+    (part_then (beside_keys (beside_memory received)) (part_then (part_alone (received None).fits.0 c.in_ok-grip.ensures)
+    (part_then (part_called (received None).fits.0 c.in_ok-check_free.ensures) (part_then (beside_keys passed)
+    (part_stops (with_prompter (c.in_err-cache_nonce.ensures.stores _ passed.fits.0)))))))))
 
 pub returns-clause-carries : goal.returns-clause-carries
+unfolding ImportKeyReplies
 returns-clause-carries g c =
     let received = rw c.bytes.ensures at c.in_ok-key.ensures.receives in
     let passed = rw c.requires.free at c.in_ok-pass.ensures.does in
-    imported g.D.Desk.turned g.P.Prompter.prompted c.args.rules.now c.args.options.now c.args.wraps.now c.args.force c.args.nonce.now c.args.conn.now c.requires.open c.args.desk.now c.args.prompter.now _ _ c.in-Some.wrap
-    c.in-Some.is _ c.in_ok-key.key received c.in_ok-grip.grip c.in_ok-grip.ensures _ c.in_ok-check_free.ensures _ _ _ _ c.in_ok-pass.pass passed _ _ _ _ c.in_ok-cache_nonce.cache_nonce
-    (c.in_ok-cache_nonce.ensures.stores _ (open_after c.in_ok-pass.ensures.does))
+    comes_to {answer = Nonce c.in_ok-cache_nonce.cache_nonce} (λ text is. part_then (part_still c.requires.open refl (needed_there _ Parameter None c.args.wraps.now.import c.in-Some.is))
+    (part_then (beside_keys (beside_memory received)) (part_then (part_alone (received None).fits.0 c.in_ok-grip.ensures)
+    (part_then (part_called (received None).fits.0 c.in_ok-check_free.ensures) (part_then (beside_keys passed)
+    (part_then (with_prompter (c.in_ok-cache_nonce.ensures.stores _ passed.fits.0)) (rw is (part_still passed.fits.0 refl is_returned))))))))

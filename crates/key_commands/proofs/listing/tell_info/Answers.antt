@@ -1,8 +1,9 @@
-use Rattle.key_commands.proofs.AtClient.{wrote, wrote_part}
+use Rattle.agent_ask.proofs.PartsAtClient.{wrote, wrote_part}
+use Rattle.assuan_server.proofs.Clients.{said_so}
 use Rattle.key_commands.proofs.listing.tell_info.Goals as goal
 
 pub returns-in-Ok : goal.returns-in-Ok
-returns-in-Ok g c = wrote c.requires c.in-Ok.ensures
+returns-in-Ok g c = wrote c.requires (said_so c.in-Ok.ensures)
 
 pub returns-in-Err : goal.returns-in-Err
-returns-in-Err g c = wrote_part c.in-Err.field-0 c.in-Err.ensures
+returns-in-Err g c = wrote_part c.in-Err.field-0 (said_so c.in-Err.ensures)

@@ -1,8 +1,7 @@
 use Rattle.std.proofs.Common.{refl, None}
 use Rattle.std.proofs.lemmas.Result.{err_from_is_err_and}
 use Rattle.agent_ask.specs.Parts.{returns}
-use Rattle.key_commands.specs.Partial.{NoCall}
-use Rattle.key_commands.proofs.Doing.{part_still}
+use Rattle.agent_ask.proofs.PartsDone.{part_still}
 use Rattle.key_commands.proofs.ListedKeys.{tells_on, tells_in_vain, tells_none}
 use Rattle.key_commands.proofs.listing.write_infos.Goals as goal
 
@@ -10,7 +9,7 @@ pub returns-in_err-tell_listed-clause-writes : goal.returns-in_err-tell_listed-c
 returns-in_err-tell_listed-clause-writes g c = λ side.
     let p = err_from_is_err_and c.from_residual.result c.from_residual.ensures.1 in
     rw (p.1, p.2)
-    (c.loop-grip.invariant.completes side _ _ _ (tells_in_vain g.D.Desk.turned NoCall c.args.grips.now c.loop-grip.grip-index _ c.loop-grip-test.true (c.in_err-tell_listed.ensures.tells side)))
+    (c.loop-grip.invariant.completes side _ _ _ (tells_in_vain c.args.grips.now c.loop-grip.grip-index _ c.loop-grip-test.true (c.in_err-tell_listed.ensures.tells side)))
 
 pub loop-grip-preserved : goal.loop-grip-preserved
 loop-grip-preserved g c = record {
@@ -18,11 +17,11 @@ loop-grip-preserved g c = record {
   out = c.in_ok-tell_listed.ensures.out;
   completes = λ side result after now later.
       c.loop-grip.invariant.completes side result after now
-      (tells_on g.D.Desk.turned NoCall c.args.grips.now c.loop-grip.grip-index _ c.loop-grip-test.true (c.in_ok-tell_listed.ensures.tells side) later);
+      (tells_on c.args.grips.now c.loop-grip.grip-index _ c.loop-grip-test.true (c.in_ok-tell_listed.ensures.tells side) later);
 }
 
 pub returns-clause-writes : goal.returns-clause-writes
 returns-clause-writes g c = λ side.
     c.loop-grip.invariant.completes side _ _ _
-    (tells_none g.D.Desk.turned NoCall c.args.grips.now c.loop-grip.grip-index c.loop-grip-test.false
-    (part_still g.D.Desk.turned NoCall c.loop-grip.conn (record { prompter = tt; keys = g.K.Keys.keys c.loop-grip.keys; dice = side }) c.loop-grip.desk c.loop-grip.invariant.going refl returns))
+    (tells_none c.args.grips.now c.loop-grip.grip-index c.loop-grip-test.false
+    (part_still c.loop-grip.invariant.going refl returns))

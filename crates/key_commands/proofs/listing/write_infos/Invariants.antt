@@ -3,7 +3,7 @@ use Rattle.agent_ports.specs.Sides.{Side}
 use Rattle.assuan_server.specs.Connections.{IsOpen}
 use Rattle.key_commands.specs.KeyParts.{WritesInfos}
 use Rattle.key_commands.specs.Partial.{NoCall}
-use Rattle.key_commands.specs.States.{DoesPart, KeyState, key_state}
+use Rattle.key_commands.specs.States.{DoesKeyPart, KeyState, key_state}
 use Rattle.session_client.specs.declared.refusal.Refusal.{Refusal}
 use Rattle.key_commands.proofs.listing.write_infos.Given as goal
 
@@ -14,6 +14,6 @@ invariant-loop-grip g l =
       going : IsOpen l.conn;
       out : (g.D.Desk.at l.desk).out ≡ l.fn.held;
       completes : (dice : Side) (result : Result (Unit {0}) Refusal) (after : Option ℕ) (now : KeyState g.D.Desk.turned NoCall)
-          → DoesPart g.D.Desk.turned NoCall (WritesInfos (drop l.grip-index l.fn.grips)) l.fn.held (key_state g.D.Desk.turned NoCall l.conn l.desk tt (g.K.Keys.keys l.keys) dice) result after now
-          → DoesPart g.D.Desk.turned NoCall (WritesInfos l.fn.grips) l.fn.held (key_state g.D.Desk.turned NoCall l.fn.conn l.fn.desk tt (g.K.Keys.keys l.fn.keys) dice) result after now;
+          → DoesKeyPart g.D.Desk.turned NoCall (WritesInfos (drop l.grip-index l.fn.grips)) l.fn.held (key_state g.D.Desk.turned NoCall l.conn l.desk tt (g.K.Keys.keys l.keys) dice) result after now
+          → DoesKeyPart g.D.Desk.turned NoCall (WritesInfos l.fn.grips) l.fn.held (key_state g.D.Desk.turned NoCall l.fn.conn l.fn.desk tt (g.K.Keys.keys l.fn.keys) dice) result after now;
     }

@@ -1,6 +1,6 @@
 use Rattle.std.proofs.Common.{refl, sym, ◌∙◌}
 use Rattle.agent_ask.specs.Parts.{refuses}
-use Rattle.key_commands.proofs.Joining.{leaves_still}
+use Rattle.agent_ask.proofs.PartsDone.{part_still}
 use Rattle.key_commands.proofs.Partial.{beside_desk}
 use Rattle.key_commands.proofs.old.open_uncached.Goals as goal
 
@@ -9,12 +9,12 @@ returns-in-Ask-clause-does g c = rw (sym c.mode.ensures ∙ c.in-Ask.is) c.open_
 
 pub returns-in-Cancel-clause-does : goal.returns-in-Cancel-clause-does
 returns-in-Cancel-clause-does g c =
-    rw (sym c.mode.ensures ∙ c.in-Cancel.is) (leaves_still g.D.Desk.turned g.P.Prompter.prompted c.requires.open c.args.desk.now refl refuses)
+    rw (sym c.mode.ensures ∙ c.in-Cancel.is) (part_still c.requires.open refl refuses)
 
 pub returns-in-Error-clause-does : goal.returns-in-Error-clause-does
 returns-in-Error-clause-does g c =
-    rw (sym c.mode.ensures ∙ c.in-Error.is) (leaves_still g.D.Desk.turned g.P.Prompter.prompted c.requires.open c.args.desk.now refl refuses)
+    rw (sym c.mode.ensures ∙ c.in-Error.is) (part_still c.requires.open refl refuses)
 
 pub returns-in-Loopback-clause-does : goal.returns-in-Loopback-clause-does
 returns-in-Loopback-clause-does g c =
-    rw (sym c.mode.ensures ∙ c.in-Loopback.is) (beside_desk g.D.Desk.turned g.P.Prompter.prompted c.args.prompter.now c.open_by_client.ensures.does)
+    rw (sym c.mode.ensures ∙ c.in-Loopback.is) (beside_desk c.open_by_client.ensures.does)

@@ -1,7 +1,7 @@
-use Rattle.std.proofs.Common.{[]}
+use Rattle.std.proofs.Common.{refl}
 use Rattle.agent_ask.specs.Parts.{returns}
 use Rattle.key_commands.specs.Steps.{nothing}
 use Rattle.key_commands.proofs.opened.try_found.Goals as goal
 
 pub returns-in-None-clause-tries : goal.returns-in-None-clause-tries
-returns-in-None-clause-tries c = rw c.in-None.is (record { events = []; alone = nothing; does = λ held. returns })
+returns-in-None-clause-tries c = rw c.in-None.is (nothing (λ held. returns) refl)

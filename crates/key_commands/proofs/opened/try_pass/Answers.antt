@@ -1,5 +1,4 @@
-use Rattle.std.proofs.Common.{[], ◌∷◌, refl}
-use Rattle.key_commands.specs.Events.{out_of_memory}
+use Rattle.std.proofs.Common.{refl}
 use Rattle.key_commands.specs.Passphrases.{opens, stays, no_memory}
 use Rattle.key_commands.specs.Steps.{nothing, memory}
 use Rattle.key_commands.proofs.Opening.{opens_to_its_key, stays_locked, opened_is_usable}
@@ -8,15 +7,15 @@ use Rattle.key_commands.proofs.opened.try_pass.Goals as goal
 pub returns-in-Key-clause-tries : goal.returns-in-Key-clause-tries
 returns-in-Key-clause-tries c =
     let opened = opens_to_its_key c.args.locked.now c.args.pass c.in-Key.key (rw c.bytes.ensures.value at c.in-Key.ensures.answer) in
-    record { events = []; alone = nothing; does = λ held. opens opened }
+    nothing (λ held. opens opened) refl
 
 pub returns-in-BadPassphrase-clause-tries : goal.returns-in-BadPassphrase-clause-tries
 returns-in-BadPassphrase-clause-tries c =
     let stayed = stays_locked c.args.locked.now c.args.pass (rw c.bytes.ensures.value at c.in-BadPassphrase.ensures.answer) in
-    record { events = []; alone = nothing; does = λ held. stays stayed }
+    nothing (λ held. stays stayed) refl
 
 pub returns-in-NoMemory-clause-tries : goal.returns-in-NoMemory-clause-tries
-returns-in-NoMemory-clause-tries c = record { events = out_of_memory ∷ []; alone = memory; does = λ held. no_memory }
+returns-in-NoMemory-clause-tries c = memory (λ held. no_memory) refl
 
 pub returns-in-Key-clause-usable : goal.returns-in-Key-clause-usable
 returns-in-Key-clause-usable c =

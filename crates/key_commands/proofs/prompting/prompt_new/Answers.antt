@@ -1,6 +1,10 @@
 use Rattle.std.proofs.Common.{true}
+use Rattle.assuan_server.specs.Clients.{connection_views}
+use Rattle.key_commands.proofs.Partial.{each_prompted}
+use Rattle.key_commands.specs.Partial.{DoesBesideKeys}
 use Rattle.key_commands.specs.Passphrases.{given, refused}
-use Rattle.key_commands.proofs.AtPrompt.{prompt_gave, prompt_refused, pin_refuses, spec_says, plan_says, planned}
+use Rattle.agent_ask.proofs.PartsAtClient.{pin_refuses, prompt_gave, prompt_refused, planned}
+use Rattle.key_commands.proofs.AtPrompt.{spec_says, plan_says}
 use Rattle.key_commands.proofs.prompting.prompt_new.Goals as goal
 
 pub pin_refusal-requires : goal.pin_refusal-requires
@@ -11,12 +15,12 @@ returns-in-Pin-clause-prompts g c =
     let spec = spec_says c.new_description.ensures c.field_text.ensures c.prompt_spec-spec.ensures in
     let plan = plan_says c.args.asking.now.rules.now c.args.asking.now.options.now true 1 c.ask_plan-plan.ensures c.new.ensures in
     rw (← c.ticket.ensures, c.in-Some.is)
-    (prompt_gave g.P.Prompter.prompted c.in-Pin.ensures.asked c.in-Pin.ensures.left (λ events prompts. given c.prompt_spec-spec.result spec (planned plan prompts)))
+    (prompt_gave connection_views (DoesBesideKeys g.P.Prompter.prompted) (λ same. same) each_prompted c.in-Pin.ensures.asked c.in-Pin.ensures.left (λ events prompts. given c.prompt_spec-spec.result spec (planned plan prompts)))
 
 pub returns-in_default-ask_user-clause-prompts : goal.returns-in_default-ask_user-clause-prompts
 returns-in_default-ask_user-clause-prompts g c =
     let spec = spec_says c.new_description.ensures c.field_text.ensures c.prompt_spec-spec.ensures in
     let plan = plan_says c.args.asking.now.rules.now c.args.asking.now.options.now true 1 c.ask_plan-plan.ensures c.new.ensures in
     rw (← c.ticket.ensures, c.in-Some.is)
-    (prompt_refused g.P.Prompter.prompted c.ask_user.ensures.asked c.pin_refusal.ensures c.ask_user.ensures.left
+    (prompt_refused connection_views (DoesBesideKeys g.P.Prompter.prompted) (λ same. same) each_prompted c.ask_user.ensures.asked c.pin_refusal.ensures c.ask_user.ensures.left
     (λ events prompts. refused c.prompt_spec-spec.result spec (planned plan prompts) c.pin_refusal.ensures))

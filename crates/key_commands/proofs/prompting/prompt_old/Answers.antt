@@ -1,6 +1,10 @@
 use Rattle.std.proofs.Common.{false, refl}
+use Rattle.assuan_server.specs.Clients.{connection_views}
+use Rattle.key_commands.proofs.Partial.{each_prompted}
+use Rattle.key_commands.specs.Partial.{DoesBesideKeys}
 use Rattle.key_commands.specs.Passphrases.{opens_by, refused}
-use Rattle.key_commands.proofs.AtPrompt.{prompt_gave, prompt_refused, pin_refuses, opened_last, opens_last, spec_says, plan_says, planned}
+use Rattle.agent_ask.proofs.PartsAtClient.{pin_refuses, prompt_gave, prompt_refused, planned}
+use Rattle.key_commands.proofs.AtPrompt.{opened_last, opens_last, spec_says, plan_says}
 use Rattle.key_commands.proofs.prompting.prompt_old.Goals as goal
 
 pub pin_refusal-requires : goal.pin_refusal-requires
@@ -17,7 +21,7 @@ returns-in-Some-into_opened-clause-prompts g c =
     let spec = spec_says (rw c.old_description.ensures at c.described.ensures) c.field_text.ensures c.prompt_spec-spec.ensures in
     let plan = plan_says c.args.asking.now.rules.now c.args.asking.now.options.now false 0 c.ask_plan-plan.ensures c.new.ensures in
     rw (← c.ticket.ensures, c.in-Some.is)
-    (prompt_gave g.P.Prompter.prompted c.in-Pin.ensures.asked c.in-Pin.ensures.left (λ events prompts. opens_by c.prompt_spec-spec.result spec (planned plan prompts) (opens_last last c.in-Some-into_opened.ensures).0))
+    (prompt_gave connection_views (DoesBesideKeys g.P.Prompter.prompted) (λ same. same) each_prompted c.in-Pin.ensures.asked c.in-Pin.ensures.left (λ events prompts. opens_by c.prompt_spec-spec.result spec (planned plan prompts) (opens_last last c.in-Some-into_opened.ensures).0))
 
 pub returns-in-Some-into_opened-clause-usable : goal.returns-in-Some-into_opened-clause-usable
 returns-in-Some-into_opened-clause-usable g c =
@@ -29,5 +33,5 @@ returns-in_default-ask_user-clause-prompts g c =
     let spec = spec_says (rw c.old_description.ensures at c.described.ensures) c.field_text.ensures c.prompt_spec-spec.ensures in
     let plan = plan_says c.args.asking.now.rules.now c.args.asking.now.options.now false 0 c.ask_plan-plan.ensures c.new.ensures in
     rw (← c.ticket.ensures, c.in-Some.is)
-    (prompt_refused g.P.Prompter.prompted c.ask_user.ensures.asked c.pin_refusal.ensures c.ask_user.ensures.left
+    (prompt_refused connection_views (DoesBesideKeys g.P.Prompter.prompted) (λ same. same) each_prompted c.ask_user.ensures.asked c.pin_refusal.ensures c.ask_user.ensures.left
     (λ events prompts. refused c.prompt_spec-spec.result spec (planned plan prompts) c.pin_refusal.ensures))

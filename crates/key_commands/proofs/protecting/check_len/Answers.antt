@@ -1,4 +1,4 @@
-use Rattle.std.proofs.Common.{[]}
+use Rattle.std.proofs.Common.{refl}
 use Rattle.std.proofs.Math.Nat.{lt_of_not-le}
 use Rattle.key_commands.specs.KeyParts as part
 use Rattle.key_commands.specs.Steps.{nothing}
@@ -7,7 +7,7 @@ use Rattle.key_commands.proofs.protecting.check_len.Goals as goal
 pub returns-then-not-has_short_list-clause-short : goal.returns-then-not-has_short_list-clause-short
 returns-then-not-has_short_list-clause-short c =
     let no = c.if-not-has_short_list.true in
-    record { events = []; alone = nothing; does = λ held. part.long (lt_of_not-le (λ short. let yes = c.has_short_list.ensures.1 short in absurd (cc (yes, no)))) }
+    nothing (λ held. part.long (lt_of_not-le (λ short. let yes = c.has_short_list.ensures.1 short in absurd (cc (yes, no))))) refl
 
 pub returns-clause-short : goal.returns-clause-short
-returns-clause-short c = record { events = []; alone = nothing; does = λ held. part.short (c.has_short_list.ensures.0 c.if-not-has_short_list.false) }
+returns-clause-short c = nothing (λ held. part.short (c.has_short_list.ensures.0 c.if-not-has_short_list.false)) refl

@@ -1,5 +1,4 @@
-use Rattle.std.proofs.Common.{[], ◌∷◌}
-use Rattle.key_commands.specs.Events.{out_of_memory}
+use Rattle.std.proofs.Common.{refl}
 use Rattle.key_commands.specs.KeyParts.{made}
 use Rattle.key_commands.specs.KeyParts as part
 use Rattle.key_commands.specs.Steps.{nothing, memory}
@@ -7,10 +6,10 @@ use Rattle.key_commands.proofs.protecting.protected_key.Goals as goal
 
 pub returns-in-Ok-clause-protects : goal.returns-in-Ok-clause-protects
 returns-in-Ok-clause-protects c =
-    rw (c.from.ensures, c.in-Ok.ensures.file, c.bytes.ensures.value) (record { events = []; alone = nothing; does = λ held. made })
+    rw (c.from.ensures, c.in-Ok.ensures.file, c.bytes.ensures.value) (nothing (λ held. made) refl)
 
 pub returns-in-Err-clause-protects : goal.returns-in-Err-clause-protects
-returns-in-Err-clause-protects c = record { events = out_of_memory ∷ []; alone = memory; does = λ held. part.no_memory }
+returns-in-Err-clause-protects c = memory (λ held. part.no_memory) refl
 
 pub returns-in-Ok-clause-list : goal.returns-in-Ok-clause-list
 returns-in-Ok-clause-list c =

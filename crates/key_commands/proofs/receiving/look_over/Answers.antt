@@ -1,11 +1,12 @@
+use Rattle.std.proofs.Common.{refl}
 use Rattle.cache_policy.specs.Turns.{Given, Empty, Stopping, Refused}
 use Rattle.key_commands.specs.KeyParts.{no_nonce, given, empty, stopping, no_memory}
 use Rattle.key_commands.specs.Passphrases.{ask_nonce}
-use Rattle.key_commands.specs.Steps.{still, one}
+use Rattle.agent_ask.specs.PartStates.{still, one}
 use Rattle.key_commands.proofs.receiving.look_over.Goals as goal
 
 pub returns-in_default-clause-turn : goal.returns-in_default-clause-turn
-returns-in_default-clause-turn g c = rw c.in_default.is (still no_nonce)
+returns-in_default-clause-turn g c = rw c.in_default.is (still no_nonce refl)
 
 pub returns-in-Ok-Given-clause-turn : goal.returns-in-Ok-Given-clause-turn
 returns-in-Ok-Given-clause-turn g c =
@@ -14,6 +15,7 @@ returns-in-Ok-Given-clause-turn g c =
       turn = Given c.in-Ok-Given.grant;
       turned_so = rw (c.in-Ok-Given.field-0-is, c.copy.ensures) at c.in-Ok-Given.ensures.turned;
       does = given;
+      on = refl;
     }))
 
 pub returns-in-Ok-Empty-clause-turn : goal.returns-in-Ok-Empty-clause-turn
@@ -23,6 +25,7 @@ returns-in-Ok-Empty-clause-turn g c =
       turn = Empty;
       turned_so = rw (c.in-Ok-Empty.field-0-is, c.copy.ensures) at c.in-Ok-Empty.ensures.turned;
       does = empty;
+      on = refl;
     }))
 
 pub returns-in-Ok-Stopping-clause-turn : goal.returns-in-Ok-Stopping-clause-turn
@@ -32,6 +35,7 @@ returns-in-Ok-Stopping-clause-turn g c =
       turn = Stopping;
       turned_so = rw (c.in-Ok-Stopping.field-0-is, c.copy.ensures) at c.in-Ok-Stopping.ensures.turned;
       does = stopping;
+      on = refl;
     }))
 
 pub returns-in-Err-clause-turn : goal.returns-in-Err-clause-turn
@@ -41,4 +45,5 @@ returns-in-Err-clause-turn g c =
       turn = Refused;
       turned_so = rw c.copy.ensures at c.in-Err.ensures.turned;
       does = no_memory;
+      on = refl;
     }))

@@ -1,9 +1,15 @@
-use Rattle.key_commands.proofs.Replying.{answers}
+use Rattle.std.proofs.Common.{refl}
+use Rattle.assuan_server.specs.Written.{refusal_line}
+use Rattle.agent_ask.proofs.Replying.{answers}
+use Rattle.assuan_server.specs.Clients.{connection_views}
+use Rattle.key_commands.specs.Exchanges.{KeyReplies}
+use Rattle.key_commands.specs.Parts.{key_went_after, key_gone}
+use Rattle.key_commands.specs.Replies.{IsReply, went_of}
+use Rattle.key_commands.proofs.Requesting.{gone_as_it_went}
 use Rattle.key_commands.proofs.run.run_key.Goals as goal
 
 pub returns-clause-answers : goal.returns-clause-answers
 returns-clause-answers g c =
-    answers g.D.Desk.turned g.P.Prompter.prompted c.args.rules.now c.args.options.now c.args.wraps.now c.args.command.now _ c.carry_out-reply.result c.carry_out-reply.new.wraps
-    c.carry_out-reply.new.held c.carry_out-reply.new.conn c.respond.new.conn c.carry_out-reply.new.desk c.close.new.desk
-    (record { prompter = c.carry_out-reply.new.prompter; keys = g.K.Keys.keys c.carry_out-reply.new.keys; dice = g.R.Dice.draws c.carry_out-reply.new.dice }) c.respond.result
-    c.carry_out-reply.ensures.carries c.close.ensures.turn c.respond.ensures
+    answers connection_views _ _ key_went_after key_gone gone_as_it_went refusal_line (KeyReplies c.args.rules.now c.args.options.now c.args.wraps.now c.args.command.now) c.args.wraps.now _
+    c.carry_out-reply.new.held c.carry_out-reply.new.conn c.respond.new.conn c.carry_out-reply.new.desk c.close.new.desk _ IsReply went_of (λ answer. refl)
+    c.carry_out-reply.ensures.carries c.close.ensures.given c.respond.ensures

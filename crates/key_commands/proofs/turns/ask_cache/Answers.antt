@@ -1,4 +1,4 @@
-use Rattle.std.proofs.Common.{◌≡◌, None}
+use Rattle.std.proofs.Common.{◌≡◌, None, refl}
 use Rattle.cache_policy.specs.declared.mark.MarkStep.TheVariants.{Ask}
 use Rattle.cache_policy.specs.Turns.{Given, Empty, Open, Stopping, Late, Refused}
 use Rattle.agent_ask.specs.TurnParts.{given, empty, opened, interrupted}
@@ -13,6 +13,7 @@ returns-in-Ok-Given-clause-turn g c =
       turn = Given c.in-Ok-Given.grant;
       turned_so = rw c.in-Ok-Given.field-0-is at c.in-Ok-Given.ensures.turned;
       does = given;
+      on = refl;
     })
 
 pub returns-in-Ok-Empty-clause-turn : goal.returns-in-Ok-Empty-clause-turn
@@ -21,6 +22,7 @@ returns-in-Ok-Empty-clause-turn g c = record {
   turn = Empty;
   turned_so = rw c.in-Ok-Empty.field-0-is at c.in-Ok-Empty.ensures.turned;
   does = empty;
+  on = refl;
 }
 
 pub returns-in-Ok-Open-clause-turn : goal.returns-in-Ok-Open-clause-turn
@@ -33,6 +35,7 @@ returns-in-Ok-Open-clause-turn g c =
       turn = Open c.in-Ok-Open.ticket;
       turned_so = turned;
       does = opened;
+      on = refl;
     })
 
 pub returns-in-Ok-Stopping-clause-turn : goal.returns-in-Ok-Stopping-clause-turn
@@ -41,6 +44,7 @@ returns-in-Ok-Stopping-clause-turn g c = record {
   turn = Stopping;
   turned_so = rw c.in-Ok-Stopping.field-0-is at c.in-Ok-Stopping.ensures.turned;
   does = interrupted stopping;
+  on = refl;
 }
 
 pub returns-in-Ok-Late-clause-turn : goal.returns-in-Ok-Late-clause-turn
@@ -49,6 +53,7 @@ returns-in-Ok-Late-clause-turn g c = record {
   turn = Late;
   turned_so = rw c.in-Ok-Late.field-0-is at c.in-Ok-Late.ensures.turned;
   does = interrupted late;
+  on = refl;
 }
 
 pub returns-in-Err-clause-turn : goal.returns-in-Err-clause-turn
@@ -58,4 +63,5 @@ returns-in-Err-clause-turn g c =
       turn = Refused;
       turned_so = c.in-Err.ensures.turned;
       does = interrupted refused;
+      on = refl;
     })

@@ -1,3 +1,4 @@
+use Rattle.std.proofs.Common.{refl}
 use Rattle.cache_policy.specs.declared.mark.MarkStep.TheVariants.{Clear}
 use Rattle.cache_policy.specs.declared.mode.Mode.TheVariants.{Normal}
 use Rattle.cache_policy.specs.Turns.{Done, Stopping, Refused}
@@ -12,6 +13,7 @@ returns-in-Ok-Done-clause-turn g c = record {
   turn = Done;
   turned_so = rw (c.in-Ok-Done.field-0-is, c.key_id.ensures) at c.in-Ok-Done.ensures.turned;
   does = done;
+  on = refl;
 }
 
 pub returns-in-Ok-Stopping-clause-turn : goal.returns-in-Ok-Stopping-clause-turn
@@ -20,6 +22,7 @@ returns-in-Ok-Stopping-clause-turn g c = record {
   turn = Stopping;
   turned_so = rw (c.in-Ok-Stopping.field-0-is, c.key_id.ensures) at c.in-Ok-Stopping.ensures.turned;
   does = interrupted stopping;
+  on = refl;
 }
 
 pub returns-in-Err-clause-turn : goal.returns-in-Err-clause-turn
@@ -29,4 +32,5 @@ returns-in-Err-clause-turn g c =
       turn = Refused;
       turned_so = rw c.key_id.ensures at c.in-Err.ensures.turned;
       does = interrupted refused;
+      on = refl;
     })

@@ -1,3 +1,4 @@
+use Rattle.std.proofs.Common.{refl}
 use Rattle.assuan_escape.specs.Escapes.{hex_text}
 use Rattle.cache_policy.specs.declared.life.Life.TheVariants.{Default}
 use Rattle.cache_policy.specs.declared.mark.MarkStep.TheVariants.{Put}
@@ -13,6 +14,7 @@ returns-in-Ok-Done-clause-turn g c = record {
   turn = Done;
   turned_so = rw (c.in-Ok-Done.field-0-is, c.nonce_id.ensures, c.copy.ensures) at c.in-Ok-Done.ensures.turned;
   does = done;
+  on = refl;
 }
 
 pub returns-in-Ok-Stopping-clause-turn : goal.returns-in-Ok-Stopping-clause-turn
@@ -21,6 +23,7 @@ returns-in-Ok-Stopping-clause-turn g c = record {
   turn = Stopping;
   turned_so = rw (c.in-Ok-Stopping.field-0-is, c.nonce_id.ensures, c.copy.ensures) at c.in-Ok-Stopping.ensures.turned;
   does = interrupted stopping;
+  on = refl;
 }
 
 pub returns-in-Err-clause-turn : goal.returns-in-Err-clause-turn
@@ -30,4 +33,5 @@ returns-in-Err-clause-turn g c =
       turn = Refused;
       turned_so = rw (c.nonce_id.ensures, c.copy.ensures) at c.in-Err.ensures.turned;
       does = interrupted refused;
+      on = refl;
     })

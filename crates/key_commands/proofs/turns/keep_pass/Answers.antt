@@ -1,3 +1,4 @@
+use Rattle.std.proofs.Common.{refl}
 use Rattle.cache_policy.specs.Turns.{Done, Stopping, Refused}
 use Rattle.agent_ask.specs.TurnParts.{done, interrupted}
 use Rattle.agent_ask.specs.Interrupts.{stopping, refused}
@@ -10,6 +11,7 @@ returns-in-Ok-Done-clause-turn g c = record {
   turn = Done;
   turned_so = rw (c.in-Ok-Done.field-0-is, c.key_id.ensures, c.copy.ensures) at c.in-Ok-Done.ensures.turned;
   does = done;
+  on = refl;
 }
 
 pub returns-in-Ok-Stopping-clause-turn : goal.returns-in-Ok-Stopping-clause-turn
@@ -18,6 +20,7 @@ returns-in-Ok-Stopping-clause-turn g c = record {
   turn = Stopping;
   turned_so = rw (c.in-Ok-Stopping.field-0-is, c.key_id.ensures, c.copy.ensures) at c.in-Ok-Stopping.ensures.turned;
   does = interrupted stopping;
+  on = refl;
 }
 
 pub returns-in-Err-clause-turn : goal.returns-in-Err-clause-turn
@@ -27,4 +30,5 @@ returns-in-Err-clause-turn g c =
       turn = Refused;
       turned_so = rw (c.key_id.ensures, c.copy.ensures) at c.in-Err.ensures.turned;
       does = interrupted refused;
+      on = refl;
     })

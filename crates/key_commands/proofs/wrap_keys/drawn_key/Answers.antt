@@ -1,4 +1,4 @@
-use Rattle.std.proofs.Common.{◌≡◌, Some, None, sym, ap, ◌∙◌}
+use Rattle.std.proofs.Common.{◌≡◌, Some, None, sym, ap, ◌∙◌, refl}
 use Rattle.std.specs.Option.{option_copied}
 use Rattle.key_commands.specs.Exchanges.{wrap_key}
 use Rattle.agent_ask.specs.Parts.{returns}
@@ -8,7 +8,7 @@ use Rattle.key_commands.proofs.wrap_keys.drawn_key.Goals as goal
 pub returns-in-Some : goal.returns-in-Some
 returns-in-Some g c =
     let kept : wrap_key c.args.way c.args.wraps.now ≡ Some c.in-Some.key.now = sym c.key.ensures ∙ ap option_copied c.in-Some.is in
-    rw (kept, c.copy.ensures) (no_draw (λ held. returns))
+    rw (kept, c.copy.ensures) (no_draw (λ held. returns) refl)
 
 pub returns-in-None : goal.returns-in-None
 returns-in-None g c =

@@ -1,0 +1,44 @@
+-- Private: what is written for a request, once all else is done for it. What it is answered in the code is of any type that is written as some text, and after which the
+-- session goes on so.
+use Rattle.std.specs.Prelude.{◌≡◌, ℕ, List, Option, Some, None, Result, Ok, Err}
+use Rattle.agent_ports.specs.declared.link.WriteFault.{WriteFault as Fault}
+use Rattle.cache_policy.specs.declared.mark.MarkStep.{MarkStep}
+use Rattle.cache_policy.specs.Turns.{Turn}
+use Rattle.session_client.specs.Asking.{HasSaid}
+use Rattle.session_client.specs.Lines.{Lines, Views}
+use Rattle.session_client.specs.Refusals.{gone_by}
+use Rattle.session_client.specs.declared.refusal.Refusal.{Refusal}
+use Rattle.session_client.specs.declared.unheard.Gone.{Gone}
+use Rattle.session_client.specs.declared.unheard.Gone.TheVariants.{WriteFault}
+use Rattle.agent_ask.specs.Answering.{unless_cut}
+use Rattle.agent_ask.specs.Further.{FurtherEvent, EventOf}
+use Rattle.agent_ask.specs.PartExchanges.{AnyReply}
+use Rattle.agent_ask.specs.Parts.{PartOf}
+use Rattle.agent_ask.specs.PartStates.{PartState, DoesPart}
+
+module _ {lines : Lines} {C : Type 0} (views : Views lines C) where
+  -- a line was written, where there is one
+  abbrev pub SaysLine : Option (List ℕ) → C → Result (Unit {0}) Fault → C → Type 0
+  SaysLine None start written now = (written ≡ Ok tt) × (now ≡ start)
+  SaysLine (Some text) start written now = HasSaid views text start written now
+
+-- the reply that an answer is by some text of its own, and after which this is kept
+abbrev pub reply_by : {R S W : Type 0} (went_of : R → W) → R → S → List ℕ → AnyReply S W
+reply_by went_of answer kept text = record { text = text; kept = kept; went = went_of answer }
+
+module _ {lines : Lines} {C R W : Type 0} (views : Views lines C) (IsText : R → List ℕ → Type 0) (went_of : R → W) where
+  -- the reply of a request was written, or its refusal, and the session goes on so
+  pub data RespondsBy (refusal_line : Refusal → Option (List ℕ)) (went_after : Option Gone → W) (start : C) : Result R Refusal → W → C → Type 0 where
+    replied : {answer : R} {text : List ℕ} {now : C} (written : Result (Unit {0}) Fault) → IsText answer text → HasSaid views text start written now
+        → RespondsBy refusal_line went_after start (Ok answer) (unless_cut (went_of answer) (went_after (Some WriteFault)) written) now
+    refused : {why : Refusal} {now : C} (written : Result (Unit {0}) Fault) → SaysLine views (refusal_line why) start written now
+        → RespondsBy refusal_line went_after start (Err why) (unless_cut (went_after (gone_by why)) (went_after (Some WriteFault)) written) now
+
+  -- all was done for a request but its reply, whatever text that is written by
+  pub data CarriesBy {D E S : Type 0} (turned : D → MarkStep → Turn → D → Type 0) (further : E → FurtherEvent → E → Type 0) (part : PartOf (EventOf lines) (AnyReply S W)) (before : S)
+      (start : PartState views turned further) : Result R Refusal → S → Option ℕ → PartState views turned further → Type 0 where
+    comes_to : {answer : R} {kept : S} {held : Option ℕ} {now : PartState views turned further}
+        → ((text : List ℕ) → IsText answer text → DoesPart views turned further part None start (Ok (reply_by went_of answer kept text)) held now)
+        → CarriesBy turned further part before start (Ok answer) kept held now
+    stops_at : {why : Refusal} {held : Option ℕ} {now : PartState views turned further} → DoesPart views turned further part None start (Err why) held now
+        → CarriesBy turned further part before start (Err why) before held now
