@@ -12,17 +12,16 @@ use Rattle.cache_policy.specs.declared.mark.MarkStep.{MarkStep}
 use Rattle.cache_policy.specs.Turns.{Turn}
 use Rattle.key_commands.specs.Events.{Event}
 use Rattle.session_options.specs.declared.rules.Rules.{Rules}
-use Rattle.agent_origin.specs.DoorSessions.{door_help, helped, trusts, any, DoorExchange, forbidden, is_allowed}
+use Rattle.agent_origin.specs.DoorSessions.{door_command_named, door_help, helped, trusts, any, DoorExchange, forbidden, is_allowed}
 use Rattle.agent_origin.specs.Doors.{allowed}
-use Rattle.agent_origin.specs.Exchanges.{TrustExchange}
-use Rattle.agent_origin.specs.Names.{door_command_named}
+use Rattle.agent_origin.specs.TrustExchanges.{TrustExchange}
 use Rattle.agent_origin.specs.FurtherStates.{FurtherWorld, FurtherState}
-use Rattle.agent_origin.specs.Requests.{trust_request_of}
+use Rattle.agent_origin.specs.TrustRequests.{trust_request_of}
 use Rattle.agent_origin.specs.SessionExchanges.{SessionExchange}
-use Rattle.agent_origin.specs.States.{SaysText}
+use Rattle.agent_origin.specs.TrustStates.{SaysText}
 use Rattle.agent_origin.specs.declared.door.Door.{Door}
 use Rattle.agent_origin.specs.declared.kept.Kept.{Kept}
-use Rattle.agent_origin.specs.declared.names.DoorCommand.TheVariants.{Help, Trust}
+use Rattle.agent_origin.specs.declared.door_session.DoorCommand.TheVariants.{Help, Trust}
 use Rattle.agent_commands.proofs.Beside.{exchange_as}
 use Rattle.agent_origin.proofs.Serving.{text_answers}
 

@@ -23,8 +23,8 @@ use Rattle.key_commands.specs.Partial.{NoTurn}
 use Rattle.key_commands.specs.Parts.{Part}
 use Rattle.key_commands.specs.Steps.{DoesTurn}
 use Rattle.agent_origin.specs.FurtherStates.{further_ends, FurtherWorld, FurtherState, further_state}
-use Rattle.agent_origin.specs.Parts.{UnderTicket, given_back, trust_called}
-use Rattle.agent_origin.specs.States.{went_by, DoesPart, TrustLead, none, calls, wants_memory, DoesTrustCalls}
+use Rattle.agent_origin.specs.TrustParts.{UnderTicket, given_back, trust_called}
+use Rattle.agent_origin.specs.TrustStates.{went_by, DoesPart, TrustLead, none, calls, wants_memory, DoesTrustCalls}
 use Rattle.session_client.specs.declared.refusal.Refusal.{Refusal}
 
 -- a reader that holds no more than another did

@@ -5,11 +5,11 @@ use Rattle.agent_commands.specs.Names.{commands as cache_commands, prompt_comman
 use Rattle.assuan_text.specs.Rows.{found_in_any_case}
 use Rattle.key_commands.specs.Names.{commands as key_commands, command_named as key_command_named}
 use Rattle.agent_origin.specs.Doors.{rules, rule_named}
-use Rattle.agent_origin.specs.Names.{commands as trust_commands, command_named as trust_command_named}
+use Rattle.agent_origin.specs.TrustNames.{commands_on_trust, trust_command_named}
 use Rattle.agent_origin.specs.declared.door.Rule.{Rule}
 use Rattle.agent_origin.specs.declared.door.Rule.TheVariants.{Always, Never}
-use Rattle.agent_origin.specs.declared.names.TrustCommandName.{TrustCommandName}
-use Rattle.agent_origin.specs.declared.names.TrustCommandName.TheVariants.{IsTrusted, MarkTrusted}
+use Rattle.agent_origin.specs.declared.trust.names.TrustCommandName.{TrustCommandName}
+use Rattle.agent_origin.specs.declared.trust.names.TrustCommandName.TheVariants.{IsTrusted, MarkTrusted}
 use Rattle.agent_origin.proofs.Outer.{cache_rule, found_mapped, found_joined}
 use Rattle.agent_origin.proofs.OuterKeys.{key_rule}
 
@@ -50,4 +50,4 @@ trust_rule MarkTrusted = Never
 
 pub trust_command_has_a_rule : (word : List ℕ) → IsSome (trust_command_named word) → IsSome (rule_named word)
 unfolding trust_command_named rule_named
-trust_command_has_a_rule word is = found_behind word (take 20 rules) (drop 20 rules) (found_as trust_rule word trust_commands [] is)
+trust_command_has_a_rule word is = found_behind word (take 20 rules) (drop 20 rules) (found_as trust_rule word commands_on_trust [] is)

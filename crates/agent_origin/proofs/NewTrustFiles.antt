@@ -28,27 +28,27 @@ use Rattle.session_options.specs.declared.options.PinMode.TheVariants as mode
 use Rattle.session_options.specs.declared.rules.Rules.{Rules}
 use Rattle.trust_list.specs.Trust.{trust, with_entry}
 use Rattle.trust_list.specs.declared.TheConstants.{MAX_TRUST_FILE_LEN}
-use Rattle.agent_origin.specs.Exchanges.{flag_of, trust_question, fingerprint_question, unless_said, TrustedNow, Stores, StoresUnsaid, Consented, asked_in, Marked, Carried, TrustExchange, answered, refused as refused_so}
+use Rattle.agent_origin.specs.TrustExchanges.{flag_of, trust_question, fingerprint_question, unless_said, TrustedNow, Stores, StoresUnsaid, Consented, asked_in, Marked, Carried, TrustExchange, answered, refused as refused_so}
 use Rattle.agent_origin.specs.DoorSessions.{AllowedExchange, helped, trusts as on_trust, any, DoorExchange, forbidden, is_allowed}
 use Rattle.agent_origin.specs.Doors.{allowed}
 use Rattle.agent_origin.specs.NewTrustFiles.{replaced, HasConsents, HasConsentsIn}
 use Rattle.agent_ask.specs.ConsentParts.{consents, refused}
 use Rattle.agent_ask.specs.Parts.{goes_on, stops, returns, Refuses, refuses}
 use Rattle.agent_ask.specs.TurnParts.{opened, interrupted}
-use Rattle.agent_origin.specs.Parts.{given_back, Agrees, file_in, has_read, added, too_long, trust_called}
+use Rattle.agent_origin.specs.TrustParts.{given_back, Agrees, file_in, has_read, added, too_long, trust_called}
 use Rattle.assuan_server.specs.Written.{refusal_line}
 use Rattle.key_commands.specs.Parts.{refusal_events}
-use Rattle.agent_origin.specs.Parts as parts
-use Rattle.agent_origin.specs.Requests.{trust_request_of}
+use Rattle.agent_origin.specs.TrustParts as parts
+use Rattle.agent_origin.specs.TrustRequests.{trust_request_of}
 use Rattle.agent_origin.specs.declared.door.Door.{Door}
 use Rattle.agent_origin.specs.declared.door.Door.TheVariants.{Home, Outer}
 use Rattle.agent_origin.specs.declared.kept.Kept.{Kept}
-use Rattle.agent_origin.specs.declared.names.DoorCommand.{DoorCommand}
+use Rattle.agent_origin.specs.declared.door_session.DoorCommand.{DoorCommand}
 use Rattle.session_client.specs.declared.refusal.Refusal.{Refusal}
 use Rattle.session_client.specs.declared.refusal.Refusal.TheVariants.{Agent}
-use Rattle.agent_origin.specs.declared.request.TrustPurpose.{TrustPurpose}
-use Rattle.agent_origin.specs.declared.request.TrustRequest.{TrustRequest}
-use Rattle.agent_origin.specs.declared.request.TrustRequest.TheVariants.{IsTrusted, MarkTrusted, Bad}
+use Rattle.agent_origin.specs.declared.trust.request.TrustPurpose.{TrustPurpose}
+use Rattle.agent_origin.specs.declared.trust.request.TrustRequest.{TrustRequest}
+use Rattle.agent_origin.specs.declared.trust.request.TrustRequest.TheVariants.{IsTrusted, MarkTrusted, Bad}
 use Rattle.agent_origin.proofs.EachLine.{shown_so, each_request}
 use Rattle.agent_origin.proofs.OuterTrust.{IsOuterTrust, trust_outer}
 

@@ -15,22 +15,22 @@ use Rattle.session_options.specs.OptionValues.{OptionValues}
 use Rattle.session_options.specs.declared.rules.Rules.{Rules}
 use Rattle.trust_list.specs.Trust.{trust}
 use Rattle.agent_origin.specs.Doors.{rules, rule_named, passes_by, allowed}
-use Rattle.agent_origin.specs.Exchanges.{TrustExchange, answered, refused, Carried, TrustedNow, unless_said}
-use Rattle.agent_origin.specs.Names.{command_named}
+use Rattle.agent_origin.specs.TrustExchanges.{TrustExchange, answered, refused, Carried, TrustedNow, unless_said}
+use Rattle.agent_origin.specs.TrustNames.{trust_command_named}
 use Rattle.agent_origin.specs.OuterTurns.{no_turns, LeavesCache}
 use Rattle.agent_ask.specs.Parts.{goes_on, stops, returns, Refuses, refuses}
-use Rattle.agent_origin.specs.Parts.{has_read, faulted, no_memory}
+use Rattle.agent_origin.specs.TrustParts.{has_read, faulted, no_memory}
 use Rattle.assuan_server.specs.Written.{refusal_line}
-use Rattle.agent_origin.specs.Requests.{either, request_by, trust_request_of}
+use Rattle.agent_origin.specs.TrustRequests.{trust_or_bad, trust_request_by, trust_request_of}
 use Rattle.agent_origin.specs.declared.door.Door.TheVariants.{Outer}
 use Rattle.agent_origin.specs.declared.door.Rule.{Rule}
 use Rattle.agent_origin.specs.declared.door.Rule.TheVariants.{Never}
-use Rattle.agent_origin.specs.declared.names.TrustCommandName.{TrustCommandName}
-use Rattle.agent_origin.specs.declared.names.TrustCommandName.TheVariants as name
+use Rattle.agent_origin.specs.declared.trust.names.TrustCommandName.{TrustCommandName}
+use Rattle.agent_origin.specs.declared.trust.names.TrustCommandName.TheVariants as name
 use Rattle.session_client.specs.declared.refusal.Refusal.{Refusal}
 use Rattle.session_client.specs.declared.refusal.Refusal.TheVariants.{Agent}
-use Rattle.agent_origin.specs.declared.request.TrustRequest.{TrustRequest}
-use Rattle.agent_origin.specs.declared.request.TrustRequest.TheVariants.{IsTrusted, MarkTrusted, Bad}
+use Rattle.agent_origin.specs.declared.trust.request.TrustRequest.{TrustRequest}
+use Rattle.agent_origin.specs.declared.trust.request.TrustRequest.TheVariants.{IsTrusted, MarkTrusted, Bad}
 use Rattle.agent_origin.proofs.Outer.{leaves_then, said_leaves}
 use Rattle.std.proofs.lemmas.Slice.Eq.{bytes_eq-Decides}
 
@@ -47,8 +47,8 @@ mark_by small true second same is = cc is
 mark_by small false false same is = cc is
 mark_by small false true same is = subst (λ (s : List ℕ). found_small s rules ≡ Some Never) ((bytes_eq-Decides (str_to_ascii_lowercase (codes "MARKTRUSTED")) small).0 same) refl
 
-rule_of_mark : (word : List ℕ) → command_named word ≡ Some name.MarkTrusted → rule_named word ≡ Some Never
-unfolding command_named rule_named
+rule_of_mark : (word : List ℕ) → trust_command_named word ≡ Some name.MarkTrusted → rule_named word ≡ Some Never
+unfolding trust_command_named rule_named
 rule_of_mark word is = mark_by (str_to_ascii_lowercase word) (bytes_eq (str_to_ascii_lowercase (codes "ISTRUSTED")) (str_to_ascii_lowercase word)) _ refl is
 
 -- ---- ISTRUSTED takes no turn
@@ -78,11 +78,11 @@ module _ (agent : Rules) (options : OptionValues) where
   request_leaves request outer (answered events carried) = leaves_then events (Sent ok ∷ []) (carried_leaves request outer events _ carried) no_turns
   request_leaves request outer (refused events why carried) = leaves_then events _ (carried_leaves request outer events _ carried) (said_leaves _ _ _ (refusal_line why))
 
-is_trusted_outer : (read : Result Grip Code) → IsOuterTrust (either (read >>= λ fingerprint. Ok (IsTrusted fingerprint)))
+is_trusted_outer : (read : Result Grip Code) → IsOuterTrust (trust_or_bad (read >>= λ fingerprint. Ok (IsTrusted fingerprint)))
 is_trusted_outer (Ok fingerprint) = tt
 is_trusted_outer (Err code) = tt
 
-named_outer : (line : List ℕ) (found : Option TrustCommandName) → command_named (command_of line) ≡ found → allowed Outer line ≡ true → IsOuterTrust (request_by found line)
+named_outer : (line : List ℕ) (found : Option TrustCommandName) → trust_command_named (command_of line) ≡ found → allowed Outer line ≡ true → IsOuterTrust (trust_request_by found line)
 named_outer line None is allows = tt
 named_outer line (Some name.IsTrusted) is allows = is_trusted_outer _
 named_outer line (Some name.MarkTrusted) is allows =
@@ -90,7 +90,7 @@ named_outer line (Some name.MarkTrusted) is allows =
 
 pub trust_outer : (line : List ℕ) → allowed Outer line ≡ true → IsOuterTrust (trust_request_of line)
 unfolding trust_request_of
-trust_outer line allows = named_outer line (command_named (command_of line)) refl allows
+trust_outer line allows = named_outer line (trust_command_named (command_of line)) refl allows
 
 pub trust_leaves : {agent : Rules} {options : OptionValues} (line : List ℕ) {events : List Event} {went : Went} → allowed Outer line ≡ true
     → TrustExchange agent options (trust_request_of line) events went → LeavesCache events

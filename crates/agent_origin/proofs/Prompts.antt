@@ -21,8 +21,8 @@ use Rattle.key_commands.specs.Events.{Event}
 use Rattle.key_commands.specs.Partial.{NoTurn}
 use Rattle.key_commands.specs.Parts.{Part}
 use Rattle.agent_origin.specs.FurtherStates.{further_ends, FurtherWorld, FurtherState, further_state}
-use Rattle.agent_origin.specs.Parts.{refusal_went}
-use Rattle.agent_origin.specs.States.{went_by, DoesAtPrompter}
+use Rattle.agent_origin.specs.TrustParts.{refusal_went}
+use Rattle.agent_origin.specs.TrustStates.{went_by, DoesAtPrompter}
 
 module _ (start now : Connection) (fewer : IsOpen now → held now.reader ≤ held start.reader) where
   reader_unheard : (why : Unheard) → LeftBy connection_views {A = List ℕ} (Err why) start now → ReaderAfter (refusal_went (Client why)) start.reader now.reader

@@ -21,12 +21,12 @@ use Rattle.cache_policy.specs.Turns.{Turn}
 use Rattle.key_commands.specs.Events.{Event}
 use Rattle.session_options.specs.OptionValues.{OptionValues}
 use Rattle.session_options.specs.declared.rules.Rules.{Rules}
-use Rattle.agent_origin.specs.Exchanges.{Carried, TrustExchange, answered, refused as is_refused}
+use Rattle.agent_origin.specs.TrustExchanges.{Carried, TrustExchange, answered, refused as is_refused}
 use Rattle.agent_origin.specs.FurtherStates.{FurtherWorld, FurtherState}
-use Rattle.agent_origin.specs.Parts.{refusal_went}
-use Rattle.agent_origin.specs.States.{DoesPart, went_unless_cut, RespondsTo, carried, refused}
+use Rattle.agent_origin.specs.TrustParts.{refusal_went}
+use Rattle.agent_origin.specs.TrustStates.{DoesPart, went_unless_cut, RespondsTo, carried, refused}
 use Rattle.session_client.specs.declared.refusal.Refusal.{Refusal}
-use Rattle.agent_origin.specs.declared.request.TrustRequest.{TrustRequest}
+use Rattle.agent_origin.specs.declared.trust.request.TrustRequest.{TrustRequest}
 
 module _ {D P : Type 0} (turned : D → MarkStep → Turn → D → Type 0) (prompted : P → Call → P → Type 0) (rules : Rules) (options : OptionValues) (request : TrustRequest)
     (start : FurtherState turned prompted) (mid : Connection) (desk : D) (ends : FurtherEnds P) where

@@ -20,16 +20,16 @@ use Rattle.session_options.specs.declared.options.PinMode.{PinMode}
 use Rattle.session_options.specs.declared.options.PinMode.TheVariants as mode
 use Rattle.trust_list.specs.Trust.{trust, with_entry}
 use Rattle.trust_list.specs.declared.TheConstants.{MAX_TRUST_FILE_LEN}
-use Rattle.agent_origin.specs.Exchanges.{flag_of, trust_question, fingerprint_question, unless_said, TrustedNow, Stores, StoresUnsaid, Consented, asked_in, Marked}
+use Rattle.agent_origin.specs.TrustExchanges.{flag_of, trust_question, fingerprint_question, unless_said, TrustedNow, Stores, StoresUnsaid, Consented, asked_in, Marked}
 use Rattle.agent_origin.specs.FurtherStates.{further_ends, FurtherState, further_state}
 use Rattle.key_commands.specs.Events.{Event}
 use Rattle.key_commands.specs.Parts.{Part}
 use Rattle.key_commands.proofs.Seating.{seat_opened, seat_refused}
-use Rattle.agent_origin.specs.Parts.{Agrees, ReadsFile, added, too_long, no_memory, Replaces}
-use Rattle.agent_origin.specs.States.{went_by, DoesPart, DoesTrustCalls, LeavesDesk, LeavesKeys}
+use Rattle.agent_origin.specs.TrustParts.{Agrees, ReadsFile, added, too_long, no_memory, Replaces}
+use Rattle.agent_origin.specs.TrustStates.{went_by, DoesPart, DoesTrustCalls, LeavesDesk, LeavesKeys}
 use Rattle.session_client.specs.declared.refusal.Refusal.{Refusal}
 use Rattle.session_client.specs.declared.refusal.Refusal.TheVariants.{Agent}
-use Rattle.agent_origin.specs.declared.request.TrustPurpose.{TrustPurpose}
+use Rattle.agent_origin.specs.declared.trust.request.TrustPurpose.{TrustPurpose}
 use Rattle.agent_origin.proofs.Doing.{calls_then, calls_stop, no_call, no_call_of_memory, part_then, part_stops, part_turned, part_still, part_given_back, part_called, beside_desk}
 
 -- ---- what the file says

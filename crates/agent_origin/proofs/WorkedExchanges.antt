@@ -28,15 +28,15 @@ use Rattle.session_options.specs.OptionValues.{OptionValues}
 use Rattle.session_options.specs.declared.options.PinMode.TheVariants as mode
 use Rattle.session_options.specs.declared.rules.Rules.{Rules}
 use Rattle.trust_list.specs.Trust.{with_entry}
-use Rattle.agent_origin.specs.Exchanges.{trust_question, fingerprint_question, TrustExchange, answered, refused, TrustedNow, Stores, StoresUnsaid, Consented, Marked}
+use Rattle.agent_origin.specs.TrustExchanges.{trust_question, fingerprint_question, TrustExchange, answered, refused, TrustedNow, Stores, StoresUnsaid, Consented, Marked}
 use Rattle.agent_ask.specs.ConsentParts.{consents, refused as dissents}
 use Rattle.agent_ask.specs.Parts.{goes_on, stops, returns, refuses}
 use Rattle.agent_ask.specs.TurnParts.{opened}
-use Rattle.agent_origin.specs.Parts.{given_back, has_read, faulted, added, replaced, file_in, trust_called}
+use Rattle.agent_origin.specs.TrustParts.{given_back, has_read, faulted, added, replaced, file_in, trust_called}
 use Rattle.session_client.specs.declared.refusal.Refusal.TheVariants.{Agent, Pinentry}
-use Rattle.agent_origin.specs.declared.request.TrustPurpose.TheVariants.{X509}
-use Rattle.agent_origin.specs.declared.request.TrustRequest.{TrustRequest}
-use Rattle.agent_origin.specs.declared.request.TrustRequest.TheVariants.{IsTrusted, MarkTrusted}
+use Rattle.agent_origin.specs.declared.trust.request.TrustPurpose.TheVariants.{X509}
+use Rattle.agent_origin.specs.declared.trust.request.TrustRequest.{TrustRequest}
+use Rattle.agent_origin.specs.declared.trust.request.TrustRequest.TheVariants.{IsTrusted, MarkTrusted}
 use Rattle.assuan_server.specs.Written.{failed, failed_at_pinentry}
 use Rattle.session_client.specs.declared.code.Code.TheVariants.{General, NotTrusted, NotConfirmed, Forbidden}
 

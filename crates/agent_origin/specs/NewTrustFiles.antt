@@ -14,12 +14,12 @@ use Rattle.session_options.specs.OptionValues.{OptionValues}
 use Rattle.session_options.specs.declared.rules.Rules.{Rules}
 use Rattle.trust_list.specs.Trust.{trust, with_entry}
 use Rattle.trust_list.specs.declared.TheConstants.{MAX_TRUST_FILE_LEN}
-use Rattle.agent_origin.specs.Exchanges.{flag_of, trust_question, fingerprint_question}
-use Rattle.agent_origin.specs.Parts.{Agrees, file_in, trust_called}
-use Rattle.agent_origin.specs.Requests.{trust_request_of}
-use Rattle.agent_origin.specs.declared.request.TrustPurpose.{TrustPurpose}
-use Rattle.agent_origin.specs.declared.request.TrustRequest.{TrustRequest}
-use Rattle.agent_origin.specs.declared.request.TrustRequest.TheVariants.{MarkTrusted}
+use Rattle.agent_origin.specs.TrustExchanges.{flag_of, trust_question, fingerprint_question}
+use Rattle.agent_origin.specs.TrustParts.{Agrees, file_in, trust_called}
+use Rattle.agent_origin.specs.TrustRequests.{trust_request_of}
+use Rattle.agent_origin.specs.declared.trust.request.TrustPurpose.{TrustPurpose}
+use Rattle.agent_origin.specs.declared.trust.request.TrustRequest.{TrustRequest}
+use Rattle.agent_origin.specs.declared.trust.request.TrustRequest.TheVariants.{MarkTrusted}
 
 -- these bytes became the file
 abbrev pub replaced : List ℕ → Event

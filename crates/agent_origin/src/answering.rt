@@ -10,10 +10,10 @@ ghost use Rattle.key_commands.specs.States.{KeyWorld, key_state};
 ghost use Rattle.agent_origin.specs.FurtherStates.{FurtherWorld, further_state};
 ghost use Rattle.agent_origin.specs.SessionExchanges.{went_after_key, described_after};
 ghost use Rattle.agent_origin.specs.SessionExchanges.{RequestExchange, SessionExchange};
-ghost use Rattle.agent_origin.specs.States.{SaysText};
+ghost use Rattle.agent_origin.specs.TrustStates.{SaysText};
 
 use crate::Kept;
-use crate::reply::went_unless_cut;
+use crate::trust::went_unless_cut;
 use agent_ask::Prompter;
 use agent_commands::{LineRequest, Request, SessionEnd, Went, run_cache, run_quiet};
 use agent_ports::{Dice, Keys, Link};
