@@ -22,11 +22,11 @@ use Rattle.session_client.specs.declared.refusal.Refusal.{Refusal}
 use Rattle.session_client.specs.declared.unheard.Gone.{Gone}
 use Rattle.session_client.specs.declared.unheard.Gone.TheVariants as gone
 use Rattle.session_options.specs.OptionValues.{OptionValues}
-use Rattle.agent_commands.specs.Endings.{went_after}
+use Rattle.agent_commands.specs.Endings.{went_after, went_unless_cut}
 use Rattle.agent_commands.specs.Exchanges.{CacheReply}
 use Rattle.agent_commands.specs.Parts.{Part, CacheEvent}
 use Rattle.agent_commands.specs.States.{SessionState, AnswersRequest, ReaderAfter, FaultsRise}
-use Rattle.agent_commands.specs.Steps.{CacheCloses, went_of, reply_by, CarriesOut, comes_to, stops_at, RespondsTo, replied, refused, went_unless_cut}
+use Rattle.agent_commands.specs.Steps.{CacheCloses, went_of, reply_by, CarriesOut, comes_to, stops_at, RespondsTo, replied, refused}
 use Rattle.agent_commands.specs.Talks.{whole, cut}
 use Rattle.agent_commands.specs.declared.response.Response.{Response}
 use Rattle.agent_commands.specs.declared.response.Response.TheVariants as response

@@ -1,5 +1,6 @@
 -- How a session ends whose client is gone, and how it goes on otherwise.
-use Rattle.std.specs.Prelude.{Option, Some, None}
+use Rattle.std.specs.Prelude.{Option, Some, None, Result, Ok, Err}
+use Rattle.agent_ports.specs.declared.link.WriteFault.{WriteFault as Fault}
 use Rattle.session_client.specs.declared.unheard.Gone.{Gone}
 use Rattle.session_client.specs.declared.unheard.Gone.TheVariants as gone
 use Rattle.agent_commands.specs.declared.went.SessionEnd.{SessionEnd}
@@ -27,3 +28,8 @@ gone_of WriteFault = Some gone.WriteFault
 abbrev pub went_after : Option Gone → Went
 went_after None = On
 went_after (Some how) = End (end_of how)
+
+-- and where its last write came to this
+abbrev pub went_unless_cut : Went → Result (Unit {0}) Fault → Went
+went_unless_cut whole (Ok written) = whole
+went_unless_cut whole (Err fault) = End WriteFault

@@ -21,7 +21,7 @@ use Rattle.session_options.specs.declared.options.OptionAnswer.{OptionAnswer}
 use Rattle.session_options.specs.declared.options.OptionAnswer.TheVariants.{Set, Unknown, Parameter, NotSupported}
 use Rattle.session_options.specs.declared.rules.Rules.{Rules}
 use Rattle.agent_commands.specs.Answers.{ok, closing, help, version_text, IsDataAnswer, IsPassphrase}
-use Rattle.agent_commands.specs.Endings.{went_after}
+use Rattle.agent_commands.specs.Endings.{went_after, went_unless_cut}
 use Rattle.agent_commands.specs.Exchanges.{CacheReply}
 use Rattle.agent_commands.specs.Outside.{DoesPrompts}
 use Rattle.agent_commands.specs.Parts.{Part as PartIn}
@@ -99,6 +99,11 @@ module _ {A : Type 0} (part : PartIn A) where
 abbrev pub reply_by : Response → List ℕ → OptionValues → CacheReply
 reply_by response text after = record { text = text; kept = after; went = went_of response }
 
+-- the response of a request that is answered by OK alone, or its refusal
+abbrev pub ok_by : Result (Unit {0}) Refusal → Result Response Refusal
+ok_by (Whole carried) = Whole Ok
+ok_by (Part why) = Part why
+
 -- how a GET_PASSPHRASE comes by its passphrase
 abbrev pub PassphraseOf : Rules → OptionValues → CacheCommand → PartIn (List ℕ)
 PassphraseOf rules options (GetPassphrase plain check no_ask repeat quality id texts) =
@@ -131,11 +136,6 @@ pub data CarriesOut {D E : Type 0} (turned : D → MarkStep → Turn → D → T
       → CarriesOut turned further part before start (Whole response) after held now
   stops_at : {why : Refusal} {held : Option ℕ} {now : PartState connection_views turned further} → DoesPart connection_views turned further part None start (Part why) held now
       → CarriesOut turned further part before start (Part why) before held now
-
--- how the session goes on whose last write came to this
-abbrev pub went_unless_cut : Went → Result (Unit {0}) Fault → Went
-went_unless_cut whole (Whole written) = whole
-went_unless_cut whole (Part fault) = End ends.WriteFault
 
 -- the reply of a request was written, or its refusal, and the session goes on so
 pub data RespondsTo (before : Connection) : Result Response Refusal → Went → Connection → Type 0 where

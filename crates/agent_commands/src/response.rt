@@ -4,10 +4,10 @@ ghost use Rattle.assuan_text.specs.LineEnds.{line_of};
 ghost use Rattle.assuan_escape.specs.Escapes.{hex_text};
 ghost use Rattle.assuan_server.specs.Written.{comment_text, ok_text};
 ghost use Rattle.agent_commands.specs.Answers.{IsDataAnswer, IsPassphrase, comments, help_with};
-ghost use Rattle.agent_commands.specs.Endings.{went_after};
+ghost use Rattle.agent_commands.specs.Endings.{went_after, went_unless_cut};
 ghost use Rattle.agent_commands.specs.Names.{command_names};
 ghost use Rattle.assuan_server.specs.Written.{WritesText};
-ghost use Rattle.agent_commands.specs.Steps.{IsText, RespondsTo, went_of, went_unless_cut};
+ghost use Rattle.agent_commands.specs.Steps.{IsText, RespondsTo, went_of};
 ghost use Rattle.session_client.specs.Refusals.{gone_by};
 
 use crate::found::Found;
@@ -55,7 +55,7 @@ pub(crate) fn respond<L: Link>(reply: &Result<Response, Refusal>, conn: &mut Con
 }
 
 /// How a session goes on whose last write came to this: where it was whole, as it would go on.
-fn went_unless_cut(whole: Went, written: Result<(), WriteFault>) -> Went
+pub fn went_unless_cut(whole: Went, written: Result<(), WriteFault>) -> Went
     ensures { result ≡ went_unless_cut whole written }
 {
     match written {
@@ -65,7 +65,7 @@ fn went_unless_cut(whole: Went, written: Result<(), WriteFault>) -> Went
 }
 
 /// How a session goes on after a refusal.
-fn went_after(why: Refusal) -> Went
+pub fn went_after(why: Refusal) -> Went
     ensures { result ≡ went_after (gone_by why) }
 {
     match why.gone() {

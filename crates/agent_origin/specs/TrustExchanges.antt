@@ -1,35 +1,38 @@
 -- Requests on the trust list and what is done for them, as the GnuPG manual has them ("Agent's Assuan protocol", ISTRUSTED and MARKTRUSTED). The
 -- codes, the texts and the order of what is done are this project's own.
-use Rattle.std.specs.Prelude.{◌++◌, ℕ, Bool, true, false, List, [], ◌∷◌, codes, Option, Some, None, Ok, Err}
+use Rattle.std.specs.Prelude.{◌++◌, ℕ, Bool, true, false, List, codes, Option, Some, None}
+use Rattle.agent_ask.specs.ConsentParts.{AgreesTo}
 use Rattle.agent_ask.specs.Events.{Call}
+use Rattle.agent_ask.specs.PartExchanges.{AnyExchange}
 use Rattle.agent_ask.specs.Parts.{◌>>=◌, Returns, Refuses}
-use Rattle.agent_ask.specs.SessionEvents.{Sent}
 use Rattle.agent_ask.specs.TurnParts.{Seats}
 use Rattle.agent_commands.specs.Answers.{ok}
+use Rattle.agent_commands.specs.Endings.{went_after}
+use Rattle.agent_commands.specs.Exchanges.{CacheReply, reply}
 use Rattle.agent_commands.specs.States.{AnswersRequest}
 use Rattle.agent_commands.specs.declared.went.Went.{Went}
-use Rattle.agent_commands.specs.declared.went.Went.TheVariants.{On}
 use Rattle.agent_ports.specs.KeyFiles.{KeyFiles}
 use Rattle.agent_ports.specs.Sides.{Side}
 use Rattle.agent_ports.specs.TrustFiles.{TrustState}
 use Rattle.agent_ports.specs.declared.grip.Grip.{Grip}
+use Rattle.assuan_server.specs.Clients.{session_lines}
 use Rattle.assuan_server.specs.Connections.{Connection}
-use Rattle.session_client.specs.declared.code.Code.TheVariants as code
+use Rattle.assuan_server.specs.Written.{refusal_line}
 use Rattle.cache_policy.specs.Turns.{Turn}
 use Rattle.cache_policy.specs.declared.mark.MarkStep.{MarkStep}
 use Rattle.cache_policy.specs.declared.mark.MarkStep.TheVariants.{Seat}
 use Rattle.hex.specs.Hex.{encode_upper}
 use Rattle.key_commands.specs.Events.{Event}
-use Rattle.key_commands.specs.Parts.{Part, refusal_events}
+use Rattle.key_commands.specs.Parts.{Part}
+use Rattle.session_client.specs.declared.code.Code.TheVariants as code
+use Rattle.session_client.specs.declared.refusal.Refusal.TheVariants.{Agent}
 use Rattle.session_options.specs.OptionValues.{OptionValues}
 use Rattle.session_options.specs.declared.options.PinMode.{PinMode}
 use Rattle.session_options.specs.declared.options.PinMode.TheVariants as mode
 use Rattle.session_options.specs.declared.rules.Rules.{Rules}
 use Rattle.trust_list.specs.Trust.{trust}
 use Rattle.agent_origin.specs.FurtherStates.{FurtherWorld, further_state}
-use Rattle.agent_origin.specs.TrustParts.{UnderTicket, Agrees, ReadsFile, AddsEntry, Replaces, refusal_went}
-use Rattle.session_client.specs.declared.refusal.Refusal.{Refusal}
-use Rattle.session_client.specs.declared.refusal.Refusal.TheVariants.{Agent}
+use Rattle.agent_origin.specs.TrustParts.{ReadsFile, AddsEntry, Replaces}
 use Rattle.agent_origin.specs.declared.trust.request.TrustPurpose.{TrustPurpose}
 use Rattle.agent_origin.specs.declared.trust.request.TrustPurpose.TheVariants.{X509, OpenPgp}
 use Rattle.agent_origin.specs.declared.trust.request.TrustRequest.{TrustRequest}
@@ -75,15 +78,15 @@ module _ (rules : Rules) (options : OptionValues) (fingerprint : Grip) (purpose 
   -- The user agrees twice. Only then is the file read from which the new one is made.
   unfoldable pub Consented : Part (Unit {0})
   Consented = do
-    trusted ← Agrees rules options (trust_question name)
-    right ← Agrees rules options (fingerprint_question fingerprint name)
+    trusted ← AgreesTo session_lines rules options (trust_question name)
+    right ← AgreesTo session_lines rules options (fingerprint_question fingerprint name)
     StoresUnsaid fingerprint purpose
 
   -- the user is asked, where the client wants prompts
   abbrev pub asked_in : PinMode → Part (Unit {0})
   asked_in mode.Ask = do
     seated ← Seats (Seat None None)
-    UnderTicket Consented
+    Consented
   asked_in mode.Cancel = Refuses (Agent code.Cancelled)
   asked_in mode.Error = Refuses (Agent code.NoPinentry)
   asked_in mode.Loopback = Refuses (Agent code.NoPinentry)
@@ -100,16 +103,20 @@ Carried rules options (IsTrusted fingerprint) = TrustedNow fingerprint
 Carried rules options (MarkTrusted fingerprint purpose name) = Marked rules options fingerprint purpose name.items
 Carried rules options (Bad code) = Refuses (Agent code)
 
--- A request: what the session does for it, and how the session goes on. No ticket is held when it is answered.
-pub data TrustExchange (rules : Rules) (options : OptionValues) (request : TrustRequest) : List Event → Went → Type 0 where
-  answered : (events : List Event) → Carried rules options request None events (Ok tt) None → TrustExchange rules options request (events ++ Sent ok ∷ []) On
-  refused : (events : List Event) (why : Refusal) → Carried rules options request None events (Err why) None
-      → TrustExchange rules options request (events ++ refusal_events why) (refusal_went why)
+-- it is answered by OK alone, and leaves the option values
+abbrev pub TrustReplies : Rules → OptionValues → TrustRequest → Part CacheReply
+TrustReplies rules options request = do
+  carried ← Carried rules options request
+  Returns (reply options ok)
+
+-- A request: what the session does for it, and how the session goes on.
+abbrev pub TrustExchange : Rules → OptionValues → TrustRequest → List Event → Went → Type 0
+TrustExchange rules options request events went = AnyExchange refusal_line went_after (TrustReplies rules options request) options events options went
 
 module _ {D P : Type 0} (turned : D → MarkStep → Turn → D → Type 0) (prompted : P → Call → P → Type 0) (rules : Rules) (options : OptionValues) (request : TrustRequest) where
   -- A request was answered, whole or in part. It has nothing to do with the keys and the dice, whatever these are.
   abbrev pub AnswersTrust : Connection → D → P → TrustState → Went → Connection → D → P → TrustState → Type 0
   AnswersTrust conn desk prompter trust went conn_now desk_now prompter_now trust_now =
       (keys : KeyFiles) (dice : Side)
-      → AnswersRequest {w = FurtherWorld turned prompted} (λ before events after went. TrustExchange rules options request events went) (tt {0})
-      (further_state turned prompted conn desk prompter keys dice trust) went (tt {0}) (further_state turned prompted conn_now desk_now prompter_now keys dice trust_now)
+      → AnswersRequest {w = FurtherWorld turned prompted} (λ before. AnyExchange refusal_line went_after (TrustReplies rules before request) before) options
+      (further_state turned prompted conn desk prompter keys dice trust) went options (further_state turned prompted conn_now desk_now prompter_now keys dice trust_now)

@@ -7,14 +7,13 @@ ghost use Rattle.agent_origin.specs.DoorSessions.{door_command_named, door_help,
 ghost use Rattle.agent_origin.specs.TrustExchanges.{AnswersTrust};
 ghost use Rattle.agent_origin.specs.FurtherStates.{surroundings};
 ghost use Rattle.agent_origin.specs.TrustRequests.{trust_request_of};
-ghost use Rattle.agent_origin.specs.TrustStates.{SaysText};
+ghost use Rattle.agent_origin.specs.Serving.{SaysText};
 
 use crate::answering::{answer, refuse};
 use crate::door::{Door, allowed};
-use crate::trust::{TRUST_COMMANDS, went_unless_cut};
-use crate::{Answers, Kept, read_trust, run_trust, serve};
+use crate::{Answers, Kept, TRUST_COMMANDS, read_trust, run_trust, serve};
 use agent_ask::Prompter;
-use agent_commands::{SessionEnd, Went, write_help};
+use agent_commands::{SessionEnd, Went, went_unless_cut, write_help};
 use agent_ports::{Dice, Keys, Link, TrustFile};
 use assuan_line::Line;
 use assuan_server::{Code, Conn};

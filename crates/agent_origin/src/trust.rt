@@ -2,7 +2,6 @@
 //! code, and carried out and answered over any link, any desk, any prompter and any trust file.
 
 mod calls;
-mod consent;
 mod marking;
 mod names;
 mod questions;
@@ -13,6 +12,5 @@ mod run;
 
 pub use names::{TRUST_COMMANDS, TrustCommandName, trust_commands_are_as_defined};
 pub use read::read_trust;
-pub(crate) use reply::went_unless_cut;
 pub use request::{MAX_NAME_LEN, OwnerName, TrustPurpose, TrustRequest};
 pub use run::run_trust;

@@ -3,7 +3,7 @@
 ghost use Rattle.std.specs.Prelude.{◌≡◌, IfOk, IfErr};
 ghost use Rattle.agent_origin.specs.TrustExchanges.{Stores, StoresUnsaid, TrustedNow};
 ghost use Rattle.agent_origin.specs.TrustParts.{ReadsFile, Replaces};
-ghost use Rattle.agent_origin.specs.TrustStates.{DoesTrustCalls};
+ghost use Rattle.agent_origin.specs.TrustStates.{DoesAtFile};
 
 use super::TrustPurpose;
 use agent_ports::{Grip, TrustDone, TrustFile, TrustRead};
@@ -15,9 +15,9 @@ use trust_list::{TrustFault, add_trust, trusted};
 /// Reads the file. One that is absent is empty.
 pub(crate) fn read_file<T: TrustFile>(alloc: Global, trust: &mut T) -> Result<Vec<u8>, Refusal>
     ensures read { IfOk result
-        (λ file. DoesTrustCalls ReadsFile (T.trust trust.old) (Ok file.items) (T.trust trust.new)) }
+        (λ file. DoesAtFile ReadsFile (T.trust trust.old) (Ok file.items) (T.trust trust.new)) }
     ensures refused { IfErr result
-        (λ why. DoesTrustCalls ReadsFile (T.trust trust.old) (Err why) (T.trust trust.new)) }
+        (λ why. DoesAtFile ReadsFile (T.trust trust.old) (Err why) (T.trust trust.new)) }
 {
     match trust.read(alloc) {
         TrustRead::Found(file) => Ok(file),
@@ -33,7 +33,7 @@ pub(crate) fn trusted_now<T: TrustFile>(
     fingerprint: &Grip,
     trust: &mut T,
 ) -> Result<(), Refusal>
-    ensures { DoesTrustCalls (TrustedNow fingerprint.now) (T.trust trust.old) result
+    ensures { DoesAtFile (TrustedNow fingerprint.now) (T.trust trust.old) result
         (T.trust trust.new) }
 {
     let file = read_file(alloc, trust)?;
@@ -51,7 +51,7 @@ pub(crate) fn store_unsaid<T: TrustFile>(
     purpose: TrustPurpose,
     trust: &mut T,
 ) -> Result<(), Refusal>
-    ensures { DoesTrustCalls (StoresUnsaid fingerprint.now purpose) (T.trust trust.old) result
+    ensures { DoesAtFile (StoresUnsaid fingerprint.now purpose) (T.trust trust.old) result
         (T.trust trust.new) }
 {
     let file = read_file(alloc, trust)?;
@@ -70,7 +70,7 @@ fn store<T: TrustFile>(
     purpose: TrustPurpose,
     trust: &mut T,
 ) -> Result<(), Refusal>
-    ensures { DoesTrustCalls (Stores fingerprint.now purpose file.now) (T.trust trust.old) result
+    ensures { DoesAtFile (Stores fingerprint.now purpose file.now) (T.trust trust.old) result
         (T.trust trust.new) }
 {
     match add_trust(alloc, file, fingerprint, purpose.flag()) {
@@ -81,7 +81,7 @@ fn store<T: TrustFile>(
 }
 
 fn replace<T: TrustFile>(alloc: Global, file: &[u8], trust: &mut T) -> Result<(), Refusal>
-    ensures { DoesTrustCalls (Replaces file.now) (T.trust trust.old) result (T.trust trust.new) }
+    ensures { DoesAtFile (Replaces file.now) (T.trust trust.old) result (T.trust trust.new) }
 {
     match trust.replace(alloc, file) {
         TrustDone::Done => Ok(()),

@@ -1,16 +1,16 @@
 //! MARKTRUSTED.
 
 ghost use Rattle.std.specs.Prelude.{◌≡◌, None, Some};
+ghost use Rattle.agent_ask.specs.PartStates.{NoTurn};
 ghost use Rattle.agent_ask.specs.Prompters.{IsShut};
 ghost use Rattle.assuan_server.specs.Connections.{IsOpen};
 ghost use Rattle.agent_origin.specs.TrustExchanges.{Consented, Marked, asked_in};
-ghost use Rattle.agent_origin.specs.TrustStates.{LeavesDesk, LeavesKeys};
+ghost use Rattle.agent_origin.specs.TrustStates.{LeavesKeys};
 
 use super::calls::{read_file, store_unsaid};
-use super::consent::ask_consent;
 use super::questions::{fingerprint_question, trust_question};
 use super::{OwnerName, TrustPurpose};
-use agent_ask::{Prompter, give_back, take_seat};
+use agent_ask::{Held, Prompter, agree, hold_seat};
 use agent_ports::{Grip, Link, TrustFile};
 use assuan_server::{Code, Conn};
 use cache_policy::Desk;
@@ -34,54 +34,60 @@ pub(crate) struct Marking<'a> {
 /// Marks a certificate as trusted, unless the file says already whether it is.
 pub(crate) fn mark_trusted<L: Link, D: Desk, P: Prompter, T: TrustFile>(
     marking: &Marking<'_>,
+    held: &mut Held,
     conn: &mut Conn<'_, L>,
     desk: &mut D,
     prompter: &mut P,
     trust: &mut T,
 ) -> Result<(), Refusal>
+    requires none { held.old ≡ None }
     requires open { IsOpen conn.old }
-    requires free { (D.at desk.old).out ≡ None }
+    requires out { (D.at desk.old).out ≡ held.old }
     requires shut { IsShut (P.at prompter.old) }
     ensures marks { LeavesKeys D.turned P.prompted
         (Marked marking.now.rules.now marking.now.options.now marking.now.fingerprint.now
-        marking.now.purpose marking.now.name.now.items) conn.old desk.old prompter.old
-        (T.trust trust.old) result conn.new desk.new prompter.new (T.trust trust.new) }
-    ensures free { (D.at desk.new).out ≡ None }
+        marking.now.purpose marking.now.name.now.items) None conn.old desk.old prompter.old
+        (T.trust trust.old) result held.new conn.new desk.new prompter.new (T.trust trust.new) }
+    ensures out { (D.at desk.new).out ≡ held.new }
     ensures shut { IsShut (P.at prompter.new) }
 {
     let file = read_file(marking.alloc, trust)?;
     match trusted(&file, marking.fingerprint) {
         Some(true) => Ok(()),
         Some(false) => Err(Refusal::Agent(Code::NotTrusted)),
-        None => ask(marking, conn, desk, prompter, trust),
+        None => ask(marking, held, conn, desk, prompter, trust),
     }
 }
 
-/// Asks the user, where the client wants prompts.
+/// Asks the user, where the client wants prompts. The ticket of the prompts is held when it
+/// returns.
 fn ask<L: Link, D: Desk, P: Prompter, T: TrustFile>(
     marking: &Marking<'_>,
+    held: &mut Held,
     conn: &mut Conn<'_, L>,
     desk: &mut D,
     prompter: &mut P,
     trust: &mut T,
 ) -> Result<(), Refusal>
+    requires none { held.old ≡ None }
     requires open { IsOpen conn.old }
-    requires free { (D.at desk.old).out ≡ None }
+    requires out { (D.at desk.old).out ≡ held.old }
     requires shut { IsShut (P.at prompter.old) }
     ensures asks { LeavesKeys D.turned P.prompted
         (asked_in marking.now.rules.now marking.now.options.now marking.now.fingerprint.now
         marking.now.purpose marking.now.name.now.items marking.now.options.now.mode)
-        conn.old desk.old prompter.old (T.trust trust.old) result conn.new desk.new prompter.new
-        (T.trust trust.new) }
-    ensures free { (D.at desk.new).out ≡ None }
+        None conn.old desk.old prompter.old (T.trust trust.old) result held.new conn.new
+        desk.new prompter.new (T.trust trust.new) }
+    ensures out { (D.at desk.new).out ≡ held.new }
     ensures shut { IsShut (P.at prompter.new) }
 {
     match marking.options.mode() {
         PinMode::Ask => {
-            let ticket = take_seat(None, desk)?;
-            let marked = mark_consented(marking, &ticket, conn, prompter, trust);
-            give_back(ticket, None, desk);
-            marked
+            hold_seat(None, held, desk)?;
+            match held.ticket() {
+                Some(ticket) => mark_consented(marking, ticket, conn, prompter, trust),
+                None => unreachable!(),
+            }
         }
         PinMode::Cancel => Err(Refusal::Agent(Code::Cancelled)),
         PinMode::Error | PinMode::Loopback => Err(Refusal::Agent(Code::NoPinentry)),
@@ -99,16 +105,17 @@ fn mark_consented<L: Link, P: Prompter, T: TrustFile>(
 ) -> Result<(), Refusal>
     requires open { IsOpen conn.old }
     requires shut { IsShut (P.at prompter.old) }
-    ensures marks { LeavesDesk P.prompted (Consented marking.now.rules.now marking.now.options.now
-        marking.now.fingerprint.now marking.now.purpose marking.now.name.now.items)
-        (Some ticket.now) conn.old prompter.old (T.trust trust.old) result
-        conn.new prompter.new (T.trust trust.new) }
+    ensures marks { LeavesKeys NoTurn P.prompted
+        (Consented marking.now.rules.now marking.now.options.now marking.now.fingerprint.now
+        marking.now.purpose marking.now.name.now.items) (Some ticket.now) conn.old tt prompter.old
+        (T.trust trust.old) result (Some ticket.now) conn.new tt prompter.new
+        (T.trust trust.new) }
     ensures shut { IsShut (P.at prompter.new) }
 {
     let (rules, options) = (marking.rules, marking.options);
     let trusts = trust_question(marking.name);
-    ask_consent(&trusts, rules, options, ticket, conn, prompter)?;
+    agree(&trusts, rules, options, ticket, conn, prompter)?;
     let is_right = fingerprint_question(marking.fingerprint, marking.name);
-    ask_consent(&is_right, rules, options, ticket, conn, prompter)?;
+    agree(&is_right, rules, options, ticket, conn, prompter)?;
     store_unsaid(marking.alloc, marking.fingerprint, marking.purpose, trust)
 }

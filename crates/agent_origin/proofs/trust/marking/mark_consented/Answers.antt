@@ -1,34 +1,42 @@
-use Rattle.std.proofs.Common.{refl}
+use Rattle.std.proofs.Common.{Some}
 use Rattle.std.proofs.lemmas.Result.{err_from_is_err_and}
-use Rattle.key_commands.specs.Partial.{NoTurn}
-use Rattle.agent_origin.proofs.Doing.{part_called}
-use Rattle.agent_origin.proofs.Trusting.{first_refused, second_refused, both_given}
+use Rattle.agent_ask.specs.Further.{DoesFurther}
+use Rattle.agent_ask.specs.PartStates.{NoTurn}
+use Rattle.agent_ask.proofs.PartsDone.{part_then, part_stops}
+use Rattle.assuan_server.specs.Clients.{connection_views}
+use Rattle.agent_origin.specs.TrustExchanges.{Consented}
+use Rattle.agent_origin.proofs.TrustDone.{agreed_done, beside_all}
 use Rattle.agent_origin.proofs.trust.marking.mark_consented.Goals as goal
 
-pub returns-in_err-ask_consent-clause-marks : goal.returns-in_err-ask_consent-clause-marks
-returns-in_err-ask_consent-clause-marks g c = λ keys dice.
-    let m = c.args.marking.now in
+pub returns-in_err-agree-clause-marks : goal.returns-in_err-agree-clause-marks
+unfolding Consented
+returns-in_err-agree-clause-marks g c = λ keys dice.
     let p = err_from_is_err_and c.from_residual.result c.from_residual.ensures.1 in
-    let first = rw c.trust_question-trusts.ensures at c.in_err-ask_consent.ensures.agrees in
+    let first = rw c.trust_question-trusts.ensures at c.in_err-agree.ensures.asked in
     rw (p.1, p.2)
-    (first_refused m.rules.now m.options.now m.fingerprint.now m.purpose m.name.now.items NoTurn g.P.Prompter.prompted (first (g.T.TrustFile.trust c.args.trust.now) keys dice))
+    (part_stops connection_views NoTurn (DoesFurther g.P.Prompter.prompted)
+    (agreed_done c.args.ticket.now (g.T.TrustFile.trust c.args.trust.now) first c.in_err-agree.ensures.left keys dice))
 
-pub returns-in_err-ask_consent-2-clause-marks : goal.returns-in_err-ask_consent-2-clause-marks
-returns-in_err-ask_consent-2-clause-marks g c = λ keys dice.
-    let m = c.args.marking.now in
-    let p = err_from_is_err_and c.from_residual-in_err-ask_consent-2.result c.from_residual-in_err-ask_consent-2.ensures.1 in
-    let first = rw c.trust_question-trusts.ensures at c.in_ok-ask_consent.ensures.agrees in
-    let second = rw c.fingerprint_question-is_right.ensures at c.in_err-ask_consent-2.ensures.agrees in
+pub returns-in_err-agree-2-clause-marks : goal.returns-in_err-agree-2-clause-marks
+unfolding Consented
+returns-in_err-agree-2-clause-marks g c = λ keys dice.
+    let p = err_from_is_err_and c.from_residual-in_err-agree-2.result c.from_residual-in_err-agree-2.ensures.1 in
+    let first = rw c.trust_question-trusts.ensures at c.in_ok-agree.ensures.asked in
+    let second = rw c.fingerprint_question-is_right.ensures at c.in_err-agree-2.ensures.asked in
     rw (p.1, p.2)
-    (second_refused m.rules.now m.options.now m.fingerprint.now m.purpose m.name.now.items NoTurn g.P.Prompter.prompted (first (g.T.TrustFile.trust c.args.trust.now) keys dice)
-    (second (g.T.TrustFile.trust c.args.trust.now) keys dice))
+    (part_then connection_views NoTurn (DoesFurther g.P.Prompter.prompted)
+    (agreed_done c.args.ticket.now (g.T.TrustFile.trust c.args.trust.now) first c.in_ok-agree.ensures.left keys dice)
+    (part_stops connection_views NoTurn (DoesFurther g.P.Prompter.prompted)
+    (agreed_done c.args.ticket.now (g.T.TrustFile.trust c.args.trust.now) second c.in_err-agree-2.ensures.left keys dice)))
 
 pub returns-clause-marks : goal.returns-clause-marks
+unfolding Consented
 returns-clause-marks g c = λ keys dice.
-    let m = c.args.marking.now in
-    let first = rw c.trust_question-trusts.ensures at c.in_ok-ask_consent.ensures.agrees in
-    let second = rw c.fingerprint_question-is_right.ensures at c.in_ok-ask_consent-2.ensures.agrees in
-    both_given m.rules.now m.options.now m.fingerprint.now m.purpose m.name.now.items NoTurn g.P.Prompter.prompted (first (g.T.TrustFile.trust c.args.trust.now) keys dice)
-    (second (g.T.TrustFile.trust c.args.trust.now) keys dice)
-    (part_called NoTurn g.P.Prompter.prompted c.ask_consent-2.new.conn tt c.ask_consent-2.new.prompter keys dice
-    (c.in_ok-ask_consent-2.ensures.open refl) c.store_unsaid.ensures)
+    let first = rw c.trust_question-trusts.ensures at c.in_ok-agree.ensures.asked in
+    let second = rw c.fingerprint_question-is_right.ensures at c.in_ok-agree-2.ensures.asked in
+    part_then connection_views NoTurn (DoesFurther g.P.Prompter.prompted)
+    (agreed_done c.args.ticket.now (g.T.TrustFile.trust c.args.trust.now) first c.in_ok-agree.ensures.left keys dice)
+    (part_then connection_views NoTurn (DoesFurther g.P.Prompter.prompted)
+    (agreed_done c.args.ticket.now (g.T.TrustFile.trust c.args.trust.now) second c.in_ok-agree-2.ensures.left keys dice)
+    (beside_all NoTurn g.P.Prompter.prompted c.agree-2.new.client tt c.agree-2.new.prompter (Some c.args.ticket.now) c.in_ok-agree-2.ensures.left
+    c.store_unsaid.ensures keys dice))
